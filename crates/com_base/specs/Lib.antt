@@ -1,0 +1,3 @@
+pub mod Guids
+pub mod HResults
+pub mod Values

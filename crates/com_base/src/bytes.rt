@@ -1,0 +1,125 @@
+//! Bytes, seen as a list.
+ghost use Rattle.std.specs.Prelude.{◌≡◌, ℕ, ◌++◌, ◌∷◌, List, [], IfOk, OnErr, OnOk, IsTrue, ◌↔◌, length};
+
+use std::alloc::{AllocError, Global};
+use std::marker::Model;
+
+/// A list of bytes that grows at its end. A contract sees the bytes alone, so two lists with the same
+/// bytes are equal, whatever room they hold.
+#[derive(Debug, Drop)]
+pub struct ByteList {
+    bytes: Vec<u8>,
+}
+
+impl Model for ByteList {
+    ghost use Rattle.std.specs.Prelude.{List, ℕ};
+
+    ghost Value = { List ℕ };
+
+    ghost view = { λ a. a.bytes.items };
+}
+
+impl ByteList {
+    /// The empty list. It takes no memory.
+    pub fn new(alloc: Global) -> ByteList
+        ensures { result ≡ [] }
+    {
+        ByteList {
+            bytes: Vec::new(alloc),
+        }
+    }
+
+    /// A list with these bytes. The only error is want of memory.
+    pub fn from_slice(alloc: Global, bytes: &[u8]) -> Result<ByteList, AllocError>
+        ensures { IfOk result (λ list. list ≡ bytes.now) }
+    {
+        Ok(ByteList {
+            bytes: Vec::from_slice(alloc, bytes)?,
+        })
+    }
+
+    /// The list of a vector's bytes. It takes no memory.
+    pub fn from_vec(bytes: Vec<u8>) -> ByteList
+        ensures { result ≡ bytes.items }
+    {
+        ByteList { bytes }
+    }
+
+    /// The vector of these bytes. It takes no memory.
+    pub fn into_vec(self) -> Vec<u8>
+        ensures { result.items ≡ self }
+    {
+        let ByteList { bytes } = self;
+        bytes
+    }
+
+    /// Makes room for `more` bytes beyond those that are there. The only error is want of memory.
+    pub fn reserve(&mut self, more: usize) -> Result<(), AllocError>
+        ensures { self.new ≡ self.old }
+    {
+        Ok(self.bytes.reserve(more)?)
+    }
+
+    /// Appends one byte. The only error is want of memory, and then the list is as before.
+    pub fn push(&mut self, byte: u8) -> Result<(), AllocError>
+        ensures ok { OnOk result (self.new ≡ self.old ++ byte ∷ []) }
+        ensures err { OnErr result (self.new ≡ self.old) }
+    {
+        match self.bytes.push(byte) {
+            Ok(()) => Ok(()),
+            Err(_) => Err(AllocError),
+        }
+    }
+
+    /// Appends bytes. The only error is want of memory, and then the list is as before.
+    pub fn push_all(&mut self, bytes: &[u8]) -> Result<(), AllocError>
+        ensures ok { OnOk result (self.new ≡ self.old ++ bytes.now) }
+        ensures err { OnErr result (self.new ≡ self.old) }
+    {
+        Ok(self.bytes.extend_from_slice(bytes)?)
+    }
+
+    /// Drops every byte and keeps the room.
+    pub fn clear(&mut self)
+        ensures { self.new ≡ [] }
+    {
+        self.bytes.clear();
+    }
+
+    /// The same bytes as a slice.
+    pub fn as_slice(&self) -> &[u8]
+        ensures { result.now ≡ self.now }
+    {
+        self.bytes.as_slice()
+    }
+
+    /// How many bytes there are.
+    pub fn len(&self) -> usize
+        ensures { result ≡ length self.now }
+    {
+        self.bytes.len()
+    }
+
+    /// Whether there is none.
+    pub fn is_empty(&self) -> bool
+        ensures { IsTrue result ↔ (self.now ≡ []) }
+    {
+        self.bytes.is_empty()
+    }
+
+    /// An equal list. The only error is want of memory.
+    pub fn copy(&self) -> Result<ByteList, AllocError>
+        ensures { IfOk result (λ copy. copy ≡ self.now) }
+    {
+        Ok(ByteList {
+            bytes: self.bytes.clone()?,
+        })
+    }
+
+    /// Whether both lists have the same bytes.
+    pub fn same(&self, other: &ByteList) -> bool
+        ensures { IsTrue result ↔ (self.now ≡ other.now) }
+    {
+        self.bytes.as_slice() == other.bytes.as_slice()
+    }
+}
