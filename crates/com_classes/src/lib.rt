@@ -1,0 +1,11 @@
+//! Interfaces, classes and activation.
+#![tactic(auto)]
+
+mod classes;
+mod factory;
+mod interfaces;
+
+pub use classes::{Class, ClassError, Classes, MethodBody, ThreadingModel};
+pub use com_base::Memory;
+pub use factory::{Creator, Factory, Placed};
+pub use interfaces::{Interface, Method};
