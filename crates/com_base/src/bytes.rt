@@ -1,5 +1,5 @@
 //! Bytes, seen as a list.
-ghost use Rattle.std.specs.Prelude.{◌≡◌, ℕ, ◌++◌, ◌∷◌, List, [], IfOk, OnErr, OnOk, IsTrue, ◌↔◌, length};
+ghost use Rattle.std.specs.Prelude.{◌≡◌, ℕ, ◌++◌, ◌∷◌, List, [], IfOk, OnErr, OnOk, IsTrue, ◌↔◌, length, take};
 
 use std::alloc::{AllocError, Global};
 use std::marker::Model;
@@ -77,6 +77,14 @@ impl ByteList {
         ensures err { OnErr result (self.new ≡ self.old) }
     {
         Ok(self.bytes.extend_from_slice(bytes)?)
+    }
+
+    /// Keeps the first `count` bytes, or all where there are fewer, and drops those after them. It keeps
+    /// the room, so a writer that wants memory in the middle can take back what it appended.
+    pub fn truncate(&mut self, count: usize)
+        ensures { self.new ≡ take count self.old }
+    {
+        self.bytes.truncate(count);
     }
 
     /// Drops every byte and keeps the room.
