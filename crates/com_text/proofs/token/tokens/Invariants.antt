@@ -1,0 +1,15 @@
+use Rattle.std.proofs.Common.{◌≡◌, ◌≤◌, ◌<◌, ◌^◌, ◌+◌, ◌-◌, ◌++◌, [], length, drop}
+use Rattle.com_text.specs.Scanning.{lines_from, at_line, lines_of}
+use Rattle.com_text.specs.Tokens.{tokens_of}
+use Rattle.com_text.proofs.token.tokens.Given as goal
+
+abbrev pub invariant-lines : goal.invariant-lines
+invariant-lines l = record {
+  size : length l.text < 2 ^ 32 - 2;
+  at : l.at ≤ length l.text;
+  line : l.line ≤ l.at + 1;
+  tokens : l.tokens.items ++ tokens_of (lines_from (at_line l.line l.at) [] (drop l.at l.text)) ≡ tokens_of (lines_of l.text);
+}
+
+abbrev pub decreases-lines : goal.decreases-lines
+decreases-lines l = length l.text + 1 - l.at

@@ -1,0 +1,152 @@
+//! The tokens of a text.
+
+ghost use Rattle.std.specs.Prelude.{◌≡◌, ◌<◌, ◌^◌, ◌++◌, ◌∷◌, [], OnOk, IfOk, IfErr, map};
+ghost use Rattle.com_text.specs.Tokens.{first_stray, token_sort, token_of, end_token, tokens_of, Refuses};
+ghost use Rattle.com_text.specs.Scanning.{lines_of};
+ghost use Rattle.com_text.specs.declared.token.TextError.TheVariants.{Memory};
+
+use crate::scan::{LineEnd, class_of, Class, line_at};
+use crate::word::{Sort, Word};
+use std::alloc::{AllocError, AllocFailed, Global};
+
+/// What a token is.
+#[derive(Clone, Copy, Debug, PartialEq, Eq)]
+pub enum TokenSort {
+    /// A word that is no literal.
+    Word,
+    /// A text literal, with its marks.
+    Text,
+    /// A bytes literal, with its marks.
+    Bytes,
+    /// A literal that is not closed on its line.
+    Unclosed,
+    /// A line end.
+    LineEnd,
+}
+
+/// A token: the bytes of the text from `start` up to `end`, and what they are.
+#[derive(Clone, Copy, Debug, PartialEq, Eq)]
+pub struct Token {
+    /// The index of its first byte.
+    pub start: usize,
+    /// The index behind its last byte.
+    pub end: usize,
+    /// What it is.
+    pub sort: TokenSort,
+}
+
+/// Why a text has no tokens.
+#[derive(Clone, Copy, Debug, PartialEq, Eq)]
+pub enum TextError {
+    /// A byte outside the characters, at this index: the first such byte.
+    Character(usize),
+    /// There was not enough memory, or the text has nearly 2^32 bytes or more.
+    Memory,
+}
+
+impl From<AllocError> for TextError {
+    ghost from_gives = { λ _ e. e ≡ Memory };
+
+    fn from(_error: AllocError) -> TextError {
+        TextError::Memory
+    }
+}
+
+impl<T: Drop> From<AllocFailed<T>> for TextError {
+    ghost from_gives = { λ _ e. e ≡ Memory };
+
+    fn from(_error: AllocFailed<T>) -> TextError {
+        TextError::Memory
+    }
+}
+
+/// A text has fewer bytes than this, so that its lines and columns are numbers of 32 bits.
+pub const TEXT_LIMIT: usize = 0xffff_0000;
+
+/// The index of the first byte outside the characters.
+fn first_stray(text: &[u8]) -> Option<usize>
+    ensures { result ≡ first_stray text.now }
+{
+    for i in 0..text.len() {
+        let next = if i + 1 < text.len() { text[i + 1] } else { 0 };
+        if class_of(text[i], next) == Class::Bad {
+            return Some(i);
+        }
+    }
+    None
+}
+
+fn token_sort(sort: Sort) -> TokenSort
+    ensures { result ≡ token_sort sort }
+{
+    match sort {
+        Sort::Text => TokenSort::Text,
+        Sort::Bytes => TokenSort::Bytes,
+        Sort::Unclosed => TokenSort::Unclosed,
+        _ => TokenSort::Word,
+    }
+}
+
+fn token_of(word: &Word) -> Token
+    ensures { result ≡ token_of word.now }
+{
+    Token {
+        start: word.start,
+        end: word.end,
+        sort: token_sort(word.sort),
+    }
+}
+
+/// Appends the tokens of a line's words.
+fn push_words(words: &[Word], tokens: &mut Vec<Token>) -> Result<(), AllocError>
+    ensures { OnOk result (tokens.new.items ≡ tokens.old.items ++ map token_of words.now) }
+{
+    for word in words {
+        tokens.push(token_of(word))?;
+    }
+    Ok(())
+}
+
+/// Appends a line end's token.
+fn push_end(end: &LineEnd, tokens: &mut Vec<Token>) -> Result<(), AllocError>
+    requires { end.now.at < 2 ^ 32 }
+    ensures { OnOk result (tokens.new.items ≡ tokens.old.items ++ end_token end.now.at ∷ []) }
+{
+    tokens.push(Token {
+        start: end.at,
+        end: end.at + 1,
+        sort: TokenSort::LineEnd,
+    })?;
+    Ok(())
+}
+
+/// The tokens of a text: its words and literals, and a token for each line end, in order. Spaces
+/// and comments are no part of a token. `Character` comes exactly where a byte is outside the
+/// characters, with the index of the first one, and `Memory` where memory is short.
+#[tactic(auto, unfolding(crate::specs::Scanning::lines_of))]
+pub fn tokens(alloc: Global, text: &[u8]) -> Result<Vec<Token>, TextError>
+    ensures value { IfOk result (λ v. v.items ≡ tokens_of (lines_of text.now)) }
+    ensures characters { OnOk result (first_stray text.now ≡ None) }
+    ensures err { IfErr result (Refuses text.now) }
+{
+    if let Some(at) = first_stray(text) {
+        return Err(TextError::Character(at));
+    }
+    if text.len() >= TEXT_LIMIT {
+        return Err(TextError::Memory);
+    }
+    let mut words = Vec::new(alloc);
+    let mut tokens = Vec::new(alloc);
+    let mut line = 1;
+    let mut at = 0;
+    'lines: loop {
+        let end = line_at(text, line, at, &mut words)?;
+        push_words(&words, &mut tokens)?;
+        if end.last {
+            return Ok(tokens);
+        }
+        push_end(&end, &mut tokens)?;
+        line += 1;
+        at = end.at + 1;
+    }
+}
