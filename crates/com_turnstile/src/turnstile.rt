@@ -1,0 +1,228 @@
+//! The lock, its passes, and the guard of the pass that has entered.
+ghost use Rattle.std.specs.Prelude.{◌≡◌, ℕ, ◌+◌, ◌<◌, ◌≤◌, [], length, true, false, IfOk, Some, None, vec_len};
+ghost use mathlib.Core.List.{IsPrefix};
+ghost use mathlib.Core.Option.{some};
+ghost use lib.ListN.{get_elem?};
+ghost use Rattle.com_turnstile.specs.Steps.{with_ticket, Entered};
+
+use crate::grows::Grows;
+use crate::view::{Advance, Deal, Draw, Publish, Serve, Turns, View};
+use atomic_table::{Seat, Table};
+use std::alloc::{AllocError as Memory, Global};
+use std::hint;
+use std::snapshot::Snapshot;
+use std::sync::Wait;
+
+// The word that counts the tickets drawn.
+const TICKETS: usize = 0;
+
+// The word that has the ticket that is served.
+const SERVING: usize = 1;
+
+// The word that counts the entries published.
+const ENTRIES: usize = 2;
+
+// The slot of the value.
+const VALUE: usize = 0;
+
+// How often a waiting pass looks for its turn before it sleeps.
+const LOOKS: u32 = 200;
+
+/// A lock round a value that grows. It serves its passes in the order of their tickets.
+///
+/// The value is with the pass that has entered, and else in the lock. A turnstile may be shared among threads, and its
+/// passes and guards may move to other threads, where the value may.
+#[derive(Drop)]
+pub struct Turnstile<T: Grows> {
+    // The three words, and a slot with the value, or None while it is taken out.
+    table: Table<Option<T>, View<T::Entry>, Snapshot<T>, Turns<T>, Global>,
+    ghost sized: { (table.shared.table_id.words ≡ 3) × (table.shared.table_id.slots ≡ 1) },
+}
+
+/// The right of one lane to enter a turnstile, which knows what the lane has seen.
+///
+/// A pass that is dropped enters no more, and the others go on. A pass that waits for its turn, or has entered, must
+/// leave before the next pass is served.
+#[derive(Drop)]
+pub struct Pass<T: Grows> {
+    seat: Seat<Option<T>, View<T::Entry>>,
+    // The length of the list that the pass has seen.
+    count: u64,
+}
+
+/// The value of a turnstile, with the pass that has entered.
+///
+/// While there is a guard no other pass enters. A guard that never leaves keeps the value, and every pass that then
+/// enters waits forever: so does the last pass, which takes the value out.
+#[derive(Drop)]
+pub struct Guard<T: Grows> {
+    /// The value, to which entries may be added.
+    pub value: T,
+    /// The pass that has entered.
+    pub pass: Pass<T>,
+}
+
+impl<T: Grows> Turnstile<T> {
+    ghost use Rattle.com_turnstile.specs.Passes.{turnstile_id, IsNewSeat, IsPassOf, IsGuardOf, IsSamePass, IsNewPass, HasOwn, MayLeave, HasMade, opening_of, seen_by, own_of};
+
+    /// A turnstile round the value, and its passes, of which there may be 1 to 64.
+    ///
+    /// The i-th pass, counted from 1, is the pass of lane i. Each pass has seen the list that the value has now. Where
+    /// memory is wanted nothing comes back, and the value is dropped.
+    pub fn new(
+        alloc: Global,
+        value: T,
+        passes: u32,
+    ) -> Result<(Turnstile<T>, Vec<Pass<T>>), Memory>
+        requires { (0 < passes) × (passes ≤ 64) }
+        ensures count { IfOk result (λ r. vec_len r.1 ≡ passes) }
+        ensures passes { IfOk result (λ r. (i : ℕ) (p : _) → get_elem? r.1.items i ≡ some p → IsNewPass r.0 (T.list value) (i + 1) p) }
+    {
+        let count = value.length();
+        let key = Snapshot::of(&value);
+        let mut slots = Vec::new(alloc);
+        slots.push(Some(value))?;
+        let Ok((table, seat)) = Table::new(alloc, &[0, 0, count], slots, &key) else {
+            return Err(Memory);
+        };
+        let turnstile = Turnstile { table };
+        let list = turnstile.deal(alloc, seat, count, passes)?;
+        Ok((turnstile, list))
+    }
+
+    // Splits the first seat into those of all passes.
+    fn deal(
+        &self,
+        alloc: Global,
+        seat: Seat<Option<T>, View<T::Entry>>,
+        count: u64,
+        passes: u32,
+    ) -> Result<Vec<Pass<T>>, Memory>
+        requires some { 0 < passes }
+        requires count { count ≡ length seat.me.0.opening }
+        requires seat { IsNewSeat (turnstile_id self.now) seat.me.0.opening 1 seat × (seat.me.0.splits ≡ true) }
+        ensures count { IfOk result (λ r. vec_len r ≡ passes) }
+        ensures passes { IfOk result (λ r. (i : ℕ) (p : _) → get_elem? r.items i ≡ some p → IsNewPass self.now seat.me.0.opening (i + 1) p) }
+    {
+        let mut list = Vec::with_capacity(alloc, passes as usize)?;
+        let mut seat = seat;
+        for _ in 1..passes {
+            let next = self.table.shared.split_seat::<Deal>(&mut seat);
+            list.push(Pass { seat, count })?;
+            seat = next;
+        }
+        list.push(Pass { seat, count })?;
+        Ok(list)
+    }
+
+    // Draws the next ticket. When all are drawn it waits forever.
+    fn draw<R: Wait>(&self, rt: &R, seat: &mut Seat<Option<T>, View<T::Entry>>) -> u64
+        requires outside { (seat.old.table_id ≡ turnstile_id self.now) × (seat.old.me.0.ticket ≡ None) × (seat.old.me.0.turn ≡ false) }
+        ensures same { (seat.new.table_id ≡ seat.old.table_id) × (seat.new.id ≡ seat.old.id) }
+        ensures drawn { seat.new.me ≡ (with_ticket seat.old.me.0 result, seat.old.me.1) }
+    {
+        let shared = &self.table.shared;
+        for _ in rt.forever() {
+            let ticket = shared.peek(TICKETS);
+            if ticket == u64::MAX {
+                shared.park(rt, TICKETS, u32::MAX);
+                continue;
+            }
+            let found = shared.compare_exchange::<Draw>(seat, TICKETS, ticket, ticket + 1);
+            if found == ticket {
+                return ticket;
+            }
+        }
+        unreachable!()
+    }
+
+    // Waits until the ticket is served. The seat then holds the slot.
+    fn await_turn<R: Wait>(&self, rt: &R, seat: &mut Seat<Option<T>, View<T::Entry>>, ticket: u64)
+        requires outside { (seat.old.table_id ≡ turnstile_id self.now) × (seat.old.me.0.ticket ≡ Some ticket) × (seat.old.me.0.turn ≡ false) }
+        ensures same { (seat.new.table_id ≡ seat.old.table_id) × (seat.new.id ≡ seat.old.id) }
+        ensures entered { Entered T.list T.lane seat.old.me seat.new.me }
+    {
+        for _ in rt.forever() {
+            let served = self.table.shared.load::<Serve>(seat, SERVING);
+            if served == ticket {
+                return;
+            }
+            self.await_change(rt, served);
+        }
+        unreachable!()
+    }
+
+    // Waits while this ticket is served: it looks a few times, and then sleeps until a pass that leaves wakes it.
+    fn await_change<R: Wait>(&self, rt: &R, served: u64) {
+        let shared = &self.table.shared;
+        for _ in 0..LOOKS {
+            if shared.peek(SERVING) != served {
+                return;
+            }
+            hint::spin_loop();
+        }
+        shared.park(rt, SERVING, (served % (1 << 32)) as u32);
+    }
+
+    // Wakes the passes that wait, if a ticket was drawn after this one, which was served. A pass that draws later finds
+    // the next ticket served.
+    fn wake_waiting(&self, served: u64) {
+        let shared = &self.table.shared;
+        if shared.peek(TICKETS) != served.wrapping_add(1) {
+            shared.wake_all(SERVING);
+        }
+    }
+
+    /// Waits for the pass's turn, and hands out the value.
+    ///
+    /// The value's list begins with all that the pass has seen. After the list that the turnstile was made with, the
+    /// entries of the pass's lane in it are those that the pass made, each once and in their order.
+    pub fn enter<R: Wait>(&self, rt: &R, pass: Pass<T>) -> Guard<T>
+        requires { IsPassOf self.now pass }
+        ensures inside { IsGuardOf self.now result }
+        ensures pass { IsSamePass pass result.pass }
+
+        ensures begins { IsPrefix (seen_by pass) (T.list result.value) }
+        ensures own { HasOwn T.lane pass (T.list result.value) }
+
+        ensures seen { seen_by result.pass ≡ T.list result.value }
+        ensures made { own_of result.pass ≡ own_of pass }
+    {
+        let Pass { mut seat, count: _ } = pass;
+        let ticket = self.draw(rt, &mut seat);
+        self.await_turn(rt, &mut seat, ticket);
+        let value = self.table.shared.exchange(&mut seat, VALUE, None).unwrap();
+        let count = value.length();
+        Guard {
+            value,
+            pass: Pass { seat, count },
+        }
+    }
+
+    /// Gives the value back with what was added to it, and serves the next ticket.
+    ///
+    /// The pass has now seen the value's list.
+    pub fn leave(&self, guard: Guard<T>) -> Pass<T>
+        requires inside { IsGuardOf self.now guard }
+        requires grown { MayLeave T.lane guard.pass (T.list guard.value) }
+        ensures outside { IsPassOf self.now result }
+        ensures pass { IsSamePass guard.pass result }
+        ensures seen { seen_by result ≡ T.list guard.value }
+        ensures made { HasMade T.lane guard.pass (T.list guard.value) result }
+    {
+        let Guard { value, pass } = guard;
+        let Pass { mut seat, count } = pass;
+        let longer = value.length();
+        let shared = &self.table.shared;
+        let None = shared.exchange(&mut seat, VALUE, Some(value)) else {
+            unreachable!()
+        };
+        shared.fetch_add::<Publish>(&mut seat, ENTRIES, longer - count);
+        let served = shared.fetch_add::<Advance>(&mut seat, SERVING, 1);
+        self.wake_waiting(served);
+        Pass {
+            seat,
+            count: longer,
+        }
+    }
+}
