@@ -1,5 +1,5 @@
 -- Each step keeps the rule.
-use Rattle.std.proofs.Common.{◌≡◌, ◌⊎◌, ◌≢◌, ℕ, zero, suc, eqb, ◌+◌, ◌%◌, ◌^◌, ◌<◌, ◌≤◌, Bool, true, false, true≢false, List, [], ◌∷◌, ◌++◌, length, get_or, set, refl, sym, ap, ◌∙◌, subst, ⊎_elim, arith, append_assoc, length-append, length-set, get_or-set_other, get_or-set_same, mod-eq_of_lt}
+use Rattle.std.proofs.Common.{◌≡◌, ◌≢◌, ℕ, zero, suc, eqb, ◌+◌, ◌%◌, ◌^◌, ◌<◌, ◌≤◌, Bool, true, false, true≢false, List, [], ◌∷◌, ◌++◌, length, get_or, set, refl, sym, ap, ◌∙◌, subst, ⊎_elim, arith, append_assoc, length-append, length-set, get_or-set_other, get_or-set_same, mod-eq_of_lt}
 use Rattle.std.proofs.lemmas.List.{append-nil, append_cancel_left}
 use Rattle.std.proofs.lemmas.List.Elements.{filter-append}
 use Rattle.std.specs.Prelude.{Option, Some, None}
@@ -14,9 +14,9 @@ use Rattle.atomic_table.specs.Table.{State, step, Act, keeps, takes, gives, Vali
 use Rattle.atomic_table.proofs.Lists.{set_here, set_else, set_again, at_longer, exchanged}
 use Rattle.com_turnstile.specs.declared.view.View.{View}
 use Rattle.com_turnstile.specs.Entries.{of_lane, AreOf}
-use Rattle.com_turnstile.specs.Turns.{ticket_count, tickets_out, IsSeen, OneBeginsOther, first_view, Fits, NoTurn, InTurn}
+use Rattle.com_turnstile.specs.Turns.{ticket_count, tickets_out, IsSeen, first_view, Fits, NoTurn, InTurn}
 use Rattle.com_turnstile.specs.Steps.{Holder, with_ticket, in_turn, with_more, at_rest, no_splitter, next_view, drew, served, published, advanced}
-use Rattle.com_turnstile.proofs.Sets.{Before, before, set_at, at_end, prefix_more, prefix_all, comparable, none_of_another}
+use Rattle.com_turnstile.proofs.Lists.{Before, before, set_at, at_end, prefix_more, prefix_all, comparable, none_of_another}
 
 set_found : (ws : List ℕ) (i : ℕ) → set ws i (get_or ws i 0) ≡ ws
 set_found [] i = refl

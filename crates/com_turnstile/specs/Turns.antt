@@ -65,28 +65,24 @@ pub record InTurn {T E : Type 0} (list : T → List E) (lane : E → ℕ) (openi
   pub one_slot : length s.homes ≡ 1
   -- what is so of each view by itself
   pub each : (j : ℕ) (v : View E) → IsViewAt s.views j v → Fits lane opening later (slice_index s.words 0) (slice_index s.words 1) v
-
   -- the numbers of the views are different
   pub apart : (i j : ℕ) (v w : View E) → IsViewAt s.views i v → IsViewAt s.views j w → v.number ≡ w.number → i ≡ j
   -- a view that may be split has the greatest number
   pub greatest : (i j : ℕ) (v w : View E) → IsViewAt s.views i v → IsViewAt s.views j w → v.splits ≡ true → w.number ≤ v.number
   -- a number above 0 that no view has has no entry after the opening list
   pub absent : (n : ℕ) → 0 < n → ((j : ℕ) (v : View E) → IsViewAt s.views j v → v.number ≢ n) → of_lane lane n later ≡ []
-
   -- the ticket that is served, and the number of views with a ticket, make the number of tickets drawn
   pub tally : slice_index s.words 1 + tickets_out s.views ≡ slice_index s.words 0
   -- the number of tickets drawn fits a word
   pub fits_word : slice_index s.words 0 < 18446744073709551616
   -- the tickets are different
   pub tickets : (i j : ℕ) (v w : View E) → IsViewAt s.views i v → IsViewAt s.views j w → (t : ℕ) → v.ticket ≡ Some t → w.ticket ≡ Some t → i ≡ j
-
   -- of what any two views have seen one begins with the other
   pub nested : (i j : ℕ) (v w : View E) → IsViewAt s.views i v → IsViewAt s.views j w → OneBeginsOther v.seen w.seen
   -- the longest that any has seen is the published list
   pub longest : IsSeen s.views (opening ++ later)
   -- the published list has as many entries as the third word says
   pub counted : slice_index s.words 2 ≡ length (opening ++ later)
-
   -- while no view has its turn, the slot is at home with a value whose list is the published list
   pub home : NoTurn s.views → (x : T) × (get_elem? s.homes 0 ≡ some (some (Some x))) × (list x ≡ opening ++ later)
   -- while a view has its turn, the slot is out

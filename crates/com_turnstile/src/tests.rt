@@ -1,7 +1,7 @@
 ghost use Rattle.std.specs.Prelude.{◌≡◌, IfOk};
 ghost use Rattle.com_turnstile.specs.Passes.{IsPassOf, lane_of};
 
-use crate::{Grows, Memory, Pass, Turnstile};
+use crate::{Grows, Guard, Memory, Pass, Turnstile};
 use std::alloc::Global;
 use std::sync::Wait;
 use std::test::*;
@@ -23,6 +23,18 @@ impl Grows for Log {
     fn length(&self) -> u64 {
         self.entries.len() as u64
     }
+}
+
+fn moves<X: Send>(_value: &X) {}
+
+fn is_shared<X: Sync>(_value: &X) {}
+
+// A turnstile, its passes and its guards cross threads where the value does.
+fn cross_threads<T: Grows + Send>(turnstile: &Turnstile<T>, pass: &Pass<T>, guard: &Guard<T>) {
+    moves(turnstile);
+    is_shared(turnstile);
+    moves(pass);
+    moves(guard);
 }
 
 // A turnstile round an empty log, and the passes of the lanes 1 and 2.
@@ -93,10 +105,14 @@ fn a_pass_sees_what_was_left_before(rt: HostRuntime) -> Result<(), Fail> {
     let mut guard = turnstile.enter(&rt, second);
     assert_eq!(rt; guard.value.entries.as_slice(), [(1, 10)].as_slice());
     guard.value.entries.push((2, 20))?;
+    cross_threads(&turnstile, &first, &guard);
     turnstile.leave(guard);
 
     let guard = turnstile.enter(&rt, first);
-    assert_eq!(rt; guard.value.entries.as_slice(), [(1, 10), (2, 20)].as_slice());
+    assert_eq!(rt;
+        guard.value.entries.as_slice(),
+        [(1, 10), (2, 20)].as_slice()
+    );
     Ok(())
 }
 

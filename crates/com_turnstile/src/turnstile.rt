@@ -1,10 +1,9 @@
 //! The lock, its passes, and the guard of the pass that has entered.
-ghost use Rattle.std.specs.Prelude.{◌≡◌, ℕ, ◌+◌, ◌<◌, ◌≤◌, [], length, true, false, IfOk, Some, None, vec_len};
+ghost use Rattle.std.specs.Prelude.{◌≡◌, ℕ, ◌+◌, ◌<◌, ◌≤◌, [], length, true, false, IfOk, Some, None, vec_len, slice_get};
 ghost use mathlib.Core.List.{IsPrefix};
-ghost use mathlib.Core.Option.{some};
-ghost use lib.ListN.{get_elem?};
 ghost use Rattle.com_turnstile.specs.Steps.{with_ticket, Entered};
 
+use crate::bells::Bells;
 use crate::grows::Grows;
 use crate::view::{Advance, Deal, Draw, Publish, Serve, Turns, View};
 use atomic_table::{Seat, Table};
@@ -25,7 +24,7 @@ const ENTRIES: usize = 2;
 // The slot of the value.
 const VALUE: usize = 0;
 
-// How often a waiting pass looks for its turn before it sleeps.
+// How often a pass that waits looks for its turn before it sleeps.
 const LOOKS: u32 = 200;
 
 /// A lock round a value that grows. It serves its passes in the order of their tickets.
@@ -34,15 +33,16 @@ const LOOKS: u32 = 200;
 /// passes and guards may move to other threads, where the value may.
 #[derive(Drop)]
 pub struct Turnstile<T: Grows> {
-    // The three words, and a slot with the value, or None while it is taken out.
+    // The three words, and the slot, which has None while the value is taken out.
     table: Table<Option<T>, View<T::Entry>, Snapshot<T>, Turns<T>, Global>,
+    // Where the passes that wait sleep.
+    bells: Bells,
     ghost sized: { (table.shared.table_id.words ≡ 3) × (table.shared.table_id.slots ≡ 1) },
 }
 
 /// The right of one lane to enter a turnstile, which knows what the lane has seen.
 ///
-/// A pass that is dropped enters no more, and the others go on. A pass that waits for its turn, or has entered, must
-/// leave before the next pass is served.
+/// A pass that is dropped while it is outside enters no more, and the others go on.
 #[derive(Drop)]
 pub struct Pass<T: Grows> {
     seat: Seat<Option<T>, View<T::Entry>>,
@@ -52,8 +52,8 @@ pub struct Pass<T: Grows> {
 
 /// The value of a turnstile, with the pass that has entered.
 ///
-/// While there is a guard no other pass enters. A guard that never leaves keeps the value, and every pass that then
-/// enters waits forever: so does the last pass, which takes the value out.
+/// While a guard has not left, no other pass enters. A guard that never leaves, as that of a caller who takes the value
+/// for good, keeps the others out forever.
 #[derive(Drop)]
 pub struct Guard<T: Grows> {
     /// The value, to which entries may be added.
@@ -63,20 +63,17 @@ pub struct Guard<T: Grows> {
 }
 
 impl<T: Grows> Turnstile<T> {
-    ghost use Rattle.com_turnstile.specs.Passes.{turnstile_id, IsNewSeat, IsPassOf, IsGuardOf, IsSamePass, IsNewPass, HasOwn, MayLeave, HasMade, opening_of, seen_by, own_of};
+    ghost use Rattle.com_turnstile.specs.Passes.{turnstile_id, IsIdle, IsNewSeat, IsPassOf, IsGuardOf, IsSamePass, IsNewPass, HasOwn, MayLeave, HasMade, opening_of, seen_by, own_of};
 
     /// A turnstile round the value, and its passes, of which there may be 1 to 64.
     ///
     /// The i-th pass, counted from 1, is the pass of lane i. Each pass has seen the list that the value has now. Where
     /// memory is wanted nothing comes back, and the value is dropped.
-    pub fn new(
-        alloc: Global,
-        value: T,
-        passes: u32,
-    ) -> Result<(Turnstile<T>, Vec<Pass<T>>), Memory>
+    pub fn new(alloc: Global, value: T, passes: u32) -> Result<(Turnstile<T>, Vec<Pass<T>>), Memory>
         requires { (0 < passes) × (passes ≤ 64) }
         ensures count { IfOk result (λ r. vec_len r.1 ≡ passes) }
-        ensures passes { IfOk result (λ r. (i : ℕ) (p : _) → get_elem? r.1.items i ≡ some p → IsNewPass r.0 (T.list value) (i + 1) p) }
+        ensures passes { IfOk result (λ r. (i : ℕ) (p : _) → slice_get r.1.items i ≡ Some p
+            → IsNewPass r.0 (T.list value) (i + 1) p) }
     {
         let count = value.length();
         let key = Snapshot::of(&value);
@@ -85,7 +82,10 @@ impl<T: Grows> Turnstile<T> {
         let Ok((table, seat)) = Table::new(alloc, &[0, 0, count], slots, &key) else {
             return Err(Memory);
         };
-        let turnstile = Turnstile { table };
+        let turnstile = Turnstile {
+            table,
+            bells: Bells::new(),
+        };
         let list = turnstile.deal(alloc, seat, count, passes)?;
         Ok((turnstile, list))
     }
@@ -100,9 +100,11 @@ impl<T: Grows> Turnstile<T> {
     ) -> Result<Vec<Pass<T>>, Memory>
         requires some { 0 < passes }
         requires count { count ≡ length seat.me.0.opening }
-        requires seat { IsNewSeat (turnstile_id self.now) seat.me.0.opening 1 seat × (seat.me.0.splits ≡ true) }
+        requires seat { IsNewSeat (turnstile_id self.now) seat.me.0.opening 1 seat }
+        requires splits { seat.me.0.splits ≡ true }
         ensures count { IfOk result (λ r. vec_len r ≡ passes) }
-        ensures passes { IfOk result (λ r. (i : ℕ) (p : _) → get_elem? r.items i ≡ some p → IsNewPass self.now seat.me.0.opening (i + 1) p) }
+        ensures passes { IfOk result (λ r. (i : ℕ) (p : _) → slice_get r.items i ≡ Some p
+            → IsNewPass self.now seat.me.0.opening (i + 1) p) }
     {
         let mut list = Vec::with_capacity(alloc, passes as usize)?;
         let mut seat = seat;
@@ -117,7 +119,7 @@ impl<T: Grows> Turnstile<T> {
 
     // Draws the next ticket. When all are drawn it waits forever.
     fn draw<R: Wait>(&self, rt: &R, seat: &mut Seat<Option<T>, View<T::Entry>>) -> u64
-        requires outside { (seat.old.table_id ≡ turnstile_id self.now) × (seat.old.me.0.ticket ≡ None) × (seat.old.me.0.turn ≡ false) }
+        requires { IsIdle (turnstile_id self.now) seat.old }
         ensures same { (seat.new.table_id ≡ seat.old.table_id) × (seat.new.id ≡ seat.old.id) }
         ensures drawn { seat.new.me ≡ (with_ticket seat.old.me.0 result, seat.old.me.1) }
     {
@@ -138,38 +140,33 @@ impl<T: Grows> Turnstile<T> {
 
     // Waits until the ticket is served. The seat then holds the slot.
     fn await_turn<R: Wait>(&self, rt: &R, seat: &mut Seat<Option<T>, View<T::Entry>>, ticket: u64)
-        requires outside { (seat.old.table_id ≡ turnstile_id self.now) × (seat.old.me.0.ticket ≡ Some ticket) × (seat.old.me.0.turn ≡ false) }
+        requires table { seat.old.table_id ≡ turnstile_id self.now }
+        requires drawn { seat.old.me.0.ticket ≡ Some ticket }
+        requires outside { seat.old.me.0.turn ≡ false }
         ensures same { (seat.new.table_id ≡ seat.old.table_id) × (seat.new.id ≡ seat.old.id) }
         ensures entered { Entered T.list T.lane seat.old.me seat.new.me }
     {
         for _ in rt.forever() {
-            let served = self.table.shared.load::<Serve>(seat, SERVING);
-            if served == ticket {
+            if self.table.shared.load::<Serve>(seat, SERVING) == ticket {
                 return;
             }
-            self.await_change(rt, served);
+            self.pause(rt, ticket);
         }
         unreachable!()
     }
 
-    // Waits while this ticket is served: it looks a few times, and then sleeps until a pass that leaves wakes it.
-    fn await_change<R: Wait>(&self, rt: &R, served: u64) {
-        let shared = &self.table.shared;
+    // Waits for a while in which the ticket may come to be served: it looks a few times, and then sleeps until the pass
+    // before it leaves.
+    fn pause<R: Wait>(&self, rt: &R, ticket: u64) {
         for _ in 0..LOOKS {
-            if shared.peek(SERVING) != served {
+            if self.table.shared.peek(SERVING) == ticket {
                 return;
             }
             hint::spin_loop();
         }
-        shared.park(rt, SERVING, (served % (1 << 32)) as u32);
-    }
-
-    // Wakes the passes that wait, if a ticket was drawn after this one, which was served. A pass that draws later finds
-    // the next ticket served.
-    fn wake_waiting(&self, served: u64) {
-        let shared = &self.table.shared;
-        if shared.peek(TICKETS) != served.wrapping_add(1) {
-            shared.wake_all(SERVING);
+        self.bells.set(ticket);
+        if self.table.shared.peek(SERVING) != ticket {
+            self.bells.sleep(rt, ticket);
         }
     }
 
@@ -219,7 +216,7 @@ impl<T: Grows> Turnstile<T> {
         };
         shared.fetch_add::<Publish>(&mut seat, ENTRIES, longer - count);
         let served = shared.fetch_add::<Advance>(&mut seat, SERVING, 1);
-        self.wake_waiting(served);
+        self.bells.ring(served.wrapping_add(1));
         Pass {
             seat,
             count: longer,

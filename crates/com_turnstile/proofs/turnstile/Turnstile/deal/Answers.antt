@@ -1,8 +1,7 @@
 use Rattle.std.proofs.Common.{sym, length, ◌≡◌, ℕ, ◌+◌, rules, arith, ap, subst, ◌∙◌, ⊎_elim}
-use lib.ListN.{get_elem?}
-use mathlib.Core.Option.{some}
+use Rattle.std.specs.Prelude.{slice_get, Some}
 use Rattle.com_turnstile.proofs.Steps.{splits}
-use Rattle.com_turnstile.proofs.Sets.{at_end, longer}
+use Rattle.com_turnstile.proofs.Lists.{slice_get_end, longer}
 use Rattle.com_turnstile.specs.Passes.{IsNewPass}
 use Rattle.com_turnstile.proofs.turnstile.Turnstile.deal.Goals as goal
 
@@ -38,7 +37,7 @@ loop-preserved g c = let inv = c.loop.invariant in let new = inv.new in let s = 
             seen = ap (λ m. m.0.seen) s.2 ∙ new.seen;
             none_made = ap (λ m. m.0.mine) s.2 ∙ new.none_made;
           })
-          (at_end _ _ p i (subst (λ l. get_elem? l i ≡ some p) items h));
+          (slice_get_end _ _ p i (subst (λ l. slice_get l i ≡ Some p) items h));
     }
 
 pub returns-clause-passes : goal.returns-clause-passes
@@ -47,4 +46,4 @@ returns-clause-passes g c i p h = let inv = c.loop.invariant in let new = inv.ne
     (λ t. let k : c.loop.counter ≡ i + 1 = (let l = inv.dealt in let j = t.0 in omega arith) in
     subst (λ q. IsNewPass c.args.self.now c.args.seat.me.0.opening (i + 1) q) t.1
     record { pass = record { idle = new.idle; counted = c.requires.count ∙ ap length (sym new.seen) }; lane = new.number ∙ k; opening_kept = new.opening_kept; seen = new.seen; none_made = new.none_made })
-    (at_end _ _ p i (subst (λ l. get_elem? l i ≡ some p) items h))
+    (slice_get_end _ _ p i (subst (λ l. slice_get l i ≡ Some p) items h))

@@ -1,7 +1,5 @@
 use Rattle.std.proofs.Common.{◌≡◌, ℕ, ◌+◌, true, List, length}
-use Rattle.std.specs.Prelude.{Option}
-use mathlib.Core.Option.{some}
-use lib.ListN.{get_elem?}
+use Rattle.std.specs.Prelude.{Option, slice_get, Some}
 use Rattle.atomic_table.specs.declared.shared.Seat.{Seat}
 use Rattle.com_turnstile.specs.declared.view.View.{View}
 use Rattle.com_turnstile.specs.declared.turnstile.Pass.{Pass}
@@ -14,7 +12,7 @@ pub record Dealt {T E : Type 0} (t : Turnstile T E) (opening : List E) (passes :
   pub dealt : length passes + 1 ≡ next
   pub splits : seat.me.0.splits ≡ true
   pub new : IsNewSeat (turnstile_id t) opening next seat
-  pub passes_new : (i : ℕ) (p : Pass T E) → get_elem? passes i ≡ some p → IsNewPass t opening (i + 1) p
+  pub passes_new : (i : ℕ) (p : Pass T E) → slice_get passes i ≡ Some p → IsNewPass t opening (i + 1) p
 
 abbrev pub invariant-loop : goal.invariant-loop
 invariant-loop g l = Dealt l.self l.initial.seat.me.0.opening l.list.items l.counter l.seat

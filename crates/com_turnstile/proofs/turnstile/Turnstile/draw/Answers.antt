@@ -3,5 +3,5 @@ use Rattle.com_turnstile.proofs.Steps.{draws}
 use Rattle.com_turnstile.proofs.turnstile.Turnstile.draw.Goals as goal
 
 pub compare_exchange-found-requires : goal.compare_exchange-found-requires
-compare_exchange-found-requires g c = let same = c.loop.invariant in let me = c.requires.outside in
-    (search rules, search rules, draws _ _ _ _ _ _ _ (ap (λ m. m.0.ticket) same.3 ∙ me.1) (ap (λ m. m.0.turn) same.3 ∙ me.2) (omega arith))
+compare_exchange-found-requires g c = let same = c.loop.invariant in
+    (search rules, search rules, draws _ _ _ _ _ _ _ (ap (λ m. m.0.ticket) same.3 ∙ c.requires.no_ticket) (ap (λ m. m.0.turn) same.3 ∙ c.requires.no_turn) (omega arith))

@@ -1,6 +1,7 @@
 -- A list after one of its elements has changed, prefixes, and the entries of a lane.
-use Rattle.std.proofs.Common.{◌≡◌, ◌≢◌, ◌⊎◌, ℕ, zero, suc, ◌+◌, ◌<◌, List, [], ◌∷◌, ◌++◌, length, set, refl, sym, ap, ◌∙◌, inl, inr, ⊎_elim, arith, append_assoc, length-append, ne_eqb, All}
+use Rattle.std.proofs.Common.{◌≡◌, ◌≢◌, ◌⊎◌, ℕ, zero, suc, ◌+◌, ◌<◌, List, [], ◌∷◌, ◌++◌, length, set, refl, sym, ap, ◌∙◌, inl, inr, ⊎_elim, arith, append_assoc, length-append, ne_eqb}
 use Rattle.std.proofs.lemmas.List.{append-nil}
+use Rattle.std.specs.Prelude.{slice_get, Some}
 use Rattle.std.proofs.lemmas.List.Elements.{All-head, All-tail}
 use mathlib.Core.Option.{some, some-ne-none, some-injective}
 use mathlib.Core.List.{IsPrefix}
@@ -32,6 +33,24 @@ module _ {A : Type 0} where
   at_end [] a b (suc j) e = absurd (some-ne-none b (sym e))
   at_end (x ∷ xs) a b zero e = inl (omega arith, e)
   at_end (x ∷ xs) a b (suc j) e = ⊎_elim (λ t. inl (let n = t.0 in omega arith, t.1)) (λ t. inr (ap suc t.0, t.1)) (at_end xs a b j e)
+
+  -- the same of a vector's list
+  pub slice_get_end : (l : List A) (a b : A) (j : ℕ) → slice_get (l ++ a ∷ []) j ≡ Some b → ((j < length l) × (slice_get l j ≡ Some b)) ⊎ ((j ≡ length l) × (a ≡ b))
+  slice_get_end [] a b zero e = inr (refl, cc)
+  slice_get_end [] a b (suc j) e = absurd (cc (e))
+  slice_get_end (x ∷ xs) a b zero e = inl (omega arith, e)
+  slice_get_end (x ∷ xs) a b (suc j) e = ⊎_elim (λ t. inl (let n = t.0 in omega arith, t.1)) (λ t. inr (ap suc t.0, t.1)) (slice_get_end xs a b j e)
+
+  pub slice_get_longer : (l m : List A) (i : ℕ) (a : A) → slice_get l i ≡ Some a → slice_get (l ++ m) i ≡ Some a
+  slice_get_longer [] m i a e = absurd (cc (e))
+  slice_get_longer (x ∷ xs) m zero a e = e
+  slice_get_longer (x ∷ xs) m (suc i) a e = slice_get_longer xs m i a e
+
+  pub slice_get_last : (l : List A) (a : A) (n : ℕ) → length l ≡ n → slice_get (l ++ a ∷ []) n ≡ Some a
+  slice_get_last [] a zero e = refl
+  slice_get_last [] a (suc n) e = absurd (omega arith)
+  slice_get_last (x ∷ xs) a zero e = absurd (omega arith)
+  slice_get_last (x ∷ xs) a (suc n) e = slice_get_last xs a n (omega arith)
 
   pub longer : (xs ys : List A) (a : A) → ys ≡ xs ++ a ∷ [] → length ys ≡ length xs + 1
   longer xs ys a e = ap length e ∙ length-append xs (a ∷ [])
