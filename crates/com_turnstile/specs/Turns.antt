@@ -1,6 +1,5 @@
 -- The rule of the lock. It holds at every moment, and ties the three words and the slot to what the passes know.
--- The words are the number of tickets drawn, the ticket that is served, and the number of entries published. What a pass knows is its view.
--- The published list is the opening list, with which the lock was made, and then what was published since, `later`.
+-- What a pass knows is its view. The published list is the opening list, with which the lock was made, and then what was published since, `later`.
 use Rattle.std.specs.Prelude.{◌≡◌, ◌≢◌, ◌⊎◌, ℕ, ◌+◌, ◌<◌, ◌≤◌, true, false, List, [], ◌∷◌, ◌++◌, length, slice_index, Option, Some, None}
 use mathlib.Core.Option.{none, some}
 use mathlib.Core.List.{IsPrefix}
@@ -8,6 +7,18 @@ use lib.ListN.{get_elem?}
 use Rattle.atomic_table.specs.Table.{State}
 use Rattle.com_turnstile.specs.declared.view.View.{View}
 use Rattle.com_turnstile.specs.Entries.{of_lane}
+
+-- the first word: how many tickets were drawn
+abbrev pub tickets_drawn : {S V : Type 0} → State S V → ℕ
+tickets_drawn s = slice_index s.words 0
+
+-- the second word: the ticket that is served
+abbrev pub ticket_served : {S V : Type 0} → State S V → ℕ
+ticket_served s = slice_index s.words 1
+
+-- the third word: how many entries were published
+abbrev pub entries_published : {S V : Type 0} → State S V → ℕ
+entries_published s = slice_index s.words 2
 
 -- 1 for a ticket, and 0 for none
 abbrev pub ticket_count : Option ℕ → ℕ
@@ -64,7 +75,7 @@ pub record InTurn {T E : Type 0} (list : T → List E) (lane : E → ℕ) (openi
   -- there is one slot
   pub one_slot : length s.homes ≡ 1
   -- what is so of each view by itself
-  pub each : (j : ℕ) (v : View E) → IsViewAt s.views j v → Fits lane opening later (slice_index s.words 0) (slice_index s.words 1) v
+  pub each : (j : ℕ) (v : View E) → IsViewAt s.views j v → Fits lane opening later (tickets_drawn s) (ticket_served s) v
   -- the numbers of the views are different
   pub apart : (i j : ℕ) (v w : View E) → IsViewAt s.views i v → IsViewAt s.views j w → v.number ≡ w.number → i ≡ j
   -- a view that may be split has the greatest number
@@ -72,9 +83,9 @@ pub record InTurn {T E : Type 0} (list : T → List E) (lane : E → ℕ) (openi
   -- a number above 0 that no view has has no entry after the opening list
   pub absent : (n : ℕ) → 0 < n → ((j : ℕ) (v : View E) → IsViewAt s.views j v → v.number ≢ n) → of_lane lane n later ≡ []
   -- the ticket that is served, and the number of views with a ticket, make the number of tickets drawn
-  pub tally : slice_index s.words 1 + tickets_out s.views ≡ slice_index s.words 0
+  pub tally : ticket_served s + tickets_out s.views ≡ tickets_drawn s
   -- the number of tickets drawn fits a word
-  pub fits_word : slice_index s.words 0 < 18446744073709551616
+  pub fits_word : tickets_drawn s < 18446744073709551616
   -- the tickets are different
   pub tickets : (i j : ℕ) (v w : View E) → IsViewAt s.views i v → IsViewAt s.views j w → (t : ℕ) → v.ticket ≡ Some t → w.ticket ≡ Some t → i ≡ j
   -- of what any two views have seen one begins with the other
@@ -82,7 +93,7 @@ pub record InTurn {T E : Type 0} (list : T → List E) (lane : E → ℕ) (openi
   -- the longest that any has seen is the published list
   pub longest : IsSeen s.views (opening ++ later)
   -- the published list has as many entries as the third word says
-  pub counted : slice_index s.words 2 ≡ length (opening ++ later)
+  pub counted : entries_published s ≡ length (opening ++ later)
   -- while no view has its turn, the slot is at home with a value whose list is the published list
   pub home : NoTurn s.views → (x : T) × (get_elem? s.homes 0 ≡ some (some (Some x))) × (list x ≡ opening ++ later)
   -- while a view has its turn, the slot is out

@@ -17,12 +17,12 @@ const SET: u64 = 1;
 
 // A word for each ticket that is out.
 #[derive(Drop)]
-pub struct Bells {
+pub(crate) struct Bells {
     words: [AtomicU64; TICKETS_OUT],
 }
 
 impl Bells {
-    pub fn new() -> Bells {
+    pub(crate) fn new() -> Bells {
         Bells {
             words: array::from_fn(|_| AtomicU64::new(SILENT)),
         }
@@ -33,17 +33,17 @@ impl Bells {
     }
 
     // Sets the ticket's bell. Whoever then finds the ticket not served yet may sleep.
-    pub fn set(&self, ticket: u64) {
+    pub(crate) fn set(&self, ticket: u64) {
         self.of(ticket).store(SET, SeqCst);
     }
 
     // Sleeps until the bell rings, unless it has rung since it was set. It may also return for no reason.
-    pub fn sleep<R: Wait>(&self, rt: &R, ticket: u64) {
+    pub(crate) fn sleep<R: Wait>(&self, rt: &R, ticket: u64) {
         self.of(ticket).park(rt, SET as u32);
     }
 
     // Wakes the pass with the ticket, if it sleeps. The ticket has to be served before the bell rings.
-    pub fn ring(&self, ticket: u64) {
+    pub(crate) fn ring(&self, ticket: u64) {
         let bell = self.of(ticket);
         if bell.load(SeqCst) == SET {
             bell.store(SILENT, SeqCst);

@@ -3,11 +3,12 @@ ghost use Rattle.std.specs.Prelude.{◌≡◌, ℕ, ◌+◌, ◌<◌, ◌≤◌,
 ghost use mathlib.Core.List.{IsPrefix};
 ghost use Rattle.com_turnstile.specs.Steps.{with_ticket, Entered};
 
+use crate::Memory;
 use crate::bells::Bells;
 use crate::grows::Grows;
 use crate::view::{Advance, Deal, Draw, Publish, Serve, Turns, View};
 use atomic_table::{Seat, Table};
-use std::alloc::{AllocError as Memory, Global};
+use std::alloc::Global;
 use std::hint;
 use std::snapshot::Snapshot;
 use std::sync::Wait;

@@ -6,25 +6,25 @@ use std::marker::PhantomData;
 use std::snapshot::Snapshot;
 
 // What a pass knows.
-pub struct View<E> {
+pub(crate) struct View<E> {
     // The number of the pass, which is its lane.
-    pub number: u64,
+    pub(crate) number: u64,
     // The pass has the greatest number, and may be split.
-    pub splits: bool,
+    pub(crate) splits: bool,
     // The ticket that it has drawn.
-    pub ticket: Option<u64>,
+    pub(crate) ticket: Option<u64>,
     // The pass has its turn, and its seat holds the slot.
-    pub turn: bool,
+    pub(crate) turn: bool,
     // The list that the lock was made with.
-    pub opening: LinkedList<E>,
+    pub(crate) opening: LinkedList<E>,
     // The list that the pass has seen.
-    pub seen: LinkedList<E>,
+    pub(crate) seen: LinkedList<E>,
     // The entries of its lane that the pass made.
-    pub mine: LinkedList<E>,
+    pub(crate) mine: LinkedList<E>,
 }
 
 // The rule of the lock round a `T`.
-pub struct Turns<T> {
+pub(crate) struct Turns<T> {
     of: PhantomData<T>,
 }
 
@@ -37,7 +37,7 @@ impl<T: Grows> TableRule<Option<T>, View<T::Entry>, Snapshot<T>> for Turns<T> {
 }
 
 // A ticket is drawn.
-pub struct Draw;
+pub(crate) struct Draw;
 
 impl<T: Grows> Play<Option<T>, View<T::Entry>> for Draw {
     ghost use Rattle.com_turnstile.specs.Steps.{drew};
@@ -46,7 +46,7 @@ impl<T: Grows> Play<Option<T>, View<T::Entry>> for Draw {
 }
 
 // The ticket that is served is loaded, and the slot goes out if it is the seat's.
-pub struct Serve;
+pub(crate) struct Serve;
 
 impl<T: Grows> Play<Option<T>, View<T::Entry>> for Serve {
     ghost use Rattle.com_turnstile.specs.Steps.{served};
@@ -55,7 +55,7 @@ impl<T: Grows> Play<Option<T>, View<T::Entry>> for Serve {
 }
 
 // The new entries of the value are published.
-pub struct Publish;
+pub(crate) struct Publish;
 
 impl<T: Grows> Play<Option<T>, View<T::Entry>> for Publish {
     ghost use Rattle.com_turnstile.specs.Steps.{published};
@@ -64,7 +64,7 @@ impl<T: Grows> Play<Option<T>, View<T::Entry>> for Publish {
 }
 
 // The next ticket is served, and the slot comes home.
-pub struct Advance;
+pub(crate) struct Advance;
 
 impl<T: Grows> Play<Option<T>, View<T::Entry>> for Advance {
     ghost use Rattle.com_turnstile.specs.Steps.{advanced};
@@ -73,7 +73,7 @@ impl<T: Grows> Play<Option<T>, View<T::Entry>> for Advance {
 }
 
 // The seat of the next pass is split off.
-pub struct Deal;
+pub(crate) struct Deal;
 
 impl<E> Split<View<E>> for Deal {
     ghost use Rattle.com_turnstile.specs.Steps.{no_splitter, next_view};
