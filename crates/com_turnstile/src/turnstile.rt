@@ -69,7 +69,7 @@ impl<T: Grows> Turnstile<T> {
     /// A turnstile round the value, and its passes, of which there may be 1 to 64.
     ///
     /// The i-th pass, counted from 1, is the pass of lane i. Each pass has seen the list that the value has now. Where
-    /// memory is wanted nothing comes back, and the value is dropped.
+    /// memory runs out nothing comes back, and the value is dropped.
     pub fn new(alloc: Global, value: T, passes: u32) -> Result<(Turnstile<T>, Vec<Pass<T>>), Memory>
         requires { (0 < passes) × (passes ≤ 64) }
         ensures count { IfOk result (λ r. vec_len r.1 ≡ passes) }
