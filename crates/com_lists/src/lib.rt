@@ -115,7 +115,8 @@ impl Lists {
 
     /// How many nodes there are.
     pub fn nodes(&self) -> usize
-        ensures { result ≡ self.now.nodes }
+        ensures count { result ≡ self.now.nodes }
+        ensures apart { IsApart self.now }
     {
         self.nodes.len()
     }
