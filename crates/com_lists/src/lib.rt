@@ -1,0 +1,280 @@
+//! Linked lists by index: a list of nodes for each head, no node in two, and each change in constant
+//! time.
+#![tactic(auto)]
+
+ghost use Rattle.std.specs.Prelude.{◌≡◌, ◌+◌, ◌-◌, ◌<◌, ◌≤◌, [], ◌++◌, length, replicate, None, IsSome, OnOk, OnErr, IfOk, IfSome, MatchOption, slice_get, slice_set, vec_len};
+ghost use Rattle.std.specs.Option.{ForSome};
+ghost use Rattle.com_lists.specs.Linked.{IsApart, list_of, holder_of, next_in_all, with_last, without_node};
+ghost use Rattle.com_lists.specs.Chain.{with_after, with_before, with_first, with_last_node};
+
+use std::alloc::Global;
+use std::marker::Model;
+
+/// Want of memory.
+pub use std::alloc::AllocError as Memory;
+
+/// What is kept of a node: the head whose list has it, and its neighbours there.
+#[derive(Debug, Clone, Copy)]
+struct Node {
+    holder: Option<u32>,
+    before: Option<u32>,
+    after: Option<u32>,
+}
+
+impl Node {
+    /// A node in no list.
+    const FREE: Node = Node {
+        holder: None,
+        before: None,
+        after: None,
+    };
+}
+
+/// What is kept of a head: the ends of its list.
+#[derive(Debug, Clone, Copy)]
+struct Head {
+    first: Option<u32>,
+    last: Option<u32>,
+}
+
+impl Head {
+    /// The head of an empty list.
+    const EMPTY: Head = Head {
+        first: None,
+        last: None,
+    };
+}
+
+/// Lists of nodes, one for each head, seen as the list of these lists and the number of nodes.
+///
+/// Heads and nodes are numbered from 0. A node stands in at most one list, and there once.
+#[derive(Debug, Drop)]
+pub struct Lists {
+    heads: Vec<Head>,
+    nodes: Vec<Node>,
+}
+
+impl Model for Lists {
+    ghost use Rattle.std.specs.Prelude.{vec_len};
+    ghost use Rattle.com_lists.specs.Linked.{Linked};
+    ghost use Rattle.com_lists.specs.Chain.{lists_of, StandsFor};
+
+    ghost Value = { Linked };
+
+    ghost view = { λ s. record {
+      lists = lists_of s.heads.items s.nodes.items;
+      nodes = vec_len s.nodes;
+    } };
+
+    ghost invariant = { λ s. StandsFor s.heads.items s.nodes.items (lists_of s.heads.items s.nodes.items) };
+}
+
+impl Lists {
+    /// No heads and no nodes.
+    pub fn empty(alloc: Global) -> Self
+        ensures lists { result.lists ≡ [] }
+        ensures nodes { result.nodes ≡ 0 }
+    {
+        Lists {
+            heads: Vec::new(alloc),
+            nodes: Vec::new(alloc),
+        }
+    }
+
+    /// So many heads with empty lists, and so many nodes in no list.
+    pub fn new(alloc: Global, heads: u32, nodes: u32) -> Result<Self, Memory>
+        ensures lists { IfOk result (λ made. made.lists ≡ replicate heads []) }
+        ensures nodes { IfOk result (λ made. made.nodes ≡ nodes) }
+    {
+        let mut lists = Lists::empty(alloc);
+        lists.grow(heads, nodes)?;
+        Ok(lists)
+    }
+
+    /// Adds heads with empty lists and nodes in no list until there are so many. The lists stay.
+    pub fn grow(&mut self, heads: u32, nodes: u32) -> Result<(), Memory>
+        requires heads { length self.old.lists ≤ heads }
+        requires nodes { self.old.nodes ≤ nodes }
+        ensures lists { OnOk result (self.new.lists
+            ≡ self.old.lists ++ replicate (heads - length self.old.lists) []) }
+        ensures nodes { OnOk result (self.new.nodes ≡ nodes) }
+        ensures err { OnErr result (self.new ≡ self.old) }
+    {
+        let more = heads as usize - self.heads.len();
+        self.heads.reserve(more)?;
+        self.nodes.resize(nodes as usize, Node::FREE)?;
+        self.heads.resize(heads as usize, Head::EMPTY)
+    }
+
+    /// How many heads there are.
+    pub fn heads(&self) -> usize
+        ensures { result ≡ length self.now.lists }
+    {
+        self.heads.len()
+    }
+
+    /// How many nodes there are.
+    pub fn nodes(&self) -> usize
+        ensures count { result ≡ self.now.nodes }
+        ensures apart { IsApart self.now }
+    {
+        self.nodes.len()
+    }
+
+    /// Puts a node that is in no list at the end of the list of a head.
+    pub fn push_back(&mut self, head: u32, node: u32)
+        requires head { head < length self.old.lists }
+        requires node { node < self.old.nodes }
+        requires free { holder_of self.old node ≡ None }
+        ensures { self.new ≡ with_last self.old head node }
+    {
+        let last = self.heads[head as usize].last;
+        set_next(&mut self.heads, &mut self.nodes, head, last, Some(node));
+        set_previous(&mut self.heads, &mut self.nodes, head, None, Some(node));
+        self.nodes[node as usize] = Node {
+            holder: Some(head),
+            before: last,
+            after: None,
+        };
+    }
+
+    /// The first node of the list of a head. `None` exactly where the list is empty.
+    pub fn front(&self, head: u32) -> Option<u32>
+        requires { head < length self.now.lists }
+        ensures node { result ≡ slice_get (list_of self.now head) 0 }
+        ensures within { IfSome result (λ node. node < self.now.nodes) }
+    {
+        self.heads[head as usize].first
+    }
+
+    /// Takes the first node out of the list of a head. `None` exactly where the list is empty.
+    pub fn pop_front(&mut self, head: u32) -> Option<u32>
+        requires { head < length self.old.lists }
+        ensures node { result ≡ slice_get (list_of self.old head) 0 }
+        ensures lists { MatchOption result (self.new ≡ self.old) (λ node. self.new ≡ without_node self.old node) }
+    {
+        let node = self.front(head)?;
+        self.unlink(node);
+        Some(node)
+    }
+
+    /// Takes a node out of the list that it is in, wherever it stands there. All else stays.
+    pub fn unlink(&mut self, node: u32)
+        requires { IsSome (holder_of self.old node) }
+        ensures { self.new ≡ without_node self.old node }
+    {
+        let Node {
+            holder,
+            before,
+            after,
+        } = self.nodes[node as usize];
+        let Some(head) = holder else { unreachable!() };
+        set_next(&mut self.heads, &mut self.nodes, head, before, after);
+        set_previous(&mut self.heads, &mut self.nodes, head, after, before);
+        self.nodes[node as usize] = Node::FREE;
+    }
+
+    /// The node right behind this one in its list. `None` exactly where this one is the last.
+    pub fn next(&self, node: u32) -> Option<u32>
+        requires { IsSome (holder_of self.now node) }
+        ensures { result ≡ next_in_all node self.now.lists }
+    {
+        self.nodes[node as usize].after
+    }
+
+    /// The head whose list has the node. `None` exactly where no list has it.
+    pub fn holder(&self, node: u32) -> Option<u32>
+        requires { node < self.now.nodes }
+        ensures head { result ≡ holder_of self.now node }
+        ensures apart { IsApart self.now }
+    {
+        self.nodes[node as usize].holder
+    }
+}
+
+/// Lets `after` follow `before` in the list of `head`, or begin it where nothing stands before.
+fn set_next(
+    heads: &mut Vec<Head>,
+    nodes: &mut Vec<Node>,
+    head: u32,
+    before: Option<u32>,
+    after: Option<u32>,
+)
+    requires head { head < vec_len heads.old }
+    requires before { ForSome before (λ b. b < vec_len nodes.old) }
+    ensures heads_len { vec_len heads.new ≡ vec_len heads.old }
+    ensures heads { heads.new.items ≡ with_first head before after heads.old.items }
+    ensures nodes_len { vec_len nodes.new ≡ vec_len nodes.old }
+    ensures nodes { nodes.new.items ≡ with_after before after nodes.old.items }
+{
+    match before {
+        None => heads[head as usize].first = after,
+        Some(before) => nodes[before as usize].after = after,
+    }
+}
+
+/// Lets `before` stand before `after` in the list of `head`, or end it where nothing stands behind.
+fn set_previous(
+    heads: &mut Vec<Head>,
+    nodes: &mut Vec<Node>,
+    head: u32,
+    after: Option<u32>,
+    before: Option<u32>,
+)
+    requires head { head < vec_len heads.old }
+    requires after { ForSome after (λ a. a < vec_len nodes.old) }
+    ensures heads_len { vec_len heads.new ≡ vec_len heads.old }
+    ensures heads { heads.new.items ≡ with_last_node head after before heads.old.items }
+    ensures nodes_len { vec_len nodes.new ≡ vec_len nodes.old }
+    ensures nodes { nodes.new.items ≡ with_before after before nodes.old.items }
+{
+    match after {
+        None => heads[head as usize].last = before,
+        Some(after) => nodes[after as usize].before = before,
+    }
+}
+
+#[cfg(test)]
+mod tests {
+    use super::*;
+    use std::test::Fail;
+
+    #[test]
+    fn a_node_leaves_from_the_middle_and_the_others_keep_their_order(
+        rt: HostRuntime,
+    ) -> Result<(), Fail> {
+        let mut lists = Lists::new(rt.alloc(), 1, 4)?;
+        lists.push_back(0, 0);
+        lists.push_back(0, 1);
+        lists.push_back(0, 2);
+        lists.unlink(1);
+        assert_eq!(rt; lists.front(0), Some(0));
+        assert_eq!(rt; lists.next(0), Some(2));
+        assert_eq!(rt; lists.next(2), None);
+        assert_eq!(rt; lists.holder(1), None);
+        assert_eq!(rt; lists.pop_front(0), Some(0));
+        lists.grow(1, 8)?;
+        lists.push_back(0, 7);
+        assert_eq!(rt; lists.front(0), Some(2));
+        assert_eq!(rt; lists.next(2), Some(7));
+        assert_eq!(rt; lists.next(7), None);
+        assert_eq!(rt; lists.heads(), 1);
+        assert_eq!(rt; lists.nodes(), 8);
+        Ok(())
+    }
+
+    #[test]
+    fn two_lists_and_an_empty_one(rt: HostRuntime) -> Result<(), Fail> {
+        let none = Lists::empty(rt.alloc());
+        assert_eq!(rt; none.heads(), 0);
+        let mut lists = Lists::new(rt.alloc(), 2, 3)?;
+        assert_eq!(rt; lists.pop_front(1), None);
+        lists.push_back(1, 2);
+        lists.push_back(0, 0);
+        lists.push_back(1, 1);
+        assert_eq!(rt; lists.holder(2), Some(1));
+        assert_eq!(rt; lists.front(1), Some(2));
+        assert_eq!(rt; lists.front(0), Some(0));
+        Ok(())
+    }
+}
