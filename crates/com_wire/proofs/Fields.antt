@@ -1,0 +1,185 @@
+-- What is read at a place stands there, and what stands there is read.
+use Rattle.std.proofs.Common.{◌≡◌, ℕ, ◌+◌, ◌^◌, ◌<◌, ◌≤◌, Bool, true, false, cond, ltb, List, ◌++◌, length, take, drop, Some, None, refl, sym, ap, subst, ◌∙◌, append_assoc, arith, inl, inr}
+use Rattle.std.specs.Int.{Width, w16, w32, w64, byte_len, from_le_bytes, to_le_bytes}
+use Rattle.std.proofs.lemmas.Bool.{cases_lt, ltb-false, le-ltb}
+use Rattle.std.proofs.lemmas.List.{take_at, drop_at, take-append-drop, length-append, length-take, length-drop, get_or-drop, get_or-take, get_or_past, drop-drop}
+use Rattle.std.proofs.lemmas.Nat.{le_bytes_2, le_bytes_4, le_bytes_8, from_le_bytes-to_le_bytes_2, from_le_bytes-to_le_bytes_4, from_le_bytes-to_le_bytes_8}
+use Rattle.com_base.specs.declared.guid.Guid.{Guid}
+use Rattle.com_base.specs.Guids.{wire_of, guid_of_wire}
+use Rattle.com_wire.specs.Fields.{IsBytes, number, guid, IsGuid, number_at, guid_at}
+
+pub IsBytes-drop : (n : ℕ) (bytes : List ℕ) → IsBytes bytes → IsBytes (drop n bytes)
+IsBytes-drop n bytes h i = rw get_or-drop (h (n + i))
+
+pub IsBytes-take : (n : ℕ) (bytes : List ℕ) → IsBytes bytes → IsBytes (take n bytes)
+IsBytes-take n bytes h i =
+    elim (cases_lt i n) [
+      | inl lt ↦ rw (get_or-take n bytes i 0 lt) (h i)
+      | inr le ↦ rw (get_or_past (take n bytes) i 0 (omega (arith, length-take n bytes))) (omega arith)
+    ]
+
+-- the value of a test that did not fail
+pub some_is : {A : Type 0} (b : Bool) (x y : A) → cond b None (Some x) ≡ Some y → (b ≡ false) × (x ≡ y)
+some_is true x y e = absurd cc
+some_is false x y e = (refl, cc)
+
+-- what stands at a place: these bytes, all of them
+pub record Stands (bytes : List ℕ) (place : ℕ) (text : List ℕ) (after : ℕ) : Type 0 where
+  pub parts : drop place bytes ≡ text ++ drop after bytes
+  pub within : after ≤ length bytes
+
+-- one after the other
+pub Stands-then : (bytes : List ℕ) (a b c : ℕ) (x y : List ℕ) → Stands bytes a x b → Stands bytes b y c → Stands bytes a (x ++ y) c
+Stands-then bytes a b c x y p q =
+    record { parts = p.parts ∙ ap (λ (t : List ℕ). x ++ t) q.parts ∙ sym (append_assoc x y (drop c bytes)); within = q.within }
+
+-- so many bytes from a place on
+pub part_stands : (bytes : List ℕ) (place count : ℕ) → place + count ≤ length bytes → Stands bytes place (take count (drop place bytes)) (place + count)
+part_stands bytes place count le =
+    record { parts = sym (take-append-drop count (drop place bytes)) ∙ ap (λ (t : List ℕ). take count (drop place bytes) ++ t) (drop-drop count place bytes); within = le }
+
+-- ---- numbers
+
+pub record IsWide (w : Width) (limit : ℕ) : Type 0 where
+  pub len : (n : ℕ) → length (to_le_bytes w n) ≡ byte_len w
+  pub back : (bytes : List ℕ) → length bytes ≡ byte_len w → IsBytes bytes → to_le_bytes w (from_le_bytes w bytes) ≡ bytes
+  pub again : (n : ℕ) → n < limit → from_le_bytes w (to_le_bytes w n) ≡ n
+  pub below : (bytes : List ℕ) → IsBytes bytes → from_le_bytes w bytes < limit
+
+pub wide16 : IsWide w16 (2 ^ 16)
+wide16 = record {
+  len = λ n. refl;
+  back = λ bytes len fits. le_bytes_2 bytes _ len fits refl;
+  again = λ n lt. from_le_bytes-to_le_bytes_2 n lt;
+  below = λ bytes fits. omega (arith, fits 0, fits 1);
+}
+
+pub wide32 : IsWide w32 (2 ^ 32)
+wide32 = record {
+  len = λ n. refl;
+  back = λ bytes len fits. le_bytes_4 bytes _ len fits refl;
+  again = λ n lt. from_le_bytes-to_le_bytes_4 n lt;
+  below = λ bytes fits. omega (arith, fits 0, fits 1, fits 2, fits 3);
+}
+
+pub wide64 : IsWide w64 (2 ^ 64)
+wide64 = record {
+  len = λ n. refl;
+  back = λ bytes len fits. le_bytes_8 bytes _ len fits refl;
+  again = λ n lt. from_le_bytes-to_le_bytes_8 n lt;
+  below = λ bytes fits. omega (arith, fits 0, fits 1, fits 2, fits 3, fits 4, fits 5, fits 6, fits 7);
+}
+
+pub length-number : (w : Width) (limit : ℕ) (wide : IsWide w limit) (n : ℕ) → length (number w n) ≡ byte_len w
+unfolding number
+length-number w limit wide n = wide.len n
+
+pub number_takes : (w : Width) (limit : ℕ) (wide : IsWide w limit) (bytes : List ℕ) (place n : ℕ) → IsBytes bytes → number_at w bytes place ≡ Some n → Stands bytes place (number w n) (place + byte_len w) × (n < limit)
+unfolding number number_at
+number_takes w limit wide bytes place n fits e =
+    let part = take (byte_len w) (drop place bytes) in
+    let g = some_is (ltb (length bytes) (place + byte_len w)) (from_le_bytes w part) n e in
+    let long : place + byte_len w ≤ length bytes = ltb-false _ _ g.0 in
+    let bound = IsBytes-take (byte_len w) (drop place bytes) (IsBytes-drop place bytes fits) in
+    let whole : length part ≡ byte_len w = omega (arith, length-take (byte_len w) (drop place bytes), length-drop place bytes) in
+    let text : to_le_bytes w n ≡ part = rw (← g.1) (wide.back part whole bound) in
+    (subst (λ (t : List ℕ). Stands bytes place t (place + byte_len w)) (sym text) (part_stands bytes place (byte_len w) long), rw (← g.1) (wide.below part bound))
+
+-- how long a list is whose rest is known
+within_by : (bytes text rest : List ℕ) (place : ℕ) → drop place bytes ≡ text ++ rest → 0 < length text → place + length text ≤ length bytes
+within_by bytes text rest place e some = omega (arith, length-drop place bytes, length-append text rest, ap length e)
+
+pub number_again : (w : Width) (limit : ℕ) (wide : IsWide w limit) (bytes : List ℕ) (place n : ℕ) (rest : List ℕ) → 0 < byte_len w → n < limit → drop place bytes ≡ number w n ++ rest → number_at w bytes place ≡ Some n
+unfolding number number_at
+number_again w limit wide bytes place n rest some lt e =
+    let len = wide.len n in
+    let within : place + byte_len w ≤ length bytes = rw (← len) (within_by bytes (to_le_bytes w n) rest place e (rw len some)) in
+    let long : ltb (length bytes) (place + byte_len w) ≡ false = le-ltb _ _ within in
+    rw (long, e, take_at (to_le_bytes w n) rest (byte_len w) len, wide.again n lt) refl
+
+pub after : (bytes text rest : List ℕ) (place count : ℕ) → drop place bytes ≡ text ++ rest → length text ≡ count → drop (place + count) bytes ≡ rest
+after bytes text rest place count e len =
+    sym (drop-drop count place bytes) ∙ ap (drop count) e ∙ drop_at text rest count len
+
+-- ---- GUIDs
+
+guid_by : ℕ → ℕ → ℕ → List ℕ → Guid
+guid_by a b c d = record { data1 = a; data2 = b; data3 = c; data4 = d }
+
+pub length-guid : (g : Guid) → IsGuid g → length (guid g) ≡ 16
+unfolding guid
+length-guid g fits = omega (arith, fits.eight)
+
+wire_again : (g : Guid) → IsGuid g → guid_of_wire (wire_of g) ≡ g
+unfolding guid_by
+wire_again g fits =
+    let a = from_le_bytes-to_le_bytes_4 g.data1 fits.data1 in
+    let b = from_le_bytes-to_le_bytes_2 g.data2 fits.data2 in
+    let c = from_le_bytes-to_le_bytes_2 g.data3 fits.data3 in
+    ap (λ (x : ℕ). guid_by x (from_le_bytes w16 (to_le_bytes w16 g.data2)) (from_le_bytes w16 (to_le_bytes w16 g.data3)) g.data4) a
+    ∙ ap (λ (x : ℕ). guid_by g.data1 x (from_le_bytes w16 (to_le_bytes w16 g.data3)) g.data4) b
+    ∙ ap (λ (x : ℕ). guid_by g.data1 g.data2 x g.data4) c
+
+joined : (xs : List ℕ) → ((take 4 xs ++ take 2 (drop 4 xs)) ++ take 2 (drop 6 xs)) ++ drop 8 xs ≡ xs
+joined xs =
+    let six : drop 2 (drop 4 xs) ≡ drop 6 xs = drop-drop 2 4 xs in
+    let eight : drop 2 (drop 6 xs) ≡ drop 8 xs = drop-drop 2 6 xs in
+    simp append_assoc (rw (← eight, take-append-drop, ← six, take-append-drop, take-append-drop) refl)
+
+wire_back : (xs : List ℕ) → length xs ≡ 16 → IsBytes xs → (wire_of (guid_of_wire xs) ≡ xs) × IsGuid (guid_of_wire xs)
+wire_back xs len fits =
+    let a = take 4 xs in
+    let b = take 2 (drop 4 xs) in
+    let c = take 2 (drop 6 xs) in
+    let d = drop 8 xs in
+    let a-fits = IsBytes-take 4 xs fits in
+    let b-fits = IsBytes-take 2 (drop 4 xs) (IsBytes-drop 4 xs fits) in
+    let c-fits = IsBytes-take 2 (drop 6 xs) (IsBytes-drop 6 xs fits) in
+    let a-is : to_le_bytes w32 (from_le_bytes w32 a) ≡ a = wide32.back a (omega (arith, length-take 4 xs)) a-fits in
+    let b-is : to_le_bytes w16 (from_le_bytes w16 b) ≡ b = wide16.back b (omega (arith, length-take 2 (drop 4 xs), length-drop 4 xs)) b-fits in
+    let c-is : to_le_bytes w16 (from_le_bytes w16 c) ≡ c = wide16.back c (omega (arith, length-take 2 (drop 6 xs), length-drop 6 xs)) c-fits in
+    let whole : wire_of (guid_of_wire xs) ≡ ((a ++ b) ++ c) ++ d =
+    ap (λ (p : List ℕ). ((p ++ to_le_bytes w16 (from_le_bytes w16 b)) ++ to_le_bytes w16 (from_le_bytes w16 c)) ++ d) a-is
+    ∙ ap (λ (p : List ℕ). ((a ++ p) ++ to_le_bytes w16 (from_le_bytes w16 c)) ++ d) b-is
+    ∙ ap (λ (p : List ℕ). ((a ++ b) ++ p) ++ d) c-is in (
+      whole ∙ joined xs,
+      record {
+        data1 = wide32.below a a-fits;
+        data2 = wide16.below b b-fits;
+        data3 = wide16.below c c-fits;
+        eight = omega (arith, length-drop 8 xs);
+        bytes = IsBytes-drop 8 xs fits;
+      },
+    )
+
+pub guid_takes : (bytes : List ℕ) (place : ℕ) (g : Guid) → IsBytes bytes → guid_at bytes place ≡ Some g → Stands bytes place (guid g) (place + 16) × IsGuid g
+unfolding guid guid_at
+guid_takes bytes place g fits e =
+    let part = take 16 (drop place bytes) in
+    let t = some_is (ltb (length bytes) (place + 16)) (guid_of_wire part) g e in
+    let long : place + 16 ≤ length bytes = ltb-false _ _ t.0 in
+    let bound = IsBytes-take 16 (drop place bytes) (IsBytes-drop place bytes fits) in
+    let whole : length part ≡ 16 = omega (arith, length-take 16 (drop place bytes), length-drop place bytes) in
+    let back = wire_back part whole bound in
+    let text : wire_of g ≡ part = subst (λ (x : Guid). wire_of x ≡ part) t.1 back.0 in
+    (subst (λ (x : List ℕ). Stands bytes place x (place + 16)) (sym text) (part_stands bytes place 16 long), subst IsGuid t.1 back.1)
+
+pub guid_again : (bytes : List ℕ) (place : ℕ) (g : Guid) (rest : List ℕ) → IsGuid g → drop place bytes ≡ guid g ++ rest → guid_at bytes place ≡ Some g
+unfolding guid guid_at
+guid_again bytes place g rest fits e =
+    let len : length (wire_of g) ≡ 16 = omega (arith, fits.eight) in
+    let within : place + 16 ≤ length bytes = rw (← len) (within_by bytes (wire_of g) rest place e (omega (arith, len))) in
+    let long : ltb (length bytes) (place + 16) ≡ false = le-ltb _ _ within in
+    let front : take 16 (drop place bytes) ≡ wire_of g = ap (take 16) e ∙ take_at (wire_of g) rest 16 len in
+    rw long (ap (λ (t : List ℕ). Some (guid_of_wire t)) front ∙ ap (λ (x : Guid). Some x) (wire_again g fits))
+
+-- ---- what is read, and what stands behind it
+
+pub field_again : (w : Width) (limit : ℕ) (wide : IsWide w limit) (bytes : List ℕ) (place n : ℕ) (rest : List ℕ) → 0 < byte_len w → n < limit → drop place bytes ≡ number w n ++ rest
+    → (number_at w bytes place ≡ Some n) × (drop (place + byte_len w) bytes ≡ rest)
+field_again w limit wide bytes place n rest some lt e =
+    (number_again w limit wide bytes place n rest some lt e, after bytes (number w n) rest place (byte_len w) e (length-number w limit wide n))
+
+pub guid_field_again : (bytes : List ℕ) (place : ℕ) (g : Guid) (rest : List ℕ) → IsGuid g → drop place bytes ≡ guid g ++ rest
+    → (guid_at bytes place ≡ Some g) × (drop (place + 16) bytes ≡ rest)
+guid_field_again bytes place g rest fits e = (guid_again bytes place g rest fits e, after bytes (guid g) rest place 16 e (length-guid g fits))

@@ -1,0 +1,38 @@
+-- Fields at a place of a list of bytes: how each is spelled, and what is read there.
+use Rattle.std.specs.Prelude.{◌≡◌, ℕ, ◌+◌, ◌^◌, ◌<◌, List, length, take, drop, Option, Some, None, nat_lt, if◌then◌else◌, slice_index}
+use Rattle.std.specs.Int.{Width, byte_len, from_le_bytes, to_le_bytes}
+use Rattle.com_base.specs.declared.guid.Guid.{Guid}
+use Rattle.com_base.specs.Guids.{wire_of, guid_of_wire}
+
+-- Each item is a byte.
+abbrev pub IsBytes : List ℕ → Type 0
+IsBytes bytes = (i : ℕ) → slice_index bytes i < 256
+
+-- The bytes of a number, from its low byte up.
+unfoldable pub number : Width → ℕ → List ℕ
+number w n = to_le_bytes w n
+
+-- The sixteen bytes of a GUID.
+unfoldable pub guid : Guid → List ℕ
+guid g = wire_of g
+
+-- A GUID as its type has it: numbers of 32 and 16 bits, and eight bytes.
+pub record IsGuid (g : Guid) : Type 0 where
+  pub data1 : g.data1 < 2 ^ 32
+  pub data2 : g.data2 < 2 ^ 16
+  pub data3 : g.data3 < 2 ^ 16
+  pub eight : length g.data4 ≡ 8
+  pub bytes : IsBytes g.data4
+
+-- The so many bytes from a place on, if they are whole.
+abbrev pub part_at : List ℕ → ℕ → ℕ → Option (List ℕ)
+part_at bytes place count = if nat_lt (length bytes) (place + count) then None else Some (take count (drop place bytes))
+
+-- The number that stands at a place, if it is whole.
+unfoldable pub number_at : Width → List ℕ → ℕ → Option ℕ
+number_at w bytes place =
+    if nat_lt (length bytes) (place + byte_len w) then None else Some (from_le_bytes w (take (byte_len w) (drop place bytes)))
+
+-- The GUID that stands at a place, if it is whole.
+unfoldable pub guid_at : List ℕ → ℕ → Option Guid
+guid_at bytes place = if nat_lt (length bytes) (place + 16) then None else Some (guid_of_wire (take 16 (drop place bytes)))

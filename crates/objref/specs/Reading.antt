@@ -1,0 +1,83 @@
+-- Reading an OBJREF from its first byte on, with the first fault that is met.
+use Rattle.std.specs.Prelude.{◌≡◌, ℕ, ◌+◌, ◌*◌, List, length, drop, Option, Some, None, Result, Ok, Err, nat_lt, ◌==◌, if◌then◌else◌}
+use Rattle.std.specs.Int.{w16, w32, w64}
+use Rattle.com_base.specs.declared.guid.Guid.{Guid}
+use Rattle.com_base.specs.declared.standard.StdFields.{StdFields}
+use Rattle.com_wire.specs.Fields.{number_at, guid_at}
+use Rattle.com_wire.specs.Steps.{◌>>=◌}
+use Rattle.objref.specs.declared.decoding.RefFault.{RefFault}
+use Rattle.objref.specs.declared.decoding.Strings.{Strings as Array}
+use Rattle.objref.specs.Grammar.{Strings, Reference, standard, handler, custom}
+
+-- What a function returned, seen by view, is what reading gives.
+abbrev pub Gives : {X Y : Type 0} → (X → Y) → Result X RefFault → Result Y RefFault → Type 0
+Gives view (Ok x) read = read ≡ Ok (view x)
+Gives view (Err e) read = read ≡ Err e
+
+abbrev pub fault : ℕ → ℕ → RefFault
+fault number at = record { number = number; at = at }
+
+-- A field that is not whole is fault 1, at the length of the bytes.
+abbrev pub whole : {A : Type 0} → List ℕ → Option A → Result A RefFault
+whole bytes None = Err (fault 1 (length bytes))
+whole bytes (Some x) = Ok x
+
+-- An array that was read, without where it lies in memory.
+abbrev pub strings_of : Array → Strings
+strings_of a = record { entries = a.entries; security = a.security; values = a.values.now }
+
+-- STDOBJREF at place 24, behind the IID.
+unfoldable pub standard_at : List ℕ → Guid → Result (StdFields × ℕ) RefFault
+standard_at bytes iid = do
+  flags ← whole bytes (number_at w32 bytes 24)
+  refs ← whole bytes (number_at w32 bytes 28)
+  oxid ← whole bytes (number_at w64 bytes 32)
+  oid ← whole bytes (number_at w64 bytes 40)
+  ipid ← whole bytes (guid_at bytes 48)
+  Ok (record { iid = iid; refs = refs; oxid = oxid; oid = oid; ipid = ipid }, flags)
+
+-- DUALSTRINGARRAY from a place to the end. An offset above the count is fault 4 at the offset, tested
+-- before the values are read; bytes behind the values are fault 5 at the first of them.
+unfoldable pub strings_at : List ℕ → ℕ → Result Strings RefFault
+strings_at bytes place = do
+  entries ← whole bytes (number_at w16 bytes place)
+  security ← whole bytes (number_at w16 bytes (place + 2))
+  if nat_lt entries security then Err (fault 4 (place + 2)) else
+      if nat_lt (length bytes) (place + 4 + 2 * entries) then Err (fault 1 (length bytes)) else
+      if nat_lt (place + 4 + 2 * entries) (length bytes) then Err (fault 5 (place + 4 + 2 * entries)) else
+      Ok (record { entries = entries; security = security; values = drop (place + 4) bytes })
+
+unfoldable pub standard_ref : List ℕ → Result Reference RefFault
+standard_ref bytes = do
+  iid ← whole bytes (guid_at bytes 8)
+  body ← standard_at bytes iid
+  s ← strings_at bytes 64
+  Ok (standard body.0 body.1 s)
+
+unfoldable pub handler_ref : List ℕ → Result Reference RefFault
+handler_ref bytes = do
+  iid ← whole bytes (guid_at bytes 8)
+  body ← standard_at bytes iid
+  clsid ← whole bytes (guid_at bytes 64)
+  s ← strings_at bytes 80
+  Ok (handler body.0 body.1 clsid s)
+
+unfoldable pub custom_ref : List ℕ → Result Reference RefFault
+custom_ref bytes = do
+  iid ← whole bytes (guid_at bytes 8)
+  clsid ← whole bytes (guid_at bytes 24)
+  extension ← whole bytes (number_at w32 bytes 40)
+  unread ← whole bytes (number_at w32 bytes 44)
+  Ok (custom iid clsid extension unread (drop 48 bytes))
+
+-- All of the bytes. Another signature is fault 2 at place 0, flags of no case are fault 3 at place 4.
+unfoldable pub objref_of : List ℕ → Result Reference RefFault
+objref_of bytes = do
+  signature ← whole bytes (number_at w32 bytes 0)
+  if signature == 0x574f454d then (do
+    flags ← whole bytes (number_at w32 bytes 4)
+    if flags == 1 then standard_ref bytes else
+        if flags == 2 then handler_ref bytes else
+        if flags == 4 then custom_ref bytes else
+        Err (fault 3 4))
+      else Err (fault 2 0)
