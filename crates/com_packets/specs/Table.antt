@@ -1,0 +1,20 @@
+-- What a contract sees of a `Packets`.
+use Rattle.std.specs.Prelude.{ℕ, ◌≡◌, ◌<◌, ◌≤◌, ◌^◌, List, Option, Some, None, IfSome, length, slice_index, slice_index_or}
+use Rattle.com_packets.specs.declared.Packet.{Packet}
+
+-- the packet, or nothing, of each number that was given, in order from the number 1, and how many more
+-- packets are sure to find memory
+pub record Table : Type 0 where
+  pub entries : List (Option Packet)
+  pub spare : ℕ
+
+-- the entry at a place, which is one less than its number
+abbrev pub entry_at : List (Option Packet) → ℕ → Option Packet
+entry_at entries place = slice_index_or entries place None
+
+-- each place is under the object of its packet
+pub record IsTable (entries : List (Option Packet)) (keys : List ℕ) (limit : ℕ) : Type 0 where
+  pub as_many : length keys ≡ length entries
+  pub keyed : (place : ℕ) → IfSome (entry_at entries place) (λ packet. packet.object ≡ slice_index keys place)
+  pub fits : length entries ≤ 4294967295
+  pub limited : limit ≡ 4294967295

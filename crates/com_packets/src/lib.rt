@@ -1,0 +1,287 @@
+//! Outstanding packets: what was marshalled and not yet unmarshalled or dropped, under numbers that are
+//! never used again.
+//!
+//! A packet is what a standard OBJREF stands for. Source: MS-DCOM 2.2.18 and Essential COM, chapter 5.
+//! The numbers, and what of them is written into the OBJREF, are this project's.
+#![tactic(auto)]
+
+ghost use Rattle.std.specs.Prelude.{◌≡◌, ◌+◌, ◌<◌, ◌≤◌, ◌^◌, ℕ, [], ◌∷◌, ◌++◌, length, slice_index, OnOk, OnErr, IfOk, IsOk, IfSome, IfNone, IsTrue, ◌↔◌, Some, None, option_copied};
+ghost use Rattle.std.specs.Int.{from_le_bytes, w64};
+ghost use Rattle.com_slots.specs.Table.{held_in, with_entry};
+ghost use Rattle.com_packets.specs.Written.{written_fields, IsNamed, cut_entries};
+ghost use Rattle.com_packets.specs.Table.{entry_at};
+
+use com_base::{Guid, MarshalMode, StdFields};
+use com_chains::Chains;
+use com_slots::Slots;
+use std::alloc::Global;
+use std::marker::Model;
+
+/// Want of memory.
+pub use com_base::Memory;
+
+/// A packet: what it is for, the object and the interface of its reference, the apartment that owns the
+/// object, and the public references that it holds.
+#[derive(Debug, Clone, Copy, PartialEq, Eq)]
+pub struct Packet {
+    pub mode: MarshalMode,
+    pub object: u32,
+    pub iface: u16,
+    pub owner: u32,
+    pub refs: u32,
+}
+
+impl Packet {
+    ghost use Rattle.com_packets.specs.Written.{written_ipid, written_refs};
+
+    /// What is written of the packet with this number into a standard OBJREF, where its interface has
+    /// this identifier. A strong or a weak packet says that it carries no public references.
+    pub fn fields(&self, number: u32, iid: Guid) -> StdFields
+        ensures { result ≡ written_fields self.now number iid }
+    {
+        StdFields {
+            iid,
+            refs: self.written_refs(),
+            oxid: u64::from(self.owner),
+            oid: u64::from(self.object),
+            ipid: self.ipid(number),
+        }
+    }
+
+    // The packet is of the interface, and the fields are what is written of it with this number.
+    fn is_written(&self, number: u32, fields: &StdFields, iface: u16) -> bool
+        ensures { IsTrue result ↔ ((self.now.iface ≡ iface) × (written_fields self.now number fields.now.iid ≡ fields.now)) }
+    {
+        self.iface == iface && self.fields(number, fields.iid) == *fields
+    }
+
+    fn written_refs(&self) -> u32
+        ensures { result ≡ written_refs self.now.mode self.now.refs }
+    {
+        match self.mode {
+            MarshalMode::Normal => self.refs,
+            MarshalMode::Strong => 0,
+            MarshalMode::Weak => 0,
+        }
+    }
+
+    fn ipid(&self, number: u32) -> Guid
+        ensures { result ≡ written_ipid self.now number }
+    {
+        Guid {
+            data1: self.object,
+            data2: self.iface,
+            data3: (self.owner % 0x1_0000) as u16,
+            data4: u64::from(number).to_le_bytes(),
+        }
+    }
+}
+
+/// The outstanding packets, seen as the packet or nothing of each number that was given, and the number
+/// of packets that are sure to find memory.
+#[derive(Debug, Drop)]
+pub struct Packets {
+    slots: Slots<Packet>,
+    chains: Chains,
+}
+
+impl Model for Packets {
+    ghost use Rattle.std.specs.Prelude.{min};
+    ghost use Rattle.com_packets.specs.Table.{Table, IsTable};
+
+    ghost Value = { Table };
+
+    ghost view = { λ p. record {
+      entries = p.slots.entries;
+      spare = min p.slots.spare p.chains.spare;
+    } };
+
+    ghost invariant = { λ p. IsTable p.slots.entries p.chains.keys p.slots.limit };
+}
+
+// Ends all packets of the object.
+fn end_all(slots: &mut Slots<Packet>, chains: &Chains, object: u32)
+    requires as_many { length chains.now.keys ≡ length slots.old.entries }
+    requires keyed { (place : ℕ) → IfSome (entry_at slots.old.entries place) (λ packet. packet.object ≡ slice_index chains.now.keys place) }
+    requires fits { length slots.old.entries ≤ 4294967295 }
+    ensures entries { slots.new.entries ≡ cut_entries object slots.old.entries }
+    ensures limit { slots.new.limit ≡ slots.old.limit }
+    ensures spare { slots.new.spare ≡ slots.old.spare }
+{
+    let mut at = chains.last(object);
+    while let Some(place) = at {
+        slots.remove((place + 1) as u32);
+        at = chains.earlier(place);
+    }
+}
+
+// The number that the last eight bytes of an interface pointer are, if it is one of 32 bits.
+fn number_in(bytes: [u8; 8]) -> Option<u32>
+    ensures some { IfSome result (λ number. from_le_bytes w64 bytes ≡ number) }
+    ensures none { IfNone result (2 ^ 32 ≤ from_le_bytes w64 bytes) }
+{
+    u32::try_from(u64::from_le_bytes(bytes)).ok()
+}
+
+impl Packets {
+    /// No packets. It takes no memory.
+    pub fn new(alloc: Global) -> Self
+        ensures { result.entries ≡ [] }
+    {
+        Packets {
+            slots: Slots::new(alloc, u32::MAX),
+            chains: Chains::new(alloc),
+        }
+    }
+
+    /// Makes room for `n` packets.
+    pub fn reserve(&mut self, n: u32) -> Result<(), Memory>
+        ensures room { OnOk result (n ≤ self.new.spare) }
+        ensures entries { self.new.entries ≡ self.old.entries }
+        ensures spare { self.old.spare ≤ self.new.spare }
+    {
+        self.chains.reserve(n)?;
+        self.slots.reserve(n)
+    }
+
+    /// Puts a packet under the next number, which it returns. The first is 1.
+    ///
+    /// The only error is want of memory, and then no number was given.
+    pub fn make(&mut self, packet: Packet) -> Result<u32, Memory>
+        requires fits { length self.old.entries + 1 < 2 ^ 32 }
+        ensures number { IfOk result (λ number. number ≡ length self.old.entries + 1) }
+        ensures ok { OnOk result (self.new.entries ≡ self.old.entries ++ Some packet ∷ []) }
+        ensures err { OnErr result (self.new.entries ≡ self.old.entries) }
+        ensures room { 0 < self.old.spare → IsOk result }
+        ensures spare { self.old.spare ≤ self.new.spare + 1 }
+    {
+        self.chains.reserve(1)?;
+        match self.slots.insert(packet) {
+            Ok(number) => {
+                self.chains.append(packet.object);
+                Ok(number)
+            }
+            Err(_) => Err(Memory),
+        }
+    }
+
+    /// The outstanding packet that the fields name: that whose written references, OXID, OID and IPID they
+    /// have, and whose interface is `iface`, which the caller read from their IID. `None` exactly where
+    /// they name none.
+    pub fn find(&self, fields: &StdFields, iface: u16) -> Option<u32>
+        ensures some { IfSome result (IsNamed self.now.entries fields.now iface) }
+        ensures only { IfSome result (λ number. (other : ℕ) → other < 2 ^ 32 → IsNamed self.now.entries fields.now iface other → other ≡ number) }
+        ensures none { IfNone result ((number : ℕ) → number < 2 ^ 32 → IsNamed self.now.entries fields.now iface number → ⊥) }
+    {
+        let Some(number) = number_in(fields.ipid.data4) else {
+            return None;
+        };
+        let Some(packet) = self.slots.get(number) else {
+            return None;
+        };
+        if !packet.is_written(number, fields, iface) {
+            return None;
+        }
+        Some(number)
+    }
+
+    /// The outstanding packet of a number. `None` exactly where none is outstanding under it.
+    pub fn get(&self, number: u32) -> Option<&Packet>
+        ensures { option_copied result ≡ held_in self.now.entries number }
+    {
+        self.slots.get(number)
+    }
+
+    /// Ends the packet of a number, which is not used again. `None` exactly where none is outstanding
+    /// under it.
+    pub fn end(&mut self, number: u32) -> Option<Packet>
+        ensures value { result ≡ held_in self.old.entries number }
+        ensures entries { self.new.entries ≡ with_entry self.old.entries number None }
+        ensures spare { self.new.spare ≡ self.old.spare }
+    {
+        self.slots.remove(number)
+    }
+
+    /// Ends all packets of an object.
+    pub fn cut(&mut self, object: u32)
+        ensures entries { self.new.entries ≡ cut_entries object self.old.entries }
+        ensures spare { self.new.spare ≡ self.old.spare }
+    {
+        end_all(&mut self.slots, &self.chains, object);
+    }
+}
+
+#[cfg(test)]
+mod tests {
+    use super::*;
+    use std::test::Fail;
+
+    const IID: Guid = Guid {
+        data1: 0x5c0b_0001,
+        data2: 0,
+        data3: 0x4000,
+        data4: [0x80, 0, 0, 0, 0, 0, 0, 1],
+    };
+
+    const NORMAL: Packet = Packet {
+        mode: MarshalMode::Normal,
+        object: 1,
+        iface: 1,
+        owner: 3,
+        refs: 5,
+    };
+
+    const STRONG: Packet = Packet {
+        mode: MarshalMode::Strong,
+        object: 2,
+        iface: 1,
+        owner: 3,
+        refs: 1,
+    };
+
+    // What is written of packet 1, a normal packet of object 1 from apartment 3, with 5 references.
+    const WRITTEN: StdFields = StdFields {
+        iid: IID,
+        refs: 5,
+        oxid: 3,
+        oid: 1,
+        ipid: Guid {
+            data1: 1,
+            data2: 1,
+            data3: 3,
+            data4: [1, 0, 0, 0, 0, 0, 0, 0],
+        },
+    };
+
+    #[test]
+    fn the_fields_name_the_packet_that_they_were_written_of(rt: HostRuntime) -> Result<(), Fail> {
+        let mut packets = Packets::new(rt.alloc());
+        packets.reserve(1)?;
+        assert_eq!(rt; packets.make(NORMAL)?, 1);
+        assert_eq!(rt; packets.make(STRONG)?, 2);
+        assert_eq!(rt; NORMAL.fields(1, IID), WRITTEN);
+        assert_eq!(rt; STRONG.fields(2, IID).refs, 0);
+        assert_eq!(rt; packets.find(&WRITTEN, 1), Some(1));
+        assert_eq!(rt; packets.find(&WRITTEN, 0), None);
+        let mut forged = WRITTEN;
+        forged.oxid = 4;
+        assert_eq!(rt; packets.find(&forged, 1), None);
+        Ok(())
+    }
+
+    #[test]
+    fn a_number_is_not_given_again_and_a_cut_ends_the_packets_of_its_object_alone(
+        rt: HostRuntime,
+    ) -> Result<(), Fail> {
+        let mut packets = Packets::new(rt.alloc());
+        assert_eq!(rt; packets.make(NORMAL)?, 1);
+        assert_eq!(rt; packets.end(1), Some(NORMAL));
+        assert_eq!(rt; packets.end(1), None);
+        assert_eq!(rt; packets.make(NORMAL)?, 2);
+        assert_eq!(rt; packets.make(STRONG)?, 3);
+        packets.cut(1);
+        assert_eq!(rt; packets.get(2).copied(), None);
+        assert_eq!(rt; packets.get(3).copied(), Some(STRONG));
+        Ok(())
+    }
+}

@@ -1,0 +1,270 @@
+-- What the definitions of rows read after a change, and where rows stand.
+use Rattle.std.proofs.Common.{◌≡◌, ℕ, true, false, ◌+◌, ◌<◌, ◌≤◌, List, [], ◌∷◌, ◌++◌, length, refl, sym, ◌∙◌, ap, arith, eqb, cond, ◌&&◌, inl, inr, zero, suc}
+use Rattle.std.proofs.lemmas.Bool.{cases_eq, cases_lt}
+use Rattle.std.proofs.lemmas.List.{length-map, length-set, length-append, map-append, ext_get_or, get_or-set_same, get_or-set_other, get_or_append_left, get_or_at, get_or_read}
+use Rattle.std.proofs.lemmas.Grind.{common_steps}
+use Rattle.std.specs.Prelude.{slice_set, slice_index_or, slice_index}
+use Rattle.com_proxy.specs.declared.ProxyRow.{ProxyRow}
+use Rattle.com_proxy.specs.Rows.{is_for, no_row, row_of, row_at, local_of, public_of, place_of, changed_row, objects_of, EachFirst, IsLowest, no_public, cut_row, cut_rows}
+use Rattle.com_chains.specs.Places.{Places}
+use Rattle.com_proxy.specs.Table.{IsTable}
+
+-- a row that is there
+pub place_row : (rs : List ProxyRow) (a o i : ℕ) (d : ProxyRow) → place_of rs a o i < length rs → slice_index_or rs (place_of rs a o i) d ≡ row_of rs a o i
+place_row [] a o i d h = absurd (omega arith)
+place_row (r ∷ rs) a o i d h =
+    elim (is_for a o i r) as (λ b. cond b 0 (place_of rs a o i + 1) < length (r ∷ rs) → slice_index_or (r ∷ rs) (cond b 0 (place_of rs a o i + 1)) d ≡ cond b r (row_of rs a o i)) [
+      | true ↦ λ h. refl
+      | false ↦ λ h. grind (arith, common_steps, place_row rs a o i d (grind (arith, common_steps, h)))
+    ] h
+
+-- a row that is not there
+pub no_place : (rs : List ProxyRow) (a o i : ℕ) → length rs ≤ place_of rs a o i → row_of rs a o i ≡ no_row a o i
+no_place [] a o i h = refl
+no_place (r ∷ rs) a o i h =
+    elim (is_for a o i r) as (λ b. length (r ∷ rs) ≤ cond b 0 (place_of rs a o i + 1) → cond b r (row_of rs a o i) ≡ no_row a o i) [
+      | true ↦ λ h. absurd (grind (arith, common_steps, h))
+      | false ↦ λ h. no_place rs a o i (grind (arith, common_steps, h))
+    ] h
+
+pub held_place : (rs : List ProxyRow) (a o i : ℕ) → 0 < local_of rs a o i → place_of rs a o i < length rs
+held_place rs a o i h = grind (arith, common_steps, no_place rs a o i, h)
+
+pub public_place : (rs : List ProxyRow) (a o i : ℕ) → 0 < public_of rs a o i → place_of rs a o i < length rs
+public_place rs a o i h = grind (arith, common_steps, no_place rs a o i, h)
+
+pub changed_at : (rs : List ProxyRow) (f : ProxyRow → ProxyRow) (a o i : ℕ) → place_of rs a o i < length rs → changed_row f a o i rs ≡ slice_set rs (place_of rs a o i) (f (row_of rs a o i))
+changed_at [] f a o i h = absurd (omega arith)
+changed_at (r ∷ rs) f a o i h = grind (arith, common_steps, changed_at rs f a o i, h)
+
+pub changed_new : (rs : List ProxyRow) (f : ProxyRow → ProxyRow) (a o i : ℕ) → length rs ≤ place_of rs a o i → changed_row f a o i rs ≡ rs ++ f (no_row a o i) ∷ []
+changed_new [] f a o i h = refl
+changed_new (r ∷ rs) f a o i h = grind (arith, common_steps, changed_new rs f a o i, h)
+
+-- what the rows read after a change that keeps the row's apartment, object and interface
+pub row_changed : (rs : List ProxyRow) (f : ProxyRow → ProxyRow) (a o i b p j : ℕ) → ((r : ProxyRow) → (f r).apartment ≡ r.apartment) → ((r : ProxyRow) → (f r).object ≡ r.object)
+    → ((r : ProxyRow) → (f r).iface ≡ r.iface) → row_of (changed_row f a o i rs) b p j ≡ cond (eqb p o && (eqb b a && eqb j i)) (f (row_of rs b p j)) (row_of rs b p j)
+row_changed [] f a o i b p j ka ko ki = grind (arith, common_steps, ka (no_row a o i), ko (no_row a o i), ki (no_row a o i))
+row_changed (r ∷ rs) f a o i b p j ka ko ki = grind (arith, common_steps, row_changed rs f a o i b p j ka ko ki, ka r, ko r, ki r)
+
+-- the rows of an object that was cut read no public references, and all else as before
+pub row_cut : (rs : List ProxyRow) (o b p j : ℕ) → row_of (cut_rows o rs) b p j ≡ cut_row o (row_of rs b p j)
+row_cut [] o b p j = grind (arith, common_steps)
+row_cut (r ∷ rs) o b p j = grind (arith, common_steps, row_cut rs o b p j)
+
+pub object_at : (rs : List ProxyRow) (p : ℕ) → slice_index (objects_of rs) p ≡ (row_at rs p).object
+object_at [] p = refl
+object_at (r ∷ rs) zero = refl
+object_at (r ∷ rs) (suc p) = object_at rs p
+
+-- a row that no place has is not there
+pub place_none : (rs : List ProxyRow) (a o i : ℕ) → ((p : ℕ) → p < length rs → is_for a o i (row_at rs p) ≡ false) → place_of rs a o i ≡ length rs
+place_none [] a o i none = refl
+place_none (r ∷ rs) a o i none =
+    let rest : place_of rs a o i ≡ length rs = place_none rs a o i (λ p h. none (suc p) (omega arith)) in
+    grind (arith, none 0 (omega arith), rest)
+
+pub place_first : (rs : List ProxyRow) (a o i p : ℕ) → EachFirst rs → p < length rs → (row_at rs p).object ≡ o → (row_at rs p).apartment ≡ a → (row_at rs p).iface ≡ i → place_of rs a o i ≡ p
+place_first rs a o i p each h eo ea ei = rw (← eo, ← ea, ← ei) (each p h)
+
+-- where a walk over the object's places found none
+pub place_past : (rs : List ProxyRow) (keys : List ℕ) (a o i : ℕ) → keys ≡ objects_of rs → ((p : ℕ) → p < length keys → slice_index keys p ≡ o → is_for a o i (row_at rs p) ≡ false) → length rs ≡ place_of rs a o i
+place_past rs keys a o i e none = sym (place_none rs a o i (λ p h. one p h)) where
+  inside : (p : ℕ) → p < length rs → p < length keys
+  inside p h = rw (e, length-map rs (λ r. r.object)) h
+
+  key_at : (p : ℕ) → slice_index keys p ≡ (row_at rs p).object
+  key_at p = ap (λ k. slice_index k p) e ∙ object_at rs p
+
+  one : (p : ℕ) → p < length rs → is_for a o i (row_at rs p) ≡ false
+  one p h = elim (cases_eq (row_at rs p).object o) [
+    | inl same ↦ none p (inside p h) (key_at p ∙ same)
+    | inr other ↦ grind (arith, other)
+  ]
+
+-- the row of an apartment, an object and an interface has them
+pub row_keys : (rs : List ProxyRow) (a o i : ℕ) → ((row_of rs a o i).apartment ≡ a) × ((row_of rs a o i).object ≡ o) × ((row_of rs a o i).iface ≡ i)
+row_keys [] a o i = (refl, refl, refl)
+row_keys (r ∷ rs) a o i = (grind (arith, (row_keys rs a o i).0), grind (arith, (row_keys rs a o i).1), grind (arith, (row_keys rs a o i).2))
+
+-- a row is that of its own apartment, object and interface
+pub row_first : (rs : List ProxyRow) (a o i p : ℕ) → EachFirst rs → p < length rs → (row_at rs p).object ≡ o → (row_at rs p).apartment ≡ a → (row_at rs p).iface ≡ i → row_of rs a o i ≡ row_at rs p
+row_first rs a o i p each h eo ea ei =
+    let at : place_of rs a o i ≡ p = place_first rs a o i p each h eo ea ei in
+    sym (place_row rs a o i (no_row 0 0 0) (rw at h)) ∙ ap (λ n. row_at rs n) at
+
+-- a number that no row of an apartment and an object has, and that a row which is not there has not
+pub none_held : (field : ProxyRow → ℕ) → ((a o i : ℕ) → field (no_row a o i) ≡ 0) → (rs : List ProxyRow) (a o : ℕ)
+    → ((p : ℕ) → p < length rs → (row_at rs p).object ≡ o → (row_at rs p).apartment ≡ a → field (row_at rs p) ≡ 0) → (i : ℕ) → field (row_of rs a o i) ≡ 0
+none_held field empty rs a o none i = elim (cases_lt (place_of rs a o i) (length rs)) [
+  | inl there ↦
+      let at : row_at rs (place_of rs a o i) ≡ row_of rs a o i = place_row rs a o i (no_row 0 0 0) there in
+      let keys = row_keys rs a o i in
+      ap field (sym at) ∙ none (place_of rs a o i) there (ap (λ r. r.object) at ∙ keys.1) (ap (λ r. r.apartment) at ∙ keys.0)
+  | inr past ↦ ap field (no_place rs a o i past) ∙ empty a o i
+]
+
+-- the same of the rows that a walk passes
+pub walk_free : (rs : List ProxyRow) (keys : List ℕ) (a o : ℕ) → keys ≡ objects_of rs → ((p : ℕ) → p < length keys → slice_index keys p ≡ o → (row_at rs p).apartment ≡ a → (row_at rs p).local ≡ 0)
+    → (i : ℕ) → local_of rs a o i ≡ 0
+walk_free rs keys a o e none = none_held (λ r. r.local) (λ a o i. refl) rs a o (λ p h same. none p (inside p h) (key_at p ∙ same)) where
+  inside : (p : ℕ) → p < length rs → p < length keys
+  inside p h = rw (e, length-map rs (λ r. r.object)) h
+
+  key_at : (p : ℕ) → slice_index keys p ≡ (row_at rs p).object
+  key_at p = ap (λ k. slice_index k p) e ∙ object_at rs p
+
+pub not_free : (rs : List ProxyRow) (keys : List ℕ) (a o p : ℕ) → keys ≡ objects_of rs → EachFirst rs → p < length keys → slice_index keys p ≡ o → (row_at rs p).apartment ≡ a
+    → 0 < (row_at rs p).local → ((i : ℕ) → local_of rs a o i ≡ 0) → ⊥
+not_free rs keys a o p e each h k same some none =
+    let inside : p < length rs = rw (← length-map rs (λ r. r.object), ← e) h in
+    let object : (row_at rs p).object ≡ o = sym (object_at rs p) ∙ ap (λ ks. slice_index ks p) (sym e) ∙ k in
+    let row : row_of rs a o (row_at rs p).iface ≡ row_at rs p = row_first rs a o (row_at rs p).iface p each inside object same refl in
+    let held : (row_at rs p).local ≡ 0 = ap (λ r. r.local) (sym row) ∙ none (row_at rs p).iface in
+    omega arith
+
+-- the lowest interface of which an apartment has public references
+pub lowest_place : (rs : List ProxyRow) (a o p : ℕ) → EachFirst rs → IsLowest a o rs p → place_of rs a o (row_at rs p).iface ≡ p
+lowest_place rs a o p each l = place_first rs a o (row_at rs p).iface p each l.inside l.of_object l.of_apartment refl
+
+pub lowest_row : (rs : List ProxyRow) (a o p : ℕ) → EachFirst rs → IsLowest a o rs p → row_of rs a o (row_at rs p).iface ≡ row_at rs p
+lowest_row rs a o p each l = row_first rs a o (row_at rs p).iface p each l.inside l.of_object l.of_apartment refl
+
+pub lowest_least : (rs : List ProxyRow) (a o p i : ℕ) → IsLowest a o rs p → 0 < public_of rs a o i → (row_at rs p).iface ≤ i
+lowest_least rs a o p i l some =
+    let there : place_of rs a o i < length rs = public_place rs a o i some in
+    let at : row_at rs (place_of rs a o i) ≡ row_of rs a o i = place_row rs a o i (no_row 0 0 0) there in
+    let keys = row_keys rs a o i in
+    let least : (row_at rs p).iface ≤ (row_at rs (place_of rs a o i)).iface =
+    l.lowest (place_of rs a o i) there (ap (λ r. r.object) at ∙ keys.1) (ap (λ r. r.apartment) at ∙ keys.0) (rw at some) in
+    rw (← keys.2, ← at) least
+
+-- the rows of an object that was cut, place by place
+pub cut_at : (rs : List ProxyRow) (o p : ℕ) → row_at (cut_rows o rs) p ≡ cut_row o (row_at rs p)
+cut_at [] o p = grind arith
+cut_at (r ∷ rs) o zero = refl
+cut_at (r ∷ rs) o (suc p) = cut_at rs o p
+
+pub cut_is : (rows rs : List ProxyRow) (keys : List ℕ) (o : ℕ) → length rows ≡ length rs → keys ≡ objects_of rs
+    → ((p : ℕ) → p < length keys → slice_index keys p ≡ o → row_at rows p ≡ no_public (row_at rs p)) → ((p : ℕ) → ((row_at rs p).object ≡ o → ⊥) → row_at rows p ≡ row_at rs p)
+    → rows ≡ cut_rows o rs
+cut_is rows rs keys o len e passed others = ext_get_or (no_row 0 0 0) rows (cut_rows o rs) (len ∙ sym (length-map rs (cut_row o))) each where
+  inside : (p : ℕ) → p < length rows → p < length keys
+  inside p h = rw (e, length-map rs (λ r. r.object), ← len) h
+
+  key_at : (p : ℕ) → slice_index keys p ≡ (row_at rs p).object
+  key_at p = ap (λ k. slice_index k p) e ∙ object_at rs p
+
+  each : (p : ℕ) → p < length rows → row_at rows p ≡ row_at (cut_rows o rs) p
+  each p h = elim (cases_eq (row_at rs p).object o) [
+    | inl same ↦ passed p (inside p h) (key_at p ∙ same) ∙ sym (grind (arith, cut_at rs o p, same))
+    | inr other ↦ others p other ∙ sym (grind (arith, cut_at rs o p, other))
+  ]
+
+-- rows after a write that keeps the row's apartment, object and interface
+pub place_set : (rs : List ProxyRow) (p : ℕ) (x : ProxyRow) (a o i : ℕ) → x.apartment ≡ (row_at rs p).apartment → x.object ≡ (row_at rs p).object → x.iface ≡ (row_at rs p).iface
+    → place_of (slice_set rs p x) a o i ≡ place_of rs a o i
+place_set [] p x a o i ea eo ei = refl
+place_set (r ∷ rs) zero x a o i ea eo ei = grind (arith, ea, eo, ei)
+place_set (r ∷ rs) (suc p) x a o i ea eo ei = grind (arith, place_set rs p x a o i ea eo ei)
+
+pub objects_set : (rs : List ProxyRow) (p : ℕ) (x : ProxyRow) → x.object ≡ (row_at rs p).object → objects_of (slice_set rs p x) ≡ objects_of rs
+objects_set [] p x e = refl
+objects_set (r ∷ rs) zero x e = ap (λ o. o ∷ objects_of rs) e
+objects_set (r ∷ rs) (suc p) x e = ap (λ os. r.object ∷ os) (objects_set rs p x e)
+
+pub table_set : (rs : List ProxyRow) (places : Places) (p : ℕ) (x : ProxyRow) → IsTable rs places → p < length rs → x.apartment ≡ (row_at rs p).apartment → x.object ≡ (row_at rs p).object
+    → x.iface ≡ (row_at rs p).iface → IsTable (slice_set rs p x) places
+table_set rs places p x t inside ea eo ei = record {
+  keyed = t.keyed ∙ sym (objects_set rs p x eo);
+  first = λ q h.
+      let there : q < length rs = rw (← length-set rs p x) h in
+      elim (cases_eq q p) [
+        | inl same ↦
+            let at : row_at (slice_set rs p x) q ≡ x = rw same (get_or-set_same rs p x (no_row 0 0 0) inside) in
+            let first : place_of rs (row_at rs p).apartment (row_at rs p).object (row_at rs p).iface ≡ p = t.first p inside in
+            rw (at, place_set rs p x x.apartment x.object x.iface ea eo ei, ea, eo, ei, same) first
+        | inr other ↦
+            let at : row_at (slice_set rs p x) q ≡ row_at rs q = get_or-set_other rs p q x (no_row 0 0 0) other in
+            rw (at, place_set rs p x (row_at rs q).apartment (row_at rs q).object (row_at rs q).iface ea eo ei) (t.first q there)
+      ];
+}
+
+-- rows after one more
+pub place_append : (rs xs : List ProxyRow) (a o i : ℕ) → place_of rs a o i < length rs → place_of (rs ++ xs) a o i ≡ place_of rs a o i
+place_append [] xs a o i h = absurd (omega arith)
+place_append (r ∷ rs) xs a o i h = grind (arith, common_steps, place_append rs xs a o i, h)
+
+pub place_push : (rs : List ProxyRow) (x : ProxyRow) (a o i : ℕ) → length rs ≤ place_of rs a o i → is_for a o i x ≡ true → place_of (rs ++ x ∷ []) a o i ≡ length rs
+place_push [] x a o i h e = grind (arith, e)
+place_push (r ∷ rs) x a o i h e = grind (arith, common_steps, place_push rs x a o i, h, e)
+
+pub table_push : (rs : List ProxyRow) (places more : Places) (x : ProxyRow) → IsTable rs places → more.keys ≡ places.keys ++ x.object ∷ [] → length rs ≤ place_of rs x.apartment x.object x.iface
+    → IsTable (rs ++ x ∷ []) more
+table_push rs places more x t e new = record {
+  keyed = e ∙ ap (λ ks. ks ++ x.object ∷ []) t.keyed ∙ sym (map-append (λ (r : ProxyRow). r.object) rs (x ∷ []));
+  first = λ q h.
+      elim (cases_lt q (length rs)) [
+        | inl there ↦
+            let at : row_at (rs ++ x ∷ []) q ≡ row_at rs q = get_or_append_left rs (x ∷ []) (no_row 0 0 0) q there in
+            let first : place_of rs (row_at rs q).apartment (row_at rs q).object (row_at rs q).iface ≡ q = t.first q there in
+            let place = place_append rs (x ∷ []) (row_at rs q).apartment (row_at rs q).object (row_at rs q).iface (rw first there) in
+            rw (at, place) first
+        | inr past ↦
+            let last : length rs ≡ q = omega (arith, length-append rs (x ∷ [])) in
+            let at : row_at (rs ++ x ∷ []) q ≡ x = get_or_at rs x [] (no_row 0 0 0) q last in
+            rw (at, place_push rs x x.apartment x.object x.iface new (grind arith)) last
+      ];
+}
+
+-- the same, where the row was read
+pub table_write : (rs : List ProxyRow) (places : Places) (p : ℕ) (old x : ProxyRow) → IsTable rs places → p < length rs → old ≡ slice_index_or rs p old → x.apartment ≡ old.apartment
+    → x.object ≡ old.object → x.iface ≡ old.iface → IsTable (slice_set rs p x) places
+table_write rs places p old x t inside is ea eo ei =
+    let at : old ≡ row_at rs p = get_or_read rs p old inside is (no_row 0 0 0) in
+    table_set rs places p x t inside (ea ∙ ap (λ r. r.apartment) at) (eo ∙ ap (λ r. r.object) at) (ei ∙ ap (λ r. r.iface) at)
+
+pub table_cut : (rs : List ProxyRow) (places : Places) (o : ℕ) → IsTable rs places → IsTable (cut_rows o rs) places
+table_cut rs places o t = record {
+  keyed = t.keyed ∙ sym (objects_cut rs);
+  first = λ q h.
+      let there : q < length rs = rw (← length-map rs (cut_row o)) h in
+      let row : row_at (cut_rows o rs) q ≡ cut_row o (row_at rs q) = cut_at rs o q in
+      rw (row, place_cut rs, apartment_cut (row_at rs q), object_cut (row_at rs q), iface_cut (row_at rs q)) (t.first q there);
+} where
+  apartment_cut : (r : ProxyRow) → (cut_row o r).apartment ≡ r.apartment
+  apartment_cut r = grind arith
+
+  object_cut : (r : ProxyRow) → (cut_row o r).object ≡ r.object
+  object_cut r = grind arith
+
+  iface_cut : (r : ProxyRow) → (cut_row o r).iface ≡ r.iface
+  iface_cut r = grind arith
+
+  objects_cut : (rs : List ProxyRow) → objects_of (cut_rows o rs) ≡ objects_of rs
+  objects_cut [] = refl
+  objects_cut (r ∷ rs) = grind (arith, objects_cut rs)
+
+  place_cut : (rs : List ProxyRow) (a p i : ℕ) → place_of (cut_rows o rs) a p i ≡ place_of rs a p i
+  place_cut [] a p i = refl
+  place_cut (r ∷ rs) a p i = grind (arith, place_cut rs a p i)
+
+-- what is known where the public references of the lowest interface are taken
+pub record Taking (rs : List ProxyRow) (places : Places) (a o p : ℕ) (old : ProxyRow) : Type 0 where
+  pub table : IsTable (slice_set rs p (no_public old)) places
+  pub held : old.public ≡ public_of rs a o old.iface
+  pub least : (i : ℕ) → 0 < public_of rs a o i → old.iface ≤ i
+  pub changes : slice_set rs p (no_public old) ≡ changed_row no_public a o old.iface rs
+
+pub taking : (rs : List ProxyRow) (places : Places) (a o p : ℕ) (old : ProxyRow) → IsTable rs places → IsLowest a o rs p → old ≡ slice_index_or rs p old → Taking rs places a o p old
+taking rs places a o p old t l is =
+    let at : old ≡ row_at rs p = get_or_read rs p old l.inside is (no_row 0 0 0) in
+    let row : row_of rs a o old.iface ≡ old = rw at (lowest_row rs a o p t.first l) in
+    let place : place_of rs a o old.iface ≡ p = rw at (lowest_place rs a o p t.first l) in
+    let inside : place_of rs a o old.iface < length rs = rw place l.inside in
+    record {
+      table = table_write rs places p old (no_public old) t l.inside is refl refl refl;
+      held = ap (λ r. r.public) (sym row);
+      least = λ i h. rw at (lowest_least rs a o p i l h);
+      changes = sym (changed_at rs no_public a o old.iface inside ∙ ap (λ n. slice_set rs n (no_public (row_of rs a o old.iface))) place ∙ ap (λ r. slice_set rs p (no_public r)) row);
+    }

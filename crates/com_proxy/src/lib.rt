@@ -1,0 +1,339 @@
+//! Proxies: the local and the public references that each apartment holds of each interface of an
+//! object elsewhere.
+//!
+//! A proxy of an apartment for an object counts two numbers for each interface. The local references
+//! are those of the apartment's own slots and links. The public references are those that the object's
+//! stub counts. Source: MS-DCOM 3.2.4.4, and Essential COM, chapter 5, on the proxy manager.
+#![tactic(auto)]
+
+ghost use Rattle.std.specs.Prelude.{◌≡◌, ◌+◌, ◌<◌, ◌≤◌, ◌^◌, ◌↔◌, ℕ, [], OnOk, OnErr, IsOk, IsTrue, IfNone, IfSome, length};
+ghost use Rattle.com_proxy.specs.Rows.{local_of, public_of, changed_row, gaining, one_local_more, one_local_less, no_public, split_of, split_rows, cut_rows, place_of, row_at, objects_of, EachFirst, HasNoPublic, IsLowest};
+
+use com_chains::Chains;
+use std::alloc::Global;
+use std::marker::Model;
+
+/// Want of memory.
+pub use std::alloc::AllocError as Memory;
+
+/// What an apartment holds of one interface of an object: a row of what contracts see.
+#[derive(Debug, Clone, Copy)]
+pub struct ProxyRow {
+    pub apartment: u32,
+    pub object: u32,
+    pub iface: u16,
+    pub local: u64,
+    pub public: u64,
+}
+
+/// Where the references of a new packet come from.
+#[derive(Debug, Clone, Copy, PartialEq, Eq)]
+pub enum Split {
+    /// From the proxy: so many public references are the packet's now.
+    Moved(u64),
+    /// From the stub: the proxy has fewer than two and keeps them.
+    New,
+}
+
+/// The proxies of all apartments, seen as a row for each apartment, object and interface that ever had
+/// a reference, and the number of rows that are sure to find memory.
+#[derive(Debug, Drop)]
+pub struct Proxies {
+    rows: Vec<ProxyRow>,
+    chains: Chains,
+}
+
+impl Model for Proxies {
+    ghost use Rattle.std.specs.Prelude.{◌-◌, vec_len, vec_capacity, min};
+    ghost use Rattle.com_proxy.specs.Table.{Table, IsTable};
+
+    ghost Value = { Table };
+
+    ghost view = { λ p. record {
+      rows = p.rows.items;
+      spare = min p.chains.spare (vec_capacity p.rows - vec_len p.rows);
+    } };
+
+    ghost invariant = { λ p. IsTable p.rows.items p.chains };
+}
+
+// The place of a row, or the number of rows.
+fn find(rows: &[ProxyRow], chains: &Chains, apartment: u32, object: u32, iface: u16) -> usize
+    requires keyed { chains.now.keys ≡ objects_of rows.now }
+    requires first { EachFirst rows.now }
+    ensures { result ≡ place_of rows.now apartment object iface }
+{
+    let mut at = chains.last(object);
+    while let Some(place) = at {
+        let row = &rows[place];
+        if row.apartment == apartment && row.iface == iface {
+            return place;
+        }
+        at = chains.earlier(place);
+    }
+    rows.len()
+}
+
+// The place of the row of the lowest interface of which the apartment has public references.
+fn lowest(rows: &[ProxyRow], chains: &Chains, apartment: u32, object: u32) -> Option<usize>
+    requires keyed { chains.now.keys ≡ objects_of rows.now }
+    ensures none { IfNone result ((place : ℕ) → place < length rows.now → HasNoPublic apartment object rows.now place) }
+    ensures lowest { IfSome result (IsLowest apartment object rows.now) }
+{
+    let mut lowest: Option<usize> = None;
+    let mut at = chains.last(object);
+    while let Some(place) = at {
+        let row = &rows[place];
+        if row.apartment == apartment && row.public > 0 && is_lower(rows, row.iface, lowest) {
+            lowest = Some(place);
+        }
+        at = chains.earlier(place);
+    }
+    lowest
+}
+
+// The interface is below that of the place, if there is one.
+fn is_lower(rows: &[ProxyRow], iface: u16, place: Option<usize>) -> bool
+    requires inside { IfSome place (λ place. place < length rows.now) }
+    ensures { IsTrue result ↔ IfSome place (λ place. iface < (row_at rows.now place).iface) }
+{
+    match place {
+        None => true,
+        Some(place) => iface < rows[place].iface,
+    }
+}
+
+// True exactly where the apartment has no local reference to the object, by any interface.
+fn is_free(rows: &[ProxyRow], chains: &Chains, apartment: u32, object: u32) -> bool
+    requires keyed { chains.now.keys ≡ objects_of rows.now }
+    requires first { EachFirst rows.now }
+    ensures { IsTrue result ↔ ((iface : ℕ) → local_of rows.now apartment object iface ≡ 0) }
+{
+    let mut at = chains.last(object);
+    while let Some(place) = at {
+        let row = &rows[place];
+        if row.apartment == apartment && row.local > 0 {
+            return false;
+        }
+        at = chains.earlier(place);
+    }
+    true
+}
+
+// Takes the public references of all proxies of the object away.
+fn cut_all(rows: &mut [ProxyRow], chains: &Chains, object: u32)
+    requires keyed { chains.now.keys ≡ objects_of rows.old }
+    ensures { rows.new ≡ cut_rows object rows.old }
+{
+    let mut at = chains.last(object);
+    while let Some(place) = at {
+        rows[place].public = 0;
+        at = chains.earlier(place);
+    }
+}
+
+impl Proxies {
+    /// No proxies. It takes no memory.
+    pub fn new(alloc: Global) -> Self
+        ensures { result.rows ≡ [] }
+    {
+        Proxies {
+            rows: Vec::new(alloc),
+            chains: Chains::new(alloc),
+        }
+    }
+
+    /// Makes room for `n` calls of `gain`.
+    pub fn reserve(&mut self, n: u32) -> Result<(), Memory>
+        ensures room { OnOk result (n ≤ self.new.spare) }
+        ensures rows { self.new.rows ≡ self.old.rows }
+        ensures spare { self.old.spare ≤ self.new.spare }
+    {
+        self.chains.reserve(n)?;
+        self.rows.reserve(n as usize)
+    }
+
+    /// One local reference and `refs` public ones more.
+    ///
+    /// The only error is want of memory, and then no number has changed.
+    #[tactic(auto, using(crate::proofs::Rows::no_place, crate::proofs::Rows::place_row, crate::proofs::Rows::changed_at, crate::proofs::Rows::changed_new))]
+    pub fn gain(&mut self, apartment: u32, object: u32, iface: u16, refs: u32) -> Result<(), Memory>
+        requires local_fits { local_of self.old.rows apartment object iface + 1 < 2 ^ 64 }
+        requires public_fits { public_of self.old.rows apartment object iface + refs < 2 ^ 64 }
+        ensures ok { OnOk result (self.new.rows ≡ changed_row (gaining refs) apartment object iface self.old.rows) }
+        ensures err { OnErr result (self.new.rows ≡ self.old.rows) }
+        ensures room { 0 < self.old.spare → IsOk result }
+        ensures spare { self.old.spare ≤ self.new.spare + 1 }
+    {
+        let at = find(&self.rows, &self.chains, apartment, object, iface);
+        if at < self.rows.len() {
+            let row = &mut self.rows[at];
+            row.local += 1;
+            row.public += u64::from(refs);
+            return Ok(());
+        }
+        self.chains.reserve(1)?;
+        self.rows.reserve(1)?;
+        self.chains.append(object);
+        self.rows.push_reserved(ProxyRow {
+            apartment,
+            object,
+            iface,
+            local: 1,
+            public: u64::from(refs),
+        });
+        Ok(())
+    }
+
+    /// One local reference more, where one is held.
+    #[tactic(auto, using(crate::proofs::Rows::held_place, crate::proofs::Rows::place_row, crate::proofs::Rows::changed_at))]
+    pub fn copy(&mut self, apartment: u32, object: u32, iface: u16)
+        requires held { 0 < local_of self.old.rows apartment object iface }
+        requires fits { local_of self.old.rows apartment object iface + 1 < 2 ^ 64 }
+        ensures rows { self.new.rows ≡ changed_row one_local_more apartment object iface self.old.rows }
+        ensures spare { self.new.spare ≡ self.old.spare }
+    {
+        let at = find(&self.rows, &self.chains, apartment, object, iface);
+        let row = &mut self.rows[at];
+        row.local += 1;
+    }
+
+    /// One local reference less, where one is held. True exactly where that proxy now has no local
+    /// reference of any interface left.
+    #[tactic(auto, using(crate::proofs::Rows::held_place, crate::proofs::Rows::place_row, crate::proofs::Rows::changed_at))]
+    pub fn release(&mut self, apartment: u32, object: u32, iface: u16) -> bool
+        requires held { 0 < local_of self.old.rows apartment object iface }
+        ensures rows { self.new.rows ≡ changed_row one_local_less apartment object iface self.old.rows }
+        ensures free { IsTrue result ↔ ((other : ℕ) → local_of self.new.rows apartment object other ≡ 0) }
+        ensures spare { self.new.spare ≡ self.old.spare }
+    {
+        let at = find(&self.rows, &self.chains, apartment, object, iface);
+        let row = &mut self.rows[at];
+        row.local -= 1;
+        is_free(&self.rows, &self.chains, apartment, object)
+    }
+
+    /// The local references of the interface that the apartment holds.
+    #[tactic(auto, using(crate::proofs::Rows::no_place, crate::proofs::Rows::place_row))]
+    pub fn local(&self, apartment: u32, object: u32, iface: u16) -> u64
+        ensures { result ≡ local_of self.now.rows apartment object iface }
+    {
+        let at = find(&self.rows, &self.chains, apartment, object, iface);
+        if at < self.rows.len() {
+            return self.rows[at].local;
+        }
+        0
+    }
+
+    /// The public references of the interface that the proxy holds.
+    #[tactic(auto, using(crate::proofs::Rows::no_place, crate::proofs::Rows::place_row))]
+    pub fn public(&self, apartment: u32, object: u32, iface: u16) -> u64
+        ensures { result ≡ public_of self.now.rows apartment object iface }
+    {
+        let at = find(&self.rows, &self.chains, apartment, object, iface);
+        if at < self.rows.len() {
+            return self.rows[at].public;
+        }
+        0
+    }
+
+    /// Takes the public references of the lowest interface of which the proxy has some: that interface,
+    /// and how many they were. `None` exactly where it has none of any.
+    pub fn take_public(&mut self, apartment: u32, object: u32) -> Option<(u16, u64)>
+        ensures none { IfNone result ((iface : ℕ) → public_of self.old.rows apartment object iface ≡ 0) }
+        ensures kept { IfNone result (self.new.rows ≡ self.old.rows) }
+        ensures some { IfSome result (λ taken. 0 < taken.1) }
+        ensures held { IfSome result (λ taken. taken.1 ≡ public_of self.old.rows apartment object taken.0) }
+        ensures lowest { IfSome result (λ taken. (iface : ℕ) → 0 < public_of self.old.rows apartment object iface → taken.0 ≤ iface) }
+        ensures rows { IfSome result (λ taken. self.new.rows ≡ changed_row no_public apartment object taken.0 self.old.rows) }
+        ensures spare { self.new.spare ≡ self.old.spare }
+    {
+        let Some(at) = lowest(&self.rows, &self.chains, apartment, object) else {
+            return None;
+        };
+        let row = &mut self.rows[at];
+        let taken = (row.iface, row.public);
+        row.public = 0;
+        Some(taken)
+    }
+
+    /// Takes half of the public references of the interface, rounded down, where the proxy holds two or
+    /// more; else nothing.
+    #[tactic(auto, using(crate::proofs::Rows::no_place, crate::proofs::Rows::place_row, crate::proofs::Rows::changed_at))]
+    pub fn split(&mut self, apartment: u32, object: u32, iface: u16) -> Split
+        ensures answer { result ≡ split_of (public_of self.old.rows apartment object iface) }
+        ensures rows { self.new.rows ≡ split_rows apartment object iface self.old.rows }
+        ensures spare { self.new.spare ≡ self.old.spare }
+    {
+        let at = find(&self.rows, &self.chains, apartment, object, iface);
+        if at >= self.rows.len() {
+            return Split::New;
+        }
+        let held = self.rows[at].public;
+        if held < 2 {
+            return Split::New;
+        }
+        let row = &mut self.rows[at];
+        row.public -= held / 2;
+        Split::Moved(held / 2)
+    }
+
+    /// Takes the public references of all proxies of an object away. The local ones stay.
+    pub fn cut(&mut self, object: u32)
+        ensures rows { self.new.rows ≡ cut_rows object self.old.rows }
+        ensures spare { self.new.spare ≡ self.old.spare }
+    {
+        cut_all(&mut self.rows, &self.chains, object);
+    }
+}
+
+#[cfg(test)]
+mod tests {
+    use super::*;
+    use std::test::Fail;
+
+    #[test]
+    fn a_proxy_of_five_gives_two_and_one_and_one_and_then_the_stub_gives(
+        rt: HostRuntime,
+    ) -> Result<(), Fail> {
+        let mut proxies = Proxies::new(rt.alloc());
+        proxies.gain(4, 1, 2, 5)?;
+        assert_eq!(rt; proxies.split(4, 1, 2), Split::Moved(2));
+        assert_eq!(rt; proxies.split(4, 1, 2), Split::Moved(1));
+        assert_eq!(rt; proxies.split(4, 1, 2), Split::Moved(1));
+        assert_eq!(rt; proxies.split(4, 1, 2), Split::New);
+        assert_eq!(rt; proxies.public(4, 1, 2), 1);
+        Ok(())
+    }
+
+    #[test]
+    fn the_last_release_frees_the_proxy_and_it_gives_all_back(rt: HostRuntime) -> Result<(), Fail> {
+        let mut proxies = Proxies::new(rt.alloc());
+        proxies.reserve(2)?;
+        proxies.gain(4, 1, 2, 5)?;
+        proxies.gain(4, 1, 0, 5)?;
+        proxies.copy(4, 1, 2);
+        assert!(rt; !proxies.release(4, 1, 2));
+        assert!(rt; !proxies.release(4, 1, 2));
+        assert_eq!(rt; proxies.local(4, 1, 2), 0);
+        assert!(rt; proxies.release(4, 1, 0));
+        assert_eq!(rt; proxies.take_public(4, 1), Some((0, 5)));
+        assert_eq!(rt; proxies.take_public(4, 1), Some((2, 5)));
+        assert_eq!(rt; proxies.take_public(4, 1), None);
+        Ok(())
+    }
+
+    #[test]
+    fn a_cut_reaches_every_proxy_of_the_object_and_no_other(rt: HostRuntime) -> Result<(), Fail> {
+        let mut proxies = Proxies::new(rt.alloc());
+        proxies.gain(3, 1, 2, 5)?;
+        proxies.gain(4, 1, 2, 5)?;
+        proxies.gain(3, 2, 2, 5)?;
+        proxies.cut(1);
+        assert_eq!(rt; proxies.public(3, 1, 2), 0);
+        assert_eq!(rt; proxies.public(4, 1, 2), 0);
+        assert_eq!(rt; proxies.public(3, 2, 2), 5);
+        assert_eq!(rt; proxies.local(3, 1, 2), 1);
+        Ok(())
+    }
+}

@@ -1,0 +1,3 @@
+pub mod CounterRows
+pub mod StubRows
+pub mod Tables

@@ -1,0 +1,40 @@
+-- The rows of the stubs: whether an object has a stub, and whether that is connected.
+use Rattle.std.specs.Prelude.{ℕ, ◌≡◌, ◌+◌, ◌<◌, Bool, true, false, ◌==◌, ◌||◌, if◌then◌else◌, List, [], ◌∷◌, map, length, slice_index_or}
+use Rattle.com_stub.specs.declared.StubRow.{StubRow}
+
+abbrev pub no_stub : ℕ → StubRow
+no_stub object = record { object = object; connected = false }
+
+abbrev pub has_stub : List StubRow → ℕ → Bool
+has_stub [] object = false
+has_stub (row ∷ rows) object = (row.object == object) || has_stub rows object
+
+-- the first row of an object; one that is not there is not connected
+abbrev pub stub_of : List StubRow → ℕ → StubRow
+stub_of [] object = no_stub object
+stub_of (row ∷ rows) object = if row.object == object then row else stub_of rows object
+
+abbrev pub is_connected : List StubRow → ℕ → Bool
+is_connected rows object = (stub_of rows object).connected
+
+-- where that row stands, or the number of rows
+abbrev pub stub_place : List StubRow → ℕ → ℕ
+stub_place [] object = 0
+stub_place (row ∷ rows) object = if row.object == object then 0 else stub_place rows object + 1
+
+-- the row is no longer connected, if it is of the object
+abbrev pub ended_row : ℕ → StubRow → StubRow
+ended_row object row = if row.object == object then record row { connected = false } else row
+
+abbrev pub ended_rows : ℕ → List StubRow → List StubRow
+ended_rows object rows = map (ended_row object) rows
+
+abbrev pub stub_objects : List StubRow → List ℕ
+stub_objects rows = map (λ row. row.object) rows
+
+abbrev pub stub_at : List StubRow → ℕ → StubRow
+stub_at rows place = slice_index_or rows place (no_stub 0)
+
+-- no two rows are of one object: each is the first of its own
+abbrev pub EachStubFirst : List StubRow → Type 0
+EachStubFirst rows = (place : ℕ) → place < length rows → stub_place rows (stub_at rows place).object ≡ place

@@ -1,0 +1,176 @@
+//! The counters of the stubs: a number for each object and interface.
+
+ghost use Rattle.std.specs.Prelude.{◌≡◌, ◌+◌, ◌<◌, ◌≤◌, ◌^◌, ◌↔◌, true, [], length, OnOk, IsOk, IsTrue};
+ghost use Rattle.com_stub.specs.CounterRows.{has_counter, counter_of, place_of, changed_counter, more, less, opened, opened_all, sum_of, objects_of, EachFirst};
+
+use com_chains::Chains;
+use std::alloc::{AllocError, Global};
+use std::marker::Model;
+
+/// A counter: the public references of one interface of an object. A row of what contracts see.
+#[derive(Debug, Clone, Copy)]
+pub struct CounterRow {
+    pub object: u32,
+    pub iface: u16,
+    pub count: u64,
+}
+
+/// The counters, seen as their rows and the number of counters that are sure to find memory. The
+/// counters of an object are linked by index.
+#[derive(Debug, Drop)]
+pub struct Counters {
+    rows: Vec<CounterRow>,
+    places: Chains,
+}
+
+impl Model for Counters {
+    ghost use Rattle.std.specs.Prelude.{◌-◌, vec_len, vec_capacity, min};
+    ghost use Rattle.com_stub.specs.Tables.{CounterTable, IsCounterTable};
+
+    ghost Value = { CounterTable };
+
+    ghost view = { λ c. record {
+      rows = c.rows.items;
+      spare = min c.places.spare (vec_capacity c.rows - vec_len c.rows);
+    } };
+
+    ghost invariant = { λ c. IsCounterTable c.rows.items c.places };
+}
+
+// The place of a counter, or the number of counters.
+fn find(rows: &[CounterRow], places: &Chains, object: u32, iface: u16) -> usize
+    requires keyed { places.now.keys ≡ objects_of rows.now }
+    requires first { EachFirst rows.now }
+    ensures { result ≡ place_of rows.now object iface }
+{
+    let mut at = places.last(object);
+    while let Some(place) = at {
+        if rows[place].iface == iface {
+            return place;
+        }
+        at = places.earlier(place);
+    }
+    rows.len()
+}
+
+// The sum of the object's counters.
+fn sum(rows: &[CounterRow], places: &Chains, object: u32) -> u64
+    requires keyed { places.now.keys ≡ objects_of rows.now }
+    requires fits { sum_of rows.now object < 2 ^ 64 }
+    ensures { result ≡ sum_of rows.now object }
+{
+    let mut sum = 0;
+    let mut at = places.last(object);
+    while let Some(place) = at {
+        sum += rows[place].count;
+        at = places.earlier(place);
+    }
+    sum
+}
+
+impl Counters {
+    pub fn new(alloc: Global) -> Self
+        ensures { result.rows ≡ [] }
+    {
+        Counters {
+            rows: Vec::new(alloc),
+            places: Chains::new(alloc),
+        }
+    }
+
+    /// Makes room for `n` more counters.
+    pub fn reserve(&mut self, n: u32) -> Result<(), AllocError>
+        ensures room { OnOk result (n ≤ self.new.spare) }
+        ensures rows { self.new.rows ≡ self.old.rows }
+        ensures spare { self.old.spare ≤ self.new.spare }
+        ensures succeeds { n ≤ self.old.spare → IsOk result }
+    {
+        self.places.reserve(n)?;
+        self.rows.reserve(n as usize)
+    }
+
+    /// A counter of the interface, at 0, where there is none yet.
+    #[tactic(auto, using(crate::proofs::CounterLemmas::has_place, crate::proofs::CounterLemmas::has_not))]
+    pub fn open(&mut self, object: u32, iface: u16)
+        requires { 0 < self.old.spare }
+        ensures rows { self.new.rows ≡ opened object iface self.old.rows }
+        ensures spare { self.old.spare ≤ self.new.spare + 1 }
+    {
+        let at = find(&self.rows, &self.places, object, iface);
+        if at < self.rows.len() {
+            return;
+        }
+        self.places.append(object);
+        self.rows.push_reserved(CounterRow {
+            object,
+            iface,
+            count: 0,
+        });
+    }
+
+    /// A counter of each interface of the set.
+    pub fn open_all(&mut self, object: u32, set: &[u16])
+        requires { length set.now ≤ self.old.spare }
+        ensures rows { self.new.rows ≡ opened_all object set.now self.old.rows }
+        ensures spare { self.old.spare ≤ self.new.spare + length set.now }
+    {
+        for iface in set {
+            self.open(object, *iface);
+        }
+    }
+
+    /// True exactly where there is a counter of the interface.
+    #[tactic(auto, using(crate::proofs::CounterLemmas::has_place, crate::proofs::CounterLemmas::has_not))]
+    pub fn has(&self, object: u32, iface: u16) -> bool
+        ensures { result ≡ has_counter self.now.rows object iface }
+    {
+        find(&self.rows, &self.places, object, iface) < self.rows.len()
+    }
+
+    /// `n` references more.
+    #[tactic(auto, using(crate::proofs::CounterLemmas::place_has, crate::proofs::CounterLemmas::place_row, crate::proofs::CounterLemmas::changed_at))]
+    pub fn add(&mut self, object: u32, iface: u16, n: u32)
+        requires there { has_counter self.old.rows object iface ≡ true }
+        requires fits { sum_of self.old.rows object + n < 2 ^ 64 }
+        ensures rows { self.new.rows ≡ changed_counter (more n) object iface self.old.rows }
+        ensures spare { self.new.spare ≡ self.old.spare }
+    {
+        let at = find(&self.rows, &self.places, object, iface);
+        let row = &mut self.rows[at];
+        row.count += u64::from(n);
+    }
+
+    /// `n` references less, where there is a counter.
+    #[tactic(auto, using(crate::proofs::CounterLemmas::no_place, crate::proofs::CounterLemmas::place_row, crate::proofs::CounterLemmas::changed_at, crate::proofs::CounterLemmas::changed_none))]
+    pub fn take(&mut self, object: u32, iface: u16, n: u64)
+        requires { n ≤ (counter_of self.old.rows object iface).count }
+        ensures rows { self.new.rows ≡ changed_counter (less n) object iface self.old.rows }
+        ensures spare { self.new.spare ≡ self.old.spare }
+    {
+        let at = find(&self.rows, &self.places, object, iface);
+        if at >= self.rows.len() {
+            return;
+        }
+        let row = &mut self.rows[at];
+        row.count -= n;
+    }
+
+    /// The count of the interface.
+    #[tactic(auto, using(crate::proofs::CounterLemmas::no_place, crate::proofs::CounterLemmas::place_row))]
+    pub fn get(&self, object: u32, iface: u16) -> u64
+        ensures { result ≡ (counter_of self.now.rows object iface).count }
+    {
+        let at = find(&self.rows, &self.places, object, iface);
+        if at < self.rows.len() {
+            return self.rows[at].count;
+        }
+        0
+    }
+
+    /// The sum over all interfaces of the object.
+    pub fn sum(&self, object: u32) -> u64
+        ensures { result ≡ sum_of self.now.rows object }
+    {
+        sum(&self.rows, &self.places, object)
+    }
+}

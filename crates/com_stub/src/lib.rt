@@ -1,0 +1,239 @@
+//! Stubs: the public references to an object that are out in the world, counted for each interface.
+//!
+//! Source: MS-DCOM 3.2.4.4.2, and Essential COM, chapter 5, on the stub manager.
+#![tactic(auto)]
+
+mod counters;
+
+ghost use Rattle.std.specs.Prelude.{◌≡◌, ◌+◌, ◌<◌, ◌≤◌, ◌^◌, ◌↔◌, ℕ, true, false, [], ◌∷◌, ◌++◌, length, OnOk, OnErr, IsOk, IsTrue, Ok, Err};
+ghost use Rattle.com_stub.specs.CounterRows.{has_counter, changed_counter, more, less, opened_all};
+ghost use Rattle.com_stub.specs.StubRows.{has_stub, is_connected, ended_rows, stub_objects, EachStubFirst};
+ghost use Rattle.com_stub.specs.Tables.{count_of, total_of};
+
+use com_chains::Chains;
+pub use counters::CounterRow;
+use counters::Counters;
+use std::alloc::Global;
+use std::marker::Model;
+
+/// Want of memory.
+pub use std::alloc::AllocError as Memory;
+
+/// A stub: whether its object is connected. A row of what contracts see.
+#[derive(Debug, Clone, Copy)]
+pub struct StubRow {
+    pub object: u32,
+    pub connected: bool,
+}
+
+/// Why references were not added to a stub.
+#[derive(Debug, Clone, Copy, PartialEq, Eq)]
+pub enum StubError {
+    /// The object has no stub, or one that was disconnected.
+    NotConnected,
+    /// The interface is not in the object's set.
+    NoInterface,
+}
+
+/// The stubs of all objects, seen as a row for each stub, a row for each interface of a stub, and the
+/// number of enrolments that are sure to find memory.
+#[derive(Debug, Drop)]
+pub struct Stubs {
+    stubs: Vec<StubRow>,
+    places: Chains,
+    counters: Counters,
+}
+
+impl Model for Stubs {
+    ghost use Rattle.std.specs.Prelude.{◌-◌, ◌/◌, vec_len, vec_capacity, min};
+    ghost use Rattle.com_stub.specs.Tables.{StubTable, IsStubTable};
+
+    ghost Value = { StubTable };
+
+    ghost view = { λ s. record {
+      stubs = s.stubs.items;
+      counters = s.counters.rows;
+      spare = min (s.counters.spare / 17) (min s.places.spare (vec_capacity s.stubs - vec_len s.stubs));
+    } };
+
+    ghost invariant = { λ s. IsStubTable s.stubs.items s.places };
+}
+
+// The most interfaces that an object's set has.
+const MOST_INTERFACES: u32 = 17;
+
+// True exactly where the object has a stub that is connected.
+fn is_live(stubs: &[StubRow], places: &Chains, object: u32) -> bool
+    requires keyed { places.now.keys ≡ stub_objects stubs.now }
+    requires first { EachStubFirst stubs.now }
+    ensures { result ≡ is_connected stubs.now object }
+{
+    match places.last(object) {
+        None => false,
+        Some(place) => stubs[place].connected,
+    }
+}
+
+// The stub of the object, if it has one, is no longer connected.
+fn end(stubs: &mut [StubRow], places: &Chains, object: u32)
+    requires keyed { places.now.keys ≡ stub_objects stubs.old }
+    requires first { EachStubFirst stubs.old }
+    ensures { stubs.new ≡ ended_rows object stubs.old }
+{
+    if let Some(place) = places.last(object) {
+        stubs[place].connected = false;
+    }
+}
+
+impl Stubs {
+    /// No stubs. It takes no memory.
+    pub fn new(alloc: Global) -> Self
+        ensures stubs { result.stubs ≡ [] }
+        ensures counters { result.counters ≡ [] }
+    {
+        Stubs {
+            stubs: Vec::new(alloc),
+            places: Chains::new(alloc),
+            counters: Counters::new(alloc),
+        }
+    }
+
+    /// Makes room for `n` enrolments.
+    pub fn reserve(&mut self, n: u32) -> Result<(), Memory>
+        ensures room { OnOk result (n ≤ self.new.spare) }
+        ensures stubs { self.new.stubs ≡ self.old.stubs }
+        ensures counters { self.new.counters ≡ self.old.counters }
+        ensures spare { self.old.spare ≤ self.new.spare }
+    {
+        let Some(counters) = n.checked_mul(MOST_INTERFACES) else {
+            return Err(Memory);
+        };
+        self.counters.reserve(counters)?;
+        self.places.reserve(n)?;
+        self.stubs.reserve(n as usize)
+    }
+
+    /// Gives an object a connected stub, with a count of 0 for each interface of its set.
+    ///
+    /// The only error is want of memory, and then no stub has changed.
+    pub fn enroll(&mut self, object: u32, set: &[u16]) -> Result<(), Memory>
+        requires new { has_stub self.old.stubs object ≡ false }
+        requires few { length set.now ≤ 17 }
+        ensures ok { OnOk result (self.new.stubs ≡ self.old.stubs ++ record { object = object; connected = true } ∷ []) }
+        ensures opened { OnOk result (self.new.counters ≡ opened_all object set.now self.old.counters) }
+        ensures err { OnErr result (self.new.stubs ≡ self.old.stubs) }
+        ensures kept { OnErr result (self.new.counters ≡ self.old.counters) }
+        ensures room { 0 < self.old.spare → IsOk result }
+        ensures spare { self.old.spare ≤ self.new.spare + 1 }
+    {
+        self.counters.reserve(MOST_INTERFACES)?;
+        self.places.reserve(1)?;
+        self.stubs.reserve(1)?;
+        self.counters.open_all(object, set);
+        self.places.append(object);
+        self.stubs.push_reserved(StubRow {
+            object,
+            connected: true,
+        });
+        Ok(())
+    }
+
+    /// `n` public references more of an interface.
+    ///
+    /// `NotConnected` exactly where the object has no connected stub; else `NoInterface` exactly where the
+    /// interface is not in its set.
+    pub fn add(&mut self, object: u32, iface: u16, n: u32) -> Result<(), StubError>
+        requires fits { total_of self.old object + n < 2 ^ 64 }
+        ensures not_connected { (result ≡ Err StubError.NotConnected) ↔ (is_connected self.old.stubs object ≡ false) }
+        ensures no_interface { (result ≡ Err StubError.NoInterface) ↔ ((is_connected self.old.stubs object ≡ true) × (has_counter self.old.counters object iface ≡ false)) }
+        ensures ok { OnOk result (self.new.counters ≡ changed_counter (more n) object iface self.old.counters) }
+        ensures stubs { self.new.stubs ≡ self.old.stubs }
+        ensures err { OnErr result (self.new ≡ self.old) }
+        ensures spare { self.new.spare ≡ self.old.spare }
+    {
+        if !is_live(&self.stubs, &self.places, object) {
+            return Err(StubError::NotConnected);
+        }
+        if !self.counters.has(object, iface) {
+            return Err(StubError::NoInterface);
+        }
+        self.counters.add(object, iface, n);
+        Ok(())
+    }
+
+    /// `n` public references less of an interface, which counts as many at least.
+    pub fn take(&mut self, object: u32, iface: u16, n: u64)
+        requires { n ≤ count_of self.old object iface }
+        ensures counters { self.new.counters ≡ changed_counter (less n) object iface self.old.counters }
+        ensures stubs { self.new.stubs ≡ self.old.stubs }
+        ensures spare { self.new.spare ≡ self.old.spare }
+    {
+        self.counters.take(object, iface, n);
+    }
+
+    /// The public references of all interfaces together. A stub that is not connected has none.
+    pub fn count(&self, object: u32) -> u64
+        ensures { result ≡ total_of self.now object }
+    {
+        if is_live(&self.stubs, &self.places, object) {
+            return self.counters.sum(object);
+        }
+        0
+    }
+
+    /// The public references of an interface. A stub that is not connected has none.
+    pub fn count_of(&self, object: u32, iface: u16) -> u64
+        ensures { result ≡ count_of self.now object iface }
+    {
+        if is_live(&self.stubs, &self.places, object) {
+            return self.counters.get(object, iface);
+        }
+        0
+    }
+
+    /// Disconnects the object's stub: all its counts are 0 and `add` is refused from then on.
+    /// Source: CoDisconnectObject.
+    pub fn disconnect(&mut self, object: u32)
+        ensures stubs { self.new.stubs ≡ ended_rows object self.old.stubs }
+        ensures counters { self.new.counters ≡ self.old.counters }
+        ensures ended { is_connected self.new.stubs object ≡ false }
+        ensures spare { self.new.spare ≡ self.old.spare }
+    {
+        end(&mut self.stubs, &self.places, object);
+    }
+}
+
+#[cfg(test)]
+mod tests {
+    use super::*;
+    use std::test::Fail;
+
+    #[test]
+    fn a_stub_counts_each_interface_of_its_set_until_it_is_disconnected(
+        rt: HostRuntime,
+    ) -> Result<(), Fail> {
+        let mut stubs = Stubs::new(rt.alloc());
+        stubs.reserve(1)?;
+        stubs.enroll(1, &[0, 2, 0])?;
+        assert_eq!(rt; stubs.add(1, 2, 5), Ok(()));
+        assert_eq!(rt; stubs.add(1, 0, 1), Ok(()));
+        assert_eq!(rt; stubs.count_of(1, 2), 5);
+        assert_eq!(rt; stubs.count(1), 6);
+        assert_eq!(rt; stubs.add(1, 3, 5), Err(StubError::NoInterface));
+        assert_eq!(rt; stubs.add(2, 2, 5), Err(StubError::NotConnected));
+        stubs.disconnect(1);
+        assert_eq!(rt; stubs.count(1), 0);
+        assert_eq!(rt; stubs.add(1, 2, 5), Err(StubError::NotConnected));
+        Ok(())
+    }
+
+    #[test]
+    fn what_a_packet_of_two_gives_back_leaves_three_of_five(rt: HostRuntime) -> Result<(), Fail> {
+        let mut stubs = Stubs::new(rt.alloc());
+        stubs.enroll(1, &[2])?;
+        assert_eq!(rt; stubs.add(1, 2, 5), Ok(()));
+        stubs.take(1, 2, 2);
+        assert_eq!(rt; stubs.count_of(1, 2), 3);
+        Ok(())
+    }
+}
