@@ -1,0 +1,14 @@
+//! The text of a history's entries, and of the report behind them.
+#![tactic(auto)]
+
+mod calls;
+mod deeds;
+mod lines;
+mod references;
+mod reports;
+mod values;
+mod words;
+
+pub use com_base::Memory;
+pub use lines::line;
+pub use reports::report;
