@@ -1,1 +1,6 @@
 pub mod Frames
+pub mod Operands
+pub mod Actions
+pub mod BodySteps
+pub mod Bodies
+pub mod Done

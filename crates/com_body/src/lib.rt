@@ -8,8 +8,12 @@
 mod actions;
 mod body;
 mod frame;
+mod operand_values;
 mod operands;
 mod statements;
+mod steps;
+#[cfg(test)]
+mod tests;
 
 pub use actions::Action;
 pub use body::{Body, BodyFault};
@@ -17,3 +21,4 @@ pub use com_base::Memory;
 pub use frame::{Cells, Frame, Job, Native, Outcome};
 pub use operands::{Arg, Asked, Code, Destination, Given, Op, Place};
 pub use statements::Stmt;
+pub use steps::{step, step_no_body};

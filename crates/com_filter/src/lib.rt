@@ -1,7 +1,13 @@
 //! Message filters: lists of rules that answer what a call and a waiting caller ask.
 #![tactic(auto)]
 
+ghost use Rattle.std.specs.Prelude.{◌≡◌};
+ghost use Rattle.com_filter.specs.Answers.{is_for_type, is_for_verdict, same_verdict, incoming_by, retry_by, pending_by, incoming_answer, retry_answer, pending_answer};
+
 use std::marker::Model;
+
+#[cfg(test)]
+mod tests;
 
 /// The answer to an incoming call.
 #[derive(Debug, Clone, Copy, PartialEq, Eq)]
@@ -50,4 +56,139 @@ impl Model for Filter {
     ghost Value = { List Rule };
 
     ghost view = { λ a. a.rules.items };
+}
+
+impl Filter {
+    /// The filter of these rules. It takes no memory.
+    pub fn new(rules: Vec<Rule>) -> Filter
+        ensures { result ≡ rules.items }
+    {
+        Filter { rules }
+    }
+
+    /// The same list.
+    pub fn rules(&self) -> &[Rule]
+        ensures { result.now ≡ self.now }
+    {
+        self.rules.as_slice()
+    }
+
+    /// The answer to an incoming call (IMessageFilter::HandleInComingCall) of call type 1, 2 or 4, where `elapsed` is in
+    /// milliseconds: that of the first rule for incoming calls that is for this type and whose time has come. With no such
+    /// rule the call is handled.
+    pub fn incoming(&self, call_type: u8, elapsed: u64) -> Verdict
+        ensures { result ≡ incoming_answer self.now call_type elapsed }
+    {
+        for rule in self.rules() {
+            if let Some(verdict) = rule.incoming(call_type, elapsed) {
+                return verdict;
+            }
+        }
+        Verdict::Handled
+    }
+
+    /// The answer to a caller that got this verdict (IMessageFilter::RetryRejectedCall), `elapsed` milliseconds after its
+    /// call: that of the first rule for retries that is for this verdict and whose time has come. With no such rule it is
+    /// -1. Below 0 gives up, 0 to 99 calls again at once, and 100 and more waits for so many milliseconds.
+    pub fn retry(&self, verdict: Verdict, elapsed: u64) -> i64
+        ensures { result ≡ retry_answer self.now verdict elapsed }
+    {
+        for rule in self.rules() {
+            if let Some(answer) = rule.retry(verdict, elapsed) {
+                return answer;
+            }
+        }
+        -1
+    }
+
+    /// The answer to a waiting caller that has a word (IMessageFilter::MessagePending), `elapsed` milliseconds after its
+    /// call: that of the first rule for pending words whose time has come. With no such rule it is
+    /// PENDINGMSG_WAITDEFPROCESS, 2. PENDINGMSG_CANCELCALL is 0 and WAITNOPROCESS 1.
+    pub fn pending(&self, elapsed: u64) -> u8
+        ensures { result ≡ pending_answer self.now elapsed }
+    {
+        for rule in self.rules() {
+            if let Some(answer) = rule.pending(elapsed) {
+                return answer;
+            }
+        }
+        2
+    }
+}
+
+impl Rule {
+    // The answers of this rule alone, where it matches.
+    fn incoming(&self, call_type: u8, elapsed: u64) -> Option<Verdict>
+        ensures { result ≡ incoming_by self.now call_type elapsed }
+    {
+        match *self {
+            Rule::Incoming {
+                call_type: wanted,
+                ms,
+                verdict,
+            } => {
+                let matches = is_for_type(wanted, call_type) && ms as u64 <= elapsed;
+                if matches { Some(verdict) } else { None }
+            }
+            _ => None,
+        }
+    }
+
+    fn retry(&self, verdict: Verdict, elapsed: u64) -> Option<i64>
+        ensures { result ≡ retry_by self.now verdict elapsed }
+    {
+        match *self {
+            Rule::Retry {
+                verdict: wanted,
+                ms,
+                answer,
+            } => {
+                let matches = is_for_verdict(wanted, verdict) && ms as u64 <= elapsed;
+                if matches { Some(answer) } else { None }
+            }
+            _ => None,
+        }
+    }
+
+    fn pending(&self, elapsed: u64) -> Option<u8>
+        ensures { result ≡ pending_by self.now elapsed }
+    {
+        match *self {
+            Rule::Pending { ms, answer } => if ms as u64 <= elapsed {
+                Some(answer)
+            } else {
+                None
+            },
+            _ => None,
+        }
+    }
+}
+
+fn is_for_type(wanted: Option<u8>, call_type: u8) -> bool
+    ensures { result ≡ is_for_type wanted call_type }
+{
+    match wanted {
+        None => true,
+        Some(wanted) => wanted == call_type,
+    }
+}
+
+fn is_for_verdict(wanted: Option<Verdict>, verdict: Verdict) -> bool
+    ensures { result ≡ is_for_verdict wanted verdict }
+{
+    match wanted {
+        None => true,
+        Some(wanted) => same_verdict(wanted, verdict),
+    }
+}
+
+fn same_verdict(left: Verdict, right: Verdict) -> bool
+    ensures { result ≡ same_verdict left right }
+{
+    match (left, right) {
+        (Verdict::Handled, Verdict::Handled) => true,
+        (Verdict::Rejected, Verdict::Rejected) => true,
+        (Verdict::Later, Verdict::Later) => true,
+        _ => false,
+    }
 }

@@ -1,0 +1,102 @@
+-- The registers and slots with which a frame begins.
+use Rattle.std.proofs.Common.{◌≡◌, ℕ, zero, suc, ◌+◌, ◌-◌, ◌<◌, ◌≤◌, List, [], ◌∷◌, ◌++◌, length, take, set, replicate, get_or, Option, None, ◌⊎◌, inl, inr, refl, sym, ap, ◌∙◌, arith, append_assoc, length-append}
+use Rattle.std.proofs.lemmas.List.{take_more, append-nil}
+use Rattle.com_base.specs.declared.value.RefValue.{RefValue}
+use Rattle.com_base.specs.declared.value.Value.{Value}
+use Rattle.com_base.specs.declared.value.Value.TheVariants as value
+use Rattle.com_body.specs.Frames.{plain_values, references}
+
+plain-append : (xs ys : List Value) → plain_values (xs ++ ys) ≡ plain_values xs ++ plain_values ys
+plain-append [] ys = refl
+plain-append (value.Ref held ∷ xs) ys = plain-append xs ys
+plain-append (value.Int n ∷ xs) ys = ap (λ l. value.Int n ∷ l) (plain-append xs ys)
+plain-append (value.Bool n ∷ xs) ys = ap (λ l. value.Bool n ∷ l) (plain-append xs ys)
+plain-append (value.Text n ∷ xs) ys = ap (λ l. value.Text n ∷ l) (plain-append xs ys)
+plain-append (value.Bytes n ∷ xs) ys = ap (λ l. value.Bytes n ∷ l) (plain-append xs ys)
+plain-append (value.Guid n ∷ xs) ys = ap (λ l. value.Guid n ∷ l) (plain-append xs ys)
+
+references-append : (xs ys : List Value) → references (xs ++ ys) ≡ references xs ++ references ys
+references-append [] ys = refl
+references-append (value.Ref held ∷ xs) ys = ap (λ l. held ∷ l) (references-append xs ys)
+references-append (value.Int n ∷ xs) ys = references-append xs ys
+references-append (value.Bool n ∷ xs) ys = references-append xs ys
+references-append (value.Text n ∷ xs) ys = references-append xs ys
+references-append (value.Bytes n ∷ xs) ys = references-append xs ys
+references-append (value.Guid n ∷ xs) ys = references-append xs ys
+
+pub plain_more : (xs : List Value) (i : ℕ) (d : Value) → i < length xs → plain_values (take (i + 1) xs) ≡ plain_values (take i xs) ++ plain_values (get_or xs i d ∷ [])
+plain_more xs i d within = ap plain_values (take_more xs i d within) ∙ plain-append (take i xs) (get_or xs i d ∷ [])
+
+pub references_more : (xs : List Value) (i : ℕ) (d : Value) → i < length xs → references (take (i + 1) xs) ≡ references (take i xs) ++ references (get_or xs i d ∷ [])
+references_more xs i d within = ap references (take_more xs i d within) ∙ references-append (take i xs) (get_or xs i d ∷ [])
+
+pub plain_length : (xs : List Value) → length (plain_values xs) ≤ length xs
+plain_length [] = omega arith
+plain_length (value.Ref held ∷ xs) = omega (arith, plain_length xs)
+plain_length (value.Int n ∷ xs) = omega (arith, plain_length xs)
+plain_length (value.Bool n ∷ xs) = omega (arith, plain_length xs)
+plain_length (value.Text n ∷ xs) = omega (arith, plain_length xs)
+plain_length (value.Bytes n ∷ xs) = omega (arith, plain_length xs)
+plain_length (value.Guid n ∷ xs) = omega (arith, plain_length xs)
+
+pub references_length : (xs : List Value) → length (references xs) ≤ length xs
+references_length [] = omega arith
+references_length (value.Ref held ∷ xs) = omega (arith, references_length xs)
+references_length (value.Int n ∷ xs) = omega (arith, references_length xs)
+references_length (value.Bool n ∷ xs) = omega (arith, references_length xs)
+references_length (value.Text n ∷ xs) = omega (arith, references_length xs)
+references_length (value.Bytes n ∷ xs) = omega (arith, references_length xs)
+references_length (value.Guid n ∷ xs) = omega (arith, references_length xs)
+
+replicate-more : {A : Type 0} (k : ℕ) (x : A) → replicate k x ++ x ∷ [] ≡ replicate (suc k) x
+replicate-more zero x = refl
+replicate-more (suc k) x = ap (λ l. x ∷ l) (replicate-more k x)
+
+-- one more copy behind a list that is filled up
+pub filled : (xs : List Value) (n : ℕ) (x : Value) → length xs ≤ n → (xs ++ replicate (n - length xs) x) ++ x ∷ [] ≡ xs ++ replicate (n + 1 - length xs) x
+filled xs n x within =
+    append_assoc xs (replicate (n - length xs) x) (x ∷ []) ∙
+    ap (λ l. xs ++ l) (replicate-more (n - length xs) x) ∙
+    let same : suc (n - length xs) ≡ n + 1 - length xs = omega (arith, within) in
+    ap (λ k. xs ++ replicate k x) same
+
+-- a write to the first free place of a list that is filled up
+set-first : {A : Type 0} (xs : List A) (k : ℕ) (x d : A) → set (xs ++ replicate (suc k) d) (length xs) x ≡ (xs ++ x ∷ []) ++ replicate k d
+set-first [] k x d = refl
+set-first (y ∷ xs) k x d = ap (λ l. y ∷ l) (set-first xs k x d)
+
+pub set_next : (xs : List (Option RefValue)) (n : ℕ) (x : Option RefValue) → length xs < n →
+    set (xs ++ replicate (n - length xs) None) (length xs) x ≡ (xs ++ x ∷ []) ++ replicate (n - length (xs ++ x ∷ [])) None
+set_next xs n x within =
+    let more : n - length xs ≡ suc (n - (length xs + 1)) = omega (arith, within) in
+    let count : length (xs ++ x ∷ []) ≡ length xs + 1 = length-append xs (x ∷ []) in
+    ap (λ k. set (xs ++ replicate k None) (length xs) x) more ∙ set-first xs (n - (length xs + 1)) x None ∙
+    ap (λ k. (xs ++ x ∷ []) ++ replicate (n - k) None) (sym count)
+
+-- a value is no reference, or it is one
+pub one_reference : (v : Value) → (references (v ∷ []) ≡ []) ⊎ ((h : Option RefValue) × (references (v ∷ []) ≡ h ∷ []))
+one_reference (value.Ref held) = inr (held, refl)
+one_reference (value.Int n) = inl refl
+one_reference (value.Bool n) = inl refl
+one_reference (value.Text n) = inl refl
+one_reference (value.Bytes n) = inl refl
+one_reference (value.Guid n) = inl refl
+
+-- the slots after one more value
+pub slots_more : (rs more one : List (Option RefValue)) (slots after : List (Option RefValue)) (taken next : ℕ) →
+    more ≡ rs ++ one → taken ≡ length rs → slots ≡ rs ++ replicate (8 - length rs) None → length rs < 8 →
+    (one ≡ [] → (after ≡ slots) × (next ≡ taken)) →
+    ((h : Option RefValue) → one ≡ h ∷ [] → (after ≡ set slots taken h) × (next ≡ taken + 1)) →
+    (one ≡ []) ⊎ ((h : Option RefValue) × (one ≡ h ∷ [])) →
+    (next ≡ length more) × (after ≡ more ++ replicate (8 - length more) None)
+slots_more rs more one slots after taken next grown count filled_up room none some (inl e) =
+    let same : more ≡ rs = grown ∙ ap (λ l. rs ++ l) e ∙ append-nil rs in
+    let got = none e in
+    (got.1 ∙ count ∙ ap length (sym same), got.0 ∙ filled_up ∙ ap (λ l. l ++ replicate (8 - length l) None) (sym same))
+slots_more rs more one slots after taken next grown count filled_up room none some (inr (h, e)) =
+    let same : more ≡ rs ++ h ∷ [] = grown ∙ ap (λ l. rs ++ l) e in
+    let got = some h e in
+    let long : length (rs ++ h ∷ []) ≡ length rs + 1 = length-append rs (h ∷ []) in
+    let put : set slots taken h ≡ (rs ++ h ∷ []) ++ replicate (8 - length (rs ++ h ∷ [])) None =
+    ap (λ l. set l taken h) filled_up ∙ ap (λ n. set (rs ++ replicate (8 - length rs) None) n h) count ∙ set_next rs 8 h room in
+    (got.1 ∙ ap (λ n. n + 1) count ∙ sym long ∙ ap length (sym same), got.0 ∙ put ∙ ap (λ l. l ++ replicate (8 - length l) None) (sym same))

@@ -1,0 +1,102 @@
+-- Which lists of statements are bodies.
+use Rattle.std.specs.Prelude.{◌≡◌, ℕ, ◌+◌, ◌<◌, ◌≤◌, ◌^◌, List, [], ◌∷◌, Bool, Option, Some, None, All, length, nat_lt, if◌then◌else◌, Result, Ok, Err}
+use Rattle.com_body.specs.declared.statements.Stmt.{Stmt}
+use Rattle.com_body.specs.declared.statements.Stmt.TheVariants as stmt
+use Rattle.com_body.specs.declared.operands.Op.{Op}
+use Rattle.com_body.specs.declared.operands.Op.TheVariants as op
+use Rattle.com_body.specs.declared.operands.Place.{Place}
+use Rattle.com_body.specs.declared.operands.Place.TheVariants as place
+use Rattle.com_body.specs.declared.operands.Arg.{Arg}
+use Rattle.com_body.specs.declared.operands.Arg.TheVariants as arg
+use Rattle.com_body.specs.declared.operands.Code.{Code}
+use Rattle.com_body.specs.declared.operands.Code.TheVariants as code
+use Rattle.com_body.specs.declared.operands.Given.{Given}
+use Rattle.com_body.specs.declared.operands.Given.TheVariants as given
+use Rattle.com_body.specs.declared.operands.Destination.{Destination}
+use Rattle.com_body.specs.declared.operands.Destination.TheVariants as destination
+use Rattle.com_body.specs.declared.body.BodyFault.{BodyFault}
+use Rattle.com_body.specs.declared.body.BodyFault.TheVariants as fault
+
+-- Registers are 0 to 15, slots 0 to 7, cells 0 to 7, links 0 to 3 and packet buffers 0 to 63.
+abbrev pub IsOp : Op → Type 0
+IsOp (op.Register number) = number < 16
+IsOp (op.Literal v) = Unit {0}
+
+abbrev pub IsPlace : Place → Type 0
+IsPlace (place.Slot number) = number < 8
+IsPlace (place.Link number) = number < 4
+
+abbrev pub IsArg : Arg → Type 0
+IsArg (arg.Op operand) = IsOp operand
+IsArg (arg.Slot number) = number < 8
+IsArg arg.Null = Unit {0}
+
+abbrev pub IsCode : Code → Type 0
+IsCode (code.Literal answer) = Unit {0}
+IsCode (code.Register number) = number < 16
+
+abbrev pub IsGiven : Given → Type 0
+IsGiven given.Nothing = Unit {0}
+IsGiven (given.Op operand) = IsOp operand
+IsGiven (given.Slot number) = number < 8
+
+abbrev pub IsDestination : Destination → Type 0
+IsDestination destination.Nowhere = Unit {0}
+IsDestination (destination.Register number) = number < 16
+IsDestination (destination.Slot number) = number < 8
+
+-- Each number of a register, slot, cell, link or buffer in a statement is in its range.
+abbrev pub IsInRange : Stmt → Type 0
+IsInRange (stmt.Set to from) = (to < 16) × IsOp from
+IsInRange (stmt.Add to from) = (to < 16) × IsOp from
+IsInRange (stmt.Sub to from) = (to < 16) × IsOp from
+IsInRange (stmt.Less to left right) = (to < 16) × IsOp left × IsOp right
+IsInRange (stmt.Same to left right) = (to < 16) × (left < 8) × (right < 8)
+IsInRange (stmt.Load to cell) = (to < 16) × (cell < 8)
+IsInRange (stmt.Store cell from) = (cell < 8) × IsOp from
+IsInRange (stmt.Skip count) = Unit {0}
+IsInRange (stmt.SkipZero register count) = register < 16
+IsInRange (stmt.Create slot class iface) = slot < 8
+IsInRange (stmt.Query to from iface) = (to < 8) × (from < 8)
+IsInRange (stmt.Copy to from) = IsPlace to × IsPlace from
+IsInRange (stmt.Release place) = IsPlace place
+IsInRange (stmt.Call slot iface method args destination) = (slot < 8) × All IsArg args × IsDestination destination
+IsInRange (stmt.Marshal buffer slot mode) = (buffer < 64) × (slot < 8)
+IsInRange (stmt.Unmarshal slot buffer) = (slot < 8) × (buffer < 64)
+IsInRange (stmt.Drop buffer) = buffer < 64
+IsInRange (stmt.Raw buffer bytes) = buffer < 64
+IsInRange (stmt.Register to slot) = (to < 16) × (slot < 8)
+IsInRange (stmt.Get slot cookie) = (slot < 8) × IsOp cookie
+IsInRange (stmt.Revoke cookie) = IsOp cookie
+IsInRange (stmt.Disconnect slot) = slot < 8
+IsInRange (stmt.Post lane word) = IsOp lane × IsOp word
+IsInRange (stmt.Quit lane) = IsOp lane
+IsInRange (stmt.Leave answer given) = IsCode answer × IsGiven given
+IsInRange (stmt.Init mode) = Unit {0}
+IsInRange stmt.Uninit = Unit {0}
+IsInRange (stmt.SetFilter filter) = Unit {0}
+IsInRange (stmt.Pump bound) = Unit {0}
+
+-- How many statements a statement may pass over.
+abbrev pub skip_of : Stmt → ℕ
+skip_of (stmt.Skip count) = count
+skip_of (stmt.SkipZero register count) = count
+skip_of other = 0
+
+-- The number of the first statement whose skip passes the end, where the first statement here has the number k. A skip to
+-- exactly the end does not pass it.
+abbrev pub first_past_end : List Stmt → ℕ → Option ℕ
+first_past_end [] k = None
+first_past_end (s ∷ rest) k = if nat_lt (length rest) (skip_of s) then Some k else first_past_end rest (k + 1)
+
+-- Why a list of statements is no body of at most so many statements, if it is none. Length is judged first.
+abbrev pub fault_of : List Stmt → ℕ → Option BodyFault
+fault_of statements limit =
+    if nat_lt limit (length statements) then Some fault.TooLong
+    else elim (first_past_end statements 0) [ None ↦ None | Some k ↦ Some (fault.Jump k) ]
+
+-- What holds of every body.
+pub record IsBody (statements : List Stmt) : Type 0 where
+  pub short : length statements < 2 ^ 32
+  pub in_range : All IsInRange statements
+  pub inside : first_past_end statements 0 ≡ None
