@@ -82,6 +82,11 @@ entered_apartment [] = None
 entered_apartment (Enters c o a ∷ os) = Some a
 entered_apartment (_ ∷ os) = entered_apartment os
 
+-- The call of an opener that is an Enter.
+abbrev pub top_call : Option Opener → Option ℕ
+top_call (Some (Enters c o a)) = Some c
+top_call _ = None
+
 -- The calls of the open Outs, the innermost first.
 abbrev pub open_calls : List Opener → List ℕ
 open_calls [] = []
