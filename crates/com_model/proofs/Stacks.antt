@@ -19,10 +19,12 @@ use Rattle.com_model.specs.declared.deeds.Entry.{Entry}
 use Rattle.com_model.specs.declared.scenario.Scenario.{Scenario}
 use Rattle.com_model.specs.Lists.{or_else, where_true, first}
 use Rattle.com_model.specs.Issue.{call_refusal}
-use Rattle.com_model.specs.Tables.{in_set, class_number, interface_number, LaneSort, Thread, Host, Pool, NoLane, lane_sort}
+use Rattle.com_body.specs.BodySteps.{body_step}
+use Rattle.com_model.specs.Objects.{class_of}
+use Rattle.com_model.specs.Tables.{script, in_set, class_number, interface_number, LaneSort, Thread, Host, Pool, NoLane, lane_sort}
 use Rattle.com_model.specs.Openers.{Opener, Pumps, Waits, Enters, Effect, Closes, Keeps, Backs, Leaves, top_call, effect, effect_on, fits, nested, openers, running_call}
-use Rattle.com_model.specs.Calls.{Issue, object_of, is_post, route_of}
-use Rattle.com_model.specs.Frames.{Scene, Actor, Body, Script, Nobody, scene, outcome, unless_over, action_of, act, actor, actor_in, is_leave, reference}
+use Rattle.com_model.specs.Calls.{Issue, issue, object_of, is_post, route_of}
+use Rattle.com_model.specs.Frames.{Scene, Actor, Body, Script, Nobody, scene, outcome, unless_over, action_of, act_by, new_cells, actor, actor_in, is_leave, reference}
 use Rattle.com_model.specs.Endings.{Answer}
 use Rattle.com_model.specs.Waiting.{Phase, Unposted, Queued, Judged, Delayed, GivenUp, Word, not_asked, bound_reached}
 use Rattle.com_model.specs.Books.{Cookie, cookie}
@@ -267,14 +269,14 @@ IsScript Nobody = Unit {0}
 some-same : (x y : Action) → Some x ≡ Some y → x ≡ y
 some-same x y e = cc
 
-script-acts : (s : Scenario) (h : List Entry) (w : Scene) (l : ℕ) (r : Outcome) (b : Bool) → is_leave r.action ≡ b → (a : Action) → action_of (outcome s h w (cond b Nobody (Script l))) ≡ Some a → outcome s h w (Script l) ≡ Some r → is_leave a ≡ false
-script-acts s h w l r true q a p e = cc
-script-acts s h w l r false q a p e = subst (λ (x : Action). is_leave x ≡ false) (some-same _ _ (subst (λ (x : Option Outcome). action_of x ≡ Some a) e p)) q
+script-acts : (s : Scenario) (k : ℕ → ℕ) (i : ℕ → Option Issue) (w : Scene) (l : ℕ) (r : Outcome) (b : Bool) → is_leave r.action ≡ b → (a : Action) → action_of (outcome s k i w (cond b Nobody (Script l))) ≡ Some a → outcome s k i w (Script l) ≡ Some r → is_leave a ≡ false
+script-acts s k i w l r true q a p e = cc
+script-acts s k i w l r false q a p e = subst (λ (x : Action). is_leave x ≡ false) (some-same r.action a (subst (λ (x : Option Outcome). action_of x ≡ Some a) e p)) q
 
-actor-acts : (s : Scenario) (h : List Entry) (w : Scene) (x : Actor) → IsScript x → (a : Action) → action_of (outcome s h w (unless_over x (outcome s h w x))) ≡ Some a → is_leave a ≡ false
-actor-acts s h w (Body c o) k a p = absurd k
-actor-acts s h w (Script l) k a p = script-acts s h w l _ (is_leave _) refl a p refl
-actor-acts s h w Nobody k a p = cc
+actor-acts : (s : Scenario) (k : ℕ → ℕ) (i : ℕ → Option Issue) (w : Scene) (x : Actor) → IsScript x → (a : Action) → act_by s k i w x ≡ Some a → is_leave a ≡ false
+actor-acts s k i w (Body c o) q a p = absurd q
+actor-acts s k i w (Script l) q a p = script-acts s k i w l (body_step (script s l) (w.scripts l) new_cells) (is_leave (body_step (script s l) (w.scripts l) new_cells).action) refl a p refl
+actor-acts s k i w Nobody q a p = cc
 
 actor-script : (sort : LaneSort) (l : ℕ) (os : List Opener) → os ≡ [] → IsScript (actor sort l os)
 actor-script Thread l os e = subst (λ (x : List Opener). IsScript (actor Thread l x)) (sym e) tt
@@ -283,7 +285,7 @@ actor-script Pool l os e = subst (λ (x : List Opener). IsScript (actor Pool l x
 actor-script NoLane l os e = subst (λ (x : List Opener). IsScript (actor NoLane l x)) (sym e) tt
 
 sight-acts : (s : Scenario) (h : List Entry) (l : ℕ) → ActsOn (sight s h) l
-sight-acts s h l e a p = actor-acts s h (scene s h) (actor_in s h l) (actor-script (lane_sort s l) l (openers h l) e) a p
+sight-acts s h l e a p = actor-acts s (class_of h) (issue h) (scene s h) (actor_in s h l) (actor-script (lane_sort s l) l (openers h l) e) a p
 
 -- ---- the law
 

@@ -24,7 +24,7 @@ use Rattle.com_model.specs.Calls.{is_marshalled}
 use Rattle.com_model.specs.Values.{sent_values, carried, result_list}
 use Rattle.com_model.specs.Frames.{Scene, scene, act}
 use Rattle.com_model.specs.Endings.{ending, is_leave}
-use Rattle.com_model.specs.Places.{places, all_places, direct_places}
+use Rattle.com_model.specs.Places.{Ground, ground, places, all_places, direct_places}
 
 -- A packet: whether it is outstanding, that is from its making until it ends, and the public references that it holds.
 pub record Packet : Type 0 where
@@ -191,20 +191,20 @@ abbrev pub back_rows : ℕ → (by_leave : Bool) → Option ℕ → List Row
 back_rows a by_leave None = []
 back_rows a by_leave (Some p) = if by_leave then Unmarshals a p ∷ [] else Drops p ∷ []
 
-abbrev pub rows : Scenario → List Entry → Books → (a l : ℕ) → Deed → List Row
-rows s h b a l (deed.Made (Some o) w k (asked.Number i) hr) = Makes a o i ∷ []
-rows s h b a l (deed.Query (Some o) (asked.Number i) hr) = query_row a o i hr
-rows s h b a l (deed.Marshal (Some p) m (Some r) refs hr bytes) = Marshals a m r.object r.iface ∷ []
-rows s h b a l (deed.Unmarshal (Some p) held refs hr) = Unmarshals a p ∷ []
-rows s h b a l (deed.DropPacket (Some p) hr) = Drops p ∷ []
-rows s h b a l (deed.Register (Some g) (Some r) hr) = Registers r.object r.iface ∷ []
-rows s h b a l (deed.Get g (Some r) refs hr) = Takes a r.object r.iface ∷ []
-rows s h b a l (deed.Revoke (pos g) hr) = revoke_row g hr
-rows s h b a l (deed.Out c o i m r k (Some bytes)) = marshal_all a (carried (out_values s b true (act s h l)))
-rows s h b a l (deed.Enter c o x t vs) = map (λ p. Unmarshals x p) (b.arguments c)
-rows s h b a l (deed.Leave c hr v bytes) = reply_rows a v bytes
-rows s h b a l (deed.Back c hr v) = back_rows a (is_leave (ending s h c)) (b.result c)
-rows s h b a l _ = []
+abbrev pub rows : Scenario → (act : Option Action) → (by_leave : ℕ → Bool) → Books → (apartment : ℕ) → Deed → List Row
+rows s x left b a (deed.Made (Some o) w k (asked.Number i) hr) = Makes a o i ∷ []
+rows s x left b a (deed.Query (Some o) (asked.Number i) hr) = query_row a o i hr
+rows s x left b a (deed.Marshal (Some p) m (Some r) refs hr bytes) = Marshals a m r.object r.iface ∷ []
+rows s x left b a (deed.Unmarshal (Some p) held refs hr) = Unmarshals a p ∷ []
+rows s x left b a (deed.DropPacket (Some p) hr) = Drops p ∷ []
+rows s x left b a (deed.Register (Some g) (Some r) hr) = Registers r.object r.iface ∷ []
+rows s x left b a (deed.Get g (Some r) refs hr) = Takes a r.object r.iface ∷ []
+rows s x left b a (deed.Revoke (pos g) hr) = revoke_row g hr
+rows s x left b a (deed.Out c o i m r k (Some bytes)) = marshal_all a (carried (out_values s b true x))
+rows s x left b a (deed.Enter c o y t vs) = map (λ p. Unmarshals y p) (b.arguments c)
+rows s x left b a (deed.Leave c hr v bytes) = reply_rows a v bytes
+rows s x left b a (deed.Back c hr v) = back_rows a (left c) (b.result c)
+rows s x left b a _ = []
 
 abbrev pub entered_rows : (owned : ℕ → ℕ → Bool) → Books → List Row → Books
 entered_rows owned b rs = fold (λ x r. changed x (change owned x r)) b rs
@@ -270,26 +270,27 @@ cut live b = record b {
   live = live;
 }
 
--- All rows but the last; then what is not connected is cut.
-abbrev pub most : Scenario → List Entry → Entry → Books → Books
-most s h e b =
-    given_back (apartments (e ∷ h)) (places s (e ∷ h) (scene s (e ∷ h)))
-    (kept b e.deed (entered_rows (owns s (e ∷ h)) b (rows s h b (number_or_zero (running s h e.lane)) e.lane e.deed)))
+-- All rows but the last; then what is not connected is cut. The places are those after the entry.
+abbrev pub most : Scenario → Ground → Scene → (act : Option Action) → (by_leave : ℕ → Bool) → (apartment : ℕ) → Deed → Books → Books
+most s g w x left a d b =
+    given_back g.apartments (places s g w) (kept b d (entered_rows g.owns b (rows s x left b a d)))
 
-abbrev pub closed : Scenario → List Entry → Entry → Books → Books
-closed s h e b =
-    cut (live_after e.deed (named (e ∷ h)) (λ o. all_places s (e ∷ h) (scene s (e ∷ h)) o + held_outside b o) b.live) b
+abbrev pub closed : Scenario → Ground → Scene → Deed → Books → Books
+closed s g w d b = cut (live_after d g.named (λ o. all_places s g w o + held_outside b o) b.live) b
 
 abbrev pub books : Scenario → List Entry → Books
 books s [] = no_books
-books s (e ∷ h) = closed s h e (most s h e (books s h))
+books s (e ∷ h) =
+    closed s (ground s (e ∷ h)) (scene s (e ∷ h)) e.deed
+    (most s (ground s (e ∷ h)) (scene s (e ∷ h)) (act s h e.lane) (λ c. is_leave (ending s h c)) (number_or_zero (running s h e.lane))
+    e.deed (books s h))
 
 -- The holders of an object: its direct places and, as long as it is connected, its proxy places, packets and cookies.
-abbrev pub holders_in : Scenario → List Entry → Scene → Books → ℕ → ℕ
-holders_in s h w b o = if b.live o then all_places s h w o + held_outside b o else direct_places s h w o
+abbrev pub holders_in : Scenario → Ground → Scene → Books → ℕ → ℕ
+holders_in s g w b o = if b.live o then all_places s g w o + held_outside b o else direct_places s g w o
 
 abbrev pub holders : Scenario → List Entry → ℕ → ℕ
-holders s h o = holders_in s h (scene s h) (books s h) o
+holders s h o = holders_in s (ground s h) (scene s h) (books s h) o
 
 -- What proxies, packets and cookies hold of an object's interface: the stub's count is always their sum.
 abbrev pub packet_holds_of : (o i : ℕ) → Packet → ℕ

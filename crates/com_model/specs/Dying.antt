@@ -4,20 +4,22 @@ use Rattle.com_model.specs.declared.deeds.Entry.{Entry}
 use Rattle.com_model.specs.declared.scenario.Scenario.{Scenario}
 use Rattle.com_model.specs.Lists.{one_to, is_member, any_of}
 use Rattle.com_model.specs.Tables.{lanes}
-use Rattle.com_model.specs.Openers.{openers, runs}
+use Rattle.com_model.specs.Openers.{Opener, openers, runs}
 use Rattle.com_model.specs.Apartments.{serves}
 use Rattle.com_model.specs.Objects.{objects, named, finaled}
 use Rattle.com_model.specs.Books.{holders}
 
 -- Whether an Enter of the object is open in some lane.
-abbrev pub is_entered : Scenario → List Entry → ℕ → Bool
-is_entered s h o = any_of (λ l. runs o (openers h l)) (one_to (lanes s))
+abbrev pub is_entered : Scenario → (ℕ → List Opener) → ℕ → Bool
+is_entered s os o = any_of (λ l. runs o (os l)) (one_to (lanes s))
 
 -- An object is dying where it was made, has no Final, has no holder, and no Enter of it is open. Source: Essential COM, the
 -- release of an object when its last reference goes.
+abbrev pub is_dying_by : (objects : ℕ) → (finaled : ℕ → Bool) → (holders : ℕ → ℕ) → (entered : ℕ → Bool) → ℕ → Bool
+is_dying_by n finaled holders entered o = (nat_le 1 o && nat_le o n) && (not (finaled o) && (holders o == 0 && not (entered o)))
+
 abbrev pub is_dying : Scenario → List Entry → ℕ → Bool
-is_dying s h o =
-    (nat_le 1 o && nat_le o (objects h)) && (not (finaled h o) && (holders s h o == 0 && not (is_entered s h o)))
+is_dying s h o = is_dying_by (objects h) (finaled h) (holders s h) (is_entered s (openers h)) o
 
 -- The objects in the order of the entries after which each first was dying, and by number where one entry made several so.
 abbrev pub fallen_more : (ℕ → Bool) → ℕ → List ℕ → List ℕ

@@ -16,7 +16,7 @@ use Rattle.com_model.specs.Openers.{openers}
 use Rattle.com_model.specs.Apartments.{apartments, over}
 use Rattle.com_model.specs.Objects.{objects, named, class_of, finaled}
 use Rattle.com_model.specs.Frames.{scene}
-use Rattle.com_model.specs.Places.{direct_places}
+use Rattle.com_model.specs.Places.{ground, direct_places}
 use Rattle.com_model.specs.Books.{Books, Packet, Cookie, books}
 use Rattle.com_model.specs.Sight.{Sight, sight}
 use Rattle.com_model.specs.Rules.{can_step, no_lane_can, tick_time, next}
@@ -133,7 +133,7 @@ counts_by s h b o = record {
   class = class_of h o;
   owner = named h o;
   state = state_of (finaled h o) (b.live o);
-  direct = direct_places s h (scene s h) o;
+  direct = direct_places s (ground s h) (scene s h) o;
   proxies = sum_below (apartments h) (λ a. over_interfaces s (b.proxy a o));
   packets = sum_by (in_normal o) b.packets;
   tables = sum_by (in_table o) b.packets + sum_by (in_cookie o) b.cookies;

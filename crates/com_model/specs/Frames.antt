@@ -72,11 +72,11 @@ abbrev pub issued_body : Scenario → (class : ℕ) → Option Issue → FrameVi
 issued_body s k None f c = body_step [] f c
 issued_body s k (Some i) f c = body_step (body_of s k i.iface i.method) f c
 
--- The body step of whoever acts.
-abbrev pub outcome : Scenario → List Entry → Scene → Actor → Option Outcome
-outcome s h w (Body c o) = Some (issued_body s (class_of h o) (issue h c) (w.bodies c) (w.cells o))
-outcome s h w (Script l) = Some (body_step (script s l) (w.scripts l) new_cells)
-outcome s h w Nobody = None
+-- The body step of whoever acts, by the classes of objects and the issues of calls.
+abbrev pub outcome : Scenario → (class : ℕ → ℕ) → (issue : ℕ → Option Issue) → Scene → Actor → Option Outcome
+outcome s k i w (Body c o) = Some (issued_body s (k o) (i c) (w.bodies c) (w.cells o))
+outcome s k i w (Script l) = Some (body_step (script s l) (w.scripts l) new_cells)
+outcome s k i w Nobody = None
 
 -- A step that leaves in a script means that the script is over; then nobody acts.
 abbrev pub is_leave : Action → Bool
@@ -225,23 +225,26 @@ cut_links named None w = w
 cut_links named (Some a) w =
     record w { cells = λ o. if named o == a then record (w.cells o) { links = replicate 4 None } else w.cells o }
 
-abbrev pub acting : Scenario → List Entry → Scene → Entry → Actor
-acting s h w e = unless_final e.deed (unless_over (actor_in s h e.lane) (outcome s h w (actor_in s h e.lane)))
+abbrev pub acting : Scenario → (class : ℕ → ℕ) → (issue : ℕ → Option Issue) → Scene → Actor → Deed → Actor
+acting s k i w a d = unless_final d (unless_over a (outcome s k i w a))
 
-abbrev pub scene_after : Scenario → List Entry → Entry → Scene → Scene
-scene_after s h e w =
-    cut_links (named h) (ends_sta e.deed)
-    (arrived (actor_in s (e ∷ h) e.lane) e.lane e.deed
-    (acted (acting s h w e) (outcome s h w (acting s h w e)) e.deed w))
+-- The scene after a deed of a lane, with who acts there before and after it.
+abbrev pub scene_after : Scenario → (class named : ℕ → ℕ) → (issue : ℕ → Option Issue) → (before after : Actor) → (lane : ℕ) → Deed → Scene → Scene
+scene_after s k n i a b l d w =
+    cut_links n (ends_sta d) (arrived b l d (acted (acting s k i w a d) (outcome s k i w (acting s k i w a d)) d w))
 
 abbrev pub scene : Scenario → List Entry → Scene
 scene s [] = first_scene
-scene s (e ∷ h) = scene_after s h e (scene s h)
+scene s (e ∷ h) =
+    scene_after s (class_of h) (named h) (issue h) (actor_in s h e.lane) (actor_in s (e ∷ h) e.lane) e.lane e.deed (scene s h)
 
 -- The next action of a lane's body or script, where one acts.
 abbrev pub action_of : Option Outcome → Option Action
 action_of None = None
 action_of (Some r) = Some r.action
 
+abbrev pub act_by : Scenario → (class : ℕ → ℕ) → (issue : ℕ → Option Issue) → Scene → Actor → Option Action
+act_by s k i w a = action_of (outcome s k i w (unless_over a (outcome s k i w a)))
+
 abbrev pub act : Scenario → List Entry → ℕ → Option Action
-act s h l = action_of (outcome s h (scene s h) (unless_over (actor_in s h l) (outcome s h (scene s h) (actor_in s h l))))
+act s h l = act_by s (class_of h) (issue h) (scene s h) (actor_in s h l)

@@ -17,7 +17,7 @@ use Rattle.com_model.specs.Apartments.{neutral, mta, is_sta, home, serves, apart
 use Rattle.com_model.specs.Objects.{agile, named, owns, owner, finaled}
 use Rattle.com_model.specs.Calls.{issue, admitted, target, lane_of, route_of, is_post}
 use Rattle.com_model.specs.Frames.{scene, act, answer_in}
-use Rattle.com_model.specs.Places.{places_that, to_interface, direct_places}
+use Rattle.com_model.specs.Places.{ground, places_that, to_interface, direct_places}
 use Rattle.com_model.specs.Endings.{ending, Answer}
 use Rattle.com_model.specs.Books.{Books, books, held}
 use Rattle.com_model.specs.Waiting.{inbox}
@@ -197,7 +197,7 @@ Balanced s h = (o i : ℕ) → (books s h).stub o i ≡ held (apartments h) (boo
 abbrev pub Secured : Scenario → List Entry → Type 0
 Secured s h =
     (a o i : ℕ) → (books s h).live o ≡ true → owns s h o a ≡ false
-    → 1 ≤ places_that s h (scene s h) a (to_interface o i) → 1 ≤ (books s h).proxy a o i
+    → 1 ≤ places_that s (ground s h) (scene s h) a (to_interface o i) → 1 ≤ (books s h).proxy a o i
 
 abbrev pub Balance : Scenario → List Entry → Type 0
 Balance s h = EachPrefix (λ h. Balanced s h × Secured s h) h
@@ -211,7 +211,7 @@ Releases s h l (deed.Enter c o a t vs) = finaled h o ≡ false
 Releases s h l _ = Unit {0}
 
 abbrev pub Gone : Scenario → List Entry → Type 0
-Gone s h = (o : ℕ) → finaled h o ≡ true → direct_places s h (scene s h) o ≡ 0
+Gone s h = (o : ℕ) → finaled h o ≡ true → direct_places s (ground s h) (scene s h) o ≡ 0
 
 abbrev pub Release : Scenario → List Entry → Type 0
 Release s h = EachEntry (Releases s) h × EachPrefix (Gone s) h
