@@ -3,6 +3,7 @@
 
 mod counts;
 mod deeds;
+pub mod laws;
 mod scenario;
 
 pub use com_base::Memory;

@@ -1,0 +1,138 @@
+-- Calls: what the entries of a call say, its route and its causality.
+use Rattle.std.specs.Prelude.{ℕ, ◌+◌, Bool, true, false, not, ◌==◌, ◌||◌, ◌&&◌, if◌then◌else◌, List, [], ◌∷◌, Option, Some, None, is_some, is_none, option_map}
+use Rattle.com_base.specs.declared.hresult.HResult.{HResult}
+use Rattle.com_base.specs.declared.value.Value.{Value}
+use Rattle.com_model.specs.declared.deeds.Deed.{Deed}
+use Rattle.com_model.specs.declared.deeds.Deed.TheVariants as deed
+use Rattle.com_model.specs.declared.deeds.Entry.{Entry}
+use Rattle.com_model.specs.declared.deeds.Route.{Route}
+use Rattle.com_model.specs.declared.deeds.Route.TheVariants as route
+use Rattle.com_model.specs.Lists.{count_if, is_number, number_or_zero}
+use Rattle.com_model.specs.Apartments.{neutral}
+use Rattle.com_model.specs.Openers.{openers, running_call}
+
+-- What the Out entry of a call says.
+pub record Issue : Type 0 where
+  pub call : ℕ
+  pub lane : ℕ
+  pub object : Option ℕ
+  pub iface : ℕ
+  pub method : ℕ
+  pub route : Route
+  pub cause : ℕ
+
+-- What its Enter entry says.
+pub record Admission : Type 0 where
+  pub call : ℕ
+  pub lane : ℕ
+  pub apartment : ℕ
+
+-- What its Leave entry says.
+pub record Leaving : Type 0 where
+  pub call : ℕ
+  pub hr : HResult
+  pub value : Option Value
+
+abbrev pub issues : ℕ → Deed → Option Issue
+issues l (deed.Out c o i m r k bytes) = Some (record { call = c; lane = l; object = o; iface = i; method = m; route = r; cause = k })
+issues l _ = None
+
+abbrev pub admits : ℕ → Deed → Option Admission
+admits l (deed.Enter c o a t values) = Some (record { call = c; lane = l; apartment = a })
+admits l _ = None
+
+abbrev pub leaves : Deed → Option Leaving
+leaves (deed.Leave c hr value bytes) = Some (record { call = c; hr = hr; value = value })
+leaves _ = None
+
+abbrev pub returns : Deed → Option ℕ
+returns (deed.Back c hr value) = Some c
+returns _ = None
+
+abbrev pub issue_or : Option Issue → ℕ → Option Issue → Option Issue
+issue_or None c before = before
+issue_or (Some i) c before = if i.call == c then Some i else before
+
+abbrev pub admission_or : Option Admission → ℕ → Option Admission → Option Admission
+admission_or None c before = before
+admission_or (Some a) c before = if a.call == c then Some a else before
+
+abbrev pub leaving_or : Option Leaving → ℕ → Option Leaving → Option Leaving
+leaving_or None c before = before
+leaving_or (Some x) c before = if x.call == c then Some x else before
+
+abbrev pub issue : List Entry → ℕ → Option Issue
+issue [] c = None
+issue (e ∷ h) c = issue_or (issues e.lane e.deed) c (issue h c)
+
+abbrev pub admitted : List Entry → ℕ → Option Admission
+admitted [] c = None
+admitted (e ∷ h) c = admission_or (admits e.lane e.deed) c (admitted h c)
+
+abbrev pub left : List Entry → ℕ → Option Leaving
+left [] c = None
+left (e ∷ h) c = leaving_or (leaves e.deed) c (left h c)
+
+abbrev pub returned : List Entry → ℕ → Bool
+returned [] c = false
+returned (e ∷ h) c = is_number c (returns e.deed) || returned h c
+
+-- Calls count from 1 in order of their Outs.
+abbrev pub calls : List Entry → ℕ
+calls [] = 0
+calls (e ∷ h) = count_if (is_some (issues e.lane e.deed)) + calls h
+
+-- The target of a call that was issued on one, and the number 0 where there is none.
+abbrev pub object_of : Option Issue → ℕ
+object_of None = 0
+object_of (Some i) = number_or_zero i.object
+
+abbrev pub target : List Entry → ℕ → ℕ
+target h c = object_of (issue h c)
+
+abbrev pub lane_of : Option Issue → ℕ
+lane_of None = 0
+lane_of (Some i) = i.lane
+
+abbrev pub is_direct : Route → Bool
+is_direct route.Direct = true
+is_direct _ = false
+
+abbrev pub is_post : Route → Bool
+is_post route.Post = true
+is_post _ = false
+
+-- On these routes the arguments and the result are marshalled.
+abbrev pub is_marshalled : Route → Bool
+is_marshalled route.Switch = true
+is_marshalled route.Post = true
+is_marshalled _ = false
+
+abbrev pub route_of : Option Issue → Route
+route_of None = route.Refused
+route_of (Some i) = i.route
+
+-- The route of a call that is not refused: direct where the running apartment owns the target; a switch where the owner is
+-- the neutral apartment or the lane's home; else by post.
+abbrev pub route_for : (direct : Bool) (named : ℕ) (home : Option ℕ) → Route
+route_for direct a home =
+    if direct then route.Direct
+    else if a == neutral || is_number a home then route.Switch
+    else route.Post
+
+-- The causality of a call is that of the call of its lane's last open Enter; else one more than the number of the earlier
+-- Outs that were made in lanes without open Enter. Source: MS-DCOM, the causality identifier of ORPCTHIS.
+abbrev pub draws : List Entry → Entry → Bool
+draws h e = is_some (issues e.lane e.deed) && is_none (running_call (openers h e.lane))
+
+abbrev pub causes : List Entry → ℕ
+causes [] = 0
+causes (e ∷ h) = count_if (draws h e) + causes h
+
+abbrev pub cause_of : Option Issue → ℕ
+cause_of None = 0
+cause_of (Some i) = i.cause
+
+abbrev pub cause_for : (ℕ → Option Issue) → (drawn : ℕ) → (running : Option ℕ) → ℕ
+cause_for issue drawn None = drawn + 1
+cause_for issue drawn (Some c) = cause_of (issue c)

@@ -1,0 +1,84 @@
+-- The clock, message filters and call types. Source: the documentation of IMessageFilter.
+use Rattle.std.specs.Prelude.{ℕ, zero, suc, ◌-◌, Bool, true, false, ◌==◌, nat_le, if◌then◌else◌, List, [], ◌∷◌, Option, Some, None}
+use Rattle.com_base.specs.declared.hresult.HResult.{HResult}
+use Rattle.com_filter.specs.declared.Verdict.{Verdict}
+use Rattle.com_filter.specs.declared.Verdict.TheVariants as verdict
+use Rattle.com_filter.specs.declared.Rule.{Rule}
+use Rattle.com_model.specs.declared.deeds.Deed.{Deed}
+use Rattle.com_model.specs.declared.deeds.Deed.TheVariants as deed
+use Rattle.com_model.specs.declared.deeds.Entry.{Entry}
+use Rattle.com_model.specs.declared.scenario.Scenario.{Scenario}
+use Rattle.com_model.specs.Answers.{is_S_OK}
+use Rattle.com_model.specs.Lists.{is_member, first}
+use Rattle.com_model.specs.Tables.{filter_rules}
+use Rattle.com_model.specs.Apartments.{home, host_sta}
+use Rattle.com_model.specs.Openers.{Opener, open_calls}
+use Rattle.com_model.specs.Calls.{Issue, issues}
+
+-- Virtual milliseconds: the number in the last Tick, and 0 before the first.
+abbrev pub ticked : Deed → ℕ → ℕ
+ticked (deed.Tick t) before = t
+ticked _ before = before
+
+abbrev pub clock : List Entry → ℕ
+clock [] = 0
+clock (e ∷ h) = ticked e.deed (clock h)
+
+-- The clock at the Out of a call.
+abbrev pub time_or : Option Issue → ℕ → (now before : ℕ) → ℕ
+time_or None c now before = before
+time_or (Some i) c now before = if i.call == c then now else before
+
+abbrev pub issued_at : List Entry → ℕ → ℕ
+issued_at [] c = 0
+issued_at (e ∷ h) c = time_or (issues e.lane e.deed) c (clock h) (issued_at h c)
+
+-- A SetFilter that answers S_OK names the lane's filter or none. A filter ends with its STA, and a new home begins without.
+pub data FilterEffect : Type 0 where
+  Names : Option ℕ → FilterEffect
+  Keeps : FilterEffect
+
+abbrev pub filter_effect : Deed → FilterEffect
+filter_effect (deed.SetFilter f hr) = if is_S_OK hr then Names f else Keeps
+filter_effect (deed.Init m a hr) = if is_S_OK hr then Names None else Keeps
+filter_effect (deed.Uninit a zero) = Names None
+filter_effect _ = Keeps
+
+abbrev pub filter_effect_on : ℕ → Entry → FilterEffect
+filter_effect_on l e = if e.lane == l then filter_effect e.deed else Keeps
+
+abbrev pub filter_after : FilterEffect → Option ℕ → Option ℕ
+filter_after (Names f) before = f
+filter_after Keeps before = before
+
+abbrev pub last_filter : List Entry → ℕ → Option ℕ
+last_filter [] l = None
+last_filter (e ∷ h) l = filter_after (filter_effect_on l e) (last_filter h l)
+
+-- A lane has a filter only where its home is an STA that a thread made.
+abbrev pub in_made_sta : Option ℕ → Option ℕ → Option ℕ
+in_made_sta None f = None
+in_made_sta (Some a) f = if nat_le 3 a then f else None
+
+abbrev pub filter_of : Scenario → List Entry → ℕ → Option ℕ
+filter_of s h l = in_made_sta (home s h l) (last_filter h l)
+
+abbrev pub rules_of : Scenario → Option ℕ → List Rule
+rules_of s None = []
+rules_of s (Some f) = filter_rules s f
+
+-- The call type of a call: 1, CALLTYPE_TOPLEVEL, where no Out is open in the lane; 2, CALLTYPE_NESTED, where some open Out has
+-- the call's causality; else 4, CALLTYPE_TOPLEVEL_CALLPENDING.
+abbrev pub call_sort : (causes : List ℕ) → (cause : ℕ) → ℕ
+call_sort [] k = 1
+call_sort (c ∷ cs) k = if is_member k (c ∷ cs) then 2 else 4
+
+-- How long the topmost open Out has waited; 0 where none is open.
+abbrev pub waited : (issued_at : ℕ → ℕ) → (now : ℕ) → List ℕ → ℕ
+waited at now [] = 0
+waited at now (c ∷ cs) = now - at c
+
+-- A call is let in where the answer is SERVERCALL_ISHANDLED.
+abbrev pub is_handled : Verdict → Bool
+is_handled verdict.Handled = true
+is_handled _ = false

@@ -1,0 +1,308 @@
+-- Scenarios that keep the limits, the forms and the ranges of the language, repeat no name or GUID, and name only what is
+-- declared.
+use Rattle.std.specs.Prelude.{◌≡◌, ℕ, ◌+◌, ◌^◌, ◌≤◌, ◌<◌, ℤ, pos, negsuc, Bool, true, false, not, ◌==◌, ◌&&◌, ◌||◌, nat_le, List, [], ◌∷◌, Option, Some, None, length, All, take, codes, ◌⊎◌}
+use Rattle.com_base.specs.declared.guid.Guid.{Guid}
+use Rattle.com_base.specs.declared.value.Kind.{Kind}
+use Rattle.com_base.specs.declared.value.Kind.TheVariants as kind
+use Rattle.com_base.specs.declared.value.Value.{Value}
+use Rattle.com_base.specs.declared.value.Value.TheVariants as value
+use Rattle.com_body.specs.declared.operands.Asked.{Asked}
+use Rattle.com_body.specs.declared.operands.Asked.TheVariants as asked
+use Rattle.com_body.specs.declared.operands.Op.{Op}
+use Rattle.com_body.specs.declared.operands.Op.TheVariants as op
+use Rattle.com_body.specs.declared.operands.Place.{Place}
+use Rattle.com_body.specs.declared.operands.Place.TheVariants as place
+use Rattle.com_body.specs.declared.operands.Arg.{Arg}
+use Rattle.com_body.specs.declared.operands.Arg.TheVariants as arg
+use Rattle.com_body.specs.declared.operands.Given.{Given}
+use Rattle.com_body.specs.declared.operands.Given.TheVariants as given
+use Rattle.com_body.specs.declared.operands.Destination.{Destination}
+use Rattle.com_body.specs.declared.operands.Destination.TheVariants as destination
+use Rattle.com_body.specs.declared.statements.Stmt.{Stmt}
+use Rattle.com_body.specs.declared.statements.Stmt.TheVariants as stmt
+use Rattle.com_body.specs.declared.frame.Native.{Native}
+use Rattle.com_body.specs.declared.frame.Native.TheVariants as native
+use Rattle.com_body.specs.Bodies.{IsInRange, fault_of}
+use Rattle.com_classes.specs.declared.interfaces.Interface.{Interface}
+use Rattle.com_classes.specs.declared.interfaces.Method.{Method}
+use Rattle.com_classes.specs.declared.classes.Class.{Class}
+use Rattle.com_classes.specs.declared.classes.MethodBody.{MethodBody}
+use Rattle.com_classes.specs.declared.classes.ThreadingModel.{ThreadingModel}
+use Rattle.com_classes.specs.declared.classes.ThreadingModel.TheVariants as model
+use Rattle.com_filter.specs.declared.Verdict.{Verdict}
+use Rattle.com_filter.specs.declared.Verdict.TheVariants as verdict
+use Rattle.com_filter.specs.declared.Rule.{Rule}
+use Rattle.com_filter.specs.declared.Rule.TheVariants as rule
+use Rattle.com_model.specs.declared.scenario.Scenario.{Scenario}
+use Rattle.com_model.specs.Tables.{interface_at, method_at, same_guid, same_numbers}
+
+-- ---- names and texts
+
+abbrev pub within : (low high x : ℕ) → Bool
+within low high x = nat_le low x && nat_le x high
+
+abbrev pub is_letter : ℕ → Bool
+is_letter c = within 65 90 c || within 97 122 c
+
+abbrev pub is_name_byte : ℕ → Bool
+is_name_byte c = is_letter c || (within 48 57 c || c == 95)
+
+-- A name is a letter and up to 31 letters, digits or low lines.
+abbrev pub IsName : List ℕ → Type 0
+IsName [] = ⊥
+IsName (c ∷ cs) = (is_letter c ≡ true) × All (λ x. is_name_byte x ≡ true) cs × (length cs ≤ 31)
+
+-- A text literal has characters alone and no quotation mark.
+abbrev pub is_text_byte : ℕ → Bool
+is_text_byte c = c == 9 || (within 32 126 c && not (c == 34))
+
+abbrev pub IsLiteral : Value → Type 0
+IsLiteral (value.Text t) = All (λ c. is_text_byte c ≡ true) t × (length t ≤ 256)
+IsLiteral (value.Bytes t) = length t ≤ 256
+IsLiteral (value.Ref held) = ⊥
+IsLiteral _ = Unit {0}
+
+abbrev pub IsOperand : Op → Type 0
+IsOperand (op.Register r) = Unit {0}
+IsOperand (op.Literal v) = IsLiteral v
+
+-- No two of a list are the same by a test.
+abbrev pub Distinct : {X : Type 0} → (X → X → Bool) → List X → Type 0
+Distinct same [] = Unit {0}
+Distinct same (x ∷ xs) = All (λ y. same x y ≡ false) xs × Distinct same xs
+
+-- ---- interfaces
+
+-- Each of a list, with its number.
+abbrev pub EachFrom : {X : Type 0} → (ℕ → X → Type 0) → ℕ → List X → Type 0
+EachFrom P n [] = Unit {0}
+EachFrom P n (x ∷ xs) = P n x × EachFrom P (n + 1) xs
+
+-- An interface names no later one.
+abbrev pub IsKindBy : ℕ → Kind → Type 0
+IsKindBy n (kind.Ref i) = i ≤ n
+IsKindBy n _ = Unit {0}
+
+abbrev pub IsResultBy : ℕ → Option Kind → Type 0
+IsResultBy n None = Unit {0}
+IsResultBy n (Some k) = IsKindBy n k
+
+abbrev pub IsMethod : ℕ → Method → Type 0
+IsMethod n m = IsName m.name × All (IsKindBy n) m.params × (length m.params ≤ 4) × IsResultBy n m.result
+
+abbrev pub same_method : Method → Method → Bool
+same_method m k = same_numbers m.name k.name
+
+abbrev pub IsInterface : ℕ → Interface → Type 0
+IsInterface n i = IsName i.name × All (IsMethod n) i.methods × (length i.methods ≤ 32) × Distinct same_method i.methods
+
+abbrev pub same_interface : Interface → Interface → Bool
+same_interface i k = same_numbers i.name k.name || same_guid i.iid k.iid
+
+-- The four built-in interfaces stand first.
+abbrev pub built_in_iid : ℕ → Guid
+built_in_iid n = record { data1 = 0x5c0b0000 + n; data2 = 0; data3 = 0x4000; data4 = 0x80 ∷ 0 ∷ 0 ∷ 0 ∷ 0 ∷ 0 ∷ 0 ∷ 1 ∷ [] }
+
+abbrev pub documented_iid : ℕ → Guid
+documented_iid n = record { data1 = n; data2 = 0; data3 = 0; data4 = 0xc0 ∷ 0 ∷ 0 ∷ 0 ∷ 0 ∷ 0 ∷ 0 ∷ 0x46 ∷ [] }
+
+abbrev pub method_of : List ℕ → List Kind → Option Kind → Method
+method_of name params result = record { name = name; params = params; result = result }
+
+abbrev pub interface_of : List ℕ → Guid → List Method → Interface
+interface_of name iid methods = record { name = name; iid = iid; methods = methods }
+
+abbrev pub built_in : List Interface
+built_in =
+    interface_of (codes "IUnknown") (documented_iid 0) []
+    ∷ interface_of (codes "ICounter") (built_in_iid 1) (method_of (codes "add") (kind.Int ∷ []) (Some kind.Int) ∷ method_of (codes "get") [] (Some kind.Int) ∷ [])
+    ∷ interface_of (codes "IRelay") (built_in_iid 2) (method_of (codes "set") (kind.Ref 1 ∷ []) None ∷ method_of (codes "forward") (kind.Int ∷ []) (Some kind.Int) ∷ [])
+    ∷ interface_of (codes "ILatch") (built_in_iid 3) (method_of (codes "set") [] None ∷ method_of (codes "test") [] (Some kind.Bool) ∷ [])
+    ∷ []
+
+-- A scenario may not declare the IIDs of IClassFactory, IMessageFilter and IGlobalInterfaceTable, nor name an interface as a type.
+abbrev pub is_reserved : Guid → Bool
+is_reserved g = same_guid g (documented_iid 1) || (same_guid g (documented_iid 0x16) || same_guid g (documented_iid 0x146))
+
+abbrev pub is_type_word : List ℕ → Bool
+is_type_word n =
+    same_numbers n (codes "int") || (same_numbers n (codes "bool") || (same_numbers n (codes "text")
+    || (same_numbers n (codes "bytes") || same_numbers n (codes "guid"))))
+
+abbrev pub IsAllowed : Interface → Type 0
+IsAllowed i = (is_reserved i.iid ≡ false) × (is_type_word i.name ≡ false)
+
+pub record FormedInterfaces (xs : List Interface) : Type 0 where
+  pub built : take 4 xs ≡ built_in
+  pub few : length xs ≤ 64
+  pub each : EachFrom IsInterface 0 xs
+  pub allowed : All IsAllowed xs
+  pub distinct : Distinct same_interface xs
+
+-- ---- statements
+
+-- Where a statement stands: in a body or in a script, in an agile class or not, and the last class that it may name.
+pub record Context : Type 0 where
+  pub body : Bool
+  pub links : Bool
+  pub classes : ℕ
+
+abbrev pub IsClassNamed : Context → Asked → Type 0
+IsClassNamed x (asked.Number c) = (1 ≤ c) × (c ≤ x.classes)
+IsClassNamed x (asked.Guid g) = Unit {0}
+
+abbrev pub IsInterfaceNamed : Scenario → Asked → Type 0
+IsInterfaceNamed s (asked.Number i) = i < length s.classes.interfaces
+IsInterfaceNamed s (asked.Guid g) = Unit {0}
+
+abbrev pub IsPlaceIn : Context → Place → Type 0
+IsPlaceIn x (place.Slot k) = Unit {0}
+IsPlaceIn x (place.Link k) = x.links ≡ true
+
+-- Arguments are as many as the parameters: a slot or null for an interface, an operand otherwise.
+abbrev pub FitsKind : Kind → Arg → Type 0
+FitsKind (kind.Ref i) (arg.Op o) = ⊥
+FitsKind (kind.Ref i) _ = Unit {0}
+FitsKind _ (arg.Op o) = IsOperand o
+FitsKind _ _ = ⊥
+
+abbrev pub FitKinds : List Kind → List Arg → Type 0
+FitKinds [] [] = Unit {0}
+FitKinds (k ∷ ks) (a ∷ as') = FitsKind k a × FitKinds ks as'
+FitKinds _ _ = ⊥
+
+abbrev pub FitsResult : Option Kind → Destination → Type 0
+FitsResult k destination.Nowhere = Unit {0}
+FitsResult None _ = ⊥
+FitsResult (Some (kind.Ref i)) (destination.Slot n) = Unit {0}
+FitsResult (Some (kind.Ref i)) (destination.Register n) = ⊥
+FitsResult (Some k) (destination.Register n) = Unit {0}
+FitsResult (Some k) (destination.Slot n) = ⊥
+
+-- A call by a method's number has no arguments and no destination, and the number may be outside the interface's table.
+abbrev pub FitsMethod : Option Method → List Arg → Destination → Type 0
+FitsMethod None args to = ⊥
+FitsMethod (Some m) args to = FitKinds m.params args × FitsResult m.result to
+
+abbrev pub IsCall : Scenario → ℕ → ℕ → List Arg → Destination → Type 0
+IsCall s i m args to =
+    (i < length s.classes.interfaces)
+    × (((args ≡ []) × (to ≡ destination.Nowhere)) ⊎ FitsMethod (method_at s i m) args to)
+
+abbrev pub IsGivenValue : Given → Type 0
+IsGivenValue (given.Op o) = IsOperand o
+IsGivenValue _ = Unit {0}
+
+abbrev pub IsFilterNamed : Scenario → Option ℕ → Type 0
+IsFilterNamed s None = Unit {0}
+IsFilterNamed s (Some f) = (1 ≤ f) × (f ≤ length s.filters)
+
+abbrev pub IsStatement : Scenario → Context → Stmt → Type 0
+IsStatement s x (stmt.Set to from) = IsOperand from
+IsStatement s x (stmt.Add to from) = IsOperand from
+IsStatement s x (stmt.Sub to from) = IsOperand from
+IsStatement s x (stmt.Less to left right) = IsOperand left × IsOperand right
+IsStatement s x (stmt.Load to cell) = x.body ≡ true
+IsStatement s x (stmt.Store cell from) = (x.body ≡ true) × IsOperand from
+IsStatement s x (stmt.Skip n) = (1 ≤ n) × (n ≤ 2000)
+IsStatement s x (stmt.SkipZero r n) = (1 ≤ n) × (n ≤ 2000)
+IsStatement s x (stmt.Create slot k i) = IsClassNamed x k × IsInterfaceNamed s i
+IsStatement s x (stmt.Query to from i) = IsInterfaceNamed s i
+IsStatement s x (stmt.Copy to from) = IsPlaceIn x to × IsPlaceIn x from
+IsStatement s x (stmt.Release from) = IsPlaceIn x from
+IsStatement s x (stmt.Call slot i m args to) = IsCall s i m args to
+IsStatement s x (stmt.Raw b bytes) = (1 ≤ length bytes) × (length bytes ≤ 4096)
+IsStatement s x (stmt.Get slot g) = IsOperand g
+IsStatement s x (stmt.Revoke g) = IsOperand g
+IsStatement s x (stmt.Post l w) = IsOperand l × IsOperand w
+IsStatement s x (stmt.Quit l) = IsOperand l
+IsStatement s x (stmt.Leave code v) = (x.body ≡ true) × IsGivenValue v
+IsStatement s x (stmt.Init m) = x.body ≡ false
+IsStatement s x stmt.Uninit = x.body ≡ false
+IsStatement s x (stmt.SetFilter f) = (x.body ≡ false) × IsFilterNamed s f
+IsStatement s x (stmt.Pump n) = (x.body ≡ false) × (n ≤ 1000)
+IsStatement s x _ = Unit {0}
+
+-- A body or script within its limit, whose skips end inside it or at its end.
+pub record FormedBody (s : Scenario) (x : Context) (limit : ℕ) (b : List Stmt) : Type 0 where
+  pub ranges : All IsInRange b
+  pub statements : All (IsStatement s x) b
+  pub whole : fault_of b limit ≡ None
+
+abbrev pub in_script : Scenario → Context
+in_script s = record { body = false; links = false; classes = length s.classes.classes }
+
+-- ---- classes
+
+abbrev pub is_agile : ThreadingModel → Bool
+is_agile model.Agile = true
+is_agile _ = false
+
+abbrev pub in_class : (number : ℕ) → Class → Context
+in_class n k = record { body = true; links = not (is_agile k.model); classes = n }
+
+abbrev pub methods_of : Option Interface → List Method
+methods_of None = []
+methods_of (Some i) = i.methods
+
+abbrev pub IsBody : Scenario → Context → MethodBody → Type 0
+IsBody s x b = FormedBody s x 200 b.body × (b.method < length (methods_of (interface_at s b.iface)))
+
+abbrev pub same_body : MethodBody → MethodBody → Bool
+same_body b c = b.iface == c.iface && b.method == c.method
+
+-- A built-in class has the one interface of its kind and no bodies of its own; none that is agile is a relay.
+abbrev pub IsNative : Native → Class → Type 0
+IsNative native.Bodies k = (1 ≤ length k.interfaces) × (length k.interfaces ≤ 16)
+IsNative native.Counter k = (k.interfaces ≡ 1 ∷ []) × (k.bodies ≡ [])
+IsNative native.Relay k = (k.interfaces ≡ 2 ∷ []) × (k.bodies ≡ []) × (is_agile k.model ≡ false)
+IsNative native.Latch k = (k.interfaces ≡ 3 ∷ []) × (k.bodies ≡ [])
+
+abbrev pub IsClass : Scenario → ℕ → Class → Type 0
+IsClass s n k =
+    IsName k.name × IsNative k.native k × All (λ i. i < length s.classes.interfaces) k.interfaces
+    × All (IsBody s (in_class n k)) k.bodies × Distinct same_body k.bodies
+
+abbrev pub same_class : Class → Class → Bool
+same_class k j = same_numbers k.name j.name || same_guid k.clsid j.clsid
+
+pub record FormedClasses (s : Scenario) : Type 0 where
+  pub few : length s.classes.classes ≤ 64
+  pub each : EachFrom (IsClass s) 1 s.classes.classes
+  pub distinct : Distinct same_class s.classes.classes
+
+-- ---- filters
+
+abbrev pub last_ms : ℕ
+last_ms = 2_147_483_647
+
+abbrev pub IsType : Option ℕ → Type 0
+IsType None = Unit {0}
+IsType (Some t) = (t == 1 || (t == 2 || t == 4)) ≡ true
+
+abbrev pub IsAsked : Option Verdict → Type 0
+IsAsked (Some verdict.Handled) = ⊥
+IsAsked _ = Unit {0}
+
+abbrev pub IsRetryAnswer : ℤ → Type 0
+IsRetryAnswer (pos n) = n ≤ last_ms
+IsRetryAnswer (negsuc n) = n ≡ 0
+
+abbrev pub IsRule : Rule → Type 0
+IsRule (rule.Incoming t ms v) = IsType t × (ms ≤ last_ms)
+IsRule (rule.Retry v ms n) = IsAsked v × (ms ≤ last_ms) × IsRetryAnswer n
+IsRule (rule.Pending ms n) = (ms ≤ last_ms) × (n ≤ 2)
+
+abbrev pub IsFilter : List Rule → Type 0
+IsFilter rules = All IsRule rules × (length rules ≤ 32)
+
+-- ---- the whole
+
+pub record Formed (s : Scenario) : Type 0 where
+  pub version : (1 ≤ s.version) × (s.version ≤ 2)
+  pub pool : (1 ≤ s.pool) × (s.pool ≤ 8)
+  pub interfaces : FormedInterfaces s.classes.interfaces
+  pub classes : FormedClasses s
+  pub filters : All IsFilter s.filters × (length s.filters ≤ 16)
+  pub threads : All (FormedBody s (in_script s) 2000) s.threads × (length s.threads ≤ 16)
+  pub picks : All (λ l. l < 2 ^ 32) s.picks

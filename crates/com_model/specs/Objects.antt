@@ -1,0 +1,93 @@
+-- Objects: their making, owners, where a new one is placed, and their end.
+use Rattle.std.specs.Prelude.{ℕ, ◌+◌, Bool, true, false, ◌==◌, ◌||◌, nat_le, if◌then◌else◌, List, [], ◌∷◌, Option, Some, None}
+use Rattle.std.specs.Prelude.{option_map}
+use Rattle.com_body.specs.declared.operands.Asked.{Asked}
+use Rattle.com_body.specs.declared.operands.Asked.TheVariants as asked
+use Rattle.com_classes.specs.declared.classes.ThreadingModel.{ThreadingModel}
+use Rattle.com_classes.specs.declared.classes.ThreadingModel.TheVariants as model
+use Rattle.com_model.specs.declared.deeds.Deed.{Deed}
+use Rattle.com_model.specs.declared.deeds.Deed.TheVariants as deed
+use Rattle.com_model.specs.declared.deeds.Entry.{Entry}
+use Rattle.com_model.specs.declared.scenario.Scenario.{Scenario}
+use Rattle.com_model.specs.Answers.{is_S_OK}
+use Rattle.com_model.specs.Lists.{count_if, number_or_zero, is_number}
+use Rattle.com_model.specs.Tables.{class_model, is_agile_model}
+use Rattle.com_model.specs.Apartments.{neutral, mta, host_sta, is_sta, running, home, main_sta}
+
+-- The making of an object: the apartment and the class that its Made entry names.
+pub record Making : Type 0 where
+  pub object : ℕ
+  pub apartment : ℕ
+  pub class : ℕ
+
+abbrev pub asked_number : Asked → ℕ
+asked_number (asked.Number n) = n
+asked_number (asked.Guid g) = 0
+
+abbrev pub makes : Deed → Option Making
+makes (deed.Made (Some o) (Some a) class iface hr) = Some (record { object = o; apartment = a; class = asked_number class })
+makes _ = None
+
+abbrev pub made_or : Option Making → ℕ → Option Making → Option Making
+made_or None o before = before
+made_or (Some m) o before = if m.object == o then Some m else before
+
+-- Objects count from 1 in order of making.
+abbrev pub making : List Entry → ℕ → Option Making
+making [] o = None
+making (e ∷ h) o = made_or (makes e.deed) o (making h o)
+
+abbrev pub one_more : Option Making → ℕ → ℕ
+one_more None n = n
+one_more (Some m) n = n + 1
+
+abbrev pub objects : List Entry → ℕ
+objects [] = 0
+objects (e ∷ h) = one_more (makes e.deed) (objects h)
+
+-- The apartment that the object's Made entry names; the neutral one for an agile object. It is the owner's number.
+abbrev pub named : List Entry → ℕ → ℕ
+named h o = number_or_zero (option_map (λ (m : Making). m.apartment) (making h o))
+
+abbrev pub class_of : List Entry → ℕ → ℕ
+class_of h o = number_or_zero (option_map (λ (m : Making). m.class) (making h o))
+
+-- An agile object may be called directly from every apartment, as with the free-threaded marshaler.
+abbrev pub agile : Scenario → List Entry → ℕ → Bool
+agile s h o = is_agile_model (class_model s (class_of h o))
+
+-- The apartment is the owner of the object; every apartment owns an agile object.
+abbrev pub owns : Scenario → List Entry → ℕ → ℕ → Bool
+owns s h o a = agile s h o || a == named h o
+
+-- The apartment in which a body of the object runs when the lane enters it.
+abbrev pub owner : Scenario → List Entry → ℕ → ℕ → ℕ
+owner s h o l = if agile s h o then number_or_zero (running s h l) else named h o
+
+-- Where an object of a class is placed that a lane creates, by the class's ThreadingModel. A creator that runs in the
+-- neutral apartment counts for Apartment as its lane's home.
+abbrev pub creator : (running home : ℕ) → ℕ
+creator r a = if r == neutral then a else r
+
+abbrev pub placed_by : Option ThreadingModel → (running home main : ℕ) → ℕ
+placed_by (Some model.Nothing) r a main = main
+placed_by (Some model.Apartment) r a main = if is_sta (creator r a) then creator r a else host_sta
+placed_by (Some model.Free) r a main = mta
+placed_by (Some model.Both) r a main = r
+placed_by (Some model.Neutral) r a main = neutral
+placed_by (Some model.Agile) r a main = neutral
+placed_by None r a main = neutral
+
+-- Final is made at most once for each object.
+abbrev pub finals : Deed → Option ℕ
+finals (deed.Final o) = Some o
+finals _ = None
+
+abbrev pub finaled : List Entry → ℕ → Bool
+finaled [] o = false
+finaled (e ∷ h) o = is_number o (finals e.deed) || finaled h o
+
+-- The object that a deed disconnects.
+abbrev pub disconnects : Deed → Option ℕ
+disconnects (deed.Disconnect object hr) = if is_S_OK hr then object else None
+disconnects _ = None

@@ -1,0 +1,107 @@
+-- Places: where references are held, and in which apartment.
+use Rattle.std.specs.Prelude.{ℕ, ◌+◌, Bool, true, false, not, ◌==◌, ◌&&◌, if◌then◌else◌, List, [], ◌∷◌, Option, Some, None, length, sum_by}
+use Rattle.com_base.specs.declared.value.RefValue.{RefValue}
+use Rattle.com_base.specs.declared.value.Value.{Value}
+use Rattle.com_model.specs.declared.deeds.Entry.{Entry}
+use Rattle.com_model.specs.declared.scenario.Scenario.{Scenario}
+use Rattle.com_model.specs.Lists.{sum_below, count_if, is_number}
+use Rattle.com_model.specs.Tables.{threads, lanes}
+use Rattle.com_model.specs.Openers.{Opener, Pumps, Waits, Enters, openers}
+use Rattle.com_model.specs.Apartments.{home, apartments}
+use Rattle.com_model.specs.Objects.{objects, named, owns}
+use Rattle.com_model.specs.Calls.{Issue, Admission, Leaving, admitted, left, returned, issue, route_of, is_direct, calls}
+use Rattle.com_model.specs.Frames.{Scene, value_reference}
+
+-- What the places of a moment rest on, beside the scene.
+pub record Ground : Type 0 where
+  pub openers : ℕ → List Opener
+  pub home : ℕ → Option ℕ
+  pub apartments : ℕ
+  pub objects : ℕ
+  pub named : ℕ → ℕ
+  pub owns : ℕ → ℕ → Bool
+  pub calls : ℕ
+  pub issue : ℕ → Option Issue
+  pub admitted : ℕ → Option Admission
+  pub left : ℕ → Option Leaving
+  pub returned : ℕ → Bool
+
+abbrev pub ground : Scenario → List Entry → Ground
+ground s h = record {
+  openers = openers h;
+  home = home s h;
+  apartments = apartments h;
+  objects = objects h;
+  named = named h;
+  owns = owns s h;
+  calls = calls h;
+  issue = issue h;
+  admitted = admitted h;
+  left = left h;
+  returned = returned h;
+}
+
+-- References are counted by a test: whether they are to an object, or to an object by an interface.
+abbrev pub Test : Type 0
+Test = RefValue → Bool
+
+abbrev pub to_object : ℕ → Test
+to_object o r = r.object == o
+
+abbrev pub to_interface : (object iface : ℕ) → Test
+to_interface o i r = r.object == o && r.iface == i
+
+abbrev pub passes : Test → Option RefValue → ℕ
+passes t None = 0
+passes t (Some r) = count_if (t r)
+
+abbrev pub in_slots : Test → List (Option RefValue) → ℕ
+in_slots t slots = sum_by (passes t) slots
+
+-- A slot of a script is in the lane's home.
+abbrev pub in_scripts : Scenario → Ground → Scene → (apartment : ℕ) → Test → ℕ
+in_scripts s g w a t =
+    sum_below (threads s + 1) (λ l. if is_number a (g.home l) then in_slots t (w.scripts l).slots else 0)
+
+-- A slot of an open Enter's frame is in the apartment that the Enter names.
+abbrev pub in_frame : Scene → (apartment : ℕ) → Test → Opener → ℕ
+in_frame w a t (Enters c x b) = if b == a then in_slots t (w.bodies c).slots else 0
+in_frame w a t _ = 0
+
+abbrev pub in_bodies : Scenario → Ground → Scene → (apartment : ℕ) → Test → ℕ
+in_bodies s g w a t = sum_below (lanes s + 1) (λ l. sum_by (in_frame w a t) (g.openers l))
+
+-- A link is in the apartment that its object's making names.
+abbrev pub in_links : Ground → Scene → (apartment : ℕ) → Test → ℕ
+in_links g w a t = sum_below (g.objects + 1) (λ x. if g.named x == a then in_slots t (w.cells x).links else 0)
+
+-- The result of a direct call that left and is not back is in the apartment that its Enter named.
+abbrev pub entered_in : ℕ → Option Admission → Bool
+entered_in a None = false
+entered_in a (Some x) = x.apartment == a
+
+abbrev pub left_value : Option Leaving → Option Value
+left_value None = None
+left_value (Some x) = x.value
+
+abbrev pub in_result : Ground → (apartment : ℕ) → Test → (call : ℕ) → ℕ
+in_result g a t c =
+    if is_direct (route_of (g.issue c)) && (entered_in a (g.admitted c) && not (g.returned c))
+    then passes t (value_reference (left_value (g.left c))) else 0
+
+abbrev pub in_results : Ground → (apartment : ℕ) → Test → ℕ
+in_results g a t = sum_below (g.calls + 1) (in_result g a t)
+
+-- How many places of an apartment name a reference that passes the test, and how many one to the object.
+abbrev pub places_that : Scenario → Ground → Scene → (apartment : ℕ) → Test → ℕ
+places_that s g w a t = in_scripts s g w a t + in_bodies s g w a t + in_links g w a t + in_results g a t
+
+abbrev pub places : Scenario → Ground → Scene → (apartment object : ℕ) → ℕ
+places s g w a o = places_that s g w a (to_object o)
+
+-- The places in apartments that own the object are direct; all others are proxy places.
+abbrev pub direct_places : Scenario → Ground → Scene → (object : ℕ) → ℕ
+direct_places s g w o = sum_below g.apartments (λ a. if g.owns o a then places s g w a o else 0)
+
+abbrev pub all_places : Scenario → Ground → Scene → (object : ℕ) → ℕ
+all_places s g w o = sum_below g.apartments (λ a. places s g w a o)

@@ -1,0 +1,162 @@
+-- Calls that wait to be entered, words, and quits.
+use Rattle.std.specs.Prelude.{ℕ, zero, suc, ◌+◌, ◌-◌, ℤ, pos, negsuc, Bool, true, false, not, ◌==◌, ◌&&◌, nat_lt, nat_le, if◌then◌else◌, List, [], ◌∷◌, ◌++◌, Option, Some, None, filter, is_none, option_map}
+use Rattle.com_base.specs.declared.hresult.HResult.{HResult}
+use Rattle.com_filter.specs.declared.Verdict.{Verdict}
+use Rattle.com_model.specs.declared.deeds.Deed.{Deed}
+use Rattle.com_model.specs.declared.deeds.Deed.TheVariants as deed
+use Rattle.com_model.specs.declared.deeds.Entry.{Entry}
+use Rattle.com_model.specs.declared.deeds.Route.TheVariants as route
+use Rattle.com_model.specs.declared.scenario.Scenario.{Scenario}
+use Rattle.com_model.specs.Answers.{is_S_OK}
+use Rattle.com_model.specs.Lists.{put, first, without_first}
+use Rattle.com_model.specs.Openers.{Opener, Pumps, openers, served}
+use Rattle.com_model.specs.Objects.{named}
+use Rattle.com_model.specs.Calls.{admitted, target}
+use Rattle.com_model.specs.Clock.{clock}
+use Rattle.com_model.specs.Endings.{Ending, ending}
+
+-- What a deed does to a posted call: an Out by post, an Again, and a Retry of 0 to 99 post it at the inbox's end; a Verdict
+-- judges it; a Retry of 100 and more lets it wait until the clock has grown by that number; one below 0 gives it up.
+pub data PostEffect : Type 0 where
+  Posts : (call : ℕ) → PostEffect
+  Judges : (call : ℕ) → Verdict → PostEffect
+  Delays : (call ms : ℕ) → PostEffect
+  GivesUp : (call : ℕ) → PostEffect
+  PostsNone : PostEffect
+
+abbrev pub retries : (call : ℕ) → ℤ → PostEffect
+retries c (negsuc n) = GivesUp c
+retries c (pos n) = if nat_lt n 100 then Posts c else Delays c n
+
+abbrev pub post_effect : Deed → PostEffect
+post_effect (deed.Out c o i m route.Post k bytes) = Posts c
+post_effect (deed.Again c) = Posts c
+post_effect (deed.Retry c n) = retries c n
+post_effect (deed.Verdict c t v) = Judges c v
+post_effect _ = PostsNone
+
+-- Where a call stands since its last posting.
+pub data Phase : Type 0 where
+  Unposted : Phase
+  Queued : Phase
+  Judged : Verdict → Phase
+  Delayed : (until : ℕ) → Phase
+  GivenUp : Phase
+
+abbrev pub phase_after : PostEffect → (now call : ℕ) → Phase → Phase
+phase_after (Posts d) t c p = if d == c then Queued else p
+phase_after (Judges d v) t c p = if d == c then Judged v else p
+phase_after (Delays d ms) t c p = if d == c then Delayed (t + ms) else p
+phase_after (GivesUp d) t c p = if d == c then GivenUp else p
+phase_after PostsNone t c p = p
+
+abbrev pub phase : List Entry → ℕ → Phase
+phase [] c = Unposted
+phase (e ∷ h) c = phase_after (post_effect e.deed) (clock h) c (phase h c)
+
+abbrev pub is_queued : Phase → Bool
+is_queued Queued = true
+is_queued _ = false
+
+-- The calls in the order of their last posting.
+abbrev pub posted_last : PostEffect → List ℕ → List ℕ
+posted_last (Posts c) cs = filter (λ d. not (d == c)) cs ++ c ∷ []
+posted_last _ cs = cs
+
+abbrev pub postings : List Entry → List ℕ
+postings [] = []
+postings (e ∷ h) = posted_last (post_effect e.deed) (postings h)
+
+-- The inbox of an apartment: the posted calls to its objects that have no Enter, no answer and no Verdict since their last
+-- posting, in the order of that posting.
+abbrev pub waits_in : Scenario → List Entry → ℕ → ℕ → Bool
+waits_in s h a c =
+    named h (target h c) == a && (is_queued (phase h c) && (is_none (admitted h c) && is_none (ending s h c)))
+
+abbrev pub inbox : Scenario → List Entry → ℕ → List ℕ
+inbox s h a = filter (waits_in s h a) (postings h)
+
+-- A lane's words, each with its number among all that were posted to the lane, from 1; and for each Out of the lane the number
+-- of the word that it was last asked about, 0 at first.
+pub record Word : Type 0 where
+  pub number : ℕ
+  pub word : ℤ
+
+pub record Mail : Type 0 where
+  pub posted : ℕ
+  pub words : List Word
+  pub asked : ℕ → ℕ
+
+abbrev pub no_mail : Mail
+no_mail = record { posted = 0; words = []; asked = λ c. 0 }
+
+-- A Post with S_OK brings a word; a Word takes the first; a Pending asks about the first that its Out was not asked about yet,
+-- and takes that word where its answer is 2, PENDINGMSG_WAITDEFPROCESS.
+pub data MailEffect : Type 0 where
+  Brings : ℤ → MailEffect
+  Takes : MailEffect
+  Asks : (call answer : ℕ) → MailEffect
+  Leaves : MailEffect
+
+abbrev pub brings : ℕ → ℤ → ℤ → HResult → MailEffect
+brings l (pos m) w hr = if m == l && is_S_OK hr then Brings w else Leaves
+brings l (negsuc m) w hr = Leaves
+
+abbrev pub mail_effect : ℕ → (own : Bool) → Deed → MailEffect
+mail_effect l own (deed.Post m w hr) = brings l m w hr
+mail_effect l own (deed.Word w) = if own then Takes else Leaves
+mail_effect l own (deed.Pending c w n) = if own then Asks c n else Leaves
+mail_effect l own _ = Leaves
+
+abbrev pub not_asked : ℕ → List Word → Option Word
+not_asked mark [] = None
+not_asked mark (w ∷ ws) = if nat_lt mark w.number then Some w else not_asked mark ws
+
+abbrev pub taken_if : (answer number : ℕ) → List Word → List Word
+taken_if n k ws = if n == 2 then filter (λ (w : Word). not (w.number == k)) ws else ws
+
+abbrev pub asked_about : ℕ → ℕ → Option Word → Mail → Mail
+asked_about c n None m = m
+asked_about c n (Some w) m = record m { words = taken_if n w.number m.words; asked = put c w.number m.asked }
+
+abbrev pub mail_after : MailEffect → Mail → Mail
+mail_after (Brings w) m = record m { posted = m.posted + 1; words = m.words ++ record { number = m.posted + 1; word = w } ∷ [] }
+mail_after Takes m = record m { words = without_first m.words }
+mail_after (Asks c n) m = asked_about c n (not_asked (m.asked c) m.words) m
+mail_after Leaves m = m
+
+abbrev pub mail : List Entry → ℕ → Mail
+mail [] l = no_mail
+mail (e ∷ h) l = mail_after (mail_effect l (e.lane == l) e.deed) (mail h l)
+
+-- A pump with a bound ends where that many bodies that it admitted have left.
+abbrev pub bound_reached : List Opener → (left : ℕ) → Bool
+bound_reached (Pumps zero ∷ os) n = false
+bound_reached (Pumps (suc k) ∷ os) n = nat_le (suc k) n
+bound_reached _ n = false
+
+-- A quit stands for a lane where a Quit to it with S_OK is younger than the last EndPump that was made because a quit stood. An
+-- EndPump by the bound leaves it standing.
+pub data QuitEffect : Type 0 where
+  Stands : QuitEffect
+  Ends : QuitEffect
+  LeavesQuit : QuitEffect
+
+abbrev pub quits : ℕ → ℤ → HResult → QuitEffect
+quits l (pos m) hr = if m == l && is_S_OK hr then Stands else LeavesQuit
+quits l (negsuc m) hr = LeavesQuit
+
+abbrev pub quit_effect : ℕ → (own_by_quit : Bool) → Deed → QuitEffect
+quit_effect l own (deed.Quit m hr) = quits l m hr
+quit_effect l own deed.EndPump = if own then Ends else LeavesQuit
+quit_effect l own _ = LeavesQuit
+
+abbrev pub quit_after : QuitEffect → Bool → Bool
+quit_after Stands b = true
+quit_after Ends b = false
+quit_after LeavesQuit b = b
+
+abbrev pub quit_stands : List Entry → ℕ → Bool
+quit_stands [] l = false
+quit_stands (e ∷ h) l =
+    quit_after (quit_effect l (e.lane == l && not (bound_reached (openers h l) (served h l))) e.deed) (quit_stands h l)
