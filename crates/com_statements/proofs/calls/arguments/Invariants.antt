@@ -1,0 +1,6 @@
+use Rattle.std.proofs.Common.{◌≡◌, ◌+◌, [], drop}
+use Rattle.com_statements.specs.Calls.{arguments_on}
+use Rattle.com_statements.proofs.calls.arguments.Given as goal
+
+abbrev pub invariant-loop-i : goal.invariant-loop-i
+invariant-loop-i l = arguments_on l.arguments.items (drop l.i l.params) l.line (3 + l.i) ≡ arguments_on [] l.params l.line 3
