@@ -19,6 +19,7 @@ use Rattle.com_fields.specs.Numbers.{number_of}
 use Rattle.com_fields.specs.Reading.{◌>>=◌, fault_at, word_at, stands_at, end_at, within}
 use Rattle.com_fields.specs.Naming.{is_name, number_of_name, of_16_bits, known}
 use Rattle.com_fields.specs.Operands.{operand_of, unfit, slot_at, literal_of}
+use Rattle.com_statements.specs.declared.calls.MethodNumber.{MethodNumber}
 use Rattle.com_statements.specs.declared.calls.Target.{Target}
 use Rattle.com_statements.specs.declared.calls.Target.TheVariants as targets
 use Rattle.com_statements.specs.declared.names.Names.{Names}
@@ -51,7 +52,7 @@ method_of tables iface method = in_methods method (slice_get tables iface)
 
 abbrev pub numbered_by : ℕ → WordAt → Option ℕ → Result Target Fault
 numbered_by method w None = Err (fault_at 8 w)
-numbered_by method w (Some iface) = Ok (targets.Numbered iface method)
+numbered_by method w (Some iface) = Ok (targets.Numbered (record { iface = iface; method = method }))
 
 -- a method by its number, which is read before the interface's name
 unfoldable pub numbered_of : Names → WordAt → List ℕ → List ℕ → Result Target Fault
@@ -59,21 +60,24 @@ numbered_of names w front digits = do
   method ← within 0 65535 w (number_of digits)
   numbered_by method w (number_of_name names.interfaces front)
 
-abbrev pub named_in : WordAt → ℕ → Option ℕ → Result Target Fault
+abbrev pub named_in : WordAt → ℕ → Option ℕ → Result MethodNumber Fault
 named_in w iface None = Err (fault_at 8 w)
-named_in w iface (Some method) = Ok (targets.Named iface method)
+named_in w iface (Some method) = Ok (record { iface = iface; method = method })
 
-abbrev pub named_by : Names → WordAt → List ℕ → Option ℕ → Result Target Fault
+abbrev pub named_by : Names → WordAt → List ℕ → Option ℕ → Result MethodNumber Fault
 named_by names w back None = Err (fault_at 8 w)
 named_by names w back (Some iface) = named_in w iface (method_number names.tables iface back)
 
 -- a method by its name
-abbrev pub named_of : Names → WordAt → List ℕ → List ℕ → Result Target Fault
+unfoldable pub named_of : Names → WordAt → List ℕ → List ℕ → Result MethodNumber Fault
 named_of names w front back = if is_name back then named_by names w back (number_of_name names.interfaces front) else Err (fault_at 3 w)
 
+abbrev pub as_target : Result MethodNumber Fault → Result Target Fault
+as_target r = r >>= λ m. Ok (targets.Named m)
+
 abbrev pub behind_dot : Names → WordAt → List ℕ → List ℕ → Result Target Fault
-behind_dot names w front [] = named_of names w front []
-behind_dot names w front (b ∷ bs) = if b == 35 then numbered_of names w front bs else named_of names w front (b ∷ bs)
+behind_dot names w front [] = as_target (named_of names w front [])
+behind_dot names w front (b ∷ bs) = if b == 35 then numbered_of names w front bs else as_target (named_of names w front (b ∷ bs))
 
 abbrev pub dotted : Names → WordAt → Option ℕ → Result Target Fault
 dotted names w None = Err (fault_at 3 w)
@@ -84,6 +88,16 @@ unfoldable pub target_at : Names → List WordAt → ℕ → Result Target Fault
 target_at names line k = do
   w ← word_at line k
   dotted names w (dot_of w.bytes)
+
+abbrev pub headed : Names → WordAt → Option ℕ → Result MethodNumber Fault
+headed names w None = Err (fault_at 3 w)
+headed names w (Some dot) = if is_name (take dot w.bytes) then named_of names w (take dot w.bytes) (drop (dot + 1) w.bytes) else Err (fault_at 3 w)
+
+-- the method that a body is for: an interface's name, a dot and a method's name
+unfoldable pub method_at : Names → List WordAt → ℕ → Result MethodNumber Fault
+method_at names line k = do
+  w ← word_at line k
+  headed names w (dot_of w.bytes)
 
 abbrev pub as_reference : WordAt → Operand → Result Arg Fault
 as_reference w (operands.Slot n) = Ok (args.Slot n)
@@ -137,21 +151,21 @@ destination_at kind line k = do
       Ok d) else Err (fault_at 3 arrow)) else Ok destinations.Nowhere
 
 -- the call of a method by name
-unfoldable pub call_of : ℕ → ℕ → ℕ → Method → List WordAt → Result Stmt Fault
-call_of slot iface number method line = do
+unfoldable pub call_of : ℕ → MethodNumber → Method → List WordAt → Result Stmt Fault
+call_of slot number method line = do
   args ← arguments_on [] method.params line 3
   d ← destination_at method.result line (3 + length method.params)
-  Ok (stmts.Call slot iface number args d)
+  Ok (stmts.Call slot number.iface number.method args d)
 
-abbrev pub signed_call : ℕ → ℕ → ℕ → Option Method → List WordAt → Result Stmt Fault
-signed_call slot iface number None line = word_at line 2 >>= λ w. Err (fault_at 8 w)
-signed_call slot iface number (Some m) line = call_of slot iface number m line
+abbrev pub signed_call : ℕ → MethodNumber → Option Method → List WordAt → Result Stmt Fault
+signed_call slot number None line = word_at line 2 >>= λ w. Err (fault_at 8 w)
+signed_call slot number (Some m) line = call_of slot number m line
 
 abbrev pub call_by : Names → ℕ → List WordAt → Target → Result Stmt Fault
-call_by names slot line (targets.Named iface method) = signed_call slot iface method (method_of names.tables iface method) line
-call_by names slot line (targets.Numbered iface method) = do
+call_by names slot line (targets.Named m) = signed_call slot m (method_of names.tables m.iface m.method) line
+call_by names slot line (targets.Numbered m) = do
   done ← end_at line 3
-  Ok (stmts.Call slot iface method [] destinations.Nowhere)
+  Ok (stmts.Call slot m.iface m.method [] destinations.Nowhere)
 
 -- a call: the slot, the method, the arguments for its parameters and where its result goes
 unfoldable pub call_at : Names → List WordAt → Result Stmt Fault

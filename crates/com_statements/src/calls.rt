@@ -3,7 +3,7 @@
 ghost use Rattle.std.specs.Prelude.{◌≡◌, ◌<◌, ◌^◌, [], Ok, IfSome, length};
 ghost use Rattle.std.specs.Option.{option_copied};
 ghost use Rattle.com_fields.specs.Reading.{Gives};
-ghost use Rattle.com_statements.specs.Calls.{dot_of, target_at, numbered_of, argument_at, arguments_on, landing_of, destination_at, call_of, call_at, method_number, method_of};
+ghost use Rattle.com_statements.specs.Calls.{dot_of, target_at, numbered_of, named_of, method_at, argument_at, arguments_on, landing_of, destination_at, call_of, call_at, method_number, method_of};
 
 use crate::names::{Names, method_position};
 use com_base::{Kind, Rows};
@@ -16,13 +16,20 @@ use com_fields::{
 use com_text::Word;
 use std::alloc::Global;
 
-/// The method of a call: an interface's number and a method's.
+/// A method by its interface's number and its own.
+#[derive(Clone, Copy, Debug, PartialEq, Eq)]
+pub struct MethodNumber {
+    pub iface: u16,
+    pub method: u16,
+}
+
+/// The method of a call.
 #[derive(Clone, Copy, Debug, PartialEq, Eq)]
 pub enum Target {
     /// A method of the interface's table, by its name.
-    Named { iface: u16, method: u16 },
+    Named(MethodNumber),
     /// A method by its number, in the table or not.
-    Numbered { iface: u16, method: u16 },
+    Numbered(MethodNumber),
 }
 
 /// The place of the first dot.
@@ -65,6 +72,19 @@ pub fn target_at(names: &Names, line: &[Word], place: usize) -> Result<Target, S
     if let [b'#', digits @ ..] = back {
         return numbered(names, word, front, digits);
     }
+    Ok(Target::Named(named(names, word, front, back)?))
+}
+
+/// A method by its name.
+#[tactic(auto, unfolding(crate::specs::Calls::named_of))]
+fn named(
+    names: &Names,
+    word: &Word,
+    front: &[u8],
+    back: &[u8],
+) -> Result<MethodNumber, ScenarioError>
+    ensures { Gives (λ m. m) result (named_of names.now word.now front.now back.now) }
+{
     if !is_name(back) {
         return Err(fault(3, word));
     }
@@ -72,9 +92,30 @@ pub fn target_at(names: &Names, line: &[Word], place: usize) -> Result<Target, S
         return Err(fault(8, word));
     };
     match method_number(names.tables.as_slice(), iface, back) {
-        Some(method) => Ok(Target::Named { iface, method }),
+        Some(method) => Ok(MethodNumber { iface, method }),
         None => Err(fault(8, word)),
     }
+}
+
+/// The method that a body is for: an interface's name, a dot and a method's name. A word of another
+/// form is fault 3, and a name that is not declared is fault 8.
+#[tactic(auto, unfolding(crate::specs::Calls::method_at))]
+pub fn method_at(
+    names: &Names,
+    line: &[Word],
+    place: usize,
+) -> Result<MethodNumber, ScenarioError>
+    ensures { Gives (λ m. m) result (method_at names.now line.now place) }
+{
+    let word = word(line, place)?;
+    let Some(dot) = dot_of(word.bytes) else {
+        return Err(fault(3, word));
+    };
+    let front = &word.bytes[..dot];
+    if !is_name(front) {
+        return Err(fault(3, word));
+    }
+    named(names, word, front, &word.bytes[dot + 1..])
 }
 
 /// A method by its number.
@@ -92,7 +133,7 @@ fn numbered(
         _ => return Err(fault(6, word)),
     };
     match number_of_name(names.interfaces.as_slice(), front) {
-        Some(iface) => Ok(Target::Numbered { iface, method }),
+        Some(iface) => Ok(Target::Numbered(MethodNumber { iface, method })),
         None => Err(fault(8, word)),
     }
 }
@@ -189,34 +230,33 @@ pub fn destination(
 fn call_of(
     alloc: Global,
     slot: u8,
-    iface: u16,
-    number: u16,
+    number: MethodNumber,
     method: &Method,
     line: &[Word],
 ) -> Result<Stmt, ScenarioError>
-    ensures { Gives (λ s. s) result (call_of slot iface number method.now line.now) }
+    ensures { Gives (λ s. s) result (call_of slot number method.now line.now) }
 {
     let params = method.params.as_slice();
     let args = arguments(alloc, params, line)?;
     let destination = destination(method.result, line, 3 + params.len())?;
     Ok(Stmt::Call {
         slot,
-        iface,
-        method: number,
+        iface: number.iface,
+        method: number.method,
         args,
         destination,
     })
 }
 
 /// The method with a number, where the interface's table has it.
-fn method_at(tables: &[Interface], iface: u16, method: u16) -> Option<&Method>
-    ensures { option_copied result ≡ method_of tables.now iface method }
+fn signature(tables: &[Interface], number: MethodNumber) -> Option<&Method>
+    ensures { option_copied result ≡ method_of tables.now number.iface number.method }
 {
     tables
-        .get(iface as usize)?
+        .get(number.iface as usize)?
         .methods
         .as_slice()
-        .get(method as usize)
+        .get(number.method as usize)
 }
 
 /// The call that a line spells.
@@ -226,21 +266,19 @@ pub fn call(alloc: Global, names: &Names, line: &[Word]) -> Result<Stmt, Scenari
 {
     let slot = slot(line, 1)?;
     match target_at(names, line, 2)? {
-        Target::Numbered { iface, method } => {
+        Target::Numbered(number) => {
             end(line, 3)?;
             Ok(Stmt::Call {
                 slot,
-                iface,
-                method,
+                iface: number.iface,
+                method: number.method,
                 args: Rows::new(alloc),
                 destination: Destination::Nowhere,
             })
         }
-        Target::Named { iface, method } => {
-            match method_at(names.tables.as_slice(), iface, method) {
-                Some(signature) => call_of(alloc, slot, iface, method, signature, line),
-                None => Err(fault(8, word(line, 2)?)),
-            }
-        }
+        Target::Named(number) => match signature(names.tables.as_slice(), number) {
+            Some(method) => call_of(alloc, slot, number, method, line),
+            None => Err(fault(8, word(line, 2)?)),
+        },
     }
 }

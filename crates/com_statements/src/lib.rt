@@ -9,7 +9,9 @@ mod local;
 mod names;
 mod statements;
 
-pub use calls::{Target, argument, arguments, call, destination, target_at};
+pub use calls::{
+    MethodNumber, Target, argument, arguments, call, destination, method_at, target_at,
+};
 pub use com_base::Memory;
 pub use keywords::{Keyword, LaneWord, LocalWord, ObjectWord, Program, keyword_of};
 pub use names::{Names, method_position};
