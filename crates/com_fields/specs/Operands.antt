@@ -1,5 +1,5 @@
 -- Operands: what a word says by its form alone, and what a place takes.
-use Rattle.std.specs.Prelude.{ℕ, ◌+◌, ◌-◌, ◌*◌, List, [], ◌∷◌, length, Option, Some, None, Result, Ok, Err, Bool, true, false, not, ◌&&◌, ◌||◌, nat_lt, ◌==◌, if◌then◌else◌, option_and_then, slice_range, codes, ℤ}
+use Rattle.std.specs.Prelude.{ℕ, ◌+◌, ◌-◌, ◌*◌, ◌<◌, List, [], ◌∷◌, length, Option, Some, None, Result, Ok, Err, Bool, true, false, not, ◌&&◌, ◌||◌, nat_lt, ◌==◌, if◌then◌else◌, option_and_then, slice_range, codes, ℤ}
 use Rattle.std.specs.Str.{bytes_eq}
 use Rattle.hex.specs.Hex.{hex_digit_value}
 use Rattle.com_base.specs.declared.guid.Guid.{Guid}
@@ -94,6 +94,15 @@ operand_by bytes _ = operands.Wrong 3
 -- what an operand's word says by its form alone
 unfoldable pub operand_of : WordAt → Operand
 operand_of w = operand_by w.bytes w.sort
+
+-- each number is in its range
+abbrev pub IsOperand : Operand → Type 0
+IsOperand (operands.Register n) = n < 16
+IsOperand (operands.Slot n) = n < 8
+IsOperand (operands.Cell n) = n < 8
+IsOperand (operands.Link n) = n < 4
+IsOperand (operands.Buffer n) = n < 64
+IsOperand o = Unit {0}
 
 -- the fault of an operand that a place does not take
 abbrev pub unfit : Operand → ℕ

@@ -1,9 +1,10 @@
 //! Operands.
 
-ghost use Rattle.std.specs.Prelude.{◌≡◌, ◌<◌, IfSome, Ok};
+ghost use Rattle.std.specs.Prelude.{◌≡◌, ◌<◌, IfOk, IfSome, Ok};
 ghost use Rattle.hex.specs.Hex.{hex_digit_value};
+ghost use Rattle.com_body.specs.Bodies.{IsOp, IsPlace, IsCode, IsGiven};
 ghost use Rattle.com_fields.specs.Reading.{Gives};
-ghost use Rattle.com_fields.specs.Operands.{small_of, lettered, numeric_of, plain_of, inner, operand_of, unfit, text_literal, bytes_literal, hex_word_of, hex_on, register_at, slot_at, cell_at, buffer_at, place_at, literal_of, op_at, hresult_of, code_at, given_at, mode_at, marshal_mode_at};
+ghost use Rattle.com_fields.specs.Operands.{IsOperand, small_of, lettered, numeric_of, plain_of, inner, operand_of, unfit, text_literal, bytes_literal, hex_word_of, hex_on, register_at, slot_at, cell_at, buffer_at, place_at, literal_of, op_at, hresult_of, code_at, given_at, mode_at, marshal_mode_at};
 
 use crate::faults::ScenarioError;
 use crate::fields::{fault, stands, word};
@@ -60,7 +61,8 @@ fn small_of(bytes: &[u8]) -> Option<u8>
 /// A register, slot, cell, link or buffer by its letter and number.
 #[tactic(auto, unfolding(crate::specs::Operands::lettered))]
 fn lettered(letter: u8, number: Option<u8>) -> Operand
-    ensures { result ≡ lettered letter number }
+    ensures value { result ≡ lettered letter number }
+    ensures range { IsOperand result }
 {
     match number {
         None => Operand::Wrong(3),
@@ -85,7 +87,8 @@ fn lettered(letter: u8, number: Option<u8>) -> Operand
 /// A word that begins as a number does.
 #[tactic(auto, unfolding(crate::specs::Operands::numeric_of))]
 fn numeric_of(bytes: &[u8]) -> Operand
-    ensures { result ≡ numeric_of bytes.now }
+    ensures value { result ≡ numeric_of bytes.now }
+    ensures range { IsOperand result }
 {
     match signed_of(bytes) {
         None => Operand::Wrong(6),
@@ -96,7 +99,8 @@ fn numeric_of(bytes: &[u8]) -> Operand
 /// A word that is no literal in quotation marks.
 #[tactic(auto, unfolding(crate::specs::Operands::plain_of))]
 fn plain_of(bytes: &[u8]) -> Operand
-    ensures { result ≡ plain_of bytes.now }
+    ensures value { result ≡ plain_of bytes.now }
+    ensures range { IsOperand result }
 {
     if bytes == b"true".as_slice() {
         return Operand::Bool(true);
@@ -138,7 +142,8 @@ fn inner(bytes: &[u8]) -> &[u8]
 /// An operand's word by its form alone.
 #[tactic(auto, unfolding(crate::specs::Operands::operand_of))]
 pub fn operand_of(word: &Word) -> Operand
-    ensures { result ≡ operand_of word.now }
+    ensures value { result ≡ operand_of word.now }
+    ensures range { IsOperand result }
 {
     match word.sort {
         Sort::Plain => plain_of(word.bytes),
@@ -168,7 +173,8 @@ pub fn unfit(operand: Operand) -> u8
 /// A register.
 #[tactic(auto, unfolding(crate::specs::Operands::register_at))]
 pub fn register(line: &[Word], place: usize) -> Result<u8, ScenarioError>
-    ensures { Gives (λ n. n) result (register_at line.now place) }
+    ensures value { Gives (λ n. n) result (register_at line.now place) }
+    ensures range { IfOk result (λ n. n < 16) }
 {
     let word = word(line, place)?;
     match operand_of(word) {
@@ -180,7 +186,8 @@ pub fn register(line: &[Word], place: usize) -> Result<u8, ScenarioError>
 /// A slot.
 #[tactic(auto, unfolding(crate::specs::Operands::slot_at))]
 pub fn slot(line: &[Word], place: usize) -> Result<u8, ScenarioError>
-    ensures { Gives (λ n. n) result (slot_at line.now place) }
+    ensures value { Gives (λ n. n) result (slot_at line.now place) }
+    ensures range { IfOk result (λ n. n < 8) }
 {
     let word = word(line, place)?;
     match operand_of(word) {
@@ -192,7 +199,8 @@ pub fn slot(line: &[Word], place: usize) -> Result<u8, ScenarioError>
 /// A cell, where `cells` allows one.
 #[tactic(auto, unfolding(crate::specs::Operands::cell_at))]
 pub fn cell(cells: bool, line: &[Word], place: usize) -> Result<u8, ScenarioError>
-    ensures { Gives (λ n. n) result (cell_at cells line.now place) }
+    ensures value { Gives (λ n. n) result (cell_at cells line.now place) }
+    ensures range { IfOk result (λ n. n < 8) }
 {
     let word = word(line, place)?;
     match operand_of(word) {
@@ -204,7 +212,8 @@ pub fn cell(cells: bool, line: &[Word], place: usize) -> Result<u8, ScenarioErro
 /// A packet buffer.
 #[tactic(auto, unfolding(crate::specs::Operands::buffer_at))]
 pub fn buffer(line: &[Word], place: usize) -> Result<u8, ScenarioError>
-    ensures { Gives (λ n. n) result (buffer_at line.now place) }
+    ensures value { Gives (λ n. n) result (buffer_at line.now place) }
+    ensures range { IfOk result (λ n. n < 64) }
 {
     let word = word(line, place)?;
     match operand_of(word) {
@@ -216,7 +225,8 @@ pub fn buffer(line: &[Word], place: usize) -> Result<u8, ScenarioError>
 /// A slot, or where `links` allows it a link.
 #[tactic(auto, unfolding(crate::specs::Operands::place_at))]
 pub fn place(links: bool, line: &[Word], at: usize) -> Result<Place, ScenarioError>
-    ensures { Gives (λ n. n) result (place_at links line.now at) }
+    ensures value { Gives (λ n. n) result (place_at links line.now at) }
+    ensures range { IfOk result IsPlace }
 {
     let word = word(line, at)?;
     match operand_of(word) {
@@ -260,7 +270,9 @@ fn bytes_literal(alloc: Global, word: &Word) -> Result<Value, ScenarioError>
 /// The operand of a word as a register or a literal.
 #[tactic(auto, unfolding(crate::specs::Operands::literal_of))]
 pub fn literal(alloc: Global, word: &Word, operand: Operand) -> Result<Op, ScenarioError>
-    ensures { Gives (λ o. o) result (literal_of word.now operand) }
+    requires { IsOperand operand }
+    ensures value { Gives (λ o. o) result (literal_of word.now operand) }
+    ensures range { IfOk result IsOp }
 {
     match operand {
         Operand::Register(number) => Ok(Op::Register(number)),
@@ -276,7 +288,8 @@ pub fn literal(alloc: Global, word: &Word, operand: Operand) -> Result<Op, Scena
 /// A register or a literal.
 #[tactic(auto, unfolding(crate::specs::Operands::op_at))]
 pub fn op(alloc: Global, line: &[Word], place: usize) -> Result<Op, ScenarioError>
-    ensures { Gives (λ o. o) result (op_at line.now place) }
+    ensures value { Gives (λ o. o) result (op_at line.now place) }
+    ensures range { IfOk result IsOp }
 {
     let word = word(line, place)?;
     literal(alloc, word, operand_of(word))
@@ -332,7 +345,8 @@ pub fn hresult_of(bytes: &[u8]) -> Option<HResult>
 /// The HRESULT of `leave`: `0x` and eight digits, a name, or a register.
 #[tactic(auto, unfolding(crate::specs::Operands::code_at))]
 pub fn code(line: &[Word], place: usize) -> Result<Code, ScenarioError>
-    ensures { Gives (λ c. c) result (code_at line.now place) }
+    ensures value { Gives (λ c. c) result (code_at line.now place) }
+    ensures range { IfOk result IsCode }
 {
     let word = word(line, place)?;
     match hresult_of(word.bytes) {
@@ -347,7 +361,8 @@ pub fn code(line: &[Word], place: usize) -> Result<Code, ScenarioError>
 /// The result of `leave`: none, a register, a literal or a slot.
 #[tactic(auto, unfolding(crate::specs::Operands::given_at))]
 pub fn given(alloc: Global, line: &[Word], place: usize) -> Result<Given, ScenarioError>
-    ensures { Gives (λ g. g) result (given_at line.now place) }
+    ensures value { Gives (λ g. g) result (given_at line.now place) }
+    ensures range { IfOk result IsGiven }
 {
     if !stands(line, place)? {
         return Ok(Given::Nothing);

@@ -1,6 +1,7 @@
 //! Actions on references and packets.
 
-ghost use Rattle.std.specs.Prelude.{◌≡◌, Ok};
+ghost use Rattle.std.specs.Prelude.{◌≡◌, Ok, IfOk};
+ghost use Rattle.com_body.specs.Bodies.{IsInRange};
 ghost use Rattle.com_fields.specs.Reading.{Gives};
 ghost use Rattle.com_statements.specs.Statements.{object_of, raw_at};
 
@@ -46,7 +47,8 @@ pub(crate) fn object(
     keyword: ObjectWord,
     line: &[Word],
 ) -> Result<Stmt, ScenarioError>
-    ensures { Gives (λ s. s) result (object_of program names.now keyword line.now) }
+    ensures value { Gives (λ s. s) result (object_of program names.now keyword line.now) }
+    ensures range { IfOk result IsInRange }
 {
     match keyword {
         ObjectWord::Create => {

@@ -1,7 +1,9 @@
 //! The statement `call`: its method, its arguments and where its result goes.
 
-ghost use Rattle.std.specs.Prelude.{◌≡◌, ◌<◌, ◌^◌, [], Ok, IfSome, length};
+ghost use Rattle.std.specs.Prelude.{◌≡◌, ◌<◌, ◌^◌, [], Ok, IfOk, IfSome, All, length};
 ghost use Rattle.std.specs.Option.{option_copied};
+ghost use Rattle.com_body.specs.Bodies.{IsArg, IsDestination, IsInRange};
+ghost use Rattle.com_fields.specs.Operands.{IsOperand};
 ghost use Rattle.com_fields.specs.Reading.{Gives};
 ghost use Rattle.com_statements.specs.Calls.{dot_of, target_at, numbered_of, named_of, method_at, argument_at, arguments_on, landing_of, destination_at, call_of, call_at, method_number, method_of};
 
@@ -146,7 +148,8 @@ pub fn argument(
     line: &[Word],
     place: usize,
 ) -> Result<Arg, ScenarioError>
-    ensures { Gives (λ a. a) result (argument_at kind line.now place) }
+    ensures value { Gives (λ a. a) result (argument_at kind line.now place) }
+    ensures range { IfOk result IsArg }
 {
     let word = word(line, place)?;
     let operand = operand_of(word);
@@ -170,7 +173,8 @@ pub fn arguments(
     params: &[Kind],
     line: &[Word],
 ) -> Result<Rows<Arg>, ScenarioError>
-    ensures { Gives (λ a. a) result (arguments_on [] params.now line.now 3) }
+    ensures value { Gives (λ a. a) result (arguments_on [] params.now line.now 3) }
+    ensures range { IfOk result (λ r. All IsArg r) }
 {
     let mut arguments = Vec::new(alloc);
     for (i, kind) in params.iter().enumerate() {
@@ -186,7 +190,9 @@ fn landing(
     word: &Word,
     operand: Operand,
 ) -> Result<Destination, ScenarioError>
-    ensures { Gives (λ d. d) result (landing_of kind word.now operand) }
+    requires { IsOperand operand }
+    ensures value { Gives (λ d. d) result (landing_of kind word.now operand) }
+    ensures range { IfOk result IsDestination }
 {
     match kind {
         Some(Kind::Ref(_)) => match operand {
@@ -210,7 +216,8 @@ pub fn destination(
     place: usize,
 ) -> Result<Destination, ScenarioError>
     requires { place < 2 ^ 63 }
-    ensures { Gives (λ d. d) result (destination_at kind line.now place) }
+    ensures value { Gives (λ d. d) result (destination_at kind line.now place) }
+    ensures range { IfOk result IsDestination }
 {
     if !stands(line, place)? {
         return Ok(Destination::Nowhere);
@@ -234,7 +241,9 @@ fn call_of(
     method: &Method,
     line: &[Word],
 ) -> Result<Stmt, ScenarioError>
-    ensures { Gives (λ s. s) result (call_of slot number method.now line.now) }
+    requires { slot < 8 }
+    ensures value { Gives (λ s. s) result (call_of slot number method.now line.now) }
+    ensures range { IfOk result IsInRange }
 {
     let params = method.params.as_slice();
     let args = arguments(alloc, params, line)?;
@@ -262,7 +271,8 @@ fn signature(tables: &[Interface], number: MethodNumber) -> Option<&Method>
 /// The call that a line spells.
 #[tactic(auto, unfolding(crate::specs::Calls::call_at))]
 pub fn call(alloc: Global, names: &Names, line: &[Word]) -> Result<Stmt, ScenarioError>
-    ensures { Gives (λ s. s) result (call_at names.now line.now) }
+    ensures value { Gives (λ s. s) result (call_at names.now line.now) }
+    ensures range { IfOk result IsInRange }
 {
     let slot = slot(line, 1)?;
     match target_at(names, line, 2)? {

@@ -1,6 +1,7 @@
 //! Actions on cookies, lanes and apartments.
 
-ghost use Rattle.std.specs.Prelude.{◌≡◌, Ok};
+ghost use Rattle.std.specs.Prelude.{◌≡◌, Ok, IfOk};
+ghost use Rattle.com_body.specs.Bodies.{IsInRange};
 ghost use Rattle.com_fields.specs.Reading.{Gives};
 ghost use Rattle.com_statements.specs.Statements.{lane_of, filter_at};
 
@@ -35,7 +36,8 @@ pub(crate) fn lane(
     keyword: LaneWord,
     line: &[Word],
 ) -> Result<Stmt, ScenarioError>
-    ensures { Gives (λ s. s) result (lane_of names.now keyword line.now) }
+    ensures value { Gives (λ s. s) result (lane_of names.now keyword line.now) }
+    ensures range { IfOk result IsInRange }
 {
     match keyword {
         LaneWord::Register => {

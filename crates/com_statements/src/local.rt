@@ -1,6 +1,7 @@
 //! Local statements.
 
-ghost use Rattle.std.specs.Prelude.{◌≡◌, Ok};
+ghost use Rattle.std.specs.Prelude.{◌≡◌, Ok, IfOk};
+ghost use Rattle.com_body.specs.Bodies.{IsInRange};
 ghost use Rattle.com_fields.specs.Reading.{Gives};
 ghost use Rattle.com_statements.specs.Statements.{local_of};
 
@@ -18,7 +19,8 @@ pub(crate) fn local(
     keyword: LocalWord,
     line: &[Word],
 ) -> Result<Stmt, ScenarioError>
-    ensures { Gives (λ s. s) result (local_of program keyword line.now) }
+    ensures value { Gives (λ s. s) result (local_of program keyword line.now) }
+    ensures range { IfOk result IsInRange }
 {
     match keyword {
         LocalWord::Set => {

@@ -1,6 +1,7 @@
 //! One statement from its line.
 
-ghost use Rattle.std.specs.Prelude.{◌≡◌, Ok};
+ghost use Rattle.std.specs.Prelude.{◌≡◌, Ok, IfOk};
+ghost use Rattle.com_body.specs.Bodies.{IsInRange};
 ghost use Rattle.com_fields.specs.Reading.{Gives};
 ghost use Rattle.com_statements.specs.Keywords.{takes};
 ghost use Rattle.com_statements.specs.Statements.{stmt_of};
@@ -41,7 +42,8 @@ pub fn statement(
     keyword: Keyword,
     line: &[Word],
 ) -> Result<Stmt, ScenarioError>
-    ensures { Gives (λ s. s) result (stmt_of program names.now keyword line.now) }
+    ensures value { Gives (λ s. s) result (stmt_of program names.now keyword line.now) }
+    ensures range { IfOk result IsInRange }
 {
     match keyword {
         Keyword::Local(word) => local(alloc, program, word, line),
