@@ -12,10 +12,9 @@ mod token;
 mod word;
 
 pub use scan::{Class, LineEnd, Scanner, Within, line_at};
+pub use std::alloc::AllocError as Memory;
 pub use token::{TextError, Token, TokenSort, tokens};
 pub use word::{Sort, Word};
-
-pub use std::alloc::AllocError as Memory;
 
 //#[cfg(test)]
 //mod tests;

@@ -5,7 +5,7 @@ ghost use Rattle.com_text.specs.Tokens.{first_stray, token_sort, token_of, end_t
 ghost use Rattle.com_text.specs.Scanning.{lines_of};
 ghost use Rattle.com_text.specs.declared.token.TextError.TheVariants.{Memory};
 
-use crate::scan::{LineEnd, class_of, Class, line_at};
+use crate::scan::{Class, LineEnd, class_of, line_at};
 use crate::word::{Sort, Word};
 use std::alloc::{AllocError, AllocFailed, Global};
 

@@ -1,0 +1,5 @@
+pub mod Numbers
+pub mod Reading
+pub mod Naming
+pub mod Literals
+pub mod Operands
