@@ -1,0 +1,11 @@
+pub mod Steps
+pub mod Openers
+pub mod Homes
+pub mod Calls
+pub mod Objects
+pub mod Bodies
+pub mod Standing
+pub mod Rules
+pub mod Dying
+pub mod Histories
+pub mod After
