@@ -25,6 +25,7 @@ use Rattle.com_core.specs.declared.calls.Calls.{Calls}
 use Rattle.com_core.specs.declared.objects.Object.{Object}
 use Rattle.com_core.specs.Objects.{names, object_at, fresh_object, no_slots, slot_of}
 use Rattle.com_core.specs.Dying.{is_dying, numbers_to}
+use Rattle.com_core.specs.Scripts.{SlotsInRange}
 use Rattle.com_core.specs.Standing.{Standing}
 use Rattle.com_core.specs.Rules.{or_else, icounter, counter_class, s_ok, out_of, reference_to}
 use Rattle.com_core.specs.After.{after, dying_after, listed}
@@ -34,7 +35,7 @@ use Rattle.com_core.proofs.Alive.{alive, free, settled, alive_released, alive_ke
 use Rattle.com_core.proofs.Losses.{Loses, loses, loses_none, Distinct, Lacks, append_none}
 use Rattle.com_core.proofs.Changes.{Held, conj_left, conj_right, never_both, alive_low, alive_high, made_loses, emptied_loses, cleared_loses, free_unnamed}
 use Rattle.com_core.proofs.Weights.{weight, open_weight, home_weight, unreleased, unreleased_pushed, unreleased_same, unreleased_less}
-use Rattle.com_core.proofs.Sound.{Sound, Right, right_of, InRange, IsShape, IsHomed, IsPending, IsOneInt}
+use Rattle.com_core.proofs.Sound.{Sound, Right, right_of, IsShape, IsHomed, IsPending}
 
 pub record Goes (at : Standing) (d : Deed) : Type 0 where
   pub sound : Sound (after at d)
@@ -44,7 +45,7 @@ pub record Goes (at : Standing) (d : Deed) : Type 0 where
 -- From what the entry adds to the dying objects.
 pub goes_of : (at : Standing) (d : Deed) (added : List ℕ) → Sound at → dying_after d at ≡ at.dying ++ added
     → Loses (free at.objects at.slots) (free (after at d).objects (after at d).slots) (length (after at d).objects) at.dying added
-    → length (after at d).slots ≡ 8 → InRange (after at d).left → Once (after at d).slots → Held (after at d).objects (after at d).slots
+    → length (after at d).slots ≡ 8 → SlotsInRange (after at d).left → Once (after at d).slots → Held (after at d).objects (after at d).slots
     → IsShape (after at d).openers (after at d).calls (after at d).slots
     → IsHomed (after at d).home.begun (after at d).home.count (after at d).home.apartment (after at d).home.ended (after at d).left (after at d).openers
     → weight (after at d) < weight at → Goes at d
@@ -59,7 +60,7 @@ goes_of at d added sound adds loses room in_range once held shape homed lighter 
 -- An entry that leaves the slots, and each object alive or not, as they were.
 pub goes_on : (at : Standing) (d : Deed) → Sound at → dying_after d at ≡ at.dying ++ []
     → (after at d).slots ≡ at.slots → ((o : ℕ) → alive (after at d).objects o ≡ alive at.objects o)
-    → InRange (after at d).left
+    → SlotsInRange (after at d).left
     → IsShape (after at d).openers (after at d).calls at.slots
     → IsHomed (after at d).home.begun (after at d).home.count (after at d).home.apartment (after at d).home.ended (after at d).left (after at d).openers
     → weight (after at d) < weight at → Goes at d
@@ -112,7 +113,7 @@ homed_open true (suc n) apartment ended left left' os os' homed some = homed
 pub goes_out : (at : Standing) (slot : ℕ) (number : ℤ) (rest : List Step) → Sound at → at.left ≡ step.Add slot number ∷ rest → at.openers ≡ []
     → at.home.begun ≡ true → Goes at (out_of (at.calls.made + 1) (slice_index_or at.slots slot None))
 goes_out at slot number rest sound here idle begun =
-    let in_range : InRange (rest_of at.left) = rw here (rw here at sound.in_range).1 in
+    let in_range : SlotsInRange (rest_of at.left) = rw here (rw here at sound.in_range).1 in
     let some : (at.left ≡ [] → at.openers ≡ [] → ⊥) = λ e f. cc in
     elim (slice_index_or at.slots slot None) as (λ (v : Option ℕ). slice_index_or at.slots slot None ≡ v → Goes at (out_of (at.calls.made + 1) v)) [
       | None ↦ λ e.
@@ -121,18 +122,18 @@ goes_out at slot number rest sound here idle begun =
             (rw (here, idle) (omega arith))
       | Some o ↦ λ e.
           goes_on at (out_of (at.calls.made + 1) (Some o)) sound refl refl (λ o. refl) in_range
-            (rw (idle, here) (named_at at.slots slot o e, (number, refl)))
+            (rw idle (named_at at.slots slot o e))
             (homed_still at.home.begun at.home.count at.home.apartment at.home.ended at.left (rest_of at.left) at.openers _ sound.homed some begun)
             (rw (here, idle) (omega arith))
     ] refl
 
 -- The body of the open call is entered.
 pub goes_enter : (at : Standing) (call object : ℕ) (home : ℕ) → Sound at → at.openers ≡ Waits call (Some object) ∷ [] → at.calls.entered ≡ false → at.calls.due ≡ None
-    → Goes at (deed.Enter call object home None at.calls.sent)
+    → Goes at (deed.Enter call object home None (value.Int at.calls.sent ∷ []))
 goes_enter at call object home sound top before none =
-    let pending : IsPending (Some object) false None at.calls.sent at.slots = rw (top, before, none) at sound.shape in
-    goes_on at (deed.Enter call object home None at.calls.sent) sound refl refl (λ o. refl) sound.in_range
-      (rw top (pending.0, pending.1, refl))
+    let pending : IsPending (Some object) false None at.slots = rw (top, before, none) at sound.shape in
+    goes_on at (deed.Enter call object home None (value.Int at.calls.sent ∷ [])) sound refl refl (λ o. refl) sound.in_range
+      (rw top (pending, refl))
       (homed_open at.home.begun at.home.count at.home.apartment at.home.ended at.left at.left at.openers _ sound.homed (λ e. cc))
       (rw (top, none) (omega arith))
 
@@ -140,9 +141,9 @@ eqb_same : (n : ℕ) → n == n ≡ true
 eqb_same n = eq-eqb n n refl
 
 -- The running body leaves.
-pub goes_leave : (at : Standing) (call object waiting : ℕ) (arguments : List Value) (target : Option ℕ) (hr : HResult) (answer : Option Value)
-    → Sound at → at.openers ≡ Runs call object arguments ∷ Waits waiting target ∷ [] → Goes at (deed.Leave call hr answer None)
-goes_leave at call object waiting arguments target hr answer sound top =
+pub goes_leave : (at : Standing) (call object waiting : ℕ) (number : ℤ) (target : Option ℕ) (hr : HResult) (answer : Option Value)
+    → Sound at → at.openers ≡ Runs call object number ∷ Waits waiting target ∷ [] → Goes at (deed.Leave call hr answer None)
+goes_leave at call object waiting number target hr answer sound top =
     goes_on at (deed.Leave call hr answer None) sound refl refl
       (λ o. rw top (alive_stepped at.objects object o _))
       sound.in_range (rw (top, eqb_same call) tt)
@@ -172,7 +173,7 @@ pub goes_made : (at : Standing) (slot : ℕ) (rest : List Step) → Sound at →
 goes_made at slot rest sound here idle begun =
     let d : Deed = deed.Made (Some (length at.objects + 1)) at.home.apartment (Number counter_class) (Number icounter) s_ok in
     let within : slot < length at.slots = rw sound.room (rw here at sound.in_range).0 in
-    let in_range : InRange (rest_of at.left) = rw here (rw here at sound.in_range).1 in
+    let in_range : SlotsInRange (rest_of at.left) = rw here (rw here at sound.in_range).1 in
     let some : (at.left ≡ [] → at.openers ≡ [] → ⊥) = λ e f. cc in
     let unnamed : names (length at.objects + 1) at.slots ≡ false = never_named at.objects at.slots sound.held in
     goes_of at d (listed (slice_index_or at.slots slot None)) sound (rw here refl)
@@ -203,7 +204,7 @@ goes_made at slot rest sound here idle begun =
 pub goes_release : (at : Standing) (slot : ℕ) (rest : List Step) (held : Option ℕ) → Sound at → at.left ≡ step.Release slot ∷ rest → at.openers ≡ [] → at.home.begun ≡ true
     → Goes at (deed.Release (option_map reference_to held))
 goes_release at slot rest held sound here idle begun =
-    let in_range : InRange (rest_of at.left) = rw here (rw here at sound.in_range).1 in
+    let in_range : SlotsInRange (rest_of at.left) = rw here (rw here at sound.in_range).1 in
     let some : (at.left ≡ [] → at.openers ≡ [] → ⊥) = λ e f. cc in
     goes_of at (deed.Release (option_map reference_to held)) (listed (slice_index_or at.slots slot None)) sound (rw here refl)
       (rw here (emptied_loses at.objects at.slots slot (length at.objects) at.dying (omega arith) sound.once sound.held sound.gone sound.distinct))

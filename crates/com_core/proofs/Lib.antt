@@ -9,3 +9,4 @@ pub mod Goes
 pub mod Next
 pub mod Over
 pub mod Scheduled
+pub mod Cursors

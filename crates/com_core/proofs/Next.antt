@@ -23,10 +23,11 @@ use Rattle.com_core.specs.declared.calls.Calls.{Calls}
 use Rattle.com_core.specs.declared.objects.Object.{Object}
 use Rattle.com_core.specs.Objects.{names, object_at}
 use Rattle.com_core.specs.Bodies.{add_outcome}
+use Rattle.com_core.specs.Scripts.{SlotsInRange}
 use Rattle.com_core.specs.Standing.{Standing}
 use Rattle.com_core.specs.Rules.{or_else, next_of, rule_body, rule_final, rule_admit, rule_back, rule_script, unless_entered, leave_of, result_of, deed_of, script_deed, closing, s_ok, reference_to}
 use Rattle.com_core.specs.After.{after}
-use Rattle.com_core.proofs.Sound.{Sound, IsShape, IsPending, IsHomed, IsOneInt, InRange}
+use Rattle.com_core.proofs.Sound.{Sound, IsShape, IsPending, IsHomed}
 use Rattle.com_core.proofs.Goes.{Goes, goes_init, goes_end, goes_uninit, goes_out, goes_enter, goes_leave, goes_back, goes_made, goes_release, goes_final}
 
 -- What a deed has, if there is one.
@@ -42,21 +43,20 @@ holds_or_else P None b first second = second
 abbrev pub sum_in : ℤ → Cells → ℤ
 sum_in n cells = int_wrapping_add w64 (slice_index_or cells.numbers 0 (pos 0)) n
 
-pub add_leaves : (n : ℤ) (cells : Cells) → (add_outcome (value.Int n ∷ []) cells).action ≡ action.Leave s_ok (Some (value.Int (sum_in n cells)))
+pub add_leaves : (n : ℤ) (cells : Cells) → (add_outcome n cells).action ≡ action.Leave s_ok (Some (value.Int (sum_in n cells)))
 unfolding add_outcome
 add_leaves n cells = refl
 
 body_goes : (at : Standing) (os : List Opener) → Sound at → at.openers ≡ os → Holds (Goes at) (rule_body os at.objects)
 body_goes at [] sound top = tt
 body_goes at (Waits c t ∷ os) sound top = tt
-body_goes at (Runs c object arguments ∷ []) sound top = absurd (rw top at sound.shape)
-body_goes at (Runs c object arguments ∷ Runs d x v ∷ os) sound top = absurd (rw top at sound.shape)
-body_goes at (Runs c object arguments ∷ Waits d t ∷ p ∷ os) sound top = absurd (rw top at sound.shape)
-body_goes at (Runs c object arguments ∷ Waits d t ∷ []) sound top =
-    let shape : IsShape (Runs c object arguments ∷ Waits d t ∷ []) at.calls at.slots = rw top at sound.shape in
+body_goes at (Runs c object number ∷ []) sound top = absurd (rw top at sound.shape)
+body_goes at (Runs c object number ∷ Runs d x v ∷ os) sound top = absurd (rw top at sound.shape)
+body_goes at (Runs c object number ∷ Waits d t ∷ p ∷ os) sound top = absurd (rw top at sound.shape)
+body_goes at (Runs c object number ∷ Waits d t ∷ []) sound top =
     let cells : Cells = (object_at at.objects object).cells in
-    rw (shape.1.1, add_leaves shape.1.0 cells)
-      (goes_leave at c object d arguments t s_ok (result_of s_ok (Some (value.Int (sum_in shape.1.0 cells)))) sound top)
+    rw (add_leaves number cells)
+      (goes_leave at c object d number t s_ok (result_of s_ok (Some (value.Int (sum_in number cells)))) sound top)
 
 final_goes : (at : Standing) (dying : List ℕ) → Sound at → at.dying ≡ dying → Holds (Goes at) (rule_final dying)
 final_goes at [] sound first = tt
@@ -69,9 +69,9 @@ admit_goes at (Waits c None ∷ os) home sound top = tt
 admit_goes at (Waits c (Some object) ∷ os) None sound top = tt
 admit_goes at (Waits c (Some object) ∷ p ∷ os) (Some home) sound top = absurd (rw top at sound.shape)
 admit_goes at (Waits c (Some object) ∷ []) (Some home) sound top =
-    elim (at.calls.entered) as (λ b. at.calls.entered ≡ b → Holds (Goes at) (unless_entered b at.calls.due (deed.Enter c object home None at.calls.sent))) [
+    elim (at.calls.entered) as (λ b. at.calls.entered ≡ b → Holds (Goes at) (unless_entered b at.calls.due (deed.Enter c object home None (value.Int at.calls.sent ∷ [])))) [
       | true ↦ λ e. tt
-      | false ↦ λ e. elim (at.calls.due) as (λ (v : Option Answer). at.calls.due ≡ v → Holds (Goes at) (unless_entered false v (deed.Enter c object home None at.calls.sent))) [
+      | false ↦ λ e. elim (at.calls.due) as (λ (v : Option Answer). at.calls.due ≡ v → Holds (Goes at) (unless_entered false v (deed.Enter c object home None (value.Int at.calls.sent ∷ [])))) [
           | None ↦ λ f. goes_enter at c object home sound top e f
           | Some answer ↦ λ f. tt
         ] refl

@@ -36,7 +36,7 @@ home_there true (suc n) apartment ended left o os homed = homed.1
 
 -- A call that waits has its admission or its Back.
 pending_goes : (target : Option ℕ) (entered : Bool) (due : Option Answer) (c : ℕ) (os : List Opener) (at : Standing)
-    → IsPending target entered due at.calls.sent at.slots → at.calls.entered ≡ entered → at.calls.due ≡ due → at.home.apartment ≡ Some 3
+    → IsPending target entered due at.slots → at.calls.entered ≡ entered → at.calls.due ≡ due → at.home.apartment ≡ Some 3
     → rule_admit (Waits c target ∷ os) at.calls at.home.apartment ≡ None → rule_back (Waits c target ∷ os) at.calls.due ≡ None → ⊥
 pending_goes target entered (Some answer) c os at pending e f home none_admit none_back = let back = rw f at none_back in cc
 pending_goes (Some object) false None c os at pending e f home none_admit none_back = let admit = rw (home, e, f) at none_admit in cc
@@ -56,8 +56,7 @@ none_open at (Runs c x v ∷ []) sound top body admit back = absurd (rw top at s
 none_open at (Runs c x v ∷ Runs d y w ∷ os) sound top body admit back = absurd (rw top at sound.shape)
 none_open at (Runs c x v ∷ Waits d t ∷ p ∷ os) sound top body admit back = absurd (rw top at sound.shape)
 none_open at (Runs c x v ∷ Waits d t ∷ []) sound top body admit back =
-    let shape : IsShape (Runs c x v ∷ Waits d t ∷ []) at.calls at.slots = rw top at sound.shape in
-    let leaves = rw (shape.1.1, add_leaves shape.1.0 (object_at at.objects x).cells) at body in
+    let leaves = rw (add_leaves v (object_at at.objects x).cells) at body in
     cc
 
 closing_over : (home : Home) → closing home ≡ None → home.ended ≡ true

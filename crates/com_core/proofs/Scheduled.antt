@@ -8,17 +8,18 @@ use Rattle.com_core.specs.Openers.{open_in}
 use Rattle.com_core.specs.Homes.{home_in}
 use Rattle.com_core.specs.Calls.{calls_in}
 use Rattle.com_core.specs.Objects.{slots_in, objects_in}
+use Rattle.com_core.specs.Scripts.{SlotsInRange}
 use Rattle.com_core.specs.Standing.{Standing, standing}
 use Rattle.com_core.specs.Rules.{next_of}
 use Rattle.com_core.specs.After.{after, beginning}
 use Rattle.com_core.specs.Histories.{Legal, next, entry_of, extended, scheduled, scheduled_history, limit, IsOver}
 use Rattle.com_core.proofs.Weights.{weight}
-use Rattle.com_core.proofs.Sound.{Sound, InRange}
+use Rattle.com_core.proofs.Sound.{Sound}
 use Rattle.com_core.proofs.Goes.{Goes}
 use Rattle.com_core.proofs.Next.{goes_next}
 use Rattle.com_core.proofs.Over.{over_of}
 
-pub sound_beginning : (s : List Step) → InRange s → Sound (standing s [])
+pub sound_beginning : (s : List Step) → SlotsInRange s → Sound (standing s [])
 sound_beginning s in_range = record {
     room = refl; in_range = in_range; once = tt; held = λ o named. cc; gone = tt; distinct = tt; shape = tt; homed = (refl, refl, refl)
   }
@@ -46,7 +47,7 @@ limit_room : (n : ℕ) → n ≤ 1998 → 6 * n + 0 + 0 + 3 < limit
 unfolding limit
 limit_room n le = omega arith
 
-pub on_the_way : (s : List Step) → InRange s → length s ≤ 1998 → OnTheWay s [] limit
+pub on_the_way : (s : List Step) → SlotsInRange s → length s ≤ 1998 → OnTheWay s [] limit
 on_the_way s in_range short = record {
     legal = tt; sound = sound_beginning s in_range; weighs = limit_room (length s) short; goes_to = refl
   }

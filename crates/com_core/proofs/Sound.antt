@@ -10,6 +10,7 @@ use Rattle.com_model.specs.declared.deeds.Deed.{Deed}
 use Rattle.com_model.specs.declared.deeds.Deed.TheVariants as deed
 use Rattle.com_core.specs.declared.script.Step.{Step}
 use Rattle.com_core.specs.declared.script.Step.TheVariants as step
+use Rattle.com_core.specs.Scripts.{SlotsInRange}
 use Rattle.com_core.specs.Steps.{rest_of, next_step}
 use Rattle.com_core.specs.declared.openers.Opener.{Opener}
 use Rattle.com_core.specs.declared.openers.Opener.TheVariants.{Waits, Runs}
@@ -28,25 +29,17 @@ use Rattle.com_core.proofs.Alive.{alive, free, settled, alive_released, alive_ke
 use Rattle.com_core.proofs.Losses.{Loses, loses, loses_none, Distinct, Lacks}
 use Rattle.com_core.proofs.Changes.{Held, conj_left, conj_right, never_both, alive_low, alive_high}
 
--- The slot of each statement is one of the eight.
-abbrev pub InRange : List Step → Type 0
-InRange [] = Unit {0}
-InRange (s ∷ ss) = (slot_of s < 8) × InRange ss
-
-abbrev pub IsOneInt : List Value → Type 0
-IsOneInt values = (n : ℤ) × (values ≡ value.Int n ∷ [])
-
 -- A call that waits: it has its answer, or its target is named and its body is next.
-abbrev pub IsPending : Option ℕ → Bool → Option Answer → List Value → List (Option ℕ) → Type 0
-IsPending target entered (Some answer) sent slots = Unit {0}
-IsPending (Some object) false None sent slots = (names object slots ≡ true) × IsOneInt sent
-IsPending target entered None sent slots = ⊥
+abbrev pub IsPending : Option ℕ → Bool → Option Answer → List (Option ℕ) → Type 0
+IsPending target entered (Some answer) slots = Unit {0}
+IsPending (Some object) false None slots = names object slots ≡ true
+IsPending target entered None slots = ⊥
 
 -- At most one call is open, and above it at most its body.
 abbrev pub IsShape : List Opener → Calls → List (Option ℕ) → Type 0
 IsShape [] calls slots = Unit {0}
-IsShape (Waits c t ∷ []) calls slots = IsPending t calls.entered calls.due calls.sent slots
-IsShape (Runs c object arguments ∷ Waits d t ∷ []) calls slots = (names object slots ≡ true) × IsOneInt arguments × (c ≡ d)
+IsShape (Waits c t ∷ []) calls slots = IsPending t calls.entered calls.due slots
+IsShape (Runs c object number ∷ Waits d t ∷ []) calls slots = (names object slots ≡ true) × (c ≡ d)
 IsShape os calls slots = ⊥
 
 -- Before the initialisation nothing is open; between it and the uninit the home is a3; after it the script is over.
@@ -57,7 +50,7 @@ IsHomed true (suc n) apartment ended left os = (n ≡ 0) × (apartment ≡ Some 
 
 pub record Sound (at : Standing) : Type 0 where
   pub room : length at.slots ≡ 8
-  pub in_range : InRange at.left
+  pub in_range : SlotsInRange at.left
   pub once : Once at.slots
   pub held : Held at.objects at.slots
   pub gone : Pass (free at.objects at.slots) at.dying
@@ -70,7 +63,7 @@ pub named_of_shape : (os : List Opener) (calls : Calls) (slots : List (Option �
     → (o : ℕ) → runs o os ≡ true → names o slots ≡ true
 named_of_shape [] calls slots shape o e = cc
 named_of_shape (Waits c t ∷ []) calls slots shape o e = cc
-named_of_shape (Runs c object arguments ∷ Waits d t ∷ []) calls slots shape o e =
+named_of_shape (Runs c object number ∷ Waits d t ∷ []) calls slots shape o e =
     elim (object == o) as (λ b. object == o ≡ b → (if b then true else false) ≡ true → names o slots ≡ true) [
       | true ↦ λ f g. let same : object ≡ o = eqb-true object o f in subst (λ x. names x slots ≡ true) same shape.0
       | false ↦ λ f g. cc

@@ -28,6 +28,10 @@ given_up Empties n step slots = standing_in step slots
 given_up Clears n step slots = filter (λ object. names object slots) (numbers_to n)
 given_up Keeps n step slots = []
 
+abbrev pub first_of : List ℕ → Option ℕ
+first_of [] = None
+first_of (object ∷ objects) = Some object
+
 abbrev pub without_first : List ℕ → List ℕ
 without_first [] = []
 without_first (object ∷ objects) = objects

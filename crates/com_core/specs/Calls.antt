@@ -1,9 +1,7 @@
 -- The calls of the lane. No body of this form makes a call, so the call that is open is always the last
 -- that was made: what is sent, entered and due is told of that one.
-use Rattle.std.specs.Prelude.{ℕ, ◌+◌, List, [], ◌∷◌, Bool, true, false, Option, Some, None}
+use Rattle.std.specs.Prelude.{ℕ, ℤ, pos, ◌+◌, List, [], ◌∷◌, Bool, true, false, Option, Some, None}
 use Rattle.com_base.specs.declared.hresult.HResult.{HResult}
-use Rattle.com_base.specs.declared.value.Value.{Value}
-use Rattle.com_base.specs.declared.value.Value.TheVariants.{Int}
 use Rattle.com_model.specs.declared.deeds.Deed.{Deed}
 use Rattle.com_model.specs.declared.deeds.Deed.TheVariants.{Out, Enter, Leave}
 use Rattle.com_model.specs.declared.deeds.Entry.{Entry}
@@ -16,7 +14,7 @@ use Rattle.com_core.specs.declared.script.Step.TheVariants.{Add}
 use Rattle.com_core.specs.Steps.{left, next_step}
 
 abbrev pub no_calls : Calls
-no_calls = record { made = 0; sent = []; entered = false; due = None }
+no_calls = record { made = 0; sent = pos 0; entered = false; due = None }
 
 abbrev pub e_pointer : HResult
 e_pointer = record { 0 = 0x80004003 }
@@ -26,14 +24,15 @@ abbrev pub refusal_of : Route → Option Answer
 refusal_of Refused = Some (record { hr = e_pointer; value = None })
 refusal_of route = None
 
-abbrev pub arguments_of : Option Step → List Value
-arguments_of (Some (Add slot number)) = Int number ∷ []
-arguments_of step = []
+-- The number that a call's statement sends.
+abbrev pub number_sent : Option Step → ℤ
+number_sent (Some (Add slot number)) = number
+number_sent step = pos 0
 
 -- The calls after a deed that stood where this statement was next.
 abbrev pub calls_after : Option Step → Deed → Calls → Calls
 calls_after step (Out call object iface method route cause bytes) calls =
-    record { made = calls.made + 1; sent = arguments_of step; entered = false; due = refusal_of route }
+    record { made = calls.made + 1; sent = number_sent step; entered = false; due = refusal_of route }
 calls_after step (Enter call object apartment call_type values) calls = record calls { entered = true }
 calls_after step (Leave call hr value bytes) calls = record calls { due = Some (record { hr = hr; value = value }) }
 calls_after step deed calls = calls

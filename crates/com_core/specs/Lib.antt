@@ -1,4 +1,5 @@
 pub mod Steps
+pub mod Scripts
 pub mod Openers
 pub mod Homes
 pub mod Calls
@@ -9,3 +10,6 @@ pub mod Rules
 pub mod Dying
 pub mod Histories
 pub mod After
+pub mod Bounds
+pub mod Counts
+pub mod Advances

@@ -72,8 +72,8 @@ object_at objects object = slice_index_or objects (object - 1) fresh_object
 
 -- The cells of the innermost body's object become those that its step gave.
 abbrev pub stepped : List Opener → List Object → List Object
-stepped (Runs call object arguments ∷ os) objects =
-    slice_set objects (object - 1) (record (object_at objects object) { cells = (add_outcome arguments (object_at objects object).cells).cells })
+stepped (Runs call object number ∷ os) objects =
+    slice_set objects (object - 1) (record (object_at objects object) { cells = (add_outcome number (object_at objects object).cells).cells })
 stepped os objects = objects
 
 abbrev pub objects_after : List Opener → Deed → List Object → List Object

@@ -1,6 +1,8 @@
 -- The openers of the lane: calls without their Back and bodies without their Leave, innermost first.
 -- Source: the documentation of apartments, "Reentrancy": what a thread waits for nests as one stack.
-use Rattle.std.specs.Prelude.{ℕ, List, [], ◌∷◌, Bool, true, false, Option, Some, None, ◌==◌, if◌then◌else◌}
+use Rattle.std.specs.Prelude.{ℕ, ℤ, pos, List, [], ◌∷◌, Bool, true, false, Option, Some, None, ◌==◌, if◌then◌else◌}
+use Rattle.com_base.specs.declared.value.Value.{Value}
+use Rattle.com_base.specs.declared.value.Value.TheVariants.{Int}
 use Rattle.com_core.specs.declared.openers.Opener.{Opener}
 use Rattle.com_core.specs.declared.openers.Opener.TheVariants.{Waits, Runs}
 use Rattle.com_model.specs.declared.deeds.Deed.{Deed}
@@ -14,9 +16,14 @@ pub data Effect : Type 0 where
   EndsBody : (call : ℕ) → Effect
   Keeps : Effect
 
+-- The number that a body of the counter is entered with.
+abbrev pub first_number : List Value → ℤ
+first_number (Int number ∷ values) = number
+first_number values = pos 0
+
 abbrev pub effect_of : Deed → Effect
 effect_of (Out call object iface method route cause bytes) = Opens (Waits call object)
-effect_of (Enter call object apartment call_type values) = Opens (Runs call object values)
+effect_of (Enter call object apartment call_type values) = Opens (Runs call object (first_number values))
 effect_of (Leave call hr value bytes) = EndsBody call
 effect_of (Back call hr value) = EndsCall call
 effect_of deed = Keeps

@@ -3,6 +3,7 @@ use Rattle.std.specs.Prelude.{ℕ, zero, suc, ◌+◌, ◌-◌, ◌==◌, ◌^�
 use Rattle.std.specs.Option.{option_map}
 use Rattle.com_base.specs.declared.hresult.HResult.{HResult}
 use Rattle.com_base.specs.declared.value.Value.{Value}
+use Rattle.com_base.specs.declared.value.Value.TheVariants as value
 use Rattle.com_base.specs.declared.value.Kind.TheVariants as kind
 use Rattle.com_base.specs.declared.value.Mode.TheVariants.{Sta}
 use Rattle.com_base.specs.declared.value.RefValue.{RefValue}
@@ -12,6 +13,7 @@ use Rattle.com_body.specs.declared.actions.Action.TheVariants as action
 use Rattle.com_body.specs.declared.operands.Asked.TheVariants.{Number}
 use Rattle.com_model.specs.declared.deeds.Deed.{Deed}
 use Rattle.com_model.specs.declared.deeds.Deed.TheVariants as deed
+use Rattle.com_model.specs.declared.deeds.Route.{Route}
 use Rattle.com_model.specs.declared.deeds.Route.TheVariants.{Direct, Refused}
 use Rattle.com_core.specs.declared.script.Step.{Step}
 use Rattle.com_core.specs.declared.script.Step.TheVariants as step
@@ -56,8 +58,8 @@ leave_of call other = None
 
 -- The innermost opener is a body: its next action, which is its leave.
 abbrev pub rule_body : List Opener → List Object → Option Deed
-rule_body (Runs call object arguments ∷ os) objects =
-    leave_of call (add_outcome arguments (object_at objects object).cells).action
+rule_body (Runs call object number ∷ os) objects =
+    leave_of call (add_outcome number (object_at objects object).cells).action
 rule_body os objects = None
 
 -- An object is dying: Final of the first.
@@ -73,7 +75,7 @@ unless_entered entered due d = None
 -- The innermost opener is a direct call that was not entered and has no answer: its Enter, in the home.
 abbrev pub rule_admit : List Opener → Calls → Option ℕ → Option Deed
 rule_admit (Waits call (Some object) ∷ os) calls (Some home) =
-    unless_entered calls.entered calls.due (deed.Enter call object home None calls.sent)
+    unless_entered calls.entered calls.due (deed.Enter call object home None (value.Int calls.sent ∷ []))
 rule_admit os calls home = None
 
 -- The innermost opener is a call with its answer: its Back.
@@ -82,9 +84,12 @@ rule_back (Waits call target ∷ os) (Some answer) = Some (deed.Back call answer
 rule_back os due = None
 
 -- A call on an object is direct, since every object lives in the lane's own apartment.
+abbrev pub route_to : Option ℕ → Route
+route_to (Some object) = Direct
+route_to None = Refused
+
 abbrev pub out_of : ℕ → Option ℕ → Deed
-out_of call (Some object) = deed.Out call (Some object) icounter 0 Direct call None
-out_of call None = deed.Out call None icounter 0 Refused call None
+out_of call target = deed.Out call target icounter 0 (route_to target) call None
 
 -- The entry of a statement. Every call of this form stands outside a body, so each draws a causality of
 -- its own, and the causalities are numbered as the calls are.

@@ -2,6 +2,8 @@
 #![tactic(auto)]
 
 mod calls;
+mod core_;
+mod dying;
 mod home;
 mod objects;
 mod openers;
@@ -10,8 +12,10 @@ mod slots;
 
 pub use calls::{Answer, Calls};
 pub use com_base::Memory;
+pub use core_::Core;
+pub use dying::Dying;
 pub use home::Home;
 pub use objects::{Object, Objects};
 pub use openers::{Opener, Openers};
-pub use script::{Script, Step};
+pub use script::{Remaining, Script, Step};
 pub use slots::Slots;

@@ -1,5 +1,5 @@
 //! The objects, by their numbers.
-ghost use Rattle.std.specs.Prelude.{◌≡◌, ℕ, ◌-◌, List, [], ◌∷◌, ◌++◌, OnOk, OnErr, length, slice_set};
+ghost use Rattle.std.specs.Prelude.{◌≡◌, ℕ, ◌-◌, List, [], ◌∷◌, ◌++◌, OnOk, OnErr, length, slice_set, take};
 ghost use Rattle.com_core.specs.Objects.{object_at, fresh_object};
 
 use com_base::Memory;
@@ -52,23 +52,19 @@ impl Objects {
         ensures ok { OnOk result (self.new ≡ self.old ++ fresh_object ∷ []) }
         ensures err { OnErr result (self.new ≡ self.old) }
     {
-        let cells = Cells {
-            numbers: [0; 8],
-            links: [None; 4],
-        };
         let made = Object {
-            cells,
+            cells: Cells::new(),
             released: false,
         };
-        match self.objects.push(made) {
-            Ok(()) => Ok(()),
-            Err(_) => Err(Memory),
-        }
+        self.objects.push(made)?;
+        Ok(())
     }
 
-    /// Takes back the last one that was made.
-    pub fn unmake(&mut self) {
-        let _ = self.objects.pop();
+    /// Keeps the first so many, and takes back those made after them.
+    pub fn keep(&mut self, count: usize)
+        ensures { self.new ≡ take count self.old }
+    {
+        self.objects.truncate(count);
     }
 
     /// The object of a number, or a fresh one for a number that has none.
@@ -79,10 +75,7 @@ impl Objects {
         match self.objects.get(object.saturating_sub(1) as usize) {
             Some(found) => *found,
             None => Object {
-                cells: Cells {
-                    numbers: [0; 8],
-                    links: [None; 4],
-                },
+                cells: Cells::new(),
                 released: false,
             },
         }

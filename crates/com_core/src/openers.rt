@@ -2,12 +2,12 @@
 ghost use Rattle.std.specs.Prelude.{◌≡◌, ℕ, List, [], ◌∷◌, OnOk, OnErr, IfSome, IfNone, option_copied};
 ghost use Rattle.com_core.specs.Openers.{innermost, outer};
 
-use com_base::{Memory, Rows, Value};
+use com_base::Memory;
 use std::alloc::Global;
 use std::marker::Model;
 
 /// An opener: a call that waits for its answer, with its target if that is not null, or a body that runs,
-/// with its object and the arguments that it was entered with.
+/// with its object and the number that it was entered with.
 #[derive(Debug, Drop)]
 pub enum Opener {
     Waits {
@@ -17,7 +17,7 @@ pub enum Opener {
     Runs {
         call: u32,
         object: u32,
-        arguments: Rows<Value>,
+        number: i64,
     },
 }
 
