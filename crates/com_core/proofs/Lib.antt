@@ -1,0 +1,12 @@
+pub mod Ranges
+pub mod Named
+pub mod Alive
+pub mod Losses
+pub mod Changes
+pub mod Sound
+pub mod Weights
+pub mod Goes
+pub mod Next
+pub mod Over
+pub mod Scheduled
+pub mod Cursors

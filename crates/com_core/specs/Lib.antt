@@ -1,0 +1,15 @@
+pub mod Steps
+pub mod Scripts
+pub mod Openers
+pub mod Homes
+pub mod Calls
+pub mod Objects
+pub mod Bodies
+pub mod Standing
+pub mod Rules
+pub mod Dying
+pub mod Histories
+pub mod After
+pub mod Bounds
+pub mod Counts
+pub mod Advances
