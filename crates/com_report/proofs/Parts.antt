@@ -51,8 +51,8 @@ objects_in_two text longer number c rest h =
 -- an object's line, piece by piece behind a text
 pub object_line_behind : (text : List ℕ) (number : ℕ) (c : Counts)
     → text ++ codes "o" ++ decimal number ++ codes " C" ++ decimal c.class ++ codes " a" ++ decimal c.owner
-        ++ codes " " ++ object_state_text c.state ++ codes " direct " ++ decimal c.direct
-        ++ codes " proxies " ++ decimal c.proxies ++ codes " packets " ++ decimal c.packets
-        ++ codes " tables " ++ decimal c.tables ++ codes " stub " ++ decimal c.stub ++ codes "\n"
-      ≡ text ++ object_line number c
+    ++ codes " " ++ object_state_text c.state ++ codes " direct " ++ decimal c.direct
+    ++ codes " proxies " ++ decimal c.proxies ++ codes " packets " ++ decimal c.packets
+    ++ codes " tables " ++ decimal c.tables ++ codes " stub " ++ decimal c.stub ++ codes "\n"
+    ≡ text ++ object_line number c
 object_line_behind text number c = simp append_assoc

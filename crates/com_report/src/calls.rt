@@ -35,13 +35,7 @@ fn push_filter(text: &mut Text, filter: Option<u32>) -> Result<(), Memory>
 }
 
 /// Appends which word was posted, and to which lane.
-pub fn post(
-    text: &mut Text,
-    version: u8,
-    lane: i64,
-    word: i64,
-    hr: HResult,
-) -> Result<(), Memory>
+pub fn post(text: &mut Text, version: u8, lane: i64, word: i64, hr: HResult) -> Result<(), Memory>
     ensures front { text.new.front ≡ text.old.front }
     ensures ok { OnOk result (text.new.text ≡ deed_line version text.old.text (Deed.Post lane word hr)) }
 {
@@ -224,13 +218,7 @@ pub fn back(
 }
 
 /// Appends what a caller's filter answered to a word that came while it waited.
-pub fn pending(
-    text: &mut Text,
-    version: u8,
-    call: u32,
-    word: i64,
-    answer: u8,
-) -> Result<(), Memory>
+pub fn pending(text: &mut Text, version: u8, call: u32, word: i64, answer: u8) -> Result<(), Memory>
     ensures front { text.new.front ≡ text.old.front }
     ensures ok { OnOk result (text.new.text ≡ deed_line version text.old.text (Deed.Pending call word answer)) }
 {

@@ -6,6 +6,8 @@ mod deeds;
 mod lines;
 mod references;
 mod reports;
+#[cfg(test)]
+mod tests;
 mod values;
 mod words;
 

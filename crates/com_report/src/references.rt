@@ -8,13 +8,7 @@ use com_body::Asked;
 use com_model::Deed;
 
 /// Appends how a thread entered its apartment.
-pub fn init(
-    text: &mut Text,
-    version: u8,
-    mode: Mode,
-    home: u32,
-    hr: HResult,
-) -> Result<(), Memory>
+pub fn init(text: &mut Text, version: u8, mode: Mode, home: u32, hr: HResult) -> Result<(), Memory>
     ensures front { text.new.front ≡ text.old.front }
     ensures ok { OnOk result (text.new.text ≡ deed_line version text.old.text (Deed.Init mode home hr)) }
 {

@@ -1,12 +1,12 @@
-use Rattle.std.proofs.Common.{◌≡◌, ◌++◌, ◌+◌, length}
+use Rattle.std.proofs.Common.{◌≡◌, ◌++◌, length}
 use Rattle.std.specs.List.{flat_map}
-use Rattle.com_model.specs.Text.{later_value_text, object_lines}
+use Rattle.com_model.specs.Text.{later_value_text}
 use Rattle.com_report.proofs.values.later_values.Given as goal
 
 abbrev pub invariant-values : goal.invariant-values
 invariant-values l = record {
   front : l.text.front ≡ l.initial.text.front;
-  text : l.text.text ++ flat_map later_value_text l.rest ≡ l.initial.text.text ++ flat_map later_value_text l.values
+  text : l.text.text ++ flat_map later_value_text l.rest ≡ l.initial.text.text ++ flat_map later_value_text l.values;
 }
 
 abbrev pub decreases-values : goal.decreases-values

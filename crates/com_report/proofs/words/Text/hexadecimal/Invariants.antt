@@ -5,7 +5,7 @@ use Rattle.com_report.proofs.words.Text.hexadecimal.Given as goal
 abbrev pub invariant-pieces : goal.invariant-pieces
 invariant-pieces l = record {
   front : l.self.front ≡ l.initial.self.front;
-  text : l.self.text ++ encode_lower l.rest ≡ l.initial.self.text ++ encode_lower l.bytes
+  text : l.self.text ++ encode_lower l.rest ≡ l.initial.self.text ++ encode_lower l.bytes;
 }
 
 abbrev pub decreases-pieces : goal.decreases-pieces
