@@ -1,0 +1,189 @@
+-- From the lines that were written to the whole text.
+use Rattle.std.proofs.Common.{◌≡◌, ℕ, zero, suc, ◌+◌, ◌<◌, ◌≤◌, List, [], ◌∷◌, ◌++◌, length, Option, Some, None, refl, sym, ◌∙◌, ap, append_assoc, append-nil, add-zero, arith, subst}
+use Rattle.com_io.specs.Told.{Gains, GainsPrefix}
+use Rattle.com_io.proofs.Passing.{gains_both, gains_then_prefix, prefix_of_more, prefix_of_all, prefix_of_none, gains_nothing}
+use Rattle.com_model.specs.declared.deeds.Deed.{Deed}
+use Rattle.com_model.specs.declared.deeds.Entry.{Entry}
+use Rattle.com_model.specs.declared.counts.Ended.TheVariants as ended
+use Rattle.com_model.specs.Text.{history_text, line_text, report_text}
+use Rattle.com_core.specs.declared.script.Step.{Step}
+use Rattle.com_core.specs.Standing.{Standing, standing}
+use Rattle.com_core.specs.Counts.{all_counts}
+use Rattle.com_core.specs.Rules.{next_of}
+use Rattle.com_core.specs.After.{after, beginning}
+use Rattle.com_core.specs.Scripts.{IsScript}
+use Rattle.com_core.specs.Histories.{next, entry_of, extended, scheduled, scheduled_history, limit}
+use Rattle.com_core.proofs.Next.{goes_next}
+use Rattle.com_core.proofs.Scheduled.{OnTheWay, on_the_way, way_on, way_ends, way_never_short, standing_after}
+use Rattle.com_replay.specs.declared.Replayed.{Replayed}
+use Rattle.com_replay.specs.Replays.{text_of, report_of, replayed_of, GoesOn}
+
+-- A text that begins another.
+pub record Begins (front whole : List ℕ) : Type 0 where
+  pub back : List ℕ
+  pub parts : whole ≡ front ++ back
+
+begins_more : (a b c : List ℕ) → Begins (a ++ b) c → Begins a c
+begins_more a b c h = record { back = b ++ h.back; parts = h.parts ∙ append_assoc a b h.back }
+
+text_on_by : (n : ℕ) (s : List Step) (h : List Entry) → Begins (history_text 1 h) (history_text 1 (scheduled n s h))
+text_on_by zero s h = record { back = []; parts = sym (append-nil (history_text 1 h)) }
+text_on_by (suc n) s h =
+    elim (next s h) as (λ (d : Option Deed). Begins (history_text 1 h) (history_text 1 (scheduled n s (extended d h)))) [
+      | None ↦ text_on_by n s h
+      | Some d ↦ begins_more (history_text 1 h) (line_text 1 (length h + 1) (entry_of d)) _ (text_on_by n s (entry_of d ∷ h))
+    ]
+
+-- The lines of a history that is on the way begin the whole text.
+pub begins_text : (s : List Step) (h : List Entry) (n : ℕ) → OnTheWay s h n → Begins (history_text 1 h) (text_of s)
+unfolding text_of
+begins_text s h n way =
+    let lines : Begins (history_text 1 h) (history_text 1 (scheduled_history s)) =
+        subst (λ (all : List Entry). Begins (history_text 1 h) (history_text 1 all)) way.goes_to (text_on_by n s h) in
+    record {
+      back = lines.back ++ report_of s;
+      parts = ap (λ (t : List ℕ). t ++ report_of s) lines.parts ∙ append_assoc (history_text 1 h) lines.back (report_of s)
+    }
+
+-- A line that is kept, and one that was written with all that was kept before it.
+pub goes_on_kept : (known : Option (List ℕ)) (old new line : List ℕ) → new ≡ old ++ line → GoesOn known known old new line
+goes_on_kept known old new line e = record { written = []; gained = gains_nothing known; parts = e }
+
+pub goes_on_sent : (old new : Option (List ℕ)) (kept line all rest : List ℕ) → all ≡ kept ++ line → rest ≡ [] → Gains old new all → GoesOn old new kept rest line
+goes_on_sent old new kept line all rest e none gained = record { written = all; gained = gained; parts = rw none (append-nil all ∙ e) }
+
+pub sent_prefix : (old new : Option (List ℕ)) (all kept line : List ℕ) → all ≡ kept ++ line → GainsPrefix old new all → GainsPrefix old new (kept ++ line)
+sent_prefix old new all kept line e h = subst (λ (t : List ℕ). GainsPrefix old new t) e h
+
+-- Where a replay stands: the history behind the core, what was written of its lines, and what is kept.
+pub record Replaying (s : List Step) (core : Standing) (start held : Option (List ℕ)) (kept : List ℕ) (place : ℕ) : Type 0 where
+  pub history : List Entry
+  pub more : ℕ
+  pub at : core ≡ standing s history
+  pub way : OnTheWay s history more
+  pub count : more + place ≡ limit
+  pub places : length history ≡ place
+  pub written : List ℕ
+  pub gained : Gains start held written
+  pub parts : written ++ kept ≡ history_text 1 history
+
+pub limit_is : limit ≡ 200000
+unfolding limit
+limit_is = refl
+
+pub replaying_start : (s : List Step) (core : Standing) (start : Option (List ℕ)) (kept : List ℕ) → core ≡ beginning s → kept ≡ [] → IsScript s
+    → Replaying s core start start kept 0
+replaying_start s core start kept begins none is = record {
+    history = []; more = limit; at = begins; way = on_the_way s is.in_range is.short; count = add-zero limit; places = refl;
+    written = []; gained = gains_nothing start; parts = none
+  }
+
+-- What was written so far begins the whole text.
+pub stopped_prefix : (s : List Step) (core : Standing) (start held : Option (List ℕ)) (kept : List ℕ) (place : ℕ)
+    → Replaying s core start held kept place → GainsPrefix start held (text_of s)
+stopped_prefix s core start held kept place r =
+    let begins : Begins (history_text 1 r.history) (text_of s) = begins_text s r.history r.more r.way in
+    record {
+      front = r.written;
+      back = kept ++ begins.back;
+      parts = begins.parts ∙ ap (λ (t : List ℕ). t ++ begins.back) (sym r.parts) ∙ append_assoc r.written kept begins.back;
+      gained = r.gained
+    }
+
+-- One entry further: the lines so far with the new line.
+pub record Further (s : List Step) (core new : Standing) (start held : Option (List ℕ)) (kept : List ℕ) (place : ℕ) (e : Entry) : Type 0 where
+  pub history : List Entry
+  pub more : ℕ
+  pub at : new ≡ standing s history
+  pub way : OnTheWay s history more
+  pub count : more + (place + 1) ≡ limit
+  pub places : length history ≡ place + 1
+  pub written : List ℕ
+  pub gained : Gains start held written
+  pub parts : written ++ (kept ++ line_text 1 (place + 1) e) ≡ history_text 1 history
+
+pub one_further : (s : List Step) (core new : Standing) (start held : Option (List ℕ)) (kept : List ℕ) (place : ℕ) (e : Entry)
+    → Replaying s core start held kept place → e.lane ≡ 1 → next_of core ≡ Some e.deed → new ≡ after core e.deed
+    → Further s core new start held kept place e
+one_further s core new start held kept place e r lane next_is new_is =
+    further r.more r.way r.count
+  where
+    further : (more : ℕ) → OnTheWay s r.history more → more + place ≡ limit → Further s core new start held kept place e
+    further zero way count = absurd (way_never_short s r.history way)
+    further (suc n) way count =
+        let same : e ≡ entry_of e.deed = ap (λ (l : ℕ). record { lane = l; deed = e.deed }) lane in
+        let goes : next s r.history ≡ Some e.deed = subst (λ (at : Standing). next_of at ≡ Some e.deed) r.at next_is in
+        record {
+          history = entry_of e.deed ∷ r.history;
+          more = n;
+          at = new_is ∙ ap (λ (at : Standing). after at e.deed) r.at ∙ standing_after s r.history e.deed (goes_next (standing s r.history) e.deed way.sound goes);
+          way = way_on s r.history n e.deed way goes;
+          count = omega arith;
+          places = let places : length r.history ≡ place = r.places in omega arith;
+          written = r.written;
+          gained = r.gained;
+          parts = sym (append_assoc r.written kept (line_text 1 (place + 1) e))
+            ∙ ap (λ (t : List ℕ). t ++ line_text 1 (place + 1) e) r.parts
+            ∙ ap (λ (n : ℕ). history_text 1 r.history ++ line_text 1 (n + 1) e) (sym r.places)
+            ∙ ap (λ (f : Entry). history_text 1 r.history ++ line_text 1 (length r.history + 1) f) same
+        }
+
+-- After the line was kept or sent.
+pub further_on : (s : List Step) (core new : Standing) (start held held' : Option (List ℕ)) (kept kept' : List ℕ) (place : ℕ) (e : Entry)
+    → Further s core new start held kept place e → GoesOn held held' kept kept' (line_text 1 (place + 1) e) → Replaying s new start held' kept' (place + 1)
+further_on s core new start held held' kept kept' place e f g = record {
+    history = f.history; more = f.more; at = f.at; way = f.way; count = f.count; places = f.places;
+    written = f.written ++ g.written;
+    gained = gains_both start held held' f.written g.written f.gained g.gained;
+    parts = append_assoc f.written g.written kept' ∙ ap (λ (t : List ℕ). f.written ++ t) g.parts ∙ f.parts
+  }
+
+-- Where the line could not be sent.
+pub further_prefix : (s : List Step) (core new : Standing) (start held held' : Option (List ℕ)) (kept : List ℕ) (place : ℕ) (e : Entry)
+    → Further s core new start held kept place e → GainsPrefix held held' (kept ++ line_text 1 (place + 1) e) → GainsPrefix start held' (text_of s)
+further_prefix s core new start held held' kept place e f g =
+    let begins : Begins (history_text 1 f.history) (text_of s) = begins_text s f.history f.more f.way in
+    let prefix : GainsPrefix start held' (f.written ++ (kept ++ line_text 1 (place + 1) e)) =
+        gains_then_prefix start held held' f.written (kept ++ line_text 1 (place + 1) e) f.gained g in
+    subst (λ (t : List ℕ). GainsPrefix start held' t) (sym begins.parts)
+      (prefix_of_more start held' (history_text 1 f.history) begins.back (subst (λ (t : List ℕ). GainsPrefix start held' t) f.parts prefix))
+
+-- Where no entry is next, what was written, what is kept and the report are the whole text.
+pub record Ending (s : List Step) (core : Standing) (start held : Option (List ℕ)) (kept : List ℕ) (place : ℕ) : Type 0 where
+  pub written : List ℕ
+  pub gained : Gains start held written
+  pub whole : text_of s ≡ written ++ (kept ++ report_text (all_counts core) place 0 ended.Ok)
+  pub answer : replayed_of s ≡ record { ended = ended.Ok; entries = place; clock = 0 }
+
+pub ending : (s : List Step) (core : Standing) (start held : Option (List ℕ)) (kept : List ℕ) (place : ℕ)
+    → Replaying s core start held kept place → next_of core ≡ None → Ending s core start held kept place
+unfolding text_of report_of replayed_of
+ending s core start held kept place r none =
+    let ends = way_ends s r.history r.more r.way (subst (λ (at : Standing). next_of at ≡ None) r.at none) in
+    let same : scheduled_history s ≡ r.history = ends.0 in
+    record {
+      written = r.written;
+      gained = r.gained;
+      whole = ap (λ (h : List Entry). history_text 1 h ++ report_text (all_counts (standing s h)) (length h) 0 ended.Ok) same
+        ∙ ap (λ (n : ℕ). history_text 1 r.history ++ report_text (all_counts (standing s r.history)) n 0 ended.Ok) r.places
+        ∙ ap (λ (at : Standing). history_text 1 r.history ++ report_text (all_counts at) place 0 ended.Ok) (sym r.at)
+        ∙ ap (λ (t : List ℕ). t ++ report_text (all_counts core) place 0 ended.Ok) (sym r.parts)
+        ∙ append_assoc r.written kept (report_text (all_counts core) place 0 ended.Ok);
+      answer = ap (λ (h : List Entry). record { ended = ended.Ok; entries = length h; clock = 0 }) same
+        ∙ ap (λ (n : ℕ). record { ended = ended.Ok; entries = n; clock = 0 }) r.places
+    }
+
+pub never_past : (s : List Step) (core : Standing) (start held : Option (List ℕ)) (kept : List ℕ) → Replaying s core start held kept 200000 → ⊥
+never_past s core start held kept r =
+    let none : r.more ≡ 0 = let all : limit ≡ 200000 = limit_is in let count : r.more + 200000 ≡ limit = r.count in omega arith in
+    way_never_short s r.history (subst (λ (n : ℕ). OnTheWay s r.history n) none r.way)
+
+pub ended_gains : (s : List Step) (core : Standing) (start held held' : Option (List ℕ)) (kept : List ℕ) (place : ℕ)
+    → Ending s core start held kept place → Gains held held' (kept ++ report_text (all_counts core) place 0 ended.Ok) → Gains start held' (text_of s)
+ended_gains s core start held held' kept place e g =
+    subst (λ (t : List ℕ). Gains start held' t) (sym e.whole) (gains_both start held held' e.written _ e.gained g)
+
+pub ended_prefix : (s : List Step) (core : Standing) (start held held' : Option (List ℕ)) (kept : List ℕ) (place : ℕ)
+    → Ending s core start held kept place → GainsPrefix held held' (kept ++ report_text (all_counts core) place 0 ended.Ok) → GainsPrefix start held' (text_of s)
+ended_prefix s core start held held' kept place e g =
+    subst (λ (t : List ℕ). GainsPrefix start held' t) (sym e.whole) (gains_then_prefix start held held' e.written _ e.gained g)
