@@ -1,7 +1,7 @@
 -- The fields of a packet have its number.
-use Rattle.std.proofs.Common.{◌≡◌, ℕ, ◌<◌, ◌^◌, ◌≤◌, List, refl, sym, ◌∙◌, ap, subst, arith}
+use Rattle.std.proofs.Common.{◌≡◌, ℕ, ◌<◌, ◌^◌, List, sym, ◌∙◌, ap, arith}
 use Rattle.std.specs.Prelude.{Option, None, Some, IsSomeAnd}
-use Rattle.std.specs.Int.{to_le_bytes, from_le_bytes, w64}
+use Rattle.std.specs.Int.{from_le_bytes, w64}
 use Rattle.std.proofs.lemmas.Nat.{from_le_bytes-to_le_bytes_8}
 use Rattle.com_base.specs.declared.standard.StdFields.{StdFields}
 use Rattle.com_slots.specs.Table.{held_in}

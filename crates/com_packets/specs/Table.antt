@@ -1,5 +1,5 @@
 -- What a contract sees of a `Packets`.
-use Rattle.std.specs.Prelude.{ℕ, ◌≡◌, ◌<◌, ◌≤◌, ◌^◌, List, Option, Some, None, IfSome, length, slice_index, slice_index_or}
+use Rattle.std.specs.Prelude.{ℕ, ◌≡◌, ◌≤◌, List, Option, None, IfSome, length, slice_index, slice_index_or}
 use Rattle.com_packets.specs.declared.Packet.{Packet}
 
 -- the packet, or nothing, of each number that was given, in order from the number 1, and how many more

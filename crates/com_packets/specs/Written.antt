@@ -1,5 +1,5 @@
 -- What is written of a packet, and which packet it names.
-use Rattle.std.specs.Prelude.{ℕ, ◌≡◌, ◌+◌, ◌<◌, ◌%◌, ◌^◌, Bool, ◌==◌, if◌then◌else◌, List, Option, Some, None, IsSomeAnd, map, length}
+use Rattle.std.specs.Prelude.{ℕ, ◌≡◌, ◌%◌, ◌^◌, ◌==◌, if◌then◌else◌, List, Option, Some, None, IsSomeAnd, map}
 use Rattle.std.specs.Int.{to_le_bytes, w64}
 use Rattle.com_base.specs.declared.guid.Guid.{Guid}
 use Rattle.com_base.specs.declared.standard.StdFields.{StdFields}

@@ -1,6 +1,6 @@
 -- The sum of an object's counters.
-use Rattle.std.proofs.Common.{◌≡◌, ℕ, ◌+◌, ◌-◌, ◌<◌, ◌≤◌, ◌^◌, List, [], ◌∷◌, ◌++◌, length, take, drop, refl, sym, ◌∙◌, ap, subst, arith, zero, suc, inl, inr}
-use Rattle.std.specs.Prelude.{slice_set, slice_index_or, slice_index, sum_by, Option, Some}
+use Rattle.std.proofs.Common.{◌≡◌, ℕ, ◌+◌, ◌-◌, ◌<◌, ◌≤◌, ◌^◌, List, [], ◌∷◌, ◌++◌, length, drop, refl, sym, ◌∙◌, ap, arith, zero, suc, inl, inr}
+use Rattle.std.specs.Prelude.{slice_set, slice_index_or, slice_index, sum_by, Option}
 use Rattle.std.proofs.lemmas.Bool.{cases_lt, cases_eq}
 use Rattle.std.proofs.lemmas.Grind.{common_steps}
 use Rattle.std.proofs.lemmas.List.{drop_all, length-map, get_or_read}

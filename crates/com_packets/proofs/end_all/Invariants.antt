@@ -1,5 +1,5 @@
-use Rattle.std.proofs.Common.{◌≡◌, ◌<◌, ℕ, length}
-use Rattle.std.specs.Prelude.{slice_index, Option, None}
+use Rattle.std.proofs.Common.{◌≡◌, ℕ, length}
+use Rattle.std.specs.Prelude.{slice_index, None}
 use Rattle.com_chains.specs.Places.{reach}
 use Rattle.com_chains.proofs.Walking.{Walks}
 use Rattle.com_packets.specs.Table.{entry_at}

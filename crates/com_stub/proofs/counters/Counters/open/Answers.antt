@@ -1,4 +1,4 @@
-use Rattle.std.proofs.Common.{arith, refl, length, ◌≤◌, ◌<◌, ◌≡◌, ◌++◌, ◌∷◌, []}
+use Rattle.std.proofs.Common.{arith, refl, length, ◌≤◌, ◌≡◌}
 use Rattle.com_stub.specs.CounterRows.{place_of}
 use Rattle.com_stub.proofs.CounterLemmas.{table_push}
 use Rattle.com_stub.proofs.Sums.{sum_push}
