@@ -1,1 +1,5 @@
 pub mod Tables
+pub mod BuiltIns
+pub mod Lookups
+pub mod Activation
+pub mod Indexed

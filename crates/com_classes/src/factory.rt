@@ -1,5 +1,12 @@
 //! Activation: which class, which interface, and where the new object lives.
 
+ghost use Rattle.std.specs.Prelude.{◌≡◌};
+ghost use Rattle.com_classes.specs.declared.classes.ThreadingModel.TheVariants as model;
+ghost use Rattle.com_classes.specs.Activation.{apartment_of, owner_for, is_agile, placed};
+
+use crate::classes::{Classes, ThreadingModel};
+use com_base::{Guid, HResult};
+
 /// Who creates an object: the creator's running apartment, its lane's home, and the main STA at that moment.
 #[derive(Debug, Clone, Copy, PartialEq, Eq)]
 pub struct Creator {
@@ -22,3 +29,74 @@ pub struct Placed {
 /// The class factories (CoCreateInstance).
 #[derive(Debug, Clone, Copy, PartialEq, Eq)]
 pub struct Factory;
+
+impl Factory {
+    /// The new object that a CLSID and an IID ask for (CoCreateInstance). It takes no memory.
+    ///
+    /// REGDB_E_CLASSNOTREG comes exactly where no class has the CLSID, and else E_NOINTERFACE exactly where the IID names no
+    /// interface of the class, which IUnknown always is. The owner goes by the class's threading model: the main STA for none;
+    /// for `Apartment` the creator's apartment if it is an STA, else the host's STA; the multithreaded apartment for `Free`;
+    /// the running apartment for `Both`; the neutral apartment for `Neutral` and `Agile`. A creator that runs in the neutral
+    /// apartment counts for `Apartment` as its lane's home.
+    pub fn create_instance(
+        classes: &Classes,
+        clsid: &Guid,
+        iid: &Guid,
+        creator: Creator,
+    ) -> Result<Placed, HResult>
+        ensures { result ≡ placed classes.now clsid.now iid.now creator }
+    {
+        let Some(number) = classes.find_class(clsid) else {
+            return Err(HResult::REGDB_E_CLASSNOTREG);
+        };
+        let Some(class) = classes.class(number) else {
+            return Err(HResult::REGDB_E_CLASSNOTREG);
+        };
+        let Some(iface) = classes.find_interface(iid) else {
+            return Err(HResult::E_NOINTERFACE);
+        };
+        if !class.has(iface) {
+            return Err(HResult::E_NOINTERFACE);
+        }
+        Ok(Placed {
+            class: number,
+            iface,
+            owner: owner_for(class.model, creator),
+            agile: is_agile(class.model),
+        })
+    }
+}
+
+fn owner_for(model: ThreadingModel, creator: Creator) -> u32
+    ensures { result ≡ owner_for model creator }
+{
+    match model {
+        ThreadingModel::Nothing => creator.main_sta,
+        ThreadingModel::Apartment => sta_of(creator),
+        ThreadingModel::Free => 1,
+        ThreadingModel::Both => creator.running,
+        ThreadingModel::Neutral => 0,
+        ThreadingModel::Agile => 0,
+    }
+}
+
+// The creator's apartment if it is an STA, else the host's STA.
+fn sta_of(creator: Creator) -> u32
+    ensures { result ≡ owner_for model.Apartment creator }
+{
+    let apartment = if creator.running == 0 {
+        creator.home
+    } else {
+        creator.running
+    };
+    if apartment >= 2 { apartment } else { 2 }
+}
+
+fn is_agile(model: ThreadingModel) -> bool
+    ensures { result ≡ is_agile model }
+{
+    match model {
+        ThreadingModel::Agile => true,
+        _ => false,
+    }
+}

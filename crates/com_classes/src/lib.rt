@@ -1,6 +1,7 @@
 //! Interfaces, classes and activation.
 #![tactic(auto)]
 
+mod built_ins;
 mod classes;
 mod factory;
 mod interfaces;
