@@ -1,0 +1,153 @@
+-- Reading arguments from the front, with the first fault that is met.
+use Rattle.std.specs.Prelude.{◌≡◌, ℕ, zero, suc, ◌+◌, true, false, List, [], ◌∷◌, length, take, drop, slice_index, Option, Some, None, Result, Ok, Err, nat_lt, ◌==◌, if◌then◌else◌}
+use Rattle.std.specs.Int.{w32, w64, cast_signed}
+use Rattle.std.specs.Str.{is_utf8}
+use Rattle.com_base.specs.declared.value.Kind.{Kind}
+use Rattle.com_base.specs.declared.value.Kind.TheVariants as kind
+use Rattle.com_base.specs.declared.standard.StdFields.{StdFields}
+use Rattle.com_wire.specs.Fields.{number_at, guid_at}
+use Rattle.com_wire.specs.Steps.{◌>>=◌}
+use Rattle.objref.specs.declared.decoding.RefFault.{RefFault}
+use Rattle.objref.specs.Grammar.{Reference, standard, handler, custom}
+use Rattle.objref.specs.Reading.{objref_of}
+use Rattle.ndr_args.specs.declared.wire.Wire.{Wire}
+use Rattle.ndr_args.specs.declared.wire.Wire.TheVariants as wire
+use Rattle.ndr_args.specs.declared.wire.ArgFault.{ArgFault}
+use Rattle.ndr_args.specs.declared.wire.ArgError.{ArgError}
+use Rattle.ndr_args.specs.declared.wire.ArgError.TheVariants as errors
+use Rattle.ndr_args.specs.Grammar.{gap, align_of}
+
+-- What a function returned, seen by view, is what reading gives, unless memory ran out.
+abbrev pub Fails : {Y : Type 0} → ArgError → Result Y ArgFault → Type 0
+Fails errors.Memory read = Unit {0}
+Fails (errors.Fault f) read = read ≡ Err f
+
+abbrev pub Gives : {X Y : Type 0} → (X → Y) → Result X ArgError → Result Y ArgFault → Type 0
+Gives view (Ok x) read = read ≡ Ok (view x)
+Gives view (Err e) read = Fails e read
+
+abbrev pub fault : ℕ → ℕ → ArgFault
+fault number at = record { number = number; at = at }
+
+-- A field that is not whole is fault 1, at the length of the bytes.
+abbrev pub short : List ℕ → ArgFault
+short bytes = fault 1 (length bytes)
+
+-- A field, and the place behind it.
+abbrev pub field : {A : Type 0} → List ℕ → Option A → ℕ → Result (A × ℕ) ArgFault
+field bytes None end = Err (short bytes)
+field bytes (Some x) end = Ok (x, end)
+
+abbrev pub u32_field : List ℕ → ℕ → Result (ℕ × ℕ) ArgFault
+u32_field bytes place = field bytes (number_at w32 bytes place) (place + 4)
+
+-- So many bytes that must be 0. Another byte is fault 2, there.
+unfoldable pub zeros_at : List ℕ → ℕ → ℕ → Result ℕ ArgFault
+zeros_at bytes zero place = Ok place
+zeros_at bytes (suc count) place =
+    if nat_lt place (length bytes) then
+    (if slice_index bytes place == 0 then zeros_at bytes count (place + 1) else Err (fault 2 place))
+    else Err (short bytes)
+
+-- A count above 65,536 is fault 5, at the count.
+unfoldable pub count_at : List ℕ → ℕ → Result (ℕ × ℕ) ArgFault
+count_at bytes place = do
+  count ← u32_field bytes place
+  if nat_lt 65536 count.0 then Err (fault 5 place) else Ok count
+
+-- So many bytes.
+abbrev pub part_at : List ℕ → ℕ → ℕ → Result (List ℕ × ℕ) ArgFault
+part_at bytes count place =
+    if nat_lt (length bytes) (place + count) then Err (short bytes) else Ok (take count (drop place bytes), place + count)
+
+-- Bytes behind their count, which is tested before they are.
+unfoldable pub counted_at : List ℕ → ℕ → Result (List ℕ × ℕ) ArgFault
+counted_at bytes place = do
+  count ← count_at bytes place
+  part_at bytes count.0 count.1
+
+unfoldable pub int_at : List ℕ → ℕ → Result (Wire × ℕ) ArgFault
+int_at bytes place = do
+  n ← field bytes (number_at w64 bytes place) (place + 8)
+  Ok (wire.Int (cast_signed w64 n.0), n.1)
+
+-- A number that is neither 0 nor 1 is fault 3, at the number.
+unfoldable pub bool_at : List ℕ → ℕ → Result (Wire × ℕ) ArgFault
+bool_at bytes place = do
+  n ← u32_field bytes place
+  if n.0 == 0 then Ok (wire.Bool false, n.1) else
+      if n.0 == 1 then Ok (wire.Bool true, n.1) else
+      Err (fault 3 place)
+
+-- Bytes that are not UTF-8 are fault 4, at their first.
+unfoldable pub text_at : List ℕ → ℕ → Result (Wire × ℕ) ArgFault
+text_at bytes place = do
+  part ← counted_at bytes place
+  if is_utf8 part.0 then Ok (wire.Text part.0, part.1) else Err (fault 4 (place + 4))
+
+unfoldable pub bytes_at : List ℕ → ℕ → Result (Wire × ℕ) ArgFault
+bytes_at bytes place = do
+  part ← counted_at bytes place
+  Ok (wire.Bytes part.0, part.1)
+
+unfoldable pub guid_arg_at : List ℕ → ℕ → Result (Wire × ℕ) ArgFault
+guid_arg_at bytes place = do
+  g ← field bytes (guid_at bytes place) (place + 16)
+  Ok (wire.Guid g.0, g.1)
+
+-- The fields of an OBJREF by standard marshalling.
+abbrev pub std_fields : Result Reference RefFault → Option StdFields
+std_fields (Ok (standard fields flags strings)) = Some fields
+std_fields (Ok (handler fields flags clsid strings)) = None
+std_fields (Ok (custom iid clsid extension unread payload)) = None
+std_fields (Err f) = None
+
+abbrev pub fields_at : Option StdFields → ℕ → Result StdFields ArgFault
+fields_at None place = Err (fault 7 place)
+fields_at (Some fields) place = Ok fields
+
+-- What stands behind a referent that is not 0: the maximum count, the length, the OBJREF and padding. Two
+-- counts that differ are fault 5 at the second, bytes that are no standard OBJREF are fault 7 at the
+-- first.
+unfoldable pub held_at : List ℕ → ℕ → Result (StdFields × ℕ) ArgFault
+held_at bytes place = do
+  maximum ← count_at bytes place
+  count ← u32_field bytes maximum.1
+  part ← (if count.0 == maximum.0 then part_at bytes count.0 count.1 else Err (fault 5 maximum.1))
+  fields ← fields_at (std_fields (objref_of part.0)) count.1
+  end ← zeros_at bytes (gap part.1 4) part.1
+  Ok (fields, end)
+
+unfoldable pub ref_at : List ℕ → ℕ → Result (Wire × ℕ) ArgFault
+ref_at bytes place = do
+  referent ← u32_field bytes place
+  if referent.0 == 0 then Ok (wire.Ref None, referent.1) else (do
+    held ← held_at bytes referent.1
+    Ok (wire.Ref (Some held.0), held.1))
+
+-- A value of a kind at a place that is a multiple of its alignment.
+abbrev pub value_at : Kind → List ℕ → ℕ → Result (Wire × ℕ) ArgFault
+value_at kind.Int bytes place = int_at bytes place
+value_at kind.Bool bytes place = bool_at bytes place
+value_at kind.Text bytes place = text_at bytes place
+value_at kind.Bytes bytes place = bytes_at bytes place
+value_at kind.Guid bytes place = guid_arg_at bytes place
+value_at (kind.Ref i) bytes place = ref_at bytes place
+
+unfoldable pub arg_at : Kind → List ℕ → ℕ → Result (Wire × ℕ) ArgFault
+arg_at k bytes place = do
+  start ← zeros_at bytes (gap place (align_of k)) place
+  value_at k bytes start
+
+unfoldable pub args_at : List Kind → List ℕ → ℕ → Result (List Wire × ℕ) ArgFault
+args_at [] bytes place = Ok ([], place)
+args_at (k ∷ ks) bytes place = do
+  first ← arg_at k bytes place
+  others ← args_at ks bytes first.1
+  Ok (first.0 ∷ others.0, others.1)
+
+-- All of the bytes. Bytes behind the last value are fault 6, at the first of them.
+unfoldable pub args_of : List Kind → List ℕ → Result (List Wire) ArgFault
+args_of ks bytes = do
+  all ← args_at ks bytes 0
+  if nat_lt all.1 (length bytes) then Err (fault 6 all.1) else Ok all.0

@@ -1,0 +1,265 @@
+//! Reading arguments in one pass over the bytes.
+ghost use Rattle.std.specs.Prelude.{◌≡◌, ◌+◌, ◌-◌, ◌<◌, ◌≤◌, ◌^◌, ℕ, List, length, take, drop, IfOk, Ok, Err};
+ghost use Rattle.std.specs.Str.{is_utf8};
+ghost use Rattle.com_base.specs.declared.value.Kind.{Kind};
+ghost use Rattle.objref.specs.Reading.{objref_of};
+ghost use Rattle.ndr_args.specs.declared.wire.Wire.{Wire};
+ghost use Rattle.ndr_args.specs.Grammar.{gap, align_of, IsArgs};
+ghost use Rattle.ndr_args.specs.Reading.{Gives, short, u32_field, zeros_at, count_at, part_at, counted_at, int_at, bool_at, text_at, bytes_at, guid_arg_at, std_fields, held_at, ref_at, arg_at, args_at, args_of};
+
+use crate::wire::{ArgError, ArgFault, Wire};
+use com_base::{ByteList, Kind, StdFields};
+use com_wire::{guid_at, u32_at, u64_at};
+use objref::{ObjRef, decode};
+use std::alloc::Global;
+use std::str::from_utf8;
+
+// The greatest count that is taken.
+const LIMIT: u32 = 65_536;
+
+fn fault(number: u8, at: usize) -> ArgError
+    ensures { result ≡ ArgError.Fault (record { number = number; at = at }) }
+{
+    ArgError::Fault(ArgFault { number, at })
+}
+
+// How many bytes lie between a place and the next multiple of the alignment.
+pub(crate) fn gap(place: usize, align: usize) -> usize
+    requires { 0 < align }
+    ensures value { result ≡ gap place align }
+    ensures below { result < align }
+{
+    (align - place % align) % align
+}
+
+fn u32_field(bytes: &[u8], place: usize) -> Result<(u32, usize), ArgError>
+    ensures value { Gives (λ x. x) result (u32_field bytes.now place) }
+    ensures within { IfOk result (λ x. (x.1 ≡ place + 4) × (x.1 ≤ length bytes.now)) }
+{
+    match u32_at(bytes, place) {
+        Some(number) => Ok((number, place + 4)),
+        None => Err(fault(ArgFault::SHORT, bytes.len())),
+    }
+}
+
+// Passes over so many bytes that must be 0.
+fn zeros_at(bytes: &[u8], count: usize, place: usize) -> Result<usize, ArgError>
+    requires within { place ≤ length bytes.now }
+    requires few { count < 8 }
+    ensures value { Gives (λ x. x) result (zeros_at bytes.now count place) }
+    ensures within { IfOk result (λ end. end ≤ length bytes.now) }
+{
+    for at in place..place + count {
+        if at >= bytes.len() {
+            return Err(fault(ArgFault::SHORT, bytes.len()));
+        }
+        if bytes[at] != 0 {
+            return Err(fault(ArgFault::PADDING, at));
+        }
+    }
+    Ok(place + count)
+}
+
+#[tactic(auto, unfolding(crate::specs::Reading::count_at))]
+fn count_at(bytes: &[u8], place: usize) -> Result<(u32, usize), ArgError>
+    ensures value { Gives (λ x. x) result (count_at bytes.now place) }
+    ensures within { IfOk result (λ x. (x.1 ≡ place + 4) × (x.1 ≤ length bytes.now)) }
+{
+    let (count, end) = u32_field(bytes, place)?;
+    if count > LIMIT {
+        return Err(fault(ArgFault::COUNT, place));
+    }
+    Ok((count, end))
+}
+
+fn part_at(bytes: &[u8], count: u32, place: usize) -> Result<(&[u8], usize), ArgError>
+    requires { place ≤ length bytes.now }
+    ensures value { Gives (λ x. (x.0.now, x.1)) result (part_at bytes.now count place) }
+    ensures within { IfOk result (λ x. x.1 ≤ length bytes.now) }
+{
+    let count = count as usize;
+    if bytes.len() - place < count {
+        return Err(fault(ArgFault::SHORT, bytes.len()));
+    }
+    let end = place + count;
+    Ok((&bytes[place..end], end))
+}
+
+#[tactic(auto, unfolding(crate::specs::Reading::counted_at))]
+fn counted_at(bytes: &[u8], place: usize) -> Result<(&[u8], usize), ArgError>
+    ensures value { Gives (λ x. (x.0.now, x.1)) result (counted_at bytes.now place) }
+    ensures within { IfOk result (λ x. x.1 ≤ length bytes.now) }
+    ensures room { IfOk result (λ x. place + 4 ≤ length bytes.now) }
+{
+    let (count, start) = count_at(bytes, place)?;
+    part_at(bytes, count, start)
+}
+
+#[tactic(auto, unfolding(crate::specs::Reading::int_at))]
+fn int_at(bytes: &[u8], place: usize) -> Result<(Wire, usize), ArgError>
+    ensures value { Gives (λ x. x) result (int_at bytes.now place) }
+    ensures within { IfOk result (λ x. x.1 ≤ length bytes.now) }
+{
+    match u64_at(bytes, place) {
+        Some(number) => Ok((Wire::Int(number.cast_signed()), place + 8)),
+        None => Err(fault(ArgFault::SHORT, bytes.len())),
+    }
+}
+
+#[tactic(auto, unfolding(crate::specs::Reading::bool_at))]
+fn bool_at(bytes: &[u8], place: usize) -> Result<(Wire, usize), ArgError>
+    ensures value { Gives (λ x. x) result (bool_at bytes.now place) }
+    ensures within { IfOk result (λ x. x.1 ≤ length bytes.now) }
+{
+    let (number, end) = u32_field(bytes, place)?;
+    match number {
+        0 => Ok((Wire::Bool(false), end)),
+        1 => Ok((Wire::Bool(true), end)),
+        _ => Err(fault(ArgFault::BOOL, place)),
+    }
+}
+
+fn is_utf8(bytes: &[u8]) -> bool
+    ensures { result ≡ is_utf8 bytes.now }
+{
+    from_utf8(bytes).is_ok()
+}
+
+#[tactic(auto, unfolding(crate::specs::Reading::text_at))]
+fn text_at(alloc: Global, bytes: &[u8], place: usize) -> Result<(Wire, usize), ArgError>
+    ensures value { Gives (λ x. x) result (text_at bytes.now place) }
+    ensures within { IfOk result (λ x. x.1 ≤ length bytes.now) }
+{
+    let (text, end) = counted_at(bytes, place)?;
+    if !is_utf8(text) {
+        return Err(fault(ArgFault::TEXT, place + 4));
+    }
+    Ok((Wire::Text(ByteList::from_slice(alloc, text)?), end))
+}
+
+#[tactic(auto, unfolding(crate::specs::Reading::bytes_at))]
+fn bytes_at(alloc: Global, bytes: &[u8], place: usize) -> Result<(Wire, usize), ArgError>
+    ensures value { Gives (λ x. x) result (bytes_at bytes.now place) }
+    ensures within { IfOk result (λ x. x.1 ≤ length bytes.now) }
+{
+    let (part, end) = counted_at(bytes, place)?;
+    Ok((Wire::Bytes(ByteList::from_slice(alloc, part)?), end))
+}
+
+#[tactic(auto, unfolding(crate::specs::Reading::guid_arg_at))]
+fn guid_arg_at(bytes: &[u8], place: usize) -> Result<(Wire, usize), ArgError>
+    ensures value { Gives (λ x. x) result (guid_arg_at bytes.now place) }
+    ensures within { IfOk result (λ x. x.1 ≤ length bytes.now) }
+{
+    match guid_at(bytes, place) {
+        Some(guid) => Ok((Wire::Guid(guid), place + 16)),
+        None => Err(fault(ArgFault::SHORT, bytes.len())),
+    }
+}
+
+// The fields of an OBJREF by standard marshalling. None for all other bytes.
+fn standard_fields(bytes: &[u8]) -> Option<StdFields>
+    ensures { result ≡ std_fields (objref_of bytes.now) }
+{
+    match decode(bytes) {
+        Ok(ObjRef::Standard { fields, .. }) => Some(fields),
+        _ => None,
+    }
+}
+
+#[tactic(auto, unfolding(crate::specs::Reading::held_at))]
+fn held_at(bytes: &[u8], place: usize) -> Result<(StdFields, usize), ArgError>
+    ensures value { Gives (λ x. x) result (held_at bytes.now place) }
+    ensures within { IfOk result (λ x. x.1 ≤ length bytes.now) }
+{
+    let (maximum, second) = count_at(bytes, place)?;
+    let (count, start) = u32_field(bytes, second)?;
+    if count != maximum {
+        return Err(fault(ArgFault::COUNT, second));
+    }
+    let (part, end) = part_at(bytes, count, start)?;
+    let Some(fields) = standard_fields(part) else {
+        return Err(fault(ArgFault::REF, start));
+    };
+    let end = zeros_at(bytes, gap(end, 4), end)?;
+    Ok((fields, end))
+}
+
+#[tactic(auto, unfolding(crate::specs::Reading::ref_at))]
+fn ref_at(bytes: &[u8], place: usize) -> Result<(Wire, usize), ArgError>
+    ensures value { Gives (λ x. x) result (ref_at bytes.now place) }
+    ensures within { IfOk result (λ x. x.1 ≤ length bytes.now) }
+{
+    let (referent, place) = u32_field(bytes, place)?;
+    if referent == 0 {
+        return Ok((Wire::Ref(None), place));
+    }
+    let (fields, end) = held_at(bytes, place)?;
+    Ok((Wire::Ref(Some(fields)), end))
+}
+
+fn align_of(kind: Kind) -> usize
+    ensures value { result ≡ align_of kind }
+    ensures some { 0 < result }
+    ensures few { result ≤ 8 }
+{
+    match kind {
+        Kind::Int => 8,
+        Kind::Bool | Kind::Text | Kind::Bytes | Kind::Guid | Kind::Ref(_) => 4,
+    }
+}
+
+#[tactic(auto, unfolding(crate::specs::Reading::arg_at))]
+fn arg_at(alloc: Global, kind: Kind, bytes: &[u8], place: usize) -> Result<(Wire, usize), ArgError>
+    requires { place ≤ length bytes.now }
+    ensures value { Gives (λ x. x) result (arg_at kind bytes.now place) }
+    ensures within { IfOk result (λ x. x.1 ≤ length bytes.now) }
+{
+    let start = zeros_at(bytes, gap(place, align_of(kind)), place)?;
+    match kind {
+        Kind::Int => int_at(bytes, start),
+        Kind::Bool => bool_at(bytes, start),
+        Kind::Text => text_at(alloc, bytes, start),
+        Kind::Bytes => bytes_at(alloc, bytes, start),
+        Kind::Guid => guid_arg_at(bytes, start),
+        Kind::Ref(_) => ref_at(bytes, start),
+    }
+}
+
+fn args_at(alloc: Global, kinds: &[Kind], bytes: &[u8]) -> Result<(Vec<Wire>, usize), ArgError>
+    ensures { Gives (λ x. (x.0.items, x.1)) result (args_at kinds.now bytes.now 0) }
+{
+    let mut values = Vec::with_capacity(alloc, kinds.len())?;
+    let mut place = 0;
+    for kind in kinds {
+        let (value, end) = arg_at(alloc, *kind, bytes, place)?;
+        values.push(value)?;
+        place = end;
+    }
+    Ok((values, place))
+}
+
+#[tactic(auto, unfolding(crate::specs::Reading::args_of))]
+fn all(alloc: Global, kinds: &[Kind], bytes: &[u8]) -> Result<Vec<Wire>, ArgError>
+    ensures { Gives (λ v. v.items) result (args_of kinds.now bytes.now) }
+{
+    let (values, end) = args_at(alloc, kinds, bytes)?;
+    if end < bytes.len() {
+        return Err(fault(ArgFault::TRAILING, end));
+    }
+    Ok(values)
+}
+
+/// The values of these kinds that the bytes are, all of the bytes, or their first fault from the front.
+/// Memory is taken for the list, the texts and the bytes.
+/// Source: C706, chapter 14; MS-DCOM 2.2.14, "MInterfacePointer".
+pub fn read_args(alloc: Global, kinds: &[Kind], bytes: &[u8]) -> Result<Vec<Wire>, ArgError>
+    // What is read is spelled so, each byte of it.
+    ensures found { IfOk result (λ values. IsArgs kinds.now 0 values.items bytes.now) }
+    // What is spelled so is read, unless memory runs out.
+    ensures only { (values : List Wire) → IsArgs kinds.now 0 values bytes.now → Gives (λ v. v.items) result (Ok values) }
+    // Which fault it is.
+    ensures exact { Gives (λ v. v.items) result (args_of kinds.now bytes.now) }
+{
+    all(alloc, kinds, bytes)
+}
