@@ -26,7 +26,7 @@ use Rattle.com_model.specs.Openers.{Opener, Pumps, Waits, Enters, Effect, Closes
 use Rattle.com_model.specs.Calls.{Issue, issue, object_of, is_post, route_of}
 use Rattle.com_model.specs.Frames.{Scene, Actor, Body, Script, Nobody, scene, outcome, unless_over, action_of, act_by, new_cells, actor, actor_in, is_leave, reference}
 use Rattle.com_model.specs.Endings.{Answer}
-use Rattle.com_model.specs.Waiting.{Phase, Unposted, Queued, Judged, Delayed, GivenUp, Word, not_asked, bound_reached}
+use Rattle.com_model.specs.Waiting.{Phase, Unposted, Queued, Judged, Delayed, GivenUp, Word, mark_of, not_asked, bound_reached}
 use Rattle.com_model.specs.Books.{Cookie, cookie}
 use Rattle.com_model.specs.Sight.{Sight, sight}
 use Rattle.com_model.specs.Deeds.{hold_refusal, named_by, deed_of, created, created_of, initialised, marshalled, registered, Named, NamesPacket, Refuses, unmarshalled, dropped, got, got_by, got_with, cookie_number, gained_refs, owned_by, made_of, not_made, revoked, uninitialised, in_sta, called, left_by, left_as}
@@ -193,8 +193,8 @@ asked-fits s v l c os (Some w) = given-where (Fits os) (in_sta (v.home l) && is_
 
 pending-fits : (s : Scenario) (v : Sight) (l : ℕ) → Given (Fits (v.openers l)) (rule_pending s v l)
 pending-fits s v l =
-    own-given Fits (λ c. asked_on s v l c (not_asked ((v.mail l).asked c) (v.mail l).words))
-    (λ c os. asked-fits s v l c (Waits c ∷ os) (not_asked ((v.mail l).asked c) (v.mail l).words)) (v.openers l)
+    own-given Fits (λ c. asked_on s v l c (not_asked (mark_of (v.mail l).marks c) (v.mail l).words))
+    (λ c os. asked-fits s v l c (Waits c ∷ os) (not_asked (mark_of (v.mail l).marks c) (v.mail l).words)) (v.openers l)
 
 word-taken : (n : ℕ) (os : List Opener) (w : Option Word) (q : Bool) → Given (Fits (Pumps n ∷ os)) (takes_word w q)
 word-taken n os (Some w) q = tt

@@ -23,3 +23,4 @@ pub mod Rules
 pub mod Ends
 pub mod Safe
 pub mod Formed
+pub mod State

@@ -19,7 +19,7 @@ use Rattle.com_filter.specs.Answers.{incoming_answer, retry_answer, pending_answ
 use Rattle.com_model.specs.Clock.{call_sort, waited, rules_of, is_handled}
 use Rattle.com_model.specs.Endings.{Ending, Answer, answer_of, without_value, is_leave}
 use Rattle.com_model.specs.Books.{packet}
-use Rattle.com_model.specs.Waiting.{Phase, Judged, Delayed, Word, Mail, not_asked, bound_reached}
+use Rattle.com_model.specs.Waiting.{Phase, Judged, Delayed, Word, Mail, mark_of, not_asked, bound_reached}
 use Rattle.com_model.specs.Deeds.{deed_of, uninitialised, in_sta}
 use Rattle.com_model.specs.Sight.{Sight, sight}
 
@@ -155,7 +155,7 @@ asked_on s v l c (Some w) = asks_about s v l c (deed.Pending c w.word (pending_a
 
 abbrev pub rule_pending : Scenario → Sight → ℕ → Option Deed
 rule_pending s v l =
-    option_and_then (λ c. asked_on s v l c (not_asked ((v.mail l).asked c) (v.mail l).words)) (own_call v l)
+    option_and_then (λ c. asked_on s v l c (not_asked (mark_of (v.mail l).marks c) (v.mail l).words)) (own_call v l)
 
 -- 9. A pump takes the first word; else, where a quit stands, it ends.
 abbrev pub takes_word : Option Word → (quit : Bool) → Option Deed
