@@ -1,3 +1,5 @@
 pub mod Given
 pub mod Stacks
 pub mod Stands
+pub mod Comes
+pub mod Onces

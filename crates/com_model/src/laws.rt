@@ -10,6 +10,7 @@ ghost use Rattle.com_model.specs.declared.scenario.Scenario.{Scenario};
 ghost use Rattle.com_model.specs.Lists.{first};
 ghost use Rattle.com_model.specs.Openers.{nested, openers, Waits, top_call};
 ghost use Rattle.com_model.specs.Rules.{legal, next};
+ghost use Rattle.com_model.specs.Safe.{once};
 ghost use Rattle.com_model.specs.Clock.{clock};
 ghost use Rattle.com_model.specs.State.{State, LanesStand, ApartmentsStand, after};
 
@@ -19,6 +20,12 @@ pub fn one_stack()
     ensures nested { (s : Scenario) (h : List Entry) (l : ℕ) → legal s h → nested h l }
     ensures own_out { (s : Scenario) (h : List Entry) (l c : ℕ) (hr : HResult) (v : Option Value) → next s h l ≡ Some (deed.Back c hr v) → first (openers h l) ≡ Some (Waits c) }
     ensures own_enter { (s : Scenario) (h : List Entry) (l c : ℕ) (hr : HResult) (v : Option Value) (b : Option (List ℕ)) → next s h l ≡ Some (deed.Leave c hr v b) → top_call (first (openers h l)) ≡ Some c }
+{}
+
+/// Each call of a legal history has one Out, at most one Enter after it, at most one Leave after that, and at most one Back
+/// after its Out.
+pub fn once_each()
+    ensures { (s : Scenario) (h : List Entry) → legal s h → once h }
 {}
 
 /// Where the tables of a state stand for a history, they stand for the longer one after each deed: the tables of lanes (openers,
