@@ -3,3 +3,4 @@ pub mod Stacks
 pub mod Stands
 pub mod Comes
 pub mod Onces
+pub mod Cases

@@ -24,3 +24,4 @@ pub mod Ends
 pub mod Safe
 pub mod Formed
 pub mod State
+pub mod Cases
