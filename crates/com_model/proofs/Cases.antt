@@ -1,5 +1,5 @@
 -- The worked cases, computed entry by entry.
-use Rattle.std.specs.Prelude.{◌≡◌, refl, [], Some, None}
+use Rattle.std.specs.Prelude.{◌≡◌, refl, Some, None}
 use Rattle.com_model.specs.declared.counts.Ended.TheVariants as ended
 use Rattle.com_model.specs.Rules.{next, legal}
 use Rattle.com_model.specs.Ends.{ended_as, scheduled}

@@ -1,7 +1,7 @@
 -- Where the numbers of calls in the entries of a legal history come from.
-use Rattle.std.proofs.Common.{subst, sym, ap, eqb-true, arith}
+use Rattle.std.proofs.Common.{subst, sym, arith}
 use Rattle.std.proofs.lemmas.Grind.{common_steps}
-use Rattle.std.specs.Prelude.{◌≡◌, refl, ℕ, ℤ, zero, suc, Bool, true, false, cond, ◌==◌, ◌&&◌, not, nat_le, length, ◌||◌, ◌+◌, List, [], ◌∷◌, Option, Some, None, option_map, option_and_then, map}
+use Rattle.std.specs.Prelude.{◌≡◌, refl, ℕ, ℤ, Bool, true, false, cond, ◌==◌, ◌&&◌, not, nat_le, length, ◌||◌, ◌+◌, List, [], ◌∷◌, Option, Some, None, option_map}
 use Rattle.com_base.specs.declared.hresult.HResult.{HResult}
 use Rattle.com_base.specs.declared.value.RefValue.{RefValue}
 use Rattle.com_base.specs.declared.value.Value.{Value}
@@ -12,29 +12,25 @@ use Rattle.com_model.specs.Answers.{S_OK, E_INVALIDARG, E_NOINTERFACE, CO_E_OBJN
 use Rattle.com_body.specs.declared.operands.Asked.{Asked}
 use Rattle.com_body.specs.declared.actions.Action.{Action}
 use Rattle.com_body.specs.declared.actions.Action.TheVariants as action
-use Rattle.com_body.specs.declared.frame.Outcome.{Outcome}
-use Rattle.com_filter.specs.declared.Verdict.{Verdict}
 use Rattle.com_model.specs.declared.deeds.Deed.{Deed}
 use Rattle.com_model.specs.declared.deeds.Deed.TheVariants as deed
 use Rattle.com_model.specs.declared.deeds.Entry.{Entry}
 use Rattle.com_model.specs.declared.scenario.Scenario.{Scenario}
-use Rattle.com_model.specs.Lists.{or_else, where_true, first}
+use Rattle.com_model.specs.Lists.{where_true, first}
 use Rattle.com_model.specs.Issue.{call_refusal}
-use Rattle.com_body.specs.BodySteps.{body_step}
-use Rattle.com_model.specs.Objects.{class_of}
-use Rattle.com_model.specs.Tables.{script, in_set, class_number, interface_number, LaneSort, Thread, Host, Pool, NoLane, lane_sort}
-use Rattle.com_model.specs.Openers.{Opener, Pumps, Waits, Enters, Effect, Closes, Keeps, Backs, Leaves, top_call, effect, effect_on, fits, nested, openers, running_call}
-use Rattle.com_model.specs.Calls.{Issue, issue, object_of, is_post, route_of}
-use Rattle.com_model.specs.Frames.{Scene, Actor, Body, Script, Nobody, scene, outcome, unless_over, action_of, act_by, new_cells, actor, actor_in, is_leave, reference}
+use Rattle.com_model.specs.Tables.{in_set, class_number, interface_number, LaneSort, Thread, Host, Pool, NoLane, lane_sort}
+use Rattle.com_model.specs.Openers.{Opener, Pumps, Waits, Enters, openers, running_call}
+use Rattle.com_model.specs.Calls.{Issue, object_of, is_post, route_of}
+use Rattle.com_model.specs.Frames.{reference}
 use Rattle.com_model.specs.Endings.{Answer}
 use Rattle.com_model.specs.Waiting.{Phase, Unposted, Queued, Judged, Delayed, GivenUp, Word, mark_of, not_asked, bound_reached}
 use Rattle.com_model.specs.Books.{Cookie, cookie}
 use Rattle.com_model.specs.Sight.{Sight, sight}
 use Rattle.com_model.specs.Deeds.{hold_refusal, named_by, deed_of, created, created_of, initialised, marshalled, registered, Named, NamesPacket, Refuses, unmarshalled, dropped, got, got_by, got_with, cookie_number, gained_refs, owned_by, made_of, not_made, revoked, uninitialised, in_sta, called, left_by, left_as}
-use Rattle.com_model.specs.Rules.{posted_to_sta, is_handled_in, type_of, verdict_on, arguments_gone, enters_itself, packet_left, due_of, admits_next, no_lane_can, tick_time, legal, next, next_by, lane_next, stepped, ruled, admission, rule_final, rule_own, rule_answer, rule_bound, rule_inbox, rule_retry, rule_again, rule_pending, rule_word, rule_script, answered, retried, posted_again, asked_on, asks_about, pumped, takes_word, after_script, scripted, is_script_turn, ticks}
-use Rattle.com_model.proofs.Given.{Given, given-or, given-where, given-map, given-then, cond-of, own-given}
+use Rattle.com_model.specs.Rules.{posted_to_sta, is_handled_in, type_of, verdict_on, arguments_gone, enters_itself, packet_left, due_of, admits_next, no_lane_can, tick_time, next, next_by, stepped, ruled, admission, rule_final, rule_own, rule_answer, rule_bound, rule_inbox, rule_retry, rule_again, rule_pending, rule_word, rule_script, answered, retried, posted_again, asked_on, pumped, takes_word, scripted, is_script_turn}
+use Rattle.com_model.proofs.Given.{Given, given-or, given-where, given-map, cond-of, own-given}
 use Rattle.com_model.specs.Apartments.{mta, is_sta}
-use Rattle.com_model.specs.Calls.{calls, admitted, target}
+use Rattle.com_model.specs.Calls.{admitted, target}
 use Rattle.com_model.specs.Endings.{ending}
 use Rattle.com_model.specs.Objects.{named}
 use Rattle.com_model.specs.Lists.{is_member}

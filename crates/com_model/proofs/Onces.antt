@@ -1,20 +1,20 @@
 -- Each call of a legal history has one Out, at most one Enter, one Leave and one Back, in their order.
-use Rattle.std.proofs.Common.{subst, sym, ap, eqb-true, arith}
+use Rattle.std.proofs.Common.{subst, sym, eqb-true, arith}
 use Rattle.std.proofs.lemmas.Grind.{common_steps}
-use Rattle.std.specs.Prelude.{◌≡◌, refl, ℕ, zero, suc, ◌+◌, ◌≤◌, Bool, true, false, not, cond, ◌==◌, ◌||◌, ◌&&◌, List, [], ◌∷◌, ◌++◌, Option, Some, None, is_none, is_some, filter, pos, negsuc, nat_lt}
+use Rattle.std.specs.Prelude.{◌≡◌, refl, ℕ, ◌+◌, ◌≤◌, Bool, true, false, not, cond, ◌==◌, ◌||◌, List, [], ◌∷◌, ◌++◌, Option, Some, None, is_none, is_some, filter, pos, negsuc, nat_lt}
 use Rattle.com_model.specs.declared.deeds.Deed.{Deed}
 use Rattle.com_model.specs.declared.deeds.Deed.TheVariants as deed
 use Rattle.com_model.specs.declared.deeds.Entry.{Entry}
 use Rattle.com_model.specs.declared.deeds.Route.TheVariants as route
 use Rattle.com_model.specs.declared.scenario.Scenario.{Scenario}
 use Rattle.com_model.specs.Lists.{first, is_member, count_if, without_first}
-use Rattle.com_model.specs.Openers.{Opener, Pumps, Waits, Enters, Effect, Closes, Keeps, Backs, Leaves, effect, effect_on, opened, openers, open_calls, fits}
+use Rattle.com_model.specs.Openers.{Opener, Pumps, Waits, Enters, Closes, Keeps, Backs, Leaves, effect, opened, openers, open_calls, fits}
 use Rattle.com_model.specs.Calls.{Issue, Admission, issues, admits, issue, admitted, issue_or, admission_or, lane_of, calls}
 use Rattle.com_model.specs.Waiting.{Posts, Delays, post_effect, posted_last, postings}
 use Rattle.com_model.specs.Rules.{next, legal}
 use Rattle.com_model.specs.Sight.{sight}
-use Rattle.com_model.specs.Safe.{Event, IsOut, IsEnter, IsLeave, IsBack, IsOther, event, Stage, stage_after, stage, ComesOnce, once}
-use Rattle.com_model.proofs.Comes.{Sort, Reaches, by_top, by_post, Comes, sort_of, next-comes}
+use Rattle.com_model.specs.Safe.{IsOut, IsEnter, IsLeave, IsBack, event, Stage, stage_after, stage, ComesOnce, once}
+use Rattle.com_model.proofs.Comes.{Reaches, by_top, by_post, Comes, sort_of, next-comes}
 use Rattle.com_model.proofs.Stacks.{next-fits}
 
 -- ---- small facts

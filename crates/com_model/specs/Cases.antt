@@ -1,7 +1,6 @@
 -- Small worked cases: scenarios and their histories, a name for each prefix.
-use Rattle.std.specs.Prelude.{ℕ, List, [], ◌∷◌, ◌++◌, Option, Some, None, pos, negsuc, codes, true, false}
+use Rattle.std.specs.Prelude.{List, [], ◌∷◌, ◌++◌, Some, None, pos, codes}
 use Rattle.com_base.specs.declared.value.Value.TheVariants as value
-use Rattle.com_base.specs.declared.value.Kind.TheVariants as kind
 use Rattle.com_base.specs.declared.value.Mode.TheVariants as mode
 use Rattle.com_body.specs.declared.operands.Asked.TheVariants as asked
 use Rattle.com_body.specs.declared.operands.Op.TheVariants as op

@@ -1,8 +1,7 @@
 -- What a core keeps, as tables: a field for each definition, one row for each lane, call or object. No field is a function;
 -- functions are readings of the tables. Every step here is the step of the definition.
-use Rattle.std.specs.Prelude.{◌≡◌, ℕ, zero, suc, ◌+◌, ◌≤◌, ◌<◌, Bool, true, false, not, ◌==◌, ◌&&◌, ◌||◌, if◌then◌else◌, List, [], ◌∷◌, ◌++◌, length, filter, map, Option, Some, None, is_some, is_none, option_map, slice_index_or}
+use Rattle.std.specs.Prelude.{◌≡◌, ℕ, ◌+◌, ◌≤◌, Bool, true, false, not, ◌==◌, ◌&&◌, ◌||◌, if◌then◌else◌, List, [], ◌∷◌, ◌++◌, length, filter, Option, Some, None, is_some, is_none, option_map, slice_index_or}
 use Rattle.com_base.specs.declared.hresult.HResult.{HResult}
-use Rattle.com_base.specs.declared.value.RefValue.{RefValue}
 use Rattle.com_base.specs.declared.value.Value.{Value}
 use Rattle.com_body.specs.declared.operands.Destination.{Destination}
 use Rattle.com_body.specs.declared.operands.Destination.TheVariants as destination
@@ -12,13 +11,13 @@ use Rattle.com_model.specs.declared.deeds.Deed.{Deed}
 use Rattle.com_model.specs.declared.deeds.Entry.{Entry}
 use Rattle.com_model.specs.declared.scenario.Scenario.{Scenario}
 use Rattle.com_model.specs.Answers.{S_OK}
-use Rattle.com_model.specs.Lists.{or_else, first, is_number, is_member, count_if, number_or_zero, one_to, each_from, tabulated, from_one}
+use Rattle.com_model.specs.Lists.{or_else, first, is_number, is_member, count_if, number_or_zero, each_from, tabulated, from_one}
 use Rattle.com_model.specs.Tables.{lanes, threads, lane_sort, class_model, is_agile_model}
 use Rattle.com_model.specs.Openers.{Opener, effect_on, opened, left_on, running_call, entered_apartment, openers, served}
 use Rattle.com_model.specs.Apartments.{home_effect_on, home_after, home_by_sort, count_after, makes_sta, ends_sta, with_last, or_host, serves_by_sort, is_end, thread_home, init_count, stas, ended, made_in, over}
-use Rattle.com_model.specs.Objects.{Making, makes, finals, making, objects, finaled, named}
-use Rattle.com_model.specs.Calls.{Issue, Admission, Leaving, issues, admits, leaves, returns, issue_or, admission_or, leaving_or, object_of, lane_of, cause_of, is_marshalled, issue, admitted, left, returned, calls, causes}
-use Rattle.com_model.specs.Clock.{ticked, time_or, filter_effect_on, filter_after, in_made_sta, clock, issued_at, last_filter}
+use Rattle.com_model.specs.Objects.{Making, makes, finals, making, objects, finaled}
+use Rattle.com_model.specs.Calls.{Issue, Admission, Leaving, issues, admits, leaves, returns, admission_or, leaving_or, object_of, lane_of, is_marshalled, issue, admitted, left, returned, calls, causes}
+use Rattle.com_model.specs.Clock.{ticked, filter_effect_on, filter_after, in_made_sta, clock, issued_at, last_filter}
 use Rattle.com_model.specs.Frames.{Scene, Actor, actor, scene_after, act_by, new_cells, scene}
 use Rattle.com_model.specs.Endings.{Ending, end_effect, ends, can_be_cut, is_leave, ending}
 use Rattle.com_model.specs.Places.{Ground}

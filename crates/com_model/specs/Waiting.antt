@@ -1,5 +1,5 @@
 -- Calls that wait to be entered, words, and quits.
-use Rattle.std.specs.Prelude.{ℕ, zero, suc, ◌+◌, ◌-◌, ℤ, pos, negsuc, Bool, true, false, not, ◌==◌, ◌&&◌, nat_lt, nat_le, if◌then◌else◌, List, [], ◌∷◌, ◌++◌, Option, Some, None, filter, is_none, option_map}
+use Rattle.std.specs.Prelude.{ℕ, zero, suc, ◌+◌, ℤ, pos, negsuc, Bool, true, false, not, ◌==◌, ◌&&◌, nat_lt, nat_le, if◌then◌else◌, List, [], ◌∷◌, ◌++◌, Option, Some, None, filter, is_none}
 use Rattle.com_base.specs.declared.hresult.HResult.{HResult}
 use Rattle.com_filter.specs.declared.Verdict.{Verdict}
 use Rattle.com_model.specs.declared.deeds.Deed.{Deed}
@@ -13,7 +13,7 @@ use Rattle.com_model.specs.Openers.{Opener, Pumps, openers, served}
 use Rattle.com_model.specs.Objects.{named}
 use Rattle.com_model.specs.Calls.{admitted, target}
 use Rattle.com_model.specs.Clock.{clock}
-use Rattle.com_model.specs.Endings.{Ending, ending}
+use Rattle.com_model.specs.Endings.{ending}
 
 -- What a deed does to a posted call: an Out by post, an Again, and a Retry of 0 to 99 post it at the inbox's end; a Verdict
 -- judges it; a Retry of 100 and more lets it wait until the clock has grown by that number; one below 0 gives it up.
