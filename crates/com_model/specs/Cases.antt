@@ -345,6 +345,235 @@ younger_first_14 = record { lane = 1; deed = deed.Final 1 } ∷ younger_first_13
 abbrev pub younger_first_15 : List Entry
 younger_first_15 = record { lane = 1; deed = deed.End } ∷ younger_first_14
 
+-- A callback through a relay in the MTA, with references that go from hand to hand.
+abbrev pub relayed : Scenario
+relayed = record {
+  version = 1;
+  pool = 1;
+  classes = record { interfaces = built_in; classes = (record { name = codes "Cnt"; clsid = record { data1 = 1544224961; data2 = 0; data3 = 16384; data4 = 128 ∷ 0 ∷ 0 ∷ 0 ∷ 0 ∷ 0 ∷ 0 ∷ 1 ∷ [] }; model = model.Both; native = native.Counter; interfaces = 1 ∷ []; bodies = [] }) ∷ (record { name = codes "Rly"; clsid = record { data1 = 1544224963; data2 = 0; data3 = 16384; data4 = 128 ∷ 0 ∷ 0 ∷ 0 ∷ 0 ∷ 0 ∷ 0 ∷ 1 ∷ [] }; model = model.Both; native = native.Relay; interfaces = 2 ∷ []; bodies = [] }) ∷ [] };
+  filters = [];
+  threads = ((stmt.Init mode.Sta) ∷ (stmt.Create 0 (asked.Number 1) (asked.Number 1)) ∷ (stmt.Get 1 (op.Literal (value.Int (pos 1)))) ∷ (stmt.Call 1 2 0 ((arg.Slot 0) ∷ []) destination.Nowhere) ∷ (stmt.Call 1 2 1 ((arg.Op (op.Literal (value.Int (pos 4)))) ∷ []) (destination.Register 1)) ∷ []) ∷ ((stmt.Init mode.Mta) ∷ (stmt.Create 0 (asked.Number 2) (asked.Number 2)) ∷ (stmt.Register 0 0) ∷ []) ∷ [];
+  picks = 2 ∷ 2 ∷ 2 ∷ [];
+}
+
+abbrev pub relayed_1 : List Entry
+relayed_1 = record { lane = 2; deed = deed.Init mode.Mta 1 (record { 0 = 0 }) } ∷ []
+
+abbrev pub relayed_2 : List Entry
+relayed_2 = record { lane = 2; deed = deed.Made (Some 1) (Some 1) (asked.Number 2) (asked.Number 2) (record { 0 = 0 }) } ∷ relayed_1
+
+abbrev pub relayed_3 : List Entry
+relayed_3 = record { lane = 2; deed = deed.Register (Some 1) (Some (record { object = 1; iface = 2 })) (record { 0 = 0 }) } ∷ relayed_2
+
+abbrev pub relayed_4 : List Entry
+relayed_4 = record { lane = 1; deed = deed.Init mode.Sta 3 (record { 0 = 0 }) } ∷ relayed_3
+
+abbrev pub relayed_5 : List Entry
+relayed_5 = record { lane = 2; deed = deed.Uninit (Some 1) 0 } ∷ relayed_4
+
+abbrev pub relayed_6 : List Entry
+relayed_6 = record { lane = 1; deed = deed.Made (Some 2) (Some 3) (asked.Number 1) (asked.Number 1) (record { 0 = 0 }) } ∷ relayed_5
+
+abbrev pub relayed_7 : List Entry
+relayed_7 = record { lane = 2; deed = deed.End } ∷ relayed_6
+
+abbrev pub relayed_8 : List Entry
+relayed_8 = record { lane = 1; deed = deed.Get (pos 1) (Some (record { object = 1; iface = 2 })) 5 (record { 0 = 0 }) } ∷ relayed_7
+
+abbrev pub relayed_9 : List Entry
+relayed_9 = record { lane = 1; deed = deed.Out 1 (Some 1) 2 0 route.Post 1 (Some (5 ∷ 0 ∷ 7 ∷ 0 ∷ 0 ∷ 0 ∷ 0 ∷ 0 ∷ 0 ∷ 0 ∷ 0 ∷ 0 ∷ 1 ∷ 0 ∷ 0 ∷ 0 ∷ 0 ∷ 0 ∷ 0 ∷ 0 ∷ 0 ∷ 0 ∷ 0 ∷ 0 ∷ 0 ∷ 0 ∷ 0 ∷ 0 ∷ 0 ∷ 0 ∷ 0 ∷ 0 ∷ 0 ∷ 0 ∷ 2 ∷ 0 ∷ 72 ∷ 0 ∷ 0 ∷ 0 ∷ 72 ∷ 0 ∷ 0 ∷ 0 ∷ 77 ∷ 69 ∷ 79 ∷ 87 ∷ 1 ∷ 0 ∷ 0 ∷ 0 ∷ 1 ∷ 0 ∷ 11 ∷ 92 ∷ 0 ∷ 0 ∷ 0 ∷ 64 ∷ 128 ∷ 0 ∷ 0 ∷ 0 ∷ 0 ∷ 0 ∷ 0 ∷ 1 ∷ 0 ∷ 0 ∷ 0 ∷ 0 ∷ 5 ∷ 0 ∷ 0 ∷ 0 ∷ 3 ∷ 0 ∷ 0 ∷ 0 ∷ 0 ∷ 0 ∷ 0 ∷ 0 ∷ 2 ∷ 0 ∷ 0 ∷ 0 ∷ 0 ∷ 0 ∷ 0 ∷ 0 ∷ 2 ∷ 0 ∷ 0 ∷ 0 ∷ 1 ∷ 0 ∷ 3 ∷ 0 ∷ 1 ∷ 0 ∷ 0 ∷ 0 ∷ 0 ∷ 0 ∷ 0 ∷ 0 ∷ 2 ∷ 0 ∷ 1 ∷ 0 ∷ 0 ∷ 0 ∷ 0 ∷ 0 ∷ [])) } ∷ relayed_8
+
+abbrev pub relayed_10 : List Entry
+relayed_10 = record { lane = 4; deed = deed.Enter 1 1 1 None ((value.Ref (Some (record { object = 2; iface = 1 }))) ∷ []) } ∷ relayed_9
+
+abbrev pub relayed_11 : List Entry
+relayed_11 = record { lane = 4; deed = deed.Copy (Some (record { object = 2; iface = 1 })) } ∷ relayed_10
+
+abbrev pub relayed_12 : List Entry
+relayed_12 = record { lane = 4; deed = deed.Leave 1 (record { 0 = 0 }) None (Some (0 ∷ 0 ∷ 0 ∷ 0 ∷ 0 ∷ 0 ∷ 0 ∷ 0 ∷ 0 ∷ 0 ∷ 0 ∷ 0 ∷ [])) } ∷ relayed_11
+
+abbrev pub relayed_13 : List Entry
+relayed_13 = record { lane = 1; deed = deed.Back 1 (record { 0 = 0 }) None } ∷ relayed_12
+
+abbrev pub relayed_14 : List Entry
+relayed_14 = record { lane = 1; deed = deed.Out 2 (Some 1) 2 1 route.Post 2 (Some (5 ∷ 0 ∷ 7 ∷ 0 ∷ 0 ∷ 0 ∷ 0 ∷ 0 ∷ 0 ∷ 0 ∷ 0 ∷ 0 ∷ 2 ∷ 0 ∷ 0 ∷ 0 ∷ 0 ∷ 0 ∷ 0 ∷ 0 ∷ 0 ∷ 0 ∷ 0 ∷ 0 ∷ 0 ∷ 0 ∷ 0 ∷ 0 ∷ 0 ∷ 0 ∷ 0 ∷ 0 ∷ 4 ∷ 0 ∷ 0 ∷ 0 ∷ 0 ∷ 0 ∷ 0 ∷ 0 ∷ [])) } ∷ relayed_13
+
+abbrev pub relayed_15 : List Entry
+relayed_15 = record { lane = 4; deed = deed.Enter 2 1 1 None ((value.Int (pos 4)) ∷ []) } ∷ relayed_14
+
+abbrev pub relayed_16 : List Entry
+relayed_16 = record { lane = 4; deed = deed.Copy (Some (record { object = 2; iface = 1 })) } ∷ relayed_15
+
+abbrev pub relayed_17 : List Entry
+relayed_17 = record { lane = 4; deed = deed.Out 3 (Some 2) 1 0 route.Post 2 (Some (5 ∷ 0 ∷ 7 ∷ 0 ∷ 0 ∷ 0 ∷ 0 ∷ 0 ∷ 0 ∷ 0 ∷ 0 ∷ 0 ∷ 2 ∷ 0 ∷ 0 ∷ 0 ∷ 0 ∷ 0 ∷ 0 ∷ 0 ∷ 0 ∷ 0 ∷ 0 ∷ 0 ∷ 0 ∷ 0 ∷ 0 ∷ 0 ∷ 0 ∷ 0 ∷ 0 ∷ 0 ∷ 4 ∷ 0 ∷ 0 ∷ 0 ∷ 0 ∷ 0 ∷ 0 ∷ 0 ∷ [])) } ∷ relayed_16
+
+abbrev pub relayed_18 : List Entry
+relayed_18 = record { lane = 1; deed = deed.Enter 3 2 3 (Some 2) ((value.Int (pos 4)) ∷ []) } ∷ relayed_17
+
+abbrev pub relayed_19 : List Entry
+relayed_19 = record { lane = 1; deed = deed.Leave 3 (record { 0 = 0 }) (Some (value.Int (pos 4))) (Some (0 ∷ 0 ∷ 0 ∷ 0 ∷ 0 ∷ 0 ∷ 0 ∷ 0 ∷ 4 ∷ 0 ∷ 0 ∷ 0 ∷ 0 ∷ 0 ∷ 0 ∷ 0 ∷ 0 ∷ 0 ∷ 0 ∷ 0 ∷ [])) } ∷ relayed_18
+
+abbrev pub relayed_20 : List Entry
+relayed_20 = record { lane = 4; deed = deed.Back 3 (record { 0 = 0 }) (Some (value.Int (pos 4))) } ∷ relayed_19
+
+abbrev pub relayed_21 : List Entry
+relayed_21 = record { lane = 4; deed = deed.Leave 2 (record { 0 = 0 }) (Some (value.Int (pos 4))) (Some (0 ∷ 0 ∷ 0 ∷ 0 ∷ 0 ∷ 0 ∷ 0 ∷ 0 ∷ 4 ∷ 0 ∷ 0 ∷ 0 ∷ 0 ∷ 0 ∷ 0 ∷ 0 ∷ 0 ∷ 0 ∷ 0 ∷ 0 ∷ [])) } ∷ relayed_20
+
+abbrev pub relayed_22 : List Entry
+relayed_22 = record { lane = 1; deed = deed.Back 2 (record { 0 = 0 }) (Some (value.Int (pos 4))) } ∷ relayed_21
+
+abbrev pub relayed_23 : List Entry
+relayed_23 = record { lane = 1; deed = deed.Uninit (Some 3) 0 } ∷ relayed_22
+
+abbrev pub relayed_24 : List Entry
+relayed_24 = record { lane = 1; deed = deed.Final 2 } ∷ relayed_23
+
+abbrev pub relayed_25 : List Entry
+relayed_25 = record { lane = 1; deed = deed.End } ∷ relayed_24
+
+-- A call with the causality of an outer call, not of the topmost, is nested.
+abbrev pub outer_causality : Scenario
+outer_causality = record {
+  version = 1;
+  pool = 2;
+  classes = record { interfaces = built_in; classes = (record { name = codes "Cnt"; clsid = record { data1 = 1544224961; data2 = 0; data3 = 16384; data4 = 128 ∷ 0 ∷ 0 ∷ 0 ∷ 0 ∷ 0 ∷ 0 ∷ 1 ∷ [] }; model = model.Both; native = native.Counter; interfaces = 1 ∷ []; bodies = [] }) ∷ (record { name = codes "Far"; clsid = record { data1 = 1544224962; data2 = 0; data3 = 16384; data4 = 128 ∷ 0 ∷ 0 ∷ 0 ∷ 0 ∷ 0 ∷ 0 ∷ 1 ∷ [] }; model = model.Free; native = native.Counter; interfaces = 1 ∷ []; bodies = [] }) ∷ (record { name = codes "Rly"; clsid = record { data1 = 1544224963; data2 = 0; data3 = 16384; data4 = 128 ∷ 0 ∷ 0 ∷ 0 ∷ 0 ∷ 0 ∷ 0 ∷ 1 ∷ [] }; model = model.Both; native = native.Relay; interfaces = 2 ∷ []; bodies = [] }) ∷ (record { name = codes "Frl"; clsid = record { data1 = 1544224964; data2 = 0; data3 = 16384; data4 = 128 ∷ 0 ∷ 0 ∷ 0 ∷ 0 ∷ 0 ∷ 0 ∷ 1 ∷ [] }; model = model.Free; native = native.Relay; interfaces = 2 ∷ []; bodies = [] }) ∷ [] };
+  filters = [];
+  threads = ((stmt.Init mode.Sta) ∷ (stmt.Create 0 (asked.Number 1) (asked.Number 1)) ∷ (stmt.Create 1 (asked.Number 2) (asked.Number 1)) ∷ (stmt.Create 2 (asked.Number 3) (asked.Number 2)) ∷ (stmt.Create 3 (asked.Number 4) (asked.Number 2)) ∷ (stmt.Call 2 2 0 ((arg.Slot 1) ∷ []) destination.Nowhere) ∷ (stmt.Call 3 2 0 ((arg.Slot 0) ∷ []) destination.Nowhere) ∷ (stmt.Register 0 2) ∷ (stmt.Call 3 2 1 ((arg.Op (op.Literal (value.Int (pos 1)))) ∷ []) (destination.Register 1)) ∷ []) ∷ ((stmt.Init mode.Mta) ∷ (stmt.Get 0 (op.Literal (value.Int (pos 1)))) ∷ (stmt.Call 0 2 1 ((arg.Op (op.Literal (value.Int (pos 2)))) ∷ []) (destination.Register 1)) ∷ []) ∷ [];
+  picks = 1 ∷ 1 ∷ 1 ∷ 1 ∷ 1 ∷ 1 ∷ 1 ∷ 1 ∷ 1 ∷ 1 ∷ 1 ∷ 4 ∷ 4 ∷ 4 ∷ 1 ∷ 1 ∷ 2 ∷ 2 ∷ 1 ∷ 2 ∷ 1 ∷ 1 ∷ 1 ∷ 4 ∷ 4 ∷ 4 ∷ 1 ∷ 1 ∷ [];
+}
+
+abbrev pub outer_causality_1 : List Entry
+outer_causality_1 = record { lane = 1; deed = deed.Init mode.Sta 3 (record { 0 = 0 }) } ∷ []
+
+abbrev pub outer_causality_2 : List Entry
+outer_causality_2 = record { lane = 1; deed = deed.Made (Some 1) (Some 3) (asked.Number 1) (asked.Number 1) (record { 0 = 0 }) } ∷ outer_causality_1
+
+abbrev pub outer_causality_3 : List Entry
+outer_causality_3 = record { lane = 1; deed = deed.Made (Some 2) (Some 1) (asked.Number 2) (asked.Number 1) (record { 0 = 0 }) } ∷ outer_causality_2
+
+abbrev pub outer_causality_4 : List Entry
+outer_causality_4 = record { lane = 1; deed = deed.Made (Some 3) (Some 3) (asked.Number 3) (asked.Number 2) (record { 0 = 0 }) } ∷ outer_causality_3
+
+abbrev pub outer_causality_5 : List Entry
+outer_causality_5 = record { lane = 1; deed = deed.Made (Some 4) (Some 1) (asked.Number 4) (asked.Number 2) (record { 0 = 0 }) } ∷ outer_causality_4
+
+abbrev pub outer_causality_6 : List Entry
+outer_causality_6 = record { lane = 1; deed = deed.Out 1 (Some 3) 2 0 route.Direct 1 None } ∷ outer_causality_5
+
+abbrev pub outer_causality_7 : List Entry
+outer_causality_7 = record { lane = 1; deed = deed.Enter 1 3 3 None ((value.Ref (Some (record { object = 2; iface = 1 }))) ∷ []) } ∷ outer_causality_6
+
+abbrev pub outer_causality_8 : List Entry
+outer_causality_8 = record { lane = 1; deed = deed.Copy (Some (record { object = 2; iface = 1 })) } ∷ outer_causality_7
+
+abbrev pub outer_causality_9 : List Entry
+outer_causality_9 = record { lane = 1; deed = deed.Leave 1 (record { 0 = 0 }) None None } ∷ outer_causality_8
+
+abbrev pub outer_causality_10 : List Entry
+outer_causality_10 = record { lane = 1; deed = deed.Back 1 (record { 0 = 0 }) None } ∷ outer_causality_9
+
+abbrev pub outer_causality_11 : List Entry
+outer_causality_11 = record { lane = 1; deed = deed.Out 2 (Some 4) 2 0 route.Post 2 (Some (5 ∷ 0 ∷ 7 ∷ 0 ∷ 0 ∷ 0 ∷ 0 ∷ 0 ∷ 0 ∷ 0 ∷ 0 ∷ 0 ∷ 2 ∷ 0 ∷ 0 ∷ 0 ∷ 0 ∷ 0 ∷ 0 ∷ 0 ∷ 0 ∷ 0 ∷ 0 ∷ 0 ∷ 0 ∷ 0 ∷ 0 ∷ 0 ∷ 0 ∷ 0 ∷ 0 ∷ 0 ∷ 0 ∷ 0 ∷ 2 ∷ 0 ∷ 72 ∷ 0 ∷ 0 ∷ 0 ∷ 72 ∷ 0 ∷ 0 ∷ 0 ∷ 77 ∷ 69 ∷ 79 ∷ 87 ∷ 1 ∷ 0 ∷ 0 ∷ 0 ∷ 1 ∷ 0 ∷ 11 ∷ 92 ∷ 0 ∷ 0 ∷ 0 ∷ 64 ∷ 128 ∷ 0 ∷ 0 ∷ 0 ∷ 0 ∷ 0 ∷ 0 ∷ 1 ∷ 0 ∷ 0 ∷ 0 ∷ 0 ∷ 5 ∷ 0 ∷ 0 ∷ 0 ∷ 3 ∷ 0 ∷ 0 ∷ 0 ∷ 0 ∷ 0 ∷ 0 ∷ 0 ∷ 1 ∷ 0 ∷ 0 ∷ 0 ∷ 0 ∷ 0 ∷ 0 ∷ 0 ∷ 1 ∷ 0 ∷ 0 ∷ 0 ∷ 1 ∷ 0 ∷ 3 ∷ 0 ∷ 1 ∷ 0 ∷ 0 ∷ 0 ∷ 0 ∷ 0 ∷ 0 ∷ 0 ∷ 2 ∷ 0 ∷ 1 ∷ 0 ∷ 0 ∷ 0 ∷ 0 ∷ 0 ∷ [])) } ∷ outer_causality_10
+
+abbrev pub outer_causality_12 : List Entry
+outer_causality_12 = record { lane = 4; deed = deed.Enter 2 4 1 None ((value.Ref (Some (record { object = 1; iface = 1 }))) ∷ []) } ∷ outer_causality_11
+
+abbrev pub outer_causality_13 : List Entry
+outer_causality_13 = record { lane = 4; deed = deed.Copy (Some (record { object = 1; iface = 1 })) } ∷ outer_causality_12
+
+abbrev pub outer_causality_14 : List Entry
+outer_causality_14 = record { lane = 4; deed = deed.Leave 2 (record { 0 = 0 }) None (Some (0 ∷ 0 ∷ 0 ∷ 0 ∷ 0 ∷ 0 ∷ 0 ∷ 0 ∷ 0 ∷ 0 ∷ 0 ∷ 0 ∷ [])) } ∷ outer_causality_13
+
+abbrev pub outer_causality_15 : List Entry
+outer_causality_15 = record { lane = 1; deed = deed.Back 2 (record { 0 = 0 }) None } ∷ outer_causality_14
+
+abbrev pub outer_causality_16 : List Entry
+outer_causality_16 = record { lane = 1; deed = deed.Register (Some 1) (Some (record { object = 3; iface = 2 })) (record { 0 = 0 }) } ∷ outer_causality_15
+
+abbrev pub outer_causality_17 : List Entry
+outer_causality_17 = record { lane = 2; deed = deed.Init mode.Mta 1 (record { 0 = 0 }) } ∷ outer_causality_16
+
+abbrev pub outer_causality_18 : List Entry
+outer_causality_18 = record { lane = 2; deed = deed.Get (pos 1) (Some (record { object = 3; iface = 2 })) 5 (record { 0 = 0 }) } ∷ outer_causality_17
+
+abbrev pub outer_causality_19 : List Entry
+outer_causality_19 = record { lane = 1; deed = deed.Out 3 (Some 4) 2 1 route.Post 3 (Some (5 ∷ 0 ∷ 7 ∷ 0 ∷ 0 ∷ 0 ∷ 0 ∷ 0 ∷ 0 ∷ 0 ∷ 0 ∷ 0 ∷ 3 ∷ 0 ∷ 0 ∷ 0 ∷ 0 ∷ 0 ∷ 0 ∷ 0 ∷ 0 ∷ 0 ∷ 0 ∷ 0 ∷ 0 ∷ 0 ∷ 0 ∷ 0 ∷ 0 ∷ 0 ∷ 0 ∷ 0 ∷ 1 ∷ 0 ∷ 0 ∷ 0 ∷ 0 ∷ 0 ∷ 0 ∷ 0 ∷ [])) } ∷ outer_causality_18
+
+abbrev pub outer_causality_20 : List Entry
+outer_causality_20 = record { lane = 2; deed = deed.Out 4 (Some 3) 2 1 route.Post 4 (Some (5 ∷ 0 ∷ 7 ∷ 0 ∷ 0 ∷ 0 ∷ 0 ∷ 0 ∷ 0 ∷ 0 ∷ 0 ∷ 0 ∷ 4 ∷ 0 ∷ 0 ∷ 0 ∷ 0 ∷ 0 ∷ 0 ∷ 0 ∷ 0 ∷ 0 ∷ 0 ∷ 0 ∷ 0 ∷ 0 ∷ 0 ∷ 0 ∷ 0 ∷ 0 ∷ 0 ∷ 0 ∷ 2 ∷ 0 ∷ 0 ∷ 0 ∷ 0 ∷ 0 ∷ 0 ∷ 0 ∷ [])) } ∷ outer_causality_19
+
+abbrev pub outer_causality_21 : List Entry
+outer_causality_21 = record { lane = 1; deed = deed.Enter 4 3 3 (Some 4) ((value.Int (pos 2)) ∷ []) } ∷ outer_causality_20
+
+abbrev pub outer_causality_22 : List Entry
+outer_causality_22 = record { lane = 1; deed = deed.Copy (Some (record { object = 2; iface = 1 })) } ∷ outer_causality_21
+
+abbrev pub outer_causality_23 : List Entry
+outer_causality_23 = record { lane = 1; deed = deed.Out 5 (Some 2) 1 0 route.Post 4 (Some (5 ∷ 0 ∷ 7 ∷ 0 ∷ 0 ∷ 0 ∷ 0 ∷ 0 ∷ 0 ∷ 0 ∷ 0 ∷ 0 ∷ 4 ∷ 0 ∷ 0 ∷ 0 ∷ 0 ∷ 0 ∷ 0 ∷ 0 ∷ 0 ∷ 0 ∷ 0 ∷ 0 ∷ 0 ∷ 0 ∷ 0 ∷ 0 ∷ 0 ∷ 0 ∷ 0 ∷ 0 ∷ 2 ∷ 0 ∷ 0 ∷ 0 ∷ 0 ∷ 0 ∷ 0 ∷ 0 ∷ [])) } ∷ outer_causality_22
+
+abbrev pub outer_causality_24 : List Entry
+outer_causality_24 = record { lane = 4; deed = deed.Enter 3 4 1 None ((value.Int (pos 1)) ∷ []) } ∷ outer_causality_23
+
+abbrev pub outer_causality_25 : List Entry
+outer_causality_25 = record { lane = 4; deed = deed.Copy (Some (record { object = 1; iface = 1 })) } ∷ outer_causality_24
+
+abbrev pub outer_causality_26 : List Entry
+outer_causality_26 = record { lane = 4; deed = deed.Out 6 (Some 1) 1 0 route.Post 3 (Some (5 ∷ 0 ∷ 7 ∷ 0 ∷ 0 ∷ 0 ∷ 0 ∷ 0 ∷ 0 ∷ 0 ∷ 0 ∷ 0 ∷ 3 ∷ 0 ∷ 0 ∷ 0 ∷ 0 ∷ 0 ∷ 0 ∷ 0 ∷ 0 ∷ 0 ∷ 0 ∷ 0 ∷ 0 ∷ 0 ∷ 0 ∷ 0 ∷ 0 ∷ 0 ∷ 0 ∷ 0 ∷ 1 ∷ 0 ∷ 0 ∷ 0 ∷ 0 ∷ 0 ∷ 0 ∷ 0 ∷ [])) } ∷ outer_causality_25
+
+abbrev pub outer_causality_27 : List Entry
+outer_causality_27 = record { lane = 1; deed = deed.Enter 6 1 3 (Some 2) ((value.Int (pos 1)) ∷ []) } ∷ outer_causality_26
+
+abbrev pub outer_causality_28 : List Entry
+outer_causality_28 = record { lane = 1; deed = deed.Leave 6 (record { 0 = 0 }) (Some (value.Int (pos 1))) (Some (0 ∷ 0 ∷ 0 ∷ 0 ∷ 0 ∷ 0 ∷ 0 ∷ 0 ∷ 1 ∷ 0 ∷ 0 ∷ 0 ∷ 0 ∷ 0 ∷ 0 ∷ 0 ∷ 0 ∷ 0 ∷ 0 ∷ 0 ∷ [])) } ∷ outer_causality_27
+
+abbrev pub outer_causality_29 : List Entry
+outer_causality_29 = record { lane = 4; deed = deed.Back 6 (record { 0 = 0 }) (Some (value.Int (pos 1))) } ∷ outer_causality_28
+
+abbrev pub outer_causality_30 : List Entry
+outer_causality_30 = record { lane = 5; deed = deed.Enter 5 2 1 None ((value.Int (pos 2)) ∷ []) } ∷ outer_causality_29
+
+abbrev pub outer_causality_31 : List Entry
+outer_causality_31 = record { lane = 4; deed = deed.Leave 3 (record { 0 = 0 }) (Some (value.Int (pos 1))) (Some (0 ∷ 0 ∷ 0 ∷ 0 ∷ 0 ∷ 0 ∷ 0 ∷ 0 ∷ 1 ∷ 0 ∷ 0 ∷ 0 ∷ 0 ∷ 0 ∷ 0 ∷ 0 ∷ 0 ∷ 0 ∷ 0 ∷ 0 ∷ [])) } ∷ outer_causality_30
+
+abbrev pub outer_causality_32 : List Entry
+outer_causality_32 = record { lane = 5; deed = deed.Leave 5 (record { 0 = 0 }) (Some (value.Int (pos 2))) (Some (0 ∷ 0 ∷ 0 ∷ 0 ∷ 0 ∷ 0 ∷ 0 ∷ 0 ∷ 2 ∷ 0 ∷ 0 ∷ 0 ∷ 0 ∷ 0 ∷ 0 ∷ 0 ∷ 0 ∷ 0 ∷ 0 ∷ 0 ∷ [])) } ∷ outer_causality_31
+
+abbrev pub outer_causality_33 : List Entry
+outer_causality_33 = record { lane = 1; deed = deed.Back 5 (record { 0 = 0 }) (Some (value.Int (pos 2))) } ∷ outer_causality_32
+
+abbrev pub outer_causality_34 : List Entry
+outer_causality_34 = record { lane = 1; deed = deed.Leave 4 (record { 0 = 0 }) (Some (value.Int (pos 2))) (Some (0 ∷ 0 ∷ 0 ∷ 0 ∷ 0 ∷ 0 ∷ 0 ∷ 0 ∷ 2 ∷ 0 ∷ 0 ∷ 0 ∷ 0 ∷ 0 ∷ 0 ∷ 0 ∷ 0 ∷ 0 ∷ 0 ∷ 0 ∷ [])) } ∷ outer_causality_33
+
+abbrev pub outer_causality_35 : List Entry
+outer_causality_35 = record { lane = 2; deed = deed.Back 4 (record { 0 = 0 }) (Some (value.Int (pos 2))) } ∷ outer_causality_34
+
+abbrev pub outer_causality_36 : List Entry
+outer_causality_36 = record { lane = 1; deed = deed.Back 3 (record { 0 = 0 }) (Some (value.Int (pos 1))) } ∷ outer_causality_35
+
+abbrev pub outer_causality_37 : List Entry
+outer_causality_37 = record { lane = 2; deed = deed.Uninit (Some 1) 0 } ∷ outer_causality_36
+
+abbrev pub outer_causality_38 : List Entry
+outer_causality_38 = record { lane = 1; deed = deed.Uninit (Some 3) 0 } ∷ outer_causality_37
+
+abbrev pub outer_causality_39 : List Entry
+outer_causality_39 = record { lane = 2; deed = deed.End } ∷ outer_causality_38
+
+abbrev pub outer_causality_40 : List Entry
+outer_causality_40 = record { lane = 4; deed = deed.Final 2 } ∷ outer_causality_39
+
+abbrev pub outer_causality_41 : List Entry
+outer_causality_41 = record { lane = 5; deed = deed.Final 4 } ∷ outer_causality_40
+
+abbrev pub outer_causality_42 : List Entry
+outer_causality_42 = record { lane = 1; deed = deed.Final 1 } ∷ outer_causality_41
+
+abbrev pub outer_causality_43 : List Entry
+outer_causality_43 = record { lane = 1; deed = deed.Final 3 } ∷ outer_causality_42
+
+abbrev pub outer_causality_44 : List Entry
+outer_causality_44 = record { lane = 1; deed = deed.End } ∷ outer_causality_43
+
 -- A call that is to be made again after 100 milliseconds.
 abbrev pub delayed : Scenario
 delayed = record {

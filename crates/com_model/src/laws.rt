@@ -12,7 +12,7 @@ ghost use Rattle.com_model.specs.Openers.{nested, openers, Waits, top_call};
 ghost use Rattle.com_model.specs.Rules.{legal, next};
 ghost use Rattle.com_model.specs.Safe.{once};
 ghost use Rattle.com_model.specs.Ends.{scheduled, ended_as};
-ghost use Rattle.com_model.specs.Cases.{direct_call, pumped_words, into_the_host, callback, answer_first, younger_first, delayed, direct_call_10, pumped_words_9, into_the_host_10, callback_21, answer_first_22, younger_first_15, delayed_28, delayed_12};
+ghost use Rattle.com_model.specs.Cases.{direct_call, pumped_words, into_the_host, callback, answer_first, younger_first, relayed, outer_causality, delayed, direct_call_10, pumped_words_9, into_the_host_10, callback_21, answer_first_22, younger_first_15, relayed_25, outer_causality_44, delayed_28, delayed_12};
 ghost use Rattle.com_model.specs.declared.counts.Ended.TheVariants as ended;
 ghost use Rattle.com_model.specs.Clock.{clock};
 ghost use Rattle.com_model.specs.State.{State, LanesStand, ApartmentsStand, after};
@@ -47,6 +47,8 @@ pub fn worked_cases()
     ensures callback { (scheduled callback ≡ callback_21) × legal callback callback_21 × (ended_as callback callback_21 ≡ Some ended.Ok) }
     ensures answer_first { (scheduled answer_first ≡ answer_first_22) × legal answer_first answer_first_22 × (ended_as answer_first answer_first_22 ≡ Some ended.Ok) }
     ensures younger_first { (scheduled younger_first ≡ younger_first_15) × legal younger_first younger_first_15 × (ended_as younger_first younger_first_15 ≡ Some ended.Ok) }
+    ensures relayed { (scheduled relayed ≡ relayed_25) × legal relayed relayed_25 × (ended_as relayed relayed_25 ≡ Some ended.Ok) }
+    ensures outer_causality { (scheduled outer_causality ≡ outer_causality_44) × legal outer_causality outer_causality_44 × (ended_as outer_causality outer_causality_44 ≡ Some ended.Ok) }
     ensures delayed { (scheduled delayed ≡ delayed_28) × legal delayed delayed_28 × (ended_as delayed delayed_28 ≡ Some ended.Ok) }
     ensures no_tick { next delayed delayed_12 0 ≡ None }
 {}

@@ -1,4 +1,4 @@
-use Rattle.com_model.proofs.Cases.{no-tick, whole-direct_call, whole-pumped_words, whole-into_the_host, whole-callback, whole-answer_first, whole-younger_first, whole-delayed, scheduled-direct_call, scheduled-pumped_words, scheduled-into_the_host, scheduled-callback, scheduled-answer_first, scheduled-younger_first, scheduled-delayed}
+use Rattle.com_model.proofs.Cases.{no-tick, whole-direct_call, whole-pumped_words, whole-into_the_host, whole-callback, whole-answer_first, whole-younger_first, whole-relayed, whole-outer_causality, whole-delayed, scheduled-direct_call, scheduled-pumped_words, scheduled-into_the_host, scheduled-callback, scheduled-answer_first, scheduled-younger_first, scheduled-relayed, scheduled-outer_causality, scheduled-delayed}
 use Rattle.com_model.proofs.laws.worked_cases.Goals as goal
 
 pub returns-clause-direct_call : goal.returns-clause-direct_call
@@ -18,6 +18,12 @@ returns-clause-answer_first c = (scheduled-answer_first, whole-answer_first.0, w
 
 pub returns-clause-younger_first : goal.returns-clause-younger_first
 returns-clause-younger_first c = (scheduled-younger_first, whole-younger_first.0, whole-younger_first.1)
+
+pub returns-clause-relayed : goal.returns-clause-relayed
+returns-clause-relayed c = (scheduled-relayed, whole-relayed.0, whole-relayed.1)
+
+pub returns-clause-outer_causality : goal.returns-clause-outer_causality
+returns-clause-outer_causality c = (scheduled-outer_causality, whole-outer_causality.0, whole-outer_causality.1)
 
 pub returns-clause-delayed : goal.returns-clause-delayed
 returns-clause-delayed c = (scheduled-delayed, whole-delayed.0, whole-delayed.1)
