@@ -1,5 +1,5 @@
 -- Facts of the deed that a rule gives, where it gives one.
-use Rattle.std.specs.Prelude.{◌≡◌, ℕ, Bool, true, false, cond, List, [], ◌∷◌, Option, Some, None, option_map, option_and_then}
+use Rattle.std.specs.Prelude.{ℕ, Bool, true, false, cond, List, [], ◌∷◌, Option, Some, None, option_map, option_and_then}
 use Rattle.com_model.specs.declared.deeds.Deed.{Deed}
 use Rattle.com_model.specs.Lists.{or_else, where_true, first}
 use Rattle.com_model.specs.Openers.{Opener, Pumps, Waits, Enters}

@@ -1,2 +1,6 @@
 pub mod Given
 pub mod Stacks
+pub mod Stands
+pub mod Comes
+pub mod Onces
+pub mod Cases

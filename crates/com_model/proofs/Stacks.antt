@@ -1,6 +1,6 @@
 -- Every closer of a legal history closes the innermost opener of its lane.
 use Rattle.std.proofs.Common.{subst, sym, ap, eqb-true}
-use Rattle.std.specs.Prelude.{◌≡◌, refl, ℕ, ℤ, zero, suc, Bool, true, false, cond, ◌==◌, ◌&&◌, not, nat_le, length, List, [], ◌∷◌, Option, Some, None, option_map, option_and_then, map}
+use Rattle.std.specs.Prelude.{◌≡◌, refl, ℕ, ℤ, zero, suc, Bool, true, false, cond, ◌==◌, ◌&&◌, not, nat_le, length, List, [], ◌∷◌, Option, Some, None, option_map}
 use Rattle.com_base.specs.declared.hresult.HResult.{HResult}
 use Rattle.com_base.specs.declared.value.RefValue.{RefValue}
 use Rattle.com_base.specs.declared.value.Value.{Value}
@@ -12,26 +12,25 @@ use Rattle.com_body.specs.declared.operands.Asked.{Asked}
 use Rattle.com_body.specs.declared.actions.Action.{Action}
 use Rattle.com_body.specs.declared.actions.Action.TheVariants as action
 use Rattle.com_body.specs.declared.frame.Outcome.{Outcome}
-use Rattle.com_filter.specs.declared.Verdict.{Verdict}
 use Rattle.com_model.specs.declared.deeds.Deed.{Deed}
 use Rattle.com_model.specs.declared.deeds.Deed.TheVariants as deed
 use Rattle.com_model.specs.declared.deeds.Entry.{Entry}
 use Rattle.com_model.specs.declared.scenario.Scenario.{Scenario}
-use Rattle.com_model.specs.Lists.{or_else, where_true, first}
+use Rattle.com_model.specs.Lists.{where_true, first}
 use Rattle.com_model.specs.Issue.{call_refusal}
 use Rattle.com_body.specs.BodySteps.{body_step}
 use Rattle.com_model.specs.Objects.{class_of}
 use Rattle.com_model.specs.Tables.{script, in_set, class_number, interface_number, LaneSort, Thread, Host, Pool, NoLane, lane_sort}
-use Rattle.com_model.specs.Openers.{Opener, Pumps, Waits, Enters, Effect, Closes, Keeps, Backs, Leaves, top_call, effect, effect_on, fits, nested, openers, running_call}
+use Rattle.com_model.specs.Openers.{Opener, Pumps, Waits, Enters, Closes, Keeps, Backs, Leaves, top_call, effect, fits, nested, openers, running_call}
 use Rattle.com_model.specs.Calls.{Issue, issue, object_of, is_post, route_of}
-use Rattle.com_model.specs.Frames.{Scene, Actor, Body, Script, Nobody, scene, outcome, unless_over, action_of, act_by, new_cells, actor, actor_in, is_leave, reference}
+use Rattle.com_model.specs.Frames.{Scene, Actor, Body, Script, Nobody, scene, outcome, action_of, act_by, new_cells, actor, actor_in, is_leave, reference}
 use Rattle.com_model.specs.Endings.{Answer}
-use Rattle.com_model.specs.Waiting.{Phase, Unposted, Queued, Judged, Delayed, GivenUp, Word, not_asked, bound_reached}
+use Rattle.com_model.specs.Waiting.{Phase, Unposted, Queued, Judged, Delayed, GivenUp, Word, mark_of, not_asked, bound_reached}
 use Rattle.com_model.specs.Books.{Cookie, cookie}
 use Rattle.com_model.specs.Sight.{Sight, sight}
 use Rattle.com_model.specs.Deeds.{hold_refusal, named_by, deed_of, created, created_of, initialised, marshalled, registered, Named, NamesPacket, Refuses, unmarshalled, dropped, got, got_by, got_with, cookie_number, gained_refs, owned_by, made_of, not_made, revoked, uninitialised, in_sta, called, left_by, left_as}
-use Rattle.com_model.specs.Rules.{posted_to_sta, is_handled_in, type_of, verdict_on, arguments_gone, enters_itself, packet_left, due_of, admits_next, no_lane_can, tick_time, legal, next, next_by, lane_next, stepped, ruled, admission, rule_final, rule_own, rule_answer, rule_bound, rule_inbox, rule_retry, rule_again, rule_pending, rule_word, rule_script, answered, retried, posted_again, asked_on, asks_about, pumped, takes_word, after_script, scripted, is_script_turn, ticks}
-use Rattle.com_model.proofs.Given.{Given, given-or, given-where, given-map, given-then, cond-of, own-given}
+use Rattle.com_model.specs.Rules.{posted_to_sta, is_handled_in, type_of, verdict_on, arguments_gone, enters_itself, packet_left, due_of, admits_next, no_lane_can, tick_time, legal, next, next_by, stepped, ruled, admission, rule_final, rule_own, rule_answer, rule_bound, rule_inbox, rule_retry, rule_again, rule_pending, rule_word, rule_script, answered, retried, posted_again, asked_on, pumped, takes_word, scripted, is_script_turn, ticks}
+use Rattle.com_model.proofs.Given.{Given, given-or, given-where, given-map, cond-of, own-given}
 
 abbrev Fits : List Opener → Deed → Type 0
 Fits os d = fits (effect d) os
@@ -193,8 +192,8 @@ asked-fits s v l c os (Some w) = given-where (Fits os) (in_sta (v.home l) && is_
 
 pending-fits : (s : Scenario) (v : Sight) (l : ℕ) → Given (Fits (v.openers l)) (rule_pending s v l)
 pending-fits s v l =
-    own-given Fits (λ c. asked_on s v l c (not_asked ((v.mail l).asked c) (v.mail l).words))
-    (λ c os. asked-fits s v l c (Waits c ∷ os) (not_asked ((v.mail l).asked c) (v.mail l).words)) (v.openers l)
+    own-given Fits (λ c. asked_on s v l c (not_asked (mark_of (v.mail l).marks c) (v.mail l).words))
+    (λ c os. asked-fits s v l c (Waits c ∷ os) (not_asked (mark_of (v.mail l).marks c) (v.mail l).words)) (v.openers l)
 
 word-taken : (n : ℕ) (os : List Opener) (w : Option Word) (q : Bool) → Given (Fits (Pumps n ∷ os)) (takes_word w q)
 word-taken n os (Some w) q = tt

@@ -4,7 +4,6 @@
 -- that threads make are numbered from 3 on, in order of making. Source: CoInitializeEx, and the documentation of apartments.
 use Rattle.std.specs.Prelude.{ℕ, zero, suc, ◌+◌, Bool, true, false, not, ◌==◌, ◌||◌, ◌&&◌, nat_le, if◌then◌else◌, List, [], ◌∷◌, ◌++◌, Option, Some, None, length, filter}
 use Rattle.com_base.specs.declared.hresult.HResult.{HResult}
-use Rattle.com_base.specs.declared.value.Mode.{Mode}
 use Rattle.com_base.specs.declared.value.Mode.TheVariants as mode
 use Rattle.com_model.specs.declared.deeds.Deed.{Deed}
 use Rattle.com_model.specs.declared.deeds.Deed.TheVariants as deed

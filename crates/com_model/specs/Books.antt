@@ -4,7 +4,6 @@ use Rattle.std.specs.Prelude.{ℕ, zero, suc, ◌+◌, ◌-◌, ◌/◌, pos, Bo
 use Rattle.com_base.specs.declared.hresult.HResult.{HResult}
 use Rattle.com_base.specs.declared.value.RefValue.{RefValue}
 use Rattle.com_base.specs.declared.value.Value.{Value}
-use Rattle.com_base.specs.declared.value.Value.TheVariants as value
 use Rattle.com_base.specs.declared.value.MarshalMode.{MarshalMode}
 use Rattle.com_base.specs.declared.value.MarshalMode.TheVariants as marshal
 use Rattle.com_body.specs.declared.operands.Asked.TheVariants as asked
@@ -13,14 +12,12 @@ use Rattle.com_body.specs.declared.actions.Action.TheVariants as action
 use Rattle.com_model.specs.declared.deeds.Deed.{Deed}
 use Rattle.com_model.specs.declared.deeds.Deed.TheVariants as deed
 use Rattle.com_model.specs.declared.deeds.Entry.{Entry}
-use Rattle.com_model.specs.declared.deeds.Route.{Route}
 use Rattle.com_model.specs.declared.scenario.Scenario.{Scenario}
 use Rattle.com_model.specs.Answers.{is_S_OK}
 use Rattle.com_model.specs.Lists.{sum_below, put, count_if, is_number, number_or_zero, numbers_from}
 use Rattle.com_model.specs.Tables.{method_at, parameters}
-use Rattle.com_model.specs.Apartments.{running, apartments, ends_sta}
-use Rattle.com_model.specs.Objects.{Making, makes, named, owns, disconnects}
-use Rattle.com_model.specs.Calls.{is_marshalled}
+use Rattle.com_model.specs.Apartments.{running, ends_sta}
+use Rattle.com_model.specs.Objects.{Making, makes, named, disconnects}
 use Rattle.com_model.specs.Values.{sent_values, carried, result_list}
 use Rattle.com_model.specs.Frames.{Scene, scene, act}
 use Rattle.com_model.specs.Endings.{ending, is_leave}

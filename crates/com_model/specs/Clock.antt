@@ -1,6 +1,5 @@
 -- The clock, message filters and call types. Source: the documentation of IMessageFilter.
-use Rattle.std.specs.Prelude.{ℕ, zero, suc, ◌-◌, Bool, true, false, ◌==◌, nat_le, if◌then◌else◌, List, [], ◌∷◌, Option, Some, None}
-use Rattle.com_base.specs.declared.hresult.HResult.{HResult}
+use Rattle.std.specs.Prelude.{ℕ, zero, ◌-◌, Bool, true, false, ◌==◌, nat_le, if◌then◌else◌, List, [], ◌∷◌, Option, Some, None}
 use Rattle.com_filter.specs.declared.Verdict.{Verdict}
 use Rattle.com_filter.specs.declared.Verdict.TheVariants as verdict
 use Rattle.com_filter.specs.declared.Rule.{Rule}
@@ -9,10 +8,9 @@ use Rattle.com_model.specs.declared.deeds.Deed.TheVariants as deed
 use Rattle.com_model.specs.declared.deeds.Entry.{Entry}
 use Rattle.com_model.specs.declared.scenario.Scenario.{Scenario}
 use Rattle.com_model.specs.Answers.{is_S_OK}
-use Rattle.com_model.specs.Lists.{is_member, first}
+use Rattle.com_model.specs.Lists.{is_member}
 use Rattle.com_model.specs.Tables.{filter_rules}
-use Rattle.com_model.specs.Apartments.{home, host_sta}
-use Rattle.com_model.specs.Openers.{Opener, open_calls}
+use Rattle.com_model.specs.Apartments.{home}
 use Rattle.com_model.specs.Calls.{Issue, issues}
 
 -- Virtual milliseconds: the number in the last Tick, and 0 before the first.

@@ -1,5 +1,5 @@
 -- The entry of an action, with the first refusal that applies. Each refusal changes nothing but register 15 and the destination.
-use Rattle.std.specs.Prelude.{ℕ, zero, suc, ◌+◌, ◌-◌, ◌*◌, ◌%◌, ◌^◌, ℤ, pos, negsuc, Bool, true, false, not, ◌==◌, ◌&&◌, ◌||◌, nat_le, if◌then◌else◌, List, [], ◌∷◌, ◌++◌, map, length, Option, Some, None, is_some, is_none, option_map}
+use Rattle.std.specs.Prelude.{ℕ, ◌+◌, ◌-◌, ◌%◌, ◌^◌, ℤ, pos, negsuc, Bool, true, false, not, ◌==◌, ◌&&◌, if◌then◌else◌, List, [], ◌∷◌, map, length, Option, Some, None, option_map}
 use Rattle.std.specs.Int.{to_le_bytes, w64}
 use Rattle.com_base.specs.declared.guid.Guid.{Guid}
 use Rattle.com_base.specs.declared.hresult.HResult.{HResult}
@@ -13,7 +13,6 @@ use Rattle.com_base.specs.declared.value.MarshalMode.TheVariants as marshal
 use Rattle.com_base.specs.Guids.{zero_guid}
 use Rattle.com_body.specs.declared.operands.Asked.{Asked}
 use Rattle.com_body.specs.declared.operands.Asked.TheVariants as asked
-use Rattle.com_body.specs.declared.operands.Destination.{Destination}
 use Rattle.com_body.specs.declared.actions.Action.{Action}
 use Rattle.com_body.specs.declared.actions.Action.TheVariants as action
 use Rattle.com_classes.specs.declared.interfaces.Interface.{Interface}
@@ -25,10 +24,10 @@ use Rattle.com_model.specs.declared.scenario.Scenario.{Scenario}
 use Rattle.com_model.specs.Answers.{S_OK, S_FALSE, E_NOTIMPL, E_NOINTERFACE, E_POINTER, E_INVALIDARG, REGDB_E_CLASSNOTREG, CO_E_NOTINITIALIZED, CO_E_OBJNOTCONNECTED, RPC_E_CHANGED_MODE, RPC_E_DISCONNECTED, RPC_E_INVALID_OBJREF}
 use Rattle.com_model.specs.Lists.{number_or_zero, one_to, first_that}
 use Rattle.com_model.specs.Tables.{is_thread, interface_at, class_number, interface_number, class_model, in_set, shown, method_at, parameters, result_kind, same_guid}
-use Rattle.com_model.specs.Openers.{Opener, running_call}
+use Rattle.com_model.specs.Openers.{running_call}
 use Rattle.com_model.specs.Apartments.{mta, is_sta}
 use Rattle.com_model.specs.Objects.{placed_by}
-use Rattle.com_model.specs.Calls.{Issue, route_of, route_for, cause_for, is_marshalled}
+use Rattle.com_model.specs.Calls.{Issue, route_for, cause_for, is_marshalled}
 use Rattle.com_model.specs.Values.{carried, result_list, sent_values, sent_result, objref_bytes, request_bytes, reply_bytes}
 use Rattle.com_model.specs.Frames.{reference}
 use Rattle.com_model.specs.Books.{Books, Packet, Cookie, Row, Marshals, packet, cookie, entered_rows, made_since, marshal_all}

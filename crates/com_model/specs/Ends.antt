@@ -1,5 +1,5 @@
 -- How a history ends, the one history of the schedule, and what a report counts.
-use Rattle.std.specs.Prelude.{◌≡◌, ℕ, zero, suc, ◌+◌, ◌-◌, Bool, true, false, not, ◌==◌, ◌&&◌, ◌||◌, nat_le, nat_lt, if◌then◌else◌, List, [], ◌∷◌, ◌++◌, length, Option, Some, None, is_some, is_none, option_map, sum_by}
+use Rattle.std.specs.Prelude.{ℕ, zero, suc, ◌+◌, ◌-◌, Bool, true, false, not, ◌==◌, ◌&&◌, nat_le, if◌then◌else◌, List, [], ◌∷◌, ◌++◌, length, Option, Some, None, is_none, option_map, sum_by}
 use Rattle.com_model.specs.declared.deeds.Deed.{Deed}
 use Rattle.com_model.specs.declared.deeds.Entry.{Entry}
 use Rattle.com_model.specs.declared.scenario.Scenario.{Scenario}
@@ -10,11 +10,10 @@ use Rattle.com_model.specs.declared.counts.Ended.{Ended}
 use Rattle.com_model.specs.declared.counts.Ended.TheVariants as ended
 use Rattle.com_base.specs.declared.value.MarshalMode.{MarshalMode}
 use Rattle.com_base.specs.declared.value.MarshalMode.TheVariants as marshal
-use Rattle.com_model.specs.Lists.{sum_below, one_to, numbers_from, any_of, each_of, first_that, is_empty, or_else}
+use Rattle.com_model.specs.Lists.{sum_below, one_to, numbers_from, each_of, first_that, is_empty, or_else}
 use Rattle.com_model.specs.Tables.{threads, lanes}
-use Rattle.com_model.specs.Openers.{openers}
-use Rattle.com_model.specs.Apartments.{apartments, over}
-use Rattle.com_model.specs.Objects.{objects, named, class_of, finaled}
+use Rattle.com_model.specs.Apartments.{apartments}
+use Rattle.com_model.specs.Objects.{named, class_of, finaled}
 use Rattle.com_model.specs.Frames.{scene}
 use Rattle.com_model.specs.Places.{ground, direct_places}
 use Rattle.com_model.specs.Books.{Books, Packet, Cookie, books}

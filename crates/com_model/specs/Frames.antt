@@ -1,5 +1,5 @@
 -- What scripts, open bodies, objects and packet buffers hold, and what a lane's body or script does next.
-use Rattle.std.specs.Prelude.{ℕ, zero, suc, ◌+◌, pos, Bool, true, false, ◌==◌, ◌&&◌, if◌then◌else◌, List, [], ◌∷◌, ◌++◌, Option, Some, None, fold, replicate, slice_set}
+use Rattle.std.specs.Prelude.{ℕ, zero, pos, Bool, true, false, ◌==◌, if◌then◌else◌, List, [], ◌∷◌, Option, Some, None, fold, replicate, slice_set}
 use Rattle.com_base.specs.declared.hresult.HResult.{HResult}
 use Rattle.com_base.specs.declared.value.RefValue.{RefValue}
 use Rattle.com_base.specs.declared.value.Value.{Value}
@@ -20,12 +20,12 @@ use Rattle.com_model.specs.declared.deeds.Deed.TheVariants as deed
 use Rattle.com_model.specs.declared.deeds.Entry.{Entry}
 use Rattle.com_model.specs.declared.scenario.Scenario.{Scenario}
 use Rattle.com_model.specs.Answers.{S_OK, is_S_OK}
-use Rattle.com_model.specs.Lists.{put, is_number}
-use Rattle.com_model.specs.Tables.{LaneSort, Thread, Host, Pool, NoLane, lane_sort, script}
+use Rattle.com_model.specs.Lists.{put}
+use Rattle.com_model.specs.Tables.{LaneSort, Thread, lane_sort, script}
 use Rattle.com_model.specs.Bodies.{body_of}
-use Rattle.com_model.specs.Openers.{Opener, Pumps, Waits, Enters, openers}
+use Rattle.com_model.specs.Openers.{Opener, Enters, openers}
 use Rattle.com_model.specs.Apartments.{ends_sta}
-use Rattle.com_model.specs.Objects.{class_of, named, finals}
+use Rattle.com_model.specs.Objects.{class_of, named}
 use Rattle.com_model.specs.Calls.{Issue, issue}
 
 -- The frames of the scripts by lane and of the bodies by call, the cells by object, the buffers by number, and where the

@@ -1,5 +1,5 @@
 -- The issue of a call: its refusals, and the values that it sends.
-use Rattle.std.specs.Prelude.{ℕ, ◌+◌, Bool, true, false, not, ◌==◌, ◌&&◌, if◌then◌else◌, List, [], ◌∷◌, Option, Some, None, is_none, option_map}
+use Rattle.std.specs.Prelude.{ℕ, Bool, true, false, not, ◌==◌, ◌&&◌, if◌then◌else◌, List, [], ◌∷◌, Option, Some, None, is_none, option_map}
 use Rattle.com_base.specs.declared.hresult.HResult.{HResult}
 use Rattle.com_base.specs.declared.value.RefValue.{RefValue}
 use Rattle.com_base.specs.declared.value.Value.{Value}
@@ -14,7 +14,7 @@ use Rattle.com_model.specs.Apartments.{home, running}
 use Rattle.com_model.specs.Objects.{owns}
 use Rattle.com_model.specs.Calls.{Issue, issues, is_marshalled}
 use Rattle.com_model.specs.Frames.{act}
-use Rattle.com_model.specs.Books.{Books, books, out_values}
+use Rattle.com_model.specs.Books.{books, out_values}
 use Rattle.com_model.specs.Endings.{Answer, ending, answer_of}
 
 -- The refusals of a call at its issue, the first that applies.

@@ -23,3 +23,5 @@ pub mod Rules
 pub mod Ends
 pub mod Safe
 pub mod Formed
+pub mod State
+pub mod Cases

@@ -1,5 +1,5 @@
 -- What the bytes in a buffer are: a reference by standard marshalling, one of another sort, or none.
-use Rattle.std.specs.Prelude.{ℕ, ◌+◌, ◌*◌, Bool, true, false, ◌==◌, ◌&&◌, nat_le, if◌then◌else◌, List, length, take, drop}
+use Rattle.std.specs.Prelude.{ℕ, ◌+◌, ◌*◌, Bool, ◌==◌, ◌&&◌, nat_le, if◌then◌else◌, List, length, take, drop}
 use Rattle.std.specs.Int.{from_le_bytes, w16, w32, w64}
 use Rattle.com_base.specs.declared.standard.StdFields.{StdFields}
 use Rattle.com_base.specs.Guids.{guid_of_wire}

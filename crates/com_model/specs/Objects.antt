@@ -1,5 +1,5 @@
 -- Objects: their making, owners, where a new one is placed, and their end.
-use Rattle.std.specs.Prelude.{ℕ, ◌+◌, Bool, true, false, ◌==◌, ◌||◌, nat_le, if◌then◌else◌, List, [], ◌∷◌, Option, Some, None}
+use Rattle.std.specs.Prelude.{ℕ, ◌+◌, Bool, false, ◌==◌, ◌||◌, if◌then◌else◌, List, [], ◌∷◌, Option, Some, None}
 use Rattle.std.specs.Prelude.{option_map}
 use Rattle.com_body.specs.declared.operands.Asked.{Asked}
 use Rattle.com_body.specs.declared.operands.Asked.TheVariants as asked
@@ -10,9 +10,9 @@ use Rattle.com_model.specs.declared.deeds.Deed.TheVariants as deed
 use Rattle.com_model.specs.declared.deeds.Entry.{Entry}
 use Rattle.com_model.specs.declared.scenario.Scenario.{Scenario}
 use Rattle.com_model.specs.Answers.{is_S_OK}
-use Rattle.com_model.specs.Lists.{count_if, number_or_zero, is_number}
+use Rattle.com_model.specs.Lists.{number_or_zero, is_number}
 use Rattle.com_model.specs.Tables.{class_model, is_agile_model}
-use Rattle.com_model.specs.Apartments.{neutral, mta, host_sta, is_sta, running, home, main_sta}
+use Rattle.com_model.specs.Apartments.{neutral, mta, host_sta, is_sta, running}
 
 -- The making of an object: the apartment and the class that its Made entry names.
 pub record Making : Type 0 where

@@ -1,12 +1,12 @@
 -- Places: where references are held, and in which apartment.
-use Rattle.std.specs.Prelude.{ℕ, ◌+◌, Bool, true, false, not, ◌==◌, ◌&&◌, if◌then◌else◌, List, [], ◌∷◌, Option, Some, None, length, sum_by}
+use Rattle.std.specs.Prelude.{ℕ, ◌+◌, Bool, false, not, ◌==◌, ◌&&◌, if◌then◌else◌, List, Option, Some, None, sum_by}
 use Rattle.com_base.specs.declared.value.RefValue.{RefValue}
 use Rattle.com_base.specs.declared.value.Value.{Value}
 use Rattle.com_model.specs.declared.deeds.Entry.{Entry}
 use Rattle.com_model.specs.declared.scenario.Scenario.{Scenario}
 use Rattle.com_model.specs.Lists.{sum_below, count_if, is_number}
 use Rattle.com_model.specs.Tables.{threads, lanes}
-use Rattle.com_model.specs.Openers.{Opener, Pumps, Waits, Enters, openers}
+use Rattle.com_model.specs.Openers.{Opener, Enters, openers}
 use Rattle.com_model.specs.Apartments.{home, apartments}
 use Rattle.com_model.specs.Objects.{objects, named, owns}
 use Rattle.com_model.specs.Calls.{Issue, Admission, Leaving, admitted, left, returned, issue, route_of, is_direct, calls}

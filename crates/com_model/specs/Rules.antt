@@ -1,25 +1,22 @@
 -- The ten rules of a lane's next entry, and legal histories.
-use Rattle.std.specs.Prelude.{◌≡◌, ℕ, zero, suc, ◌+◌, ◌-◌, ◌^◌, ℤ, pos, negsuc, Bool, true, false, not, ◌==◌, ◌&&◌, ◌||◌, nat_le, nat_lt, if◌then◌else◌, List, [], ◌∷◌, length, map, filter_map, Option, Some, None, is_some, is_none, option_map, option_and_then}
-use Rattle.com_base.specs.declared.hresult.HResult.{HResult}
-use Rattle.com_base.specs.declared.value.Value.{Value}
+use Rattle.std.specs.Prelude.{◌≡◌, ℕ, ◌-◌, Bool, true, false, not, ◌==◌, ◌&&◌, nat_le, nat_lt, if◌then◌else◌, List, [], ◌∷◌, length, map, filter_map, Option, Some, None, is_some, is_none, option_map, option_and_then}
 use Rattle.com_body.specs.declared.actions.Action.{Action}
 use Rattle.com_filter.specs.declared.Verdict.{Verdict}
 use Rattle.com_model.specs.declared.deeds.Deed.{Deed}
 use Rattle.com_model.specs.declared.deeds.Deed.TheVariants as deed
 use Rattle.com_model.specs.declared.deeds.Entry.{Entry}
-use Rattle.com_model.specs.declared.deeds.Route.{Route}
 use Rattle.com_model.specs.declared.scenario.Scenario.{Scenario}
 use Rattle.com_model.specs.Answers.{S_OK, RPC_E_OUT_OF_RESOURCES, RPC_E_SERVER_CANTUNMARSHAL_DATA, RPC_E_CLIENT_CANTUNMARSHAL_DATA}
-use Rattle.com_model.specs.Lists.{or_else, where_true, first, first_that, one_to, any_of, each_of, least, is_empty}
+use Rattle.com_model.specs.Lists.{or_else, where_true, first, first_that, one_to, any_of, least}
 use Rattle.com_model.specs.Tables.{LaneSort, Thread, Host, Pool, NoLane, lane_sort, lanes}
-use Rattle.com_model.specs.Openers.{Opener, Pumps, Waits, Enters, running_object, open_calls}
+use Rattle.com_model.specs.Openers.{Opener, Pumps, Waits, Enters, open_calls}
 use Rattle.com_model.specs.Apartments.{mta, is_sta}
-use Rattle.com_model.specs.Calls.{Issue, route_of, object_of, cause_of, is_direct, is_post, is_marshalled}
+use Rattle.com_model.specs.Calls.{route_of, object_of, cause_of, is_post, is_marshalled}
 use Rattle.com_filter.specs.Answers.{incoming_answer, retry_answer, pending_answer}
 use Rattle.com_model.specs.Clock.{call_sort, waited, rules_of, is_handled}
-use Rattle.com_model.specs.Endings.{Ending, Answer, answer_of, without_value, is_leave}
+use Rattle.com_model.specs.Endings.{Answer, answer_of, without_value, is_leave}
 use Rattle.com_model.specs.Books.{packet}
-use Rattle.com_model.specs.Waiting.{Phase, Judged, Delayed, Word, Mail, not_asked, bound_reached}
+use Rattle.com_model.specs.Waiting.{Phase, Judged, Delayed, Word, mark_of, not_asked, bound_reached}
 use Rattle.com_model.specs.Deeds.{deed_of, uninitialised, in_sta}
 use Rattle.com_model.specs.Sight.{Sight, sight}
 
@@ -155,7 +152,7 @@ asked_on s v l c (Some w) = asks_about s v l c (deed.Pending c w.word (pending_a
 
 abbrev pub rule_pending : Scenario → Sight → ℕ → Option Deed
 rule_pending s v l =
-    option_and_then (λ c. asked_on s v l c (not_asked ((v.mail l).asked c) (v.mail l).words)) (own_call v l)
+    option_and_then (λ c. asked_on s v l c (not_asked (mark_of (v.mail l).marks c) (v.mail l).words)) (own_call v l)
 
 -- 9. A pump takes the first word; else, where a quit stands, it ends.
 abbrev pub takes_word : Option Word → (quit : Bool) → Option Deed

@@ -1,8 +1,6 @@
 -- The seven safety clauses. They hold of every prefix and entry of every legal history of a formed scenario. Six of them name
 -- neither the ten rules nor their order.
-use Rattle.std.specs.Prelude.{◌≡◌, ℕ, ◌+◌, ◌≤◌, Bool, true, false, not, ◌==◌, ◌&&◌, ◌||◌, List, [], ◌∷◌, Option, Some, None, option_map, count_by, is_none}
-use Rattle.com_base.specs.declared.hresult.HResult.{HResult}
-use Rattle.com_base.specs.declared.value.Value.{Value}
+use Rattle.std.specs.Prelude.{◌≡◌, ℕ, ◌≤◌, Bool, true, false, not, ◌==◌, ◌||◌, List, [], ◌∷◌, Option, Some, None, option_map}
 use Rattle.com_model.specs.declared.deeds.Deed.{Deed}
 use Rattle.com_model.specs.declared.deeds.Deed.TheVariants as deed
 use Rattle.com_model.specs.declared.deeds.Entry.{Entry}
@@ -11,21 +9,21 @@ use Rattle.com_model.specs.declared.deeds.Route.TheVariants as route
 use Rattle.com_model.specs.declared.scenario.Scenario.{Scenario}
 use Rattle.com_model.specs.Answers.{is_S_OK}
 use Rattle.com_model.specs.Lists.{first}
-use Rattle.com_model.specs.Tables.{LaneSort, Thread, Host, Pool, NoLane, lane_sort}
+use Rattle.com_model.specs.Tables.{Host, Pool, lane_sort}
 use Rattle.com_model.specs.Openers.{Opener, Pumps, Waits, Enters, openers, nested}
 use Rattle.com_model.specs.Apartments.{neutral, mta, is_sta, home, serves, apartments}
 use Rattle.com_model.specs.Objects.{agile, named, owns, owner, finaled}
-use Rattle.com_model.specs.Calls.{issue, admitted, target, lane_of, route_of, is_post}
+use Rattle.com_model.specs.Calls.{issue, target, lane_of, route_of, is_post}
 use Rattle.com_model.specs.Frames.{scene, act, answer_in}
 use Rattle.com_model.specs.Places.{ground, places_that, to_interface, direct_places}
-use Rattle.com_model.specs.Endings.{ending, Answer}
-use Rattle.com_model.specs.Books.{Books, books, held}
+use Rattle.com_model.specs.Endings.{ending}
+use Rattle.com_model.specs.Books.{books, held}
 use Rattle.com_model.specs.Waiting.{inbox}
 use Rattle.com_model.specs.Dying.{is_dying}
 use Rattle.com_model.specs.Issue.{sent}
 use Rattle.com_model.specs.Deeds.{deed_of}
 use Rattle.com_model.specs.Sight.{sight}
-use Rattle.com_model.specs.Rules.{admission, posted_to_sta, type_of, verdict_on, is_handled_in, due_of, back_answer}
+use Rattle.com_model.specs.Rules.{admission, type_of, verdict_on, is_handled_in, due_of, back_answer}
 
 -- A fact of each entry and what stood before it, and a fact of each prefix, the whole history included.
 abbrev pub EachEntry : (List Entry → ℕ → Deed → Type 0) → List Entry → Type 0

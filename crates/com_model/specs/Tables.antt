@@ -1,5 +1,5 @@
 -- What a scenario declares: its lanes, interfaces, classes, bodies and filters.
-use Rattle.std.specs.Prelude.{ℕ, zero, suc, ◌+◌, ◌-◌, Bool, true, false, ◌==◌, ◌&&◌, ◌||◌, nat_le, if◌then◌else◌, List, [], ◌∷◌, Option, Some, None, pos, slice_get, slice_index_or, length, is_some}
+use Rattle.std.specs.Prelude.{ℕ, zero, suc, ◌+◌, Bool, true, false, ◌==◌, ◌&&◌, ◌||◌, nat_le, if◌then◌else◌, List, [], ◌∷◌, Option, Some, None, slice_get, slice_index_or, length}
 use Rattle.std.specs.Prelude.{position}
 use Rattle.std.specs.Prelude.{option_and_then, option_map}
 use Rattle.com_base.specs.declared.guid.Guid.{Guid}
@@ -14,7 +14,6 @@ use Rattle.com_classes.specs.declared.classes.ThreadingModel.{ThreadingModel}
 use Rattle.com_classes.specs.declared.classes.ThreadingModel.TheVariants as model
 use Rattle.com_filter.specs.declared.Rule.{Rule}
 use Rattle.com_model.specs.declared.scenario.Scenario.{Scenario}
-use Rattle.com_model.specs.Lists.{first}
 
 -- The sorts of lanes. Lane 0 is the clock; then come the threads in their order, the host STA's lane, and the pool's.
 pub data LaneSort : Type 0 where

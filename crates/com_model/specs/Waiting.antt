@@ -1,5 +1,5 @@
 -- Calls that wait to be entered, words, and quits.
-use Rattle.std.specs.Prelude.{ℕ, zero, suc, ◌+◌, ◌-◌, ℤ, pos, negsuc, Bool, true, false, not, ◌==◌, ◌&&◌, nat_lt, nat_le, if◌then◌else◌, List, [], ◌∷◌, ◌++◌, Option, Some, None, filter, is_none, option_map}
+use Rattle.std.specs.Prelude.{ℕ, zero, suc, ◌+◌, ℤ, pos, negsuc, Bool, true, false, not, ◌==◌, ◌&&◌, nat_lt, nat_le, if◌then◌else◌, List, [], ◌∷◌, ◌++◌, Option, Some, None, filter, is_none}
 use Rattle.com_base.specs.declared.hresult.HResult.{HResult}
 use Rattle.com_filter.specs.declared.Verdict.{Verdict}
 use Rattle.com_model.specs.declared.deeds.Deed.{Deed}
@@ -8,12 +8,12 @@ use Rattle.com_model.specs.declared.deeds.Entry.{Entry}
 use Rattle.com_model.specs.declared.deeds.Route.TheVariants as route
 use Rattle.com_model.specs.declared.scenario.Scenario.{Scenario}
 use Rattle.com_model.specs.Answers.{is_S_OK}
-use Rattle.com_model.specs.Lists.{put, first, without_first}
+use Rattle.com_model.specs.Lists.{without_first}
 use Rattle.com_model.specs.Openers.{Opener, Pumps, openers, served}
 use Rattle.com_model.specs.Objects.{named}
 use Rattle.com_model.specs.Calls.{admitted, target}
 use Rattle.com_model.specs.Clock.{clock}
-use Rattle.com_model.specs.Endings.{Ending, ending}
+use Rattle.com_model.specs.Endings.{ending}
 
 -- What a deed does to a posted call: an Out by post, an Again, and a Retry of 0 to 99 post it at the inbox's end; a Verdict
 -- judges it; a Retry of 100 and more lets it wait until the clock has grown by that number; one below 0 gives it up.
@@ -82,13 +82,22 @@ pub record Word : Type 0 where
   pub number : ℕ
   pub word : ℤ
 
+pub record Mark : Type 0 where
+  pub call : ℕ
+  pub number : ℕ
+
 pub record Mail : Type 0 where
   pub posted : ℕ
   pub words : List Word
-  pub asked : ℕ → ℕ
+  pub marks : List Mark
 
 abbrev pub no_mail : Mail
-no_mail = record { posted = 0; words = []; asked = λ c. 0 }
+no_mail = record { posted = 0; words = []; marks = [] }
+
+-- The last mark of an Out, and 0 where it has none.
+abbrev pub mark_of : List Mark → ℕ → ℕ
+mark_of [] c = 0
+mark_of (m ∷ ms) c = if m.call == c then m.number else mark_of ms c
 
 -- A Post with S_OK brings a word; a Word takes the first; a Pending asks about the first that its Out was not asked about yet,
 -- and takes that word where its answer is 2, PENDINGMSG_WAITDEFPROCESS.
@@ -117,12 +126,12 @@ taken_if n k ws = if n == 2 then filter (λ (w : Word). not (w.number == k)) ws 
 
 abbrev pub asked_about : ℕ → ℕ → Option Word → Mail → Mail
 asked_about c n None m = m
-asked_about c n (Some w) m = record m { words = taken_if n w.number m.words; asked = put c w.number m.asked }
+asked_about c n (Some w) m = record m { words = taken_if n w.number m.words; marks = record { call = c; number = w.number } ∷ m.marks }
 
 abbrev pub mail_after : MailEffect → Mail → Mail
 mail_after (Brings w) m = record m { posted = m.posted + 1; words = m.words ++ record { number = m.posted + 1; word = w } ∷ [] }
 mail_after Takes m = record m { words = without_first m.words }
-mail_after (Asks c n) m = asked_about c n (not_asked (m.asked c) m.words) m
+mail_after (Asks c n) m = asked_about c n (not_asked (mark_of m.marks c) m.words) m
 mail_after Leaves m = m
 
 abbrev pub mail : List Entry → ℕ → Mail

@@ -1,14 +1,21 @@
 //! Laws of every legal history, stated on functions that do nothing.
 
-ghost use Rattle.std.specs.Prelude.{◌≡◌, ℕ, List, Option, Some};
+ghost use Rattle.std.specs.Prelude.{◌≡◌, ℕ, List, ◌∷◌, Option, Some, None};
 ghost use Rattle.com_base.specs.declared.hresult.HResult.{HResult};
 ghost use Rattle.com_base.specs.declared.value.Value.{Value};
+ghost use Rattle.com_model.specs.declared.deeds.Deed.{Deed};
 ghost use Rattle.com_model.specs.declared.deeds.Deed.TheVariants as deed;
 ghost use Rattle.com_model.specs.declared.deeds.Entry.{Entry};
 ghost use Rattle.com_model.specs.declared.scenario.Scenario.{Scenario};
 ghost use Rattle.com_model.specs.Lists.{first};
 ghost use Rattle.com_model.specs.Openers.{nested, openers, Waits, top_call};
 ghost use Rattle.com_model.specs.Rules.{legal, next};
+ghost use Rattle.com_model.specs.Safe.{once};
+ghost use Rattle.com_model.specs.Ends.{scheduled, ended_as};
+ghost use Rattle.com_model.specs.Cases.{direct_call, pumped_words, into_the_host, callback, answer_first, younger_first, relayed, outer_causality, delayed, direct_call_10, pumped_words_9, into_the_host_10, callback_21, answer_first_22, younger_first_15, relayed_25, outer_causality_44, delayed_28, delayed_12};
+ghost use Rattle.com_model.specs.declared.counts.Ended.TheVariants as ended;
+ghost use Rattle.com_model.specs.Clock.{clock};
+ghost use Rattle.com_model.specs.State.{State, LanesStand, ApartmentsStand, after};
 
 /// In each lane of each legal history every closer closes the innermost opener: a Back the Out of its own call, and a Leave
 /// the Enter of its own call.
@@ -16,4 +23,32 @@ pub fn one_stack()
     ensures nested { (s : Scenario) (h : List Entry) (l : ℕ) → legal s h → nested h l }
     ensures own_out { (s : Scenario) (h : List Entry) (l c : ℕ) (hr : HResult) (v : Option Value) → next s h l ≡ Some (deed.Back c hr v) → first (openers h l) ≡ Some (Waits c) }
     ensures own_enter { (s : Scenario) (h : List Entry) (l c : ℕ) (hr : HResult) (v : Option Value) (b : Option (List ℕ)) → next s h l ≡ Some (deed.Leave c hr v b) → top_call (first (openers h l)) ≡ Some c }
+{}
+
+/// Each call of a legal history has one Out, at most one Enter after it, at most one Leave after that, and at most one Back
+/// after its Out.
+pub fn once_each()
+    ensures { (s : Scenario) (h : List Entry) → legal s h → once h }
+{}
+
+/// Where the tables of a state stand for a history, they stand for the longer one after each deed: the tables of lanes (openers,
+/// homes, counts, words, quits and filters), those of the STAs, and the clock.
+pub fn tables_stand()
+    ensures lanes { (s : Scenario) (st : State) (h : List Entry) (l : ℕ) (d : Deed) → LanesStand s st h → LanesStand s (after s st l d) (record { lane = l; deed = d } ∷ h) }
+    ensures apartments { (s : Scenario) (st : State) (h : List Entry) (l : ℕ) (d : Deed) → ApartmentsStand st h → ApartmentsStand (after s st l d) (record { lane = l; deed = d } ∷ h) }
+    ensures clock { (s : Scenario) (st : State) (h : List Entry) (l : ℕ) (d : Deed) → st.clock ≡ clock h → (after s st l d).clock ≡ clock (record { lane = l; deed = d } ∷ h) }
+{}
+
+/// The scheduled histories of small worked cases are those that stand in the definitions, and each is legal and ends well.
+pub fn worked_cases()
+    ensures direct_call { (scheduled direct_call ≡ direct_call_10) × legal direct_call direct_call_10 × (ended_as direct_call direct_call_10 ≡ Some ended.Ok) }
+    ensures pumped_words { (scheduled pumped_words ≡ pumped_words_9) × legal pumped_words pumped_words_9 × (ended_as pumped_words pumped_words_9 ≡ Some ended.Ok) }
+    ensures into_the_host { (scheduled into_the_host ≡ into_the_host_10) × legal into_the_host into_the_host_10 × (ended_as into_the_host into_the_host_10 ≡ Some ended.Ok) }
+    ensures callback { (scheduled callback ≡ callback_21) × legal callback callback_21 × (ended_as callback callback_21 ≡ Some ended.Ok) }
+    ensures answer_first { (scheduled answer_first ≡ answer_first_22) × legal answer_first answer_first_22 × (ended_as answer_first answer_first_22 ≡ Some ended.Ok) }
+    ensures younger_first { (scheduled younger_first ≡ younger_first_15) × legal younger_first younger_first_15 × (ended_as younger_first younger_first_15 ≡ Some ended.Ok) }
+    ensures relayed { (scheduled relayed ≡ relayed_25) × legal relayed relayed_25 × (ended_as relayed relayed_25 ≡ Some ended.Ok) }
+    ensures outer_causality { (scheduled outer_causality ≡ outer_causality_44) × legal outer_causality outer_causality_44 × (ended_as outer_causality outer_causality_44 ≡ Some ended.Ok) }
+    ensures delayed { (scheduled delayed ≡ delayed_28) × legal delayed delayed_28 × (ended_as delayed delayed_28 ≡ Some ended.Ok) }
+    ensures no_tick { next delayed delayed_12 0 ≡ None }
 {}

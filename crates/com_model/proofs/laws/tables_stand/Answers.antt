@@ -1,0 +1,11 @@
+use Rattle.com_model.proofs.Stands.{lanes-after, apartments-after, clock-after}
+use Rattle.com_model.proofs.laws.tables_stand.Goals as goal
+
+pub returns-clause-lanes : goal.returns-clause-lanes
+returns-clause-lanes c = lanes-after
+
+pub returns-clause-apartments : goal.returns-clause-apartments
+returns-clause-apartments c = apartments-after
+
+pub returns-clause-clock : goal.returns-clause-clock
+returns-clause-clock c = clock-after

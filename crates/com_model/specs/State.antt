@@ -1,0 +1,416 @@
+-- What a core keeps, as tables: a field for each definition, one row for each lane, call or object. No field is a function;
+-- functions are readings of the tables. Every step here is the step of the definition.
+use Rattle.std.specs.Prelude.{◌≡◌, ℕ, ◌+◌, ◌≤◌, Bool, true, false, not, ◌==◌, ◌&&◌, ◌||◌, if◌then◌else◌, List, [], ◌∷◌, ◌++◌, length, filter, Option, Some, None, is_some, is_none, option_map, slice_index_or}
+use Rattle.com_base.specs.declared.hresult.HResult.{HResult}
+use Rattle.com_base.specs.declared.value.Value.{Value}
+use Rattle.com_body.specs.declared.operands.Destination.{Destination}
+use Rattle.com_body.specs.declared.operands.Destination.TheVariants as destination
+use Rattle.com_body.specs.declared.frame.Cells.{Cells}
+use Rattle.com_body.specs.Frames.{FrameView, entered}
+use Rattle.com_model.specs.declared.deeds.Deed.{Deed}
+use Rattle.com_model.specs.declared.deeds.Entry.{Entry}
+use Rattle.com_model.specs.declared.scenario.Scenario.{Scenario}
+use Rattle.com_model.specs.Answers.{S_OK}
+use Rattle.com_model.specs.Lists.{or_else, first, is_number, is_member, count_if, number_or_zero, each_from, tabulated, from_one}
+use Rattle.com_model.specs.Tables.{lanes, threads, lane_sort, class_model, is_agile_model}
+use Rattle.com_model.specs.Openers.{Opener, effect_on, opened, left_on, running_call, entered_apartment, openers, served}
+use Rattle.com_model.specs.Apartments.{home_effect_on, home_after, home_by_sort, count_after, makes_sta, ends_sta, with_last, or_host, serves_by_sort, is_end, thread_home, init_count, stas, ended, made_in, over}
+use Rattle.com_model.specs.Objects.{Making, makes, finals, making, objects, finaled}
+use Rattle.com_model.specs.Calls.{Issue, Admission, Leaving, issues, admits, leaves, returns, admission_or, leaving_or, object_of, lane_of, is_marshalled, issue, admitted, left, returned, calls, causes}
+use Rattle.com_model.specs.Clock.{ticked, filter_effect_on, filter_after, in_made_sta, clock, issued_at, last_filter}
+use Rattle.com_model.specs.Frames.{Scene, Actor, actor, scene_after, act_by, new_cells, scene}
+use Rattle.com_model.specs.Endings.{Ending, end_effect, ends, can_be_cut, is_leave, ending}
+use Rattle.com_model.specs.Places.{Ground}
+use Rattle.com_model.specs.Books.{Books, Packet, Cookie, most, closed, out_values, holders_in, books}
+use Rattle.com_model.specs.Waiting.{Phase, Unposted, Mail, no_mail, post_effect, phase_after, is_queued, posted_last, mail_effect, mail_after, bound_reached, quit_effect, quit_after, phase, postings, mail, quit_stands}
+use Rattle.com_model.specs.Dying.{is_entered, is_dying_by, fallen_more, fallen}
+use Rattle.com_model.specs.Issue.{action_refusal, or_ok, at_issue, sent}
+use Rattle.com_model.specs.Sight.{Sight}
+use Rattle.com_model.specs.Rules.{next_by, legal}
+
+-- A scene and books without functions.
+pub record SceneTables : Type 0 where
+  pub scripts : List FrameView
+  pub bodies : List FrameView
+  pub cells : List Cells
+  pub buffers : List (List ℕ)
+  pub destinations : List Destination
+
+pub record BookTables : Type 0 where
+  pub stub : List (List ℕ)
+  pub proxy : List (List (List ℕ))
+  pub packets : List Packet
+  pub cookies : List Cookie
+  pub live : List Bool
+  pub arguments : List (List ℕ)
+  pub result : List (Option ℕ)
+
+pub record State : Type 0 where
+  -- by lane, from 0
+  pub openers : List (List Opener)
+  pub served : List ℕ
+  pub homes : List (Option ℕ)
+  pub counts : List ℕ
+  pub made : List (List ℕ)
+  pub over : List Bool
+  pub filters : List (Option ℕ)
+  pub mail : List Mail
+  pub quits : List Bool
+  -- the STAs that threads made, and those that ended
+  pub stas : List ℕ
+  pub ended : List ℕ
+  -- by object, from 1, and the objects that were released
+  pub makings : List (Option Making)
+  pub finaled : List ℕ
+  -- by call, from 1, and the calls in the order of their last posting
+  pub issues : List (Option Issue)
+  pub admissions : List (Option Admission)
+  pub leavings : List (Option Leaving)
+  pub returned : List Bool
+  pub endings : List (Option Ending)
+  pub refusals : List HResult
+  pub sent : List (List Value)
+  pub phases : List Phase
+  pub times : List ℕ
+  pub postings : List ℕ
+  pub causes : ℕ
+  pub clock : ℕ
+  pub entries : ℕ
+  pub scene : SceneTables
+  pub books : BookTables
+  pub fallen : List ℕ
+
+-- ---- readings
+
+abbrev pub openers_in : State → ℕ → List Opener
+openers_in st l = slice_index_or st.openers l []
+
+abbrev pub served_in : State → ℕ → ℕ
+served_in st l = slice_index_or st.served l 0
+
+abbrev pub home_in : Scenario → State → ℕ → Option ℕ
+home_in s st l = home_by_sort (lane_sort s l) (slice_index_or st.homes l None)
+
+abbrev pub running_in : Scenario → State → ℕ → Option ℕ
+running_in s st l = or_else (entered_apartment (openers_in st l)) (home_in s st l)
+
+abbrev pub next_sta_in : State → ℕ
+next_sta_in st = length st.stas + 3
+
+abbrev pub main_sta_in : State → ℕ
+main_sta_in st = or_host (first (filter (λ a. not (is_member a st.ended)) st.stas))
+
+abbrev pub making_in : State → ℕ → Option Making
+making_in st o = from_one st.makings o None
+
+abbrev pub objects_in : State → ℕ
+objects_in st = length st.makings
+
+abbrev pub named_in : State → ℕ → ℕ
+named_in st o = number_or_zero (option_map (λ (m : Making). m.apartment) (making_in st o))
+
+abbrev pub class_in : State → ℕ → ℕ
+class_in st o = number_or_zero (option_map (λ (m : Making). m.class) (making_in st o))
+
+abbrev pub agile_in : Scenario → State → ℕ → Bool
+agile_in s st o = is_agile_model (class_model s (class_in st o))
+
+abbrev pub owns_in : Scenario → State → ℕ → ℕ → Bool
+owns_in s st o a = agile_in s st o || a == named_in st o
+
+abbrev pub owner_in : Scenario → State → ℕ → ℕ → ℕ
+owner_in s st o l = if agile_in s st o then number_or_zero (running_in s st l) else named_in st o
+
+abbrev pub issue_in : State → ℕ → Option Issue
+issue_in st c = from_one st.issues c None
+
+abbrev pub admitted_in : State → ℕ → Option Admission
+admitted_in st c = from_one st.admissions c None
+
+abbrev pub left_in : State → ℕ → Option Leaving
+left_in st c = from_one st.leavings c None
+
+abbrev pub returned_in : State → ℕ → Bool
+returned_in st c = from_one st.returned c false
+
+abbrev pub ending_in : State → ℕ → Option Ending
+ending_in st c = from_one st.endings c None
+
+abbrev pub phase_in : State → ℕ → Phase
+phase_in st c = from_one st.phases c Unposted
+
+abbrev pub filter_in : Scenario → State → ℕ → Option ℕ
+filter_in s st l = in_made_sta (home_in s st l) (slice_index_or st.filters l None)
+
+abbrev pub waits_for : State → ℕ → ℕ → Bool
+waits_for st a c =
+    named_in st (object_of (issue_in st c)) == a
+    && (is_queued (phase_in st c) && (is_none (admitted_in st c) && is_none (ending_in st c)))
+
+abbrev pub inbox_in : State → ℕ → List ℕ
+inbox_in st a = filter (waits_for st a) st.postings
+
+abbrev pub scene_in : State → Scene
+scene_in st = record {
+  scripts = λ l. slice_index_or st.scene.scripts l (entered []);
+  bodies = λ c. slice_index_or st.scene.bodies c (entered []);
+  cells = λ o. slice_index_or st.scene.cells o new_cells;
+  buffers = λ p. slice_index_or st.scene.buffers p [];
+  destinations = λ c. slice_index_or st.scene.destinations c destination.Nowhere;
+}
+
+abbrev pub books_in : State → Books
+books_in st = record {
+  stub = λ o i. slice_index_or (slice_index_or st.books.stub o []) i 0;
+  proxy = λ a o i. slice_index_or (slice_index_or (slice_index_or st.books.proxy a []) o []) i 0;
+  packets = st.books.packets;
+  cookies = st.books.cookies;
+  live = λ o. slice_index_or st.books.live o false;
+  arguments = λ c. slice_index_or st.books.arguments c [];
+  result = λ c. slice_index_or st.books.result c None;
+}
+
+abbrev pub ground_in : Scenario → State → Ground
+ground_in s st = record {
+  openers = openers_in st;
+  home = home_in s st;
+  apartments = next_sta_in st;
+  objects = objects_in st;
+  named = named_in st;
+  owns = owns_in s st;
+  calls = length st.issues;
+  issue = issue_in st;
+  admitted = admitted_in st;
+  left = left_in st;
+  returned = returned_in st;
+}
+
+abbrev pub actor_of : Scenario → State → ℕ → Actor
+actor_of s st l = actor (lane_sort s l) l (openers_in st l)
+
+abbrev pub dies_in : Scenario → State → ℕ → Bool
+dies_in s st o =
+    is_dying_by (objects_in st) (λ x. is_member x st.finaled) (holders_in s (ground_in s st) (scene_in st) (books_in st))
+    (is_entered s (openers_in st)) o
+
+abbrev pub serves_in : Scenario → State → ℕ → ℕ → Bool
+serves_in s st l a = serves_by_sort (lane_sort s l) (is_member a (slice_index_or st.made l [])) a
+
+abbrev pub dying_in : Scenario → State → ℕ → List ℕ
+dying_in s st l = filter (λ o. dies_in s st o && serves_in s st l (named_in st o)) st.fallen
+
+abbrev pub sight_of : Scenario → State → Sight
+sight_of s st = record {
+  openers = openers_in st;
+  served = served_in st;
+  home = home_in s st;
+  running = running_in s st;
+  count = λ l. slice_index_or st.counts l 0;
+  over = λ l. slice_index_or st.over l false;
+  act = λ l. act_by s (class_in st) (issue_in st) (scene_in st) (actor_of s st l);
+  filter = filter_in s st;
+  mail = λ l. slice_index_or st.mail l no_mail;
+  quit = λ l. slice_index_or st.quits l false;
+  dying = dying_in s st;
+  next_sta = next_sta_in st;
+  main_sta = main_sta_in st;
+  inbox = inbox_in st;
+  objects = objects_in st;
+  named = named_in st;
+  class = class_in st;
+  owns = owns_in s st;
+  owner = owner_in s st;
+  calls = length st.issues;
+  causes = st.causes;
+  issue = issue_in st;
+  admitted = admitted_in st;
+  returned = returned_in st;
+  ending = ending_in st;
+  at_issue = λ c. from_one st.refusals c S_OK;
+  sent = λ c. from_one st.sent c [];
+  phase = phase_in st;
+  issued_at = λ c. from_one st.times c 0;
+  clock = st.clock;
+  books = books_in st;
+  buffers = (scene_in st).buffers;
+}
+
+-- The next entry of a lane, by the same rules.
+abbrev pub next_of : Scenario → State → ℕ → Option Deed
+next_of s st l = next_by s (sight_of s st) (lane_sort s l) l
+
+-- ---- after an entry
+
+-- A new row for a call that an Out issues, and for an object that a Made makes.
+abbrev pub grown : {X : Type 0} → Bool → X → List X → List X
+grown false x xs = xs
+grown true x xs = xs ++ x ∷ []
+
+abbrev pub issued_by : Entry → Bool
+issued_by e = is_some (issues e.lane e.deed)
+
+abbrev pub endings_after : Scenario → State → Entry → List (Option Ending)
+endings_after s st e =
+    each_from (λ c x. or_else x (ends (end_effect (λ d. is_some (filter_in s st (lane_of (issue_in st d)))) e.deed) c
+    (object_of (issue_in st c)) (named_in st (object_of (issue_in st c))) (can_be_cut (issue_in st c) (admitted_in st c))))
+    1 (grown (issued_by e) None st.endings)
+
+-- The tables of lanes, apartments, objects and calls.
+abbrev pub tables_after : Scenario → State → Entry → State
+tables_after s st e =
+    record st {
+      openers = each_from (λ l os. opened (effect_on l e) os) 0 st.openers;
+      served = each_from (λ l n. left_on (effect_on l e) (opened (effect_on l e) (openers_in st l)) n) 0 st.served;
+      homes = each_from (λ l a. home_after (home_effect_on l e) a) 0 st.homes;
+      counts = each_from (λ l n. count_after (home_effect_on l e) n) 0 st.counts;
+      made = each_from (λ l as'. if e.lane == l then with_last as' (makes_sta e.deed) else as') 0 st.made;
+      over = each_from (λ l b. (e.lane == l && is_end e.deed) || b) 0 st.over;
+      filters = each_from (λ l f. filter_after (filter_effect_on l e) f) 0 st.filters;
+      mail = each_from (λ l m. mail_after (mail_effect l (e.lane == l) e.deed) m) 0 st.mail;
+      quits = each_from (λ l b. quit_after (quit_effect l (e.lane == l && not (bound_reached (openers_in st l) (served_in st l))) e.deed) b) 0 st.quits;
+      stas = with_last st.stas (makes_sta e.deed);
+      ended = with_last st.ended (ends_sta e.deed);
+      makings = grown (is_some (makes e.deed)) (makes e.deed) st.makings;
+      finaled = with_last st.finaled (finals e.deed);
+      issues = grown (issued_by e) (issues e.lane e.deed) st.issues;
+      admissions = each_from (λ c x. admission_or (admits e.lane e.deed) c x) 1 (grown (issued_by e) None st.admissions);
+      leavings = each_from (λ c x. leaving_or (leaves e.deed) c x) 1 (grown (issued_by e) None st.leavings);
+      returned = each_from (λ c b. is_number c (returns e.deed) || b) 1 (grown (issued_by e) false st.returned);
+      endings = endings_after s st e;
+      phases = each_from (λ c p. phase_after (post_effect e.deed) st.clock c p) 1 (grown (issued_by e) Unposted st.phases);
+      times = grown (issued_by e) st.clock st.times;
+      postings = posted_last (post_effect e.deed) st.postings;
+      causes = count_if (issued_by e && is_none (running_call (openers_in st e.lane))) + st.causes;
+      clock = ticked e.deed st.clock;
+      entries = st.entries + 1;
+    }
+
+-- The refusal and the values of a call at its Out, by the action that its lane makes.
+abbrev pub refusals_after : Scenario → State → Entry → List HResult
+refusals_after s st e =
+    grown (issued_by e)
+    (or_ok (action_refusal s (home_in s st e.lane) (running_in s st e.lane) (owns_in s st) (books_in st).live ((sight_of s st).act e.lane)))
+    st.refusals
+
+abbrev pub is_marshalled_by : Option Issue → Bool
+is_marshalled_by None = false
+is_marshalled_by (Some i) = is_marshalled i.route
+
+abbrev pub sent_after : Scenario → State → Entry → List (List Value)
+sent_after s st e =
+    grown (issued_by e) (out_values s (books_in st) (is_marshalled_by (issues e.lane e.deed)) ((sight_of s st).act e.lane)) st.sent
+
+-- The scene and the books, written as tables that have a row for each lane, call, object and buffer.
+abbrev pub scene_tables : Scenario → State → Scene → SceneTables
+scene_tables s st w = record {
+  scripts = tabulated (threads s + 1) w.scripts;
+  bodies = tabulated (length st.issues + 1) w.bodies;
+  cells = tabulated (objects_in st + 1) w.cells;
+  buffers = tabulated 64 w.buffers;
+  destinations = tabulated (length st.issues + 1) w.destinations;
+}
+
+abbrev pub book_tables : Scenario → State → Books → BookTables
+book_tables s st b = record {
+  stub = tabulated (objects_in st + 1) (λ o. tabulated (length s.classes.interfaces) (b.stub o));
+  proxy = tabulated (next_sta_in st) (λ a. tabulated (objects_in st + 1) (λ o. tabulated (length s.classes.interfaces) (b.proxy a o)));
+  packets = b.packets;
+  cookies = b.cookies;
+  live = tabulated (objects_in st + 1) b.live;
+  arguments = tabulated (length st.issues + 1) b.arguments;
+  result = tabulated (length st.issues + 1) b.result;
+}
+
+abbrev pub scene_next : Scenario → (before after : State) → Entry → Scene
+scene_next s st su e =
+    scene_after s (class_in st) (named_in st) (issue_in st) (actor_of s st e.lane) (actor_of s su e.lane) e.lane e.deed (scene_in st)
+
+abbrev pub books_next : Scenario → (before after : State) → Scene → Entry → Books
+books_next s st su w e =
+    closed s (ground_in s su) w e.deed
+    (most s (ground_in s su) w ((sight_of s st).act e.lane) (λ c. is_leave (ending_in st c)) (number_or_zero (running_in s st e.lane))
+    e.deed (books_in st))
+
+abbrev pub with_fallen : Scenario → State → State
+with_fallen s st = record st { fallen = fallen_more (dies_in s st) (objects_in st) st.fallen }
+
+abbrev pub with_books : Scenario → State → Scene → Books → State
+with_books s st w b = with_fallen s (record st { scene = scene_tables s st w; books = book_tables s st b })
+
+abbrev pub completed : Scenario → (before after : State) → Scene → Entry → State
+completed s st su w e =
+    with_books s (record su { refusals = refusals_after s st e; sent = sent_after s st e }) w (books_next s st su w e)
+
+abbrev pub after_by : Scenario → (before after : State) → Entry → State
+after_by s st su e = completed s st su (scene_next s st su e) e
+
+-- The state after a deed of a lane.
+abbrev pub after : Scenario → State → (lane : ℕ) → Deed → State
+after s st l d = after_by s st (tables_after s st (record { lane = l; deed = d })) (record { lane = l; deed = d })
+
+-- ---- the state of a history
+
+pub record SameScene (w x : Scene) : Type 0 where
+  pub scripts : (l : ℕ) → w.scripts l ≡ x.scripts l
+  pub bodies : (c : ℕ) → w.bodies c ≡ x.bodies c
+  pub cells : (o : ℕ) → w.cells o ≡ x.cells o
+  pub buffers : (p : ℕ) → w.buffers p ≡ x.buffers p
+  pub destinations : (c : ℕ) → w.destinations c ≡ x.destinations c
+
+pub record SameBooks (b c : Books) : Type 0 where
+  pub stub : (o i : ℕ) → b.stub o i ≡ c.stub o i
+  pub proxy : (a o i : ℕ) → b.proxy a o i ≡ c.proxy a o i
+  pub packets : b.packets ≡ c.packets
+  pub cookies : b.cookies ≡ c.cookies
+  pub live : (o : ℕ) → b.live o ≡ c.live o
+  pub arguments : (x : ℕ) → b.arguments x ≡ c.arguments x
+  pub result : (x : ℕ) → b.result x ≡ c.result x
+
+-- One clause for each part.
+pub record LanesStand (s : Scenario) (st : State) (h : List Entry) : Type 0 where
+  pub rows : (length st.openers ≡ lanes s + 1) × (length st.served ≡ lanes s + 1) × (length st.homes ≡ lanes s + 1) × (length st.counts ≡ lanes s + 1) × (length st.made ≡ lanes s + 1) × (length st.over ≡ lanes s + 1) × (length st.filters ≡ lanes s + 1) × (length st.mail ≡ lanes s + 1) × (length st.quits ≡ lanes s + 1)
+  pub openers : (l : ℕ) → l ≤ lanes s → openers_in st l ≡ openers h l
+  pub served : (l : ℕ) → l ≤ lanes s → served_in st l ≡ served h l
+  pub homes : (l : ℕ) → l ≤ lanes s → slice_index_or st.homes l None ≡ thread_home h l
+  pub counts : (l : ℕ) → l ≤ lanes s → slice_index_or st.counts l 0 ≡ init_count h l
+  pub made : (l a : ℕ) → l ≤ lanes s → is_member a (slice_index_or st.made l []) ≡ made_in h l a
+  pub over : (l : ℕ) → l ≤ lanes s → slice_index_or st.over l false ≡ over h l
+  pub filters : (l : ℕ) → l ≤ lanes s → slice_index_or st.filters l None ≡ last_filter h l
+  pub mail : (l : ℕ) → l ≤ lanes s → slice_index_or st.mail l no_mail ≡ mail h l
+  pub quits : (l : ℕ) → l ≤ lanes s → slice_index_or st.quits l false ≡ quit_stands h l
+
+pub record ApartmentsStand (st : State) (h : List Entry) : Type 0 where
+  pub stas : st.stas ≡ stas h
+  pub ended : (a : ℕ) → is_member a st.ended ≡ ended h a
+
+pub record ObjectsStand (st : State) (h : List Entry) : Type 0 where
+  pub number : objects_in st ≡ objects h
+  pub makings : (o : ℕ) → making_in st o ≡ making h o
+  pub finaled : (o : ℕ) → is_member o st.finaled ≡ finaled h o
+
+pub record CallsStand (s : Scenario) (st : State) (h : List Entry) : Type 0 where
+  pub number : length st.issues ≡ calls h
+  pub issues : (c : ℕ) → issue_in st c ≡ issue h c
+  pub admissions : (c : ℕ) → admitted_in st c ≡ admitted h c
+  pub leavings : (c : ℕ) → left_in st c ≡ left h c
+  pub returned : (c : ℕ) → returned_in st c ≡ returned h c
+  pub endings : (c : ℕ) → ending_in st c ≡ ending s h c
+  pub refusals : (c : ℕ) → from_one st.refusals c S_OK ≡ at_issue s h c
+  pub sent : (c : ℕ) → from_one st.sent c [] ≡ sent s h c
+  pub phases : (c : ℕ) → phase_in st c ≡ phase h c
+  pub times : (c : ℕ) → from_one st.times c 0 ≡ issued_at h c
+  pub postings : st.postings ≡ postings h
+  pub causes : st.causes ≡ causes h
+
+-- The state stands for a legal history.
+pub record StandsFor (s : Scenario) (st : State) (h : List Entry) : Type 0 where
+  pub lawful : legal s h
+  pub lanes : LanesStand s st h
+  pub apartments : ApartmentsStand st h
+  pub objects : ObjectsStand st h
+  pub calls : CallsStand s st h
+  pub scene : SameScene (scene_in st) (scene s h)
+  pub books : SameBooks (books_in st) (books s h)
+  pub fallen : st.fallen ≡ fallen s h
+  pub clock : st.clock ≡ clock h
+  pub entries : st.entries ≡ length h
