@@ -1,5 +1,5 @@
 -- The loops over a line's words read what the definitions read.
-use Rattle.std.proofs.Common.{◌≡◌, ℕ, ◌+◌, ◌<◌, List, [], ◌∷◌, ◌++◌, length, get_or, drop, Some, None, Result, Ok, Err, if◌then◌else◌, refl}
+use Rattle.std.proofs.Common.{◌≡◌, ℕ, ◌+◌, ◌<◌, List, [], ◌∷◌, ◌++◌, length, get_or, drop, Some, Result, Ok, if◌then◌else◌, refl}
 use Rattle.std.proofs.lemmas.List.{drop_more}
 use Rattle.com_base.specs.declared.value.Kind.{Kind}
 use Rattle.com_text.specs.Words.{WordAt}
@@ -8,7 +8,6 @@ use Rattle.com_fields.specs.declared.faults.Fault.{Fault}
 use Rattle.com_fields.specs.declared.faults.ScenarioError.{ScenarioError}
 use Rattle.com_fields.specs.declared.faults.ScenarioError.TheVariants as errors
 use Rattle.com_fields.specs.Reading.{◌>>=◌, Fails}
-use Rattle.com_sections.specs.declared.methods.Signature.{Signature}
 use Rattle.com_sections.specs.Declaring.{listed_item, listed_on, pick_at, picks_on}
 use Rattle.com_sections.specs.Methods.{item_at, signature_on}
 

@@ -1,5 +1,5 @@
 -- Lines inside of sections, and what each line makes of what was read so far.
-use Rattle.std.specs.Prelude.{ℕ, List, [], ◌∷◌, ◌++◌, length, Option, Some, None, Result, Ok, Err, Bool, true, false, ◌&&◌, ◌==◌, nat_le, if◌then◌else◌, codes}
+use Rattle.std.specs.Prelude.{List, [], ◌∷◌, ◌++◌, length, Option, Some, None, Result, Ok, Err, Bool, true, false, ◌&&◌, ◌==◌, nat_le, if◌then◌else◌, codes}
 use Rattle.std.specs.Str.{bytes_eq}
 use Rattle.com_classes.specs.declared.classes.MethodBody.{MethodBody}
 use Rattle.com_classes.specs.declared.classes.ThreadingModel.{ThreadingModel}

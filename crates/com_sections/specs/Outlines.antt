@@ -1,8 +1,8 @@
 -- What a text's lines declare.
-use Rattle.std.specs.Prelude.{ℕ, List, [], ◌∷◌, ◌++◌, Option, Some, None, Result, Ok, Err, if◌then◌else◌, map, unwrap_or}
+use Rattle.std.specs.Prelude.{ℕ, List, [], ◌∷◌, ◌++◌, None, Result, Ok, Err, if◌then◌else◌, map, unwrap_or}
 use Rattle.com_base.specs.declared.guid.Guid.{Guid}
 use Rattle.com_classes.specs.declared.interfaces.Interface.{Interface}
-use Rattle.com_text.specs.Words.{WordAt, LineAt}
+use Rattle.com_text.specs.Words.{LineAt}
 use Rattle.com_fields.specs.declared.faults.Fault.{Fault}
 use Rattle.com_fields.specs.Reading.{◌>>=◌}
 use Rattle.com_sections.specs.declared.state.State.{State}
