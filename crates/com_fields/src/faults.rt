@@ -39,11 +39,7 @@ impl Fault {
 #[derive(Clone, Copy, Debug, PartialEq, Eq)]
 pub enum ScenarioError {
     /// The first fault of the text by place, and the lowest number of those at one place.
-    Fault {
-        number: u8,
-        line: u32,
-        column: u32,
-    },
+    Fault { number: u8, line: u32, column: u32 },
     /// There was not enough memory, or the text has nearly 2^32 bytes or more.
     Memory,
 }

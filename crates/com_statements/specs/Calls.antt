@@ -1,5 +1,5 @@
 -- The statement `call`: its method, its arguments and where its result goes.
-use Rattle.std.specs.Prelude.{ℕ, ◌+◌, List, [], ◌∷◌, ◌++◌, length, take, drop, Option, Some, None, Result, Ok, Err, Bool, true, false, not, nat_lt, nat_le, ◌==◌, if◌then◌else◌, option_map, option_and_then, slice_get, codes}
+use Rattle.std.specs.Prelude.{ℕ, ◌+◌, List, [], ◌∷◌, ◌++◌, length, take, drop, Option, Some, None, Result, Ok, Err, ◌==◌, if◌then◌else◌, option_map, slice_get, codes}
 use Rattle.std.specs.Str.{bytes_eq}
 use Rattle.com_base.specs.declared.value.Kind.{Kind}
 use Rattle.com_base.specs.declared.value.Kind.TheVariants as kinds
@@ -17,7 +17,7 @@ use Rattle.com_fields.specs.declared.operands.Operand.{Operand}
 use Rattle.com_fields.specs.declared.operands.Operand.TheVariants as operands
 use Rattle.com_fields.specs.Numbers.{number_of}
 use Rattle.com_fields.specs.Reading.{◌>>=◌, fault_at, word_at, stands_at, end_at, within}
-use Rattle.com_fields.specs.Naming.{is_name, number_of_name, of_16_bits, known}
+use Rattle.com_fields.specs.Naming.{is_name, number_of_name, of_16_bits}
 use Rattle.com_fields.specs.Operands.{operand_of, unfit, slot_at, literal_of}
 use Rattle.com_statements.specs.declared.calls.MethodNumber.{MethodNumber}
 use Rattle.com_statements.specs.declared.calls.Target.{Target}

@@ -102,11 +102,7 @@ fn named(
 /// The method that a body is for: an interface's name, a dot and a method's name. A word of another
 /// form is fault 3, and a name that is not declared is fault 8.
 #[tactic(auto, unfolding(crate::specs::Calls::method_at))]
-pub fn method_at(
-    names: &Names,
-    line: &[Word],
-    place: usize,
-) -> Result<MethodNumber, ScenarioError>
+pub fn method_at(names: &Names, line: &[Word], place: usize) -> Result<MethodNumber, ScenarioError>
     ensures { Gives (λ m. m) result (method_at names.now line.now place) }
 {
     let word = word(line, place)?;
@@ -168,11 +164,7 @@ pub fn argument(
 }
 
 /// The arguments for a method's parameters, from a place on.
-pub fn arguments(
-    alloc: Global,
-    params: &[Kind],
-    line: &[Word],
-) -> Result<Rows<Arg>, ScenarioError>
+pub fn arguments(alloc: Global, params: &[Kind], line: &[Word]) -> Result<Rows<Arg>, ScenarioError>
     ensures value { Gives (λ a. a) result (arguments_on [] params.now line.now 3) }
     ensures range { IfOk result (λ r. All IsArg r) }
 {
@@ -185,11 +177,7 @@ pub fn arguments(
 
 /// A call's result at a destination's word.
 #[tactic(auto, unfolding(crate::specs::Calls::landing_of))]
-fn landing(
-    kind: Option<Kind>,
-    word: &Word,
-    operand: Operand,
-) -> Result<Destination, ScenarioError>
+fn landing(kind: Option<Kind>, word: &Word, operand: Operand) -> Result<Destination, ScenarioError>
     requires { IsOperand operand }
     ensures value { Gives (λ d. d) result (landing_of kind word.now operand) }
     ensures range { IfOk result IsDestination }

@@ -13,8 +13,8 @@ mod word;
 
 pub use scan::{Class, LineEnd, Scanner, Within, line_at};
 pub use std::alloc::AllocError as Memory;
-pub use token::{TextError, Token, TokenSort, tokens};
+pub use token::{TEXT_LIMIT, TextError, Token, TokenSort, tokens};
 pub use word::{Sort, Word};
 
-//#[cfg(test)]
-//mod tests;
+#[cfg(test)]
+mod tests;

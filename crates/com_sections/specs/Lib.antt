@@ -1,0 +1,10 @@
+pub mod Codes
+pub mod Tables
+pub mod Rules
+pub mod Methods
+pub mod Declaring
+pub mod Header
+pub mod Beginning
+pub mod Programs
+pub mod Opened
+pub mod Outlines

@@ -1,0 +1,18 @@
+//! The sections of scenario text, line by line: what a line makes of what was read so far, or its
+//! first fault.
+#![tactic(auto)]
+
+mod begin;
+mod declare;
+mod header;
+mod methods;
+mod open;
+mod outline;
+mod programs;
+mod rules;
+mod state;
+mod tables;
+
+pub use com_base::Memory;
+pub use outline::{Outline, outline_of};
+pub use state::{Code, Section, State};
