@@ -1,0 +1,92 @@
+//! The commands.
+ghost use Rattle.std.specs.Prelude.{◌≡◌, ◌⊎◌, ◌≤◌, ℕ, List, OnOk, IsTrue, ◌↔◌, map, string_bytes, codes};
+ghost use Rattle.com_io.specs.Faults.{Rose};
+ghost use Rattle.com_io.specs.Told.{Gains, GainsPrefix};
+ghost use Rattle.com_top.specs.Statuses.{Answers, HasCause, IsReplay, IsSaid, Says, Sides, usage_line};
+
+use com_io::{ReadAllError, Sink, Source, read_all, write_all};
+use com_replay::{ReplayError, replay};
+use std::alloc::Global;
+
+use crate::forms::read_script;
+use crate::statuses::Status;
+
+// The longest input, in bytes.
+const LONGEST: usize = 1_048_576;
+
+/// Does what the words ask for: `replay` reads a scenario from the source and writes its history and report
+/// to the sink. The answer is the exit status.
+///
+/// Status 1 comes exactly for other words, unless the line that says so cannot be written; then nothing was
+/// read.
+pub fn com_main<S: Source, K: Sink>(alloc: Global, words: &[String], source: &mut S, sink: &mut K) -> u8
+    ensures replay { IsReplay (map string_bytes words.now) → Answers result (record {
+        left = S.left source.old; left_after = S.left source.new; read_faults = S.faults_of source.old; read_faults_after = S.faults_of source.new;
+        held = K.held sink.old; held_after = K.held sink.new; write_faults = K.faults_of sink.old; write_faults_after = K.faults_of sink.new }) }
+    ensures usage { (IsReplay (map string_bytes words.now) → ⊥) → IsSaid result 1 usage_line (K.held sink.old) (K.held sink.new) (K.faults_of sink.old) (K.faults_of sink.new) }
+    ensures unread { (IsReplay (map string_bytes words.now) → ⊥) → source.new ≡ source.old }
+{
+    if asks_replay(words) {
+        return replay_main(alloc, source, sink);
+    }
+    say(b"usage: comrun replay\n", Status::Usage, sink).code()
+}
+
+/// Reads a scenario from the source, and writes its history and report to the sink. The answer is the exit
+/// status: each has its cause.
+pub fn replay_main<S: Source, K: Sink>(alloc: Global, source: &mut S, sink: &mut K) -> u8
+    ensures { Answers result (record {
+        left = S.left source.old; left_after = S.left source.new; read_faults = S.faults_of source.old; read_faults_after = S.faults_of source.new;
+        held = K.held sink.old; held_after = K.held sink.new; write_faults = K.faults_of sink.old; write_faults_after = K.faults_of sink.new }) }
+{
+    replay_input(alloc, source, sink).code()
+}
+
+fn replay_input<S: Source, K: Sink>(alloc: Global, source: &mut S, sink: &mut K) -> Status
+    ensures { HasCause result (record {
+        left = S.left source.old; left_after = S.left source.new; read_faults = S.faults_of source.old; read_faults_after = S.faults_of source.new;
+        held = K.held sink.old; held_after = K.held sink.new; write_faults = K.faults_of sink.old; write_faults_after = K.faults_of sink.new }) }
+{
+    let text = match read_all(alloc, source, LONGEST) {
+        Ok(text) => text,
+        Err(ReadAllError::ReadFault) => return say(b"read fault\n", Status::ReadFault, sink),
+        Err(ReadAllError::TooLong) => return say(b"refused 0 0 12\n", Status::Refused, sink),
+        Err(ReadAllError::Memory) => return Status::Memory,
+    };
+    let script = match read_script(alloc, text.as_slice()) {
+        Ok(Some(script)) => script,
+        Ok(None) => return say(b"refused 0 0 13\n", Status::Refused, sink),
+        Err(_) => return Status::Memory,
+    };
+    match replay(alloc, script, sink) {
+        Ok(_) => Status::Done,
+        Err(ReplayError::WriteFault) => Status::WriteFault,
+        Err(ReplayError::Memory) => Status::Memory,
+    }
+}
+
+// Whether the words are the one word `replay`.
+fn asks_replay(words: &[String]) -> bool
+    ensures { IsTrue result ↔ IsReplay (map string_bytes words.now) }
+{
+    match words {
+        [word] => is_word(word.as_str(), "replay"),
+        _ => false,
+    }
+}
+
+fn is_word(word: &str, wanted: &str) -> bool
+    ensures { IsTrue result ↔ (word.now ≡ wanted.now) }
+{
+    word == wanted
+}
+
+// Writes one line, and answers the status that it goes with, or that it could not be written.
+fn say<K: Sink>(line: &[u8], status: Status, sink: &mut K) -> Status
+    ensures said { Says result status line.now (K.held sink.old) (K.held sink.new) (K.faults_of sink.old) (K.faults_of sink.new) }
+{
+    match write_all(sink, line) {
+        Ok(()) => status,
+        Err(_) => Status::WriteFault,
+    }
+}

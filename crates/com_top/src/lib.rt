@@ -1,0 +1,12 @@
+//! The top call: what the words ask for, read from a source and written to a sink.
+#![tactic(auto)]
+
+mod commands;
+mod forms;
+mod pieces;
+mod statuses;
+
+pub use com_base::Memory;
+pub use commands::{com_main, replay_main};
+pub use forms::read_script;
+pub use statuses::Status;
