@@ -1,0 +1,9 @@
+//! Scenario text: reading it, with every fault at its place, and writing it.
+#![tactic(auto)]
+
+mod built_in;
+mod reading;
+
+pub use com_base::Memory;
+pub use com_fields::ScenarioError;
+pub use reading::parse;

@@ -1,0 +1,83 @@
+//! A scenario from its text.
+
+ghost use Rattle.std.specs.Prelude.{◌≡◌, ◌++◌, ◌∷◌, [], drop, Ok, OnOk, IfOk};
+ghost use Rattle.com_fields.specs.Reading.{Gives};
+ghost use Rattle.com_scenario.specs.Scenarios.{tables_of, scenario_of, reading};
+
+use crate::built_in::built_in;
+use com_base::{Memory, Rows};
+use com_classes::{Class, Classes, Interface};
+use com_fields::ScenarioError;
+use com_model::Scenario;
+use com_sections::{Outline, outline_of};
+use std::alloc::{AllocError, Global};
+
+/// How many interfaces are built in.
+const BUILT_IN: usize = 4;
+
+/// The interfaces that a text declares itself.
+fn declared(mut interfaces: Vec<Interface>) -> Result<Vec<Interface>, Memory>
+    ensures { IfOk result (λ v. v.items ≡ drop 4 interfaces.items) }
+{
+    let from = interfaces.len().min(BUILT_IN);
+    interfaces.split_off(from)
+}
+
+/// Adds an interface. One whose IID is there, and one too many, are refused where they are declared.
+fn add_interface(classes: &mut Classes, interface: Interface) -> Result<(), Memory>
+    ensures { OnOk result (classes.new ≡ record classes.old { interfaces = classes.old.interfaces ++ interface ∷ [] }) }
+{
+    match classes.add_interface(interface) {
+        Ok(_) => Ok(()),
+        Err(_) => Err(AllocError),
+    }
+}
+
+/// Adds a class. One whose CLSID is there, and one too many, are refused where they are declared.
+fn add_class(classes: &mut Classes, class: Class) -> Result<(), Memory>
+    ensures { OnOk result (classes.new ≡ record classes.old { classes = classes.old.classes ++ class ∷ [] }) }
+{
+    match classes.add_class(class) {
+        Ok(_) => Ok(()),
+        Err(_) => Err(AllocError),
+    }
+}
+
+/// The tables of an outline's interfaces and classes.
+fn tables(alloc: Global, interfaces: Rows<Interface>, list: Rows<Class>) -> Result<Classes, Memory>
+    ensures { IfOk result (λ t. t ≡ tables_of interfaces list) }
+{
+    let mut classes = Classes::new(alloc)?;
+    for interface in declared(interfaces.into_vec())? {
+        add_interface(&mut classes, interface)?;
+    }
+    for class in list.into_vec() {
+        add_class(&mut classes, class)?;
+    }
+    Ok(classes)
+}
+
+/// The scenario of an outline.
+fn scenario(alloc: Global, outline: Outline) -> Result<Scenario, Memory>
+    ensures { IfOk result (λ s. s ≡ scenario_of outline) }
+{
+    Ok(Scenario {
+        version: outline.version,
+        pool: outline.pool,
+        classes: tables(alloc, outline.interfaces, outline.classes)?,
+        filters: outline.filters,
+        threads: outline.threads,
+        picks: outline.picks,
+    })
+}
+
+/// The scenario that a text spells, or the first fault by place, and of two at one place the one
+/// with the lower number. `Memory` comes where memory is short, and for a text of nearly 2^32 bytes
+/// or more.
+#[tactic(auto, unfolding(crate::specs::Scenarios::reading))]
+pub fn parse(alloc: Global, text: &[u8]) -> Result<Scenario, ScenarioError>
+    ensures { Gives (λ s. s) result (reading text.now) }
+{
+    let outline = outline_of(alloc, built_in(alloc)?, text)?;
+    Ok(scenario(alloc, outline)?)
+}
