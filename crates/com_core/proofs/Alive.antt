@@ -1,6 +1,5 @@
 -- Which objects are alive and which are free, and how deeds change that.
-use Rattle.std.proofs.Common.{◌≡◌, ℕ, zero, suc, ◌+◌, ◌-◌, ◌<◌, ◌≤◌, List, [], ◌∷◌, ◌++◌, Bool, true, false, refl, sym, ◌∙◌, ap, arith, length, Option, Some, None, ◌==◌, ◌&&◌, not, nat_le, slice_set, slice_index_or, if◌then◌else◌, length-append}
-use Rattle.std.proofs.lemmas.Bool.{eqb-true, eq-eqb}
+use Rattle.std.proofs.Common.{◌≡◌, ℕ, zero, suc, ◌+◌, ◌-◌, ◌<◌, ◌≤◌, List, [], ◌∷◌, ◌++◌, Bool, true, false, refl, arith, length, Option, ◌&&◌, not, nat_le, slice_set, slice_index_or}
 use Rattle.std.proofs.lemmas.Bool.Decides.{nat_tests}
 use Rattle.std.proofs.lemmas.Grind.{common_steps}
 use Rattle.std.proofs.lemmas.List.{get_or-set_same, get_or-set_other, get_or_append_left, get_or_push, length-set}
@@ -58,7 +57,7 @@ pub alive_released : (objects : List Object) (x : ℕ) → 1 ≤ x → x ≤ len
 alive_released objects x low high =
     let within : x - 1 < length objects = omega arith in
     rw (get_or-set_same objects (x - 1) (record (object_at objects x) { released = true }) fresh_object within)
-      (elim (nat_le 1 x && nat_le x (length (slice_set objects (x - 1) (record (object_at objects x) { released = true })))) as (λ b. (b && false) ≡ false) [ true ↦ refl | false ↦ refl ])
+    (elim (nat_le 1 x && nat_le x (length (slice_set objects (x - 1) (record (object_at objects x) { released = true })))) as (λ b. (b && false) ≡ false) [ true ↦ refl | false ↦ refl ])
 
 pub alive_kept : (objects : List Object) (x o : ℕ) → 1 ≤ x → ((o ≡ x) → ⊥)
     → alive (slice_set objects (x - 1) (record (object_at objects x) { released = true })) o ≡ alive objects o

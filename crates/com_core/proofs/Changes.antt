@@ -1,16 +1,15 @@
 -- How each kind of entry changes which objects are free.
-use Rattle.std.proofs.Common.{◌≡◌, ℕ, zero, suc, ◌+◌, ◌-◌, ◌<◌, ◌≤◌, List, [], ◌∷◌, ◌++◌, Bool, true, false, refl, sym, ◌∙◌, ap, arith, length, Option, Some, None, ◌==◌, ◌&&◌, not, nat_le, slice_set, slice_index_or, if◌then◌else◌, filter, subst, cond, length-append, ◌⊎◌, inl, inr}
-use Rattle.std.proofs.lemmas.Bool.{eqb-true, eq-eqb}
+use Rattle.std.proofs.Common.{◌≡◌, ℕ, ◌+◌, ◌<◌, ◌≤◌, List, [], ◌∷◌, ◌++◌, Bool, true, false, refl, sym, ◌∙◌, ap, arith, length, Option, Some, None, ◌==◌, ◌&&◌, not, slice_set, slice_index_or, filter, length-append, inl, inr}
+use Rattle.std.proofs.lemmas.Bool.{eq-eqb}
 use Rattle.std.proofs.lemmas.Bool.Decides.{nat_tests, eqb_tells}
-use Rattle.std.proofs.lemmas.Grind.{common_steps}
 use Rattle.com_core.specs.declared.objects.Object.{Object}
-use Rattle.com_core.specs.Objects.{names, object_at, fresh_object, no_slots}
+use Rattle.com_core.specs.Objects.{names, fresh_object, no_slots}
 use Rattle.com_core.specs.Dying.{numbers_to}
 use Rattle.com_core.specs.After.{listed}
 use Rattle.com_core.proofs.Ranges.{filter_none, filter_one, filter_same, Pass}
 use Rattle.com_core.proofs.Named.{Once, names_emptied, unnamed_emptied, named_at, gone_emptied, names_filled}
-use Rattle.com_core.proofs.Alive.{alive, free, alive_new, alive_pushed, alive_released, alive_kept}
-use Rattle.com_core.proofs.Losses.{Loses, loses, loses_none, Distinct, Lacks}
+use Rattle.com_core.proofs.Alive.{alive, free, alive_pushed}
+use Rattle.com_core.proofs.Losses.{Loses, loses, Distinct}
 
 pub conj_left : (a b : Bool) → (a && b) ≡ true → a ≡ true
 conj_left true b e = refl
@@ -62,18 +61,18 @@ emptied_new_list : (objects : List Object) (slots : List (Option ℕ)) (k n : �
     → filter (λ o. free objects (slice_set slots k None) o && not (free objects slots o)) (numbers_to n) ≡ listed (slice_index_or slots k None)
 emptied_new_list objects slots k n room once held =
     elim (slice_index_or slots k None) as (λ (v : Option ℕ). slice_index_or slots k None ≡ v
-        → filter (λ o. free objects (slice_set slots k None) o && not (free objects slots o)) (numbers_to n) ≡ listed v) [
+    → filter (λ o. free objects (slice_set slots k None) o && not (free objects slots o)) (numbers_to n) ≡ listed v) [
       | None ↦ λ e. filter_none _ (numbers_to n) (λ o. emptied_new objects slots k o (λ f. cc))
       | Some x ↦ λ e.
           let living : alive objects x ≡ true = held x (named_at slots k x e) in
           filter_one (λ o. free objects (slice_set slots k None) o && not (free objects slots o)) n x
-            (λ o passes. elim (eqb_tells o x) [
-              | inl same ↦ same.1
-              | inr other ↦
-                  let fails = emptied_new objects slots k o (λ f. other.1 cc) in
-                  absurd cc
-            ])
-            (emptied_here objects slots k x once held e) (alive_low objects x living) (let high = alive_high objects x living in omega arith)
+          (λ o passes. elim (eqb_tells o x) [
+            | inl same ↦ same.1
+            | inr other ↦
+                let fails = emptied_new objects slots k o (λ f. other.1 cc) in
+                absurd cc
+          ])
+          (emptied_here objects slots k x once held e) (alive_low objects x living) (let high = alive_high objects x living in omega arith)
     ] refl
 
 pub emptied_loses : (objects : List Object) (slots : List (Option ℕ)) (k n : ℕ) (dying : List ℕ) → length objects ≤ n → Once slots → Held objects slots
@@ -81,7 +80,7 @@ pub emptied_loses : (objects : List Object) (slots : List (Option ℕ)) (k n : �
     → Loses (free objects slots) (free objects (slice_set slots k None)) n dying (listed (slice_index_or slots k None))
 emptied_loses objects slots k n dying room once held all apart =
     loses (free objects slots) (free objects (slice_set slots k None)) n dying (listed (slice_index_or slots k None))
-      (λ o e. emptied_keeps objects slots k o e) (emptied_new_list objects slots k n room once held) all apart
+    (λ o e. emptied_keeps objects slots k o e) (emptied_new_list objects slots k n room once held) all apart
 
 -- A creation frees what emptying its slot would free: the new object stands in the slot.
 pub made_free : (objects : List Object) (slots : List (Option ℕ)) (k o : ℕ) → k < length slots
@@ -93,7 +92,7 @@ made_free objects slots k o within =
           let dead : alive objects o ≡ false = past objects o (omega arith) in
           let here : length objects + 1 == o ≡ true = eq-eqb (length objects + 1) o (sym at_new) in
           rw (names_filled slots k (length objects + 1) o within, here, dead)
-            (nothing (alive (objects ++ fresh_object ∷ []) o))
+          (nothing (alive (objects ++ fresh_object ∷ []) o))
       | inr other ↦
           let elsewhere : length objects + 1 == o ≡ false = differs (length objects + 1) o (λ e. other.1 (sym e)) in
           rw (alive_pushed objects o other.1, names_filled slots k (length objects + 1) o within, elsewhere) refl
@@ -101,8 +100,10 @@ made_free objects slots k o within =
   where
     past : (objects : List Object) (o : ℕ) → length objects < o → alive objects o ≡ false
     past objects o above = grind (arith, nat_tests, above)
+
     differs : (a b : ℕ) → ((a ≡ b) → ⊥) → a == b ≡ false
     differs a b apart = grind (arith, nat_tests, apart)
+
     nothing : (a : Bool) → (a && false) ≡ false
     nothing true = refl
     nothing false = refl
@@ -110,18 +111,18 @@ made_free objects slots k o within =
 pub made_loses : (objects : List Object) (slots : List (Option ℕ)) (k : ℕ) (dying : List ℕ) → k < length slots → Once slots → Held objects slots
     → Pass (free objects slots) dying → Distinct dying
     → Loses (free objects slots) (free (objects ++ fresh_object ∷ []) (slice_set slots k (Some (length objects + 1))))
-        (length (objects ++ fresh_object ∷ [])) dying (listed (slice_index_or slots k None))
+    (length (objects ++ fresh_object ∷ [])) dying (listed (slice_index_or slots k None))
 made_loses objects slots k dying within once held all apart =
     let is : (ℕ → Bool) = free (objects ++ fresh_object ∷ []) (slice_set slots k (Some (length objects + 1))) in
     let emptied : (ℕ → Bool) = free objects (slice_set slots k None) in
     let n : ℕ = length (objects ++ fresh_object ∷ []) in
     let room : length objects ≤ n = omega (arith, length-append objects (fresh_object ∷ [])) in
     loses (free objects slots) is n dying (listed (slice_index_or slots k None))
-      (λ o e. made_free objects slots k o within ∙ emptied_keeps objects slots k o e)
-      (filter_same (λ o. is o && not (free objects slots o)) (λ o. emptied o && not (free objects slots o)) (numbers_to n)
-          (λ o. ap (λ b. b && not (free objects slots o)) (made_free objects slots k o within))
-        ∙ emptied_new_list objects slots k n room once held)
-      all apart
+    (λ o e. made_free objects slots k o within ∙ emptied_keeps objects slots k o e)
+    (filter_same (λ o. is o && not (free objects slots o)) (λ o. emptied o && not (free objects slots o)) (numbers_to n)
+    (λ o. ap (λ b. b && not (free objects slots o)) (made_free objects slots k o within))
+    ∙ emptied_new_list objects slots k n room once held)
+    all apart
 
 -- When every slot is emptied, what was named becomes free.
 pub cleared_loses : (objects : List Object) (slots : List (Option ℕ)) (dying : List ℕ) → Held objects slots
@@ -129,9 +130,9 @@ pub cleared_loses : (objects : List Object) (slots : List (Option ℕ)) (dying :
     → Loses (free objects slots) (free objects no_slots) (length objects) dying (filter (λ o. names o slots) (numbers_to (length objects)))
 cleared_loses objects slots dying held all apart =
     loses (free objects slots) (free objects no_slots) (length objects) dying (filter (λ o. names o slots) (numbers_to (length objects)))
-      (λ o e. rw (conj_left (alive objects o) (not (names o slots)) e) refl)
-      (filter_same _ (λ o. names o slots) (numbers_to (length objects)) (λ o. same objects slots o held))
-      all apart
+    (λ o e. rw (conj_left (alive objects o) (not (names o slots)) e) refl)
+    (filter_same _ (λ o. names o slots) (numbers_to (length objects)) (λ o. same objects slots o held))
+    all apart
   where
     same : (objects : List Object) (slots : List (Option ℕ)) (o : ℕ) → Held objects slots
         → (free objects no_slots o && not (free objects slots o)) ≡ names o slots

@@ -1,5 +1,5 @@
 -- A cursor one place further on, and a script with one statement more.
-use Rattle.std.proofs.Common.{◌≡◌, ℕ, zero, suc, ◌+◌, ◌<◌, ◌≤◌, List, [], ◌∷◌, ◌++◌, refl, drop, length, arith, length-append, add-one}
+use Rattle.std.proofs.Common.{◌≡◌, ℕ, zero, suc, ◌+◌, ◌<◌, List, [], ◌∷◌, ◌++◌, refl, drop, length, arith, length-append, add-one}
 use Rattle.com_core.specs.declared.script.Step.{Step}
 use Rattle.com_core.specs.Steps.{rest_of}
 use Rattle.com_core.specs.After.{without_first}
@@ -30,6 +30,6 @@ slots_more (s ∷ ss) step all here = (all.0, slots_more ss step all.1 here)
 
 pub script_more : (steps : List Step) (step : Step) → IsScript steps → slot_of step < 8 → length steps < most_steps → IsScript (steps ++ step ∷ [])
 script_more steps step is here room = record {
-    in_range = slots_more steps step is.in_range here;
-    short = omega (arith, length-append steps (step ∷ []))
-  }
+  in_range = slots_more steps step is.in_range here;
+  short = omega (arith, length-append steps (step ∷ []));
+}

@@ -1,6 +1,6 @@
 -- Each entry that the rules give keeps the standing sound, and its dying objects right.
-use Rattle.std.proofs.Common.{◌≡◌, ℕ, zero, suc, ◌+◌, ◌-◌, ◌<◌, ◌≤◌, List, [], ◌∷◌, ◌++◌, Bool, true, false, refl, sym, ◌∙◌, ap, arith, length, Option, Some, None, ◌==◌, ◌&&◌, not, nat_le, slice_set, slice_index_or, if◌then◌else◌, filter, subst, cond, length-append, ◌⊎◌, inl, inr, ℤ, pos}
-use Rattle.std.proofs.lemmas.Bool.{eqb-true, eq-eqb}
+use Rattle.std.proofs.Common.{◌≡◌, ℕ, zero, suc, ◌+◌, ◌-◌, ◌<◌, ◌≤◌, List, [], ◌∷◌, ◌++◌, Bool, true, false, refl, sym, ◌∙◌, arith, length, Option, Some, None, ◌==◌, ◌&&◌, not, nat_le, slice_set, slice_index_or, filter, inl, inr, ℤ}
+use Rattle.std.proofs.lemmas.Bool.{eq-eqb}
 use Rattle.std.proofs.lemmas.Bool.Decides.{nat_tests, eqb_tells}
 use Rattle.std.proofs.lemmas.List.{length-set}
 use Rattle.std.specs.Option.{option_map}
@@ -9,32 +9,27 @@ use Rattle.com_base.specs.declared.value.Value.{Value}
 use Rattle.com_base.specs.declared.value.Value.TheVariants as value
 use Rattle.com_base.specs.declared.value.Mode.TheVariants.{Sta}
 use Rattle.com_body.specs.declared.operands.Asked.TheVariants.{Number}
-use Rattle.com_body.specs.declared.frame.Cells.{Cells}
 use Rattle.com_model.specs.declared.deeds.Deed.{Deed}
 use Rattle.com_model.specs.declared.deeds.Deed.TheVariants as deed
-use Rattle.com_model.specs.declared.deeds.Route.TheVariants.{Direct, Refused}
 use Rattle.com_core.specs.declared.script.Step.{Step}
 use Rattle.com_core.specs.declared.script.Step.TheVariants as step
-use Rattle.com_core.specs.Steps.{rest_of, next_step}
+use Rattle.com_core.specs.Steps.{rest_of}
 use Rattle.com_core.specs.declared.openers.Opener.{Opener}
 use Rattle.com_core.specs.declared.openers.Opener.TheVariants.{Waits, Runs}
-use Rattle.com_core.specs.Openers.{runs}
-use Rattle.com_core.specs.declared.home.Home.{Home}
 use Rattle.com_core.specs.declared.calls.Answer.{Answer}
-use Rattle.com_core.specs.declared.calls.Calls.{Calls}
 use Rattle.com_core.specs.declared.objects.Object.{Object}
-use Rattle.com_core.specs.Objects.{names, object_at, fresh_object, no_slots, slot_of}
-use Rattle.com_core.specs.Dying.{is_dying, numbers_to}
+use Rattle.com_core.specs.Objects.{names, object_at, fresh_object}
+use Rattle.com_core.specs.Dying.{numbers_to}
 use Rattle.com_core.specs.Scripts.{SlotsInRange}
 use Rattle.com_core.specs.Standing.{Standing}
-use Rattle.com_core.specs.Rules.{or_else, icounter, counter_class, s_ok, out_of, reference_to}
+use Rattle.com_core.specs.Rules.{icounter, counter_class, s_ok, out_of, reference_to}
 use Rattle.com_core.specs.After.{after, dying_after, listed}
-use Rattle.com_core.proofs.Ranges.{filter_none, filter_all, filter_same, Pass, pass_same}
+use Rattle.com_core.proofs.Ranges.{filter_none, filter_all, Pass}
 use Rattle.com_core.proofs.Named.{Once, once_emptied, once_filled, unnamed_emptied, names_filled, named_at}
-use Rattle.com_core.proofs.Alive.{alive, free, settled, alive_released, alive_kept, alive_new, alive_pushed, alive_stepped}
+use Rattle.com_core.proofs.Alive.{alive, free, alive_released, alive_kept, alive_new, alive_pushed, alive_stepped}
 use Rattle.com_core.proofs.Losses.{Loses, loses, loses_none, Distinct, Lacks, append_none}
 use Rattle.com_core.proofs.Changes.{Held, conj_left, conj_right, never_both, alive_low, alive_high, made_loses, emptied_loses, cleared_loses, free_unnamed}
-use Rattle.com_core.proofs.Weights.{weight, open_weight, home_weight, unreleased, unreleased_pushed, unreleased_same, unreleased_less}
+use Rattle.com_core.proofs.Weights.{weight, unreleased_pushed, unreleased_same, unreleased_less}
 use Rattle.com_core.proofs.Sound.{Sound, Right, right_of, IsShape, IsHomed, IsPending}
 
 pub record Goes (at : Standing) (d : Deed) : Type 0 where
@@ -51,10 +46,15 @@ pub goes_of : (at : Standing) (d : Deed) (added : List ℕ) → Sound at → dyi
     → weight (after at d) < weight at → Goes at d
 goes_of at d added sound adds loses room in_range once held shape homed lighter =
     let still : Sound (after at d) = record {
-        room = room; in_range = in_range; once = once; held = held;
-        gone = rw adds loses.free_still; distinct = rw adds loses.distinct_still;
-        shape = shape; homed = homed
-      } in
+      room = room;
+      in_range = in_range;
+      once = once;
+      held = held;
+      gone = rw adds loses.free_still;
+      distinct = rw adds loses.distinct_still;
+      shape = shape;
+      homed = homed;
+    } in
     record { sound = still; right = right_of at d sound still (adds ∙ loses.kept); lighter = lighter }
 
 -- An entry that leaves the slots, and each object alive or not, as they were.
@@ -67,34 +67,34 @@ pub goes_on : (at : Standing) (d : Deed) → Sound at → dying_after d at ≡ a
 goes_on at d sound adds slots_same alive_same in_range shape homed lighter =
     let same : ((o : ℕ) → free (after at d).objects (after at d).slots o ≡ free at.objects at.slots o) = λ o. rw (slots_same, alive_same o) refl in
     goes_of at d [] sound adds
-      (loses_none (free at.objects at.slots) (free (after at d).objects (after at d).slots) (length (after at d).objects) at.dying same sound.gone sound.distinct)
-      (rw slots_same sound.room) in_range (rw slots_same sound.once)
-      (λ o named. alive_same o ∙ sound.held o (rw slots_same at named))
-      (rw slots_same shape) homed lighter
+    (loses_none (free at.objects at.slots) (free (after at d).objects (after at d).slots) (length (after at d).objects) at.dying same sound.gone sound.distinct)
+    (rw slots_same sound.room) in_range (rw slots_same sound.once)
+    (λ o named. alive_same o ∙ sound.held o (rw slots_same at named))
+    (rw slots_same shape) homed lighter
 
 -- The initialisation.
 pub goes_init : (at : Standing) → Sound at → at.home.begun ≡ false → at.openers ≡ [] → Goes at (deed.Init Sta 3 s_ok)
 goes_init at sound before idle =
     let homed : IsHomed false at.home.count at.home.apartment at.home.ended at.left at.openers = rw before at sound.homed in
     goes_on at (deed.Init Sta 3 s_ok) sound refl refl (λ o. refl) sound.in_range sound.shape
-      (rw (homed.1) (refl, refl, homed.2))
-      (rw (before, homed.1, homed.2) (omega arith))
+    (rw (homed.1) (refl, refl, homed.2))
+    (rw (before, homed.1, homed.2) (omega arith))
 
 -- The end, after the script.
 pub goes_end : (at : Standing) → Sound at → at.home.begun ≡ true → at.home.count ≡ 0 → at.home.ended ≡ false → Goes at deed.End
 goes_end at sound begun over running =
     let homed : IsHomed true 0 at.home.apartment at.home.ended at.left at.openers = rw (begun, over) at sound.homed in
     goes_on at deed.End sound refl refl (λ o. refl) sound.in_range sound.shape (rw (begun, over) homed)
-      (rw (begun, over, running) (omega arith))
+    (rw (begun, over, running) (omega arith))
 
 -- The uninit, after the script: every slot is emptied.
 pub goes_uninit : (at : Standing) → Sound at → at.left ≡ [] → at.openers ≡ [] → at.home.begun ≡ true → at.home.count ≡ 1 → at.home.ended ≡ false
     → Goes at (deed.Uninit at.home.apartment 0)
 goes_uninit at sound over idle begun one running =
     goes_of at (deed.Uninit at.home.apartment 0) (filter (λ o. names o at.slots) (numbers_to (length at.objects))) sound refl
-      (cleared_loses at.objects at.slots at.dying sound.held sound.gone sound.distinct)
-      refl sound.in_range tt (λ o named. cc) (rw idle tt) (rw begun (over, idle))
-      (rw (begun, one, running) (omega arith))
+    (cleared_loses at.objects at.slots at.dying sound.held sound.gone sound.distinct)
+    refl sound.in_range tt (λ o named. cc) (rw idle tt) (rw begun (over, idle))
+    (rw (begun, one, running) (omega arith))
 
 -- Where statements remain or something is open, the home is a3, and stays so.
 pub homed_still : (begun : Bool) (count : ℕ) (apartment : Option ℕ) (ended : Bool) (left left' : List Step) (os os' : List Opener)
@@ -118,13 +118,13 @@ goes_out at slot number rest sound here idle begun =
     elim (slice_index_or at.slots slot None) as (λ (v : Option ℕ). slice_index_or at.slots slot None ≡ v → Goes at (out_of (at.calls.made + 1) v)) [
       | None ↦ λ e.
           goes_on at (out_of (at.calls.made + 1) None) sound refl refl (λ o. refl) in_range (rw idle tt)
-            (homed_still at.home.begun at.home.count at.home.apartment at.home.ended at.left (rest_of at.left) at.openers _ sound.homed some begun)
-            (rw (here, idle) (omega arith))
+          (homed_still at.home.begun at.home.count at.home.apartment at.home.ended at.left (rest_of at.left) at.openers _ sound.homed some begun)
+          (rw (here, idle) (omega arith))
       | Some o ↦ λ e.
           goes_on at (out_of (at.calls.made + 1) (Some o)) sound refl refl (λ o. refl) in_range
-            (rw idle (named_at at.slots slot o e))
-            (homed_still at.home.begun at.home.count at.home.apartment at.home.ended at.left (rest_of at.left) at.openers _ sound.homed some begun)
-            (rw (here, idle) (omega arith))
+          (rw idle (named_at at.slots slot o e))
+          (homed_still at.home.begun at.home.count at.home.apartment at.home.ended at.left (rest_of at.left) at.openers _ sound.homed some begun)
+          (rw (here, idle) (omega arith))
     ] refl
 
 -- The body of the open call is entered.
@@ -133,9 +133,9 @@ pub goes_enter : (at : Standing) (call object : ℕ) (home : ℕ) → Sound at �
 goes_enter at call object home sound top before none =
     let pending : IsPending (Some object) false None at.slots = rw (top, before, none) at sound.shape in
     goes_on at (deed.Enter call object home None (value.Int at.calls.sent ∷ [])) sound refl refl (λ o. refl) sound.in_range
-      (rw top (pending, refl))
-      (homed_open at.home.begun at.home.count at.home.apartment at.home.ended at.left at.left at.openers _ sound.homed (λ e. cc))
-      (rw (top, none) (omega arith))
+    (rw top (pending, refl))
+    (homed_open at.home.begun at.home.count at.home.apartment at.home.ended at.left at.left at.openers _ sound.homed (λ e. cc))
+    (rw (top, none) (omega arith))
 
 eqb_same : (n : ℕ) → n == n ≡ true
 eqb_same n = eq-eqb n n refl
@@ -145,24 +145,24 @@ pub goes_leave : (at : Standing) (call object waiting : ℕ) (number : ℤ) (tar
     → Sound at → at.openers ≡ Runs call object number ∷ Waits waiting target ∷ [] → Goes at (deed.Leave call hr answer None)
 goes_leave at call object waiting number target hr answer sound top =
     goes_on at (deed.Leave call hr answer None) sound refl refl
-      (λ o. rw top (alive_stepped at.objects object o _))
-      sound.in_range (rw (top, eqb_same call) tt)
-      (homed_open at.home.begun at.home.count at.home.apartment at.home.ended at.left at.left at.openers _ sound.homed (λ e. cc))
-      (rw (top, eqb_same call, unreleased_same at.objects fresh_object (object - 1)) (omega arith))
+    (λ o. rw top (alive_stepped at.objects object o _))
+    sound.in_range (rw (top, eqb_same call) tt)
+    (homed_open at.home.begun at.home.count at.home.apartment at.home.ended at.left at.left at.openers _ sound.homed (λ e. cc))
+    (rw (top, eqb_same call, unreleased_same at.objects fresh_object (object - 1)) (omega arith))
 
 -- The open call comes back.
 pub goes_back : (at : Standing) (call : ℕ) (target : Option ℕ) (hr : HResult) (value : Option Value) (answer : Answer)
     → Sound at → at.openers ≡ Waits call target ∷ [] → at.calls.due ≡ Some answer → Goes at (deed.Back call hr value)
 goes_back at call target hr value answer sound top due =
     goes_on at (deed.Back call hr value) sound refl refl (λ o. refl) sound.in_range (rw (top, eqb_same call) tt)
-      (homed_open at.home.begun at.home.count at.home.apartment at.home.ended at.left at.left at.openers _ sound.homed (λ e. cc))
-      (rw (top, eqb_same call, due) (omega arith))
+    (homed_open at.home.begun at.home.count at.home.apartment at.home.ended at.left at.left at.openers _ sound.homed (λ e. cc))
+    (rw (top, eqb_same call, due) (omega arith))
 
 still_named : (slots : List (Option ℕ)) (k o : ℕ) → names o (slice_set slots k None) ≡ true → names o slots ≡ true
 still_named slots k o named = elim (names o slots) as (λ b. names o slots ≡ b → b ≡ true) [
-    | true ↦ λ e. refl
-    | false ↦ λ e. let none = unnamed_emptied slots k o e in cc
-  ] refl
+  | true ↦ λ e. refl
+  | false ↦ λ e. let none = unnamed_emptied slots k o e in cc
+] refl
 
 differs : (a b : ℕ) → ((a ≡ b) → ⊥) → a == b ≡ false
 differs a b apart = grind (arith, nat_tests, apart)
@@ -177,28 +177,29 @@ goes_made at slot rest sound here idle begun =
     let some : (at.left ≡ [] → at.openers ≡ [] → ⊥) = λ e f. cc in
     let unnamed : names (length at.objects + 1) at.slots ≡ false = never_named at.objects at.slots sound.held in
     goes_of at d (listed (slice_index_or at.slots slot None)) sound (rw here refl)
-      (rw here (made_loses at.objects at.slots slot at.dying within sound.once sound.held sound.gone sound.distinct))
-      (rw (here, length-set) sound.room) in_range
-      (rw here (once_filled at.slots slot (length at.objects + 1) within unnamed sound.once))
-      (rw here (held_made at.objects at.slots slot within sound.held))
-      (rw idle tt)
-      (homed_still at.home.begun at.home.count at.home.apartment at.home.ended at.left (rest_of at.left) at.openers at.openers sound.homed some begun)
-      (rw (here, unreleased_pushed at.objects) (omega arith))
+    (rw here (made_loses at.objects at.slots slot at.dying within sound.once sound.held sound.gone sound.distinct))
+    (rw (here, length-set) sound.room) in_range
+    (rw here (once_filled at.slots slot (length at.objects + 1) within unnamed sound.once))
+    (rw here (held_made at.objects at.slots slot within sound.held))
+    (rw idle tt)
+    (homed_still at.home.begun at.home.count at.home.apartment at.home.ended at.left (rest_of at.left) at.openers at.openers sound.homed some begun)
+    (rw (here, unreleased_pushed at.objects) (omega arith))
   where
     never_named : (objects : List Object) (slots : List (Option ℕ)) → Held objects slots → names (length objects + 1) slots ≡ false
     never_named objects slots held = elim (names (length objects + 1) slots) as (λ b. names (length objects + 1) slots ≡ b → b ≡ false) [
-        | true ↦ λ e. let high = alive_high objects (length objects + 1) (held (length objects + 1) e) in absurd (omega arith)
-        | false ↦ λ e. refl
-      ] refl
+      | true ↦ λ e. let high = alive_high objects (length objects + 1) (held (length objects + 1) e) in absurd (omega arith)
+      | false ↦ λ e. refl
+    ] refl
+
     held_made : (objects : List Object) (slots : List (Option ℕ)) (k : ℕ) → k < length slots → Held objects slots
         → Held (objects ++ fresh_object ∷ []) (slice_set slots k (Some (length objects + 1)))
     held_made objects slots k within held o named = elim (eqb_tells o (length objects + 1)) [
-        | inl same ↦ rw same.1 (alive_new objects)
-        | inr other ↦
-            let elsewhere : length objects + 1 == o ≡ false = differs (length objects + 1) o (λ e. other.1 (sym e)) in
-            let kept : names o (slice_set slots k None) ≡ true = rw (names_filled slots k (length objects + 1) o within, elsewhere) at named in
-            alive_pushed objects o other.1 ∙ held o (still_named slots k o kept)
-      ]
+      | inl same ↦ rw same.1 (alive_new objects)
+      | inr other ↦
+          let elsewhere : length objects + 1 == o ≡ false = differs (length objects + 1) o (λ e. other.1 (sym e)) in
+          let kept : names o (slice_set slots k None) ≡ true = rw (names_filled slots k (length objects + 1) o within, elsewhere) at named in
+          alive_pushed objects o other.1 ∙ held o (still_named slots k o kept)
+    ]
 
 -- A slot is released.
 pub goes_release : (at : Standing) (slot : ℕ) (rest : List Step) (held : Option ℕ) → Sound at → at.left ≡ step.Release slot ∷ rest → at.openers ≡ [] → at.home.begun ≡ true
@@ -207,13 +208,13 @@ goes_release at slot rest held sound here idle begun =
     let in_range : SlotsInRange (rest_of at.left) = rw here (rw here at sound.in_range).1 in
     let some : (at.left ≡ [] → at.openers ≡ [] → ⊥) = λ e f. cc in
     goes_of at (deed.Release (option_map reference_to held)) (listed (slice_index_or at.slots slot None)) sound (rw here refl)
-      (rw here (emptied_loses at.objects at.slots slot (length at.objects) at.dying (omega arith) sound.once sound.held sound.gone sound.distinct))
-      (rw (here, length-set) sound.room) in_range
-      (rw here (once_emptied at.slots slot sound.once))
-      (rw here (λ o named. sound.held o (still_named at.slots slot o named)))
-      (rw idle tt)
-      (homed_still at.home.begun at.home.count at.home.apartment at.home.ended at.left (rest_of at.left) at.openers at.openers sound.homed some begun)
-      (rw here (omega arith))
+    (rw here (emptied_loses at.objects at.slots slot (length at.objects) at.dying (omega arith) sound.once sound.held sound.gone sound.distinct))
+    (rw (here, length-set) sound.room) in_range
+    (rw here (once_emptied at.slots slot sound.once))
+    (rw here (λ o named. sound.held o (still_named at.slots slot o named)))
+    (rw idle tt)
+    (homed_still at.home.begun at.home.count at.home.apartment at.home.ended at.left (rest_of at.left) at.openers at.openers sound.homed some begun)
+    (rw here (omega arith))
 
 -- The first dying object goes.
 pass_others : (was is : ℕ → Bool) (x : ℕ) (xs : List ℕ) → ((o : ℕ) → ((o ≡ x) → ⊥) → is o ≡ was o) → Lacks x xs → Pass was xs → Pass is xs
@@ -241,25 +242,28 @@ goes_final at x rest sound first =
     let same : ((o : ℕ) → ((o ≡ x) → ⊥) → is o ≡ was o) = λ o other. rw (alive_kept at.objects x o low other) refl in
     let still_free : Pass is rest = pass_others was is x rest same once.0 all.1 in
     let none : ((o : ℕ) → (is o && not (was o)) ≡ false) = λ o. elim (eqb_tells o x) [
-        | inl here ↦ rw (here.1, gone) refl
-        | inr other ↦ rw (same o other.1) (never_both (was o))
-      ] in
+      | inl here ↦ rw (here.1, gone) refl
+      | inr other ↦ rw (same o other.1) (never_both (was o))
+    ] in
     let still : Sound (after at (deed.Final x)) = record {
-        room = sound.room; in_range = sound.in_range; once = sound.once;
-        held = λ o named. elim (eqb_tells o x) [
-            | inl here ↦
-                let free_here : was o ≡ true = rw here.1 all.0 in
-                let unnamed = free_unnamed at.objects at.slots o free_here in
-                absurd cc
-            | inr other ↦ alive_kept at.objects x o low other.1 ∙ sound.held o named
-          ];
-        gone = rw first still_free;
-        distinct = rw first once.1;
-        shape = sound.shape; homed = sound.homed
-      } in
+      room = sound.room;
+      in_range = sound.in_range;
+      once = sound.once;
+      held = λ o named. elim (eqb_tells o x) [
+        | inl here ↦
+            let free_here : was o ≡ true = rw here.1 all.0 in
+            let unnamed = free_unnamed at.objects at.slots o free_here in
+            absurd cc
+        | inr other ↦ alive_kept at.objects x o low other.1 ∙ sound.held o named
+      ];
+      gone = rw first still_free;
+      distinct = rw first once.1;
+      shape = sound.shape;
+      homed = sound.homed;
+    } in
     record {
       sound = still;
       right = right_of at (deed.Final x) sound still
-        (rw (first, gone, filter_all is rest still_free, filter_none (λ o. is o && not (was o)) (numbers_to (length objects)) none) (sym (append_none rest)));
-      lighter = let less = unreleased_less at.objects fresh_object (x - 1) (let high = alive_high at.objects x living in omega arith) (unreleased_alive at.objects x living) in omega arith
+          (rw (first, gone, filter_all is rest still_free, filter_none (λ o. is o && not (was o)) (numbers_to (length objects)) none) (sym (append_none rest)));
+      lighter = let less = unreleased_less at.objects fresh_object (x - 1) (let high = alive_high at.objects x living in omega arith) (unreleased_alive at.objects x living) in omega arith;
     }

@@ -1,14 +1,7 @@
 -- What entries do to the dying objects.
-use Rattle.std.proofs.Common.{◌≡◌, ℕ, zero, suc, ◌+◌, ◌-◌, ◌<◌, ◌≤◌, List, [], ◌∷◌, ◌++◌, Bool, true, false, refl, sym, ◌∙◌, ap, arith, length, Option, Some, None, ◌==◌, ◌&&◌, not, nat_le, slice_set, slice_index_or, if◌then◌else◌, filter, subst, cond}
-use Rattle.std.proofs.lemmas.Bool.{eqb-true, eq-eqb}
-use Rattle.std.proofs.lemmas.Bool.Decides.{nat_tests}
-use Rattle.com_core.specs.declared.openers.Opener.{Opener}
-use Rattle.com_core.specs.Openers.{runs}
-use Rattle.com_core.specs.declared.objects.Object.{Object}
-use Rattle.com_core.specs.Objects.{names}
-use Rattle.com_core.specs.Dying.{is_dying, numbers_to}
-use Rattle.com_core.proofs.Ranges.{filter_none, filter_same, filter_all, filter_append, Pass, pass_same, pass_append, pass_filtered}
-use Rattle.com_core.proofs.Alive.{free, settled}
+use Rattle.std.proofs.Common.{◌≡◌, ℕ, zero, suc, ◌<◌, ◌≤◌, List, [], ◌∷◌, ◌++◌, Bool, true, false, refl, sym, ◌∙◌, ap, arith, ◌&&◌, not, filter, subst, cond}
+use Rattle.com_core.specs.Dying.{numbers_to}
+use Rattle.com_core.proofs.Ranges.{filter_none, filter_all, filter_append, Pass, pass_same, pass_append, pass_filtered}
 
 -- No number stands twice in the list.
 abbrev pub Lacks : ℕ → List ℕ → Type 0
@@ -31,9 +24,10 @@ lacks_append x (y ∷ xs) ys left right = (left.0, lacks_append x xs ys left.1 r
 -- Lists that a test tells apart stay distinct one behind the other.
 pub distinct_append : (q : ℕ → Bool) (xs ys : List ℕ) → Distinct xs → Distinct ys → Pass q xs → Pass (λ o. not (q o)) ys → Distinct (xs ++ ys)
 distinct_append q [] ys left right inner outer = right
-distinct_append q (x ∷ xs) ys left right inner outer =
-    (lacks_append x xs ys left.0 (lacks_failing (λ o. not (q o)) x ys (ap (λ b. not b) inner.0) outer),
-     distinct_append q xs ys left.1 right inner.1 outer)
+distinct_append q (x ∷ xs) ys left right inner outer = (
+  lacks_append x xs ys left.0 (lacks_failing (λ o. not (q o)) x ys (ap (λ b. not b) inner.0) outer),
+  distinct_append q xs ys left.1 right inner.1 outer,
+)
 
 -- Every number of the list is at most n.
 abbrev pub Within : ℕ → List ℕ → Type 0
@@ -63,7 +57,7 @@ within_filtered q zero = tt
 within_filtered q (suc n) =
     let last : Within (suc n) (filter q (suc n ∷ [])) = elim (q (suc n)) as (λ b. Within (suc n) (cond b (suc n ∷ []) [])) [ true ↦ (omega arith, tt) | false ↦ tt ] in
     rw (filter_append q (numbers_to n) (suc n ∷ []))
-      (within_append (suc n) (filter q (numbers_to n)) (filter q (suc n ∷ [])) (within_more n (suc n) (filter q (numbers_to n)) (omega arith) (within_filtered q n)) last)
+    (within_append (suc n) (filter q (numbers_to n)) (filter q (suc n ∷ [])) (within_more n (suc n) (filter q (numbers_to n)) (omega arith) (within_filtered q n)) last)
 
 pub append_none : (xs : List ℕ) → xs ++ [] ≡ xs
 append_none [] = refl
@@ -73,10 +67,11 @@ pub distinct_filtered : (q : ℕ → Bool) (n : ℕ) → Distinct (filter q (num
 distinct_filtered q zero = tt
 distinct_filtered q (suc n) =
     rw (filter_append q (numbers_to n) (suc n ∷ []))
-      (elim (q (suc n)) as (λ b. Distinct (filter q (numbers_to n) ++ cond b (suc n ∷ []) [])) [
-        | true ↦ distinct_snoc (filter q (numbers_to n)) (suc n) (distinct_filtered q n) (lacks_above n (suc n) (filter q (numbers_to n)) (omega arith) (within_filtered q n))
-        | false ↦ subst Distinct (sym (append_none (filter q (numbers_to n)))) (distinct_filtered q n)
-      ])
+    (elim (q (suc n)) as (λ b. Distinct (filter q (numbers_to n) ++ cond b (suc n ∷ []) [])) [
+      | true ↦ distinct_snoc (filter q (numbers_to n)) (suc n) (distinct_filtered q n) (lacks_above n (suc n) (filter q (numbers_to n)) (omega arith) (within_filtered q n))
+      | false ↦ subst Distinct (sym (append_none (filter q (numbers_to n)))) (distinct_filtered q n)
+    ])
+
 -- The dying objects before and after an entry: tests of being free before and after it, the list before,
 -- and what it adds.
 pub record Loses (was is : ℕ → Bool) (n : ℕ) (dying added : List ℕ) : Type 0 where
@@ -94,12 +89,13 @@ loses was is n dying added keeps new all once =
       kept = rw (filter_all is dying still, new) refl;
       free_still = pass_append is dying added still (pass_same both is added (λ o b. first (is o) (not (was o)) b) passing);
       distinct_still = distinct_append was dying added once (subst Distinct new (distinct_filtered both n)) all
-        (pass_same both (λ o. not (was o)) added (λ o b. second (is o) (not (was o)) b) passing)
+          (pass_same both (λ o. not (was o)) added (λ o b. second (is o) (not (was o)) b) passing);
     }
   where
     first : (a b : Bool) → (a && b) ≡ true → a ≡ true
     first true b e = refl
     first false b e = cc
+
     second : (a b : Bool) → (a && b) ≡ true → b ≡ true
     second true b e = e
     second false b e = cc

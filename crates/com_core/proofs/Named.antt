@@ -1,5 +1,5 @@
 -- The objects that slots name.
-use Rattle.std.proofs.Common.{◌≡◌, ℕ, zero, suc, ◌+◌, ◌<◌, ◌≤◌, List, [], ◌∷◌, ◌++◌, Bool, true, false, refl, sym, ◌∙◌, ap, arith, length, Option, Some, None, ◌==◌, slice_set, slice_index_or, if◌then◌else◌}
+use Rattle.std.proofs.Common.{◌≡◌, ℕ, zero, suc, ◌<◌, List, [], ◌∷◌, true, false, refl, ap, arith, length, Option, Some, None, ◌==◌, slice_set, slice_index_or, if◌then◌else◌}
 use Rattle.std.proofs.lemmas.Bool.{eqb-true, eq-eqb}
 use Rattle.std.proofs.lemmas.Bool.Decides.{nat_tests}
 use Rattle.com_core.specs.Objects.{names}
@@ -79,10 +79,10 @@ names_filled (Some x ∷ slots) zero m o within = refl
 names_filled (None ∷ slots) (suc k) m o within = names_filled slots k m o (omega arith)
 names_filled (Some x ∷ slots) (suc k) m o within =
     rw (names_filled slots k m o (omega arith))
-      (elim (x == o) as (λ b. (if b then true else (if m == o then true else names o (slice_set slots k None))) ≡ (if m == o then true else (if b then true else names o (slice_set slots k None)))) [
-        | true ↦ elim (m == o) as (λ c. true ≡ if c then true else true) [ true ↦ refl | false ↦ refl ]
-        | false ↦ refl
-      ])
+    (elim (x == o) as (λ b. (if b then true else (if m == o then true else names o (slice_set slots k None))) ≡ (if m == o then true else (if b then true else names o (slice_set slots k None)))) [
+      | true ↦ elim (m == o) as (λ c. true ≡ if c then true else true) [ true ↦ refl | false ↦ refl ]
+      | false ↦ refl
+    ])
 
 -- What an object that is not named says of the first slot.
 pub other_first : (slots : List (Option ℕ)) (m x : ℕ) → names m (Some x ∷ slots) ≡ false → m == x ≡ false
@@ -100,5 +100,5 @@ once_filled (None ∷ slots) (suc k) m within new once = once_filled slots k m (
 once_filled (Some x ∷ slots) (suc k) m within new once =
     let inside : k < length slots = omega arith in
     let unnamed : names x (slice_set slots k (Some m)) ≡ false =
-        rw (names_filled slots k m x inside, other_first slots m x new) (unnamed_emptied slots k x once.0) in
+    rw (names_filled slots k m x inside, other_first slots m x new) (unnamed_emptied slots k x once.0) in
     (unnamed, once_filled slots k m inside (unnamed_emptied (Some x ∷ slots) zero m new) once.1)

@@ -1,33 +1,24 @@
 -- The next entry of a sound standing keeps it sound; and where there is none, everything is over.
-use Rattle.std.proofs.Common.{◌≡◌, ℕ, zero, suc, ◌+◌, ◌-◌, ◌*◌, ◌<◌, ◌≤◌, List, [], ◌∷◌, ◌++◌, Bool, true, false, refl, sym, ◌∙◌, ap, arith, length, Option, Some, None, ◌==◌, slice_index_or, if◌then◌else◌, subst, ◌⊎◌, inl, inr, ℤ, pos}
-use Rattle.std.proofs.lemmas.Bool.{eqb-true, eq-eqb}
-use Rattle.std.specs.Option.{option_map}
+use Rattle.std.proofs.Common.{◌≡◌, ℕ, zero, suc, ◌-◌, List, [], ◌∷◌, Bool, true, false, refl, sym, arith, Option, Some, None, ◌==◌, slice_index_or, if◌then◌else◌, subst, ℤ, pos}
+use Rattle.std.proofs.lemmas.Bool.{eqb-true}
 use Rattle.std.specs.Int.{w64, int_wrapping_add}
-use Rattle.com_base.specs.declared.hresult.HResult.{HResult}
-use Rattle.com_base.specs.declared.value.Value.{Value}
 use Rattle.com_base.specs.declared.value.Value.TheVariants as value
 use Rattle.com_base.specs.declared.value.Mode.TheVariants.{Sta}
 use Rattle.com_body.specs.declared.frame.Cells.{Cells}
-use Rattle.com_body.specs.declared.actions.Action.{Action}
 use Rattle.com_body.specs.declared.actions.Action.TheVariants as action
 use Rattle.com_model.specs.declared.deeds.Deed.{Deed}
 use Rattle.com_model.specs.declared.deeds.Deed.TheVariants as deed
 use Rattle.com_core.specs.declared.script.Step.{Step}
 use Rattle.com_core.specs.declared.script.Step.TheVariants as step
-use Rattle.com_core.specs.Steps.{rest_of, next_step}
+use Rattle.com_core.specs.Steps.{next_step}
 use Rattle.com_core.specs.declared.openers.Opener.{Opener}
 use Rattle.com_core.specs.declared.openers.Opener.TheVariants.{Waits, Runs}
-use Rattle.com_core.specs.declared.home.Home.{Home}
 use Rattle.com_core.specs.declared.calls.Answer.{Answer}
-use Rattle.com_core.specs.declared.calls.Calls.{Calls}
-use Rattle.com_core.specs.declared.objects.Object.{Object}
-use Rattle.com_core.specs.Objects.{names, object_at}
+use Rattle.com_core.specs.Objects.{object_at}
 use Rattle.com_core.specs.Bodies.{add_outcome}
-use Rattle.com_core.specs.Scripts.{SlotsInRange}
 use Rattle.com_core.specs.Standing.{Standing}
-use Rattle.com_core.specs.Rules.{or_else, next_of, rule_body, rule_final, rule_admit, rule_back, rule_script, unless_entered, leave_of, result_of, deed_of, script_deed, closing, s_ok, reference_to}
-use Rattle.com_core.specs.After.{after}
-use Rattle.com_core.proofs.Sound.{Sound, IsShape, IsPending, IsHomed}
+use Rattle.com_core.specs.Rules.{or_else, next_of, rule_body, rule_final, rule_admit, rule_back, rule_script, unless_entered, result_of, script_deed, closing, s_ok}
+use Rattle.com_core.proofs.Sound.{Sound, IsHomed}
 use Rattle.com_core.proofs.Goes.{Goes, goes_init, goes_end, goes_uninit, goes_out, goes_enter, goes_leave, goes_back, goes_made, goes_release, goes_final}
 
 -- What a deed has, if there is one.
@@ -56,7 +47,7 @@ body_goes at (Runs c object number ∷ Waits d t ∷ p ∷ os) sound top = absur
 body_goes at (Runs c object number ∷ Waits d t ∷ []) sound top =
     let cells : Cells = (object_at at.objects object).cells in
     rw (add_leaves number cells)
-      (goes_leave at c object d number t s_ok (result_of s_ok (Some (value.Int (sum_in number cells)))) sound top)
+    (goes_leave at c object d number t s_ok (result_of s_ok (Some (value.Int (sum_in number cells)))) sound top)
 
 final_goes : (at : Standing) (dying : List ℕ) → Sound at → at.dying ≡ dying → Holds (Goes at) (rule_final dying)
 final_goes at [] sound first = tt
@@ -72,9 +63,9 @@ admit_goes at (Waits c (Some object) ∷ []) (Some home) sound top =
     elim (at.calls.entered) as (λ b. at.calls.entered ≡ b → Holds (Goes at) (unless_entered b at.calls.due (deed.Enter c object home None (value.Int at.calls.sent ∷ [])))) [
       | true ↦ λ e. tt
       | false ↦ λ e. elim (at.calls.due) as (λ (v : Option Answer). at.calls.due ≡ v → Holds (Goes at) (unless_entered false v (deed.Enter c object home None (value.Int at.calls.sent ∷ [])))) [
-          | None ↦ λ f. goes_enter at c object home sound top e f
-          | Some answer ↦ λ f. tt
-        ] refl
+        | None ↦ λ f. goes_enter at c object home sound top e f
+        | Some answer ↦ λ f. tt
+      ] refl
     ] refl
 
 back_goes : (at : Standing) (os : List Opener) (due : Option Answer) → Sound at → at.openers ≡ os → at.calls.due ≡ due → Holds (Goes at) (rule_back os due)
@@ -95,11 +86,11 @@ closing_goes at sound idle begun over =
     elim (at.home.ended) as (λ b. at.home.ended ≡ b → Holds (Goes at) (if b then None else if at.home.count == 0 then Some deed.End else Some (deed.Uninit at.home.apartment (at.home.count - 1)))) [
       | true ↦ λ f. tt
       | false ↦ λ f. elim (at.home.count == 0) as (λ b. at.home.count == 0 ≡ b → Holds (Goes at) (if b then Some deed.End else Some (deed.Uninit at.home.apartment (at.home.count - 1)))) [
-          | true ↦ λ e. goes_end at sound begun (eqb-true at.home.count 0 e) f
-          | false ↦ λ e.
-              let one : at.home.count ≡ 1 = count_one at.home.count at.home.apartment at.home.ended at.left at.openers (rw begun at sound.homed) e in
-              subst (λ (n : ℕ). Goes at (deed.Uninit at.home.apartment (n - 1))) (sym one) (goes_uninit at sound over idle begun one f)
-        ] refl
+        | true ↦ λ e. goes_end at sound begun (eqb-true at.home.count 0 e) f
+        | false ↦ λ e.
+            let one : at.home.count ≡ 1 = count_one at.home.count at.home.apartment at.home.ended at.left at.openers (rw begun at sound.homed) e in
+            subst (λ (n : ℕ). Goes at (deed.Uninit at.home.apartment (n - 1))) (sym one) (goes_uninit at sound over idle begun one f)
+      ] refl
     ] refl
 
 steps_go : (at : Standing) (left : List Step) → Sound at → at.openers ≡ [] → at.home.begun ≡ true → at.left ≡ left → Holds (Goes at) (script_deed (next_step left) at)
@@ -119,10 +110,9 @@ script_goes at [] sound idle =
 pub next_goes : (at : Standing) → Sound at → Holds (Goes at) (next_of at)
 next_goes at sound =
     holds_or_else (Goes at) (rule_body at.openers at.objects) _ (body_goes at at.openers sound refl)
-      (holds_or_else (Goes at) (rule_final at.dying) _ (final_goes at at.dying sound refl)
-        (holds_or_else (Goes at) (rule_admit at.openers at.calls at.home.apartment) _ (admit_goes at at.openers at.home.apartment sound refl)
-          (holds_or_else (Goes at) (rule_back at.openers at.calls.due) (rule_script at.openers at) (back_goes at at.openers at.calls.due sound refl refl) (script_goes at at.openers sound refl))))
+    (holds_or_else (Goes at) (rule_final at.dying) _ (final_goes at at.dying sound refl)
+    (holds_or_else (Goes at) (rule_admit at.openers at.calls at.home.apartment) _ (admit_goes at at.openers at.home.apartment sound refl)
+    (holds_or_else (Goes at) (rule_back at.openers at.calls.due) (rule_script at.openers at) (back_goes at at.openers at.calls.due sound refl refl) (script_goes at at.openers sound refl))))
 
 pub goes_next : (at : Standing) (d : Deed) → Sound at → next_of at ≡ Some d → Goes at d
 goes_next at d sound e = subst (Holds (Goes at)) e (next_goes at sound)
-

@@ -1,8 +1,6 @@
 -- Where no entry is next, the script is over and nothing is open or dying.
-use Rattle.std.proofs.Common.{◌≡◌, ℕ, zero, suc, ◌-◌, List, [], ◌∷◌, Bool, true, false, refl, sym, ◌∙◌, Option, Some, None, ◌==◌, if◌then◌else◌, ℤ, subst}
-use Rattle.com_base.specs.declared.value.Value.TheVariants as value
+use Rattle.std.proofs.Common.{◌≡◌, ℕ, zero, suc, ◌-◌, List, [], ◌∷◌, Bool, true, false, refl, Option, Some, None, ◌==◌, if◌then◌else◌, subst}
 use Rattle.com_base.specs.declared.value.Mode.TheVariants.{Sta}
-use Rattle.com_body.specs.declared.frame.Cells.{Cells}
 use Rattle.com_model.specs.declared.deeds.Deed.{Deed}
 use Rattle.com_model.specs.declared.deeds.Deed.TheVariants as deed
 use Rattle.com_core.specs.declared.script.Step.{Step}
@@ -11,10 +9,9 @@ use Rattle.com_core.specs.declared.openers.Opener.{Opener}
 use Rattle.com_core.specs.declared.openers.Opener.TheVariants.{Waits, Runs}
 use Rattle.com_core.specs.declared.home.Home.{Home}
 use Rattle.com_core.specs.declared.calls.Answer.{Answer}
-use Rattle.com_core.specs.declared.objects.Object.{Object}
 use Rattle.com_core.specs.Objects.{object_at}
 use Rattle.com_core.specs.Standing.{Standing}
-use Rattle.com_core.specs.Rules.{or_else, next_of, rule_body, rule_final, rule_admit, rule_back, rule_script, unless_entered, script_deed, closing, s_ok}
+use Rattle.com_core.specs.Rules.{or_else, next_of, rule_body, rule_final, rule_admit, rule_back, rule_script, script_deed, closing, s_ok}
 use Rattle.com_core.specs.Histories.{IsOver}
 use Rattle.com_core.proofs.Sound.{Sound, IsShape, IsPending, IsHomed}
 use Rattle.com_core.proofs.Next.{add_leaves}
@@ -64,9 +61,9 @@ closing_over home e =
     elim (home.ended) as (λ b. home.ended ≡ b → (if b then None else if home.count == 0 then Some deed.End else Some (deed.Uninit home.apartment (home.count - 1))) ≡ None → b ≡ true) [
       | true ↦ λ f g. refl
       | false ↦ λ f g. elim (home.count == 0) as (λ b. (if b then Some deed.End else Some (deed.Uninit home.apartment (home.count - 1))) ≡ None → false ≡ true) [
-          | true ↦ λ k. cc
-          | false ↦ λ k. cc
-        ] g
+        | true ↦ λ k. cc
+        | false ↦ λ k. cc
+      ] g
     ] refl e
 
 steps_over : (at : Standing) (left : List Step) → script_deed (next_step left) at ≡ None → at.home.ended ≡ true
@@ -90,5 +87,5 @@ over_of at sound e =
     record {
       ended = script_over at (subst (λ (os : List Opener). rule_script os at ≡ None) idle back.1);
       idle = idle;
-      none_dying = none_dying at.dying final.0
+      none_dying = none_dying at.dying final.0;
     }

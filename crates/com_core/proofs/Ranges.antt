@@ -1,13 +1,13 @@
 -- Lists that a test keeps or drops whole, and the numbers to n through a test.
-use Rattle.std.proofs.Common.{◌≡◌, ℕ, zero, suc, ◌+◌, ◌<◌, ◌≤◌, List, [], ◌∷◌, ◌++◌, Bool, true, false, refl, sym, ◌∙◌, ap, cond, filter, arith, length, Contains, ◌==◌, ◌&&◌, not, nat_le}
+use Rattle.std.proofs.Common.{◌≡◌, ℕ, zero, suc, ◌<◌, ◌≤◌, List, [], ◌∷◌, ◌++◌, Bool, true, false, refl, ap, cond, filter, arith}
 use Rattle.com_core.specs.Dying.{numbers_to}
 
 pub filter_append : (q : ℕ → Bool) (xs ys : List ℕ) → filter q (xs ++ ys) ≡ filter q xs ++ filter q ys
 filter_append q [] ys = refl
 filter_append q (x ∷ xs) ys = elim (q x) as (λ b. cond b (x ∷ filter q (xs ++ ys)) (filter q (xs ++ ys)) ≡ cond b (x ∷ filter q xs) (filter q xs) ++ filter q ys) [
-    | true ↦ ap (λ t. x ∷ t) (filter_append q xs ys)
-    | false ↦ filter_append q xs ys
-  ]
+  | true ↦ ap (λ t. x ∷ t) (filter_append q xs ys)
+  | false ↦ filter_append q xs ys
+]
 
 pub filter_none : (q : ℕ → Bool) (xs : List ℕ) → ((o : ℕ) → q o ≡ false) → filter q xs ≡ []
 filter_none q [] none = refl
@@ -37,18 +37,18 @@ pass_append q (x ∷ xs) ys left right = (left.0, pass_append q xs ys left.1 rig
 pub pass_filtered : (q : ℕ → Bool) (xs : List ℕ) → Pass q (filter q xs)
 pass_filtered q [] = tt
 pass_filtered q (x ∷ xs) = elim (q x) as (λ b. q x ≡ b → Pass q (cond b (x ∷ filter q xs) (filter q xs))) [
-    | true ↦ λ e. (e, pass_filtered q xs)
-    | false ↦ λ e. pass_filtered q xs
-  ] refl
+  | true ↦ λ e. (e, pass_filtered q xs)
+  | false ↦ λ e. pass_filtered q xs
+] refl
 
 -- The one number that passes.
 pub filter_below : (q : ℕ → Bool) (n x : ℕ) → ((o : ℕ) → q o ≡ true → o ≡ x) → n < x → filter q (numbers_to n) ≡ []
 filter_below q zero x only below = refl
 filter_below q (suc n) x only below =
     let last : filter q (suc n ∷ []) ≡ [] = elim (q (suc n)) as (λ b. q (suc n) ≡ b → cond b (suc n ∷ []) [] ≡ []) [
-        | true ↦ λ e. let same = only (suc n) e in absurd (omega arith)
-        | false ↦ λ e. refl
-      ] refl in
+      | true ↦ λ e. let same = only (suc n) e in absurd (omega arith)
+      | false ↦ λ e. refl
+    ] refl in
     rw (filter_append q (numbers_to n) (suc n ∷ []), filter_below q n x only (omega arith), last) refl
 
 pub filter_one : (q : ℕ → Bool) (n x : ℕ) → ((o : ℕ) → q o ≡ true → o ≡ x) → q x ≡ true → 1 ≤ x → x ≤ n

@@ -1,5 +1,5 @@
 -- From standings to histories: the standing after each entry, and the one history.
-use Rattle.std.proofs.Common.{◌≡◌, ℕ, zero, suc, ◌+◌, ◌*◌, ◌<◌, ◌≤◌, List, [], ◌∷◌, refl, sym, ◌∙◌, ap, arith, length, Option, Some, None, subst}
+use Rattle.std.proofs.Common.{◌≡◌, ℕ, zero, suc, ◌+◌, ◌*◌, ◌<◌, ◌≤◌, List, [], ◌∷◌, refl, sym, ◌∙◌, ap, arith, length, Some, None, subst}
 use Rattle.com_model.specs.declared.deeds.Deed.{Deed}
 use Rattle.com_model.specs.declared.deeds.Entry.{Entry}
 use Rattle.com_core.specs.declared.script.Step.{Step}
@@ -10,9 +10,8 @@ use Rattle.com_core.specs.Calls.{calls_in}
 use Rattle.com_core.specs.Objects.{slots_in, objects_in}
 use Rattle.com_core.specs.Scripts.{SlotsInRange}
 use Rattle.com_core.specs.Standing.{Standing, standing}
-use Rattle.com_core.specs.Rules.{next_of}
-use Rattle.com_core.specs.After.{after, beginning}
-use Rattle.com_core.specs.Histories.{Legal, next, entry_of, extended, scheduled, scheduled_history, limit, IsOver}
+use Rattle.com_core.specs.After.{after}
+use Rattle.com_core.specs.Histories.{Legal, next, entry_of, scheduled, scheduled_history, limit, IsOver}
 use Rattle.com_core.proofs.Weights.{weight}
 use Rattle.com_core.proofs.Sound.{Sound}
 use Rattle.com_core.proofs.Goes.{Goes}
@@ -21,20 +20,27 @@ use Rattle.com_core.proofs.Over.{over_of}
 
 pub sound_beginning : (s : List Step) → SlotsInRange s → Sound (standing s [])
 sound_beginning s in_range = record {
-    room = refl; in_range = in_range; once = tt; held = λ o named. cc; gone = tt; distinct = tt; shape = tt; homed = (refl, refl, refl)
-  }
+  room = refl;
+  in_range = in_range;
+  once = tt;
+  held = λ o named. cc;
+  gone = tt;
+  distinct = tt;
+  shape = tt;
+  homed = (refl, refl, refl);
+}
 
 -- The standing that is kept up entry by entry is the one that the definitions over histories give.
 pub standing_after : (s : List Step) (h : List Entry) (d : Deed) → Goes (standing s h) d → after (standing s h) d ≡ standing s (entry_of d ∷ h)
 standing_after s h d goes = ap (λ (ds : List ℕ). record {
-    left = left s (entry_of d ∷ h);
-    openers = open_in (entry_of d ∷ h);
-    home = home_in (entry_of d ∷ h);
-    calls = calls_in s (entry_of d ∷ h);
-    slots = slots_in s (entry_of d ∷ h);
-    objects = objects_in s (entry_of d ∷ h);
-    dying = ds
-  }) goes.right
+  left = left s (entry_of d ∷ h);
+  openers = open_in (entry_of d ∷ h);
+  home = home_in (entry_of d ∷ h);
+  calls = calls_in s (entry_of d ∷ h);
+  slots = slots_in s (entry_of d ∷ h);
+  objects = objects_in s (entry_of d ∷ h);
+  dying = ds;
+}) goes.right
 
 -- A history that has come so far along the schedule: n entries may still come.
 pub record OnTheWay (s : List Step) (h : List Entry) (n : ℕ) : Type 0 where
@@ -49,8 +55,11 @@ limit_room n le = omega arith
 
 pub on_the_way : (s : List Step) → SlotsInRange s → length s ≤ 1998 → OnTheWay s [] limit
 on_the_way s in_range short = record {
-    legal = tt; sound = sound_beginning s in_range; weighs = limit_room (length s) short; goes_to = refl
-  }
+  legal = tt;
+  sound = sound_beginning s in_range;
+  weighs = limit_room (length s) short;
+  goes_to = refl;
+}
 
 pub way_on : (s : List Step) (h : List Entry) (n : ℕ) (d : Deed) → OnTheWay s h (suc n) → next s h ≡ Some d → OnTheWay s (entry_of d ∷ h) n
 way_on s h n d way e =
@@ -60,8 +69,8 @@ way_on s h n d way e =
       legal = (way.legal, refl, e);
       sound = subst Sound same goes.sound;
       weighs = let lighter = goes.lighter in let lower : weight (after (standing s h) d) < n = lower_by (weight (after (standing s h) d)) (weight (standing s h)) n lighter way.weighs in
-        subst (λ (at : Standing). weight at < n) same lower;
-      goes_to = rw e at way.goes_to
+          subst (λ (at : Standing). weight at < n) same lower;
+      goes_to = rw e at way.goes_to;
     }
   where
     lower_by : (a b n : ℕ) → a < b → b < suc n → a < n

@@ -1,33 +1,23 @@
 -- What every standing of a legal history has, and that each entry keeps it.
-use Rattle.std.proofs.Common.{◌≡◌, ℕ, zero, suc, ◌+◌, ◌-◌, ◌<◌, ◌≤◌, List, [], ◌∷◌, ◌++◌, Bool, true, false, refl, sym, ◌∙◌, ap, arith, length, Option, Some, None, ◌==◌, ◌&&◌, not, nat_le, slice_set, slice_index_or, if◌then◌else◌, filter, subst, cond, length-append, ◌⊎◌, inl, inr, ℤ, pos}
-use Rattle.std.proofs.lemmas.Bool.{eqb-true, eq-eqb}
-use Rattle.std.proofs.lemmas.Bool.Decides.{nat_tests, eqb_tells}
-use Rattle.std.proofs.lemmas.List.{length-set}
-use Rattle.com_base.specs.declared.hresult.HResult.{HResult}
-use Rattle.com_base.specs.declared.value.Value.{Value}
-use Rattle.com_base.specs.declared.value.Value.TheVariants as value
+use Rattle.std.proofs.Common.{◌≡◌, ℕ, zero, suc, List, [], ◌∷◌, ◌++◌, Bool, true, false, refl, length, Option, Some, None, ◌==◌, ◌&&◌, not, if◌then◌else◌, filter, subst}
+use Rattle.std.proofs.lemmas.Bool.{eqb-true}
 use Rattle.com_model.specs.declared.deeds.Deed.{Deed}
-use Rattle.com_model.specs.declared.deeds.Deed.TheVariants as deed
 use Rattle.com_core.specs.declared.script.Step.{Step}
-use Rattle.com_core.specs.declared.script.Step.TheVariants as step
 use Rattle.com_core.specs.Scripts.{SlotsInRange}
-use Rattle.com_core.specs.Steps.{rest_of, next_step}
 use Rattle.com_core.specs.declared.openers.Opener.{Opener}
 use Rattle.com_core.specs.declared.openers.Opener.TheVariants.{Waits, Runs}
 use Rattle.com_core.specs.Openers.{runs}
-use Rattle.com_core.specs.declared.home.Home.{Home}
 use Rattle.com_core.specs.declared.calls.Answer.{Answer}
 use Rattle.com_core.specs.declared.calls.Calls.{Calls}
-use Rattle.com_core.specs.declared.objects.Object.{Object}
-use Rattle.com_core.specs.Objects.{names, object_at, fresh_object, no_slots, slot_of}
+use Rattle.com_core.specs.Objects.{names}
 use Rattle.com_core.specs.Dying.{is_dying, numbers_to}
 use Rattle.com_core.specs.Standing.{Standing}
-use Rattle.com_core.specs.After.{after, dying_after, listed}
-use Rattle.com_core.proofs.Ranges.{filter_none, filter_all, filter_same, Pass, pass_same}
-use Rattle.com_core.proofs.Named.{Once, once_emptied, once_filled, unnamed_emptied, names_filled}
-use Rattle.com_core.proofs.Alive.{alive, free, settled, alive_released, alive_kept, alive_new, alive_pushed}
-use Rattle.com_core.proofs.Losses.{Loses, loses, loses_none, Distinct, Lacks}
-use Rattle.com_core.proofs.Changes.{Held, conj_left, conj_right, never_both, alive_low, alive_high}
+use Rattle.com_core.specs.After.{after, dying_after}
+use Rattle.com_core.proofs.Ranges.{filter_same, Pass}
+use Rattle.com_core.proofs.Named.{Once}
+use Rattle.com_core.proofs.Alive.{free, settled}
+use Rattle.com_core.proofs.Losses.{Distinct}
+use Rattle.com_core.proofs.Changes.{Held}
 
 -- A call that waits: it has its answer, or its target is named and its body is next.
 abbrev pub IsPending : Option ℕ → Bool → Option Answer → List (Option ℕ) → Type 0
@@ -81,7 +71,7 @@ dies at o = is_dying at.objects at.slots at.openers o
 abbrev pub Right : Standing → Deed → Type 0
 Right at d =
     dying_after d at ≡ filter (dies (after at d)) at.dying
-      ++ filter (λ o. dies (after at d) o && not (dies at o)) (numbers_to (length (after at d).objects))
+    ++ filter (λ o. dies (after at d) o && not (dies at o)) (numbers_to (length (after at d).objects))
 
 pub dies_free : (at : Standing) → Sound at → (o : ℕ) → dies at o ≡ free at.objects at.slots o
 dies_free at sound o = settled at.objects at.slots at.openers o (named_of_shape at.openers at.calls at.slots sound.shape o)
@@ -89,10 +79,12 @@ dies_free at sound o = settled at.objects at.slots at.openers o (named_of_shape 
 -- From the tests of being free to the tests of dying.
 pub right_of : (at : Standing) (d : Deed) → Sound at → Sound (after at d)
     → dying_after d at ≡ filter (free (after at d).objects (after at d).slots) at.dying
-        ++ filter (λ o. free (after at d).objects (after at d).slots o && not (free at.objects at.slots o)) (numbers_to (length (after at d).objects))
+    ++ filter (λ o. free (after at d).objects (after at d).slots o && not (free at.objects at.slots o)) (numbers_to (length (after at d).objects))
     → Right at d
 right_of at d sound still e =
-    rw (filter_same (dies (after at d)) (free (after at d).objects (after at d).slots) at.dying (dies_free (after at d) still),
-        filter_same (λ o. dies (after at d) o && not (dies at o)) (λ o. free (after at d).objects (after at d).slots o && not (free at.objects at.slots o))
-          (numbers_to (length (after at d).objects)) (λ o. rw (dies_free (after at d) still o, dies_free at sound o) refl))
-      e
+    rw (
+      filter_same (dies (after at d)) (free (after at d).objects (after at d).slots) at.dying (dies_free (after at d) still),
+      filter_same (λ o. dies (after at d) o && not (dies at o)) (λ o. free (after at d).objects (after at d).slots o && not (free at.objects at.slots o))
+          (numbers_to (length (after at d).objects)) (λ o. rw (dies_free (after at d) still o, dies_free at sound o) refl),
+    )
+    e

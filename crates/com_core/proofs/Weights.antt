@@ -1,11 +1,11 @@
 -- How much is still to do: every entry lowers it.
-use Rattle.std.proofs.Common.{◌≡◌, ℕ, zero, suc, ◌+◌, ◌-◌, ◌*◌, ◌<◌, ◌≤◌, List, [], ◌∷◌, ◌++◌, Bool, true, false, refl, sym, ◌∙◌, ap, arith, length, Option, Some, None, slice_set, slice_index_or}
+use Rattle.std.proofs.Common.{◌≡◌, ℕ, zero, suc, ◌+◌, ◌*◌, ◌<◌, List, [], ◌∷◌, ◌++◌, Bool, true, false, refl, ap, arith, length, Option, Some, None, slice_set, slice_index_or}
 use Rattle.com_body.specs.declared.frame.Cells.{Cells}
 use Rattle.com_core.specs.declared.openers.Opener.{Opener}
 use Rattle.com_core.specs.declared.openers.Opener.TheVariants.{Waits, Runs}
 use Rattle.com_core.specs.declared.calls.Answer.{Answer}
 use Rattle.com_core.specs.declared.objects.Object.{Object}
-use Rattle.com_core.specs.Objects.{object_at, fresh_object}
+use Rattle.com_core.specs.Objects.{fresh_object}
 use Rattle.com_core.specs.Standing.{Standing}
 use Rattle.com_core.proofs.Alive.{fresh_unreleased}
 
@@ -32,7 +32,7 @@ unreleased (x ∷ xs) = flag_weight x.released + unreleased xs
 abbrev pub weight : Standing → ℕ
 weight at =
     6 * length at.left + open_weight at.openers at.calls.due + unreleased at.objects
-      + home_weight at.home.begun at.home.count at.home.ended
+    + home_weight at.home.begun at.home.count at.home.ended
 
 pub unreleased_pushed : (objects : List Object) → unreleased (objects ++ fresh_object ∷ []) ≡ unreleased objects + 1
 unreleased_pushed [] = rw fresh_unreleased refl

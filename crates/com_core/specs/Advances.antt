@@ -1,5 +1,5 @@
 -- What one step of a core gives.
-use Rattle.std.specs.Prelude.{◌≡◌, ℕ, Option, Some, None}
+use Rattle.std.specs.Prelude.{◌≡◌, Option, Some, None}
 use Rattle.com_model.specs.declared.deeds.Entry.{Entry}
 use Rattle.com_core.specs.Standing.{Standing}
 use Rattle.com_core.specs.Rules.{next_of}

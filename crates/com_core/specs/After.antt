@@ -1,5 +1,5 @@
 -- The standing after one entry more, from the standing alone.
-use Rattle.std.specs.Prelude.{ℕ, List, [], ◌∷◌, ◌++◌, Bool, Option, Some, None, if◌then◌else◌, filter, slice_index_or, length}
+use Rattle.std.specs.Prelude.{ℕ, List, [], ◌∷◌, ◌++◌, Option, Some, None, if◌then◌else◌, filter, slice_index_or, length}
 use Rattle.com_model.specs.declared.deeds.Deed.{Deed}
 use Rattle.com_model.specs.declared.deeds.Deed.TheVariants.{Final}
 use Rattle.com_core.specs.declared.script.Step.{Step}
@@ -42,14 +42,14 @@ dying_after d at = at.dying ++ given_up (slot_effect d) (length at.objects) (nex
 
 abbrev pub after : Standing → Deed → Standing
 after at d = record {
-    left = if takes_a_step d then rest_of at.left else at.left;
-    openers = changed (effect_of d) at.openers;
-    home = home_after d at.home;
-    calls = calls_after (next_step at.left) d at.calls;
-    slots = slots_after (slot_effect d) (next_step at.left) at.slots;
-    objects = objects_after at.openers d at.objects;
-    dying = dying_after d at
-  }
+  left = if takes_a_step d then rest_of at.left else at.left;
+  openers = changed (effect_of d) at.openers;
+  home = home_after d at.home;
+  calls = calls_after (next_step at.left) d at.calls;
+  slots = slots_after (slot_effect d) (next_step at.left) at.slots;
+  objects = objects_after at.openers d at.objects;
+  dying = dying_after d at;
+}
 
 -- Where the lane stands before its first entry.
 abbrev pub beginning : List Step → Standing

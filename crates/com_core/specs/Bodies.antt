@@ -1,5 +1,5 @@
 -- The body of the counter's method: it adds its argument to the object's first cell and answers the sum.
-use Rattle.std.specs.Prelude.{ℤ, List, [], ◌∷◌, pos}
+use Rattle.std.specs.Prelude.{ℤ, List, [], ◌∷◌}
 use Rattle.com_base.specs.declared.value.Value.TheVariants.{Int}
 use Rattle.com_body.specs.declared.frame.Cells.{Cells}
 use Rattle.com_body.specs.declared.statements.Stmt.{Stmt}

@@ -1,5 +1,5 @@
 -- Numbers that the core counts stay small: each call and each object takes a statement of the script.
-use Rattle.std.specs.Prelude.{◌≡◌, ℕ, ◌+◌, ◌≤◌, List, Bool, false, length}
+use Rattle.std.specs.Prelude.{◌≡◌, ◌+◌, ◌≤◌, List, false, length}
 use Rattle.com_core.specs.declared.script.Step.{Step}
 use Rattle.com_core.specs.declared.home.Home.{Home}
 use Rattle.com_core.specs.declared.calls.Calls.{Calls}

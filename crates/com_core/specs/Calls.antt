@@ -1,6 +1,6 @@
 -- The calls of the lane. No body of this form makes a call, so the call that is open is always the last
 -- that was made: what is sent, entered and due is told of that one.
-use Rattle.std.specs.Prelude.{ℕ, ℤ, pos, ◌+◌, List, [], ◌∷◌, Bool, true, false, Option, Some, None}
+use Rattle.std.specs.Prelude.{ℤ, pos, ◌+◌, List, [], ◌∷◌, true, false, Option, Some, None}
 use Rattle.com_base.specs.declared.hresult.HResult.{HResult}
 use Rattle.com_model.specs.declared.deeds.Deed.{Deed}
 use Rattle.com_model.specs.declared.deeds.Deed.TheVariants.{Out, Enter, Leave}

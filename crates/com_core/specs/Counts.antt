@@ -1,9 +1,8 @@
 -- What the report tells of each object.
-use Rattle.std.specs.Prelude.{ℕ, zero, suc, ◌+◌, List, [], ◌∷◌, Bool, true, false, Option, Some, None, ◌==◌, if◌then◌else◌, map, length}
+use Rattle.std.specs.Prelude.{ℕ, ◌+◌, List, [], ◌∷◌, Bool, true, false, Option, Some, None, ◌==◌, if◌then◌else◌, map, length}
 use Rattle.com_model.specs.declared.counts.Counts.{Counts}
 use Rattle.com_model.specs.declared.counts.ObjectState.{ObjectState}
 use Rattle.com_model.specs.declared.counts.ObjectState.TheVariants.{Live, Disconnected, Released}
-use Rattle.com_core.specs.declared.objects.Object.{Object}
 use Rattle.com_core.specs.Homes.{first_sta}
 use Rattle.com_core.specs.Objects.{object_at, names}
 use Rattle.com_core.specs.Dying.{numbers_to}
@@ -25,15 +24,15 @@ state_of false false = Disconnected
 -- No reference leaves the apartment in this form, so there are no proxies, packets or cookies.
 abbrev pub counts_of : Standing → ℕ → Counts
 counts_of at object = record {
-    class = counter_class;
-    owner = first_sta;
-    state = state_of (object_at at.objects object).released (names object at.slots);
-    direct = times_named object at.slots;
-    proxies = 0;
-    packets = 0;
-    tables = 0;
-    stub = 0
-  }
+  class = counter_class;
+  owner = first_sta;
+  state = state_of (object_at at.objects object).released (names object at.slots);
+  direct = times_named object at.slots;
+  proxies = 0;
+  packets = 0;
+  tables = 0;
+  stub = 0;
+}
 
 -- The counts of all objects, by number.
 abbrev pub all_counts : Standing → List Counts

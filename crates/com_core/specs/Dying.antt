@@ -1,6 +1,6 @@
 -- Objects that nobody holds any more, and the order in which they go.
 -- Source: Essential COM, on reference counts: an object goes when its last reference does.
-use Rattle.std.specs.Prelude.{ℕ, zero, suc, ◌+◌, ◌-◌, List, [], ◌∷◌, ◌++◌, Bool, true, false, Option, Some, None, nat_le, ◌&&◌, not, filter, length}
+use Rattle.std.specs.Prelude.{ℕ, zero, suc, List, [], ◌∷◌, ◌++◌, Bool, Option, nat_le, ◌&&◌, not, filter, length}
 use Rattle.com_model.specs.declared.deeds.Entry.{Entry}
 use Rattle.com_core.specs.declared.script.Step.{Step}
 use Rattle.com_core.specs.declared.openers.Opener.{Opener}

@@ -1,6 +1,6 @@
 -- The home of the lane: the apartment that it is initialised in, and how often.
 -- Source: the documentation of CoInitializeEx and CoUninitialize: each success is balanced by one uninit.
-use Rattle.std.specs.Prelude.{ℕ, zero, suc, ◌+◌, List, [], ◌∷◌, Bool, true, false, Option, Some, None}
+use Rattle.std.specs.Prelude.{ℕ, zero, suc, ◌+◌, List, [], ◌∷◌, true, false, Some, None}
 use Rattle.com_core.specs.declared.home.Home.{Home}
 use Rattle.com_model.specs.declared.deeds.Deed.{Deed}
 use Rattle.com_model.specs.declared.deeds.Deed.TheVariants.{Init, Uninit, End}

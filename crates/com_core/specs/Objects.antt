@@ -1,6 +1,5 @@
 -- The slots of the script, which are the only places that hold references in this form, and the objects.
 use Rattle.std.specs.Prelude.{ℕ, zero, suc, ◌-◌, List, [], ◌∷◌, ◌++◌, Bool, true, false, Option, Some, None, ◌==◌, if◌then◌else◌, slice_set, slice_index_or, replicate, pos}
-use Rattle.com_base.specs.declared.value.Value.{Value}
 use Rattle.com_core.specs.declared.objects.Object.{Object}
 use Rattle.com_model.specs.declared.deeds.Deed.{Deed}
 use Rattle.com_model.specs.declared.deeds.Deed.TheVariants.{Made, Release, Uninit, Leave, Final}
@@ -9,7 +8,7 @@ use Rattle.com_core.specs.declared.script.Step.{Step}
 use Rattle.com_core.specs.declared.script.Step.TheVariants as step
 use Rattle.com_core.specs.Steps.{left, next_step}
 use Rattle.com_core.specs.declared.openers.Opener.{Opener}
-use Rattle.com_core.specs.declared.openers.Opener.TheVariants.{Waits, Runs}
+use Rattle.com_core.specs.declared.openers.Opener.TheVariants.{Runs}
 use Rattle.com_core.specs.Openers.{open_in}
 use Rattle.com_core.specs.Bodies.{add_outcome}
 

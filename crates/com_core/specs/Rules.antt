@@ -1,5 +1,5 @@
 -- The next entry of the lane: a chain of rules, of which the first that applies decides.
-use Rattle.std.specs.Prelude.{ℕ, zero, suc, ◌+◌, ◌-◌, ◌==◌, ◌^◌, List, [], ◌∷◌, Bool, true, false, Option, Some, None, if◌then◌else◌, nat_le, slice_index_or, length}
+use Rattle.std.specs.Prelude.{ℕ, ◌+◌, ◌-◌, ◌==◌, ◌^◌, List, [], ◌∷◌, Bool, false, Option, Some, None, if◌then◌else◌, nat_le, slice_index_or, length}
 use Rattle.std.specs.Option.{option_map}
 use Rattle.com_base.specs.declared.hresult.HResult.{HResult}
 use Rattle.com_base.specs.declared.value.Value.{Value}
@@ -24,7 +24,7 @@ use Rattle.com_core.specs.Homes.{first_sta}
 use Rattle.com_core.specs.declared.calls.Answer.{Answer}
 use Rattle.com_core.specs.declared.calls.Calls.{Calls}
 use Rattle.com_core.specs.declared.objects.Object.{Object}
-use Rattle.com_core.specs.Objects.{object_at, slot_of}
+use Rattle.com_core.specs.Objects.{object_at}
 use Rattle.com_core.specs.Bodies.{add_outcome}
 use Rattle.com_core.specs.Steps.{next_step}
 use Rattle.com_core.specs.Standing.{Standing}

@@ -14,21 +14,21 @@ use Rattle.com_core.specs.Objects.{objects_in, slots_in}
 use Rattle.com_core.specs.Dying.{dying_in}
 
 pub record Standing : Type 0 where
-  pub left : List Step              -- the statements still to come
-  pub openers : List Opener         -- innermost first
+  pub left : List Step  -- the statements still to come
+  pub openers : List Opener  -- innermost first
   pub home : Home
   pub calls : Calls
   pub slots : List (Option ℕ)
-  pub objects : List Object         -- by number
-  pub dying : List ℕ                -- in the order in which they will go
+  pub objects : List Object  -- by number
+  pub dying : List ℕ  -- in the order in which they will go
 
 abbrev pub standing : List Step → List Entry → Standing
 standing s h = record {
-    left = left s h;
-    openers = open_in h;
-    home = home_in h;
-    calls = calls_in s h;
-    slots = slots_in s h;
-    objects = objects_in s h;
-    dying = dying_in s h
-  }
+  left = left s h;
+  openers = open_in h;
+  home = home_in h;
+  calls = calls_in s h;
+  slots = slots_in s h;
+  objects = objects_in s h;
+  dying = dying_in s h;
+}

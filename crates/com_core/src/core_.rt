@@ -14,12 +14,6 @@ ghost use Rattle.com_model.specs.declared.deeds.Deed.TheVariants as deed;
 ghost use Rattle.com_core.specs.After.{after, beginning};
 ghost use Rattle.com_core.specs.Scripts.{IsScript};
 
-use com_base::{HResult, Kind, Memory, Mode, RefValue, Rows, Value};
-use com_body::{Action, Asked, Body, Cells, Code, Frame, Given, Op, Outcome, Stmt, step};
-use com_model::{Counts, Deed, Entry, ObjectState, Route};
-use std::alloc::Global;
-use std::marker::Model;
-
 use crate::calls::{Answer, Calls};
 use crate::dying::Dying;
 use crate::home::Home;
@@ -27,12 +21,18 @@ use crate::objects::{Object, Objects};
 use crate::openers::{Opener, Openers};
 use crate::script::{Remaining, Script, Step};
 use crate::slots::Slots;
+use com_base::{HResult, Kind, Memory, Mode, RefValue, Rows, Value};
+use com_body::{Action, Asked, Body, Cells, Code, Frame, Given, Op, Outcome, Stmt, step};
+use com_model::{Counts, Deed, Entry, ObjectState, Route};
+use std::alloc::Global;
+use std::marker::Model;
 
 // The first apartment that a thread makes.
 const FIRST_STA: u32 = 3;
 
 // The numbers of the one class and of the counter's interface.
 const COUNTER_CLASS: u32 = 1;
+
 const ICOUNTER: u16 = 1;
 
 /// Where the one lane of a script stands. A contract sees it as the standing: what is left of the script,
@@ -59,8 +59,13 @@ impl Model for Core {
     ghost Value = { Standing };
 
     ghost view = { λ a. record {
-        left = a.left; openers = a.openers; home = a.home; calls = a.calls; slots = a.slots;
-        objects = a.objects; dying = a.dying
+      left = a.left;
+      openers = a.openers;
+      home = a.home;
+      calls = a.calls;
+      slots = a.slots;
+      objects = a.objects;
+      dying = a.dying;
     } };
 
     ghost invariant = { λ a. IsBounded a.left a.home a.calls a.objects × (a.add ≡ counter_add) };
@@ -178,11 +183,13 @@ impl Core {
         ensures err { OnErr result (self.new ≡ self.old) }
     {
         let (call, object, number) = match self.openers.top() {
-            Some(Opener::Runs {
-                call,
-                object,
-                number,
-            }) => (*call, *object, *number),
+            Some(
+                Opener::Runs {
+                    call,
+                    object,
+                    number,
+                },
+            ) => (*call, *object, *number),
             _ => return Ok(None),
         };
         let found = self.objects.at(object);
@@ -197,10 +204,7 @@ impl Core {
         let value = result_of(self.alloc, answer, value);
         let shown = copy_of(&value)?;
         self.openers.pop();
-        self.calls.due = Some(Answer {
-            hr: answer,
-            value,
-        });
+        self.calls.due = Some(Answer { hr: answer, value });
         self.objects.put(
             object,
             Object {
@@ -243,10 +247,12 @@ impl Core {
         ensures err { OnErr result (self.new ≡ self.old) }
     {
         let (call, object) = match self.openers.top() {
-            Some(Opener::Waits {
-                call,
-                target: Some(object),
-            }) => (*call, *object),
+            Some(
+                Opener::Waits {
+                    call,
+                    target: Some(object),
+                },
+            ) => (*call, *object),
             _ => return Ok(None),
         };
         let Some(apartment) = self.home.apartment else {
@@ -510,9 +516,18 @@ fn counter_add(alloc: Global) -> Result<Body, Memory>
 {
     let statements = vec![in alloc;
         Stmt::Load { to: 1, cell: 0 },
-        Stmt::Add { to: 1, from: Op::Register(0) },
-        Stmt::Store { cell: 0, from: Op::Register(1) },
-        Stmt::Leave { answer: Code::Literal(HResult::S_OK), given: Given::Op(Op::Register(1)) }
+        Stmt::Add {
+            to: 1,
+            from: Op::Register(0)
+        },
+        Stmt::Store {
+            cell: 0,
+            from: Op::Register(1)
+        },
+        Stmt::Leave {
+            answer: Code::Literal(HResult::S_OK),
+            given: Given::Op(Op::Register(1))
+        },
     ]?;
     match Body::check(statements, 200) {
         Ok(body) => Ok(body),

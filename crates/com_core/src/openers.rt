@@ -10,15 +10,8 @@ use std::marker::Model;
 /// with its object and the number that it was entered with.
 #[derive(Debug, Drop)]
 pub enum Opener {
-    Waits {
-        call: u32,
-        target: Option<u32>,
-    },
-    Runs {
-        call: u32,
-        object: u32,
-        number: i64,
-    },
+    Waits { call: u32, target: Option<u32> },
+    Runs { call: u32, object: u32, number: i64 },
 }
 
 /// The openers of the lane, seen as a list with the innermost first.

@@ -11,18 +11,11 @@ use std::marker::Model;
 #[derive(Debug, Clone, Copy, PartialEq, Eq)]
 pub enum Step {
     /// Creates a counter and holds it in the slot; what the slot held is released in the same entry.
-    Create {
-        slot: u8,
-    },
+    Create { slot: u8 },
     /// Calls the counter in the slot with a number to add.
-    Add {
-        slot: u8,
-        number: i64,
-    },
+    Add { slot: u8, number: i64 },
     /// Releases what the slot holds.
-    Release {
-        slot: u8,
-    },
+    Release { slot: u8 },
 }
 
 /// The statements of the one thread between its initialisation and its end, at most 1,998, seen as a list.
@@ -102,10 +95,7 @@ impl Remaining {
         ensures script { IsScript script }
     {
         let Script { steps } = script;
-        Remaining {
-            steps,
-            place: 0,
-        }
+        Remaining { steps, place: 0 }
     }
 
     /// The statement that is next, if there is one.

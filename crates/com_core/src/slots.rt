@@ -24,9 +24,7 @@ impl Slots {
     pub fn new() -> Slots
         ensures { result ≡ no_slots }
     {
-        Slots {
-            held: [None; 8],
-        }
+        Slots { held: [None; 8] }
     }
 
     /// The object in a slot.

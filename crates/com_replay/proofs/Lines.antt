@@ -1,7 +1,7 @@
 -- From the lines that were written to the whole text.
-use Rattle.std.proofs.Common.{◌≡◌, ℕ, zero, suc, ◌+◌, ◌<◌, ◌≤◌, List, [], ◌∷◌, ◌++◌, length, Option, Some, None, refl, sym, ◌∙◌, ap, append_assoc, append-nil, add-zero, arith, subst}
+use Rattle.std.proofs.Common.{◌≡◌, ℕ, zero, suc, ◌+◌, List, [], ◌∷◌, ◌++◌, length, Option, Some, None, refl, sym, ◌∙◌, ap, append_assoc, append-nil, add-zero, arith, subst}
 use Rattle.com_io.specs.Told.{Gains, GainsPrefix}
-use Rattle.com_io.proofs.Passing.{gains_both, gains_then_prefix, prefix_of_more, prefix_of_all, prefix_of_none, gains_nothing}
+use Rattle.com_io.proofs.Passing.{gains_both, gains_then_prefix, prefix_of_more, gains_nothing}
 use Rattle.com_model.specs.declared.deeds.Deed.{Deed}
 use Rattle.com_model.specs.declared.deeds.Entry.{Entry}
 use Rattle.com_model.specs.declared.counts.Ended.TheVariants as ended
@@ -15,7 +15,6 @@ use Rattle.com_core.specs.Scripts.{IsScript}
 use Rattle.com_core.specs.Histories.{next, entry_of, extended, scheduled, scheduled_history, limit}
 use Rattle.com_core.proofs.Next.{goes_next}
 use Rattle.com_core.proofs.Scheduled.{OnTheWay, on_the_way, way_on, way_ends, way_never_short, standing_after}
-use Rattle.com_replay.specs.declared.Replayed.{Replayed}
 use Rattle.com_replay.specs.Replays.{text_of, report_of, replayed_of, GoesOn}
 
 -- A text that begins another.
@@ -39,10 +38,10 @@ pub begins_text : (s : List Step) (h : List Entry) (n : ℕ) → OnTheWay s h n 
 unfolding text_of
 begins_text s h n way =
     let lines : Begins (history_text 1 h) (history_text 1 (scheduled_history s)) =
-        subst (λ (all : List Entry). Begins (history_text 1 h) (history_text 1 all)) way.goes_to (text_on_by n s h) in
+    subst (λ (all : List Entry). Begins (history_text 1 h) (history_text 1 all)) way.goes_to (text_on_by n s h) in
     record {
       back = lines.back ++ report_of s;
-      parts = ap (λ (t : List ℕ). t ++ report_of s) lines.parts ∙ append_assoc (history_text 1 h) lines.back (report_of s)
+      parts = ap (λ (t : List ℕ). t ++ report_of s) lines.parts ∙ append_assoc (history_text 1 h) lines.back (report_of s);
     }
 
 -- A line that is kept, and one that was written with all that was kept before it.
@@ -74,9 +73,16 @@ limit_is = refl
 pub replaying_start : (s : List Step) (core : Standing) (start : Option (List ℕ)) (kept : List ℕ) → core ≡ beginning s → kept ≡ [] → IsScript s
     → Replaying s core start start kept 0
 replaying_start s core start kept begins none is = record {
-    history = []; more = limit; at = begins; way = on_the_way s is.in_range is.short; count = add-zero limit; places = refl;
-    written = []; gained = gains_nothing start; parts = none
-  }
+  history = [];
+  more = limit;
+  at = begins;
+  way = on_the_way s is.in_range is.short;
+  count = add-zero limit;
+  places = refl;
+  written = [];
+  gained = gains_nothing start;
+  parts = none;
+}
 
 -- What was written so far begins the whole text.
 pub stopped_prefix : (s : List Step) (core : Standing) (start held : Option (List ℕ)) (kept : List ℕ) (place : ℕ)
@@ -87,7 +93,7 @@ stopped_prefix s core start held kept place r =
       front = r.written;
       back = kept ++ begins.back;
       parts = begins.parts ∙ ap (λ (t : List ℕ). t ++ begins.back) (sym r.parts) ∙ append_assoc r.written kept begins.back;
-      gained = r.gained
+      gained = r.gained;
     }
 
 -- One entry further: the lines so far with the new line.
@@ -123,20 +129,25 @@ one_further s core new start held kept place e r lane next_is new_is =
           written = r.written;
           gained = r.gained;
           parts = sym (append_assoc r.written kept (line_text 1 (place + 1) e))
-            ∙ ap (λ (t : List ℕ). t ++ line_text 1 (place + 1) e) r.parts
-            ∙ ap (λ (n : ℕ). history_text 1 r.history ++ line_text 1 (n + 1) e) (sym r.places)
-            ∙ ap (λ (f : Entry). history_text 1 r.history ++ line_text 1 (length r.history + 1) f) same
+              ∙ ap (λ (t : List ℕ). t ++ line_text 1 (place + 1) e) r.parts
+              ∙ ap (λ (n : ℕ). history_text 1 r.history ++ line_text 1 (n + 1) e) (sym r.places)
+              ∙ ap (λ (f : Entry). history_text 1 r.history ++ line_text 1 (length r.history + 1) f) same;
         }
 
 -- After the line was kept or sent.
 pub further_on : (s : List Step) (core new : Standing) (start held held' : Option (List ℕ)) (kept kept' : List ℕ) (place : ℕ) (e : Entry)
     → Further s core new start held kept place e → GoesOn held held' kept kept' (line_text 1 (place + 1) e) → Replaying s new start held' kept' (place + 1)
 further_on s core new start held held' kept kept' place e f g = record {
-    history = f.history; more = f.more; at = f.at; way = f.way; count = f.count; places = f.places;
-    written = f.written ++ g.written;
-    gained = gains_both start held held' f.written g.written f.gained g.gained;
-    parts = append_assoc f.written g.written kept' ∙ ap (λ (t : List ℕ). f.written ++ t) g.parts ∙ f.parts
-  }
+  history = f.history;
+  more = f.more;
+  at = f.at;
+  way = f.way;
+  count = f.count;
+  places = f.places;
+  written = f.written ++ g.written;
+  gained = gains_both start held held' f.written g.written f.gained g.gained;
+  parts = append_assoc f.written g.written kept' ∙ ap (λ (t : List ℕ). f.written ++ t) g.parts ∙ f.parts;
+}
 
 -- Where the line could not be sent.
 pub further_prefix : (s : List Step) (core new : Standing) (start held held' : Option (List ℕ)) (kept : List ℕ) (place : ℕ) (e : Entry)
@@ -144,9 +155,9 @@ pub further_prefix : (s : List Step) (core new : Standing) (start held held' : O
 further_prefix s core new start held held' kept place e f g =
     let begins : Begins (history_text 1 f.history) (text_of s) = begins_text s f.history f.more f.way in
     let prefix : GainsPrefix start held' (f.written ++ (kept ++ line_text 1 (place + 1) e)) =
-        gains_then_prefix start held held' f.written (kept ++ line_text 1 (place + 1) e) f.gained g in
+    gains_then_prefix start held held' f.written (kept ++ line_text 1 (place + 1) e) f.gained g in
     subst (λ (t : List ℕ). GainsPrefix start held' t) (sym begins.parts)
-      (prefix_of_more start held' (history_text 1 f.history) begins.back (subst (λ (t : List ℕ). GainsPrefix start held' t) f.parts prefix))
+    (prefix_of_more start held' (history_text 1 f.history) begins.back (subst (λ (t : List ℕ). GainsPrefix start held' t) f.parts prefix))
 
 -- Where no entry is next, what was written, what is kept and the report are the whole text.
 pub record Ending (s : List Step) (core : Standing) (start held : Option (List ℕ)) (kept : List ℕ) (place : ℕ) : Type 0 where
@@ -165,12 +176,12 @@ ending s core start held kept place r none =
       written = r.written;
       gained = r.gained;
       whole = ap (λ (h : List Entry). history_text 1 h ++ report_text (all_counts (standing s h)) (length h) 0 ended.Ok) same
-        ∙ ap (λ (n : ℕ). history_text 1 r.history ++ report_text (all_counts (standing s r.history)) n 0 ended.Ok) r.places
-        ∙ ap (λ (at : Standing). history_text 1 r.history ++ report_text (all_counts at) place 0 ended.Ok) (sym r.at)
-        ∙ ap (λ (t : List ℕ). t ++ report_text (all_counts core) place 0 ended.Ok) (sym r.parts)
-        ∙ append_assoc r.written kept (report_text (all_counts core) place 0 ended.Ok);
+          ∙ ap (λ (n : ℕ). history_text 1 r.history ++ report_text (all_counts (standing s r.history)) n 0 ended.Ok) r.places
+          ∙ ap (λ (at : Standing). history_text 1 r.history ++ report_text (all_counts at) place 0 ended.Ok) (sym r.at)
+          ∙ ap (λ (t : List ℕ). t ++ report_text (all_counts core) place 0 ended.Ok) (sym r.parts)
+          ∙ append_assoc r.written kept (report_text (all_counts core) place 0 ended.Ok);
       answer = ap (λ (h : List Entry). record { ended = ended.Ok; entries = length h; clock = 0 }) same
-        ∙ ap (λ (n : ℕ). record { ended = ended.Ok; entries = n; clock = 0 }) r.places
+          ∙ ap (λ (n : ℕ). record { ended = ended.Ok; entries = n; clock = 0 }) r.places;
     }
 
 pub never_past : (s : List Step) (core : Standing) (start held : Option (List ℕ)) (kept : List ℕ) → Replaying s core start held kept 200000 → ⊥

@@ -12,13 +12,12 @@ ghost use Rattle.com_replay.specs.Replays.{text_of, replayed_of, GoesOn};
 ghost use Rattle.com_replay.specs.declared.ReplayError.TheVariants as replay_error;
 
 use com_base::ByteList;
+pub use com_base::Memory;
 use com_core::{Core, Script};
 use com_io::{Sink, write_all};
 use com_model::{Ended, Entry};
 use com_report::{line, report};
 use std::alloc::{AllocError, Global};
-
-pub use com_base::Memory;
 
 /// What a replay has made: how its history ended, how many entries it has, and where its clock stands, in
 /// virtual milliseconds.
@@ -79,7 +78,13 @@ pub fn replay<K: Sink>(alloc: Global, script: Script, sink: &mut K) -> Result<Re
 
 #[tactic(auto, using(com_io::proofs::Passing::prefix_of_none, crate::proofs::Lines::goes_on_kept, crate::proofs::Lines::goes_on_sent, crate::proofs::Lines::sent_prefix))]
 // Adds the line of an entry to those that are kept, and writes them once they are many.
-fn show<K: Sink>(alloc: Global, place: u64, entry: &Entry, kept: &mut ByteList, sink: &mut K) -> Result<(), ReplayError>
+fn show<K: Sink>(
+    alloc: Global,
+    place: u64,
+    entry: &Entry,
+    kept: &mut ByteList,
+    sink: &mut K,
+) -> Result<(), ReplayError>
     ensures ok { OnOk result (GoesOn (K.held sink.old) (K.held sink.new) kept.old kept.new (line_text 1 place entry.now)) }
     ensures prefix { GainsPrefix (K.held sink.old) (K.held sink.new) (kept.old ++ line_text 1 place entry.now) }
     ensures fault { result ≡ Err replay_error.WriteFault → Rose (K.faults_of sink.old) (K.faults_of sink.new) }
@@ -111,7 +116,13 @@ fn send<K: Sink>(kept: &mut ByteList, sink: &mut K) -> Result<(), ReplayError>
 
 #[tactic(auto, using(com_io::proofs::Passing::prefix_of_none, crate::proofs::Lines::sent_prefix))]
 // Writes what is kept and the report.
-fn finish<K: Sink>(alloc: Global, core: &Core, entries: u64, kept: &mut ByteList, sink: &mut K) -> Result<Replayed, ReplayError>
+fn finish<K: Sink>(
+    alloc: Global,
+    core: &Core,
+    entries: u64,
+    kept: &mut ByteList,
+    sink: &mut K,
+) -> Result<Replayed, ReplayError>
     ensures ok { OnOk result (Gains (K.held sink.old) (K.held sink.new) (kept.old ++ report_text (all_counts core.now) entries 0 ended.Ok)) }
     ensures answer { IfOk result (λ replayed. replayed ≡ record { ended = ended.Ok; entries = entries; clock = 0 }) }
     ensures prefix { GainsPrefix (K.held sink.old) (K.held sink.new) (kept.old ++ report_text (all_counts core.now) entries 0 ended.Ok) }

@@ -1,15 +1,14 @@
 -- The causes of the statuses, from what the calls below answer.
-use Rattle.std.proofs.Common.{◌≡◌, ℕ, ◌+◌, ◌<◌, ◌≤◌, ◌⊎◌, inl, inr, List, [], ◌∷◌, length, refl, sym, ◌∙◌, ap, Option, Some, None, Ok, Err, subst, IfOk, Result, map, slice_index_or, ◌↔◌, arith}
+use Rattle.std.proofs.Common.{◌≡◌, ℕ, ◌<◌, ◌≤◌, inl, inr, List, [], ◌∷◌, length, refl, sym, ◌∙◌, ap, Option, Some, Ok, subst, Result, map, slice_index_or, ◌↔◌, arith}
 use Rattle.com_io.specs.declared.whole.ReadAllError.{ReadAllError}
-use Rattle.com_io.specs.declared.whole.ReadAllError.TheVariants as read_all_error
 use Rattle.com_io.specs.Faults.{Rose}
-use Rattle.com_io.specs.Told.{Gains, GainsPrefix, IsAtEnd, IsWholeOf}
+use Rattle.com_io.specs.Told.{GainsPrefix, IsWholeOf}
 use Rattle.com_core.specs.declared.script.Step.{Step}
 use Rattle.com_replay.specs.Replays.{text_of}
 use Rattle.com_top.specs.declared.statuses.Status.{Status}
 use Rattle.com_top.specs.declared.statuses.Status.TheVariants as status
 use Rattle.com_top.specs.Forms.{script_of}
-use Rattle.com_top.specs.Statuses.{Input, TooLong, Form, Other, IsInput, Sides, HasCause, IsDone, IsRefused, IsReadFault, IsWriteFault, WritesPart, Says, IsSaid, Answers, code_of, output_of, read_fault_line, too_long_line, not_of_the_form_line, longest_input}
+use Rattle.com_top.specs.Statuses.{Input, Form, IsInput, Sides, HasCause, WritesPart, Says, IsSaid, Answers, code_of, output_of, read_fault_line, longest_input}
 
 -- A line that says why an input is refused.
 pub refused_says : (sides : Sides) (reason : Input) (result : Status) → ((script : List Step) → reason ≡ Form script → ⊥)
@@ -19,7 +18,7 @@ refused_says sides reason result no_form input (inl said) =
     subst (λ (r : Status). HasCause r sides) (sym said.0) (record { reason = reason; no_form = no_form; input = input; gained = said.1 })
 refused_says sides reason result no_form input (inr failed) =
     subst (λ (r : Status). HasCause r sides) (sym failed.0)
-      (record { rose = failed.1; part = record { text = output_of reason; whose = inl (reason, refl, input); gained = failed.2 } })
+    (record { rose = failed.1; part = record { text = output_of reason; whose = inl (reason, refl, input); gained = failed.2 } })
 
 pub read_fault_says : (sides : Sides) (result : Status) → Rose sides.read_faults sides.read_faults_after
     → Says result status.ReadFault read_fault_line sides.held sides.held_after sides.write_faults sides.write_faults_after → HasCause result sides
@@ -27,7 +26,7 @@ read_fault_says sides result rose (inl said) =
     subst (λ (r : Status). HasCause r sides) (sym said.0) (record { rose = rose; gained = said.1 })
 read_fault_says sides result rose (inr failed) =
     subst (λ (r : Status). HasCause r sides) (sym failed.0)
-      (record { rose = failed.1; part = record { text = read_fault_line; whose = inr (rose, refl); gained = failed.2 } })
+    (record { rose = failed.1; part = record { text = read_fault_line; whose = inr (rose, refl); gained = failed.2 } })
 
 pub answers_of : (s : Status) (code : ℕ) (sides : Sides) → code ≡ code_of s → HasCause s sides → Answers code sides
 answers_of s code sides e cause = record { status = s; number = e; cause = cause }

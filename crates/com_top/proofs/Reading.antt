@@ -1,9 +1,8 @@
 -- Reading the statements of a script one after another.
-use Rattle.std.proofs.Common.{◌≡◌, ℕ, zero, suc, ◌+◌, ◌<◌, ◌≤◌, List, [], ◌∷◌, ◌++◌, length, refl, sym, ◌∙◌, ap, arith, Option, Some, None, Bool, true, false, if◌then◌else◌, length-append, subst}
+use Rattle.std.proofs.Common.{◌≡◌, ℕ, zero, suc, ◌+◌, ◌<◌, List, [], ◌∷◌, ◌++◌, length, refl, sym, ◌∙◌, ap, arith, Some, None, Bool, if◌then◌else◌, length-append}
 use Rattle.com_core.specs.declared.script.Step.{Step}
 use Rattle.com_core.specs.Scripts.{most_steps}
 use Rattle.com_top.specs.Pieces.{past}
-use Rattle.com_top.specs.declared.forms.Line.{Line}
 use Rattle.com_top.specs.declared.forms.Line.TheVariants as line
 use Rattle.com_top.specs.Forms.{first_line, steps_of, is_end, newline}
 
@@ -42,10 +41,11 @@ reads_on name text steps rest done step r below e = on r.more r.count r.same
         → Reads name text (steps ++ step ∷ []) (past newline rest) (done + 1)
     on zero count same = absurd (omega arith)
     on (suc n) count same = record {
-        more = n; count = omega arith;
-        few = let few : length steps ≡ done = r.few in omega (arith, length-append steps (step ∷ []));
-        same = same ∙ one_line n name steps rest step e
-      }
+      more = n;
+      count = omega arith;
+      few = let few : length steps ≡ done = r.few in omega (arith, length-append steps (step ∷ []));
+      same = same ∙ one_line n name steps rest step e;
+    }
 
 pub reads_end : (name text : List ℕ) (steps : List Step) (rest : List ℕ) (done : ℕ) → Reads name text steps rest done → done < most_steps
     → first_line name rest ≡ line.Ends → Some steps ≡ steps_of most_steps name [] text

@@ -1,6 +1,6 @@
 -- The first form of a scenario: lines of words with single spaces, each closed by a line end, the last one
 -- optionally.
-use Rattle.std.specs.Prelude.{ℕ, zero, suc, ◌-◌, ◌<◌, ℤ, List, [], ◌∷◌, ◌++◌, Bool, true, false, Option, Some, None, ◌==◌, ◌&&◌, ◌||◌, not, nat_le, if◌then◌else◌, codes, option_and_then, is_some, drop}
+use Rattle.std.specs.Prelude.{ℕ, zero, suc, ◌-◌, ◌<◌, List, [], ◌∷◌, ◌++◌, Bool, true, false, Option, Some, None, ◌&&◌, ◌||◌, not, nat_le, if◌then◌else◌, codes, option_and_then, drop}
 use Rattle.std.specs.Str.{bytes_eq}
 use Rattle.com_base.specs.declared.guid.Guid.{Guid}
 use Rattle.com_base.specs.Guids.{text_of}
@@ -83,10 +83,10 @@ first_line name text =
 unfoldable pub steps_of : ℕ → List ℕ → List Step → List ℕ → Option (List Step)
 steps_of zero name steps text = if is_end text then Some steps else None
 steps_of (suc n) name steps text = elim (first_line name text) [
-    line.Ends ↦ Some steps
+  | line.Ends ↦ Some steps
   | line.Goes step ↦ steps_of n name (steps ++ step ∷ []) (past newline text)
   | line.Wrong ↦ None
-  ]
+]
 
 -- A GUID that an interface of the documentation or of this project has.
 abbrev pub is_built_in : List ℕ → Bool

@@ -93,7 +93,7 @@ pub record IsReadFault (sides : Sides) : Type 0 where
 pub record WritesPart (sides : Sides) : Type 0 where
   pub text : List ℕ
   pub whose : ((input : Input) × (text ≡ output_of input) × ((bytes : List ℕ) → sides.left ≡ Some bytes → IsInput bytes input))
-    ⊎ (Rose sides.read_faults sides.read_faults_after × (text ≡ read_fault_line))
+      ⊎ (Rose sides.read_faults sides.read_faults_after × (text ≡ read_fault_line))
   pub gained : GainsPrefix sides.held sides.held_after text
 
 -- Status 4: the sink's count rose in this call, and what was written is a prefix of the text.

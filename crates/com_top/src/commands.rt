@@ -4,12 +4,11 @@ ghost use Rattle.com_io.specs.Faults.{Rose};
 ghost use Rattle.com_io.specs.Told.{Gains, GainsPrefix};
 ghost use Rattle.com_top.specs.Statuses.{Answers, HasCause, IsReplay, IsSaid, Says, Sides, usage_line};
 
+use crate::forms::read_script;
+use crate::statuses::Status;
 use com_io::{ReadAllError, Sink, Source, read_all, write_all};
 use com_replay::{ReplayError, replay};
 use std::alloc::Global;
-
-use crate::forms::read_script;
-use crate::statuses::Status;
 
 // The longest input, in bytes.
 const LONGEST: usize = 1_048_576;
@@ -19,10 +18,22 @@ const LONGEST: usize = 1_048_576;
 ///
 /// Status 1 comes exactly for other words, unless the line that says so cannot be written; then nothing was
 /// read.
-pub fn com_main<S: Source, K: Sink>(alloc: Global, words: &[String], source: &mut S, sink: &mut K) -> u8
+pub fn com_main<S: Source, K: Sink>(
+    alloc: Global,
+    words: &[String],
+    source: &mut S,
+    sink: &mut K,
+) -> u8
     ensures replay { IsReplay (map string_bytes words.now) → Answers result (record {
-        left = S.left source.old; left_after = S.left source.new; read_faults = S.faults_of source.old; read_faults_after = S.faults_of source.new;
-        held = K.held sink.old; held_after = K.held sink.new; write_faults = K.faults_of sink.old; write_faults_after = K.faults_of sink.new }) }
+      left = S.left source.old;
+      left_after = S.left source.new;
+      read_faults = S.faults_of source.old;
+      read_faults_after = S.faults_of source.new;
+      held = K.held sink.old;
+      held_after = K.held sink.new;
+      write_faults = K.faults_of sink.old;
+      write_faults_after = K.faults_of sink.new;
+    }) }
     ensures usage { (IsReplay (map string_bytes words.now) → ⊥) → IsSaid result 1 usage_line (K.held sink.old) (K.held sink.new) (K.faults_of sink.old) (K.faults_of sink.new) }
     ensures unread { (IsReplay (map string_bytes words.now) → ⊥) → source.new ≡ source.old }
 {
@@ -36,16 +47,30 @@ pub fn com_main<S: Source, K: Sink>(alloc: Global, words: &[String], source: &mu
 /// status: each has its cause.
 pub fn replay_main<S: Source, K: Sink>(alloc: Global, source: &mut S, sink: &mut K) -> u8
     ensures { Answers result (record {
-        left = S.left source.old; left_after = S.left source.new; read_faults = S.faults_of source.old; read_faults_after = S.faults_of source.new;
-        held = K.held sink.old; held_after = K.held sink.new; write_faults = K.faults_of sink.old; write_faults_after = K.faults_of sink.new }) }
+      left = S.left source.old;
+      left_after = S.left source.new;
+      read_faults = S.faults_of source.old;
+      read_faults_after = S.faults_of source.new;
+      held = K.held sink.old;
+      held_after = K.held sink.new;
+      write_faults = K.faults_of sink.old;
+      write_faults_after = K.faults_of sink.new;
+    }) }
 {
     replay_input(alloc, source, sink).code()
 }
 
 fn replay_input<S: Source, K: Sink>(alloc: Global, source: &mut S, sink: &mut K) -> Status
     ensures { HasCause result (record {
-        left = S.left source.old; left_after = S.left source.new; read_faults = S.faults_of source.old; read_faults_after = S.faults_of source.new;
-        held = K.held sink.old; held_after = K.held sink.new; write_faults = K.faults_of sink.old; write_faults_after = K.faults_of sink.new }) }
+      left = S.left source.old;
+      left_after = S.left source.new;
+      read_faults = S.faults_of source.old;
+      read_faults_after = S.faults_of source.new;
+      held = K.held sink.old;
+      held_after = K.held sink.new;
+      write_faults = K.faults_of sink.old;
+      write_faults_after = K.faults_of sink.new;
+    }) }
 {
     let text = match read_all(alloc, source, LONGEST) {
         Ok(text) => text,

@@ -5,12 +5,11 @@ ghost use Rattle.com_core.specs.Objects.{slot_of};
 ghost use Rattle.com_core.specs.Scripts.{most_steps};
 ghost use Rattle.com_top.specs.Forms.{is_end, slot_at, creates, adds, calls, releases, step_of, first_line, steps_of, is_built_in, is_free_guid, declared, HasSlot, script_behind, script_of};
 
+use crate::pieces::{behind, past, until};
 use com_base::{Guid, Memory};
 use com_core::{Script, Step};
 use com_fields::{guid_of, is_name, signed_of};
 use std::alloc::Global;
-
-use crate::pieces::{behind, past, until};
 
 // What a line of the script is: its end, a statement, or none of the form.
 #[derive(Debug, Clone, Copy, PartialEq, Eq)]

@@ -1,7 +1,6 @@
-use Rattle.std.proofs.Common.{◌≡◌, ◌<◌, sym, ◌∙◌, arith, true, false, subst, ℕ}
+use Rattle.std.proofs.Common.{◌≡◌, sym, ◌∙◌, arith, true, false, subst, ℕ}
 use Rattle.com_core.specs.Scripts.{most_steps}
 use Rattle.com_top.proofs.Reading.{Reads, reads_begin, reads_on, reads_end, reads_wrong, reads_last}
-use Rattle.com_top.specs.declared.forms.Line.TheVariants as line
 use Rattle.com_top.proofs.forms.steps_of.Goals as goal
 
 pub loop-done-init : goal.loop-done-init
@@ -18,17 +17,17 @@ returns-in-Wrong c =
 pub loop-done-preserved : goal.loop-done-preserved
 loop-done-preserved c =
     rw (c.in_ok-push-in-Goes.ensures.ok, c.past-rest.ensures)
-      (reads_on c.args.name.now c.args.text.now c.loop-done.script c.loop-done.rest.now c.loop-done.done c.in-Goes.step c.loop-done.invariant (omega arith)
-        (sym c.first_line.ensures.line ∙ c.in-Goes.is))
+    (reads_on c.args.name.now c.args.text.now c.loop-done.script c.loop-done.rest.now c.loop-done.done c.in-Goes.step c.loop-done.invariant (omega arith)
+    (sym c.first_line.ensures.line ∙ c.in-Goes.is))
 
 pub returns-then-is_end : goal.returns-then-is_end
 returns-then-is_end c =
     let all : c.loop-done.done ≡ most_steps = omega arith in
     reads_last c.args.name.now c.args.text.now c.loop-done.script c.loop-done.rest.now true
-      (subst (λ (n : ℕ). Reads c.args.name.now c.args.text.now c.loop-done.script c.loop-done.rest.now n) all c.loop-done.invariant) (sym c.if-is_end.ensures)
+    (subst (λ (n : ℕ). Reads c.args.name.now c.args.text.now c.loop-done.script c.loop-done.rest.now n) all c.loop-done.invariant) (sym c.if-is_end.ensures)
 
 pub returns-else-is_end : goal.returns-else-is_end
 returns-else-is_end c =
     let all : c.loop-done.done ≡ most_steps = omega arith in
     reads_last c.args.name.now c.args.text.now c.loop-done.script c.loop-done.rest.now false
-      (subst (λ (n : ℕ). Reads c.args.name.now c.args.text.now c.loop-done.script c.loop-done.rest.now n) all c.loop-done.invariant) (sym c.if-is_end.ensures)
+    (subst (λ (n : ℕ). Reads c.args.name.now c.args.text.now c.loop-done.script c.loop-done.rest.now n) all c.loop-done.invariant) (sym c.if-is_end.ensures)

@@ -1,4 +1,4 @@
-use Rattle.std.proofs.Common.{◌≡◌, ℕ, map}
+use Rattle.std.proofs.Common.{◌≡◌, map}
 use Rattle.com_core.specs.Dying.{numbers_to}
 use Rattle.com_core.specs.Counts.{counts_of}
 use Rattle.com_core.proofs.core_.Core.counts.Given as goal

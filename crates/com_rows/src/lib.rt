@@ -1,0 +1,5 @@
+//! Worked cases over memory, from bytes to bytes.
+#![tactic(auto)]
+
+#[cfg(test)]
+mod tests;
