@@ -19,6 +19,9 @@ pub use literals::{are_pairs, guid, guid_of, text_of, unhex};
 pub use names::{asked, declared, is_name, name, number_of_name, position_of};
 pub use numbers::{number_of, signed_of};
 pub use operands::{
-    Operand, buffer, cell, code, given, hresult_of, literal, marshal_mode, mode, op,
-    operand_of, place, register, slot, unfit,
+    Operand, buffer, cell, code, given, hresult_of, literal, marshal_mode, mode, op, operand_of,
+    place, register, slot, unfit,
 };
+
+#[cfg(test)]
+mod tests;

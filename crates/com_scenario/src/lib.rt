@@ -7,3 +7,6 @@ mod reading;
 pub use com_base::Memory;
 pub use com_fields::ScenarioError;
 pub use reading::parse;
+
+#[cfg(test)]
+mod tests;

@@ -16,3 +16,6 @@ mod tables;
 pub use com_base::Memory;
 pub use outline::{Outline, outline_of};
 pub use state::{Code, Section, State};
+
+#[cfg(test)]
+mod tests;
