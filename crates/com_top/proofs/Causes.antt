@@ -2,13 +2,13 @@
 use Rattle.std.proofs.Common.{◌≡◌, ℕ, ◌<◌, ◌≤◌, inl, inr, List, [], ◌∷◌, length, refl, sym, ◌∙◌, ap, Option, Some, Ok, subst, Result, map, slice_index_or, ◌↔◌, arith}
 use Rattle.com_io.specs.declared.whole.ReadAllError.{ReadAllError}
 use Rattle.com_io.specs.Faults.{Rose}
-use Rattle.com_io.specs.Told.{GainsPrefix, IsWholeOf}
+use Rattle.com_io.specs.Told.{Gains, GainsPrefix, IsWholeOf}
 use Rattle.com_core.specs.declared.script.Step.{Step}
 use Rattle.com_replay.specs.Replays.{text_of}
 use Rattle.com_top.specs.declared.statuses.Status.{Status}
 use Rattle.com_top.specs.declared.statuses.Status.TheVariants as status
 use Rattle.com_top.specs.Forms.{script_of}
-use Rattle.com_top.specs.Statuses.{Input, Form, IsInput, Sides, HasCause, WritesPart, Says, IsSaid, Answers, code_of, output_of, read_fault_line, longest_input}
+use Rattle.com_top.specs.Statuses.{Answers, Completes, Form, HasCause, Input, IsComplete, IsInput, IsSaid, Other, Says, Sides, TooLong, WritesPart, code_of, longest_input, output_of, read_fault_line}
 
 -- A line that says why an input is refused.
 pub refused_says : (sides : Sides) (reason : Input) (result : Status) → ((script : List Step) → reason ≡ Form script → ⊥)
@@ -56,3 +56,23 @@ one_item f (y ∷ z ∷ xs) x low high is = absurd (omega arith)
 
 pub one_word : (words : List (List ℕ)) (word : List ℕ) → words ≡ word ∷ [] → (wanted : List ℕ) → (word ≡ wanted) ↔ (words ≡ wanted ∷ [])
 one_word words word is wanted = ((λ e. is ∙ ap (λ (w : List ℕ). w ∷ []) e), (λ e. cc))
+
+complete_cause : (s : Status) (code : ℕ) (sides : Sides) (bytes : List ℕ) → code ≡ code_of s → HasCause s sides → sides.left ≡ Some bytes
+    → (Rose sides.read_faults sides.read_faults_after → ⊥) → (Rose sides.write_faults sides.write_faults_after → ⊥) → IsComplete code sides bytes
+complete_cause status.Done code sides bytes e cause told calm_source calm_sink = inl (Form cause.script, cause.form bytes told, e, cause.gained)
+complete_cause status.Usage code sides bytes e cause told calm_source calm_sink = absurd cause
+complete_cause status.Refused code sides bytes e cause told calm_source calm_sink =
+    refused cause.reason cause.no_form (cause.input bytes told) cause.gained
+  where
+    refused : (reason : Input) → ((script : List Step) → reason ≡ Form script → ⊥) → IsInput bytes reason
+        → Gains sides.held sides.held_after (output_of reason) → IsComplete code sides bytes
+    refused TooLong no_form is gained = inl (TooLong, is, e, gained)
+    refused (Form script) no_form is gained = absurd (no_form script refl)
+    refused Other no_form is gained = inl (Other, is, e, gained)
+complete_cause status.ReadFault code sides bytes e cause told calm_source calm_sink = absurd (calm_source cause.rose)
+complete_cause status.WriteFault code sides bytes e cause told calm_source calm_sink = absurd (calm_sink cause.rose)
+complete_cause status.Memory code sides bytes e cause told calm_source calm_sink = inr e
+
+pub completes : Completes
+completes code sides bytes answers told calm_source calm_sink =
+    complete_cause answers.status code sides bytes answers.number answers.cause told calm_source calm_sink

@@ -128,3 +128,21 @@ abbrev pub IsSaid : ℕ → ℕ → List ℕ → Option (List ℕ) → Option (L
 IsSaid result wanted line held held_after faults faults_after =
     ((result ≡ wanted) × Gains held held_after line)
     ⊎ ((result ≡ 4) × Rose faults faults_after × GainsPrefix held held_after line)
+
+-- The status that an input has where nothing fails.
+abbrev pub status_of : Input → ℕ
+status_of TooLong = 2
+status_of (Form script) = 0
+status_of Other = 2
+
+-- The call was complete: the number is the input's status and the sink gained its whole text, or memory wanted.
+abbrev pub IsComplete : ℕ → Sides → List ℕ → Type 0
+IsComplete code sides bytes =
+    ((input : Input) × IsInput bytes input × (code ≡ status_of input) × Gains sides.held sides.held_after (output_of input))
+    ⊎ (code ≡ 9)
+
+-- Where the input was told and no count of faults rose, every call is complete.
+abbrev pub Completes : Type 0
+Completes = (code : ℕ) (sides : Sides) (bytes : List ℕ) → Answers code sides → sides.left ≡ Some bytes
+    → (Rose sides.read_faults sides.read_faults_after → ⊥) → (Rose sides.write_faults sides.write_faults_after → ⊥)
+    → IsComplete code sides bytes

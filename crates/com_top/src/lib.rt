@@ -3,10 +3,12 @@
 
 mod commands;
 mod forms;
+mod laws;
 mod pieces;
 mod statuses;
 
 pub use com_base::Memory;
 pub use commands::{com_main, replay_main};
 pub use forms::read_script;
+pub use laws::completeness;
 pub use statuses::Status;
