@@ -1,7 +1,7 @@
 //! What the top call writes for an input in memory, and its status.
 use com_base::ByteList;
 use com_io::{MemorySink, MemorySource};
-use com_top::{com_main, replay_main};
+use com_top::{com_main, objref_main, replay_main};
 use std::test::Fail;
 
 const DIRECT_CALL: &[u8] =
@@ -75,7 +75,21 @@ fn other_words_and_other_inputs_are_refused_by_name(rt: HostRuntime) -> Result<(
     assert_eq!(rt; replay_main(rt.alloc(), &mut source, &mut sink), 2);
     assert_eq!(rt;
         sink.held(),
-        b"usage: comrun replay\nrefused 0 0 13\n".as_slice()
+        b"usage: comrun replay|objref\nrefused 0 0 13\n".as_slice()
     );
+    Ok(())
+}
+
+#[test]
+fn a_standard_objref_is_shown_by_its_fields(rt: HostRuntime) -> Result<(), Fail> {
+    let digits =
+        b"4d454f570100000001000b5c000000408000000000000001000000000500000003000000000000000100000000000000010000000100030001000000000000000200010000000000\n";
+    let shown =
+        b"kind standard\niid {5C0B0001-0000-4000-8000-000000000001}\nflags 00000000\nrefs 5\noxid 0000000000000003\noid 0000000000000001\nipid {00000001-0001-0003-0100-000000000000}\nentries 2 security 1\n";
+    let bytes = ByteList::from_slice(rt.alloc(), digits)?;
+    let mut source = MemorySource::new(bytes, 1000, Vec::new(rt.alloc()));
+    let mut sink = MemorySink::new(rt.alloc(), 10_000, 1000, Vec::new(rt.alloc()))?;
+    assert_eq!(rt; objref_main(rt.alloc(), &mut source, &mut sink), 0);
+    assert_eq!(rt; sink.held(), shown.as_slice());
     Ok(())
 }

@@ -8,33 +8,7 @@ use Rattle.com_replay.specs.Replays.{text_of}
 use Rattle.com_top.specs.declared.statuses.Status.{Status}
 use Rattle.com_top.specs.declared.statuses.Status.TheVariants as status
 use Rattle.com_top.specs.Forms.{script_of}
-use Rattle.com_top.specs.Statuses.{Answers, Completes, Form, HasCause, Input, IsComplete, IsInput, IsSaid, Other, Says, Sides, TooLong, WritesPart, code_of, longest_input, output_of, read_fault_line}
-
--- A line that says why an input is refused.
-pub refused_says : (sides : Sides) (reason : Input) (result : Status) → ((script : List Step) → reason ≡ Form script → ⊥)
-    → ((bytes : List ℕ) → sides.left ≡ Some bytes → IsInput bytes reason)
-    → Says result status.Refused (output_of reason) sides.held sides.held_after sides.write_faults sides.write_faults_after → HasCause result sides
-refused_says sides reason result no_form input (inl said) =
-    subst (λ (r : Status). HasCause r sides) (sym said.0) (record { reason = reason; no_form = no_form; input = input; gained = said.1 })
-refused_says sides reason result no_form input (inr failed) =
-    subst (λ (r : Status). HasCause r sides) (sym failed.0)
-    (record { rose = failed.1; part = record { text = output_of reason; whose = inl (reason, refl, input); gained = failed.2 } })
-
-pub read_fault_says : (sides : Sides) (result : Status) → Rose sides.read_faults sides.read_faults_after
-    → Says result status.ReadFault read_fault_line sides.held sides.held_after sides.write_faults sides.write_faults_after → HasCause result sides
-read_fault_says sides result rose (inl said) =
-    subst (λ (r : Status). HasCause r sides) (sym said.0) (record { rose = rose; gained = said.1 })
-read_fault_says sides result rose (inr failed) =
-    subst (λ (r : Status). HasCause r sides) (sym failed.0)
-    (record { rose = failed.1; part = record { text = read_fault_line; whose = inr (rose, refl); gained = failed.2 } })
-
-pub answers_of : (s : Status) (code : ℕ) (sides : Sides) → code ≡ code_of s → HasCause s sides → Answers code sides
-answers_of s code sides e cause = record { status = s; number = e; cause = cause }
-
-pub usage_said : (s : Status) (code : ℕ) (line : List ℕ) (held held_after : Option (List ℕ)) (faults faults_after : ℕ) → code ≡ code_of s
-    → Says s status.Usage line held held_after faults faults_after → IsSaid code 1 line held held_after faults faults_after
-usage_said s code line held held_after faults faults_after e (inl said) = inl (e ∙ ap code_of said.0, said.1)
-usage_said s code line held held_after faults faults_after e (inr failed) = inr (e ∙ ap code_of failed.0, failed.1, failed.2)
+use Rattle.com_top.specs.Statuses.{Completes, Form, HasCause, Input, IsComplete, IsInput, Other, Sides, TooLong, WritesPart, code_of, longest_input, output_of}
 
 -- An input that was told and read whole is the script that was read from it.
 pub whole_form : (left : Option (List ℕ)) (answer : Result (List ℕ) ReadAllError) (text : List ℕ) (script : List Step)

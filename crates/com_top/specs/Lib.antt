@@ -1,3 +1,4 @@
 pub mod Pieces
 pub mod Forms
 pub mod Statuses
+pub mod Replies

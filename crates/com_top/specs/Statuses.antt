@@ -25,7 +25,7 @@ abbrev pub IsReplay : List (List ℕ) → Type 0
 IsReplay words = words ≡ codes "replay" ∷ []
 
 abbrev pub usage_line : List ℕ
-usage_line = codes "usage: comrun replay\n"
+usage_line = codes "usage: comrun replay|objref\n"
 
 abbrev pub too_long_line : List ℕ
 too_long_line = codes "refused 0 0 12\n"

@@ -1,12 +1,14 @@
 //! The commands.
-ghost use Rattle.std.specs.Prelude.{◌≡◌, ◌⊎◌, ◌≤◌, ℕ, List, OnOk, IsTrue, ◌↔◌, map, string_bytes, codes};
+ghost use Rattle.std.specs.Prelude.{◌≡◌, ◌⊎◌, ◌≤◌, ◌∷◌, [], ℕ, List, OnOk, IsTrue, ◌↔◌, map, string_bytes, codes};
 ghost use Rattle.com_io.specs.Faults.{Rose};
 ghost use Rattle.com_io.specs.Told.{Gains, GainsPrefix};
+ghost use Rattle.com_top.specs.Replies.{HasReplyCause, IsObjRefWord, Replies, status_for};
 ghost use Rattle.com_top.specs.Statuses.{Answers, HasCause, IsReplay, IsSaid, Says, Sides, usage_line};
 
 use crate::forms::read_script;
 use crate::statuses::Status;
 use com_io::{ReadAllError, Sink, Source, read_all, write_all};
+use com_objref::show;
 use com_replay::{ReplayError, replay};
 use std::alloc::Global;
 
@@ -14,7 +16,8 @@ use std::alloc::Global;
 const LONGEST: usize = 1_048_576;
 
 /// Does what the words ask for: `replay` reads a scenario from the source and writes its history and report
-/// to the sink. The answer is the exit status.
+/// to the sink; `objref` reads hexadecimal text and shows the OBJREF that it spells. The answer is the exit
+/// status.
 ///
 /// Status 1 comes exactly for other words, unless the line that says so cannot be written; then nothing was
 /// read.
@@ -34,13 +37,26 @@ pub fn com_main<S: Source, K: Sink>(
       write_faults = K.faults_of sink.old;
       write_faults_after = K.faults_of sink.new;
     }) }
-    ensures usage { (IsReplay (map string_bytes words.now) → ⊥) → IsSaid result 1 usage_line (K.held sink.old) (K.held sink.new) (K.faults_of sink.old) (K.faults_of sink.new) }
-    ensures unread { (IsReplay (map string_bytes words.now) → ⊥) → source.new ≡ source.old }
+    ensures objref { IsObjRefWord (map string_bytes words.now) → Replies result (record {
+      left = S.left source.old;
+      left_after = S.left source.new;
+      read_faults = S.faults_of source.old;
+      read_faults_after = S.faults_of source.new;
+      held = K.held sink.old;
+      held_after = K.held sink.new;
+      write_faults = K.faults_of sink.old;
+      write_faults_after = K.faults_of sink.new;
+    }) }
+    ensures usage { (IsReplay (map string_bytes words.now) → ⊥) → (IsObjRefWord (map string_bytes words.now) → ⊥) → IsSaid result 1 usage_line (K.held sink.old) (K.held sink.new) (K.faults_of sink.old) (K.faults_of sink.new) }
+    ensures unread { (IsReplay (map string_bytes words.now) → ⊥) → (IsObjRefWord (map string_bytes words.now) → ⊥) → source.new ≡ source.old }
 {
-    if asks_replay(words) {
+    if asks(words, "replay") {
         return replay_main(alloc, source, sink);
     }
-    say(b"usage: comrun replay\n", Status::Usage, sink).code()
+    if asks(words, "objref") {
+        return objref_main(alloc, source, sink);
+    }
+    say(b"usage: comrun replay|objref\n", Status::Usage, sink).code()
 }
 
 /// Reads a scenario from the source, and writes its history and report to the sink. The answer is the exit
@@ -90,12 +106,60 @@ fn replay_input<S: Source, K: Sink>(alloc: Global, source: &mut S, sink: &mut K)
     }
 }
 
-// Whether the words are the one word `replay`.
-fn asks_replay(words: &[String]) -> bool
-    ensures { IsTrue result ↔ IsReplay (map string_bytes words.now) }
+/// Reads hexadecimal text from the source, and shows the fields of the OBJREF that it spells, or its first
+/// fault. The answer is the exit status: each has its cause.
+pub fn objref_main<S: Source, K: Sink>(alloc: Global, source: &mut S, sink: &mut K) -> u8
+    ensures { Replies result (record {
+      left = S.left source.old;
+      left_after = S.left source.new;
+      read_faults = S.faults_of source.old;
+      read_faults_after = S.faults_of source.new;
+      held = K.held sink.old;
+      held_after = K.held sink.new;
+      write_faults = K.faults_of sink.old;
+      write_faults_after = K.faults_of sink.new;
+    }) }
+{
+    objref_input(alloc, source, sink).code()
+}
+
+fn objref_input<S: Source, K: Sink>(alloc: Global, source: &mut S, sink: &mut K) -> Status
+    ensures { HasReplyCause result (record {
+      left = S.left source.old;
+      left_after = S.left source.new;
+      read_faults = S.faults_of source.old;
+      read_faults_after = S.faults_of source.new;
+      held = K.held sink.old;
+      held_after = K.held sink.new;
+      write_faults = K.faults_of sink.old;
+      write_faults_after = K.faults_of sink.new;
+    }) }
+{
+    let text = match read_all(alloc, source, LONGEST) {
+        Ok(text) => text,
+        Err(ReadAllError::ReadFault) => return say(b"read fault\n", Status::ReadFault, sink),
+        Err(ReadAllError::TooLong) => return say(b"refused 0 0 12\n", Status::Refused, sink),
+        Err(ReadAllError::Memory) => return Status::Memory,
+    };
+    let shown = match show(alloc, text.as_slice()) {
+        Ok(shown) => shown,
+        Err(_) => return Status::Memory,
+    };
+    say(shown.text.as_slice(), status_for(shown.found), sink)
+}
+
+fn status_for(found: bool) -> Status
+    ensures { result ≡ status_for found }
+{
+    if found { Status::Done } else { Status::Refused }
+}
+
+// Whether the words are the one word that is wanted.
+fn asks(words: &[String], wanted: &str) -> bool
+    ensures { IsTrue result ↔ (map string_bytes words.now ≡ wanted.now ∷ []) }
 {
     match words {
-        [word] => is_word(word.as_str(), "replay"),
+        [word] => is_word(word.as_str(), wanted),
         _ => false,
     }
 }

@@ -1,4 +1,5 @@
 //! What follows from the causes of the statuses.
+ghost use Rattle.com_top.specs.Replies.{RepliesWhole};
 ghost use Rattle.com_top.specs.Statuses.{Completes};
 
 /// Completeness of a replay: where the source tells its bytes and no count of faults rose, the status is 0 and
@@ -6,4 +7,10 @@ ghost use Rattle.com_top.specs.Statuses.{Completes};
 /// the refusal, each exactly for such an input; or memory wanted.
 pub fn completeness()
     ensures { Completes }
+{}
+
+/// Completeness of `objref`: where the source tells its bytes and no count of faults rose, the status is that of
+/// the reply to them and the sink gained its whole text; or memory wanted.
+pub fn objref_completeness()
+    ensures { RepliesWhole }
 {}

@@ -8,7 +8,7 @@ mod pieces;
 mod statuses;
 
 pub use com_base::Memory;
-pub use commands::{com_main, replay_main};
+pub use commands::{com_main, objref_main, replay_main};
 pub use forms::read_script;
-pub use laws::completeness;
+pub use laws::{completeness, objref_completeness};
 pub use statuses::Status;
