@@ -3,12 +3,11 @@ ghost use Rattle.std.specs.Prelude.{◌≡◌, ℕ, ◌+◌, ◌<◌, ◌≤◌,
 ghost use mathlib.Core.List.{IsPrefix};
 ghost use Rattle.com_turnstile.specs.Steps.{with_ticket, Entered};
 
-use crate::Memory;
 use crate::bells::Bells;
 use crate::grows::Grows;
 use crate::view::{Advance, Deal, Draw, Publish, Serve, Turns, View};
 use atomic_table::{Seat, Table};
-use std::alloc::Global;
+use std::alloc::{AllocError, Global};
 use std::hint;
 use std::snapshot::Snapshot;
 use std::sync::Wait;
@@ -70,7 +69,11 @@ impl<T: Grows> Turnstile<T> {
     ///
     /// The i-th pass, counted from 1, is the pass of lane i. Each pass has seen the list that the value has now. Where
     /// memory runs out nothing comes back, and the value is dropped.
-    pub fn new(alloc: Global, value: T, passes: u32) -> Result<(Turnstile<T>, Vec<Pass<T>>), Memory>
+    pub fn new(
+        alloc: Global,
+        value: T,
+        passes: u32,
+    ) -> Result<(Turnstile<T>, Vec<Pass<T>>), AllocError>
         requires { (0 < passes) × (passes ≤ 64) }
         ensures count { IfOk result (λ r. vec_len r.1 ≡ passes) }
         ensures passes { IfOk result (λ r. (i : ℕ) (p : _) → slice_get r.1.items i ≡ Some p
@@ -81,7 +84,7 @@ impl<T: Grows> Turnstile<T> {
         let mut slots = Vec::new(alloc);
         slots.push(Some(value))?;
         let Ok((table, seat)) = Table::new(alloc, &[0, 0, count], slots, &key) else {
-            return Err(Memory);
+            return Err(AllocError);
         };
         let turnstile = Turnstile {
             table,
@@ -98,7 +101,7 @@ impl<T: Grows> Turnstile<T> {
         seat: Seat<Option<T>, View<T::Entry>>,
         count: u64,
         passes: u32,
-    ) -> Result<Vec<Pass<T>>, Memory>
+    ) -> Result<Vec<Pass<T>>, AllocError>
         requires some { 0 < passes }
         requires count { count ≡ length seat.me.0.opening }
         requires seat { IsNewSeat (turnstile_id self.now) seat.me.0.opening 1 seat }
