@@ -1,7 +1,7 @@
 //! The body step.
 
 ghost use Rattle.std.specs.Prelude.{◌≡◌, ◌<◌, ◌≤◌, IfOk};
-ghost use Rattle.com_body.specs.Actions.{leave_ok};
+ghost use Rattle.com_body.specs.Actions.{action_of, packet_action_of, lane_action_of, leave_ok};
 ghost use Rattle.com_body.specs.Bodies.{IsInRange, skip_of};
 ghost use Rattle.com_body.specs.BodySteps.{effect_of, body_step, no_body};
 ghost use Rattle.com_body.specs.Done.{DoneIs, passed_over};
@@ -90,6 +90,7 @@ fn leave_ok() -> Action
     }
 }
 
+// Does a local statement, or gives the action that the statement is.
 fn do_statement(
     alloc: Global,
     statement: &Stmt,
@@ -140,89 +141,115 @@ fn do_statement(
             let is_zero = number_in(frame.register(*register)) == 0;
             Ok(Done::Went(if is_zero { *count } else { 0 }))
         }
-        Stmt::Create { slot, class, iface } => Ok(Done::Acted(Action::Create {
+        action => Ok(Done::Acted(action_of(alloc, action, frame, cells)?)),
+    }
+}
+
+// The action that a statement is, with its operands' values: those on references and calls.
+fn action_of(
+    alloc: Global,
+    statement: &Stmt,
+    frame: &Frame,
+    cells: &Cells,
+) -> Result<Action, Memory>
+    requires { IsInRange statement.now }
+    ensures { IfOk result (λ action. action ≡ action_of frame.now cells.now statement.now) }
+{
+    Ok(match statement {
+        Stmt::Create { slot, class, iface } => Action::Create {
             slot: *slot,
             class: *class,
             iface: *iface,
-        })),
-        Stmt::Query { to, from, iface } => {
-            Ok(Done::Acted(Action::Query {
-                to: *to,
-                held: frame.slot(*from),
-                iface: *iface,
-            }))
-        }
-        Stmt::Copy { to, from } => Ok(Done::Acted(Action::Copy {
+        },
+        Stmt::Query { to, from, iface } => Action::Query {
+            to: *to,
+            held: frame.slot(*from),
+            iface: *iface,
+        },
+        Stmt::Copy { to, from } => Action::Copy {
             to: *to,
             held: held_at(frame, cells, *from),
-        })),
-        Stmt::Release { place } => {
-            Ok(Done::Acted(Action::Release {
-                place: *place,
-                held: held_at(frame, cells, *place),
-            }))
-        }
+        },
+        Stmt::Release { place } => Action::Release {
+            place: *place,
+            held: held_at(frame, cells, *place),
+        },
         Stmt::Call {
             slot,
             iface,
             method,
             args,
             destination,
-        } => Ok(Done::Acted(Action::Call {
+        } => Action::Call {
             target: frame.slot(*slot),
             iface: *iface,
             method: *method,
             args: arguments_of(alloc, frame, args.as_slice())?,
             destination: *destination,
-        })),
-        Stmt::Marshal { buffer, slot, mode } => {
-            Ok(Done::Acted(Action::Marshal {
-                buffer: *buffer,
-                held: frame.slot(*slot),
-                mode: *mode,
-            }))
-        }
-        Stmt::Unmarshal { slot, buffer } => Ok(Done::Acted(Action::Unmarshal {
+        },
+        Stmt::Disconnect { slot } => Action::Disconnect {
+            held: frame.slot(*slot),
+        },
+        Stmt::Leave { answer, given } => Action::Leave {
+            answer: answer_of(frame, *answer),
+            value: given_value(frame, given)?,
+        },
+        other => packet_action_of(other, frame)?,
+    })
+}
+
+// The same of the statements on packets and cookies.
+fn packet_action_of(statement: &Stmt, frame: &Frame) -> Result<Action, Memory>
+    requires { IsInRange statement.now }
+    ensures { IfOk result (λ action. action ≡ packet_action_of frame.now statement.now) }
+{
+    Ok(match statement {
+        Stmt::Marshal { buffer, slot, mode } => Action::Marshal {
+            buffer: *buffer,
+            held: frame.slot(*slot),
+            mode: *mode,
+        },
+        Stmt::Unmarshal { slot, buffer } => Action::Unmarshal {
             slot: *slot,
             buffer: *buffer,
-        })),
-        Stmt::Drop { buffer } => Ok(Done::Acted(Action::Drop { buffer: *buffer })),
-        Stmt::Raw { buffer, bytes } => Ok(Done::Acted(Action::Raw {
+        },
+        Stmt::Drop { buffer } => Action::Drop { buffer: *buffer },
+        Stmt::Raw { buffer, bytes } => Action::Raw {
             buffer: *buffer,
             bytes: bytes.copy()?,
-        })),
-        Stmt::Register { to, slot } => Ok(Done::Acted(Action::Register {
+        },
+        Stmt::Register { to, slot } => Action::Register {
             to: *to,
             held: frame.slot(*slot),
-        })),
-        Stmt::Get { slot, cookie } => Ok(Done::Acted(Action::Get {
+        },
+        Stmt::Get { slot, cookie } => Action::Get {
             slot: *slot,
             cookie: number_of(frame, cookie),
-        })),
-        Stmt::Revoke { cookie } => Ok(Done::Acted(Action::Revoke {
+        },
+        Stmt::Revoke { cookie } => Action::Revoke {
             cookie: number_of(frame, cookie),
-        })),
-        Stmt::Disconnect { slot } => Ok(Done::Acted(Action::Disconnect {
-            held: frame.slot(*slot),
-        })),
-        Stmt::Post { lane, word } => {
-            Ok(Done::Acted(Action::Post {
-                lane: number_of(frame, lane),
-                word: number_of(frame, word),
-            }))
-        }
-        Stmt::Quit { lane } => Ok(Done::Acted(Action::Quit {
+        },
+        other => lane_action_of(other, frame),
+    })
+}
+
+// The same of the statements on lanes and apartments. No other one is an action.
+fn lane_action_of(statement: &Stmt, frame: &Frame) -> Action
+    requires { IsInRange statement.now }
+    ensures { result ≡ lane_action_of frame.now statement.now }
+{
+    match statement {
+        Stmt::Post { lane, word } => Action::Post {
             lane: number_of(frame, lane),
-        })),
-        Stmt::Leave { answer, given } => {
-            Ok(Done::Acted(Action::Leave {
-                answer: answer_of(frame, *answer),
-                value: given_value(frame, given)?,
-            }))
-        }
-        Stmt::Init { mode } => Ok(Done::Acted(Action::Init { mode: *mode })),
-        Stmt::Uninit => Ok(Done::Acted(Action::Uninit)),
-        Stmt::SetFilter { filter } => Ok(Done::Acted(Action::SetFilter { filter: *filter })),
-        Stmt::Pump { bound } => Ok(Done::Acted(Action::Pump { bound: *bound })),
+            word: number_of(frame, word),
+        },
+        Stmt::Quit { lane } => Action::Quit {
+            lane: number_of(frame, lane),
+        },
+        Stmt::Init { mode } => Action::Init { mode: *mode },
+        Stmt::Uninit => Action::Uninit,
+        Stmt::SetFilter { filter } => Action::SetFilter { filter: *filter },
+        Stmt::Pump { bound } => Action::Pump { bound: *bound },
+        _ => leave_ok(),
     }
 }
