@@ -1,8 +1,6 @@
 -- A list whose length is known is its places.
 use Rattle.std.proofs.Common.{◌≡◌, ℕ, List, [], ◌∷◌, length, refl, arith, slice_index, take, drop}
-use Rattle.std.specs.Int.{from_le_bytes, from_be_bytes, w16, w32}
 use Rattle.com_base.specs.declared.guid.Guid.{Guid}
-use Rattle.com_base.specs.Guids.{guid_of_wire, guid_of_reading_order}
 
 pub eight_places : (xs : List ℕ) → length xs ≡ 8
     → slice_index xs 0 ∷ slice_index xs 1 ∷ slice_index xs 2 ∷ slice_index xs 3 ∷ slice_index xs 4 ∷ slice_index xs 5 ∷ slice_index xs 6 ∷ slice_index xs 7 ∷ [] ≡ xs

@@ -1,2 +1,4 @@
 pub mod ByPlaces
 pub mod Texts
+pub mod Names
+pub mod RoundTrips

@@ -1,5 +1,5 @@
 -- GUIDs as texts.
-use Rattle.std.proofs.Common.{◌≡◌, ℕ, List, length, refl, arith, Option, Some, None, sym, ◌∙◌, ap, subst, ◌++◌, ◌∷◌, []}
+use Rattle.std.proofs.Common.{◌≡◌, ℕ, List, length, refl, arith, Some, None, ◌∙◌, ◌∷◌, []}
 use Rattle.std.specs.Option.{option_map}
 use Rattle.std.proofs.lemmas.List.{length-append}
 use Rattle.uuid.specs.Text.{parsed, parsed_braced, braced_text, hyphenated_text}

@@ -1,9 +1,21 @@
 -- GUIDs: their bytes on the wire and their text.
-use Rattle.std.specs.Prelude.{ℕ, ◌+◌, List, [], ◌∷◌, ◌++◌, Option, take, drop, replicate}
+use Rattle.std.specs.Prelude.{◌≡◌, ℕ, ◌^◌, ◌<◌, List, ◌++◌, Option, length, take, drop, replicate, slice_index}
 use Rattle.std.specs.Option.{option_map}
 use Rattle.std.specs.Int.{to_le_bytes, from_le_bytes, to_be_bytes, from_be_bytes, w16, w32}
 use Rattle.uuid.specs.Text.{upper, braced_text, parsed_braced}
 use Rattle.com_base.specs.declared.guid.Guid.{Guid}
+
+-- Each item is a byte.
+abbrev pub IsBytes : List ℕ → Type 0
+IsBytes bytes = (i : ℕ) → slice_index bytes i < 256
+
+-- A GUID as its type has it: numbers of 32 and 16 bits, and eight bytes.
+pub record IsGuid (g : Guid) : Type 0 where
+  pub data1 : g.data1 < 2 ^ 32
+  pub data2 : g.data2 < 2 ^ 16
+  pub data3 : g.data3 < 2 ^ 16
+  pub eight : length g.data4 ≡ 8
+  pub bytes : IsBytes g.data4
 
 -- The GUID whose fields are all zero.
 abbrev pub zero_guid : Guid

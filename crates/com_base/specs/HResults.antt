@@ -1,5 +1,5 @@
 -- HRESULTs: their parts and their names.
-use Rattle.std.specs.Prelude.{ℕ, ◌/◌, ◌%◌, ◌==◌, List, [], ◌∷◌, Bool, Option, Some, None, if◌then◌else◌, codes, ◌^◌}
+use Rattle.std.specs.Prelude.{ℕ, ◌/◌, ◌%◌, ◌==◌, List, Option, Some, None, if◌then◌else◌, codes, ◌^◌}
 use Rattle.std.specs.Str.{bytes_eq}
 use Rattle.com_base.specs.declared.hresult.HResult.{HResult}
 

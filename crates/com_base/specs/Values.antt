@@ -1,5 +1,5 @@
 -- Values and their kinds.
-use Rattle.std.specs.Prelude.{[], Bool, true, false, Option, Some, None, ◌==◌, if◌then◌else◌, pos}
+use Rattle.std.specs.Prelude.{[], Bool, true, false, Some, None, ◌==◌, if◌then◌else◌, pos}
 use Rattle.com_base.specs.declared.value.Value.{Value}
 use Rattle.com_base.specs.declared.value.Value.TheVariants as value
 use Rattle.com_base.specs.declared.value.Kind.{Kind}

@@ -5,6 +5,7 @@
 mod bytes;
 mod guid;
 mod hresult;
+mod laws;
 mod rows;
 mod standard;
 mod value;
@@ -12,6 +13,7 @@ mod value;
 pub use bytes::ByteList;
 pub use guid::Guid;
 pub use hresult::HResult;
+pub use laws::{forms_are_inverse, names_are_inverse};
 pub use rows::Rows;
 pub use standard::{
     IID_ICLASS_FACTORY, IID_IGLOBAL_INTERFACE_TABLE, IID_IMESSAGE_FILTER, IID_IUNKNOWN, StdFields,

@@ -6,17 +6,9 @@ use Rattle.std.proofs.lemmas.List.{take_at, drop_at, take-append-drop, length-ap
 use Rattle.std.proofs.lemmas.Nat.{le_bytes_2, le_bytes_4, le_bytes_8, from_le_bytes-to_le_bytes_2, from_le_bytes-to_le_bytes_4, from_le_bytes-to_le_bytes_8}
 use Rattle.com_base.specs.declared.guid.Guid.{Guid}
 use Rattle.com_base.specs.Guids.{wire_of, guid_of_wire}
+use Rattle.com_base.proofs.RoundTrips.{wire_again, wire_back}
+pub use Rattle.com_base.proofs.RoundTrips.{IsBytes-drop, IsBytes-take}
 use Rattle.com_wire.specs.Fields.{IsBytes, number, guid, IsGuid, number_at, guid_at}
-
-pub IsBytes-drop : (n : ℕ) (bytes : List ℕ) → IsBytes bytes → IsBytes (drop n bytes)
-IsBytes-drop n bytes h i = rw get_or-drop (h (n + i))
-
-pub IsBytes-take : (n : ℕ) (bytes : List ℕ) → IsBytes bytes → IsBytes (take n bytes)
-IsBytes-take n bytes h i =
-    elim (cases_lt i n) [
-      | inl lt ↦ rw (get_or-take n bytes i 0 lt) (h i)
-      | inr le ↦ rw (get_or_past (take n bytes) i 0 (omega (arith, length-take n bytes))) (omega arith)
-    ]
 
 -- the value of a test that did not fail
 pub some_is : {A : Type 0} (b : Bool) (x y : A) → cond b None (Some x) ≡ Some y → (b ≡ false) × (x ≡ y)
@@ -103,54 +95,9 @@ after bytes text rest place count e len =
 
 -- ---- GUIDs
 
-guid_by : ℕ → ℕ → ℕ → List ℕ → Guid
-guid_by a b c d = record { data1 = a; data2 = b; data3 = c; data4 = d }
-
 pub length-guid : (g : Guid) → IsGuid g → length (guid g) ≡ 16
 unfolding guid
 length-guid g fits = omega (arith, fits.eight)
-
-wire_again : (g : Guid) → IsGuid g → guid_of_wire (wire_of g) ≡ g
-unfolding guid_by
-wire_again g fits =
-    let a = from_le_bytes-to_le_bytes_4 g.data1 fits.data1 in
-    let b = from_le_bytes-to_le_bytes_2 g.data2 fits.data2 in
-    let c = from_le_bytes-to_le_bytes_2 g.data3 fits.data3 in
-    ap (λ (x : ℕ). guid_by x (from_le_bytes w16 (to_le_bytes w16 g.data2)) (from_le_bytes w16 (to_le_bytes w16 g.data3)) g.data4) a
-    ∙ ap (λ (x : ℕ). guid_by g.data1 x (from_le_bytes w16 (to_le_bytes w16 g.data3)) g.data4) b
-    ∙ ap (λ (x : ℕ). guid_by g.data1 g.data2 x g.data4) c
-
-joined : (xs : List ℕ) → ((take 4 xs ++ take 2 (drop 4 xs)) ++ take 2 (drop 6 xs)) ++ drop 8 xs ≡ xs
-joined xs =
-    let six : drop 2 (drop 4 xs) ≡ drop 6 xs = drop-drop 2 4 xs in
-    let eight : drop 2 (drop 6 xs) ≡ drop 8 xs = drop-drop 2 6 xs in
-    simp append_assoc (rw (← eight, take-append-drop, ← six, take-append-drop, take-append-drop) refl)
-
-wire_back : (xs : List ℕ) → length xs ≡ 16 → IsBytes xs → (wire_of (guid_of_wire xs) ≡ xs) × IsGuid (guid_of_wire xs)
-wire_back xs len fits =
-    let a = take 4 xs in
-    let b = take 2 (drop 4 xs) in
-    let c = take 2 (drop 6 xs) in
-    let d = drop 8 xs in
-    let a-fits = IsBytes-take 4 xs fits in
-    let b-fits = IsBytes-take 2 (drop 4 xs) (IsBytes-drop 4 xs fits) in
-    let c-fits = IsBytes-take 2 (drop 6 xs) (IsBytes-drop 6 xs fits) in
-    let a-is : to_le_bytes w32 (from_le_bytes w32 a) ≡ a = wide32.back a (omega (arith, length-take 4 xs)) a-fits in
-    let b-is : to_le_bytes w16 (from_le_bytes w16 b) ≡ b = wide16.back b (omega (arith, length-take 2 (drop 4 xs), length-drop 4 xs)) b-fits in
-    let c-is : to_le_bytes w16 (from_le_bytes w16 c) ≡ c = wide16.back c (omega (arith, length-take 2 (drop 6 xs), length-drop 6 xs)) c-fits in
-    let whole : wire_of (guid_of_wire xs) ≡ ((a ++ b) ++ c) ++ d =
-    ap (λ (p : List ℕ). ((p ++ to_le_bytes w16 (from_le_bytes w16 b)) ++ to_le_bytes w16 (from_le_bytes w16 c)) ++ d) a-is
-    ∙ ap (λ (p : List ℕ). ((a ++ p) ++ to_le_bytes w16 (from_le_bytes w16 c)) ++ d) b-is
-    ∙ ap (λ (p : List ℕ). ((a ++ b) ++ p) ++ d) c-is in (
-      whole ∙ joined xs,
-      record {
-        data1 = wide32.below a a-fits;
-        data2 = wide16.below b b-fits;
-        data3 = wide16.below c c-fits;
-        eight = omega (arith, length-drop 8 xs);
-        bytes = IsBytes-drop 8 xs fits;
-      },
-    )
 
 pub guid_takes : (bytes : List ℕ) (place : ℕ) (g : Guid) → IsBytes bytes → guid_at bytes place ≡ Some g → Stands bytes place (guid g) (place + 16) × IsGuid g
 unfolding guid guid_at

@@ -3,10 +3,7 @@ use Rattle.std.specs.Prelude.{◌≡◌, ℕ, ◌+◌, ◌^◌, ◌<◌, List, l
 use Rattle.std.specs.Int.{Width, byte_len, from_le_bytes, to_le_bytes}
 use Rattle.com_base.specs.declared.guid.Guid.{Guid}
 use Rattle.com_base.specs.Guids.{wire_of, guid_of_wire}
-
--- Each item is a byte.
-abbrev pub IsBytes : List ℕ → Type 0
-IsBytes bytes = (i : ℕ) → slice_index bytes i < 256
+pub use Rattle.com_base.specs.Guids.{IsBytes, IsGuid}
 
 -- The bytes of a number, from its low byte up.
 unfoldable pub number : Width → ℕ → List ℕ
@@ -15,14 +12,6 @@ number w n = to_le_bytes w n
 -- The sixteen bytes of a GUID.
 unfoldable pub guid : Guid → List ℕ
 guid g = wire_of g
-
--- A GUID as its type has it: numbers of 32 and 16 bits, and eight bytes.
-pub record IsGuid (g : Guid) : Type 0 where
-  pub data1 : g.data1 < 2 ^ 32
-  pub data2 : g.data2 < 2 ^ 16
-  pub data3 : g.data3 < 2 ^ 16
-  pub eight : length g.data4 ≡ 8
-  pub bytes : IsBytes g.data4
 
 -- The so many bytes from a place on, if they are whole.
 abbrev pub part_at : List ℕ → ℕ → ℕ → Option (List ℕ)

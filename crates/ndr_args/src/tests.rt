@@ -102,7 +102,9 @@ fn each_fault_has_its_place(rt: HostRuntime) {
     let mut latin = WORKED;
     latin[5] = 0xe9;
     assert_eq!(rt; fault_of(rt.alloc(), &kinds, &latin), Some((4, 4)));
-    assert_eq!(rt; fault_of(rt.alloc(), &[Kind::Text], &WORKED), Some((6, 6)));
+    let mut longer = [0; 17];
+    longer[..16].copy_from_slice(&WORKED);
+    assert_eq!(rt; fault_of(rt.alloc(), &kinds, &longer), Some((6, 16)));
     assert_eq!(rt;
         fault_of(rt.alloc(), &[Kind::Bool], &[2, 0, 0, 0]),
         Some((3, 0))

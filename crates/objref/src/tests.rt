@@ -55,20 +55,24 @@ const CUSTOM: [u8; 51] = [
     0x61, 0x62, 0x63,
 ];
 
+// The worked reference with these string values.
+fn with_strings(entries: u16, security: u16, strings: &[u8]) -> ObjRef<'_> {
+    ObjRef::Standard {
+        fields: FIELDS,
+        flags: 0,
+        entries,
+        security,
+        strings,
+    }
+}
+
 fn fault(number: u8, at: usize) -> RefFault {
     RefFault { number, at }
 }
 
 #[test]
 fn worked_bytes_are_read_and_written(rt: HostRuntime) -> Result<(), Fail> {
-    let said = ObjRef::Standard {
-        fields: FIELDS,
-        flags: 0,
-        entries: 2,
-        security: 1,
-        strings: &[0, 0, 0, 0],
-    };
-    assert!(rt; decode(&WORKED) == Ok(said));
+    assert!(rt; decode(&WORKED) == Ok(with_strings(2, 1, &[0; 4])));
     let mut out = ByteList::new(rt.alloc());
     encode(&FIELDS, &mut out)?;
     assert_eq!(rt; out.as_slice(), WORKED.as_slice());
@@ -100,18 +104,16 @@ fn each_fault_has_its_place(rt: HostRuntime) {
 }
 
 #[test]
-fn no_strings_are_taken(rt: HostRuntime) {
-    let mut bytes = WORKED;
-    bytes[64] = 0;
-    bytes[66] = 0;
-    let said = ObjRef::Standard {
-        fields: FIELDS,
-        flags: 0,
-        entries: 0,
-        security: 0,
-        strings: &[],
-    };
-    assert!(rt; decode(&bytes[..68]) == Ok(said));
+fn any_strings_are_taken_and_no_byte_behind_them(rt: HostRuntime) {
+    let mut bytes = [7; 148];
+    bytes[..64].copy_from_slice(&WORKED[..64]);
+    bytes[64..68].copy_from_slice(&[40, 0, 20, 0]);
+    assert!(rt; decode(&bytes) == Ok(with_strings(40, 20, &[7; 80])));
+    bytes[64..68].copy_from_slice(&[0; 4]);
+    assert!(rt; decode(&bytes[..68]) == Ok(with_strings(0, 0, &[])));
+    let mut longer = [0; 73];
+    longer[..72].copy_from_slice(&WORKED);
+    assert!(rt; decode(&longer) == Err(fault(5, 72)));
 }
 
 #[test]

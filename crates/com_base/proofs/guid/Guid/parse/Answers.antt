@@ -1,4 +1,3 @@
-use Rattle.std.proofs.Common.{arith}
 use Rattle.com_base.proofs.guid.Guid.parse.Goals as goal
 use Rattle.com_base.proofs.Texts.{no_guid}
 

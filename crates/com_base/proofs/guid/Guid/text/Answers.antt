@@ -1,4 +1,4 @@
-use Rattle.std.proofs.Common.{sym, ap, ◌∙◌, length}
+use Rattle.std.proofs.Common.{sym}
 use Rattle.uuid.specs.Text.{upper}
 use Rattle.com_base.proofs.guid.Guid.text.Goals as goal
 use Rattle.com_base.proofs.Texts.{braced_length}
