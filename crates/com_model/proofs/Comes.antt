@@ -1,24 +1,26 @@
 -- Where the numbers of calls in the entries of a legal history come from.
 use Rattle.std.proofs.Common.{subst, sym, arith}
 use Rattle.std.proofs.lemmas.Grind.{common_steps}
-use Rattle.std.specs.Prelude.{◌≡◌, refl, ℕ, ℤ, Bool, true, false, cond, ◌==◌, ◌&&◌, not, nat_le, length, ◌||◌, ◌+◌, List, [], ◌∷◌, Option, Some, None, option_map}
+use Rattle.std.specs.Prelude.{◌≡◌, refl, ℕ, ℤ, Bool, true, false, cond, ◌==◌, ◌&&◌, not, nat_le, length, ◌||◌, ◌+◌, List, [], ◌∷◌, Option, Some, None, option_map, Result, Ok, Err}
 use Rattle.com_base.specs.declared.hresult.HResult.{HResult}
 use Rattle.com_base.specs.declared.value.RefValue.{RefValue}
 use Rattle.com_base.specs.declared.value.Value.{Value}
 use Rattle.com_base.specs.declared.value.Mode.{Mode}
 use Rattle.com_base.specs.declared.value.MarshalMode.{MarshalMode}
 use Rattle.com_base.specs.declared.value.MarshalMode.TheVariants as marshal
-use Rattle.com_model.specs.Answers.{S_OK, E_INVALIDARG, E_NOINTERFACE, CO_E_OBJNOTCONNECTED, RPC_E_OUT_OF_RESOURCES, RPC_E_SERVER_CANTUNMARSHAL_DATA}
+use Rattle.com_model.specs.Answers.{S_OK, E_INVALIDARG, CO_E_OBJNOTCONNECTED, RPC_E_OUT_OF_RESOURCES, RPC_E_SERVER_CANTUNMARSHAL_DATA}
 use Rattle.com_body.specs.declared.operands.Asked.{Asked}
 use Rattle.com_body.specs.declared.actions.Action.{Action}
 use Rattle.com_body.specs.declared.actions.Action.TheVariants as action
+use Rattle.com_classes.specs.declared.factory.Placed.{Placed}
+use Rattle.com_classes.specs.Lookups.{class_at}
 use Rattle.com_model.specs.declared.deeds.Deed.{Deed}
 use Rattle.com_model.specs.declared.deeds.Deed.TheVariants as deed
 use Rattle.com_model.specs.declared.deeds.Entry.{Entry}
 use Rattle.com_model.specs.declared.scenario.Scenario.{Scenario}
 use Rattle.com_model.specs.Lists.{where_true, first}
 use Rattle.com_model.specs.Issue.{call_refusal}
-use Rattle.com_model.specs.Tables.{in_set, class_number, interface_number, LaneSort, Thread, Host, Pool, NoLane, lane_sort}
+use Rattle.com_model.specs.Tables.{class_number, interface_number, LaneSort, Thread, Host, Pool, NoLane, lane_sort}
 use Rattle.com_model.specs.Openers.{Opener, Pumps, Waits, Enters, openers, running_call}
 use Rattle.com_model.specs.Calls.{Issue, object_of, is_post, route_of}
 use Rattle.com_model.specs.Frames.{reference}
@@ -26,8 +28,8 @@ use Rattle.com_model.specs.Endings.{Answer}
 use Rattle.com_model.specs.Waiting.{Phase, Unposted, Queued, Judged, Delayed, GivenUp, Word, mark_of, not_asked, bound_reached}
 use Rattle.com_model.specs.Books.{Cookie, cookie}
 use Rattle.com_model.specs.Sight.{Sight, sight}
-use Rattle.com_model.specs.Deeds.{hold_refusal, named_by, deed_of, created, created_of, initialised, marshalled, registered, Named, NamesPacket, Refuses, unmarshalled, dropped, got, got_by, got_with, cookie_number, gained_refs, owned_by, made_of, not_made, revoked, uninitialised, in_sta, called, left_by, left_as}
-use Rattle.com_model.specs.Rules.{posted_to_sta, is_handled_in, type_of, verdict_on, arguments_gone, enters_itself, packet_left, due_of, admits_next, no_lane_can, tick_time, next, next_by, stepped, ruled, admission, rule_final, rule_own, rule_answer, rule_bound, rule_inbox, rule_retry, rule_again, rule_pending, rule_word, rule_script, answered, retried, posted_again, asked_on, pumped, takes_word, scripted, is_script_turn}
+use Rattle.com_model.specs.Deeds.{hold_refusal, named_by, deed_of, created, created_of, initialised, marshalled, registered, Named, NamesPacket, Refuses, unmarshalled, dropped, got, got_by, got_with, cookie_number, gained_refs, owned_by, made_as, creator, placing, not_made, revoked, uninitialised, in_sta, called, left_by, left_as}
+use Rattle.com_model.specs.Rules.{posted_to_sta, is_handled_in, call_sort, verdict_on, arguments_gone, enters_itself, packet_left, due_of, admits_next, no_lane_can, tick_time, next, next_by, stepped, ruled, admission, rule_final, rule_own, rule_answer, rule_bound, rule_inbox, rule_retry, rule_again, rule_pending, rule_word, rule_script, answered, retried, posted_again, asked_on, pumped, takes_word, scripted, is_script_turn}
 use Rattle.com_model.proofs.Given.{Given, given-or, given-where, given-map, cond-of, own-given}
 use Rattle.com_model.specs.Apartments.{mta, is_sta}
 use Rattle.com_model.specs.Calls.{admitted, target}
@@ -72,10 +74,13 @@ Plain d = sort_of d ≡ NoSort
 plain-if : (b : Bool) (x y : Deed) → Plain x → Plain y → Plain (cond b x y)
 plain-if b x y p q = cond-of Plain b x y p q
 
+plain-made_as : (s : Scenario) (v : Sight) (k i : Asked) (r : Result Placed HResult) → Plain (made_as s v k i r)
+plain-made_as s v k i (Ok p) = refl
+plain-made_as s v k i (Err hr) = refl
+
 plain-created_of : (s : Scenario) (v : Sight) (l a : ℕ) (k i : Asked) (c j : Option ℕ) → Plain (created_of s v l a k i c j)
 plain-created_of s v l a k i None j = refl
-plain-created_of s v l a k i (Some c) None = refl
-plain-created_of s v l a k i (Some c) (Some j) = plain-if (in_set s c j) (made_of s v l a c j) (not_made s k i E_NOINTERFACE) (refl) (refl)
+plain-created_of s v l a k i (Some c) j = plain-made_as s v k i (placing (creator v l a) c j (class_at s.classes c))
 
 plain-created : (s : Scenario) (v : Sight) (l : ℕ) (k i : Asked) (a : Option ℕ) → Plain (created s v l k i a)
 plain-created s v l k i None = refl
@@ -159,8 +164,8 @@ deed-comes s v ps os l (action.Pump n) = tt
 admission-comes : (s : Scenario) (v : Sight) (ps : List ℕ) (os : List Opener) (l c : ℕ) → is_none (v.admitted c) ≡ true → Reaches ps os c → Comes_of v ps os (admission s v l c)
 admission-comes s v ps os l c n r =
     cond-of (Comes_of v ps os) (nat_le 256 (length (v.openers l))) (deed.Refuse c RPC_E_OUT_OF_RESOURCES) _ tt
-    (cond-of (Comes_of v ps os) (posted_to_sta v c && not (is_handled_in s v l c)) (deed.Verdict c (type_of v l c) (verdict_on s v l c)) _ tt
-    (cond-of (Comes_of v ps os) (arguments_gone v c) (deed.Refuse c RPC_E_SERVER_CANTUNMARSHAL_DATA) (deed.Enter c (object_of (v.issue c)) (v.owner (object_of (v.issue c)) l) (where_true (posted_to_sta v c) (type_of v l c)) (v.sent c)) tt (n, r)))
+    (cond-of (Comes_of v ps os) (posted_to_sta v c && not (is_handled_in s v l c)) (deed.Verdict c (call_sort v l c) (verdict_on s v l c)) _ tt
+    (cond-of (Comes_of v ps os) (arguments_gone v c) (deed.Refuse c RPC_E_SERVER_CANTUNMARSHAL_DATA) (deed.Enter c (object_of (v.issue c)) (v.owner (object_of (v.issue c)) l) (where_true (posted_to_sta v c) (call_sort v l c)) (v.sent c)) tt (n, r)))
 
 given-when : (P : Deed → Type 0) (b : Bool) (d : Deed) → (b ≡ true → P d) → Given P (where_true b d)
 given-when P true d p = p refl

@@ -12,7 +12,7 @@ use Rattle.com_model.specs.declared.deeds.Entry.{Entry}
 use Rattle.com_model.specs.declared.scenario.Scenario.{Scenario}
 use Rattle.com_model.specs.Answers.{S_OK}
 use Rattle.com_model.specs.Lists.{or_else, first, is_number, is_member, count_if, number_or_zero, each_from, tabulated, from_one}
-use Rattle.com_model.specs.Tables.{lanes, threads, lane_sort, class_model, is_agile_model}
+use Rattle.com_model.specs.Tables.{lanes, threads, lane_sort, is_agile_class}
 use Rattle.com_model.specs.Openers.{Opener, effect_on, opened, left_on, running_call, entered_apartment, openers, served}
 use Rattle.com_model.specs.Apartments.{home_effect_on, home_after, home_by_sort, count_after, makes_sta, ends_sta, with_last, or_host, serves_by_sort, is_end, thread_home, init_count, stas, ended, made_in, over}
 use Rattle.com_model.specs.Objects.{Making, makes, finals, making, objects, finaled}
@@ -113,7 +113,7 @@ abbrev pub class_in : State → ℕ → ℕ
 class_in st o = number_or_zero (option_map (λ (m : Making). m.class) (making_in st o))
 
 abbrev pub agile_in : Scenario → State → ℕ → Bool
-agile_in s st o = is_agile_model (class_model s (class_in st o))
+agile_in s st o = is_agile_class s (class_in st o)
 
 abbrev pub owns_in : Scenario → State → ℕ → ℕ → Bool
 owns_in s st o a = agile_in s st o || a == named_in st o

@@ -12,7 +12,7 @@ ghost use Rattle.com_model.specs.Openers.{nested, openers, Waits, top_call};
 ghost use Rattle.com_model.specs.Rules.{legal, next};
 ghost use Rattle.com_model.specs.Safe.{once};
 ghost use Rattle.com_model.specs.Ends.{scheduled, ended_as};
-ghost use Rattle.com_model.specs.Cases.{direct_call, pumped_words, into_the_host, callback, answer_first, younger_first, relayed, outer_causality, delayed, direct_call_10, pumped_words_9, into_the_host_10, callback_21, answer_first_22, younger_first_15, relayed_25, outer_causality_44, delayed_28, delayed_12};
+ghost use Rattle.com_model.specs.Cases.{foreign_back, foreign_leave, forged, forged_10, halved, halved_8, direct_call, pumped_words, into_the_host, callback, answer_first, younger_first, relayed, outer_causality, delayed, direct_call_10, pumped_words_9, into_the_host_10, callback_21, answer_first_22, younger_first_15, relayed_25, outer_causality_44, delayed_28, delayed_12};
 ghost use Rattle.com_model.specs.declared.counts.Ended.TheVariants as ended;
 ghost use Rattle.com_model.specs.Clock.{clock};
 ghost use Rattle.com_model.specs.State.{State, LanesStand, ApartmentsStand, after};
@@ -39,7 +39,8 @@ pub fn tables_stand()
     ensures clock { (s : Scenario) (st : State) (h : List Entry) (l : ℕ) (d : Deed) → st.clock ≡ clock h → (after s st l d).clock ≡ clock (record { lane = l; deed = d } ∷ h) }
 {}
 
-/// The scheduled histories of small worked cases are those that stand in the definitions, and each is legal and ends well.
+/// The scheduled histories of small worked cases are those that stand in the definitions, and each is legal and ends well. While
+/// a lane can step no Tick is due; and a history in which a Back or a Leave closes the opener of another call is not nested.
 pub fn worked_cases()
     ensures direct_call { (scheduled direct_call ≡ direct_call_10) × legal direct_call direct_call_10 × (ended_as direct_call direct_call_10 ≡ Some ended.Ok) }
     ensures pumped_words { (scheduled pumped_words ≡ pumped_words_9) × legal pumped_words pumped_words_9 × (ended_as pumped_words pumped_words_9 ≡ Some ended.Ok) }
@@ -50,5 +51,8 @@ pub fn worked_cases()
     ensures relayed { (scheduled relayed ≡ relayed_25) × legal relayed relayed_25 × (ended_as relayed relayed_25 ≡ Some ended.Ok) }
     ensures outer_causality { (scheduled outer_causality ≡ outer_causality_44) × legal outer_causality outer_causality_44 × (ended_as outer_causality outer_causality_44 ≡ Some ended.Ok) }
     ensures delayed { (scheduled delayed ≡ delayed_28) × legal delayed delayed_28 × (ended_as delayed delayed_28 ≡ Some ended.Ok) }
+    ensures forged { (scheduled forged ≡ forged_10) × legal forged forged_10 × (ended_as forged forged_10 ≡ Some ended.Ok) }
+    ensures halved { (scheduled halved ≡ halved_8) × legal halved halved_8 × (ended_as halved halved_8 ≡ Some ended.Ok) }
     ensures no_tick { next delayed delayed_12 0 ≡ None }
+    ensures foreign_closers { (nested foreign_back 1 → ⊥) × (nested foreign_leave 1 → ⊥) }
 {}
