@@ -1,16 +1,17 @@
 -- The worked cases, computed entry by entry.
 use Rattle.std.proofs.Common.{arith}
+use Rattle.std.specs.Fmt.{digits}
 use Rattle.std.specs.Prelude.{◌≡◌, refl, Some, None}
 use Rattle.com_model.specs.declared.counts.Ended.TheVariants as ended
 use Rattle.com_model.specs.Rules.{next, legal}
-use Rattle.com_model.specs.Ends.{ended_as, scheduled}
+use Rattle.com_model.specs.Ends.{ended_as, scheduled, text, report}
 use Rattle.com_wire.specs.Fields.{number, guid, number_at, guid_at}
 use Rattle.objref.specs.Grammar.{header, standard_body, strings}
 use Rattle.objref.specs.Reading.{standard_at, strings_at, standard_ref, handler_ref, custom_ref, objref_of}
 use Rattle.com_model.specs.Openers.{nested}
 use Rattle.ndr_args.specs.Written.{written_arg, written_from}
 use Rattle.orpc.specs.Headers.{this_text, that_text}
-use Rattle.com_model.specs.Cases.{foreign_back, foreign_leave, forged, halved, forged_1, forged_2, forged_3, forged_4, forged_5, forged_6, forged_7, forged_8, forged_9, forged_10, halved_1, halved_2, halved_3, halved_4, halved_5, halved_6, halved_7, halved_8, direct_call, pumped_words, into_the_host, callback, answer_first, younger_first, relayed, outer_causality, delayed, direct_call_1, direct_call_2, direct_call_3, direct_call_4, direct_call_5, direct_call_6, direct_call_7, direct_call_8, direct_call_9, direct_call_10, pumped_words_1, pumped_words_2, pumped_words_3, pumped_words_4, pumped_words_5, pumped_words_6, pumped_words_7, pumped_words_8, pumped_words_9, into_the_host_1, into_the_host_2, into_the_host_3, into_the_host_4, into_the_host_5, into_the_host_6, into_the_host_7, into_the_host_8, into_the_host_9, into_the_host_10, callback_1, callback_2, callback_3, callback_4, callback_5, callback_6, callback_7, callback_8, callback_9, callback_10, callback_11, callback_12, callback_13, callback_14, callback_15, callback_16, callback_17, callback_18, callback_19, callback_20, callback_21, answer_first_1, answer_first_2, answer_first_3, answer_first_4, answer_first_5, answer_first_6, answer_first_7, answer_first_8, answer_first_9, answer_first_10, answer_first_11, answer_first_12, answer_first_13, answer_first_14, answer_first_15, answer_first_16, answer_first_17, answer_first_18, answer_first_19, answer_first_20, answer_first_21, answer_first_22, younger_first_1, younger_first_2, younger_first_3, younger_first_4, younger_first_5, younger_first_6, younger_first_7, younger_first_8, younger_first_9, younger_first_10, younger_first_11, younger_first_12, younger_first_13, younger_first_14, younger_first_15, relayed_1, relayed_2, relayed_3, relayed_4, relayed_5, relayed_6, relayed_7, relayed_8, relayed_9, relayed_10, relayed_11, relayed_12, relayed_13, relayed_14, relayed_15, relayed_16, relayed_17, relayed_18, relayed_19, relayed_20, relayed_21, relayed_22, relayed_23, relayed_24, relayed_25, outer_causality_1, outer_causality_2, outer_causality_3, outer_causality_4, outer_causality_5, outer_causality_6, outer_causality_7, outer_causality_8, outer_causality_9, outer_causality_10, outer_causality_11, outer_causality_12, outer_causality_13, outer_causality_14, outer_causality_15, outer_causality_16, outer_causality_17, outer_causality_18, outer_causality_19, outer_causality_20, outer_causality_21, outer_causality_22, outer_causality_23, outer_causality_24, outer_causality_25, outer_causality_26, outer_causality_27, outer_causality_28, outer_causality_29, outer_causality_30, outer_causality_31, outer_causality_32, outer_causality_33, outer_causality_34, outer_causality_35, outer_causality_36, outer_causality_37, outer_causality_38, outer_causality_39, outer_causality_40, outer_causality_41, outer_causality_42, outer_causality_43, outer_causality_44, delayed_1, delayed_2, delayed_3, delayed_4, delayed_5, delayed_6, delayed_7, delayed_8, delayed_9, delayed_10, delayed_11, delayed_12, delayed_13, delayed_14, delayed_15, delayed_16, delayed_17, delayed_18, delayed_19, delayed_20, delayed_21, delayed_22, delayed_23, delayed_24, delayed_25, delayed_26, delayed_27, delayed_28}
+use Rattle.com_model.specs.Cases.{direct_call_text, direct_call_report, halved_report, foreign_back, foreign_leave, forged, halved, forged_1, forged_2, forged_3, forged_4, forged_5, forged_6, forged_7, forged_8, forged_9, forged_10, halved_1, halved_2, halved_3, halved_4, halved_5, halved_6, halved_7, halved_8, direct_call, pumped_words, into_the_host, callback, answer_first, younger_first, relayed, outer_causality, delayed, direct_call_1, direct_call_2, direct_call_3, direct_call_4, direct_call_5, direct_call_6, direct_call_7, direct_call_8, direct_call_9, direct_call_10, pumped_words_1, pumped_words_2, pumped_words_3, pumped_words_4, pumped_words_5, pumped_words_6, pumped_words_7, pumped_words_8, pumped_words_9, into_the_host_1, into_the_host_2, into_the_host_3, into_the_host_4, into_the_host_5, into_the_host_6, into_the_host_7, into_the_host_8, into_the_host_9, into_the_host_10, callback_1, callback_2, callback_3, callback_4, callback_5, callback_6, callback_7, callback_8, callback_9, callback_10, callback_11, callback_12, callback_13, callback_14, callback_15, callback_16, callback_17, callback_18, callback_19, callback_20, callback_21, answer_first_1, answer_first_2, answer_first_3, answer_first_4, answer_first_5, answer_first_6, answer_first_7, answer_first_8, answer_first_9, answer_first_10, answer_first_11, answer_first_12, answer_first_13, answer_first_14, answer_first_15, answer_first_16, answer_first_17, answer_first_18, answer_first_19, answer_first_20, answer_first_21, answer_first_22, younger_first_1, younger_first_2, younger_first_3, younger_first_4, younger_first_5, younger_first_6, younger_first_7, younger_first_8, younger_first_9, younger_first_10, younger_first_11, younger_first_12, younger_first_13, younger_first_14, younger_first_15, relayed_1, relayed_2, relayed_3, relayed_4, relayed_5, relayed_6, relayed_7, relayed_8, relayed_9, relayed_10, relayed_11, relayed_12, relayed_13, relayed_14, relayed_15, relayed_16, relayed_17, relayed_18, relayed_19, relayed_20, relayed_21, relayed_22, relayed_23, relayed_24, relayed_25, outer_causality_1, outer_causality_2, outer_causality_3, outer_causality_4, outer_causality_5, outer_causality_6, outer_causality_7, outer_causality_8, outer_causality_9, outer_causality_10, outer_causality_11, outer_causality_12, outer_causality_13, outer_causality_14, outer_causality_15, outer_causality_16, outer_causality_17, outer_causality_18, outer_causality_19, outer_causality_20, outer_causality_21, outer_causality_22, outer_causality_23, outer_causality_24, outer_causality_25, outer_causality_26, outer_causality_27, outer_causality_28, outer_causality_29, outer_causality_30, outer_causality_31, outer_causality_32, outer_causality_33, outer_causality_34, outer_causality_35, outer_causality_36, outer_causality_37, outer_causality_38, outer_causality_39, outer_causality_40, outer_causality_41, outer_causality_42, outer_causality_43, outer_causality_44, delayed_1, delayed_2, delayed_3, delayed_4, delayed_5, delayed_6, delayed_7, delayed_8, delayed_9, delayed_10, delayed_11, delayed_12, delayed_13, delayed_14, delayed_15, delayed_16, delayed_17, delayed_18, delayed_19, delayed_20, delayed_21, delayed_22, delayed_23, delayed_24, delayed_25, delayed_26, delayed_27, delayed_28}
 
 legal-direct_call-1 : legal direct_call direct_call_1
 unfolding number guid this_text that_text written_arg written_from header standard_body strings number_at guid_at standard_at strings_at standard_ref handler_ref custom_ref objref_of
@@ -919,3 +920,15 @@ foreign-back n = let e : 2 ≡ 1 = n.1 in omega (arith, e)
 
 pub foreign-leave : nested foreign_leave 1 → ⊥
 foreign-leave n = let e : 2 ≡ 1 = n.1 in omega (arith, e)
+
+pub text-direct_call : text direct_call direct_call_10 ≡ direct_call_text
+unfolding number guid this_text that_text written_arg written_from header standard_body strings number_at guid_at standard_at strings_at standard_ref handler_ref custom_ref objref_of digits
+text-direct_call = refl
+
+pub report-direct_call : report direct_call direct_call_10 ≡ direct_call_report
+unfolding number guid this_text that_text written_arg written_from header standard_body strings number_at guid_at standard_at strings_at standard_ref handler_ref custom_ref objref_of digits
+report-direct_call = refl
+
+pub report-halved : report halved halved_8 ≡ halved_report
+unfolding number guid this_text that_text written_arg written_from header standard_body strings number_at guid_at standard_at strings_at standard_ref handler_ref custom_ref objref_of digits
+report-halved = refl

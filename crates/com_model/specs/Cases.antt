@@ -1,5 +1,5 @@
 -- Small worked cases: scenarios and their histories, a name for each prefix.
-use Rattle.std.specs.Prelude.{List, [], ◌∷◌, ◌++◌, Some, None, pos, codes}
+use Rattle.std.specs.Prelude.{ℕ, List, [], ◌∷◌, ◌++◌, Some, None, pos, codes}
 use Rattle.com_base.specs.declared.value.Value.TheVariants as value
 use Rattle.com_base.specs.declared.value.MarshalMode.TheVariants as marshal
 use Rattle.com_base.specs.declared.value.Mode.TheVariants as mode
@@ -745,6 +745,33 @@ halved_7 = record { lane = 1; deed = deed.Uninit (Some 3) 0 } ∷ halved_6
 
 abbrev pub halved_8 : List Entry
 halved_8 = record { lane = 1; deed = deed.End } ∷ halved_7
+
+-- The lines that are printed of the direct call, and the report behind them.
+abbrev pub direct_call_text : List ℕ
+direct_call_text =
+    codes "1 L1 init sta a3 S_OK\n"
+    ++ codes "2 L1 made o1 a3 C1 I1 S_OK\n"
+    ++ codes "3 L1 out c1 o1 I1.0 direct cause1 -\n"
+    ++ codes "4 L1 enter c1 o1 a3 - (5)\n"
+    ++ codes "5 L1 leave c1 S_OK (5) -\n"
+    ++ codes "6 L1 back c1 S_OK (5)\n"
+    ++ codes "7 L1 release o1 I1\n"
+    ++ codes "8 L1 final o1\n"
+    ++ codes "9 L1 uninit a3 0\n"
+    ++ codes "10 L1 end\n"
+
+abbrev pub direct_call_report : List ℕ
+direct_call_report =
+    codes "o1 C1 a3 released direct 0 proxies 0 packets 0 tables 0 stub 0\n"
+    ++ codes "entries 10 clock 0\n"
+    ++ codes "end ok\n"
+
+-- The report of the packets that a proxy gave: the proxy gave the rest of its references back when its apartment ended.
+abbrev pub halved_report : List ℕ
+halved_report =
+    codes "o1 C1 a1 live direct 0 proxies 0 packets 9 tables 0 stub 9\n"
+    ++ codes "entries 8 clock 0\n"
+    ++ codes "end ok\n"
 
 -- A Back of another call than the innermost Out's, and a Leave of another than the innermost Enter's.
 abbrev pub foreign_back : List Entry

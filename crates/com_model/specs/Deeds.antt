@@ -22,7 +22,7 @@ use Rattle.com_classes.specs.declared.factory.Placed.{Placed}
 use Rattle.com_classes.specs.Activation.{placed_in}
 use Rattle.com_classes.specs.Lookups.{class_at, has_interface, interface_at, method_at, same_guid}
 use Rattle.objref.specs.declared.decoding.RefFault.{RefFault}
-use Rattle.objref.specs.Grammar.{Reference, standard, handler, custom, written_of}
+use Rattle.objref.specs.Grammar.{Reference, standard, written_of}
 use Rattle.objref.specs.Reading.{objref_of}
 use Rattle.com_model.specs.declared.deeds.Deed.{Deed}
 use Rattle.com_model.specs.declared.deeds.Deed.TheVariants as deed

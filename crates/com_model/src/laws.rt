@@ -11,8 +11,8 @@ ghost use Rattle.com_model.specs.Lists.{first};
 ghost use Rattle.com_model.specs.Openers.{nested, openers, Waits, top_call};
 ghost use Rattle.com_model.specs.Rules.{legal, next};
 ghost use Rattle.com_model.specs.Safe.{once};
-ghost use Rattle.com_model.specs.Ends.{scheduled, ended_as};
-ghost use Rattle.com_model.specs.Cases.{foreign_back, foreign_leave, forged, forged_10, halved, halved_8, direct_call, pumped_words, into_the_host, callback, answer_first, younger_first, relayed, outer_causality, delayed, direct_call_10, pumped_words_9, into_the_host_10, callback_21, answer_first_22, younger_first_15, relayed_25, outer_causality_44, delayed_28, delayed_12};
+ghost use Rattle.com_model.specs.Ends.{scheduled, ended_as, text, report};
+ghost use Rattle.com_model.specs.Cases.{direct_call_text, direct_call_report, halved_report, foreign_back, foreign_leave, forged, forged_10, halved, halved_8, direct_call, pumped_words, into_the_host, callback, answer_first, younger_first, relayed, outer_causality, delayed, direct_call_10, pumped_words_9, into_the_host_10, callback_21, answer_first_22, younger_first_15, relayed_25, outer_causality_44, delayed_28, delayed_12};
 ghost use Rattle.com_model.specs.declared.counts.Ended.TheVariants as ended;
 ghost use Rattle.com_model.specs.Clock.{clock};
 ghost use Rattle.com_model.specs.State.{State, LanesStand, ApartmentsStand, after};
@@ -54,5 +54,8 @@ pub fn worked_cases()
     ensures forged { (scheduled forged ≡ forged_10) × legal forged forged_10 × (ended_as forged forged_10 ≡ Some ended.Ok) }
     ensures halved { (scheduled halved ≡ halved_8) × legal halved halved_8 × (ended_as halved halved_8 ≡ Some ended.Ok) }
     ensures no_tick { next delayed delayed_12 0 ≡ None }
+    ensures direct_call_text { text direct_call direct_call_10 ≡ direct_call_text }
+    ensures direct_call_report { report direct_call direct_call_10 ≡ direct_call_report }
+    ensures halved_report { report halved halved_8 ≡ halved_report }
     ensures foreign_closers { (nested foreign_back 1 → ⊥) × (nested foreign_leave 1 → ⊥) }
 {}

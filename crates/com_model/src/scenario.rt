@@ -25,6 +25,10 @@ impl Scenario {
     pub fn limit(&self) -> u64
         ensures { result ≡ limit self.now }
     {
-        if self.version == 2 { 1_000_000 } else { 200_000 }
+        if self.version == 2 {
+            1_000_000
+        } else {
+            200_000
+        }
     }
 }

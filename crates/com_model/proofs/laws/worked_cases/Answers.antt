@@ -1,4 +1,4 @@
-use Rattle.com_model.proofs.Cases.{foreign-back, foreign-leave, whole-forged, scheduled-forged, whole-halved, scheduled-halved, no-tick, whole-direct_call, whole-pumped_words, whole-into_the_host, whole-callback, whole-answer_first, whole-younger_first, whole-relayed, whole-outer_causality, whole-delayed, scheduled-direct_call, scheduled-pumped_words, scheduled-into_the_host, scheduled-callback, scheduled-answer_first, scheduled-younger_first, scheduled-relayed, scheduled-outer_causality, scheduled-delayed}
+use Rattle.com_model.proofs.Cases.{text-direct_call, report-direct_call, report-halved, foreign-back, foreign-leave, whole-forged, scheduled-forged, whole-halved, scheduled-halved, no-tick, whole-direct_call, whole-pumped_words, whole-into_the_host, whole-callback, whole-answer_first, whole-younger_first, whole-relayed, whole-outer_causality, whole-delayed, scheduled-direct_call, scheduled-pumped_words, scheduled-into_the_host, scheduled-callback, scheduled-answer_first, scheduled-younger_first, scheduled-relayed, scheduled-outer_causality, scheduled-delayed}
 use Rattle.com_model.proofs.laws.worked_cases.Goals as goal
 
 pub returns-clause-direct_call : goal.returns-clause-direct_call
@@ -39,3 +39,12 @@ returns-clause-no_tick c = no-tick
 
 pub returns-clause-foreign_closers : goal.returns-clause-foreign_closers
 returns-clause-foreign_closers c = (foreign-back, foreign-leave)
+
+pub returns-clause-direct_call_text : goal.returns-clause-direct_call_text
+returns-clause-direct_call_text c = text-direct_call
+
+pub returns-clause-direct_call_report : goal.returns-clause-direct_call_report
+returns-clause-direct_call_report c = report-direct_call
+
+pub returns-clause-halved_report : goal.returns-clause-halved_report
+returns-clause-halved_report c = report-halved
