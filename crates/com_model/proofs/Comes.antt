@@ -40,11 +40,14 @@ use Rattle.com_model.specs.Waiting.{is_queued, phase, postings, waits_in}
 use Rattle.com_model.specs.Rules.{admits_sta, is_open_to_calls, top}
 use Rattle.std.specs.Prelude.{filter, is_none}
 
--- The deeds that issue, enter or post a call.
+-- The deeds that issue a call, enter it, ask or post its waiting caller, or refuse it at its admission, and those that make an
+-- object.
 pub data Sort : Type 0 where
   OutOf : ℕ → Sort
   EnterOf : ℕ → Sort
   PostOf : ℕ → Sort
+  JudgeOf : ℕ → Sort
+  MadeOf : ℕ → Sort
   NoSort : Sort
 
 abbrev pub sort_of : Deed → Sort
@@ -52,6 +55,10 @@ sort_of (deed.Out c o i m r k bytes) = OutOf c
 sort_of (deed.Enter c o a t vs) = EnterOf c
 sort_of (deed.Again c) = PostOf c
 sort_of (deed.Retry c n) = PostOf c
+sort_of (deed.Pending c w n) = PostOf c
+sort_of (deed.Verdict c t v) = JudgeOf c
+sort_of (deed.Refuse c hr) = JudgeOf c
+sort_of (deed.Made (Some o) (Some a) k i hr) = MadeOf o
 sort_of _ = NoSort
 
 -- A call is entered by the lane that waits for it, or from a list of posted calls.
@@ -63,6 +70,8 @@ abbrev pub Comes : Sight → List ℕ → List Opener → Sort → Type 0
 Comes v ps os (OutOf c) = c ≡ v.calls + 1
 Comes v ps os (EnterOf c) = (is_none (v.admitted c) ≡ true) × Reaches ps os c
 Comes v ps os (PostOf c) = first os ≡ Some (Waits c)
+Comes v ps os (JudgeOf c) = Reaches ps os c
+Comes v ps os (MadeOf o) = o ≡ v.objects + 1
 Comes v ps os NoSort = Unit {0}
 
 abbrev Comes_of : Sight → List ℕ → List Opener → Deed → Type 0
@@ -74,17 +83,17 @@ Plain d = sort_of d ≡ NoSort
 plain-if : (b : Bool) (x y : Deed) → Plain x → Plain y → Plain (cond b x y)
 plain-if b x y p q = cond-of Plain b x y p q
 
-plain-made_as : (s : Scenario) (v : Sight) (k i : Asked) (r : Result Placed HResult) → Plain (made_as s v k i r)
-plain-made_as s v k i (Ok p) = refl
-plain-made_as s v k i (Err hr) = refl
+made-comes : (s : Scenario) (v : Sight) (ps : List ℕ) (os : List Opener) (k i : Asked) (r : Result Placed HResult) → Comes_of v ps os (made_as s v k i r)
+made-comes s v ps os k i (Ok p) = refl
+made-comes s v ps os k i (Err hr) = tt
 
-plain-created_of : (s : Scenario) (v : Sight) (l a : ℕ) (k i : Asked) (c j : Option ℕ) → Plain (created_of s v l a k i c j)
-plain-created_of s v l a k i None j = refl
-plain-created_of s v l a k i (Some c) j = plain-made_as s v k i (placing (creator v l a) c j (class_at s.classes c))
+created_of-comes : (s : Scenario) (v : Sight) (ps : List ℕ) (os : List Opener) (l a : ℕ) (k i : Asked) (c j : Option ℕ) → Comes_of v ps os (created_of s v l a k i c j)
+created_of-comes s v ps os l a k i None j = tt
+created_of-comes s v ps os l a k i (Some c) j = made-comes s v ps os k i (placing (creator v l a) c j (class_at s.classes c))
 
-plain-created : (s : Scenario) (v : Sight) (l : ℕ) (k i : Asked) (a : Option ℕ) → Plain (created s v l k i a)
-plain-created s v l k i None = refl
-plain-created s v l k i (Some a) = plain-created_of s v l a k i (class_number s k) (interface_number s i)
+created-comes : (s : Scenario) (v : Sight) (ps : List ℕ) (os : List Opener) (l : ℕ) (k i : Asked) (a : Option ℕ) → Comes_of v ps os (created s v l k i a)
+created-comes s v ps os l k i None = tt
+created-comes s v ps os l k i (Some a) = created_of-comes s v ps os l a k i (class_number s k) (interface_number s i)
 
 plain-initialised : (v : Sight) (m : Mode) (a : Option ℕ) → Plain (initialised v m a)
 plain-initialised v m None = refl
@@ -138,7 +147,7 @@ left-by-plain s v l hr x None = refl
 left-by-plain s v l hr x (Some c) = left-plain s v l c (v.issue c) hr x
 
 deed-comes : (s : Scenario) (v : Sight) (ps : List ℕ) (os : List Opener) (l : ℕ) (a : Action) → Comes_of v ps os (deed_of s v l a)
-deed-comes s v ps os l (action.Create slot k i) = plain-comes v ps os _ (plain-created s v l k i (v.home l))
+deed-comes s v ps os l (action.Create slot k i) = created-comes s v ps os l k i (v.home l)
 deed-comes s v ps os l (action.Query to held i) = tt
 deed-comes s v ps os l (action.Copy to held) = tt
 deed-comes s v ps os l (action.Release from held) = tt
@@ -163,9 +172,9 @@ deed-comes s v ps os l (action.Pump n) = tt
 
 admission-comes : (s : Scenario) (v : Sight) (ps : List ℕ) (os : List Opener) (l c : ℕ) → is_none (v.admitted c) ≡ true → Reaches ps os c → Comes_of v ps os (admission s v l c)
 admission-comes s v ps os l c n r =
-    cond-of (Comes_of v ps os) (nat_le 256 (length (v.openers l))) (deed.Refuse c RPC_E_OUT_OF_RESOURCES) _ tt
-    (cond-of (Comes_of v ps os) (posted_to_sta v c && not (is_handled_in s v l c)) (deed.Verdict c (call_sort v l c) (verdict_on s v l c)) _ tt
-    (cond-of (Comes_of v ps os) (arguments_gone v c) (deed.Refuse c RPC_E_SERVER_CANTUNMARSHAL_DATA) (deed.Enter c (object_of (v.issue c)) (v.owner (object_of (v.issue c)) l) (where_true (posted_to_sta v c) (call_sort v l c)) (v.sent c)) tt (n, r)))
+    cond-of (Comes_of v ps os) (nat_le 256 (length (v.openers l))) (deed.Refuse c RPC_E_OUT_OF_RESOURCES) _ r
+    (cond-of (Comes_of v ps os) (posted_to_sta v c && not (is_handled_in s v l c)) (deed.Verdict c (call_sort v l c) (verdict_on s v l c)) _ r
+    (cond-of (Comes_of v ps os) (arguments_gone v c) (deed.Refuse c RPC_E_SERVER_CANTUNMARSHAL_DATA) (deed.Enter c (object_of (v.issue c)) (v.owner (object_of (v.issue c)) l) (where_true (posted_to_sta v c) (call_sort v l c)) (v.sent c)) r (n, r)))
 
 given-when : (P : Deed → Type 0) (b : Bool) (d : Deed) → (b ≡ true → P d) → Given P (where_true b d)
 given-when P true d p = p refl
@@ -241,9 +250,9 @@ again-c v ps c os (Judged x) = tt
 again-c v ps c os (Delayed t) = given-where (Comes_of v ps (Waits c ∷ os)) (nat_le t v.clock) (deed.Again c) refl
 again-c v ps c os GivenUp = tt
 
-asked-comes : (s : Scenario) (v : Sight) (ps : List ℕ) (l c : ℕ) (os : List Opener) (w : Option Word) → Given (Comes_of v ps os) (asked_on s v l c w)
+asked-comes : (s : Scenario) (v : Sight) (ps : List ℕ) (l c : ℕ) (os : List Opener) (w : Option Word) → Given (Comes_of v ps (Waits c ∷ os)) (asked_on s v l c w)
 asked-comes s v ps l c os None = tt
-asked-comes s v ps l c os (Some w) = given-where (Comes_of v ps os) (in_sta (v.home l) && is_post (route_of (v.issue c))) (deed.Pending c w.word _) tt
+asked-comes s v ps l c os (Some w) = given-where (Comes_of v ps (Waits c ∷ os)) (in_sta (v.home l) && is_post (route_of (v.issue c))) (deed.Pending c w.word _) refl
 
 word-taken : (v : Sight) (ps : List ℕ) (os : List Opener) (w : Option Word) (q : Bool) → Given (Comes_of v ps os) (takes_word w q)
 word-taken v ps os (Some w) q = tt
@@ -269,7 +278,7 @@ ruled-comes s v ps l ok =
     (given-or P (rule_inbox s v l) _ (inbox-comes s v ps l (v.openers l) ok)
     (given-or P (rule_retry s v l) _ (own-given (Comes_of v ps) (λ c. retried s v l c (v.phase c)) (λ c os. retried-comes s v ps l c os (v.phase c)) (v.openers l))
     (given-or P (rule_again v l) _ (own-given (Comes_of v ps) (λ c. posted_again v c (v.phase c)) (λ c os. again-c v ps c os (v.phase c)) (v.openers l))
-    (given-or P (rule_pending s v l) _ (own-given (Comes_of v ps) (λ c. asked_on s v l c (not_asked (mark_of (v.mail l).marks c) (v.mail l).words)) (λ c os. asked-comes s v ps l c (Waits c ∷ os) (not_asked (mark_of (v.mail l).marks c) (v.mail l).words)) (v.openers l))
+    (given-or P (rule_pending s v l) _ (own-given (Comes_of v ps) (λ c. asked_on s v l c (not_asked (mark_of (v.mail l).marks c) (v.mail l).words)) (λ c os. asked-comes s v ps l c os (not_asked (mark_of (v.mail l).marks c) (v.mail l).words)) (v.openers l))
     (given-or P (rule_word v l) (rule_script s v l) (word-comes v ps l (v.openers l) (v.openers l))
     (given-where P (is_script_turn (lane_sort s l) (top v l) (v.over l)) (scripted s v l (v.act l)) (scripted-comes s v ps (v.openers l) l (v.act l)))))))))))
 

@@ -13,7 +13,7 @@ use Rattle.com_model.specs.Clock.{ticked, clock, filter_effect_on, filter_after}
 use Rattle.com_model.specs.Waiting.{mail_effect, mail_after, quit_effect, quit_after, bound_reached, quit_stands, no_mail}
 use Rattle.com_model.specs.State.{State, LanesStand, ApartmentsStand, after, openers_in, served_in}
 
-row-from : {X : Type 0} (f : ℕ → X → X) (n : ℕ) (xs : List X) (k : ℕ) (d : X) → k < length xs → slice_index_or (each_from f n xs) k d ≡ f (n + k) (slice_index_or xs k d)
+pub row-from : {X : Type 0} (f : ℕ → X → X) (n : ℕ) (xs : List X) (k : ℕ) (d : X) → k < length xs → slice_index_or (each_from f n xs) k d ≡ f (n + k) (slice_index_or xs k d)
 row-from f n [] k d h = grind (arith, common_steps)
 row-from f n (x ∷ xs) zero d h = grind (arith, common_steps)
 row-from f n (x ∷ xs) (suc k) d h = let ih : slice_index_or (each_from f (n + 1) xs) k d ≡ f (n + 1 + k) (slice_index_or xs k d) = row-from f (n + 1) xs k d (omega (arith, h)) in let e : n + 1 + k ≡ n + suc k = omega arith in subst (λ (m : ℕ). slice_index_or (each_from f (n + 1) xs) k d ≡ f m (slice_index_or xs k d)) e ih
@@ -31,7 +31,7 @@ or-last true false r t e = refl
 or-last false true r t e = e
 or-last false false r t e = e
 
-member-last : (a : ℕ) (xs : List ℕ) (o : Option ℕ) → is_member a (with_last xs o) ≡ (is_number a o || is_member a xs)
+pub member-last : (a : ℕ) (xs : List ℕ) (o : Option ℕ) → is_member a (with_last xs o) ≡ (is_number a o || is_member a xs)
 member-last a xs None = refl
 member-last a [] (Some y) = refl
 member-last a (x ∷ xs) (Some y) = or-last (a == x) (a == y) (is_member a xs) _ (member-last a xs (Some y))

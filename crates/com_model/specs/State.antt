@@ -388,19 +388,23 @@ pub record ObjectsStand (st : State) (h : List Entry) : Type 0 where
   pub makings : (o : ℕ) → making_in st o ≡ making h o
   pub finaled : (o : ℕ) → is_member o st.finaled ≡ finaled h o
 
-pub record CallsStand (s : Scenario) (st : State) (h : List Entry) : Type 0 where
+pub record CallsStand (st : State) (h : List Entry) : Type 0 where
   pub number : length st.issues ≡ calls h
+  pub rows : (length st.admissions ≡ calls h) × (length st.leavings ≡ calls h) × (length st.returned ≡ calls h) × (length st.phases ≡ calls h) × (length st.times ≡ calls h)
   pub issues : (c : ℕ) → issue_in st c ≡ issue h c
   pub admissions : (c : ℕ) → admitted_in st c ≡ admitted h c
   pub leavings : (c : ℕ) → left_in st c ≡ left h c
   pub returned : (c : ℕ) → returned_in st c ≡ returned h c
-  pub endings : (c : ℕ) → ending_in st c ≡ ending s h c
-  pub refusals : (c : ℕ) → from_one st.refusals c S_OK ≡ at_issue s h c
-  pub sent : (c : ℕ) → from_one st.sent c [] ≡ sent s h c
   pub phases : (c : ℕ) → phase_in st c ≡ phase h c
   pub times : (c : ℕ) → from_one st.times c 0 ≡ issued_at h c
   pub postings : st.postings ≡ postings h
   pub causes : st.causes ≡ causes h
+
+pub record AnswersStand (s : Scenario) (st : State) (h : List Entry) : Type 0 where
+  pub rows : (length st.endings ≡ calls h) × (length st.refusals ≡ calls h) × (length st.sent ≡ calls h)
+  pub endings : (c : ℕ) → ending_in st c ≡ ending s h c
+  pub refusals : (c : ℕ) → from_one st.refusals c S_OK ≡ at_issue s h c
+  pub sent : (c : ℕ) → from_one st.sent c [] ≡ sent s h c
 
 -- The state stands for a legal history.
 pub record StandsFor (s : Scenario) (st : State) (h : List Entry) : Type 0 where
@@ -408,7 +412,8 @@ pub record StandsFor (s : Scenario) (st : State) (h : List Entry) : Type 0 where
   pub lanes : LanesStand s st h
   pub apartments : ApartmentsStand st h
   pub objects : ObjectsStand st h
-  pub calls : CallsStand s st h
+  pub calls : CallsStand st h
+  pub answers : AnswersStand s st h
   pub scene : SameScene (scene_in st) (scene s h)
   pub books : SameBooks (books_in st) (books s h)
   pub fallen : st.fallen ≡ fallen s h
