@@ -6,3 +6,4 @@ pub mod Onces
 pub mod Cases
 pub mod Tabled
 pub mod Rows
+pub mod Lanes

@@ -188,7 +188,7 @@ known-out false d c n o q e z k = let y : c ≤ n = k e in omega (arith, y)
 plus-zero : (c n : ℕ) → c ≤ n → c ≤ 0 + n
 plus-zero c n p = omega (arith, p)
 
-known-step : (s : Scenario) (h : List Entry) (l : ℕ) (d : Deed) → Inv h → Comes (sight s h) (postings h) (openers h l) (sort_of d) → (c : ℕ) → (stage_after (event d) c (stage h c)).out ≡ true → c ≤ count_if (is_some (issues l d)) + calls h
+known-step : (s : Scenario) (h : List Entry) (l : ℕ) (d : Deed) → Inv h → Comes s (sight s h) (postings h) (openers h l) (sort_of d) → (c : ℕ) → (stage_after (event d) c (stage h c)).out ≡ true → c ≤ count_if (is_some (issues l d)) + calls h
 known-step s h l (deed.Out d o i m r k bytes) v z c e = known-out (d == c) d c (calls h) (stage h c).out refl e z (v.known c)
 known-step s h l (deed.Enter d o a t vs) v z c e = plus-zero c (calls h) (v.known c e)
 known-step s h l (deed.Leave d hr x bytes) v z c e = plus-zero c (calls h) (v.known c e)
@@ -234,7 +234,7 @@ retry-posted : (h : List Entry) (c d n : ℕ) (b : Bool) → Inv h → (stage h 
 retry-posted h c d n true v p e = out-known h c d v p (member-posted (λ k. not (k == d)) c d (postings h) e)
 retry-posted h c d n false v p e = v.posted c e
 
-posted-step : (s : Scenario) (h : List Entry) (l : ℕ) (d : Deed) → Inv h → Comes (sight s h) (postings h) (openers h l) (sort_of d) → (c : ℕ) → is_member c (posted_last (post_effect d) (postings h)) ≡ true → (stage_after (event d) c (stage h c)).out ≡ true
+posted-step : (s : Scenario) (h : List Entry) (l : ℕ) (d : Deed) → Inv h → Comes s (sight s h) (postings h) (openers h l) (sort_of d) → (c : ℕ) → is_member c (posted_last (post_effect d) (postings h)) ≡ true → (stage_after (event d) c (stage h c)).out ≡ true
 posted-step s h l (deed.Out d o i m route.Post k bytes) v z c e = out-made h c d v (member-posted (λ y. not (y == d)) c d (postings h) e)
 posted-step s h l (deed.Out d o i m route.Direct k bytes) v z c e = or-right (d == c) (stage h c).out (v.posted c e)
 posted-step s h l (deed.Out d o i m route.Switch k bytes) v z c e = or-right (d == c) (stage h c).out (v.posted c e)
@@ -287,7 +287,7 @@ new-enter h d v z = not-of (is_none (admitted h d)) (stage h d).enter (v.entered
 apart : (l m : ℕ) → (l == m) ≡ false → l ≡ m → ⊥
 apart l m q e = not-both (l == m) (subst (λ (k : ℕ). (l == k) ≡ true) e (same-number l)) q
 
-stacks-step : (s : Scenario) (h : List Entry) (l : ℕ) (d : Deed) → Inv h → Comes (sight s h) (postings h) (openers h l) (sort_of d) → fits (effect d) (openers h l) → (m : ℕ) (b : Bool) → (l == m) ≡ b → Stacked (λ c. stage_after (event d) c (stage h c)) (λ c. issue_or (issues l d) c (issue h c)) (λ c. admission_or (admits l d) c (admitted h c)) m (opened (cond b (effect d) Keeps) (openers h m))
+stacks-step : (s : Scenario) (h : List Entry) (l : ℕ) (d : Deed) → Inv h → Comes s (sight s h) (postings h) (openers h l) (sort_of d) → fits (effect d) (openers h l) → (m : ℕ) (b : Bool) → (l == m) ≡ b → Stacked (λ c. stage_after (event d) c (stage h c)) (λ c. issue_or (issues l d) c (issue h c)) (λ c. admission_or (admits l d) c (admitted h c)) m (opened (cond b (effect d) Keeps) (openers h m))
 stacks-step s h l (deed.Out d o i n r k bytes) v z f m true q =
     let u : Issue = record { call = d; lane = l; object = o; iface = i; method = n; route = r; cause = k } in
     let g : (stage h d).out ≡ false = new-out s h d v z in (
@@ -323,14 +323,14 @@ reached : (h : List Entry) (l d : ℕ) → Inv h → Reaches (postings h) (opene
 reached h l d v (by_top p) = (top-waits (stage h) (issue h) (admitted h) l d (openers h l) (v.stacks l) p).0
 reached h l d v (by_post p) = v.posted d p
 
-comes-once : (s : Scenario) (h : List Entry) (l : ℕ) (d : Deed) → Inv h → Comes (sight s h) (postings h) (openers h l) (sort_of d) → fits (effect d) (openers h l) → ComesOnce (event d) (stage h)
+comes-once : (s : Scenario) (h : List Entry) (l : ℕ) (d : Deed) → Inv h → Comes s (sight s h) (postings h) (openers h l) (sort_of d) → fits (effect d) (openers h l) → ComesOnce (event d) (stage h)
 comes-once s h l (deed.Out d o i n r k bytes) v z f = new-out s h d v z
 comes-once s h l (deed.Enter d o a t vs) v z f = (reached h l d v z.1, new-enter h d v z.0)
 comes-once s h l (deed.Leave d hr x bytes) v z f = ((top-enters (stage h) (issue h) (admitted h) l d (openers h l) f (v.stacks l)).0, (top-enters (stage h) (issue h) (admitted h) l d (openers h l) f (v.stacks l)).1)
 comes-once s h l (deed.Back d hr x) v z f = ((top-outs (stage h) (issue h) (admitted h) l d (openers h l) f (v.stacks l)).0, (top-outs (stage h) (issue h) (admitted h) l d (openers h l) f (v.stacks l)).1)
 comes-once s h l _ v z f = tt
 
-called-step : (s : Scenario) (h : List Entry) (l : ℕ) (d : Deed) → Inv h → Comes (sight s h) (postings h) (openers h l) (sort_of d) → (c : ℕ) → (stage_after (event d) c (stage h c)).out ≡ false → (stage_after (event d) c (stage h c)).enter ≡ false
+called-step : (s : Scenario) (h : List Entry) (l : ℕ) (d : Deed) → Inv h → Comes s (sight s h) (postings h) (openers h l) (sort_of d) → (c : ℕ) → (stage_after (event d) c (stage h c)).out ≡ false → (stage_after (event d) c (stage h c)).enter ≡ false
 called-step s h l (deed.Out d o i m r k bytes) v z c e = v.called c (or-split (d == c) (stage h c).out e).1
 called-step s h l (deed.Enter d o a t vs) v z c e =
     or-both (d == c) (stage h c).enter
@@ -340,7 +340,7 @@ called-step s h l (deed.Leave d hr x bytes) v z c e = v.called c e
 called-step s h l (deed.Back d hr x) v z c e = v.called c e
 called-step s h l _ v z c e = v.called c e
 
-from-one-step : (s : Scenario) (h : List Entry) (l : ℕ) (d : Deed) → Inv h → Comes (sight s h) (postings h) (openers h l) (sort_of d) → (stage_after (event d) 0 (stage h 0)).out ≡ false
+from-one-step : (s : Scenario) (h : List Entry) (l : ℕ) (d : Deed) → Inv h → Comes s (sight s h) (postings h) (openers h l) (sort_of d) → (stage_after (event d) 0 (stage h 0)).out ≡ false
 from-one-step s h l (deed.Out d o i m r k bytes) v z = or-both (d == 0) (stage h 0).out (differ (d == 0) (λ q. let y : d ≡ 0 = eqb-true d 0 q in omega (arith, y, z))) v.from_one
 from-one-step s h l (deed.Enter d o a t vs) v z = v.from_one
 from-one-step s h l (deed.Leave d hr x bytes) v z = v.from_one
@@ -351,7 +351,7 @@ from-one-step s h l _ v z = v.from_one
 
 inv-step : (s : Scenario) (h : List Entry) (e : Entry) → Inv h → next s h e.lane ≡ Some e.deed → Inv (e ∷ h)
 inv-step s h e v p =
-    let z : Comes (sight s h) (postings h) (openers h e.lane) (sort_of e.deed) = next-comes s h e.lane e.deed p in
+    let z : Comes s (sight s h) (postings h) (openers h e.lane) (sort_of e.deed) = next-comes s h e.lane e.deed p in
     let f : fits (effect e.deed) (openers h e.lane) = next-fits s h e.lane e.deed p in
     record {
       known = known-step s h e.lane e.deed v z;
@@ -410,7 +410,7 @@ true-from : (o n : Bool) → (o ≡ false → n ≡ false) → n ≡ true → o 
 true-from true n p e = refl
 true-from false n p e = absurd (not-both n e (p refl))
 
-named-out : (s : Scenario) (h : List Entry) (l : ℕ) (d : Deed) → Inv h → Comes (sight s h) (postings h) (openers h l) (sort_of d) → fits (effect d) (openers h l) → Names (λ c. (stage_after (event d) c (stage h c)).out ≡ true) (call_named d)
+named-out : (s : Scenario) (h : List Entry) (l : ℕ) (d : Deed) → Inv h → Comes s (sight s h) (postings h) (openers h l) (sort_of d) → fits (effect d) (openers h l) → Names (λ c. (stage_after (event d) c (stage h c)).out ≡ true) (call_named d)
 named-out s h l (deed.Out d o i m r k bytes) v z f = subst (λ (b : Bool). (b || (stage h d).out) ≡ true) (sym (same-number d)) refl
 named-out s h l (deed.Verdict d t x) v z f = reached h l d v z
 named-out s h l (deed.Refuse d hr) v z f = reached h l d v z

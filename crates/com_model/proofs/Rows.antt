@@ -67,19 +67,19 @@ phase-none _ t c p = refl
 
 -- ---- rows of a new call or object
 
-issue-row : (l : ℕ) (d : Deed) (xs : List (Option Issue)) (c : ℕ) (v : Sight) (ps : List ℕ) (os : List Opener) → v.calls ≡ length xs → Comes v ps os (sort_of d) → from_one (grown (is_some (issues l d)) (issues l d) xs) c None ≡ issue_or (issues l d) c (from_one xs c None)
-issue-row l (deed.Out k o i m r cause bytes) xs c v ps os n z = last-row xs c k _ None (z ∙ ap (λ (x : ℕ). x + 1) n)
-issue-row l _ xs c v ps os n z = refl
+issue-row : (l : ℕ) (d : Deed) (xs : List (Option Issue)) (c : ℕ) (s : Scenario) (v : Sight) (ps : List ℕ) (os : List Opener) → v.calls ≡ length xs → Comes s v ps os (sort_of d) → from_one (grown (is_some (issues l d)) (issues l d) xs) c None ≡ issue_or (issues l d) c (from_one xs c None)
+issue-row l (deed.Out k o i m r cause bytes) xs c s v ps os n z = last-row xs c k _ None (z ∙ ap (λ (x : ℕ). x + 1) n)
+issue-row l _ xs c s v ps os n z = refl
 
-time-row : (l : ℕ) (d : Deed) (xs : List ℕ) (now c : ℕ) (v : Sight) (ps : List ℕ) (os : List Opener) → v.calls ≡ length xs → Comes v ps os (sort_of d) → from_one (grown (is_some (issues l d)) now xs) c 0 ≡ time_or (issues l d) c now (from_one xs c 0)
-time-row l (deed.Out k o i m r cause bytes) xs now c v ps os n z = last-row xs c k now 0 (z ∙ ap (λ (x : ℕ). x + 1) n)
-time-row l _ xs now c v ps os n z = refl
+time-row : (l : ℕ) (d : Deed) (xs : List ℕ) (now c : ℕ) (s : Scenario) (v : Sight) (ps : List ℕ) (os : List Opener) → v.calls ≡ length xs → Comes s v ps os (sort_of d) → from_one (grown (is_some (issues l d)) now xs) c 0 ≡ time_or (issues l d) c now (from_one xs c 0)
+time-row l (deed.Out k o i m r cause bytes) xs now c s v ps os n z = last-row xs c k now 0 (z ∙ ap (λ (x : ℕ). x + 1) n)
+time-row l _ xs now c s v ps os n z = refl
 
-making-row : (d : Deed) (xs : List (Option Making)) (o : ℕ) (v : Sight) (ps : List ℕ) (os : List Opener) → v.objects ≡ length xs → Comes v ps os (sort_of d) → from_one (grown (is_some (makes d)) (makes d) xs) o None ≡ made_or (makes d) o (from_one xs o None)
-making-row (deed.Made (Some k) (Some a) class iface hr) xs o v ps os n z = last-row xs o k _ None (z ∙ ap (λ (x : ℕ). x + 1) n)
-making-row (deed.Made (Some k) None class iface hr) xs o v ps os n z = refl
-making-row (deed.Made None a class iface hr) xs o v ps os n z = refl
-making-row _ xs o v ps os n z = refl
+making-row : (d : Deed) (xs : List (Option Making)) (o : ℕ) (s : Scenario) (v : Sight) (ps : List ℕ) (os : List Opener) → v.objects ≡ length xs → Comes s v ps os (sort_of d) → from_one (grown (is_some (makes d)) (makes d) xs) o None ≡ made_or (makes d) o (from_one xs o None)
+making-row (deed.Made (Some k) (Some a) class iface hr) xs o s v ps os n z = last-row xs o k _ None (z ∙ ap (λ (x : ℕ). x + 1) n)
+making-row (deed.Made (Some k) None class iface hr) xs o s v ps os n z = refl
+making-row (deed.Made None a class iface hr) xs o s v ps os n z = refl
+making-row _ xs o s v ps os n z = refl
 
 one-more : (x : Option Making) (n : ℕ) → count_if (is_some x) + n ≡ one_more x n
 one-more None n = omega arith
@@ -91,37 +91,16 @@ pub objects-after : (s : Scenario) (st : State) (h : List Entry) (l : ℕ) (d : 
 objects-after s st h l d q p =
     record {
       number = length-grown (is_some (makes d)) (makes d) st.makings ∙ ap (λ (n : ℕ). count_if (is_some (makes d)) + n) p.number ∙ one-more (makes d) (objects h);
-      makings = λ o. making-row d st.makings o (sight s h) (postings h) (openers h l) (sym p.number) (next-comes s h l d q.1) ∙ ap (made_or (makes d) o) (p.makings o);
+      makings = λ o. making-row d st.makings o s (sight s h) (postings h) (openers h l) (sym p.number) (next-comes s h l d q.1) ∙ ap (made_or (makes d) o) (p.makings o);
       finaled = λ o. member-last o st.finaled (finals d) ∙ ap (λ (b : Bool). is_number o (finals d) || b) (p.finaled o);
     }
-
--- A lane that has a next entry is one of the scenario's.
-no-sort : (a b c e : Bool) → a ≡ false → b ≡ false → c ≡ false → e ≡ false → cond a NoLane (cond b Thread (cond c Host (cond e Pool NoLane))) ≡ NoLane
-no-sort false false false false p q r t = refl
-no-sort true b c e p q r t = cc
-no-sort false true c e p q r t = cc
-no-sort false false true e p q r t = cc
-no-sort false false false true p q r t = cc
-
-lane-within : (s : Scenario) (h : List Entry) (l : ℕ) (d : Deed) (b : Bool) → nat_le l (lanes s) ≡ b → next s h l ≡ Some d → l ≤ lanes s
-lane-within s h l d true e q = grind (arith, common_steps)
-lane-within s h l d false e q =
-    let f : lanes s < l = grind (arith, common_steps) in
-    let m : threads s + 1 + s.pool ≡ lanes s = refl in
-    let a : (l == 0) ≡ false = false_from_ne_true (l == 0) (λ t. let z : l ≡ 0 = eqb-true l 0 t in omega (arith, z, f)) in
-    let b : nat_le l (threads s) ≡ false = grind (arith, common_steps) in
-    let c : (l == host_lane s) ≡ false = false_from_ne_true (l == host_lane s) (λ t. let z : l ≡ threads s + 1 = eqb-true l (host_lane s) t in omega (arith, z, f, m)) in
-    let sort : lane_sort s l ≡ NoLane = no-sort (l == 0) (nat_le l (threads s)) (l == host_lane s) (nat_le l (lanes s)) a b c e in
-    let none : next s h l ≡ None = ap (λ (x : LaneSort). next_by s (sight s h) x l) sort ∙ ap (λ (t : Bool). cond t (ticks s (sight s h)) None) a in
-    cc
 
 pub calls-after : (s : Scenario) (st : State) (h : List Entry) (l : ℕ) (d : Deed) → legal s (record { lane = l; deed = d } ∷ h) → LanesStand s st h → st.clock ≡ clock h → CallsStand st h → CallsStand (after s st l d) (record { lane = l; deed = d } ∷ h)
 calls-after s st h l d q stand time p =
     let e : Entry = record { lane = l; deed = d } in
     let b : Bool = is_some (issues l d) in
-    let z : Comes (sight s h) (postings h) (openers h l) (sort_of d) = next-comes s h l d q.1 in
+    let z : Comes s (sight s h) (postings h) (openers h l) (sort_of d) = next-comes s h l d q.1 in
     let r : (c : ℕ) → Outside (count_if b + calls h) c → Names (Apart c) (call_named d) = λ c o. names-all (InRange (calls (e ∷ h))) (Apart c) (λ k. apart-of (calls (e ∷ h)) c k o) (call_named d) (named-in-range s h e q) in
-    let within : l ≤ lanes s = lane-within s h l d (nat_le l (lanes s)) refl q.1 in
     record {
       number = length-grown b (issues l d) st.issues ∙ ap (λ (n : ℕ). count_if b + n) p.number;
       rows = (
@@ -131,14 +110,14 @@ calls-after s st h l d q stand time p =
         length-each _ 1 (grown b Unposted st.phases) ∙ length-grown b Unposted st.phases ∙ ap (λ (n : ℕ). count_if b + n) p.rows.3,
         length-grown b st.clock st.times ∙ ap (λ (n : ℕ). count_if b + n) p.rows.4,
       );
-      issues = λ c. issue-row l d st.issues c (sight s h) (postings h) (openers h l) (sym p.number) z ∙ ap (issue_or (issues l d) c) (p.issues c);
+      issues = λ c. issue-row l d st.issues c s (sight s h) (postings h) (openers h l) (sym p.number) z ∙ ap (issue_or (issues l d) c) (p.issues c);
       admissions = table-after (λ c x. admission_or (admits l d) c x) st.admissions b None (admitted h) (calls h) p.rows.0 p.admissions (λ c o. admission-none l d c (r c o));
       leavings = table-after (λ c x. leaving_or (leaves d) c x) st.leavings b None (left h) (calls h) p.rows.1 p.leavings (λ c o. leaving-none d c (r c o));
       returned = table-after (λ c x. is_number c (returns d) || x) st.returned b false (returned h) (calls h) p.rows.2 p.returned (λ c o. returned-none d c (r c o));
       phases = λ c. table-after (λ c x. phase_after (post_effect d) st.clock c x) st.phases b Unposted (phase h) (calls h) p.rows.3 p.phases (λ c o. phase-none d st.clock c (r c o)) c ∙ ap (λ (t : ℕ). phase_after (post_effect d) t c (phase h c)) time;
-      times = λ c. time-row l d st.times st.clock c (sight s h) (postings h) (openers h l) (sym p.rows.4) z ∙ ap₂ (λ (t x : ℕ). time_or (issues l d) c t x) time (p.times c);
+      times = λ c. time-row l d st.times st.clock c s (sight s h) (postings h) (openers h l) (sym p.rows.4) z ∙ ap₂ (λ (t x : ℕ). time_or (issues l d) c t x) time (p.times c);
       postings = ap (posted_last (post_effect d)) p.postings;
-      causes = ap₂ (λ (os : List Opener) (n : ℕ). count_if (b && is_none (running_call os)) + n) (stand.openers l within) p.causes;
+      causes = ap₂ (λ (os : List Opener) (n : ℕ). count_if (b && is_none (running_call os)) + n) (stand.openers l) p.causes;
     }
 
 pub entries-after : (s : Scenario) (st : State) (h : List Entry) (l : ℕ) (d : Deed) → st.entries ≡ length h → (after s st l d).entries ≡ length (record { lane = l; deed = d } ∷ h)

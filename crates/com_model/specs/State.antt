@@ -369,15 +369,15 @@ pub record SameBooks (b c : Books) : Type 0 where
 -- One clause for each part.
 pub record LanesStand (s : Scenario) (st : State) (h : List Entry) : Type 0 where
   pub rows : (length st.openers ≡ lanes s + 1) × (length st.served ≡ lanes s + 1) × (length st.homes ≡ lanes s + 1) × (length st.counts ≡ lanes s + 1) × (length st.made ≡ lanes s + 1) × (length st.over ≡ lanes s + 1) × (length st.filters ≡ lanes s + 1) × (length st.mail ≡ lanes s + 1) × (length st.quits ≡ lanes s + 1)
-  pub openers : (l : ℕ) → l ≤ lanes s → openers_in st l ≡ openers h l
-  pub served : (l : ℕ) → l ≤ lanes s → served_in st l ≡ served h l
-  pub homes : (l : ℕ) → l ≤ lanes s → slice_index_or st.homes l None ≡ thread_home h l
-  pub counts : (l : ℕ) → l ≤ lanes s → slice_index_or st.counts l 0 ≡ init_count h l
-  pub made : (l a : ℕ) → l ≤ lanes s → is_member a (slice_index_or st.made l []) ≡ made_in h l a
-  pub over : (l : ℕ) → l ≤ lanes s → slice_index_or st.over l false ≡ over h l
-  pub filters : (l : ℕ) → l ≤ lanes s → slice_index_or st.filters l None ≡ last_filter h l
-  pub mail : (l : ℕ) → l ≤ lanes s → slice_index_or st.mail l no_mail ≡ mail h l
-  pub quits : (l : ℕ) → l ≤ lanes s → slice_index_or st.quits l false ≡ quit_stands h l
+  pub openers : (l : ℕ) → openers_in st l ≡ openers h l
+  pub served : (l : ℕ) → served_in st l ≡ served h l
+  pub homes : (l : ℕ) → slice_index_or st.homes l None ≡ thread_home h l
+  pub counts : (l : ℕ) → slice_index_or st.counts l 0 ≡ init_count h l
+  pub made : (l a : ℕ) → is_member a (slice_index_or st.made l []) ≡ made_in h l a
+  pub over : (l : ℕ) → slice_index_or st.over l false ≡ over h l
+  pub filters : (l : ℕ) → slice_index_or st.filters l None ≡ last_filter h l
+  pub mail : (l : ℕ) → slice_index_or st.mail l no_mail ≡ mail h l
+  pub quits : (l : ℕ) → slice_index_or st.quits l false ≡ quit_stands h l
 
 pub record ApartmentsStand (st : State) (h : List Entry) : Type 0 where
   pub stas : st.stas ≡ stas h

@@ -36,7 +36,7 @@ pub fn once_each()
 /// makes a legal history, those of objects, and of calls but for their answers (issues, entries, leaves and returns, phases, times
 /// and causalities).
 pub fn tables_stand()
-    ensures lanes { (s : Scenario) (st : State) (h : List Entry) (l : ℕ) (d : Deed) → LanesStand s st h → LanesStand s (after s st l d) (record { lane = l; deed = d } ∷ h) }
+    ensures lanes { (s : Scenario) (st : State) (h : List Entry) (l : ℕ) (d : Deed) → next s h l ≡ Some d → LanesStand s st h → LanesStand s (after s st l d) (record { lane = l; deed = d } ∷ h) }
     ensures apartments { (s : Scenario) (st : State) (h : List Entry) (l : ℕ) (d : Deed) → ApartmentsStand st h → ApartmentsStand (after s st l d) (record { lane = l; deed = d } ∷ h) }
     ensures objects { (s : Scenario) (st : State) (h : List Entry) (l : ℕ) (d : Deed) → legal s (record { lane = l; deed = d } ∷ h) → ObjectsStand st h → ObjectsStand (after s st l d) (record { lane = l; deed = d } ∷ h) }
     ensures calls { (s : Scenario) (st : State) (h : List Entry) (l : ℕ) (d : Deed) → legal s (record { lane = l; deed = d } ∷ h) → LanesStand s st h → st.clock ≡ clock h → CallsStand st h → CallsStand (after s st l d) (record { lane = l; deed = d } ∷ h) }

@@ -1,4 +1,5 @@
-use Rattle.com_model.proofs.Stands.{lanes-after, apartments-after, clock-after}
+use Rattle.com_model.proofs.Stands.{apartments-after, clock-after}
+use Rattle.com_model.proofs.Lanes.{lanes-after}
 use Rattle.com_model.proofs.Rows.{objects-after, calls-after, entries-after}
 use Rattle.com_model.proofs.laws.tables_stand.Goals as goal
 
