@@ -4,3 +4,6 @@ pub mod Stands
 pub mod Comes
 pub mod Onces
 pub mod Cases
+pub mod Tabled
+pub mod Rows
+pub mod Lanes

@@ -12,7 +12,7 @@ use Rattle.com_model.specs.declared.deeds.Entry.{Entry}
 use Rattle.com_model.specs.declared.scenario.Scenario.{Scenario}
 use Rattle.com_model.specs.Answers.{S_OK}
 use Rattle.com_model.specs.Lists.{or_else, first, is_number, is_member, count_if, number_or_zero, each_from, tabulated, from_one}
-use Rattle.com_model.specs.Tables.{lanes, threads, lane_sort, class_model, is_agile_model}
+use Rattle.com_model.specs.Tables.{lanes, threads, lane_sort, is_agile_class}
 use Rattle.com_model.specs.Openers.{Opener, effect_on, opened, left_on, running_call, entered_apartment, openers, served}
 use Rattle.com_model.specs.Apartments.{home_effect_on, home_after, home_by_sort, count_after, makes_sta, ends_sta, with_last, or_host, serves_by_sort, is_end, thread_home, init_count, stas, ended, made_in, over}
 use Rattle.com_model.specs.Objects.{Making, makes, finals, making, objects, finaled}
@@ -113,7 +113,7 @@ abbrev pub class_in : State → ℕ → ℕ
 class_in st o = number_or_zero (option_map (λ (m : Making). m.class) (making_in st o))
 
 abbrev pub agile_in : Scenario → State → ℕ → Bool
-agile_in s st o = is_agile_model (class_model s (class_in st o))
+agile_in s st o = is_agile_class s (class_in st o)
 
 abbrev pub owns_in : Scenario → State → ℕ → ℕ → Bool
 owns_in s st o a = agile_in s st o || a == named_in st o
@@ -369,15 +369,15 @@ pub record SameBooks (b c : Books) : Type 0 where
 -- One clause for each part.
 pub record LanesStand (s : Scenario) (st : State) (h : List Entry) : Type 0 where
   pub rows : (length st.openers ≡ lanes s + 1) × (length st.served ≡ lanes s + 1) × (length st.homes ≡ lanes s + 1) × (length st.counts ≡ lanes s + 1) × (length st.made ≡ lanes s + 1) × (length st.over ≡ lanes s + 1) × (length st.filters ≡ lanes s + 1) × (length st.mail ≡ lanes s + 1) × (length st.quits ≡ lanes s + 1)
-  pub openers : (l : ℕ) → l ≤ lanes s → openers_in st l ≡ openers h l
-  pub served : (l : ℕ) → l ≤ lanes s → served_in st l ≡ served h l
-  pub homes : (l : ℕ) → l ≤ lanes s → slice_index_or st.homes l None ≡ thread_home h l
-  pub counts : (l : ℕ) → l ≤ lanes s → slice_index_or st.counts l 0 ≡ init_count h l
-  pub made : (l a : ℕ) → l ≤ lanes s → is_member a (slice_index_or st.made l []) ≡ made_in h l a
-  pub over : (l : ℕ) → l ≤ lanes s → slice_index_or st.over l false ≡ over h l
-  pub filters : (l : ℕ) → l ≤ lanes s → slice_index_or st.filters l None ≡ last_filter h l
-  pub mail : (l : ℕ) → l ≤ lanes s → slice_index_or st.mail l no_mail ≡ mail h l
-  pub quits : (l : ℕ) → l ≤ lanes s → slice_index_or st.quits l false ≡ quit_stands h l
+  pub openers : (l : ℕ) → openers_in st l ≡ openers h l
+  pub served : (l : ℕ) → served_in st l ≡ served h l
+  pub homes : (l : ℕ) → slice_index_or st.homes l None ≡ thread_home h l
+  pub counts : (l : ℕ) → slice_index_or st.counts l 0 ≡ init_count h l
+  pub made : (l a : ℕ) → is_member a (slice_index_or st.made l []) ≡ made_in h l a
+  pub over : (l : ℕ) → slice_index_or st.over l false ≡ over h l
+  pub filters : (l : ℕ) → slice_index_or st.filters l None ≡ last_filter h l
+  pub mail : (l : ℕ) → slice_index_or st.mail l no_mail ≡ mail h l
+  pub quits : (l : ℕ) → slice_index_or st.quits l false ≡ quit_stands h l
 
 pub record ApartmentsStand (st : State) (h : List Entry) : Type 0 where
   pub stas : st.stas ≡ stas h
@@ -388,19 +388,23 @@ pub record ObjectsStand (st : State) (h : List Entry) : Type 0 where
   pub makings : (o : ℕ) → making_in st o ≡ making h o
   pub finaled : (o : ℕ) → is_member o st.finaled ≡ finaled h o
 
-pub record CallsStand (s : Scenario) (st : State) (h : List Entry) : Type 0 where
+pub record CallsStand (st : State) (h : List Entry) : Type 0 where
   pub number : length st.issues ≡ calls h
+  pub rows : (length st.admissions ≡ calls h) × (length st.leavings ≡ calls h) × (length st.returned ≡ calls h) × (length st.phases ≡ calls h) × (length st.times ≡ calls h)
   pub issues : (c : ℕ) → issue_in st c ≡ issue h c
   pub admissions : (c : ℕ) → admitted_in st c ≡ admitted h c
   pub leavings : (c : ℕ) → left_in st c ≡ left h c
   pub returned : (c : ℕ) → returned_in st c ≡ returned h c
-  pub endings : (c : ℕ) → ending_in st c ≡ ending s h c
-  pub refusals : (c : ℕ) → from_one st.refusals c S_OK ≡ at_issue s h c
-  pub sent : (c : ℕ) → from_one st.sent c [] ≡ sent s h c
   pub phases : (c : ℕ) → phase_in st c ≡ phase h c
   pub times : (c : ℕ) → from_one st.times c 0 ≡ issued_at h c
   pub postings : st.postings ≡ postings h
   pub causes : st.causes ≡ causes h
+
+pub record AnswersStand (s : Scenario) (st : State) (h : List Entry) : Type 0 where
+  pub rows : (length st.endings ≡ calls h) × (length st.refusals ≡ calls h) × (length st.sent ≡ calls h)
+  pub endings : (c : ℕ) → ending_in st c ≡ ending s h c
+  pub refusals : (c : ℕ) → from_one st.refusals c S_OK ≡ at_issue s h c
+  pub sent : (c : ℕ) → from_one st.sent c [] ≡ sent s h c
 
 -- The state stands for a legal history.
 pub record StandsFor (s : Scenario) (st : State) (h : List Entry) : Type 0 where
@@ -408,7 +412,8 @@ pub record StandsFor (s : Scenario) (st : State) (h : List Entry) : Type 0 where
   pub lanes : LanesStand s st h
   pub apartments : ApartmentsStand st h
   pub objects : ObjectsStand st h
-  pub calls : CallsStand s st h
+  pub calls : CallsStand st h
+  pub answers : AnswersStand s st h
   pub scene : SameScene (scene_in st) (scene s h)
   pub books : SameBooks (books_in st) (books s h)
   pub fallen : st.fallen ≡ fallen s h
