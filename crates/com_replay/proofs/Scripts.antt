@@ -1,5 +1,5 @@
 -- Reading the statements of a script one after another.
-use Rattle.std.proofs.Common.{◌≡◌, ℕ, suc, ◌<◌, ◌+◌, ◌≤◌, List, [], ◌∷◌, ◌++◌, length, refl, sym, ◌∙◌, ap, arith, append_assoc, append-nil, length-append, Bool, true, false, Option, Some, None, All, nat_le, if◌then◌else◌, slice_index_or, subst}
+use Rattle.std.proofs.Common.{◌≡◌, suc, ◌<◌, ◌+◌, ◌≤◌, List, [], ◌∷◌, ◌++◌, length, refl, sym, ◌∙◌, ap, arith, append_assoc, append-nil, length-append, true, false, Option, Some, None, All, subst}
 use Rattle.std.specs.Prelude.{option_and_then}
 use Rattle.com_body.specs.declared.statements.Stmt.{Stmt}
 use Rattle.com_body.specs.Bodies.{IsInRange}

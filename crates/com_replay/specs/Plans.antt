@@ -2,7 +2,6 @@
 use Rattle.std.specs.Prelude.{ℤ, ℕ, ◌==◌, List, [], ◌∷◌, Bool, true, false, ◌&&◌, Option, Some, None, nat_le, if◌then◌else◌, length, option_and_then}
 use Rattle.std.specs.Option.{option_map}
 use Rattle.com_base.specs.declared.value.Value.TheVariants as value
-use Rattle.com_base.specs.declared.value.Mode.{Mode}
 use Rattle.com_base.specs.declared.value.Mode.TheVariants as mode
 use Rattle.com_body.specs.declared.frame.Native.{Native}
 use Rattle.com_body.specs.declared.frame.Native.TheVariants as native
