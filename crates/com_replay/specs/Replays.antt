@@ -1,5 +1,5 @@
 -- What a replay writes, and what it answers.
-use Rattle.std.specs.Prelude.{◌≡◌, ℕ, List, ◌++◌, Option, length}
+use Rattle.std.specs.Prelude.{◌≡◌, ℕ, List, [], ◌++◌, Option, length}
 use Rattle.com_io.specs.Told.{Gains}
 use Rattle.com_model.specs.declared.counts.Ended.TheVariants as ended
 use Rattle.com_model.specs.Text.{history_text, report_text}
@@ -8,18 +8,29 @@ use Rattle.com_core.specs.Standing.{standing}
 use Rattle.com_core.specs.Counts.{all_counts}
 use Rattle.com_core.specs.Histories.{scheduled_history}
 use Rattle.com_replay.specs.declared.Replayed.{Replayed}
+use Rattle.com_replay.specs.declared.plan.Plan.{Plan}
+use Rattle.com_replay.specs.declared.plan.Plan.TheVariants as plan
 
--- The report behind the one history. A history of this form is always finished, and has no clock.
+-- The report behind the one history of a thread. A history of this form is always finished, and has no clock.
 unfoldable pub report_of : List Step → List ℕ
 report_of s = report_text (all_counts (standing s (scheduled_history s))) (length (scheduled_history s)) 0 ended.Ok
 
--- The whole text: the lines of the one history, and the report.
-unfoldable pub text_of : List Step → List ℕ
-text_of s = history_text 1 (scheduled_history s) ++ report_of s
+-- The whole text of a thread: the lines of the one history, and the report.
+unfoldable pub thread_text : ℕ → List Step → List ℕ
+thread_text version s = history_text version (scheduled_history s) ++ report_of s
 
--- The answer: how it ended, how many entries there are, and the clock.
-unfoldable pub replayed_of : List Step → Replayed
-replayed_of s = record { ended = ended.Ok; entries = length (scheduled_history s); clock = 0 }
+-- The answer for a thread: how it ended, how many entries there are, and the clock.
+unfoldable pub thread_replayed : List Step → Replayed
+thread_replayed s = record { ended = ended.Ok; entries = length (scheduled_history s); clock = 0 }
+
+-- The whole text of a plan. A history without entries has a report alone.
+abbrev pub text_of : Plan → List ℕ
+text_of plan.Idle = report_text [] 0 0 ended.Ok
+text_of (plan.Thread version s) = thread_text version s
+
+abbrev pub replayed_of : Plan → Replayed
+replayed_of plan.Idle = record { ended = ended.Ok; entries = 0; clock = 0 }
+replayed_of (plan.Thread version s) = thread_replayed s
 
 -- A text goes on by a line: some of it was written to the sink, and the rest is kept for later.
 pub record GoesOn (old new : Option (List ℕ)) (kept_old kept_new line : List ℕ) : Type 0 where

@@ -1,5 +1,5 @@
-//! The driver of a replay: it makes the entries of a script one after another by the schedule, writes their
-//! lines and then the report.
+//! The driver of a replay: what a scenario asks of the core, and its history: the entries one after another by
+//! the schedule, their lines, and then the report.
 #![tactic(auto)]
 
 ghost use Rattle.std.specs.Prelude.{◌≡◌, ℕ, ◌≤◌, ◌++◌, List, [], Option, IfOk, OnOk, OnErr, Err};
@@ -8,15 +8,18 @@ ghost use Rattle.com_io.specs.Told.{Gains, GainsPrefix};
 ghost use Rattle.com_model.specs.Text.{line_text, report_text};
 ghost use Rattle.com_core.specs.Counts.{all_counts};
 ghost use Rattle.com_model.specs.declared.counts.Ended.TheVariants as ended;
-ghost use Rattle.com_replay.specs.Replays.{text_of, replayed_of, GoesOn};
+ghost use Rattle.com_replay.specs.Replays.{text_of, replayed_of, thread_text, thread_replayed, GoesOn};
 ghost use Rattle.com_replay.specs.declared.ReplayError.TheVariants as replay_error;
+
+mod plan;
 
 use com_base::ByteList;
 pub use com_base::Memory;
 use com_core::{Core, Script};
 use com_io::{Sink, write_all};
-use com_model::{Ended, Entry};
+use com_model::{Counts, Ended, Entry};
 use com_report::{line, report};
+pub use plan::{Plan, plan_of};
 use std::alloc::{AllocError, Global};
 
 /// What a replay has made: how its history ended, how many entries it has, and where its clock stands, in
@@ -54,14 +57,36 @@ const LIMIT: u64 = 200_000;
 /// Lines are written together once they have this many bytes.
 const PIECE: usize = 32_768;
 
-/// Makes the one history of a script, and writes its lines and the report to the sink.
+/// Makes the one history of a plan, and writes its lines and the report to the sink.
 ///
 /// `WriteFault` comes only where the sink's count of faults rose in this call. Whatever is answered, what
 /// was written is a prefix of the whole text.
-pub fn replay<K: Sink>(alloc: Global, script: Script, sink: &mut K) -> Result<Replayed, ReplayError>
-    ensures ok { OnOk result (Gains (K.held sink.old) (K.held sink.new) (text_of script)) }
-    ensures answer { IfOk result (λ replayed. replayed ≡ replayed_of script) }
-    ensures prefix { GainsPrefix (K.held sink.old) (K.held sink.new) (text_of script) }
+pub fn replay<K: Sink>(alloc: Global, plan: Plan, sink: &mut K) -> Result<Replayed, ReplayError>
+    ensures ok { OnOk result (Gains (K.held sink.old) (K.held sink.new) (text_of plan)) }
+    ensures answer { IfOk result (λ replayed. replayed ≡ replayed_of plan) }
+    ensures prefix { GainsPrefix (K.held sink.old) (K.held sink.new) (text_of plan) }
+    ensures fault { result ≡ Err replay_error.WriteFault → Rose (K.faults_of sink.old) (K.faults_of sink.new) }
+    ensures counts { K.faults_of sink.old ≤ K.faults_of sink.new }
+{
+    match plan {
+        Plan::Idle => {
+            let mut kept = ByteList::new(alloc);
+            tell(alloc, &[], 0, &mut kept, sink)
+        }
+        Plan::Thread { version, script } => replay_thread(alloc, version, script, sink),
+    }
+}
+
+// Makes the one history of a script.
+fn replay_thread<K: Sink>(
+    alloc: Global,
+    version: u8,
+    script: Script,
+    sink: &mut K,
+) -> Result<Replayed, ReplayError>
+    ensures ok { OnOk result (Gains (K.held sink.old) (K.held sink.new) (thread_text version script)) }
+    ensures answer { IfOk result (λ replayed. replayed ≡ thread_replayed script) }
+    ensures prefix { GainsPrefix (K.held sink.old) (K.held sink.new) (thread_text version script) }
     ensures fault { result ≡ Err replay_error.WriteFault → Rose (K.faults_of sink.old) (K.faults_of sink.new) }
     ensures counts { K.faults_of sink.old ≤ K.faults_of sink.new }
 {
@@ -69,7 +94,7 @@ pub fn replay<K: Sink>(alloc: Global, script: Script, sink: &mut K) -> Result<Re
     let mut kept = ByteList::new(alloc);
     for place in 0..LIMIT {
         match core.advance()? {
-            Some(entry) => show(alloc, place + 1, &entry, &mut kept, sink)?,
+            Some(entry) => show(alloc, version, place + 1, &entry, &mut kept, sink)?,
             None => return finish(alloc, &core, place, &mut kept, sink),
         }
     }
@@ -80,17 +105,18 @@ pub fn replay<K: Sink>(alloc: Global, script: Script, sink: &mut K) -> Result<Re
 // Adds the line of an entry to those that are kept, and writes them once they are many.
 fn show<K: Sink>(
     alloc: Global,
+    version: u8,
     place: u64,
     entry: &Entry,
     kept: &mut ByteList,
     sink: &mut K,
 ) -> Result<(), ReplayError>
-    ensures ok { OnOk result (GoesOn (K.held sink.old) (K.held sink.new) kept.old kept.new (line_text 1 place entry.now)) }
-    ensures prefix { GainsPrefix (K.held sink.old) (K.held sink.new) (kept.old ++ line_text 1 place entry.now) }
+    ensures ok { OnOk result (GoesOn (K.held sink.old) (K.held sink.new) kept.old kept.new (line_text version place entry.now)) }
+    ensures prefix { GainsPrefix (K.held sink.old) (K.held sink.new) (kept.old ++ line_text version place entry.now) }
     ensures fault { result ≡ Err replay_error.WriteFault → Rose (K.faults_of sink.old) (K.faults_of sink.new) }
     ensures counts { K.faults_of sink.old ≤ K.faults_of sink.new }
 {
-    line(alloc, 1, place, entry, kept)?;
+    line(alloc, version, place, entry, kept)?;
     if kept.len() < PIECE {
         return Ok(());
     }
@@ -114,8 +140,8 @@ fn send<K: Sink>(kept: &mut ByteList, sink: &mut K) -> Result<(), ReplayError>
     }
 }
 
-#[tactic(auto, using(com_io::proofs::Passing::prefix_of_none, crate::proofs::Lines::sent_prefix))]
-// Writes what is kept and the report.
+#[tactic(auto, using(com_io::proofs::Passing::prefix_of_none))]
+// Writes what is kept and the report of a core.
 fn finish<K: Sink>(
     alloc: Global,
     core: &Core,
@@ -130,7 +156,25 @@ fn finish<K: Sink>(
     ensures counts { K.faults_of sink.old ≤ K.faults_of sink.new }
 {
     let counts = core.counts()?;
-    report(alloc, counts.as_slice(), entries, 0, Ended::Ok, kept)?;
+    tell(alloc, counts.as_slice(), entries, kept, sink)
+}
+
+#[tactic(auto, using(com_io::proofs::Passing::prefix_of_none, crate::proofs::Lines::sent_prefix))]
+// Writes what is kept and the report.
+fn tell<K: Sink>(
+    alloc: Global,
+    counts: &[Counts],
+    entries: u64,
+    kept: &mut ByteList,
+    sink: &mut K,
+) -> Result<Replayed, ReplayError>
+    ensures ok { OnOk result (Gains (K.held sink.old) (K.held sink.new) (kept.old ++ report_text counts.now entries 0 ended.Ok)) }
+    ensures answer { IfOk result (λ replayed. replayed ≡ record { ended = ended.Ok; entries = entries; clock = 0 }) }
+    ensures prefix { GainsPrefix (K.held sink.old) (K.held sink.new) (kept.old ++ report_text counts.now entries 0 ended.Ok) }
+    ensures fault { result ≡ Err replay_error.WriteFault → Rose (K.faults_of sink.old) (K.faults_of sink.new) }
+    ensures counts { K.faults_of sink.old ≤ K.faults_of sink.new }
+{
+    report(alloc, counts, entries, 0, Ended::Ok, kept)?;
     send(kept, sink)?;
     Ok(Replayed {
         ended: Ended::Ok,

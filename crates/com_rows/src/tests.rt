@@ -2,6 +2,7 @@
 use com_base::ByteList;
 use com_io::{MemorySink, MemorySource};
 use com_top::{com_main, objref_main, replay_main};
+use std::alloc::Global;
 use std::test::Fail;
 
 const DIRECT_CALL: &[u8] =
@@ -16,9 +17,19 @@ const NULL_CALL: &[u8] =
 const NULL_CALL_TEXT: &[u8] =
     b"1 L1 init sta a3 S_OK\n2 L1 out c1 - I1.0 none cause1 -\n3 L1 back c1 E_POINTER ()\n4 L1 uninit a3 0\n5 L1 end\nentries 5 clock 0\nend ok\n";
 
+const VERSION_2_CALL: &[u8] =
+    b"scenario 2\nnative Cnt {5C0B00C1-0000-4000-8000-000000000001} Both counter\nthread\ninit sta\ncreate s0 Cnt ICounter\ncall s0 ICounter.add 5 -> r1\nrelease s0\nuninit\nend\n";
+
+const VERSION_2_CALL_TEXT: &[u8] =
+    b"1 L1 init sta a3 00000000\n2 L1 made o1 a3 C1 I1 00000000\n3 L1 out c1 o1 I1.0 direct cause1 -\n4 L1 enter c1 o1 a3 - (5)\n5 L1 leave c1 00000000 (5) -\n6 L1 back c1 00000000 (5)\n7 L1 release o1 I1\n8 L1 final o1\n9 L1 uninit a3 0\n10 L1 end\no1 C1 a3 released direct 0 proxies 0 packets 0 tables 0 stub 0\nentries 10 clock 0\nend ok\n";
+
 #[test]
-fn a_direct_call_and_a_call_on_null_are_written_whole(rt: HostRuntime) -> Result<(), Fail> {
-    let cases = [(DIRECT_CALL, DIRECT_CALL_TEXT), (NULL_CALL, NULL_CALL_TEXT)];
+fn worked_cases_are_written_whole(rt: HostRuntime) -> Result<(), Fail> {
+    let cases = [
+        (DIRECT_CALL, DIRECT_CALL_TEXT),
+        (NULL_CALL, NULL_CALL_TEXT),
+        (VERSION_2_CALL, VERSION_2_CALL_TEXT),
+    ];
     for (input, text) in cases {
         let bytes = ByteList::from_slice(rt.alloc(), input)?;
         let mut source = MemorySource::new(bytes, 1000, Vec::new(rt.alloc()));
@@ -59,8 +70,25 @@ fn a_first_write_that_fails_leaves_nothing_written(rt: HostRuntime) -> Result<()
     Ok(())
 }
 
+/// What `replay` answers for a text, and what it writes.
+fn replayed(alloc: Global, text: ByteList) -> Result<(u8, ByteList), Fail> {
+    let mut source = MemorySource::new(text, 65_536, Vec::new(alloc));
+    let mut sink = MemorySink::new(alloc, 10_000, 1000, Vec::new(alloc))?;
+    let status = replay_main(alloc, &mut source, &mut sink);
+    Ok((status, ByteList::from_slice(alloc, sink.held())?))
+}
+
+/// A text of this length: a front, and then spaces.
+fn padded(alloc: Global, front: &[u8], length: usize) -> Result<ByteList, Fail> {
+    let mut text = ByteList::from_slice(alloc, front)?;
+    for _ in front.len()..length {
+        text.push_all(b" ")?;
+    }
+    Ok(text)
+}
+
 #[test]
-fn other_words_and_other_inputs_are_refused_by_name(rt: HostRuntime) -> Result<(), Fail> {
+fn other_words_are_usage_and_read_nothing(rt: HostRuntime) -> Result<(), Fail> {
     let words = vec![in rt.alloc(); String::from_str(rt.alloc(), "-h")?]?;
     let mut source = MemorySource::new(
         ByteList::from_slice(rt.alloc(), b"x")?,
@@ -75,8 +103,100 @@ fn other_words_and_other_inputs_are_refused_by_name(rt: HostRuntime) -> Result<(
     assert_eq!(rt; replay_main(rt.alloc(), &mut source, &mut sink), 2);
     assert_eq!(rt;
         sink.held(),
-        b"usage: comrun replay|objref\nrefused 0 0 13\n".as_slice()
+        b"usage: comrun replay|objref\nrefused 1 1 1\n".as_slice()
     );
+    Ok(())
+}
+
+#[test]
+fn a_text_that_is_no_scenario_is_refused_at_its_first_fault(rt: HostRuntime) -> Result<(), Fail> {
+    let cases: [(&[u8], &[u8]); 6] = [
+        (b"".as_slice(), b"refused 1 1 1\n".as_slice()),
+        (b"scenario 3".as_slice(), b"refused 1 10 1\n".as_slice()),
+        (
+            b"scenario 1\npool 9\n".as_slice(),
+            b"refused 2 6 6\n".as_slice(),
+        ),
+        (
+            b"scenario 1\nthread\ninit".as_slice(),
+            b"refused 3 5 4\n".as_slice(),
+        ),
+        (
+            b"scenario 1\nthread\ninit foo".as_slice(),
+            b"refused 3 6 3\n".as_slice(),
+        ),
+        (
+            b"scenario 1\nthread\ninit sta\n".as_slice(),
+            b"refused 4 1 11\n".as_slice(),
+        ),
+    ];
+    for (text, line) in cases {
+        let (status, written) = replayed(rt.alloc(), ByteList::from_slice(rt.alloc(), text)?)?;
+        assert_eq!(rt; status, 2);
+        assert_eq!(rt; written.as_slice(), line);
+    }
+    Ok(())
+}
+
+#[test]
+fn a_scenario_that_needs_what_is_not_built_is_refused(rt: HostRuntime) -> Result<(), Fail> {
+    let cases: [&[u8]; 3] = [
+        b"scenario 1\nthread\nend\nthread\nend\n".as_slice(),
+        b"scenario 1\nthread\ninit mta\nend\n".as_slice(),
+        b"scenario 1\nthread\ninit sta\npump 1\nend\n".as_slice(),
+    ];
+    for text in cases {
+        let (status, written) = replayed(rt.alloc(), ByteList::from_slice(rt.alloc(), text)?)?;
+        assert_eq!(rt; status, 2);
+        assert_eq!(rt; written.as_slice(), b"refused 0 0 13\n".as_slice());
+    }
+    Ok(())
+}
+
+#[test]
+fn a_scenario_without_threads_ends_at_once(rt: HostRuntime) -> Result<(), Fail> {
+    let cases: [&[u8]; 3] = [
+        b"scenario 1\n".as_slice(),
+        b"scenario 2\n".as_slice(),
+        b"scenario 1\npool 3\nfilter F\nend\npicks 1 2\n".as_slice(),
+    ];
+    for text in cases {
+        let (status, written) = replayed(rt.alloc(), ByteList::from_slice(rt.alloc(), text)?)?;
+        assert_eq!(rt; status, 0);
+        assert_eq!(rt;
+            written.as_slice(),
+            b"entries 0 clock 0\nend ok\n".as_slice()
+        );
+    }
+    Ok(())
+}
+
+#[test]
+fn spelling_and_unused_sections_change_nothing(rt: HostRuntime) -> Result<(), Fail> {
+    let text =
+        b"; one call\nscenario 1 ; the header\npicks 3 1\n\nnative Cnt {5c0b00c1-0000-4000-8000-000000000001} Both counter\r\nnative Other {5C0B00C1-0000-4000-8000-000000000002} none latch\nthread\n\tinit  sta\n create s0 {5C0B00C1-0000-4000-8000-000000000001} {5C0B0001-0000-4000-8000-000000000001}\n call s0 ICounter.add 005 -> r1\n release s0\nend\npool 2";
+    let (status, written) = replayed(rt.alloc(), ByteList::from_slice(rt.alloc(), text)?)?;
+    assert_eq!(rt; status, 0);
+    assert_eq!(rt; written.as_slice(), DIRECT_CALL_TEXT);
+    Ok(())
+}
+
+#[test]
+fn the_longest_text_depends_on_the_version(rt: HostRuntime) -> Result<(), Fail> {
+    let cases: [(&[u8], usize, u8); 5] = [
+        (b"scenario 1\n".as_slice(), 1_048_576, 0),
+        (b"scenario 1\n".as_slice(), 1_048_577, 2),
+        (b"\n; note\nscenario 2 ; note\n".as_slice(), 1_048_577, 0),
+        (b"scenario 2\n".as_slice(), 16_777_217, 2),
+        (b"\x01\n".as_slice(), 1_048_577, 2),
+    ];
+    for (front, length, wanted) in cases {
+        let (status, written) = replayed(rt.alloc(), padded(rt.alloc(), front, length)?)?;
+        assert_eq!(rt; status, wanted);
+        if wanted == 2 {
+            assert_eq!(rt; written.as_slice(), b"refused 0 0 12\n".as_slice());
+        }
+    }
     Ok(())
 }
 

@@ -3,10 +3,12 @@
 
 mod built_in;
 mod reading;
+mod sizes;
 
 pub use com_base::Memory;
 pub use com_fields::ScenarioError;
 pub use reading::parse;
+pub use sizes::{LONGEST, is_too_long};
 
 #[cfg(test)]
 mod tests;

@@ -1,4 +1,3 @@
-pub mod Pieces
-pub mod Forms
+pub mod Inputs
 pub mod Statuses
 pub mod Replies

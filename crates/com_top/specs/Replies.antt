@@ -6,11 +6,16 @@ use Rattle.com_objref.specs.declared.Shown.{Shown}
 use Rattle.com_objref.specs.Shown.{shown_of}
 use Rattle.com_top.specs.declared.statuses.Status.{Status}
 use Rattle.com_top.specs.declared.statuses.Status.TheVariants as status
-use Rattle.com_top.specs.Statuses.{Sides, IsReadFault, code_of, longest_input, too_long_line, read_fault_line}
+use Rattle.com_top.specs.Inputs.{too_long_line}
+use Rattle.com_top.specs.Statuses.{Sides, IsReadFault, code_of, read_fault_line}
 
 -- The words that ask for it.
 abbrev pub IsObjRefWord : List (List ℕ) → Type 0
 IsObjRefWord words = words ≡ codes "objref" ∷ []
+
+-- The longest text of digits, in bytes.
+abbrev pub longest_digits : ℕ
+longest_digits = 1048576
 
 -- A status and the text that goes with it.
 pub record Reply : Type 0 where
@@ -30,7 +35,7 @@ too_long_reply = record { status = status.Refused; output = too_long_line }
 -- For an input that is not too long: 0 with its fields where it is hexadecimal text of an OBJREF, and 2 with the
 -- line of the first fault where it is not.
 abbrev pub reply_to : List ℕ → Reply
-reply_to bytes = if nat_lt longest_input (length bytes) then too_long_reply else shown_reply (shown_of bytes)
+reply_to bytes = if nat_lt longest_digits (length bytes) then too_long_reply else shown_reply (shown_of bytes)
 
 -- The sink gained the text that is answered for these bytes, and the status is theirs.
 abbrev pub IsReply : Status → List ℕ → Sides → Type 0

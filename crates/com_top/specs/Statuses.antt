@@ -1,12 +1,11 @@
 -- The exit statuses, and when each comes.
-use Rattle.std.specs.Prelude.{◌≡◌, ℕ, ◌<◌, ◌≤◌, ◌⊎◌, List, [], ◌∷◌, Option, Some, None, length, codes}
+use Rattle.std.specs.Prelude.{◌≡◌, ℕ, ◌⊎◌, List, [], ◌∷◌, Option, Some, codes}
 use Rattle.com_io.specs.Faults.{Rose}
 use Rattle.com_io.specs.Told.{Gains, GainsPrefix, IsAtEnd}
-use Rattle.com_core.specs.declared.script.Step.{Step}
-use Rattle.com_replay.specs.Replays.{text_of}
+use Rattle.com_top.specs.declared.inputs.Input.{Input}
 use Rattle.com_top.specs.declared.statuses.Status.{Status}
 use Rattle.com_top.specs.declared.statuses.Status.TheVariants as status
-use Rattle.com_top.specs.Forms.{script_of}
+use Rattle.com_top.specs.Inputs.{input_of, output_of, status_of}
 
 abbrev pub code_of : Status → ℕ
 code_of status.Done = 0
@@ -16,10 +15,6 @@ code_of status.ReadFault = 3
 code_of status.WriteFault = 4
 code_of status.Memory = 9
 
--- The longest input, in bytes.
-abbrev pub longest_input : ℕ
-longest_input = 1048576
-
 -- The words that ask for a replay.
 abbrev pub IsReplay : List (List ℕ) → Type 0
 IsReplay words = words ≡ codes "replay" ∷ []
@@ -27,36 +22,8 @@ IsReplay words = words ≡ codes "replay" ∷ []
 abbrev pub usage_line : List ℕ
 usage_line = codes "usage: comrun replay|objref\n"
 
-abbrev pub too_long_line : List ℕ
-too_long_line = codes "refused 0 0 12\n"
-
-abbrev pub not_of_the_form_line : List ℕ
-not_of_the_form_line = codes "refused 0 0 13\n"
-
 abbrev pub read_fault_line : List ℕ
 read_fault_line = codes "read fault\n"
-
--- What an input is: too long, a script of the first form, or another text.
-pub data Input : Type 0 where
-  TooLong : Input
-  Form : List Step → Input
-  Other : Input
-
-abbrev pub read_as : Option (List Step) → Input
-read_as (Some script) = Form script
-read_as None = Other
-
--- What is written for an input.
-abbrev pub output_of : Input → List ℕ
-output_of TooLong = too_long_line
-output_of (Form script) = text_of script
-output_of Other = not_of_the_form_line
-
--- An input of these bytes is that.
-abbrev pub IsInput : List ℕ → Input → Type 0
-IsInput bytes TooLong = longest_input < length bytes
-IsInput bytes (Form script) = (length bytes ≤ longest_input) × (script_of bytes ≡ Some script)
-IsInput bytes Other = (length bytes ≤ longest_input) × (script_of bytes ≡ None)
 
 -- The source and the sink before and after a call: the bytes that are left and held, where they tell them,
 -- and their counts of faults.
@@ -70,19 +37,16 @@ pub record Sides : Type 0 where
   pub write_faults : ℕ
   pub write_faults_after : ℕ
 
--- Status 0: the input was read to its end, it has the first form, and the sink gained its whole text.
-pub record IsDone (sides : Sides) : Type 0 where
-  pub at_end : IsAtEnd sides.left_after
-  pub script : List Step
-  pub form : (bytes : List ℕ) → sides.left ≡ Some bytes → IsInput bytes (Form script)
-  pub gained : Gains sides.held sides.held_after (text_of script)
+-- The input was answered: it is one that has this status, and the sink gained the whole text that is written for it.
+pub record IsWritten (s : Status) (sides : Sides) : Type 0 where
+  pub input : Input
+  pub which : (bytes : List ℕ) → sides.left ≡ Some bytes → input_of bytes ≡ input
+  pub answered : status_of input ≡ s
+  pub gained : Gains sides.held sides.held_after (output_of input)
 
--- Status 2: the input is too long or not of the form, and the sink gained the line that says so.
-pub record IsRefused (sides : Sides) : Type 0 where
-  pub reason : Input
-  pub no_form : (script : List Step) → reason ≡ Form script → ⊥
-  pub input : (bytes : List ℕ) → sides.left ≡ Some bytes → IsInput bytes reason
-  pub gained : Gains sides.held sides.held_after (output_of reason)
+-- Status 0: the input was read to its end, and the history of its scenario was written.
+abbrev pub IsDone : Sides → Type 0
+IsDone sides = IsAtEnd sides.left_after × IsWritten status.Done sides
 
 -- Status 3: the source's count rose in this call, and the sink gained the line that says so.
 pub record IsReadFault (sides : Sides) : Type 0 where
@@ -92,7 +56,7 @@ pub record IsReadFault (sides : Sides) : Type 0 where
 -- What was written is a prefix of what is written for the input, or of the line of a read fault that came.
 pub record WritesPart (sides : Sides) : Type 0 where
   pub text : List ℕ
-  pub whose : ((input : Input) × (text ≡ output_of input) × ((bytes : List ℕ) → sides.left ≡ Some bytes → IsInput bytes input))
+  pub whose : ((input : Input) × (text ≡ output_of input) × ((bytes : List ℕ) → sides.left ≡ Some bytes → input_of bytes ≡ input))
       ⊎ (Rose sides.read_faults sides.read_faults_after × (text ≡ read_fault_line))
   pub gained : GainsPrefix sides.held sides.held_after text
 
@@ -105,7 +69,7 @@ pub record IsWriteFault (sides : Sides) : Type 0 where
 abbrev pub HasCause : Status → Sides → Type 0
 HasCause status.Done sides = IsDone sides
 HasCause status.Usage sides = ⊥
-HasCause status.Refused sides = IsRefused sides
+HasCause status.Refused sides = IsWritten status.Refused sides
 HasCause status.ReadFault sides = IsReadFault sides
 HasCause status.WriteFault sides = IsWriteFault sides
 HasCause status.Memory sides = (sides.held_after ≡ sides.held) ⊎ WritesPart sides
@@ -129,17 +93,19 @@ IsSaid result wanted line held held_after faults faults_after =
     ((result ≡ wanted) × Gains held held_after line)
     ⊎ ((result ≡ 4) × Rose faults faults_after × GainsPrefix held held_after line)
 
--- The status that an input has where nothing fails.
-abbrev pub status_of : Input → ℕ
-status_of TooLong = 2
-status_of (Form script) = 0
-status_of Other = 2
+-- How an input was answered: by its status and its whole text, or a part of the text was written and the sink's count
+-- rose or memory wanted.
+abbrev pub IsAnswered : Status → Input → Option (List ℕ) → Option (List ℕ) → ℕ → ℕ → Type 0
+IsAnswered s input held held_after faults faults_after =
+    ((s ≡ status_of input) × Gains held held_after (output_of input))
+    ⊎ ((s ≡ status.WriteFault) × Rose faults faults_after × GainsPrefix held held_after (output_of input))
+    ⊎ ((s ≡ status.Memory) × GainsPrefix held held_after (output_of input))
 
--- The call was complete: the number is the input's status and the sink gained its whole text, or memory wanted.
+-- The call was complete: the number is the status of the input of these bytes and the sink gained its whole text, or
+-- memory wanted.
 abbrev pub IsComplete : ℕ → Sides → List ℕ → Type 0
 IsComplete code sides bytes =
-    ((input : Input) × IsInput bytes input × (code ≡ status_of input) × Gains sides.held sides.held_after (output_of input))
-    ⊎ (code ≡ 9)
+    ((code ≡ code_of (status_of (input_of bytes))) × Gains sides.held sides.held_after (output_of (input_of bytes))) ⊎ (code ≡ 9)
 
 -- Where the input was told and no count of faults rose, every call is complete.
 abbrev pub Completes : Type 0

@@ -2,21 +2,23 @@
 ghost use Rattle.std.specs.Prelude.{◌≡◌, ◌⊎◌, ◌≤◌, ◌∷◌, [], ℕ, List, OnOk, IsTrue, ◌↔◌, map, string_bytes, codes};
 ghost use Rattle.com_io.specs.Faults.{Rose};
 ghost use Rattle.com_io.specs.Told.{Gains, GainsPrefix};
+ghost use Rattle.com_top.specs.declared.inputs.Input.TheVariants as input;
 ghost use Rattle.com_top.specs.Replies.{HasReplyCause, IsObjRefWord, Replies, status_for};
-ghost use Rattle.com_top.specs.Statuses.{Answers, HasCause, IsReplay, IsSaid, Says, Sides, usage_line};
+ghost use Rattle.com_top.specs.Statuses.{Answers, HasCause, IsAnswered, IsReplay, IsSaid, Says, Sides, usage_line};
 
-use crate::forms::read_script;
+use crate::inputs::{Input, input_of, refused_line};
 use crate::statuses::Status;
 use com_io::{ReadAllError, Sink, Source, read_all, write_all};
 use com_objref::show;
-use com_replay::{ReplayError, replay};
+use com_replay::{Plan, ReplayError, replay};
+use com_scenario::LONGEST;
 use std::alloc::Global;
 
-// The longest input, in bytes.
-const LONGEST: usize = 1_048_576;
+// The longest text of digits, in bytes.
+const LONGEST_DIGITS: usize = 1_048_576;
 
 /// Does what the words ask for: `replay` reads a scenario from the source and writes its history and report
-/// to the sink; `objref` reads hexadecimal text and shows the OBJREF that it spells. The answer is the exit
+/// to the sink, or the line of the refusal; `objref` reads hexadecimal text and shows the OBJREF that it spells. The answer is the exit
 /// status.
 ///
 /// Status 1 comes exactly for other words, unless the line that says so cannot be written; then nothing was
@@ -59,8 +61,10 @@ pub fn com_main<S: Source, K: Sink>(
     say(b"usage: comrun replay|objref\n", Status::Usage, sink).code()
 }
 
-/// Reads a scenario from the source, and writes its history and report to the sink. The answer is the exit
-/// status: each has its cause.
+/// Reads a scenario from the source, and writes its history and report to the sink. An input that is too long,
+/// whose text is no scenario or whose scenario needs a part of the runtime that is not built yet is refused by
+/// a line with the line, the column and the number of the fault. The answer is the exit status: each has its
+/// cause.
 pub fn replay_main<S: Source, K: Sink>(alloc: Global, source: &mut S, sink: &mut K) -> u8
     ensures { Answers result (record {
       left = S.left source.old;
@@ -91,15 +95,35 @@ fn replay_input<S: Source, K: Sink>(alloc: Global, source: &mut S, sink: &mut K)
     let text = match read_all(alloc, source, LONGEST) {
         Ok(text) => text,
         Err(ReadAllError::ReadFault) => return say(b"read fault\n", Status::ReadFault, sink),
-        Err(ReadAllError::TooLong) => return say(b"refused 0 0 12\n", Status::Refused, sink),
+        Err(ReadAllError::TooLong) => return answer(alloc, Input::TooLong, sink),
         Err(ReadAllError::Memory) => return Status::Memory,
     };
-    let script = match read_script(alloc, text.as_slice()) {
-        Ok(Some(script)) => script,
-        Ok(None) => return say(b"refused 0 0 13\n", Status::Refused, sink),
-        Err(_) => return Status::Memory,
-    };
-    match replay(alloc, script, sink) {
+    match input_of(alloc, text.as_slice()) {
+        Ok(input) => answer(alloc, input, sink),
+        Err(_) => Status::Memory,
+    }
+}
+
+// Writes what is written for an input, and answers its status.
+fn answer<K: Sink>(alloc: Global, input: Input, sink: &mut K) -> Status
+    ensures { IsAnswered result input (K.held sink.old) (K.held sink.new) (K.faults_of sink.old) (K.faults_of sink.new) }
+{
+    match input {
+        Input::TooLong => say(b"refused 0 0 12\n", Status::Refused, sink),
+        Input::Faulty(fault) => match refused_line(alloc, fault) {
+            Ok(line) => say(line.as_slice(), Status::Refused, sink),
+            Err(_) => Status::Memory,
+        },
+        Input::Unbuilt => say(b"refused 0 0 13\n", Status::Refused, sink),
+        Input::Runs(plan) => run(alloc, plan, sink),
+    }
+}
+
+// Writes the history and the report of a plan, and answers the status.
+fn run<K: Sink>(alloc: Global, plan: Plan, sink: &mut K) -> Status
+    ensures { IsAnswered result (input.Runs plan) (K.held sink.old) (K.held sink.new) (K.faults_of sink.old) (K.faults_of sink.new) }
+{
+    match replay(alloc, plan, sink) {
         Ok(_) => Status::Done,
         Err(ReplayError::WriteFault) => Status::WriteFault,
         Err(ReplayError::Memory) => Status::Memory,
@@ -135,7 +159,7 @@ fn objref_input<S: Source, K: Sink>(alloc: Global, source: &mut S, sink: &mut K)
       write_faults_after = K.faults_of sink.new;
     }) }
 {
-    let text = match read_all(alloc, source, LONGEST) {
+    let text = match read_all(alloc, source, LONGEST_DIGITS) {
         Ok(text) => text,
         Err(ReadAllError::ReadFault) => return say(b"read fault\n", Status::ReadFault, sink),
         Err(ReadAllError::TooLong) => return say(b"refused 0 0 12\n", Status::Refused, sink),

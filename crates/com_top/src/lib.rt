@@ -2,13 +2,12 @@
 #![tactic(auto)]
 
 mod commands;
-mod forms;
+mod inputs;
 mod laws;
-mod pieces;
 mod statuses;
 
 pub use com_base::Memory;
 pub use commands::{com_main, objref_main, replay_main};
-pub use forms::read_script;
+pub use inputs::{Input, input_of};
 pub use laws::{completeness, objref_completeness};
 pub use statuses::Status;

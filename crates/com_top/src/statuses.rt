@@ -9,7 +9,7 @@ pub enum Status {
     Done,
     /// The words are none of the usage.
     Usage,
-    /// The input is too long or not of the form.
+    /// The input is too long, no scenario, or one that needs what is not built yet; or no OBJREF.
     Refused,
     /// A read failed.
     ReadFault,
