@@ -105,7 +105,7 @@ position_below (m ∷ ms) name n e = by (bytes_eq m name) refl (λ k is. positio
     by true t lower = let f : Some 0 ≡ Some n = sym (ap (λ (b : Bool). if b then Some 0 else option_map (λ (k : ℕ). k + 1) (position_of ms name)) t) ∙ e in let g : 0 ≡ n = cc in omega arith
     by false t lower = more (position_of ms name) lower (sym (ap (λ (b : Bool). if b then Some 0 else option_map (λ (k : ℕ). k + 1) (position_of ms name)) t) ∙ e)
 
-kept_16 : (o : Option ℕ) (n : ℕ) → of_16_bits o ≡ Some n → o ≡ Some n
+pub kept_16 : (o : Option ℕ) (n : ℕ) → of_16_bits o ≡ Some n → o ≡ Some n
 kept_16 None n e = absurd cc
 kept_16 (Some m) n e = split (nat_lt m 65536) refl
   where
@@ -148,7 +148,7 @@ asked_formed names low line k = bind (word_at line k) _ (anything (word_at line 
 -- ---- operands
 
 -- what an operand's word says of its bytes
-abbrev IsSaid : List ℕ → Operand → Type 0
+abbrev pub IsSaid : List ℕ → Operand → Type 0
 IsSaid bytes (operands.Register n) = n < 16
 IsSaid bytes (operands.Slot n) = n < 8
 IsSaid bytes (operands.Cell n) = n < 8
@@ -203,7 +203,7 @@ said_by bytes sorts.Unclosed h = tt
 said_by bytes (sorts.Stray c) h = tt
 said_by bytes (sorts.Remark c) h = tt
 
-said : (w : WordAt) → IsWord w → IsSaid w.bytes (operand_of w)
+pub said : (w : WordAt) → IsWord w → IsSaid w.bytes (operand_of w)
 unfolding operand_of
 said w h = said_by w.bytes w.sort h.literal
 

@@ -12,7 +12,8 @@ use Rattle.com_text.specs.declared.scan.Within.{Within}
 use Rattle.com_text.specs.declared.scan.Within.TheVariants as within
 use Rattle.com_text.specs.Words.{WordAt, LineAt}
 use Rattle.com_text.specs.Scanning.{Scanning, class_of, ends_line, turn, strayed, moved, after, sorted, word_of, remark, closed_by, closing, literal, gave_by, gave, at_line, ended, lines_from, lines_of}
-use Rattle.com_forming.specs.Words.{is_text_byte, IsQuoted, IsLiteral, IsWord, IsLine}
+use Rattle.com_model.specs.Formed.{is_text_byte}
+use Rattle.com_forming.specs.Words.{IsQuoted, IsLiteral, IsWord, IsLine}
 
 -- ---- bytes
 

@@ -1,12 +1,9 @@
 -- Words as the scanner gives them.
-use Rattle.std.specs.Prelude.{◌≡◌, ℕ, ◌≤◌, Bool, true, not, ◌==◌, ◌&&◌, ◌||◌, nat_le, List, [], ◌∷◌, ◌++◌, length, All}
+use Rattle.std.specs.Prelude.{◌≡◌, ℕ, ◌≤◌, true, List, [], ◌∷◌, ◌++◌, length, All}
 use Rattle.com_text.specs.declared.word.Sort.{Sort}
 use Rattle.com_text.specs.declared.word.Sort.TheVariants as sorts
 use Rattle.com_text.specs.Words.{WordAt, LineAt}
-
--- a character other than a quotation mark
-abbrev pub is_text_byte : ℕ → Bool
-is_text_byte c = c == 9 || ((nat_le 32 c && nat_le c 126) && not (c == 34))
+use Rattle.com_model.specs.Formed.{is_text_byte}
 
 -- characters between two quotation marks
 pub record IsQuoted (bytes : List ℕ) : Type 0 where
