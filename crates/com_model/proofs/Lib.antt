@@ -7,3 +7,4 @@ pub mod Cases
 pub mod Tabled
 pub mod Rows
 pub mod Lanes
+pub mod Sights
