@@ -8,3 +8,4 @@ pub mod Tabled
 pub mod Rows
 pub mod Lanes
 pub mod Sights
+pub mod Replies

@@ -25,14 +25,14 @@ use Rattle.com_model.proofs.Tabled.{Outside, at_zero, above, length-grown, lengt
 
 -- ---- a call that an entry names is none of the numbers outside
 
-abbrev Apart : ℕ → ℕ → Type 0
+abbrev pub Apart : ℕ → ℕ → Type 0
 Apart c k = ((k == c) ≡ false) × ((c == k) ≡ false)
 
 no-match : (n c k : ℕ) → Outside n c → InRange n k → k ≡ c → ⊥
 no-match n c k (at_zero z) r e = let p : 1 ≤ k = r.0 in omega (arith, z, p, e)
 no-match n c k (above z) r e = let p : k ≤ n = r.1 in omega (arith, z, p, e)
 
-apart-of : (n c k : ℕ) → Outside n c → InRange n k → Apart c k
+pub apart-of : (n c k : ℕ) → Outside n c → InRange n k → Apart c k
 apart-of n c k o r = (false_from_ne_true (k == c) (λ q. no-match n c k o r (eqb-true k c q)), false_from_ne_true (c == k) (λ q. no-match n c k o r (sym (eqb-true c k q))))
 
 cond-off : {X : Type 0} (b : Bool) (x y : X) → b ≡ false → cond b x y ≡ y

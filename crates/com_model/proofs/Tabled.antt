@@ -70,3 +70,8 @@ appended (z ∷ xs) (suc k) x y = appended xs k x y ∙ ap (λ (b : Bool). cond 
 pub last-row : {X : Type 0} (xs : List X) (c n : ℕ) (x y : X) → n ≡ length xs + 1 → from_one (xs ++ x ∷ []) c y ≡ cond (n == c) x (from_one xs c y)
 last-row xs zero n x y e = ap (λ (b : Bool). cond b x y) (sym (false_from_ne_true (n == 0) (λ q. let z : n ≡ 0 = eqb-true n 0 q in omega (arith, e, z))))
 last-row xs (suc k) n x y e = appended xs k x y ∙ ap (λ (b : Bool). cond b x (slice_index_or xs k y)) (same-test (length xs) k n (suc k) (λ q. omega (arith, e, q)) (λ q. omega (arith, e, q)))
+
+pub outside-row : {X : Type 0} (xs : List X) (n c : ℕ) (x : X) → length xs ≤ n → Outside n c → from_one xs c x ≡ x
+outside-row xs n zero x p o = refl
+outside-row xs n (suc k) x p (at_zero e) = absurd (omega (arith, e))
+outside-row xs n (suc k) x p (above e) = get_or_past xs k x (omega (arith, p, e))
