@@ -9,3 +9,4 @@ pub mod Rows
 pub mod Lanes
 pub mod Sights
 pub mod Replies
+pub mod Whole

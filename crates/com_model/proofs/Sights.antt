@@ -18,7 +18,7 @@ use Rattle.com_model.specs.Waiting.{is_queued}
 use Rattle.com_model.specs.Dying.{is_dying_by, is_entered}
 use Rattle.com_model.specs.Sight.{Sight, sight}
 use Rattle.com_model.specs.Rules.{next, next_by}
-use Rattle.com_model.specs.State.{State, SameScene, SameBooks, StandsFor, scene_in, books_in, named_in, class_in, ground_in, sight_of, next_of}
+use Rattle.com_model.specs.State.{State, SameScene, SameBooks, LanesStand, ApartmentsStand, ObjectsStand, CallsStand, StandsFor, scene_in, books_in, named_in, class_in, ground_in, sight_of, next_of}
 
 -- What reads alike at each number is the same.
 pub same-scene : (w x : Scene) → SameScene w x → w ≡ x
@@ -41,34 +41,34 @@ same-books b c p = λ i. record {
   result = λ x. p.result x i;
 }
 
-pub same-named : (s : Scenario) (st : State) (h : List Entry) → StandsFor s st h → named_in st ≡ named h
-same-named s st h p = λ i o. number_or_zero (option_map (λ (m : Making). m.apartment) (p.objects.makings o i))
+pub same-named : (st : State) (h : List Entry) → ObjectsStand st h → named_in st ≡ named h
+same-named st h p = λ i o. number_or_zero (option_map (λ (m : Making). m.apartment) (p.makings o i))
 
-pub same-class : (s : Scenario) (st : State) (h : List Entry) → StandsFor s st h → class_in st ≡ class_of h
-same-class s st h p = λ i o. number_or_zero (option_map (λ (m : Making). m.class) (p.objects.makings o i))
+pub same-class : (st : State) (h : List Entry) → ObjectsStand st h → class_in st ≡ class_of h
+same-class st h p = λ i o. number_or_zero (option_map (λ (m : Making). m.class) (p.makings o i))
 
-pub same-ground : (s : Scenario) (st : State) (h : List Entry) → StandsFor s st h → ground_in s st ≡ ground s h
-same-ground s st h p = λ i. record {
-  openers = λ l. p.lanes.openers l i;
-  home = λ l. home_by_sort (lane_sort s l) (p.lanes.homes l i);
-  apartments = length (p.apartments.stas i) + 3;
-  objects = p.objects.number i;
-  named = same-named s st h p i;
-  owns = λ o a. is_agile_class s (same-class s st h p i o) || a == same-named s st h p i o;
-  calls = p.calls.number i;
-  issue = λ c. p.calls.issues c i;
-  admitted = λ c. p.calls.admissions c i;
-  left = λ c. p.calls.leavings c i;
-  returned = λ c. p.calls.returned c i;
+pub same-ground : (s : Scenario) (st : State) (h : List Entry) → LanesStand s st h → ApartmentsStand st h → ObjectsStand st h → CallsStand st h → ground_in s st ≡ ground s h
+same-ground s st h lanes apartments objects calls = λ i. record {
+  openers = λ l. lanes.openers l i;
+  home = λ l. home_by_sort (lane_sort s l) (lanes.homes l i);
+  apartments = length (apartments.stas i) + 3;
+  objects = objects.number i;
+  named = same-named st h objects i;
+  owns = λ o a. is_agile_class s (same-class st h objects i o) || a == same-named st h objects i o;
+  calls = calls.number i;
+  issue = λ c. calls.issues c i;
+  admitted = λ c. calls.admissions c i;
+  left = λ c. calls.leavings c i;
+  returned = λ c. calls.returned c i;
 }
 
 pub same-sight : (s : Scenario) (st : State) (h : List Entry) → StandsFor s st h → sight_of s st ≡ sight s h
 same-sight s st h p =
-    let g : ground_in s st ≡ ground s h = same-ground s st h p in
+    let g : ground_in s st ≡ ground s h = same-ground s st h p.lanes p.apartments p.objects p.calls in
     let w : scene_in st ≡ scene s h = same-scene (scene_in st) (scene s h) p.scene in
     let b : books_in st ≡ books s h = same-books (books_in st) (books s h) p.books in
-    let n : named_in st ≡ named h = same-named s st h p in
-    let k : class_in st ≡ class_of h = same-class s st h p in
+    let n : named_in st ≡ named h = same-named st h p.objects in
+    let k : class_in st ≡ class_of h = same-class st h p.objects in
     λ i. record {
       openers = (g i).openers;
       served = λ l. p.lanes.served l i;
