@@ -1,7 +1,7 @@
 -- A state that stands for a history stands for the longer one after a deed: the part of the calls' answers, of the refusals that
 -- they met at their issue, and of the values that they sent.
-use Rattle.std.proofs.Common.{sym, ap, ap₂, ◌∙◌, arith}
-use Rattle.std.specs.Prelude.{◌≡◌, refl, ℕ, zero, suc, ◌+◌, ◌≤◌, negsuc, pos, Bool, true, false, cond, ◌==◌, List, [], ◌∷◌, length, Option, Some, None, is_some}
+use Rattle.std.proofs.Common.{sym, ap, ◌∙◌, arith}
+use Rattle.std.specs.Prelude.{◌≡◌, refl, ℕ, zero, suc, ◌+◌, negsuc, pos, Bool, true, false, cond, ◌==◌, List, [], ◌∷◌, length, Option, Some, None, is_some}
 use Rattle.com_base.specs.declared.hresult.HResult.{HResult}
 use Rattle.com_base.specs.declared.value.Value.{Value}
 use Rattle.com_filter.specs.declared.Verdict.{Verdict}
@@ -10,15 +10,15 @@ use Rattle.com_model.specs.declared.deeds.Deed.TheVariants as deed
 use Rattle.com_model.specs.declared.deeds.Entry.{Entry}
 use Rattle.com_model.specs.declared.deeds.Route.TheVariants as route
 use Rattle.com_model.specs.declared.scenario.Scenario.{Scenario}
-use Rattle.com_model.specs.Answers.{S_OK, is_S_OK}
+use Rattle.com_model.specs.Answers.{S_OK}
 use Rattle.com_model.specs.Lists.{or_else, where_true, count_if, each_from, from_one}
 use Rattle.com_model.specs.Openers.{openers}
 use Rattle.com_model.specs.Apartments.{ends_sta}
 use Rattle.com_model.specs.Objects.{named, disconnects}
-use Rattle.com_model.specs.Calls.{Issue, Admission, issues, issue, admitted, target, object_of, lane_of, calls, is_marshalled}
-use Rattle.com_model.specs.Endings.{Ending, EndEffect, EndsCall, EndsNone, AtIssue, ByVerdict, cuts_object, cuts_sta, end_effect, ends, filtered, can_be_cut, ending}
+use Rattle.com_model.specs.Calls.{Issue, issues, issue, admitted, target, object_of, lane_of, calls}
+use Rattle.com_model.specs.Endings.{Ending, EndsCall, EndsNone, ByVerdict, cuts_object, cuts_sta, end_effect, ends, filtered, can_be_cut, ending}
 use Rattle.com_model.specs.Books.{out_values}
-use Rattle.com_model.specs.Issue.{action_refusal, or_ok, refusal_before, own_refusal, refusal_or, at_issue, own_values, values_or, sent}
+use Rattle.com_model.specs.Issue.{action_refusal, or_ok, refusal_before, own_refusal, refusal_or, own_values, values_or}
 use Rattle.com_model.specs.Waiting.{postings}
 use Rattle.com_model.specs.Sight.{Sight, sight}
 use Rattle.com_model.specs.Rules.{legal}

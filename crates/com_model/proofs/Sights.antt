@@ -1,7 +1,6 @@
 -- Where a state stands for a history, the rules see in its tables what they see after the history.
 use Rattle.std.proofs.Common.{ap}
-use Rattle.std.specs.Prelude.{◌≡◌, ℕ, ◌+◌, Bool, not, cond, ◌||◌, ◌&&◌, ◌==◌, List, length, filter, Option, Some, None, is_none, option_map}
-use Rattle.com_model.specs.declared.deeds.Deed.{Deed}
+use Rattle.std.specs.Prelude.{◌≡◌, ℕ, ◌+◌, not, cond, ◌||◌, ◌&&◌, ◌==◌, List, length, filter, is_none, option_map}
 use Rattle.com_model.specs.declared.deeds.Entry.{Entry}
 use Rattle.com_model.specs.declared.scenario.Scenario.{Scenario}
 use Rattle.com_model.specs.Lists.{or_else, first, number_or_zero}
@@ -12,7 +11,7 @@ use Rattle.com_model.specs.Objects.{Making, named, class_of}
 use Rattle.com_model.specs.Calls.{object_of}
 use Rattle.com_model.specs.Clock.{in_made_sta}
 use Rattle.com_model.specs.Frames.{Scene, scene, actor, act_by}
-use Rattle.com_model.specs.Places.{Ground, ground}
+use Rattle.com_model.specs.Places.{ground}
 use Rattle.com_model.specs.Books.{Books, books, holders_in}
 use Rattle.com_model.specs.Waiting.{is_queued}
 use Rattle.com_model.specs.Dying.{is_dying_by, is_entered}

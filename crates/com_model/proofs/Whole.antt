@@ -2,27 +2,27 @@
 -- were given: the scene, the books and the dying objects. And the first state stands for the empty history.
 use Rattle.std.proofs.Common.{ap, ◌∙◌, arith}
 use Rattle.std.proofs.lemmas.List.{get_or_past}
-use Rattle.std.specs.Prelude.{◌≡◌, refl, ℕ, ◌+◌, ◌≤◌, Bool, false, List, [], ◌∷◌, length, Option, None, slice_index_or}
+use Rattle.std.specs.Prelude.{◌≡◌, refl, ℕ, ◌+◌, false, List, [], ◌∷◌, length, None, slice_index_or}
 use Rattle.com_body.specs.declared.operands.Destination.TheVariants as destination
 use Rattle.com_body.specs.Frames.{entered}
 use Rattle.com_model.specs.declared.deeds.Deed.{Deed}
 use Rattle.com_model.specs.declared.deeds.Entry.{Entry}
 use Rattle.com_model.specs.declared.scenario.Scenario.{Scenario}
-use Rattle.com_model.specs.Lists.{number_or_zero, tabulated, is_member}
+use Rattle.com_model.specs.Lists.{number_or_zero, is_member}
 use Rattle.com_model.specs.Tables.{lane_sort, lanes, threads}
 use Rattle.com_model.specs.Answers.{S_OK}
 use Rattle.com_model.specs.Apartments.{next_sta}
 use Rattle.com_model.specs.Waiting.{Unposted, no_mail}
 use Rattle.com_model.specs.Calls.{calls}
-use Rattle.com_model.specs.Objects.{objects, named, class_of}
+use Rattle.com_model.specs.Objects.{objects}
 use Rattle.com_model.specs.Frames.{Scene, new_cells, scene, scene_after, actor}
-use Rattle.com_model.specs.Places.{Ground, ground}
+use Rattle.com_model.specs.Places.{ground}
 use Rattle.com_model.specs.Books.{Books, books, closed, most, holders_in}
 use Rattle.com_model.specs.Endings.{is_leave}
-use Rattle.com_model.specs.Dying.{is_dying_by, is_entered, fallen, fallen_more}
-use Rattle.com_model.specs.Sight.{Sight, sight}
-use Rattle.com_model.specs.Rules.{next, legal}
-use Rattle.com_model.specs.State.{State, SameScene, SameBooks, LanesStand, ApartmentsStand, ObjectsStand, CallsStand, StandsFor, Bounded, after, tables_after, first_tables, scene_in, books_in, ground_in, named_in, class_in, sight_of, scene_next, books_next}
+use Rattle.com_model.specs.Dying.{is_dying_by, is_entered, fallen_more}
+use Rattle.com_model.specs.Sight.{sight}
+use Rattle.com_model.specs.Rules.{legal}
+use Rattle.com_model.specs.State.{State, SameScene, SameBooks, LanesStand, ApartmentsStand, ObjectsStand, CallsStand, StandsFor, Bounded, after, tables_after, first_tables, scene_in, books_in, ground_in, sight_of, scene_next, books_next}
 use Rattle.com_model.proofs.Stands.{apartments-after, clock-after}
 use Rattle.com_model.proofs.Lanes.{lanes-after}
 use Rattle.com_model.proofs.Rows.{objects-after, calls-after, entries-after}
