@@ -4,7 +4,7 @@ use Rattle.std.proofs.Common.{subst, sym, ap, ◌∙◌, eqb-true, arith}
 use Rattle.std.proofs.lemmas.Bool.{false_from_ne_true, ltb-true, ltb-false}
 use Rattle.std.proofs.lemmas.List.{get_or_past}
 use Rattle.std.proofs.lemmas.Grind.{common_steps}
-use Rattle.std.specs.Prelude.{◌≡◌, refl, ℕ, ◌+◌, ◌≤◌, ◌<◌, ℤ, pos, negsuc, Bool, true, false, cond, not, ◌||◌, ◌&&◌, ◌==◌, nat_le, nat_lt, List, [], ◌∷◌, length, Option, Some, None, slice_index_or}
+use Rattle.std.specs.Prelude.{◌≡◌, refl, ℕ, ◌+◌, ◌≤◌, ◌<◌, pos, negsuc, Bool, true, false, cond, not, ◌||◌, ◌&&◌, ◌==◌, nat_le, nat_lt, List, [], ◌∷◌, length, Some, None, slice_index_or}
 use Rattle.com_base.specs.declared.hresult.HResult.{HResult}
 use Rattle.com_model.specs.declared.deeds.Deed.{Deed}
 use Rattle.com_model.specs.declared.deeds.Deed.TheVariants as deed
@@ -16,9 +16,9 @@ use Rattle.com_model.specs.Tables.{LaneSort, Thread, Host, Pool, NoLane, lane_so
 use Rattle.com_model.specs.Openers.{Opener, Keeps, effect, effect_on, opened, left_on, openers, served}
 use Rattle.com_model.specs.Apartments.{Remains, home_effect, home_effect_on, home_after, count_after, makes_sta, with_last, is_end, thread_home, init_count, made_in, over}
 use Rattle.com_model.specs.Clock.{Keeps as KeepsFilter, filter_effect, filter_effect_on, filter_after, last_filter}
-use Rattle.com_model.specs.Waiting.{Mail, no_mail, MailEffect, Brings, Leaves, brings, mail_effect, mail_after, mail, Stands, LeavesQuit, quits, quit_effect, quit_after, quit_stands, bound_reached, postings}
-use Rattle.com_model.specs.Deeds.{takes_words, word_answer}
-use Rattle.com_model.specs.Rules.{next, legal, next_by, ticks}
+use Rattle.com_model.specs.Waiting.{no_mail, Brings, Leaves, mail_effect, mail_after, mail, Stands, LeavesQuit, quit_effect, quit_after, quit_stands, bound_reached, postings}
+use Rattle.com_model.specs.Deeds.{word_answer}
+use Rattle.com_model.specs.Rules.{next, next_by, ticks}
 use Rattle.com_model.specs.Sight.{Sight, sight}
 use Rattle.com_model.specs.State.{State, LanesStand, after, openers_in, served_in}
 use Rattle.com_model.proofs.Comes.{Comes, sort_of, next-comes}

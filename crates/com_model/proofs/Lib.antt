@@ -7,3 +7,6 @@ pub mod Cases
 pub mod Tabled
 pub mod Rows
 pub mod Lanes
+pub mod Sights
+pub mod Replies
+pub mod Whole

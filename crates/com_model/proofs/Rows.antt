@@ -1,23 +1,21 @@
 -- A state that stands for a history stands for the longer one after a deed: the parts of objects and calls.
-use Rattle.std.proofs.Common.{subst, sym, ap, ap₂, ◌∙◌, eqb-true, arith}
+use Rattle.std.proofs.Common.{sym, ap, ap₂, ◌∙◌, eqb-true, arith}
 use Rattle.std.proofs.lemmas.Bool.{false_from_ne_true}
-use Rattle.std.proofs.lemmas.Grind.{common_steps}
-use Rattle.std.specs.Prelude.{◌≡◌, refl, ℕ, zero, suc, ◌+◌, ◌≤◌, ◌<◌, Bool, true, false, cond, ◌||◌, ◌&&◌, ◌==◌, nat_le, nat_lt, pos, negsuc, List, [], ◌∷◌, ◌++◌, length, Option, Some, None, is_some, is_none, slice_index_or}
+use Rattle.std.specs.Prelude.{◌≡◌, refl, ℕ, suc, ◌+◌, ◌≤◌, Bool, true, false, cond, ◌||◌, ◌&&◌, ◌==◌, nat_lt, pos, negsuc, List, ◌∷◌, length, Option, Some, None, is_some, is_none}
 use Rattle.com_model.specs.declared.deeds.Deed.{Deed}
 use Rattle.com_model.specs.declared.deeds.Deed.TheVariants as deed
 use Rattle.com_model.specs.declared.deeds.Entry.{Entry}
 use Rattle.com_model.specs.declared.deeds.Route.TheVariants as route
 use Rattle.com_model.specs.declared.scenario.Scenario.{Scenario}
 use Rattle.com_model.specs.Lists.{count_if, from_one, is_number}
-use Rattle.com_model.specs.Tables.{LaneSort, Thread, Host, Pool, NoLane, lane_sort, lanes, threads, host_lane}
 use Rattle.com_model.specs.Openers.{Opener, openers, running_call}
-use Rattle.com_model.specs.Objects.{Making, makes, made_or, one_more, objects, finals, finaled}
-use Rattle.com_model.specs.Calls.{Issue, Admission, Leaving, issues, admits, leaves, returns, issue_or, admission_or, leaving_or, issue, admitted, left, returned, calls, causes}
-use Rattle.com_model.specs.Clock.{clock, time_or, issued_at}
-use Rattle.com_model.specs.Waiting.{Phase, Unposted, Posts, Delays, post_effect, phase_after, phase, posted_last, postings}
-use Rattle.com_model.specs.Rules.{next, legal, next_by, ticks}
+use Rattle.com_model.specs.Objects.{Making, makes, made_or, one_more, objects, finals}
+use Rattle.com_model.specs.Calls.{Issue, issues, admits, leaves, returns, issue_or, admission_or, leaving_or, admitted, left, returned, calls}
+use Rattle.com_model.specs.Clock.{clock, time_or}
+use Rattle.com_model.specs.Waiting.{Unposted, Posts, Delays, post_effect, phase_after, phase, posted_last, postings}
+use Rattle.com_model.specs.Rules.{legal}
 use Rattle.com_model.specs.Sight.{Sight, sight}
-use Rattle.com_model.specs.State.{State, LanesStand, ObjectsStand, CallsStand, after, grown, making_in, openers_in}
+use Rattle.com_model.specs.State.{State, LanesStand, ObjectsStand, CallsStand, after, grown}
 use Rattle.com_model.proofs.Comes.{Comes, sort_of, next-comes}
 use Rattle.com_model.proofs.Onces.{call_named, Names, InRange, names-all, named-in-range}
 use Rattle.com_model.proofs.Stands.{member-last}
@@ -25,14 +23,14 @@ use Rattle.com_model.proofs.Tabled.{Outside, at_zero, above, length-grown, lengt
 
 -- ---- a call that an entry names is none of the numbers outside
 
-abbrev Apart : ℕ → ℕ → Type 0
+abbrev pub Apart : ℕ → ℕ → Type 0
 Apart c k = ((k == c) ≡ false) × ((c == k) ≡ false)
 
 no-match : (n c k : ℕ) → Outside n c → InRange n k → k ≡ c → ⊥
 no-match n c k (at_zero z) r e = let p : 1 ≤ k = r.0 in omega (arith, z, p, e)
 no-match n c k (above z) r e = let p : k ≤ n = r.1 in omega (arith, z, p, e)
 
-apart-of : (n c k : ℕ) → Outside n c → InRange n k → Apart c k
+pub apart-of : (n c k : ℕ) → Outside n c → InRange n k → Apart c k
 apart-of n c k o r = (false_from_ne_true (k == c) (λ q. no-match n c k o r (eqb-true k c q)), false_from_ne_true (c == k) (λ q. no-match n c k o r (sym (eqb-true c k q))))
 
 cond-off : {X : Type 0} (b : Bool) (x y : X) → b ≡ false → cond b x y ≡ y

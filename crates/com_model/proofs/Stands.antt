@@ -1,17 +1,14 @@
 -- A state that stands for a history stands for the longer one after a deed: the parts of apartments and the clock.
 use Rattle.std.proofs.Common.{subst, ap, ◌∙◌, arith}
 use Rattle.std.proofs.lemmas.Grind.{common_steps}
-use Rattle.std.specs.Prelude.{◌≡◌, refl, ℕ, zero, suc, ◌+◌, ◌≤◌, ◌<◌, Bool, true, false, cond, ◌||◌, ◌&&◌, ◌==◌, List, [], ◌∷◌, length, Option, Some, None, slice_index_or, not}
+use Rattle.std.specs.Prelude.{◌≡◌, refl, ℕ, zero, suc, ◌+◌, ◌≤◌, ◌<◌, Bool, true, false, cond, ◌||◌, ◌&&◌, ◌==◌, List, [], ◌∷◌, length, Option, Some, None, slice_index_or}
 use Rattle.com_model.specs.declared.deeds.Deed.{Deed}
 use Rattle.com_model.specs.declared.deeds.Entry.{Entry}
 use Rattle.com_model.specs.declared.scenario.Scenario.{Scenario}
 use Rattle.com_model.specs.Lists.{each_from, is_member, is_number}
-use Rattle.com_model.specs.Tables.{lanes}
-use Rattle.com_model.specs.Openers.{Opener, effect_on, opened, left_on, openers, served}
-use Rattle.com_model.specs.Apartments.{with_last, makes_sta, ends_sta, home_effect_on, home_after, count_after, is_end, made_in}
-use Rattle.com_model.specs.Clock.{ticked, clock, filter_effect_on, filter_after}
-use Rattle.com_model.specs.Waiting.{mail_effect, mail_after, quit_effect, quit_after, bound_reached, quit_stands, no_mail}
-use Rattle.com_model.specs.State.{State, LanesStand, ApartmentsStand, after, openers_in, served_in}
+use Rattle.com_model.specs.Apartments.{with_last, makes_sta, ends_sta}
+use Rattle.com_model.specs.Clock.{ticked, clock}
+use Rattle.com_model.specs.State.{State, ApartmentsStand, after}
 
 pub row-from : {X : Type 0} (f : ℕ → X → X) (n : ℕ) (xs : List X) (k : ℕ) (d : X) → k < length xs → slice_index_or (each_from f n xs) k d ≡ f (n + k) (slice_index_or xs k d)
 row-from f n [] k d h = grind (arith, common_steps)

@@ -1,10 +1,11 @@
 -- Tables with a row for each number from 1 on: what a row holds after a step, and that no row stands outside of them.
-use Rattle.std.proofs.Common.{subst, sym, ◌∙◌, ap, eqb-true, arith}
+use Rattle.std.proofs.Common.{subst, sym, ◌∙◌, ap, ap₂, eqb-true, arith}
 use Rattle.std.proofs.lemmas.Bool.{ltb-true, ltb-false, false_from_ne_true}
-use Rattle.std.proofs.lemmas.List.{get_or_past}
+use Rattle.std.proofs.lemmas.List.{get_or_past, get_or_append_left}
+use Rattle.std.proofs.Math.Seq.{get_or-append_seam}
 use Rattle.std.proofs.lemmas.Grind.{common_steps}
 use Rattle.std.specs.Prelude.{◌≡◌, refl, ℕ, zero, suc, ◌+◌, ◌≤◌, ◌<◌, Bool, true, false, cond, ◌==◌, List, [], ◌∷◌, ◌++◌, length, slice_index_or, nat_lt}
-use Rattle.com_model.specs.Lists.{each_from, count_if, from_one}
+use Rattle.com_model.specs.Lists.{each_from, count_if, from_one, tabulated}
 use Rattle.com_model.specs.State.{grown}
 use Rattle.com_model.proofs.Stands.{row-from}
 
@@ -70,3 +71,80 @@ appended (z ∷ xs) (suc k) x y = appended xs k x y ∙ ap (λ (b : Bool). cond 
 pub last-row : {X : Type 0} (xs : List X) (c n : ℕ) (x y : X) → n ≡ length xs + 1 → from_one (xs ++ x ∷ []) c y ≡ cond (n == c) x (from_one xs c y)
 last-row xs zero n x y e = ap (λ (b : Bool). cond b x y) (sym (false_from_ne_true (n == 0) (λ q. let z : n ≡ 0 = eqb-true n 0 q in omega (arith, e, z))))
 last-row xs (suc k) n x y e = appended xs k x y ∙ ap (λ (b : Bool). cond b x (slice_index_or xs k y)) (same-test (length xs) k n (suc k) (λ q. omega (arith, e, q)) (λ q. omega (arith, e, q)))
+
+pub outside-row : {X : Type 0} (xs : List X) (n c : ℕ) (x : X) → length xs ≤ n → Outside n c → from_one xs c x ≡ x
+outside-row xs n zero x p o = refl
+outside-row xs n (suc k) x p (at_zero e) = absurd (omega (arith, e))
+outside-row xs n (suc k) x p (above e) = get_or_past xs k x (omega (arith, p, e))
+
+-- ---- tables of a function's values from number 0 on
+
+pub length-tabulated : {X : Type 0} (n : ℕ) (f : ℕ → X) → length (tabulated n f) ≡ n
+length-tabulated zero f = refl
+length-tabulated (suc n) f = let ih : length (tabulated n f) ≡ n = length-tabulated n f in grind (arith, common_steps, ih)
+
+lower : (n k m : ℕ) → m ≡ n → k < suc n → (n ≡ k → ⊥) → k < m
+lower n k m e h d = by-test (nat_lt k m) refl
+  where
+    by-test : (t : Bool) → nat_lt k m ≡ t → k < m
+    by-test true q = ltb-true k m q
+    by-test false q = let z : m ≤ k = ltb-false k m q in absurd (d (omega (arith, z, e, h)))
+
+pub within-tabulated : {X : Type 0} (n : ℕ) (f : ℕ → X) (k : ℕ) (x : X) → k < n → slice_index_or (tabulated n f) k x ≡ f k
+within-tabulated zero f k x h = absurd (omega (arith, h))
+within-tabulated (suc n) f k x h = by-test (n == k) refl (within-tabulated n f k x)
+  where
+    by-test : (t : Bool) → (n == k) ≡ t → (k < n → slice_index_or (tabulated n f) k x ≡ f k) → slice_index_or (tabulated n f ++ f n ∷ []) k x ≡ f k
+    by-test true e ih =
+        let z : n ≡ k = eqb-true n k e in
+        let m : length (tabulated n f) ≡ k = length-tabulated n f ∙ z in
+        subst (λ (j : ℕ). slice_index_or (tabulated n f ++ f n ∷ []) j x ≡ f n) m (get_or-append_seam (tabulated n f) (f n) [] x) ∙ ap f z
+    by-test false e ih =
+        let d : n ≡ k → ⊥ = no-test n k e in
+        let m : length (tabulated n f) ≡ n = length-tabulated n f in
+        get_or_append_left (tabulated n f) (f n ∷ []) x k (lower n k _ m h d) ∙ ih (lower n k n refl h d)
+
+pub tabulated-row : {X : Type 0} (n : ℕ) (f : ℕ → X) (x : X) → ((k : ℕ) → n ≤ k → f k ≡ x) → (k : ℕ) → slice_index_or (tabulated n f) k x ≡ f k
+tabulated-row n f x p k = by-size (nat_lt k n) refl
+  where
+    by-size : (t : Bool) → nat_lt k n ≡ t → slice_index_or (tabulated n f) k x ≡ f k
+    by-size true h = within-tabulated n f k x (ltb-true k n h)
+    by-size false h = let z : n ≤ k = ltb-false k n h in let m : length (tabulated n f) ≡ n = length-tabulated n f in get_or_past (tabulated n f) k x (omega (arith, z, m)) ∙ sym (p k z)
+
+-- The same where the bound and the function are known in another form; and tables in one another.
+pub rows-of : {X : Type 0} (n m : ℕ) (f g : ℕ → X) (x : X) → n ≡ m → f ≡ g → ((k : ℕ) → m ≤ k → g k ≡ x) → (k : ℕ) → slice_index_or (tabulated n f) k x ≡ g k
+rows-of n m f g x e p q k = ap₂ (λ (y : ℕ) (z : ℕ → _). slice_index_or (tabulated y z) k x) e p ∙ tabulated-row m g x q k
+
+in-rows : {X : Type 0} (n m : ℕ) (f : ℕ → ℕ → X) (x : X) → ((o k : ℕ) → n ≤ o → f o k ≡ x) → ((o k : ℕ) → m ≤ k → f o k ≡ x) → (o k : ℕ) → slice_index_or (slice_index_or (tabulated n (λ j. tabulated m (f j))) o []) k x ≡ f o k
+in-rows n m f x p q o k = by-size (nat_lt o n) refl
+  where
+    by-size : (t : Bool) → nat_lt o n ≡ t → slice_index_or (slice_index_or (tabulated n (λ j. tabulated m (f j))) o []) k x ≡ f o k
+    by-size true h = ap (λ (r : List _). slice_index_or r k x) (within-tabulated n (λ j. tabulated m (f j)) o [] (ltb-true o n h)) ∙ tabulated-row m (f o) x (q o) k
+    by-size false h =
+        let z : n ≤ o = ltb-false o n h in
+        let t : length (tabulated n (λ j. tabulated m (f j))) ≡ n = length-tabulated n (λ j. tabulated m (f j)) in
+        ap (λ (r : List _). slice_index_or r k x) (get_or_past (tabulated n (λ j. tabulated m (f j))) o [] (omega (arith, z, t))) ∙ get_or_past [] k x (omega arith) ∙ sym (p o k z)
+
+pub rows-in-rows : {X : Type 0} (n n' m : ℕ) (f g : ℕ → ℕ → X) (x : X) → n ≡ n' → f ≡ g → ((o k : ℕ) → n' ≤ o → g o k ≡ x) → ((o k : ℕ) → m ≤ k → g o k ≡ x) → (o k : ℕ) → slice_index_or (slice_index_or (tabulated n (λ j. tabulated m (f j))) o []) k x ≡ g o k
+rows-in-rows n n' m f g x e p q r o k = ap₂ (λ (y : ℕ) (z : ℕ → ℕ → _). slice_index_or (slice_index_or (tabulated y (λ j. tabulated m (z j))) o []) k x) e p ∙ in-rows n' m g x q r o k
+
+deep-rows : {X : Type 0} (a n m : ℕ) (f : ℕ → ℕ → ℕ → X) (x : X) → ((c o k : ℕ) → a ≤ c → f c o k ≡ x) → ((c o k : ℕ) → n ≤ o → f c o k ≡ x) → ((c o k : ℕ) → m ≤ k → f c o k ≡ x) → (c o k : ℕ) → slice_index_or (slice_index_or (slice_index_or (tabulated a (λ i. tabulated n (λ j. tabulated m (f i j)))) c []) o []) k x ≡ f c o k
+deep-rows a n m f x p q r c o k = by-size (nat_lt c a) refl
+  where
+    by-size : (t : Bool) → nat_lt c a ≡ t → slice_index_or (slice_index_or (slice_index_or (tabulated a (λ i. tabulated n (λ j. tabulated m (f i j)))) c []) o []) k x ≡ f c o k
+    by-size true h = ap (λ (y : List (List _)). slice_index_or (slice_index_or y o []) k x) (within-tabulated a (λ i. tabulated n (λ j. tabulated m (f i j))) c [] (ltb-true c a h)) ∙ in-rows n m (f c) x (q c) (r c) o k
+    by-size false h =
+        let z : a ≤ c = ltb-false c a h in
+        let t : length (tabulated a (λ i. tabulated n (λ j. tabulated m (f i j)))) ≡ a = length-tabulated a (λ i. tabulated n (λ j. tabulated m (f i j))) in
+        ap (λ (y : List (List _)). slice_index_or (slice_index_or y o []) k x) (get_or_past (tabulated a (λ i. tabulated n (λ j. tabulated m (f i j)))) c [] (omega (arith, z, t)))
+        ∙ ap (λ (y : List _). slice_index_or y k x) (get_or_past [] o [] (omega arith)) ∙ get_or_past [] k x (omega arith) ∙ sym (p c o k z)
+
+pub rows-deep : {X : Type 0} (a a' n n' m : ℕ) (f g : ℕ → ℕ → ℕ → X) (x : X) → a ≡ a' → n ≡ n' → f ≡ g → ((c o k : ℕ) → a' ≤ c → g c o k ≡ x) → ((c o k : ℕ) → n' ≤ o → g c o k ≡ x) → ((c o k : ℕ) → m ≤ k → g c o k ≡ x) → (c o k : ℕ) → slice_index_or (slice_index_or (slice_index_or (tabulated a (λ i. tabulated n (λ j. tabulated m (f i j)))) c []) o []) k x ≡ g c o k
+rows-deep a a' n n' m f g x d e p q r t c o k =
+    ap₂ (λ (y z : ℕ). slice_index_or (slice_index_or (slice_index_or (tabulated y (λ i. tabulated z (λ j. tabulated m (f i j)))) c []) o []) k x) d e
+    ∙ ap (λ (z : ℕ → ℕ → ℕ → _). slice_index_or (slice_index_or (slice_index_or (tabulated a' (λ i. tabulated n' (λ j. tabulated m (z i j)))) c []) o []) k x) p
+    ∙ deep-rows a' n' m g x q r t c o k
+
+pub no-row : {X : Type 0} (c : ℕ) (x : X) → from_one [] c x ≡ x
+no-row zero x = refl
+no-row (suc c) x = get_or_past [] c x (omega arith)

@@ -14,7 +14,7 @@ use Rattle.com_model.specs.Answers.{S_OK}
 use Rattle.com_model.specs.Lists.{or_else, first, is_number, is_member, count_if, number_or_zero, each_from, tabulated, from_one}
 use Rattle.com_model.specs.Tables.{lanes, threads, lane_sort, is_agile_class}
 use Rattle.com_model.specs.Openers.{Opener, effect_on, opened, left_on, running_call, entered_apartment, openers, served}
-use Rattle.com_model.specs.Apartments.{home_effect_on, home_after, home_by_sort, count_after, makes_sta, ends_sta, with_last, or_host, serves_by_sort, is_end, thread_home, init_count, stas, ended, made_in, over}
+use Rattle.com_model.specs.Apartments.{home_effect_on, home_after, home_by_sort, count_after, makes_sta, ends_sta, with_last, or_host, serves_by_sort, is_end, thread_home, init_count, stas, ended, made_in, over, next_sta}
 use Rattle.com_model.specs.Objects.{Making, makes, finals, making, objects, finaled}
 use Rattle.com_model.specs.Calls.{Issue, Admission, Leaving, issues, admits, leaves, returns, admission_or, leaving_or, object_of, lane_of, is_marshalled, issue, admitted, left, returned, calls, causes}
 use Rattle.com_model.specs.Clock.{ticked, filter_effect_on, filter_after, in_made_sta, clock, issued_at, last_filter}
@@ -348,6 +348,41 @@ after_by s st su e = completed s st su (scene_next s st su e) e
 abbrev pub after : Scenario → State → (lane : ℕ) → Deed → State
 after s st l d = after_by s st (tables_after s st (record { lane = l; deed = d })) (record { lane = l; deed = d })
 
+-- The state before the first entry: a row for each lane and each buffer, and none of a call or an object but the unused one of
+-- number 0.
+abbrev pub first_tables : Scenario → State
+first_tables s = record {
+  openers = tabulated (lanes s + 1) (λ l. []);
+  served = tabulated (lanes s + 1) (λ l. 0);
+  homes = tabulated (lanes s + 1) (λ l. None);
+  counts = tabulated (lanes s + 1) (λ l. 0);
+  made = tabulated (lanes s + 1) (λ l. []);
+  over = tabulated (lanes s + 1) (λ l. false);
+  filters = tabulated (lanes s + 1) (λ l. None);
+  mail = tabulated (lanes s + 1) (λ l. no_mail);
+  quits = tabulated (lanes s + 1) (λ l. false);
+  stas = [];
+  ended = [];
+  makings = [];
+  finaled = [];
+  issues = [];
+  admissions = [];
+  leavings = [];
+  returned = [];
+  endings = [];
+  refusals = [];
+  sent = [];
+  phases = [];
+  times = [];
+  postings = [];
+  causes = 0;
+  clock = 0;
+  entries = 0;
+  scene = record { scripts = tabulated (threads s + 1) (λ l. entered []); bodies = []; cells = []; buffers = tabulated 64 (λ b. []); destinations = [] };
+  books = record { stub = []; proxy = []; packets = []; cookies = []; live = []; arguments = []; result = [] };
+  fallen = [];
+}
+
 -- ---- the state of a history
 
 pub record SameScene (w x : Scene) : Type 0 where
@@ -419,3 +454,21 @@ pub record StandsFor (s : Scenario) (st : State) (h : List Entry) : Type 0 where
   pub fallen : st.fallen ≡ fallen s h
   pub clock : st.clock ≡ clock h
   pub entries : st.entries ≡ length h
+
+-- Nothing stands outside of the numbers that were given by then: scripts are threads', bodies and packets are those of calls that
+-- were issued, cells and public references those of objects that were made, by declared interfaces, and a proxy's those of an
+-- apartment; there are 64 buffers.
+pub record Bounded (s : Scenario) (h : List Entry) : Type 0 where
+  pub scripts : (l : ℕ) → threads s + 1 ≤ l → (scene s h).scripts l ≡ entered []
+  pub bodies : (c : ℕ) → calls h + 1 ≤ c → (scene s h).bodies c ≡ entered []
+  pub cells : (o : ℕ) → objects h + 1 ≤ o → (scene s h).cells o ≡ new_cells
+  pub buffers : (b : ℕ) → 64 ≤ b → (scene s h).buffers b ≡ []
+  pub destinations : (c : ℕ) → calls h + 1 ≤ c → (scene s h).destinations c ≡ destination.Nowhere
+  pub stub_objects : (o i : ℕ) → objects h + 1 ≤ o → (books s h).stub o i ≡ 0
+  pub stub_interfaces : (o i : ℕ) → length s.classes.interfaces ≤ i → (books s h).stub o i ≡ 0
+  pub proxy_apartments : (a o i : ℕ) → next_sta h ≤ a → (books s h).proxy a o i ≡ 0
+  pub proxy_objects : (a o i : ℕ) → objects h + 1 ≤ o → (books s h).proxy a o i ≡ 0
+  pub proxy_interfaces : (a o i : ℕ) → length s.classes.interfaces ≤ i → (books s h).proxy a o i ≡ 0
+  pub live : (o : ℕ) → objects h + 1 ≤ o → (books s h).live o ≡ false
+  pub arguments : (c : ℕ) → calls h + 1 ≤ c → (books s h).arguments c ≡ []
+  pub result : (c : ℕ) → calls h + 1 ≤ c → (books s h).result c ≡ None
