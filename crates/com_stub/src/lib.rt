@@ -105,9 +105,7 @@ impl Stubs {
         ensures counters { self.new.counters ≡ self.old.counters }
         ensures spare { self.old.spare ≤ self.new.spare }
     {
-        let Some(counters) = n.checked_mul(MOST_INTERFACES) else {
-            return Err(Memory);
-        };
+        let counters = n.checked_mul(MOST_INTERFACES).ok_or(Memory)?;
         self.counters.reserve(counters)?;
         self.places.reserve(n)?;
         self.stubs.reserve(n as usize)
