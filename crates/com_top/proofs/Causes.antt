@@ -1,12 +1,11 @@
 -- The causes of the statuses, from what the calls below answer.
-use Rattle.std.proofs.Common.{◌≡◌, ℕ, ◌<◌, ◌≤◌, ◌⊎◌, inl, inr, List, [], ◌∷◌, length, refl, sym, ◌∙◌, ap, Bool, true, false, Option, Some, Ok, Err, subst, Result, map, slice_index_or, ◌↔◌, arith, nat_lt}
+use Rattle.std.proofs.Common.{◌≡◌, ℕ, ◌<◌, ◌≤◌, ◌⊎◌, inl, inr, List, [], ◌∷◌, length, refl, sym, ◌∙◌, ap, Option, Some, Ok, Err, subst, Result, map, slice_index_or, ◌↔◌, arith}
 use Rattle.com_io.specs.declared.whole.ReadAllError.{ReadAllError}
 use Rattle.com_io.specs.declared.whole.ReadAllError.TheVariants as read_all_error
 use Rattle.com_io.specs.Faults.{Rose}
 use Rattle.com_io.specs.Told.{Gains, GainsPrefix, IsAtEnd, IsWholeOf}
 use Rattle.com_io.proofs.Passing.{prefix_of_none}
-use Rattle.com_scenario.specs.Sizes.{is_too_long, longest_of, begins_version_2}
-use Rattle.com_text.specs.Scanning.{lines_of}
+use Rattle.com_scenario.proofs.Lengths.{longer_than_all}
 use Rattle.com_top.specs.declared.inputs.Input.{Input}
 use Rattle.com_top.specs.declared.inputs.Input.TheVariants as input
 use Rattle.com_top.specs.declared.statuses.Status.{Status}
@@ -14,14 +13,9 @@ use Rattle.com_top.specs.declared.statuses.Status.TheVariants as status
 use Rattle.com_top.specs.Inputs.{input_of, output_of, status_of}
 use Rattle.com_top.specs.Statuses.{Completes, HasCause, IsAnswered, IsComplete, IsWritten, Says, Sides, WritesPart, code_of}
 
--- More bytes than any text may have.
-more_than_all : (n : ℕ) (is_2 : Bool) → 16777216 < n → nat_lt (longest_of is_2) n ≡ true
-more_than_all n true h = grind (arith, h)
-more_than_all n false h = grind (arith, h)
-
 too_long_input : (bytes : List ℕ) → 16777216 < length bytes → input_of bytes ≡ input.TooLong
-unfolding input_of is_too_long
-too_long_input bytes h = rw (more_than_all (length bytes) (begins_version_2 (lines_of bytes)) h) refl
+unfolding input_of
+too_long_input bytes h = rw (longer_than_all bytes h) refl
 
 -- An input that was told and came with too many bytes is too long.
 pub told_too_long : (left : Option (List ℕ)) (answer : Result (List ℕ) ReadAllError)
