@@ -1,1 +1,4 @@
 pub mod Alike
+pub mod Growing
+pub mod Declaring
+pub mod Standing
