@@ -61,7 +61,7 @@ guid_flip g k = cc (eqb_flip g.data1 k.data1, eqb_flip g.data2 k.data2, eqb_flip
 
 -- ---- not among others
 
-unmet : (b t : Bool) → (if b then true else t) ≡ false → (b ≡ false) × (t ≡ false)
+pub unmet : (b t : Bool) → (if b then true else t) ≡ false → (b ≡ false) × (t ≡ false)
 unmet true t h = absurd (true≢false h)
 unmet false t h = (refl, h)
 

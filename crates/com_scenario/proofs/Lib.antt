@@ -2,3 +2,5 @@ pub mod Alike
 pub mod Growing
 pub mod Declaring
 pub mod Standing
+pub mod Steps
+pub mod Forms
