@@ -61,7 +61,7 @@ guid_flip g k = cc (eqb_flip g.data1 k.data1, eqb_flip g.data2 k.data2, eqb_flip
 
 -- ---- not among others
 
-unmet : (b t : Bool) → (if b then true else t) ≡ false → (b ≡ false) × (t ≡ false)
+pub unmet : (b t : Bool) → (if b then true else t) ≡ false → (b ≡ false) × (t ≡ false)
 unmet true t h = absurd (true≢false h)
 unmet false t h = (refl, h)
 
@@ -113,7 +113,8 @@ tail_byte b = three (nat_le 65 b && nat_le b 90) (nat_le 97 b && nat_le b 122) (
         by false = refl
     three false true true o = refl
     three false true false o = refl
-    three false false d o = refl
+    three false false true o = refl
+    three false false false o = refl
 
 name_bytes : (bs : List ℕ) → are_tail bs ≡ true → All (λ b. is_name_byte b ≡ true) bs
 name_bytes [] h = All-nil (λ b. is_name_byte b ≡ true)
