@@ -6,7 +6,6 @@
 //! in it are those that the pass made, each once and in their order.
 #![tactic(auto)]
 
-mod bells;
 pub mod grows;
 pub mod turnstile;
 mod view;

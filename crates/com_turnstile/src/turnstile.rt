@@ -3,14 +3,15 @@ ghost use Rattle.std.specs.Prelude.{◌≡◌, ℕ, ◌+◌, ◌<◌, ◌≤◌,
 ghost use mathlib.Core.List.{IsPrefix};
 ghost use Rattle.com_turnstile.specs.Steps.{with_ticket, Entered};
 
-use crate::bells::Bells;
 use crate::grows::Grows;
 use crate::view::{Advance, Deal, Draw, Publish, Serve, Turns, View};
 use atomic_table::{Seat, Table};
 use std::alloc::{AllocError, Global};
-use std::hint;
 use std::snapshot::Snapshot;
 use std::sync::Wait;
+use std::sync::atomic::AtomicU64;
+use std::sync::atomic::Ordering::SeqCst;
+use std::{array, hint};
 
 // The word that counts the tickets drawn.
 const TICKETS: usize = 0;
@@ -26,6 +27,15 @@ const VALUE: usize = 0;
 
 // How often a pass that waits looks for its turn before it sleeps.
 const LOOKS: u32 = 200;
+
+// No more tickets than this are out at a time, since a turnstile has at most 64 passes.
+const TICKETS_OUT: usize = 64;
+
+// What a bell's word has while nobody sleeps by it.
+const SILENT: u64 = 0;
+
+// What a bell's word has while a pass sleeps by it, or is about to.
+const SET: u64 = 1;
 
 /// A lock round a value that grows. It serves its passes in the order of their tickets.
 ///
@@ -224,6 +234,44 @@ impl<T: Grows> Turnstile<T> {
         Pass {
             seat,
             count: longer,
+        }
+    }
+}
+
+// Where the passes that wait sleep: a word for each ticket that is out, so that the pass that leaves wakes the next pass
+// alone. No clause rests on a bell: it says only how long a pass sleeps before it looks again.
+#[derive(Drop)]
+struct Bells {
+    words: [AtomicU64; TICKETS_OUT],
+}
+
+impl Bells {
+    fn new() -> Bells {
+        Bells {
+            words: array::from_fn(|_| AtomicU64::new(SILENT)),
+        }
+    }
+
+    fn of(&self, ticket: u64) -> &AtomicU64 {
+        &self.words[(ticket % TICKETS_OUT as u64) as usize]
+    }
+
+    // Sets the ticket's bell. Whoever then finds the ticket not served yet may sleep.
+    fn set(&self, ticket: u64) {
+        self.of(ticket).store(SET, SeqCst);
+    }
+
+    // Sleeps until the bell rings, unless it has rung since it was set. It may also return for no reason.
+    fn sleep<R: Wait>(&self, rt: &R, ticket: u64) {
+        self.of(ticket).park(rt, SET as u32);
+    }
+
+    // Wakes the pass with the ticket, if it sleeps. The ticket has to be served before the bell rings.
+    fn ring(&self, ticket: u64) {
+        let bell = self.of(ticket);
+        if bell.load(SeqCst) == SET {
+            bell.store(SILENT, SeqCst);
+            bell.wake_all();
         }
     }
 }
