@@ -59,7 +59,8 @@ InServing s h l (_ ∷ os) = InServing s h l os
 abbrev pub Stacked : Scenario → List Entry → Type 0
 Stacked s h = (l : ℕ) → nested h l × InServing s h l (openers h l)
 
--- Who can make a deed: a body or a script, a script alone, or a rule.
+-- Who can make a deed: a body or a script, a script alone, or a rule. A packet is dropped by a statement or by a rule, and only
+-- a statement's drop is refused.
 pub data Maker : Type 0 where
   BodyOrScript : Maker
   ScriptAlone : Maker
@@ -72,6 +73,7 @@ maker (deed.Copy held) = BodyOrScript
 maker (deed.Release held) = BodyOrScript
 maker (deed.Marshal p m held refs hr bytes) = BodyOrScript
 maker (deed.Unmarshal p held refs hr) = BodyOrScript
+maker (deed.DropPacket None hr) = BodyOrScript
 maker (deed.Raw b n) = BodyOrScript
 maker (deed.Register g held hr) = BodyOrScript
 maker (deed.Get g held refs hr) = BodyOrScript
