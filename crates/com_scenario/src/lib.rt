@@ -2,10 +2,12 @@
 #![tactic(auto)]
 
 mod built_in;
+mod laws;
 mod reading;
 
 pub use com_base::Memory;
 pub use com_fields::ScenarioError;
+pub use laws::scenarios_are_formed;
 pub use reading::parse;
 
 #[cfg(test)]
