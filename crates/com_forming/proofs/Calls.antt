@@ -1,5 +1,5 @@
 -- Calls, and the methods that they name.
-use Rattle.std.proofs.Common.{◌≡◌, ℕ, zero, suc, ◌+◌, ◌≤◌, ◌<◌, ◌⊎◌, inl, inr, Bool, true, false, cond, ◌==◌, List, [], ◌∷◌, ◌++◌, length, take, drop, Option, Some, None, Result, Ok, Err, All, refl, sym, ap, subst, ◌∙◌, arith, if◌then◌else◌, option_map, option_and_then, append-nil, append_assoc}
+use Rattle.std.proofs.Common.{◌≡◌, ℕ, ◌+◌, ◌<◌, inl, inr, Bool, true, false, ◌==◌, List, [], ◌∷◌, ◌++◌, length, take, drop, Option, Some, None, Result, Ok, All, refl, sym, ap, subst, ◌∙◌, arith, if◌then◌else◌, option_map, option_and_then, append-nil, append_assoc}
 use Rattle.std.specs.Prelude.{slice_get, bytes_eq, codes}
 use Rattle.std.proofs.lemmas.List.Elements.{All-nil, All-cons}
 use Rattle.com_base.specs.declared.value.Kind.{Kind}
@@ -9,7 +9,6 @@ use Rattle.com_body.specs.declared.operands.Arg.{Arg}
 use Rattle.com_body.specs.declared.operands.Arg.TheVariants as args
 use Rattle.com_body.specs.declared.operands.Destination.{Destination}
 use Rattle.com_body.specs.declared.operands.Destination.TheVariants as destinations
-use Rattle.com_body.specs.declared.statements.Stmt.{Stmt}
 use Rattle.com_body.specs.declared.statements.Stmt.TheVariants as stmts
 use Rattle.com_body.specs.Bodies.{IsArg, IsDestination}
 use Rattle.com_classes.specs.declared.interfaces.Interface.{Interface}
@@ -19,9 +18,9 @@ use Rattle.com_fields.specs.declared.faults.Fault.{Fault}
 use Rattle.com_fields.specs.declared.operands.Operand.{Operand}
 use Rattle.com_fields.specs.declared.operands.Operand.TheVariants as operands
 use Rattle.com_fields.specs.Numbers.{number_of}
-use Rattle.com_fields.specs.Reading.{◌>>=◌, fault_at, word_at, stands_at, end_at, within}
-use Rattle.com_fields.specs.Naming.{is_name, number_of_name, of_16_bits}
-use Rattle.com_fields.specs.Operands.{operand_of, unfit, slot_at, literal_of}
+use Rattle.com_fields.specs.Reading.{◌>>=◌, word_at, stands_at, end_at, within}
+use Rattle.com_fields.specs.Naming.{is_name, number_of_name}
+use Rattle.com_fields.specs.Operands.{operand_of, slot_at, literal_of}
 use Rattle.com_statements.specs.declared.calls.MethodNumber.{MethodNumber}
 use Rattle.com_statements.specs.declared.calls.Target.{Target}
 use Rattle.com_statements.specs.declared.calls.Target.TheVariants as targets
@@ -46,6 +45,7 @@ methods_below (m ∷ ms) name n e = by (bytes_eq m.name name) refl (λ k is. met
     more : (o : Option ℕ) → ((k : ℕ) → o ≡ Some k → k < length ms) → option_map (λ (k : ℕ). k + 1) o ≡ Some n → n < length (m ∷ ms)
     more None lower f = absurd cc
     more (Some k) lower f = let g : k + 1 ≡ n = cc in let h = lower k refl in omega arith
+
     by : (b : Bool) → bytes_eq m.name name ≡ b → ((k : ℕ) → method_position ms name ≡ Some k → k < length ms) → n < length (m ∷ ms)
     by true t lower = let f : Some 0 ≡ Some n = sym (ap (λ (b : Bool). if b then Some 0 else option_map (λ (k : ℕ). k + 1) (method_position ms name)) t) ∙ e in let g : 0 ≡ n = cc in omega arith
     by false t lower = more (method_position ms name) lower (sym (ap (λ (b : Bool). if b then Some 0 else option_map (λ (k : ℕ). k + 1) (method_position ms name)) t) ∙ e)
@@ -224,10 +224,10 @@ destination_formed : (kind : Option Kind) (line : List WordAt) (k : ℕ) → All
 unfolding destination_at
 destination_formed kind line k h = bind (stands_at line k) _ (anything (stands_at line k)) (λ there _. either there _ _
     (λ _. bind (word_at line k) _ (anything (word_at line k)) (λ arrow _. either (bytes_eq arrow.bytes (codes "->")) _ _
-      (λ _. bind (word_at line (k + 1)) _ (word_formed line (k + 1) h) (λ w is.
-        bind (landing_of kind w (operand_of w)) _ (landing_formed kind w w.bytes (operand_of w) (said w is)) (λ d lands.
-        bind (end_at line (k + 2)) _ (anything (end_at line (k + 2))) (λ _ _. done d lands))))
-      (λ _. fails _)))
+    (λ _. bind (word_at line (k + 1)) _ (word_formed line (k + 1) h) (λ w is.
+    bind (landing_of kind w (operand_of w)) _ (landing_formed kind w w.bytes (operand_of w) (said w is)) (λ d lands.
+    bind (end_at line (k + 2)) _ (anything (end_at line (k + 2))) (λ _ _. done d lands))))
+    (λ _. fails _)))
     (λ _. done destinations.Nowhere (record { fits = nowhere_fits kind; in_range = tt })))
 
 -- ---- calls
@@ -261,7 +261,7 @@ call_by_holds : (s : Scenario) (x : Context) (p : Program) (names : Names) (slot
 call_by_holds s x p names slot line (targets.Named m) d h low is =
     let known : m.iface < length s.classes.interfaces = subst (λ (n : ℕ). m.iface < n) d.interfaces is in
     let same : declared_method s m.iface m.method ≡ method_of names.tables m.iface m.method =
-        sym (found (slice_get s.classes.interfaces m.iface) m.method) ∙ ap (λ (ts : List Interface). in_methods m.method (slice_get ts m.iface)) (sym d.tables) in
+    sym (found (slice_get s.classes.interfaces m.iface) m.method) ∙ ap (λ (ts : List Interface). in_methods m.method (slice_get ts m.iface)) (sym d.tables) in
     signed_holds s x slot m (method_of names.tables m.iface m.method) line h low known same
 call_by_holds s x p names slot line (targets.Numbered m) d h low is =
     let known : m.iface < length s.classes.interfaces = subst (λ (n : ℕ). m.iface < n) d.interfaces is in

@@ -1,5 +1,5 @@
 -- What is read at one word.
-use Rattle.std.proofs.Common.{◌≡◌, ℕ, zero, suc, ◌+◌, ◌-◌, ◌*◌, ◌≤◌, ◌<◌, ◌⊎◌, inl, inr, Bool, true, false, cond, not, ◌==◌, ◌&&◌, ◌||◌, nat_le, nat_lt, ltb, List, [], ◌∷◌, ◌++◌, length, take, drop, Option, Some, None, Result, Ok, Err, All, refl, sym, ap, subst, ◌∙◌, arith, length-append, if◌then◌else◌, option_map, option_and_then, ℤ}
+use Rattle.std.proofs.Common.{◌≡◌, ℕ, zero, suc, ◌+◌, ◌-◌, ◌*◌, ◌≤◌, ◌<◌, Bool, true, false, ◌==◌, ◌&&◌, ◌||◌, nat_le, nat_lt, List, [], ◌∷◌, ◌++◌, length, take, Option, Some, None, Result, Ok, Err, All, refl, sym, ap, subst, ◌∙◌, arith, length-append, if◌then◌else◌, option_map, ℤ}
 use Rattle.std.specs.Prelude.{slice_get, slice_range, bytes_eq, codes}
 use Rattle.std.proofs.Math.Seq.{take-append_seam}
 use Rattle.std.proofs.lemmas.List.Elements.{All-head, All-tail}
@@ -17,7 +17,6 @@ use Rattle.com_body.specs.declared.operands.Op.{Op}
 use Rattle.com_body.specs.declared.operands.Op.TheVariants as ops
 use Rattle.com_body.specs.declared.operands.Place.{Place}
 use Rattle.com_body.specs.declared.operands.Place.TheVariants as places
-use Rattle.com_body.specs.declared.operands.Code.{Code}
 use Rattle.com_body.specs.declared.operands.Code.TheVariants as answers
 use Rattle.com_body.specs.declared.operands.Given.{Given}
 use Rattle.com_body.specs.declared.operands.Given.TheVariants as gifts
@@ -29,14 +28,14 @@ use Rattle.com_fields.specs.declared.faults.Fault.{Fault}
 use Rattle.com_fields.specs.declared.operands.Operand.{Operand}
 use Rattle.com_fields.specs.declared.operands.Operand.TheVariants as operands
 use Rattle.com_fields.specs.Numbers.{number_of, signed_of}
-use Rattle.com_fields.specs.Reading.{◌>>=◌, fault_at, character_at, missing_at, judged, needed, word_at, stands_at, first_at, opened, opening, within, number_at}
+use Rattle.com_fields.specs.Reading.{◌>>=◌, judged, needed, word_at, stands_at, first_at, opened, opening, within, number_at}
 use Rattle.com_fields.specs.Literals.{guid_of, are_pairs, decoded, unhexed}
 use Rattle.com_fields.specs.Naming.{is_name, position_of, of_16_bits, number_of_name, name_at, known, declared_at, opens_brace, as_asked, asked_at}
-use Rattle.com_fields.specs.Operands.{small_of, lettered_by, lettered, numbered, numeric_of, braced, begins_number, by_first, plain_of, inner, operand_by, operand_of, unfit, as_register, register_at, as_slot, slot_at, as_cell, cell_at, as_buffer, buffer_at, as_place, place_at, text_literal, as_bytes, bytes_literal, written, literal_of, op_at, as_code_register, as_code, code_at, hresult_of, as_given, given_at}
-use Rattle.com_model.specs.Formed.{is_text_byte, IsLiteral, IsOperand, IsGivenValue}
+use Rattle.com_fields.specs.Operands.{small_of, lettered_by, lettered, numbered, numeric_of, braced, begins_number, by_first, plain_of, inner, operand_by, operand_of, as_register, register_at, as_slot, slot_at, as_cell, cell_at, as_buffer, buffer_at, as_place, place_at, text_literal, as_bytes, bytes_literal, written, literal_of, op_at, as_code_register, as_code, code_at, hresult_of, as_given, given_at}
+use Rattle.com_model.specs.Formed.{IsLiteral, IsOperand, IsGivenValue}
 use Rattle.com_forming.specs.Words.{IsQuoted, IsLiteral as IsLiteralWord, IsWord}
 use Rattle.com_forming.specs.Holds.{Holds}
-use Rattle.com_forming.proofs.Holds.{done, fails, anything, bind, weaker, either}
+use Rattle.com_forming.proofs.Holds.{done, fails, anything, bind, either}
 
 -- ---- words
 
@@ -85,8 +84,8 @@ IsWithin low high n = (low ≤ n) × (n ≤ high)
 within_holds : (low high : ℕ) (w : WordAt) (o : Option ℕ) → Holds (IsWithin low high) (within low high w o)
 within_holds low high w None = fails _
 within_holds low high w (Some n) = either (nat_le low n && nat_le n high) (Ok n) _
-  (λ e. let p = and_parts (nat_le low n) (nat_le n high) e in done n (leb-true low n p.0, leb-true n high p.1))
-  (λ _. fails _)
+    (λ e. let p = and_parts (nat_le low n) (nat_le n high) e in done n (leb-true low n p.0, leb-true n high p.1))
+    (λ _. fails _)
 
 pub number_formed : (low high : ℕ) (line : List WordAt) (k : ℕ) → Holds (IsWithin low high) (number_at low high line k)
 unfolding number_at
@@ -101,6 +100,7 @@ position_below (m ∷ ms) name n e = by (bytes_eq m name) refl (λ k is. positio
     more : (o : Option ℕ) → ((k : ℕ) → o ≡ Some k → k < length ms) → option_map (λ (k : ℕ). k + 1) o ≡ Some n → n < length (m ∷ ms)
     more None lower f = absurd cc
     more (Some k) lower f = let g : k + 1 ≡ n = cc in let h = lower k refl in omega arith
+
     by : (b : Bool) → bytes_eq m name ≡ b → ((k : ℕ) → position_of ms name ≡ Some k → k < length ms) → n < length (m ∷ ms)
     by true t lower = let f : Some 0 ≡ Some n = sym (ap (λ (b : Bool). if b then Some 0 else option_map (λ (k : ℕ). k + 1) (position_of ms name)) t) ∙ e in let g : 0 ≡ n = cc in omega arith
     by false t lower = more (position_of ms name) lower (sym (ap (λ (b : Bool). if b then Some 0 else option_map (λ (k : ℕ). k + 1) (position_of ms name)) t) ∙ e)
@@ -142,8 +142,8 @@ pub asked_formed : (names : List (List ℕ)) (low : ℕ) (line : List WordAt) (k
 unfolding asked_at
 asked_formed names low line k = bind (word_at line k) _ (anything (word_at line k)) (λ w _.
     either (opens_brace w.bytes) _ _
-      (λ _. asked_guid low (length names) w (guid_of w.bytes))
-      (λ _. bind (declared_at names line k) _ (declared_formed names line k) (λ n h. done (askeds.Number (n + low)) (omega arith, omega arith))))
+    (λ _. asked_guid low (length names) w (guid_of w.bytes))
+    (λ _. bind (declared_at names line k) _ (declared_formed names line k) (λ n h. done (askeds.Number (n + low)) (omega arith, omega arith))))
 
 -- ---- operands
 

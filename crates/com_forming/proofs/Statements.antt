@@ -1,16 +1,14 @@
 -- Every statement that is read fits its place.
-use Rattle.std.proofs.Common.{◌≡◌, ℕ, zero, suc, ◌+◌, ◌*◌, ◌≤◌, ◌<◌, Bool, true, false, cond, not, nat_lt, List, [], ◌∷◌, length, Option, Some, None, Result, Ok, Err, All, refl, sym, ap, subst, ◌∙◌, arith, if◌then◌else◌}
+use Rattle.std.proofs.Common.{◌≡◌, ℕ, ◌+◌, ◌≤◌, true, not, nat_lt, List, length, Option, Some, None, All, refl, ◌∙◌, arith}
 use Rattle.std.specs.Prelude.{bytes_eq, codes}
-use Rattle.std.proofs.lemmas.Bool.{ltb-false, not-true, not-false}
+use Rattle.std.proofs.lemmas.Bool.{ltb-false, not-true}
 use Rattle.com_body.specs.declared.operands.Asked.{Asked}
 use Rattle.com_body.specs.declared.operands.Asked.TheVariants as askeds
 use Rattle.com_body.specs.declared.operands.Place.{Place}
 use Rattle.com_body.specs.declared.operands.Place.TheVariants as places
-use Rattle.com_body.specs.declared.statements.Stmt.{Stmt}
 use Rattle.com_body.specs.declared.statements.Stmt.TheVariants as stmts
 use Rattle.com_text.specs.Words.{WordAt}
-use Rattle.com_fields.specs.declared.faults.Fault.{Fault}
-use Rattle.com_fields.specs.Reading.{◌>>=◌, fault_at, word_at, end_at, number_at}
+use Rattle.com_fields.specs.Reading.{word_at, end_at, number_at}
 use Rattle.com_fields.specs.Literals.{are_pairs, unhexed}
 use Rattle.com_fields.specs.Naming.{name_at, declared_at, asked_at}
 use Rattle.com_fields.specs.Operands.{register_at, slot_at, cell_at, buffer_at, place_at, op_at, code_at, given_at, mode_at, marshal_mode_at}
@@ -31,8 +29,8 @@ use Rattle.com_model.specs.Formed.{Context, IsClassNamed, IsInterfaceNamed, IsPl
 use Rattle.com_forming.specs.Words.{IsWord}
 use Rattle.com_forming.specs.Holds.{Holds}
 use Rattle.com_forming.specs.Declared.{Declares, Fits}
-use Rattle.com_forming.proofs.Holds.{done, fails, anything, bind, weaker, either}
-use Rattle.com_forming.proofs.Fields.{IsAskedIn, IsLinkIn, IsWithin, word_formed, number_formed, declared_formed, asked_formed, register_formed, slot_formed, cell_formed, buffer_formed, place_formed, op_formed, code_formed, given_formed, unhexed_length}
+use Rattle.com_forming.proofs.Holds.{done, fails, anything, bind, either}
+use Rattle.com_forming.proofs.Fields.{IsAskedIn, IsLinkIn, word_formed, number_formed, declared_formed, asked_formed, register_formed, slot_formed, cell_formed, buffer_formed, place_formed, op_formed, code_formed, given_formed, unhexed_length}
 use Rattle.com_forming.proofs.Calls.{call_formed}
 
 -- ---- what is named
@@ -54,7 +52,7 @@ unfolding filter_at
 filter_holds s x p names line k d = bind (name_at line k) _ (anything (name_at line k)) (λ w _. either (bytes_eq w.bytes (codes "none")) _ _
     (λ _. done None tt)
     (λ _. bind (declared_at names.filters line k) _ (declared_formed names.filters line k) (λ n h.
-      let e = d.filters in done (Some (n + 1)) (omega arith, omega (arith, h, e)))))
+    let e = d.filters in done (Some (n + 1)) (omega arith, omega (arith, h, e)))))
 
 -- ---- statements
 
@@ -112,7 +110,7 @@ raw_formed : (line : List WordAt) (k : ℕ) → All IsWord line → Holds IsRaw 
 unfolding raw_at
 raw_formed line k h = bind (word_at line k) _ (word_formed line k h) (λ w is. either (not (are_pairs w.bytes)) _ _ (λ _. fails _)
     (λ _. either (nat_lt 8192 (length w.bytes)) _ _ (λ _. fails _)
-      (λ e. raw_by w (unhexed w.bytes) (λ b f. raw_bytes w.bytes b is.some (ltb-false 8192 (length w.bytes) e) f))))
+    (λ e. raw_by w (unhexed w.bytes) (λ b f. raw_bytes w.bytes b is.some (ltb-false 8192 (length w.bytes) e) f))))
 
 object_holds : (s : Scenario) (x : Context) (p : Program) (names : Names) (k : ObjectWord) (line : List WordAt) → Declares s x p names → All IsWord line → Holds (Fits s x) (object_of p names k line)
 unfolding object_of
@@ -121,22 +119,22 @@ object_holds s x p names objects.Create line d h =
     bind (asked_at names.classes 1 line 2) _ (asked_formed names.classes 1 line 2) (λ class b.
     bind (asked_at names.interfaces 0 line 3) _ (asked_formed names.interfaces 0 line 3) (λ iface c.
     bind (end_at line 4) _ (anything (end_at line 4)) (λ _ _. done (stmts.Create slot class iface)
-      (record { in_range = a; stated = (class_named s x p names class d b, interface_named s x p names iface d c) })))))
+    (record { in_range = a; stated = (class_named s x p names class d b, interface_named s x p names iface d c) })))))
 object_holds s x p names objects.Query line d h =
     bind (slot_at line 1) _ (slot_formed line 1 h) (λ to a.
     bind (slot_at line 2) _ (slot_formed line 2 h) (λ from b.
     bind (asked_at names.interfaces 0 line 3) _ (asked_formed names.interfaces 0 line 3) (λ iface c.
     bind (end_at line 4) _ (anything (end_at line 4)) (λ _ _. done (stmts.Query to from iface)
-      (record { in_range = (a, b); stated = interface_named s x p names iface d c })))))
+    (record { in_range = (a, b); stated = interface_named s x p names iface d c })))))
 object_holds s x p names objects.Copy line d h =
     bind (place_at (has_links p) line 1) _ (place_formed (has_links p) line 1 h) (λ to a.
     bind (place_at (has_links p) line 2) _ (place_formed (has_links p) line 2 h) (λ from b.
     bind (end_at line 3) _ (anything (end_at line 3)) (λ _ _. done (stmts.Copy to from)
-      (record { in_range = (a.0, b.0); stated = (place_named s x p names to d a.1, place_named s x p names from d b.1) }))))
+    (record { in_range = (a.0, b.0); stated = (place_named s x p names to d a.1, place_named s x p names from d b.1) }))))
 object_holds s x p names objects.Release line d h =
     bind (place_at (has_links p) line 1) _ (place_formed (has_links p) line 1 h) (λ from a.
     bind (end_at line 2) _ (anything (end_at line 2)) (λ _ _. done (stmts.Release from)
-      (record { in_range = a.0; stated = place_named s x p names from d a.1 })))
+    (record { in_range = a.0; stated = place_named s x p names from d a.1 })))
 object_holds s x p names objects.Call line d h = call_formed s x p names line d h
 object_holds s x p names objects.Marshal line d h =
     bind (buffer_at line 1) _ (buffer_formed line 1 h) (λ buffer a.

@@ -1,8 +1,8 @@
 -- The scanner's words.
-use Rattle.std.proofs.Common.{◌≡◌, ℕ, ◌+◌, ◌≤◌, ◌⊎◌, inl, inr, Bool, true, false, cond, not, ◌==◌, ◌&&◌, ◌||◌, nat_le, nat_lt, List, [], ◌∷◌, ◌++◌, length, Option, Some, None, All, refl, sym, ap, ◌∙◌, arith, length-append, if◌then◌else◌, append_assoc}
+use Rattle.std.proofs.Common.{◌≡◌, ℕ, ◌+◌, ◌≤◌, ◌⊎◌, inl, inr, true, false, not, ◌==◌, ◌&&◌, ◌||◌, nat_le, nat_lt, List, [], ◌∷◌, ◌++◌, length, Option, Some, None, All, refl, sym, ap, ◌∙◌, arith, length-append}
 use Rattle.std.specs.Prelude.{slice_index, bytes_eq, codes}
 use Rattle.std.proofs.lemmas.List.Elements.{All-nil, All-cons, All-append, All-push}
-use Rattle.std.proofs.lemmas.Bool.{cond_both, eqb-true, or_parts, or_cases, or_right, or_left, and_from, and_parts, ltb-false, le-leb, not_from_false, eq-eqb, true≢false}
+use Rattle.std.proofs.lemmas.Bool.{cond_both, eqb-true, or_parts, or_cases, or_right, and_from, and_parts, ltb-false, le-leb, not_from_false, true≢false}
 use Rattle.std.proofs.lemmas.Option.{none-some}
 use Rattle.com_text.specs.declared.word.Sort.{Sort}
 use Rattle.com_text.specs.declared.word.Sort.TheVariants as sorts
@@ -10,8 +10,8 @@ use Rattle.com_text.specs.declared.scan.Class.{Class}
 use Rattle.com_text.specs.declared.scan.Class.TheVariants as classes
 use Rattle.com_text.specs.declared.scan.Within.{Within}
 use Rattle.com_text.specs.declared.scan.Within.TheVariants as within
-use Rattle.com_text.specs.Words.{WordAt, LineAt}
-use Rattle.com_text.specs.Scanning.{Scanning, class_of, ends_line, turn, strayed, moved, after, sorted, word_of, remark, closed_by, closing, literal, gave_by, gave, at_line, ended, lines_from, lines_of}
+use Rattle.com_text.specs.Words.{WordAt}
+use Rattle.com_text.specs.Scanning.{Scanning, class_of, ends_line, turn, strayed, moved, after, sorted, word_of, remark, closed_by, closing, gave_by, gave, at_line, ended, lines_from, lines_of}
 use Rattle.com_model.specs.Formed.{is_text_byte}
 use Rattle.com_forming.specs.Words.{IsQuoted, IsLiteral, IsWord, IsLine}
 
@@ -178,12 +178,12 @@ lines_on (b ∷ bs) s words h all =
     let c = class_of b next in
     let is = byte_of b next in
     cond_both (ends_line c) (ended s words false ∷ lines_from (at_line (s.line + 1) (s.at + 1)) [] bs) (lines_from (after s b c) (words ++ gave s b c) bs) (All IsLine)
-      (λ _. All-cons IsLine (ended s words false) (lines_from (at_line (s.line + 1) (s.at + 1)) [] bs)
-        (All-append IsWord words (closing s) all (closed s b s.stands h))
-        (lines_on bs (at_line (s.line + 1) (s.at + 1)) [] refl (All-nil IsWord)))
-      (λ e. lines_on bs (after s b c) (words ++ gave s b c)
-        (stepped s b next c s.stands is (not_end b next e) h)
-        (All-append IsWord words (gave s b c) all (given s b next c s.stands is (not_end b next e) h)))
+    (λ _. All-cons IsLine (ended s words false) (lines_from (at_line (s.line + 1) (s.at + 1)) [] bs)
+    (All-append IsWord words (closing s) all (closed s b s.stands h))
+    (lines_on bs (at_line (s.line + 1) (s.at + 1)) [] refl (All-nil IsWord)))
+    (λ e. lines_on bs (after s b c) (words ++ gave s b c)
+    (stepped s b next c s.stands is (not_end b next e) h)
+    (All-append IsWord words (gave s b c) all (given s b next c s.stands is (not_end b next e) h)))
 
 pub lines_formed : (text : List ℕ) → All IsLine (lines_of text)
 unfolding lines_of

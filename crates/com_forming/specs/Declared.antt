@@ -1,5 +1,5 @@
 -- What the names above a line say of a scenario.
-use Rattle.std.specs.Prelude.{◌≡◌, ℕ, List, length}
+use Rattle.std.specs.Prelude.{◌≡◌, length}
 use Rattle.com_body.specs.declared.statements.Stmt.{Stmt}
 use Rattle.com_body.specs.Bodies.{IsInRange}
 use Rattle.com_model.specs.declared.scenario.Scenario.{Scenario}

@@ -17,8 +17,7 @@ ghost use Rattle.com_forming.specs.Declared.{Declares, Fits};
 /// Every word of a text has a byte, and between the marks of a text literal stand characters alone.
 pub fn words_are_formed()
     ensures { (text : List ℕ) → All IsLine (lines_of text) }
-{
-}
+{}
 
 /// A statement that is read from a line of such words is in its ranges and fits its place: it names
 /// only classes, interfaces, methods and filters that the names above the line declare, a call has
@@ -26,5 +25,4 @@ pub fn words_are_formed()
 /// and scripts stand only where they may.
 pub fn statements_fit()
     ensures { (s : Scenario) (x : Context) (p : Program) (names : Names) (k : Keyword) (line : List WordAt) → Declares s x p names → All IsWord line → takes p k ≡ true → Holds (Fits s x) (stmt_of p names k line) }
-{
-}
+{}

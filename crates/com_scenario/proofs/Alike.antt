@@ -1,8 +1,8 @@
 -- Names and GUIDs that are not among others, in the words of forms.
-use Rattle.std.proofs.Common.{◌≡◌, ℕ, zero, suc, ◌+◌, ◌≤◌, ◌<◌, Bool, true, false, cond, not, ◌==◌, ◌&&◌, ◌||◌, nat_le, eqb, List, [], ◌∷◌, ◌++◌, length, map, Option, Some, None, is_some, All, refl, sym, ap, subst, ◌∙◌, arith, if◌then◌else◌, option_map, codes, true≢false}
+use Rattle.std.proofs.Common.{◌≡◌, ℕ, ◌+◌, Bool, true, false, ◌==◌, ◌&&◌, ◌||◌, nat_le, eqb, List, [], ◌∷◌, ◌++◌, length, map, Option, Some, None, is_some, All, refl, sym, ap, ◌∙◌, if◌then◌else◌, option_map, codes, true≢false}
 use Rattle.std.specs.Prelude.{bytes_eq}
-use Rattle.std.proofs.lemmas.List.Elements.{All-nil, All-cons, All-weaker}
-use Rattle.std.proofs.lemmas.Bool.{and_parts, or_from, leb-true, eqb-true, eq-eqb, false_from_ne_true, cases_Bool}
+use Rattle.std.proofs.lemmas.List.Elements.{All-nil, All-cons}
+use Rattle.std.proofs.lemmas.Bool.{or_from, leb-true, eqb-true, eq-eqb}
 use Rattle.com_base.specs.declared.guid.Guid.{Guid}
 use Rattle.com_base.specs.declared.value.Kind.{Kind}
 use Rattle.com_fields.specs.Naming.{is_tail, are_tail, is_name, position_of}
@@ -150,7 +150,7 @@ pub untyped : (n : List ℕ) → is_some (type_word_of n) ≡ false → is_type_
 untyped n h =
     let f : (w : List ℕ) → same_numbers n w ≡ bytes_eq n w = λ w. same_bytes n w in
     rw (f (codes "int"), f (codes "bool"), f (codes "text"), f (codes "bytes"), f (codes "guid"))
-      (untyped_by (bytes_eq n (codes "int")) (bytes_eq n (codes "bool")) (bytes_eq n (codes "text")) (bytes_eq n (codes "bytes")) (bytes_eq n (codes "guid")) _ _ _ _ _ h)
+    (untyped_by (bytes_eq n (codes "int")) (bytes_eq n (codes "bool")) (bytes_eq n (codes "text")) (bytes_eq n (codes "bytes")) (bytes_eq n (codes "guid")) _ _ _ _ _ h)
 
 -- an IID that is none of Microsoft's
 unlike_documented : (n : ℕ) (g : Guid) → guid_eq (microsoft n) g ≡ false → same_guid g (documented_iid n) ≡ false
@@ -159,4 +159,4 @@ unlike_documented n g h = unlike_guids g (documented_iid n) (guid_flip g (docume
 pub unreserved : (g : Guid) → guid_eq (microsoft 1) g ≡ false → guid_eq (microsoft 0x16) g ≡ false → guid_eq (microsoft 0x146) g ≡ false → is_reserved g ≡ false
 unreserved g a b c =
     or_from (same_guid g (documented_iid 1)) (same_guid g (documented_iid 0x16) || same_guid g (documented_iid 0x146)) (unlike_documented 1 g a)
-      (or_from (same_guid g (documented_iid 0x16)) (same_guid g (documented_iid 0x146)) (unlike_documented 0x16 g b) (unlike_documented 0x146 g c))
+    (or_from (same_guid g (documented_iid 0x16)) (same_guid g (documented_iid 0x146)) (unlike_documented 0x16 g b) (unlike_documented 0x146 g c))

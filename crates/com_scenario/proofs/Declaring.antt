@@ -1,8 +1,8 @@
 -- What the words of a declaration say.
-use Rattle.std.proofs.Common.{◌≡◌, ℕ, zero, suc, ◌+◌, ◌≤◌, ◌<◌, ◌^◌, Bool, true, false, cond, nat_le, List, [], ◌∷◌, ◌++◌, length, map, drop, Option, Some, None, is_some, Result, Ok, Err, All, refl, sym, ap, subst, ◌∙◌, arith, if◌then◌else◌, true≢false, ℤ, pos, negsuc, length-append}
+use Rattle.std.proofs.Common.{◌≡◌, ℕ, zero, suc, ◌+◌, ◌≤◌, ◌<◌, ◌^◌, Bool, true, false, nat_le, List, [], ◌∷◌, ◌++◌, length, drop, Option, Some, None, is_some, Result, Ok, Err, All, refl, sym, subst, ◌∙◌, arith, if◌then◌else◌, true≢false, ℤ, pos, negsuc, length-append}
 use Rattle.std.specs.Prelude.{bytes_eq, codes, slice_get}
 use Rattle.std.proofs.lemmas.List.Elements.{All-nil, All-push}
-use Rattle.std.proofs.lemmas.Bool.{leb-false, leb-true, eqb-true, cases_Bool}
+use Rattle.std.proofs.lemmas.Bool.{leb-false, leb-true, eqb-true}
 use Rattle.com_base.specs.declared.guid.Guid.{Guid}
 use Rattle.com_base.specs.declared.value.Kind.{Kind}
 use Rattle.com_base.specs.declared.value.Kind.TheVariants as kinds
@@ -11,14 +11,12 @@ use Rattle.com_body.specs.declared.frame.Native.TheVariants as natives
 use Rattle.com_classes.specs.declared.interfaces.Method.{Method}
 use Rattle.com_classes.specs.declared.classes.ThreadingModel.{ThreadingModel}
 use Rattle.com_classes.specs.declared.classes.ThreadingModel.TheVariants as models
-use Rattle.com_filter.specs.declared.Rule.{Rule}
 use Rattle.com_filter.specs.declared.Rule.TheVariants as rules
-use Rattle.com_filter.specs.declared.Verdict.{Verdict}
 use Rattle.com_filter.specs.declared.Verdict.TheVariants as verdicts
 use Rattle.com_text.specs.Words.{WordAt}
 use Rattle.com_fields.specs.declared.faults.Fault.{Fault}
 use Rattle.com_fields.specs.Numbers.{signed_of}
-use Rattle.com_fields.specs.Reading.{◌>>=◌, fault_at, word_at, needed, stands_at, end_at, number_at, missing_at}
+use Rattle.com_fields.specs.Reading.{◌>>=◌, fault_at, word_at, needed, stands_at, end_at, number_at}
 use Rattle.com_fields.specs.Naming.{is_name, position_of, name_at, declared_at}
 use Rattle.com_fields.specs.Literals.{guid_at}
 use Rattle.com_statements.specs.Calls.{method_position}
@@ -28,12 +26,12 @@ use Rattle.com_sections.specs.declared.rules.RuleWord.{RuleWord}
 use Rattle.com_sections.specs.declared.rules.RuleWord.TheVariants as words
 use Rattle.com_sections.specs.Tables.{has_guid}
 use Rattle.com_sections.specs.Methods.{type_word_of, type_by, type_at, item_at, signature_on, method_of}
-use Rattle.com_sections.specs.Declaring.{free_guid_at, free_name_at, interface_name_at, filter_name_at, model_at, relay_of, native_at, listed_item, listed_on, listed_at, pick_at, picks_on}
+use Rattle.com_sections.specs.Declaring.{free_guid_at, free_name_at, interface_name_at, relay_of, native_at, listed_item, listed_on, listed_at, pick_at, picks_on}
 use Rattle.com_sections.specs.Rules.{call_type_at, verdict_at, refusal_at, in_answers, as_answer, answer_at, kept_at, rule_of}
-use Rattle.com_model.specs.Formed.{IsName, IsKindBy, IsResultBy, IsMethod, same_method, is_agile, last_ms, IsType, IsAsked, IsRetryAnswer, IsRule}
+use Rattle.com_model.specs.Formed.{IsName, IsKindBy, IsResultBy, IsMethod, same_method, is_agile, IsType, IsAsked, IsRetryAnswer, IsRule}
 use Rattle.com_forming.specs.Holds.{Holds}
 use Rattle.com_forming.proofs.Holds.{done, fails, anything, bind, weaker, either}
-use Rattle.com_forming.proofs.Fields.{IsWithin, number_formed, name_formed, declared_formed}
+use Rattle.com_forming.proofs.Fields.{number_formed, name_formed, declared_formed}
 use Rattle.com_scenario.proofs.Alike.{name_good, unnamed_method}
 
 -- ---- names and GUIDs that are new
@@ -97,9 +95,11 @@ pub interface_name_new : (names : List (List ℕ)) (line : List WordAt) → Hold
 unfolding interface_name_at
 interface_name_new names line = bind (name_at line 1) _ (itself (name_at line 1)) (λ w first. either (is_some (type_word_of w.bytes)) _ _
     (λ _. fails _)
-    (λ e. record { of = λ v f.
-      let same : w ≡ v = cc (sym first ∙ free_is names line 1 v f) in
-      record { new = (free_name_new names line 1).of v f; untyped = subst (λ (x : WordAt). is_some (type_word_of x.bytes) ≡ false) same e } }))
+    (λ e. record {
+      of = λ v f.
+          let same : w ≡ v = cc (sym first ∙ free_is names line 1 v f) in
+          record { new = (free_name_new names line 1).of v f; untyped = subst (λ (x : WordAt). is_some (type_word_of x.bytes) ≡ false) same e };
+    }))
 
 -- ---- methods
 
@@ -145,11 +145,11 @@ unfolding item_at
 item_kind n names count line i e =
     bind (stands_at line i) _ (anything (stands_at line i)) (λ _ _.
     bind (word_at line i) _ (anything (word_at line i)) (λ w _. either (bytes_eq w.bytes (codes "->")) _ _
-      (λ _. bind (type_at names line (i + 1)) _ (type_kind n names line (i + 1) e) (λ k h.
-        bind (end_at line (i + 2)) _ (anything (end_at line (i + 2))) (λ _ _. done (record { kind = k; last = true }) (record { kind = h; room = λ f. absurd (true≢false f) }))))
-      (λ _. bind (type_at names line i) _ (type_kind n names line i e) (λ k h. either (nat_le 4 count) _ _
-        (λ _. fails _)
-        (λ f. done (record { kind = k; last = false }) (record { kind = h; room = λ _. leb-false 4 count f }))))))
+    (λ _. bind (type_at names line (i + 1)) _ (type_kind n names line (i + 1) e) (λ k h.
+    bind (end_at line (i + 2)) _ (anything (end_at line (i + 2))) (λ _ _. done (record { kind = k; last = true }) (record { kind = h; room = λ f. absurd (true≢false f) }))))
+    (λ _. bind (type_at names line i) _ (type_kind n names line i e) (λ k h. either (nat_le 4 count) _ _
+    (λ _. fails _)
+    (λ f. done (record { kind = k; last = false }) (record { kind = h; room = λ _. leb-false 4 count f }))))))
 
 pub record IsSignature (n : ℕ) (s : Signature) : Type 0 where
   pub params : All (IsKindBy n) s.params
@@ -161,9 +161,9 @@ signature_kinds : (vs : List WordAt) (n : ℕ) (names : List (List ℕ)) (front 
 signature_kinds [] n names front line i e h few = done (record { params = front; result = None }) (record { params = h; few = few; result = tt })
 signature_kinds (v ∷ vs) n names front line i e h few =
     bind (item_at names (length front) line i) _ (item_kind n names (length front) line i e) (λ item is. either item.last _ _
-      (λ _. done (record { params = front; result = Some item.kind }) (record { params = h; few = few; result = is.kind }))
-      (λ f. let room = is.room f in
-        signature_kinds vs n names (front ++ item.kind ∷ []) line (i + 1) e (All-push (IsKindBy n) front item.kind h is.kind) (omega (arith, length-append front (item.kind ∷ []), room))))
+    (λ _. done (record { params = front; result = Some item.kind }) (record { params = h; few = few; result = is.kind }))
+    (λ f. let room = is.room f in
+    signature_kinds vs n names (front ++ item.kind ∷ []) line (i + 1) e (All-push (IsKindBy n) front item.kind h is.kind) (omega (arith, length-append front (item.kind ∷ []), room))))
 
 -- a method that may stand behind those of an interface
 pub record IsNextMethod (n : ℕ) (ms : List Method) (m : Method) : Type 0 where
@@ -175,10 +175,10 @@ unfolding method_of
 method_new n names ms line e = bind (name_at line 1) _ (name_formed line 1) (λ w good. either (is_some (method_position ms w.bytes)) _ _
     (λ _. fails _)
     (λ free. bind (signature_on names [] line 2 (drop 2 line)) _ (signature_kinds (drop 2 line) n names [] line 2 e (All-nil (IsKindBy n)) (omega arith)) (λ s is.
-      done (record { name = w.bytes; params = s.params; result = s.result }) (record {
-        method = (name_good w.bytes good, is.params, is.few, is.result);
-        new = unnamed_method ms (record { name = w.bytes; params = s.params; result = s.result }) free;
-      }))))
+    done (record { name = w.bytes; params = s.params; result = s.result }) (record {
+      method = (name_good w.bytes good, is.params, is.few, is.result);
+      new = unnamed_method ms (record { name = w.bytes; params = s.params; result = s.result }) free;
+    }))))
 
 -- ---- classes
 
@@ -213,8 +213,8 @@ unfolding listed_item
 item_listed names count line k =
     bind (stands_at line k) _ (anything (stands_at line k)) (λ _ _.
     bind (declared_at names line k) _ (declared_formed names line k) (λ i l. either (nat_le 16 count) _ (Ok i)
-      (λ _. bind (word_at line k) _ (anything (word_at line k)) (λ w _. fails _))
-      (λ f. done i (record { declared = l; room = leb-false 16 count f }))))
+    (λ _. bind (word_at line k) _ (anything (word_at line k)) (λ w _. fails _))
+    (λ f. done i (record { declared = l; room = leb-false 16 count f }))))
 
 pub record AreListed (n low : ℕ) (is : List ℕ) : Type 0 where
   pub declared : All (λ i. i < n) is
@@ -228,8 +228,8 @@ list_on (v ∷ vs) names front line k h few = bind (listed_item names (length fr
     let room = is.room in
     let more : length (front ++ i ∷ []) ≡ length front + 1 = length-append front (i ∷ []) in
     weaker (listed_on names (front ++ i ∷ []) line (k + 1) vs)
-      (list_on vs names (front ++ i ∷ []) line (k + 1) (All-push (λ j. j < length names) front i h is.declared) (omega arith))
-      (λ all a. record { declared = a.declared; least = (let l = a.least in omega arith); few = a.few }))
+    (list_on vs names (front ++ i ∷ []) line (k + 1) (All-push (λ j. j < length names) front i h is.declared) (omega arith))
+    (λ all a. record { declared = a.declared; least = (let l = a.least in omega arith); few = a.few }))
 
 -- a word that stands at a place is one of those from there on
 word_within : (line : List WordAt) (k : ℕ) (w : WordAt) → word_at line k ≡ Ok w → 1 ≤ length (drop k line)
@@ -240,6 +240,7 @@ word_within line k w e = by line k (slice_get line k) refl e
     there [] i v f = absurd cc
     there (x ∷ xs) zero v f = omega arith
     there (x ∷ xs) (suc i) v f = there xs i v f
+
     by : (vs : List WordAt) (i : ℕ) (o : Option WordAt) → slice_get vs i ≡ o → needed vs i o ≡ Ok w → 1 ≤ length (drop i vs)
     by vs i None f g = absurd cc
     by vs i (Some v) f g = there vs i v f
@@ -248,7 +249,7 @@ pub list_new : (names : List (List ℕ)) (line : List WordAt) → Holds (AreList
 unfolding listed_at
 list_new names line = bind (word_at line 4) _ (itself (word_at line 4)) (λ w first.
     weaker (listed_on names [] line 4 (drop 4 line)) (list_on (drop 4 line) names [] line 4 (All-nil (λ i. i < length names)) (omega arith))
-      (λ all a. record { declared = a.declared; least = (let l = a.least in let m = word_within line 4 w first in omega arith); few = a.few }))
+    (λ all a. record { declared = a.declared; least = (let l = a.least in let m = word_within line 4 w first in omega arith); few = a.few }))
 
 -- ---- picks
 

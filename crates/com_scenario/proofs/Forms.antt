@@ -1,10 +1,9 @@
 -- Every scenario that a text spells is formed.
-use Rattle.std.proofs.Common.{◌≡◌, ℕ, zero, suc, ◌+◌, ◌≤◌, ◌<◌, ◌^◌, Bool, true, false, cond, List, [], ◌∷◌, ◌++◌, length, map, take, drop, Option, Some, None, Result, Ok, Err, All, refl, sym, ap, subst, ◌∙◌, arith, if◌then◌else◌}
-use Rattle.std.specs.Prelude.{slice_get, unwrap_or, codes, IfOk}
+use Rattle.std.proofs.Common.{◌≡◌, ℕ, ◌≤◌, ◌<◌, ◌^◌, false, List, [], ◌∷◌, ◌++◌, length, take, drop, Option, Some, None, Ok, All, refl, sym, ap, subst, ◌∙◌, arith}
+use Rattle.std.specs.Prelude.{slice_get, unwrap_or, codes}
 use Rattle.std.proofs.lemmas.List.{take-append-drop}
 use Rattle.std.proofs.lemmas.List.Elements.{All-nil, All-cons, All-head, All-tail, All-weaker, All-from_recursion}
 use Rattle.com_base.specs.declared.value.Kind.TheVariants as kind
-use Rattle.com_body.specs.declared.statements.Stmt.{Stmt}
 use Rattle.com_classes.specs.declared.interfaces.Interface.{Interface}
 use Rattle.com_classes.specs.declared.interfaces.Method.{Method}
 use Rattle.com_classes.specs.declared.classes.Class.{Class}
@@ -12,9 +11,6 @@ use Rattle.com_classes.specs.BuiltIns.{iunknown, icounter, irelay, ilatch, built
 use Rattle.com_filter.specs.declared.Rule.{Rule}
 use Rattle.com_text.specs.Words.{LineAt}
 use Rattle.com_text.specs.Scanning.{lines_of}
-use Rattle.com_fields.specs.declared.faults.Fault.{Fault}
-use Rattle.com_fields.specs.declared.faults.ScenarioError.{ScenarioError}
-use Rattle.com_fields.specs.Reading.{◌>>=◌, Gives}
 use Rattle.com_sections.specs.declared.state.State.{State}
 use Rattle.com_sections.specs.declared.state.Section.{Section}
 use Rattle.com_sections.specs.declared.state.Section.TheVariants as sections
@@ -22,9 +18,9 @@ use Rattle.com_sections.specs.declared.outline.Outline.{Outline}
 use Rattle.com_sections.specs.Opened.{interface_closed, step}
 use Rattle.com_sections.specs.Outlines.{outlined, finished, finish, begun, read}
 use Rattle.com_model.specs.declared.scenario.Scenario.{Scenario}
-use Rattle.com_model.specs.Formed.{EachFrom, Distinct, IsName, IsKindBy, IsMethod, IsInterface, IsAllowed, same_interface, same_method, FormedInterfaces, FormedClasses, FormedBody, in_script, IsFilter, Formed}
-use Rattle.com_scenario.specs.Scenarios.{tables_of, scenario_of, reading}
-use Rattle.com_forming.specs.Words.{IsWord, IsLine}
+use Rattle.com_model.specs.Formed.{Distinct, IsKindBy, IsMethod, IsInterface, IsAllowed, same_interface, same_method, FormedInterfaces, FormedBody, in_script, IsFilter, Formed}
+use Rattle.com_scenario.specs.Scenarios.{scenario_of, reading}
+use Rattle.com_forming.specs.Words.{IsLine}
 use Rattle.com_forming.specs.Holds.{Holds}
 use Rattle.com_forming.proofs.Holds.{done, fails, bind, either}
 use Rattle.com_forming.proofs.Words.{lines_formed}
@@ -102,28 +98,31 @@ unknown_formed : IsInterface 0 iunknown
 unknown_formed = (name_good (codes "IUnknown") refl, All-nil (IsMethod 0), omega arith, tt)
 
 counter_formed : IsInterface 1 icounter
-counter_formed =
-    (name_good (codes "ICounter") refl,
-    All-from_recursion (IsMethod 1) icounter.methods
+counter_formed = (
+  name_good (codes "ICounter") refl,
+  All-from_recursion (IsMethod 1) icounter.methods
       ((name_good (codes "add") refl, All-from_recursion (IsKindBy 1) (kind.Int ∷ []) (tt, tt), omega arith, tt), ((name_good (codes "get") refl, All-nil (IsKindBy 1), omega arith, tt), tt)),
-    omega arith,
-    two_methods (record { name = codes "add"; params = kind.Int ∷ []; result = Some kind.Int }) (record { name = codes "get"; params = []; result = Some kind.Int }) refl)
+  omega arith,
+  two_methods (record { name = codes "add"; params = kind.Int ∷ []; result = Some kind.Int }) (record { name = codes "get"; params = []; result = Some kind.Int }) refl,
+)
 
 relay_formed : IsInterface 2 irelay
-relay_formed =
-    (name_good (codes "IRelay") refl,
-    All-from_recursion (IsMethod 2) irelay.methods
+relay_formed = (
+  name_good (codes "IRelay") refl,
+  All-from_recursion (IsMethod 2) irelay.methods
       ((name_good (codes "set") refl, All-from_recursion (IsKindBy 2) (kind.Ref 1 ∷ []) (omega arith, tt), omega arith, tt), ((name_good (codes "forward") refl, All-from_recursion (IsKindBy 2) (kind.Int ∷ []) (tt, tt), omega arith, tt), tt)),
-    omega arith,
-    two_methods (record { name = codes "set"; params = kind.Ref 1 ∷ []; result = None }) (record { name = codes "forward"; params = kind.Int ∷ []; result = Some kind.Int }) refl)
+  omega arith,
+  two_methods (record { name = codes "set"; params = kind.Ref 1 ∷ []; result = None }) (record { name = codes "forward"; params = kind.Int ∷ []; result = Some kind.Int }) refl,
+)
 
 latch_formed : IsInterface 3 ilatch
-latch_formed =
-    (name_good (codes "ILatch") refl,
-    All-from_recursion (IsMethod 3) ilatch.methods
+latch_formed = (
+  name_good (codes "ILatch") refl,
+  All-from_recursion (IsMethod 3) ilatch.methods
       ((name_good (codes "set") refl, All-nil (IsKindBy 3), omega arith, tt), ((name_good (codes "test") refl, All-nil (IsKindBy 3), omega arith, tt), tt)),
-    omega arith,
-    two_methods (record { name = codes "set"; params = []; result = None }) (record { name = codes "test"; params = []; result = Some kind.Bool }) refl)
+  omega arith,
+  two_methods (record { name = codes "set"; params = []; result = None }) (record { name = codes "test"; params = []; result = Some kind.Bool }) refl,
+)
 
 built_in_formed : FormedInterfaces built_in_interfaces
 built_in_formed = record {
@@ -131,11 +130,16 @@ built_in_formed = record {
   few = omega arith;
   each = (unknown_formed, (counter_formed, (relay_formed, (latch_formed, tt))));
   allowed = All-from_recursion IsAllowed built_in_interfaces ((refl, refl), ((refl, refl), ((refl, refl), ((refl, refl), tt))));
-  distinct =
-      (All-from_recursion (λ i. same_interface iunknown i ≡ false) (icounter ∷ irelay ∷ ilatch ∷ []) (refl, (refl, (refl, tt))),
-      (All-from_recursion (λ i. same_interface icounter i ≡ false) (irelay ∷ ilatch ∷ []) (refl, (refl, tt)),
-      (All-from_recursion (λ i. same_interface irelay i ≡ false) (ilatch ∷ []) (refl, tt),
-      (All-nil (λ i. same_interface ilatch i ≡ false), tt))));
+  distinct = (
+    All-from_recursion (λ i. same_interface iunknown i ≡ false) (icounter ∷ irelay ∷ ilatch ∷ []) (refl, (refl, (refl, tt))),
+    (
+      All-from_recursion (λ i. same_interface icounter i ≡ false) (irelay ∷ ilatch ∷ []) (refl, (refl, tt)),
+      (
+        All-from_recursion (λ i. same_interface irelay i ≡ false) (ilatch ∷ []) (refl, tt),
+        (All-nil (λ i. same_interface ilatch i ≡ false), tt),
+      ),
+    ),
+  );
 }
 
 begun_stands : AtHeader (begun built_in_interfaces)
@@ -168,7 +172,9 @@ pub reading_formed : (text : List ℕ) → Holds Formed (reading text)
 unfolding reading IsOutline
 reading_formed text = bind (read (begun built_in_interfaces) (lines_of text)) _ (read_formed (lines_of text) (begun built_in_interfaces) (lines_formed text) begun_stands) (λ o h. done (scenario_of o) h)
 
--- what a reader gives, where it gives what the definition gives
-pub given_formed : (text : List ℕ) (r : Result Scenario ScenarioError) → Gives (λ s. s) r (reading text) → IfOk r (λ s. Formed s)
-given_formed text (Ok s) h = (reading_formed text).of s h
-given_formed text (Err e) h = tt
+-- the scenario of an outline that was read
+pub outline_formed : (text : List ℕ) (tables : List Interface) (o : Outline) (s : Scenario) → tables ≡ built_in_interfaces → read (begun tables) (lines_of text) ≡ Ok o → s ≡ scenario_of o → Formed s
+unfolding IsOutline
+outline_formed text tables o s t e h =
+    let f : read (begun built_in_interfaces) (lines_of text) ≡ Ok o = ap (λ (x : List Interface). read (begun x) (lines_of text)) (sym t) ∙ e in
+    subst Formed (sym h) ((read_formed (lines_of text) (begun built_in_interfaces) (lines_formed text) begun_stands).of o f)

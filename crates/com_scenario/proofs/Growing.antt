@@ -1,5 +1,5 @@
 -- What is formed stays formed where more is declared.
-use Rattle.std.proofs.Common.{◌≡◌, ℕ, zero, suc, ◌+◌, ◌≤◌, ◌<◌, ◌⊎◌, inl, inr, Bool, true, false, List, [], ◌∷◌, ◌++◌, length, Option, Some, None, All, refl, sym, ap, subst, ◌∙◌, arith, slice_get, option_and_then, length-append}
+use Rattle.std.proofs.Common.{◌≡◌, ℕ, zero, suc, ◌+◌, ◌≤◌, ◌<◌, inl, inr, Bool, false, List, [], ◌∷◌, ◌++◌, length, Option, Some, None, All, refl, sym, ap, subst, ◌∙◌, arith, slice_get, option_and_then}
 use Rattle.std.proofs.lemmas.List.Elements.{All-nil, All-cons, All-head, All-tail, All-weaker}
 use Rattle.com_body.specs.declared.operands.Arg.{Arg}
 use Rattle.com_body.specs.declared.operands.Asked.{Asked}
@@ -9,13 +9,12 @@ use Rattle.com_body.specs.declared.operands.Place.{Place}
 use Rattle.com_body.specs.declared.operands.Place.TheVariants as place
 use Rattle.com_body.specs.declared.statements.Stmt.{Stmt}
 use Rattle.com_body.specs.declared.statements.Stmt.TheVariants as stmt
-use Rattle.com_body.specs.declared.frame.Native.{Native}
 use Rattle.com_classes.specs.declared.interfaces.Interface.{Interface}
 use Rattle.com_classes.specs.declared.interfaces.Method.{Method}
 use Rattle.com_classes.specs.declared.classes.Class.{Class}
 use Rattle.com_classes.specs.declared.classes.MethodBody.{MethodBody}
 use Rattle.com_model.specs.declared.scenario.Scenario.{Scenario}
-use Rattle.com_model.specs.Tables.{interface_at, method_at}
+use Rattle.com_model.specs.Tables.{method_at}
 use Rattle.com_model.specs.Formed.{EachFrom, Distinct, Context, IsClassNamed, IsInterfaceNamed, IsPlaceIn, IsCall, IsFilterNamed, IsStatement, FormedBody, FitsMethod, in_class, methods_of, IsBody, IsClass}
 use Rattle.com_forming.specs.Declared.{Fits}
 
@@ -85,12 +84,13 @@ fits_grows None p args to h k = absurd k
 fits_grows (Some m) p args to h k = subst (λ (q : Option Method). FitsMethod q args to) (sym (h m refl)) k
 
 call_grows : (s t : Scenario) (i m : ℕ) (args : List Arg) (to : Destination) → Grows s t → IsCall s i m args to → IsCall t i m args to
-call_grows s t i m args to g h =
-    (let k = g.interfaces in let l = h.0 in omega arith,
-    elim h.1 [
-      | inl none ↦ inl none
-      | inr fits ↦ inr (fits_grows (method_at s i m) (method_at t i m) args to (λ k e. read_grows (λ (x : Interface). slice_get x.methods m) (slice_get s.classes.interfaces i) (slice_get t.classes.interfaces i) k (g.stands i) e) fits)
-    ])
+call_grows s t i m args to g h = (
+  let k = g.interfaces in let l = h.0 in omega arith,
+  elim h.1 [
+    | inl none ↦ inl none
+    | inr fits ↦ inr (fits_grows (method_at s i m) (method_at t i m) args to (λ k e. read_grows (λ (x : Interface). slice_get x.methods m) (slice_get s.classes.interfaces i) (slice_get t.classes.interfaces i) k (g.stands i) e) fits)
+  ],
+)
 
 pub statement_grows : (s t : Scenario) (x y : Context) (a : Stmt) → Grows s t → Widens x y → IsStatement s x a → IsStatement t y a
 statement_grows s t x y (stmt.Load to cell) g w h = w.body ∙ h
@@ -127,11 +127,13 @@ method_body_grows s t x b g h =
     (body_grows s t x x 200 b.body g (same_place x) h.0, method_stays (slice_get s.classes.interfaces b.iface) (slice_get t.classes.interfaces b.iface) b.method (g.stands b.iface) h.1)
 
 pub class_stays : (s t : Scenario) (n : ℕ) (k : Class) → Grows s t → IsClass s n k → IsClass t n k
-class_stays s t n k g h =
-    (h.0, h.1,
-    All-weaker (λ i. i < length s.classes.interfaces) (λ i. i < length t.classes.interfaces) (λ i l. let m = g.interfaces in omega arith) k.interfaces h.2,
-    All-weaker (IsBody s (in_class n k)) (IsBody t (in_class n k)) (λ b l. method_body_grows s t (in_class n k) b g l) k.bodies h.3,
-    h.4)
+class_stays s t n k g h = (
+  h.0,
+  h.1,
+  All-weaker (λ i. i < length s.classes.interfaces) (λ i. i < length t.classes.interfaces) (λ i l. let m = g.interfaces in omega arith) k.interfaces h.2,
+  All-weaker (IsBody s (in_class n k)) (IsBody t (in_class n k)) (λ b l. method_body_grows s t (in_class n k) b g l) k.bodies h.3,
+  h.4,
+)
 
 pub classes_stay : (s t : Scenario) (n : ℕ) (ks : List Class) → Grows s t → EachFrom (IsClass s) n ks → EachFrom (IsClass t) n ks
 classes_stay s t n [] g h = tt

@@ -1,27 +1,23 @@
 -- What stands of all that was read so far.
-use Rattle.std.proofs.Common.{◌≡◌, ℕ, zero, suc, ◌+◌, ◌-◌, ◌≤◌, ◌<◌, ◌^◌, ◌⊎◌, inl, inr, Bool, true, false, cond, not, nat_le, ◌||◌, List, [], ◌∷◌, ◌++◌, length, map, take, drop, Option, Some, None, is_some, Result, Ok, Err, All, refl, sym, ap, subst, ◌∙◌, arith, if◌then◌else◌, true≢false, length-append, append_assoc}
-use Rattle.std.specs.Prelude.{bytes_eq, codes, slice_get, unwrap_or}
-use Rattle.std.proofs.lemmas.List.{length-map, take-append-drop}
-use Rattle.std.proofs.lemmas.List.Elements.{All-nil, All-cons, All-push, All-append, All-weaker, All-head, All-tail}
-use Rattle.std.proofs.lemmas.Bool.{leb-false, or_from}
+use Rattle.std.proofs.Common.{◌≡◌, ℕ, zero, suc, ◌+◌, ◌≤◌, ◌<◌, ◌^◌, true, false, not, nat_le, List, [], ◌∷◌, ◌++◌, length, map, take, drop, Option, Some, None, All, refl, sym, ap, subst, ◌∙◌, arith, length-append}
+use Rattle.std.specs.Prelude.{slice_get}
+use Rattle.std.proofs.lemmas.List.{length-map}
+use Rattle.std.proofs.lemmas.List.Elements.{All-push, All-weaker}
 use Rattle.com_base.specs.declared.guid.Guid.{Guid}
-use Rattle.com_body.specs.declared.frame.Native.{Native}
 use Rattle.com_body.specs.declared.frame.Native.TheVariants as natives
 use Rattle.com_body.specs.declared.statements.Stmt.{Stmt}
 use Rattle.com_body.specs.declared.body.BodyFault.{BodyFault}
 use Rattle.com_body.specs.declared.body.BodyFault.TheVariants as body_faults
 use Rattle.com_body.specs.Bodies.{IsInRange, fault_of}
 use Rattle.com_classes.specs.declared.interfaces.Interface.{Interface}
-use Rattle.com_classes.specs.declared.interfaces.Method.{Method}
 use Rattle.com_classes.specs.declared.classes.Class.{Class}
 use Rattle.com_classes.specs.declared.classes.MethodBody.{MethodBody}
 use Rattle.com_classes.specs.declared.classes.ThreadingModel.{ThreadingModel}
 use Rattle.com_classes.specs.declared.classes.ThreadingModel.TheVariants as models
 use Rattle.com_classes.specs.BuiltIns.{built_in_interfaces}
 use Rattle.com_filter.specs.declared.Rule.{Rule}
-use Rattle.com_text.specs.Words.{WordAt, LineAt}
+use Rattle.com_text.specs.Words.{WordAt}
 use Rattle.com_fields.specs.declared.faults.Fault.{Fault}
-use Rattle.com_fields.specs.Reading.{◌>>=◌, fault_at, word_at, first_at, end_at, number_at}
 use Rattle.com_statements.specs.declared.calls.MethodNumber.{MethodNumber}
 use Rattle.com_statements.specs.declared.keywords.Program.{Program}
 use Rattle.com_statements.specs.declared.keywords.Program.TheVariants as programs
@@ -35,15 +31,15 @@ use Rattle.com_sections.specs.declared.state.Section.TheVariants as sections
 use Rattle.com_sections.specs.Codes.{CodeAt, code_more, spotted, checked_by, checked}
 use Rattle.com_sections.specs.Programs.{spot_at, stated, allowed, program_line}
 use Rattle.com_sections.specs.Opened.{program_of, has_body}
-use Rattle.com_sections.specs.Outlines.{names_of, iids_of, taken_iids}
+use Rattle.com_sections.specs.Outlines.{taken_iids}
 use Rattle.com_model.specs.declared.scenario.Scenario.{Scenario}
-use Rattle.com_model.specs.Formed.{EachFrom, Distinct, FormedInterfaces, FormedClasses, FormedBody, IsInterface, IsAllowed, same_interface, same_class, same_body, is_agile, Context, in_script, in_class, IsClass, IsFilter, IsRule, methods_of}
+use Rattle.com_model.specs.Formed.{EachFrom, Distinct, FormedInterfaces, FormedBody, IsInterface, IsAllowed, same_interface, same_class, is_agile, Context, in_script, in_class, IsClass, IsFilter, methods_of}
 use Rattle.com_forming.specs.Words.{IsWord}
 use Rattle.com_forming.specs.Holds.{Holds}
 use Rattle.com_forming.specs.Declared.{Declares, Fits}
-use Rattle.com_forming.proofs.Holds.{done, fails, anything, bind, weaker, either}
+use Rattle.com_forming.proofs.Holds.{done, fails, bind, either}
 use Rattle.com_forming.proofs.Statements.{stmt_formed}
-use Rattle.com_scenario.proofs.Growing.{Grows, Widens, same_place, each_push, distinct_push, get_push, fit_grows, body_grows, method_stays, class_stays, classes_stay}
+use Rattle.com_scenario.proofs.Growing.{Grows, each_push, distinct_push, get_push, body_grows, class_stays, classes_stay}
 
 -- the scenario of what is closed
 abbrev pub so_far : List Interface → List Class → List (List Rule) → Scenario
@@ -325,6 +321,7 @@ body_declares st h = record {
     cells models.Both = refl
     cells models.Neutral = refl
     cells models.Agile = refl
+
     bonds : (m : ThreadingModel) → not (is_agile m) ≡ has_links (program_of m)
     bonds models.Nothing = refl
     bonds models.Apartment = refl

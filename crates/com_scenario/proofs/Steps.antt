@@ -1,6 +1,6 @@
 -- Each line keeps what stands.
-use Rattle.std.proofs.Common.{◌≡◌, ℕ, zero, suc, ◌+◌, ◌≤◌, ◌<◌, ◌^◌, Bool, true, false, cond, not, nat_le, ◌==◌, ◌&&◌, ◌||◌, List, [], ◌∷◌, ◌++◌, length, map, take, drop, Option, Some, None, is_some, Result, Ok, Err, All, refl, sym, ap, subst, ◌∙◌, arith, if◌then◌else◌, true≢false, length-append, append_assoc, append-nil}
-use Rattle.std.specs.Prelude.{bytes_eq, codes, slice_get, IfSome}
+use Rattle.std.proofs.Common.{◌≡◌, ℕ, zero, suc, ◌+◌, ◌≤◌, ◌<◌, ◌^◌, false, not, nat_le, ◌==◌, ◌&&◌, List, [], ◌∷◌, ◌++◌, length, map, take, drop, Option, Some, None, is_some, All, refl, sym, ap, subst, ◌∙◌, arith, length-append, append_assoc, append-nil}
+use Rattle.std.specs.Prelude.{bytes_eq, codes, IfSome}
 use Rattle.std.proofs.lemmas.List.{length-map, take-append-drop}
 use Rattle.std.proofs.lemmas.List.Elements.{All-nil, All-cons, All-push, All-append}
 use Rattle.std.proofs.lemmas.Bool.{cond_both, leb-false, or_from}
@@ -9,17 +9,14 @@ use Rattle.com_body.specs.declared.frame.Native.{Native}
 use Rattle.com_body.specs.declared.frame.Native.TheVariants as natives
 use Rattle.com_body.specs.declared.statements.Stmt.{Stmt}
 use Rattle.com_classes.specs.declared.interfaces.Interface.{Interface}
-use Rattle.com_classes.specs.declared.interfaces.Method.{Method}
 use Rattle.com_classes.specs.declared.classes.Class.{Class}
 use Rattle.com_classes.specs.declared.classes.MethodBody.{MethodBody}
-use Rattle.com_classes.specs.declared.classes.ThreadingModel.{ThreadingModel}
 use Rattle.com_classes.specs.BuiltIns.{built_in_interfaces}
-use Rattle.com_filter.specs.declared.Rule.{Rule}
 use Rattle.com_text.specs.declared.word.Sort.{Sort}
 use Rattle.com_text.specs.declared.word.Sort.TheVariants as sorts
-use Rattle.com_text.specs.Words.{WordAt, LineAt}
+use Rattle.com_text.specs.Words.{WordAt}
 use Rattle.com_fields.specs.declared.faults.Fault.{Fault}
-use Rattle.com_fields.specs.Reading.{◌>>=◌, fault_at, character_at, word_at, first_at, end_at, number_at}
+use Rattle.com_fields.specs.Reading.{character_at, word_at, first_at, end_at, number_at}
 use Rattle.com_fields.specs.Naming.{position_of}
 use Rattle.com_statements.specs.declared.calls.MethodNumber.{MethodNumber}
 use Rattle.com_statements.specs.declared.keywords.Program.TheVariants as programs
@@ -31,7 +28,7 @@ use Rattle.com_sections.specs.declared.state.State.{State}
 use Rattle.com_sections.specs.declared.state.Section.{Section}
 use Rattle.com_sections.specs.declared.state.Section.TheVariants as sections
 use Rattle.com_sections.specs.Tables.{has_guid, guid_eq}
-use Rattle.com_sections.specs.Codes.{checked, blank_code, first_place}
+use Rattle.com_sections.specs.Codes.{checked}
 use Rattle.com_sections.specs.Header.{version_of, ended, compared, version_by, version_at, earlier, lone, header_line}
 use Rattle.com_sections.specs.Declaring.{free_guid_at, free_name_at, interface_name_at, filter_name_at, model_at, native_at, natives_of, native_interface, listed_at, picks_on}
 use Rattle.com_sections.specs.Beginning.{section_word_of, pool_line, interface_line, class_line, native_line, filter_line, thread_line, picks_line, top_by, top_line}
@@ -41,17 +38,17 @@ use Rattle.com_sections.specs.Programs.{program_line}
 use Rattle.com_sections.specs.Opened.{interface_closed, method_line, inner_interface, has_body, body_head, class_ended, inner_class, program_of, body_ended, inner_body, thread_ended, inner_thread, filter_ended, ruled, inner_filter, by_section, step}
 use Rattle.com_sections.specs.Outlines.{taken_iids, microsoft}
 use Rattle.com_model.specs.declared.scenario.Scenario.{Scenario}
-use Rattle.com_model.specs.Formed.{Distinct, IsName, IsMethod, IsInterface, IsAllowed, same_interface, same_method, same_class, same_body, IsNative, IsBody, IsClass, IsFilter, IsRule, in_class, in_script, FormedBody, methods_of, is_agile}
+use Rattle.com_model.specs.Formed.{Distinct, IsName, IsMethod, same_interface, same_method, same_class, same_body, IsNative, IsBody, IsClass, IsRule, in_class, in_script}
 use Rattle.com_forming.specs.Words.{IsWord}
 use Rattle.com_forming.specs.Holds.{Holds}
 use Rattle.com_forming.specs.Declared.{Fits}
-use Rattle.com_forming.proofs.Holds.{done, fails, anything, bind, weaker, either}
+use Rattle.com_forming.proofs.Holds.{done, fails, anything, bind, either}
 use Rattle.com_forming.proofs.Fields.{number_formed}
 use Rattle.com_forming.proofs.Calls.{head_formed}
 use Rattle.com_scenario.proofs.Alike.{unlike_bytes, unlike_guids, unlisted, not_first, unnamed, unmet, untyped, unreserved}
 use Rattle.com_scenario.proofs.Growing.{distinct_push}
-use Rattle.com_scenario.proofs.Declaring.{free_guid_new, IsNew, free_name_new, IsNewInterface, interface_name_new, method_new, IsNativeOf, native_new, list_new, AreListed, picks_new, rule_new}
-use Rattle.com_scenario.proofs.Standing.{so_far, Closed, Named, IsVersion, NamedIn, OpenInterface, OpenClass, OpenBody, Scripted, AtHeader, AtTop, AtInterface, AtClass, AtBody, AtFilter, AtThread, StandsAt, Stands, class_closed, at_least_four, interface_closed_all, filter_closed, script_closed, checked_formed, program_fits, body_declares, script_declares}
+use Rattle.com_scenario.proofs.Declaring.{free_guid_new, IsNew, free_name_new, interface_name_new, method_new, IsNativeOf, native_new, list_new, picks_new, rule_new}
+use Rattle.com_scenario.proofs.Standing.{so_far, Named, IsVersion, OpenInterface, OpenClass, AtHeader, AtTop, AtInterface, AtClass, AtBody, AtFilter, AtThread, StandsAt, Stands, class_closed, at_least_four, interface_closed_all, filter_closed, script_closed, checked_formed, program_fits, body_declares, script_declares}
 
 -- ---- lists
 
@@ -284,10 +281,12 @@ new_interface : (st : State) (i : Interface) → AtTop st → length st.names.in
     → All (λ (k : Interface). bytes_eq k.name i.name ≡ false) st.names.tables → IsFreeIid st.names.tables i.iid → i.methods ≡ []
     → OpenInterface st.names.tables i
 new_interface st i h few name typed names iid empty = record {
-  formed = (name,
+  formed = (
+    name,
     subst (All (IsMethod (length st.names.tables))) (sym empty) (All-nil (IsMethod (length st.names.tables))),
     (let l : length i.methods ≡ 0 = ap length empty in omega arith),
-    subst (Distinct same_method) (sym empty) tt);
+    subst (Distinct same_method) (sym empty) tt,
+  );
   allowed = (unreserved i.iid iid.first iid.second iid.third, untyped i.name typed);
   new = free_interface st.names.tables i names iid.others;
 }
@@ -331,18 +330,20 @@ class_stands st w line h = either (nat_le 64 (length st.names.classes)) _ _ (λ 
     })))))))
 
 native_class : (s : Scenario) (n : ℕ) (k : Native) (c : Class) → 4 ≤ length s.classes.interfaces → IsName c.name → IsNativeOf c.model k → c.native ≡ k → c.interfaces ≡ natives_of k → c.bodies ≡ [] → IsClass s n c
-native_class s n k c four name is native list empty =
-    (name,
-    subst (λ (m : Native). IsNative m c) (sym native) (by k is list),
-    subst (All (λ i. i < length s.classes.interfaces)) (sym list) (All-cons (λ i. i < length s.classes.interfaces) (native_interface k) [] (below k) (All-nil (λ i. i < length s.classes.interfaces))),
-    subst (All (IsBody s (in_class n c))) (sym empty) (All-nil (IsBody s (in_class n c))),
-    subst (Distinct same_body) (sym empty) tt)
+native_class s n k c four name is native list empty = (
+  name,
+  subst (λ (m : Native). IsNative m c) (sym native) (by k is list),
+  subst (All (λ i. i < length s.classes.interfaces)) (sym list) (All-cons (λ i. i < length s.classes.interfaces) (native_interface k) [] (below k) (All-nil (λ i. i < length s.classes.interfaces))),
+  subst (All (IsBody s (in_class n c))) (sym empty) (All-nil (IsBody s (in_class n c))),
+  subst (Distinct same_body) (sym empty) tt,
+)
   where
     by : (m : Native) → IsNativeOf c.model m → c.interfaces ≡ natives_of m → IsNative m c
     by natives.Bodies h e = absurd h
     by natives.Counter h e = (e, empty)
     by natives.Relay h e = (e, empty, h)
     by natives.Latch h e = (e, empty)
+
     below : (m : Native) → native_interface m < length s.classes.interfaces
     below natives.Bodies = omega arith
     below natives.Counter = omega arith
@@ -441,7 +442,7 @@ method_stands st w line e h = either (nat_le 32 (length st.interface.methods)) _
         allowed = o.allowed;
         new = o.new;
       };
-    })))))) 
+    }))))))
 
 in_interface : (st : State) (line : List WordAt) → st.section ≡ sections.Interface → AtInterface st → Holds Stands (inner_interface st line)
 unfolding inner_interface
@@ -456,12 +457,12 @@ unfolding body_head
 head_stands st line h = bind (method_at st.names line 1) _ (head_formed st.names line 1) (λ head is. either (has_body st.class.bodies head) _ _
     (λ _. bind (word_at line 1) _ (anything (word_at line 1)) (λ w _. fails _))
     (λ f. bind (end_at line 2) _ (anything (end_at line 2)) (λ _ _.
-      (let s = so_far st.names.tables st.classes st.filters in
-      done _ (record {
-        outer = record { version = h.version; closed = h.closed; named = h.named; opened = h.opened };
-        head = record { method = is.method; new = f };
-        code = All-nil (Fits s (in_class (suc (length st.classes)) st.class));
-      })))))
+    (let s = so_far st.names.tables st.classes st.filters in
+    done _ (record {
+      outer = record { version = h.version; closed = h.closed; named = h.named; opened = h.opened };
+      head = record { method = is.method; new = f };
+      code = All-nil (Fits s (in_class (suc (length st.classes)) st.class));
+    })))))
 
 class_end_stands : (st : State) (line : List WordAt) → AtClass st → Holds Stands (class_ended st line)
 class_end_stands st line h = bind (end_at line 1) _ (anything (end_at line 1)) (λ _ _. done _ (record {
@@ -487,11 +488,13 @@ native_kept n c k e f h =
 more_body : (s : Scenario) (classes : List Class) (c : Class) (b : MethodBody) → OpenClass s classes c → IsBody s (in_class (suc (length classes)) c) b → All (λ k. same_body k b ≡ false) c.bodies
     → OpenClass s classes (record c { bodies = c.bodies ++ b ∷ [] })
 more_body s classes c b h is new = record {
-  formed = (h.formed.0,
+  formed = (
+    h.formed.0,
     native_kept c.native c (record c { bodies = c.bodies ++ b ∷ [] }) h.plain refl h.formed.1,
     h.formed.2,
     All-push (IsBody s (in_class (suc (length classes)) c)) c.bodies b h.formed.3 is,
-    distinct_push same_body c.bodies b h.formed.4 new);
+    distinct_push same_body c.bodies b h.formed.4 new,
+  );
   new = h.new;
   plain = h.plain;
 }
@@ -519,13 +522,13 @@ in_body_stands st line ws e h =
     let x = in_class (suc (length st.classes)) st.class in
     let o = h.outer in
     bind (first_at line) _ (anything (first_at line)) (λ w _. either (bytes_eq w.bytes (codes "end")) _ _
-      (λ _. body_end_stands st line h)
-      (λ _. bind (program_line (program_of st.class.model) 200 st.names st.code w line) _ (program_fits s x (program_of st.class.model) 200 st.names st.code w line (body_declares st o) ws h.code) (λ code is.
-        done _ (stay (record st { code = code }) sections.Body e (record {
-          outer = record { version = o.version; closed = o.closed; named = o.named; opened = o.opened };
-          head = h.head;
-          code = is;
-        }))))))
+    (λ _. body_end_stands st line h)
+    (λ _. bind (program_line (program_of st.class.model) 200 st.names st.code w line) _ (program_fits s x (program_of st.class.model) 200 st.names st.code w line (body_declares st o) ws h.code) (λ code is.
+    done _ (stay (record st { code = code }) sections.Body e (record {
+      outer = record { version = o.version; closed = o.closed; named = o.named; opened = o.opened };
+      head = h.head;
+      code = is;
+    }))))))
 
 -- ---- lines of a script
 
@@ -546,13 +549,13 @@ in_thread_stands st line ws e h =
     (let s = so_far st.names.tables st.classes st.filters in
     let o = h.top in
     bind (first_at line) _ (anything (first_at line)) (λ w _. either (bytes_eq w.bytes (codes "end")) _ _
-      (λ _. thread_end_stands st line h)
-      (λ _. bind (program_line programs.Script 2000 st.names st.code w line) _ (program_fits s (in_script s) programs.Script 2000 st.names st.code w line (script_declares st o) ws h.code) (λ code is.
-        done _ (stay (record st { code = code }) sections.Thread e (record {
-          top = record { version = o.version; closed = o.closed; named = o.named };
-          room = h.room;
-          code = is;
-        }))))))
+    (λ _. thread_end_stands st line h)
+    (λ _. bind (program_line programs.Script 2000 st.names st.code w line) _ (program_fits s (in_script s) programs.Script 2000 st.names st.code w line (script_declares st o) ws h.code) (λ code is.
+    done _ (stay (record st { code = code }) sections.Thread e (record {
+      top = record { version = o.version; closed = o.closed; named = o.named };
+      room = h.room;
+      code = is;
+    }))))))
 
 -- ---- lines of a filter
 

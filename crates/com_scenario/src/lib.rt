@@ -2,11 +2,13 @@
 #![tactic(auto)]
 
 mod built_in;
+mod laws;
 mod reading;
 mod sizes;
 
 pub use com_base::Memory;
 pub use com_fields::ScenarioError;
+pub use laws::scenarios_are_formed;
 pub use reading::parse;
 pub use sizes::{LONGEST, is_too_long};
 
