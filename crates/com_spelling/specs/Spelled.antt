@@ -1,10 +1,10 @@
 -- Words as they are written.
-use Rattle.std.specs.Prelude.{◌≡◌, ℕ, ◌≤◌, ◌%◌, List, [], ◌∷◌, ◌++◌, Bool, true, not, ◌&&◌, ◌||◌, ◌==◌, nat_le, length}
+use Rattle.std.specs.Prelude.{◌≡◌, ℕ, ◌≤◌, ◌%◌, List, [], ◌∷◌, ◌++◌, Bool, true, false, not, ◌&&◌, ◌||◌, ◌==◌, nat_le, length, map}
 use Rattle.std.specs.List.{list_all}
 use Rattle.std.specs.Char.{is_ascii_hexdigit}
 use Rattle.com_text.specs.declared.word.Sort.{Sort}
 use Rattle.com_text.specs.declared.word.Sort.TheVariants as sorts
-use Rattle.com_text.specs.Words.{WordAt}
+use Rattle.com_text.specs.Words.{WordAt, LineAt}
 
 -- a word as it is written: its sort, and its bytes with a literal's marks among them
 pub record Spelled : Type 0 where
@@ -83,3 +83,16 @@ line_text ws = words_text ws ++ 10 ∷ []
 abbrev pub text_of : List (List Spelled) → List ℕ
 text_of [] = []
 text_of (l ∷ ls) = line_text l ++ text_of ls
+
+-- ---- what the scanner reads
+
+-- a line that was read, without its places
+abbrev pub shown : LineAt → List Spelled
+shown l = map spelled_of l.words
+
+-- Lines that were read have these words, and an empty line behind them ends the text.
+abbrev pub Shown : List (List Spelled) → List LineAt → Type 0
+Shown [] [] = ⊥
+Shown [] (x ∷ xs) = (x.last ≡ true) × (shown x ≡ []) × (xs ≡ [])
+Shown (l ∷ ls) [] = ⊥
+Shown (l ∷ ls) (x ∷ xs) = (x.last ≡ false) × (shown x ≡ l) × Shown ls xs
