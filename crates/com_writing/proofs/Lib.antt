@@ -1,0 +1,5 @@
+pub mod Firsts
+pub mod Raws
+pub mod Locals
+pub mod Objects
+pub mod Lanes
