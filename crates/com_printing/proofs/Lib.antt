@@ -6,3 +6,4 @@ pub mod Rules
 pub mod Runs
 pub mod Standings
 pub mod Apart
+pub mod Programs

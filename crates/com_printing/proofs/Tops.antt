@@ -40,7 +40,7 @@ top_word st line bs rest e =
     ∙ ap (λ (x : List ℕ). top_by st line s.word (section_word_of x)) s.bytes
 
 -- a table with room
-room_of : (limit n : ℕ) → n < limit → nat_le limit n ≡ false
+pub room_of : (limit n : ℕ) → n < limit → nat_le limit n ≡ false
 room_of limit n lt = grind (arith, nat_tests)
 
 abbrev unless : {A : Type 0} → Fault → Result A Fault → Bool → Result A Fault
