@@ -3,3 +3,5 @@ pub mod Raws
 pub mod Locals
 pub mod Objects
 pub mod Lanes
+pub mod Targets
+pub mod Arguments
