@@ -5,3 +5,6 @@ pub mod Objects
 pub mod Lanes
 pub mod Targets
 pub mod Arguments
+pub mod Calls
+pub mod Whole
+pub mod Goods
