@@ -3,3 +3,8 @@ pub mod Raws
 pub mod Locals
 pub mod Objects
 pub mod Lanes
+pub mod Targets
+pub mod Arguments
+pub mod Calls
+pub mod Whole
+pub mod Goods
