@@ -7,3 +7,4 @@ pub mod Runs
 pub mod Standings
 pub mod Apart
 pub mod Programs
+pub mod Bodies

@@ -28,6 +28,7 @@ use Rattle.com_writing.specs.Reads.{Reads}
 use Rattle.com_writing.specs.Standing.{Stands, AreDeclared}
 use Rattle.com_writing.specs.Words.{statement_words}
 use Rattle.com_writing.proofs.Firsts.{Written}
+use Rattle.com_writing.proofs.Whole.{statement_reads}
 use Rattle.com_printing.specs.Printed.{end_words}
 use Rattle.com_printing.proofs.Places.{at_of, first_word}
 use Rattle.com_printing.proofs.Following.{differs}
@@ -95,9 +96,6 @@ no_end : (bs : List ℕ) (k : Keyword) → keyword_of bs ≡ Some k → bytes_eq
 unfolding keyword_of
 no_end bs k h = differs (λ x. is_some (keyword_of x)) bs (codes "end") (ap is_some h) refl
 
-reads_again : (p : Program) (names : Names) (s : Stmt) (w : WordAt) (ws : List WordAt) → AreDeclared names → Written p names s w ws → Reads p names s w ws
-reads_again p names s w ws are h = ?
-
 -- a statement's line where there is room for one more
 statement_again : (p : Program) (limit : ℕ) (names : Names) (code : CodeAt) (s : Stmt) (w : WordAt) (ws : List WordAt) → Reads p names s w ws
     → length code.statements < limit → (f : Fault) × (program_line p limit names code w (w ∷ ws) ≡ Ok (code_more code s f))
@@ -136,7 +134,7 @@ body_statement st names code s line are can room same e =
     let l = opens line b.word b.rest words in
     let written : Written (program_of st.class.model) st.names s l.word l.rest =
         record { words = ap (map spelled_of) (sym l.is) ∙ e ∙ same; range = can.range; stands = can.stands; fits = can.fits } in
-    let reads = reads_again (program_of st.class.model) st.names s l.word l.rest are written in
+    let reads = statement_reads (program_of st.class.model) st.names s l.word l.rest are written in
     let r = statement_again (program_of st.class.model) 200 st.names code s l.word l.rest reads room in
     let p = program_of st.class.model in
     let t = in_body st code in
@@ -177,7 +175,7 @@ thread_statement st code s line are can room e =
     let l = opens line b.word b.rest words in
     let written : Written programs.Script st.names s l.word l.rest =
         record { words = ap (map spelled_of) (sym l.is) ∙ e; range = can.range; stands = can.stands; fits = can.fits } in
-    let reads = reads_again programs.Script st.names s l.word l.rest are written in
+    let reads = statement_reads programs.Script st.names s l.word l.rest are written in
     let r = statement_again programs.Script 2000 st.names code s l.word l.rest reads room in
     let t = in_thread st code in
     (r.0,
