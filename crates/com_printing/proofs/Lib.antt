@@ -8,3 +8,4 @@ pub mod Standings
 pub mod Apart
 pub mod Programs
 pub mod Bodies
+pub mod Classes
