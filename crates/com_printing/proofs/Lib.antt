@@ -9,3 +9,4 @@ pub mod Apart
 pub mod Programs
 pub mod Bodies
 pub mod Classes
+pub mod Interfaces

@@ -115,7 +115,7 @@ abbrev signed : List (List ℕ) → List Kind → List WordAt → ℕ → List W
 signed names done line k vs r = r >>= λ item.
     (if item.last then Ok (record { params = done; result = Some item.kind }) else signature_on names (done ++ item.kind ∷ []) line (k + 1) vs)
 
-abbrev IsResult : List (List ℕ) → Option Kind → Type 0
+abbrev pub IsResult : List (List ℕ) → Option Kind → Type 0
 IsResult names None = Unit {0}
 IsResult names (Some k) = IsKind names k
 

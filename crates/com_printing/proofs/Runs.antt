@@ -24,10 +24,10 @@ use Rattle.com_printing.specs.Printed.{end_words, program_lines}
 abbrev pub Gets : State → List (List Spelled) → Outline → Type 0
 Gets st ls o = (xs : List LineAt) → Shown ls xs → read st xs ≡ Ok o
 
-abbrev behind : LineAt → List LineAt → Result State Fault → Result Outline Fault
+abbrev pub behind : LineAt → List LineAt → Result State Fault → Result Outline Fault
 behind x xs r = r >>= λ next. (if x.last then finish next x.line x.column else read next xs)
 
-abbrev by_last : State → LineAt → List LineAt → Bool → Result Outline Fault
+abbrev pub by_last : State → LineAt → List LineAt → Bool → Result Outline Fault
 by_last next x xs b = if b then finish next x.line x.column else read next xs
 
 -- a line, and those behind it
@@ -47,7 +47,7 @@ spot_then st next l ls o one more (x ∷ xs) h =
     let r = one x.words h.1 in
     ap (behind x xs) r.1 ∙ ap (by_last (next r.0) x xs) h.0 ∙ more r.0 xs h.2
 
-no_words : (st : State) (line : List WordAt) → map spelled_of line ≡ [] → step st line ≡ Ok st
+pub no_words : (st : State) (line : List WordAt) → map spelled_of line ≡ [] → step st line ≡ Ok st
 unfolding step
 no_words st [] e = refl
 no_words st (w ∷ ws) e = absurd cc
