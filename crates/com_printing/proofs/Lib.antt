@@ -10,3 +10,4 @@ pub mod Programs
 pub mod Bodies
 pub mod Classes
 pub mod Interfaces
+pub mod Filters
