@@ -1,0 +1,13 @@
+pub mod Places
+pub mod Following
+pub mod Methods
+pub mod Tops
+pub mod Rules
+pub mod Runs
+pub mod Standings
+pub mod Apart
+pub mod Programs
+pub mod Bodies
+pub mod Classes
+pub mod Interfaces
+pub mod Filters

@@ -1,0 +1,10 @@
+pub mod Firsts
+pub mod Raws
+pub mod Locals
+pub mod Objects
+pub mod Lanes
+pub mod Targets
+pub mod Arguments
+pub mod Calls
+pub mod Whole
+pub mod Goods
