@@ -1,6 +1,5 @@
 -- A statement's words are the same where more is declared behind what it names.
-use Rattle.std.proofs.Common.{◌≡◌, ℕ, zero, suc, ◌+◌, ◌-◌, ◌<◌, ◌≤◌, ◌⊎◌, inl, inr, List, [], ◌∷◌, ◌++◌, map, Option, Some, None, length, take, get_or, get_or-take, slice_get, refl, sym, ap, ◌∙◌, arith, codes}
-use Rattle.com_base.specs.Guids.{text_of}
+use Rattle.std.proofs.Common.{◌≡◌, ℕ, zero, suc, ◌-◌, ◌<◌, inl, inr, List, [], ◌∷◌, ◌++◌, map, Option, Some, None, length, take, get_or, get_or-take, slice_get, refl, sym, ap, ◌∙◌, arith, codes}
 use Rattle.com_body.specs.declared.operands.Asked.{Asked}
 use Rattle.com_body.specs.declared.operands.Asked.TheVariants as askeds
 use Rattle.com_body.specs.declared.operands.Arg.{Arg}
@@ -57,17 +56,17 @@ same_method few all iface method given to (Some m) e has takes =
 same_text : (few all : Names) (iface method : ℕ) (given : List Arg) (to : Destination) → Extends few all → IsCall few iface method given to → method_text all iface method given to ≡ method_text few iface method given to
 same_text few all iface method [] destinations.Nowhere e is = refl
 same_text few all iface method [] (destinations.Register n) e is = elim is.1 [
-      | inl none ↦ (let x : destinations.Register n ≡ destinations.Nowhere = none.1 in absurd cc)
-      | inr takes ↦ same_method few all iface method [] (destinations.Register n) (method_of few.tables iface method) e refl takes
-    ]
+  | inl none ↦ (let x : destinations.Register n ≡ destinations.Nowhere = none.1 in absurd cc)
+  | inr takes ↦ same_method few all iface method [] (destinations.Register n) (method_of few.tables iface method) e refl takes
+]
 same_text few all iface method [] (destinations.Slot n) e is = elim is.1 [
-      | inl none ↦ (let x : destinations.Slot n ≡ destinations.Nowhere = none.1 in absurd cc)
-      | inr takes ↦ same_method few all iface method [] (destinations.Slot n) (method_of few.tables iface method) e refl takes
-    ]
+  | inl none ↦ (let x : destinations.Slot n ≡ destinations.Nowhere = none.1 in absurd cc)
+  | inr takes ↦ same_method few all iface method [] (destinations.Slot n) (method_of few.tables iface method) e refl takes
+]
 same_text few all iface method (a ∷ given) to e is = elim is.1 [
-      | inl none ↦ (let x : a ∷ given ≡ [] = none.0 in absurd cc)
-      | inr takes ↦ same_method few all iface method (a ∷ given) to (method_of few.tables iface method) e refl takes
-    ]
+  | inl none ↦ (let x : a ∷ given ≡ [] = none.0 in absurd cc)
+  | inr takes ↦ same_method few all iface method (a ∷ given) to (method_of few.tables iface method) e refl takes
+]
 
 same_target : (few all : Names) (iface method : ℕ) (given : List Arg) (to : Destination) → Extends few all → IsCall few iface method given to → target_word all iface method given to ≡ target_word few iface method given to
 same_target few all iface method given to e is =

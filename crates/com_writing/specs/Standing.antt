@@ -1,13 +1,11 @@
 -- Statements that can be written: what stands where, and what must be declared.
-use Rattle.std.specs.Prelude.{◌≡◌, ℕ, ◌^◌, ◌≤◌, ◌<◌, ◌⊎◌, true, false, List, [], ◌∷◌, Option, Some, None, length, take, All, codes}
+use Rattle.std.specs.Prelude.{◌≡◌, ℕ, ◌≤◌, ◌<◌, ◌⊎◌, true, false, List, [], ◌∷◌, Option, Some, None, length, take, All, codes}
 use Rattle.std.specs.Str.{bytes_eq}
 use Rattle.com_base.specs.declared.value.Kind.{Kind}
 use Rattle.com_base.specs.declared.value.Kind.TheVariants as kinds
 use Rattle.com_body.specs.declared.operands.Asked.{Asked}
-use Rattle.com_body.specs.declared.operands.Op.{Op}
 use Rattle.com_body.specs.declared.operands.Arg.{Arg}
 use Rattle.com_body.specs.declared.operands.Arg.TheVariants as args
-use Rattle.com_body.specs.declared.operands.Given.{Given}
 use Rattle.com_body.specs.declared.operands.Destination.{Destination}
 use Rattle.com_body.specs.declared.operands.Destination.TheVariants as destinations
 use Rattle.com_body.specs.declared.statements.Stmt.{Stmt}

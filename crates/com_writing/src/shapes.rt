@@ -88,12 +88,7 @@ pub(crate) fn register_cell(
 }
 
 /// A cell and an operand.
-pub(crate) fn cell_op(
-    out: &mut ByteList,
-    keyword: &[u8],
-    cell: u8,
-    op: &Op,
-) -> Result<(), Memory>
+pub(crate) fn cell_op(out: &mut ByteList, keyword: &[u8], cell: u8, op: &Op) -> Result<(), Memory>
     ensures ok { OnOk result (out.new ≡ out.old ++ words_text (plain keyword.now ∷ cell_word cell ∷ op_word op.now ∷ [])) }
     ensures fits { OnOk result (FitsOp op.now) }
 {
@@ -232,23 +227,18 @@ pub(crate) fn buffer_bytes(
     out: &mut ByteList,
     keyword: &[u8],
     buffer: u8,
-    bytes: &[u8],
+    bytes: &ByteList,
 ) -> Result<(), Memory>
     ensures ok { OnOk result (out.new ≡
         out.old ++ words_text (plain keyword.now ∷ buffer_word buffer ∷ plain (encode_lower bytes.now) ∷ [])) }
     ensures fits { OnOk result (AreBytes bytes.now) }
 {
     one_buffer(out, keyword, buffer)?;
-    push_hex(out, bytes)
+    push_hex(out, bytes.as_slice())
 }
 
 /// A slot and an operand.
-pub(crate) fn slot_op(
-    out: &mut ByteList,
-    keyword: &[u8],
-    slot: u8,
-    op: &Op,
-) -> Result<(), Memory>
+pub(crate) fn slot_op(out: &mut ByteList, keyword: &[u8], slot: u8, op: &Op) -> Result<(), Memory>
     ensures ok { OnOk result (out.new ≡ out.old ++ words_text (plain keyword.now ∷ slot_word slot ∷ op_word op.now ∷ [])) }
     ensures fits { OnOk result (FitsOp op.now) }
 {

@@ -54,15 +54,29 @@ fn write_words(out: &mut ByteList, names: &Names, statement: &Stmt) -> Result<()
         }
         Stmt::Copy { to, from } => two_places(out, b"copy", *to, *from),
         Stmt::Release { place } => one_place(out, b"release", *place),
-        Stmt::Call { slot, iface, method, args, destination } => {
-            call(out, names, *slot, *iface, *method, args.as_slice(), *destination)
+        Stmt::Call {
+            slot,
+            iface,
+            method,
+            args,
+            destination,
+        } => {
+            call(
+                out,
+                names,
+                *slot,
+                *iface,
+                *method,
+                args.as_slice(),
+                *destination,
+            )
         }
         Stmt::Marshal { buffer, slot, mode } => {
             buffer_slot_mode(out, b"marshal", *buffer, *slot, *mode)
         }
         Stmt::Unmarshal { slot, buffer } => slot_buffer(out, b"unmarshal", *slot, *buffer),
         Stmt::Drop { buffer } => one_buffer(out, b"drop", *buffer),
-        Stmt::Raw { buffer, bytes } => buffer_bytes(out, b"raw", *buffer, bytes.as_slice()),
+        Stmt::Raw { buffer, bytes } => buffer_bytes(out, b"raw", *buffer, bytes),
         Stmt::Register { to, slot } => register_slot(out, b"register", *to, *slot),
         Stmt::Get { slot, cookie } => slot_op(out, b"get", *slot, cookie),
         Stmt::Revoke { cookie } => one_op(out, b"revoke", cookie),
