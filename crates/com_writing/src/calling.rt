@@ -29,7 +29,7 @@ fn push_args(out: &mut ByteList, args: &[Arg]) -> Result<(), Memory>
 }
 
 /// The name of a method by its interface's number and its own, and no bytes where the tables lack it.
-fn method_name(tables: &[Interface], iface: u16, method: u16) -> &[u8]
+pub fn method_name(tables: &[Interface], iface: u16, method: u16) -> &[u8]
     ensures { result.now ≡ name_of (method_of tables.now iface method) }
 {
     let Some(table) = tables.get(iface as usize) else {
