@@ -28,7 +28,7 @@ use Rattle.com_statements.specs.declared.keywords.Program.{Program}
 use Rattle.com_statements.specs.declared.names.Names.{Names}
 use Rattle.com_statements.specs.Calls.{dot_of, method_position, in_table, method_number, in_methods, method_of, numbered_by, numbered_of, named_in, named_by, named_of, as_target, behind_dot, dotted, target_at, headed, method_at, as_reference, as_value, as_argument, argument_at, arguments_on, in_slot, in_register, landing_of, destination_at, call_of, signed_call, call_by, call_at}
 use Rattle.com_model.specs.declared.scenario.Scenario.{Scenario}
-use Rattle.com_model.specs.Tables.{method_at as declared_method}
+use Rattle.com_classes.specs.Lookups.{method_at as declared_method}
 use Rattle.com_model.specs.Formed.{Context, methods_of, FitsKind, FitKinds, FitsResult, FitsMethod}
 use Rattle.com_forming.specs.Words.{IsWord}
 use Rattle.com_forming.specs.Holds.{Holds}
@@ -240,7 +240,7 @@ whole_arguments : (ps : List Kind) (all : List Arg) → Argued [] ps all → Fit
 whole_arguments ps all h = subst (λ (x : List Arg). FitKinds ps x × All IsArg x) (sym h.is) (h.fits, h.in_range)
 
 call_holds : (s : Scenario) (x : Context) (slot : ℕ) (number : MethodNumber) (m : Method) (line : List WordAt) → All IsWord line
-    → slot < 8 → number.iface < length s.classes.interfaces → declared_method s number.iface number.method ≡ Some m → Holds (Fits s x) (call_of slot number m line)
+    → slot < 8 → number.iface < length s.classes.interfaces → declared_method s.classes number.iface number.method ≡ Some m → Holds (Fits s x) (call_of slot number m line)
 unfolding call_of
 call_holds s x slot number m line h low known is =
     bind (arguments_on [] m.params line 3) _ (arguments_formed [] m.params line 3 h) (λ given argued.
@@ -252,7 +252,7 @@ call_holds s x slot number m line h low known is =
     }))))
 
 signed_holds : (s : Scenario) (x : Context) (slot : ℕ) (number : MethodNumber) (o : Option Method) (line : List WordAt) → All IsWord line
-    → slot < 8 → number.iface < length s.classes.interfaces → declared_method s number.iface number.method ≡ o → Holds (Fits s x) (signed_call slot number o line)
+    → slot < 8 → number.iface < length s.classes.interfaces → declared_method s.classes number.iface number.method ≡ o → Holds (Fits s x) (signed_call slot number o line)
 signed_holds s x slot number None line h low known is = bind (word_at line 2) _ (anything (word_at line 2)) (λ w _. fails _)
 signed_holds s x slot number (Some m) line h low known is = call_holds s x slot number m line h low known is
 
@@ -260,7 +260,7 @@ call_by_holds : (s : Scenario) (x : Context) (p : Program) (names : Names) (slot
     → Holds (Fits s x) (call_by names slot line t)
 call_by_holds s x p names slot line (targets.Named m) d h low is =
     let known : m.iface < length s.classes.interfaces = subst (λ (n : ℕ). m.iface < n) d.interfaces is in
-    let same : declared_method s m.iface m.method ≡ method_of names.tables m.iface m.method =
+    let same : declared_method s.classes m.iface m.method ≡ method_of names.tables m.iface m.method =
     sym (found (slice_get s.classes.interfaces m.iface) m.method) ∙ ap (λ (ts : List Interface). in_methods m.method (slice_get ts m.iface)) (sym d.tables) in
     signed_holds s x slot m (method_of names.tables m.iface m.method) line h low known same
 call_by_holds s x p names slot line (targets.Numbered m) d h low is =

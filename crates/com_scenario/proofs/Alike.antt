@@ -11,19 +11,10 @@ use Rattle.com_statements.specs.Calls.{method_position}
 use Rattle.com_sections.specs.Tables.{guid_eq, has_guid}
 use Rattle.com_sections.specs.Methods.{type_word_of}
 use Rattle.com_sections.specs.Outlines.{microsoft}
-use Rattle.com_model.specs.Tables.{same_numbers, same_guid}
+use Rattle.com_classes.specs.Lookups.{same_guid}
 use Rattle.com_model.specs.Formed.{is_letter, is_name_byte, IsName, is_type_word, is_reserved, documented_iid, same_method}
 
--- ---- the same bytes
-
-pub same_bytes : (a b : List ℕ) → same_numbers a b ≡ bytes_eq a b
-same_bytes [] [] = refl
-same_bytes [] (y ∷ ys) = refl
-same_bytes (x ∷ xs) [] = refl
-same_bytes (x ∷ xs) (y ∷ ys) = ap (λ (b : Bool). x == y && b) (same_bytes xs ys)
-
-pub unlike_bytes : (a b : List ℕ) → bytes_eq a b ≡ false → same_numbers a b ≡ false
-unlike_bytes a b h = same_bytes a b ∙ h
+-- ---- the same GUID
 
 eqb_flip : (m n : ℕ) → eqb m n ≡ eqb n m
 eqb_flip m n = by (eqb m n) (eqb n m) refl refl
@@ -39,22 +30,6 @@ bytes_flip [] [] = refl
 bytes_flip [] (y ∷ ys) = refl
 bytes_flip (x ∷ xs) [] = refl
 bytes_flip (x ∷ xs) (y ∷ ys) = ap (λ (b : Bool). b && bytes_eq xs ys) (eqb_flip x y) ∙ ap (λ (b : Bool). eqb y x && b) (bytes_flip xs ys)
-
--- ---- the same GUID
-
-four : (p q r s : Bool) → (p && (q && (r && s))) ≡ (p && q && r && s)
-four true true true s = refl
-four true true false s = refl
-four true false r s = refl
-four false q r s = refl
-
-pub same_guids : (g k : Guid) → same_guid g k ≡ guid_eq g k
-same_guids g k =
-    ap (λ (b : Bool). g.data1 == k.data1 && (g.data2 == k.data2 && (g.data3 == k.data3 && b))) (same_bytes g.data4 k.data4)
-    ∙ four (g.data1 == k.data1) (g.data2 == k.data2) (g.data3 == k.data3) (bytes_eq g.data4 k.data4)
-
-pub unlike_guids : (g k : Guid) → guid_eq g k ≡ false → same_guid g k ≡ false
-unlike_guids g k h = same_guids g k ∙ h
 
 guid_flip : (g k : Guid) → guid_eq g k ≡ guid_eq k g
 guid_flip g k = cc (eqb_flip g.data1 k.data1, eqb_flip g.data2 k.data2, eqb_flip g.data3 k.data3, bytes_flip g.data4 k.data4)
@@ -98,7 +73,7 @@ unnamed_method (x ∷ xs) m h = by (bytes_eq x.name m.name) refl h (λ k. unname
     by : (b : Bool) → bytes_eq x.name m.name ≡ b → is_some (if b then Some 0 else option_map (λ (k : ℕ). k + 1) (method_position xs m.name)) ≡ false
         → (is_some (method_position xs m.name) ≡ false → All (λ k. same_method k m ≡ false) xs) → All (λ k. same_method k m ≡ false) (x ∷ xs)
     by true e k more = absurd (true≢false k)
-    by false e k more = All-cons (λ k. same_method k m ≡ false) x xs (unlike_bytes x.name m.name e) (more (mapped_some (method_position xs m.name) k))
+    by false e k more = All-cons (λ k. same_method k m ≡ false) x xs e (more (mapped_some (method_position xs m.name) k))
 
 -- ---- names of the language
 
@@ -148,13 +123,11 @@ untyped_by false false false false false a b c d e h = refl
 
 pub untyped : (n : List ℕ) → is_some (type_word_of n) ≡ false → is_type_word n ≡ false
 untyped n h =
-    let f : (w : List ℕ) → same_numbers n w ≡ bytes_eq n w = λ w. same_bytes n w in
-    rw (f (codes "int"), f (codes "bool"), f (codes "text"), f (codes "bytes"), f (codes "guid"))
     (untyped_by (bytes_eq n (codes "int")) (bytes_eq n (codes "bool")) (bytes_eq n (codes "text")) (bytes_eq n (codes "bytes")) (bytes_eq n (codes "guid")) _ _ _ _ _ h)
 
 -- an IID that is none of Microsoft's
 unlike_documented : (n : ℕ) (g : Guid) → guid_eq (microsoft n) g ≡ false → same_guid g (documented_iid n) ≡ false
-unlike_documented n g h = unlike_guids g (documented_iid n) (guid_flip g (documented_iid n) ∙ h)
+unlike_documented n g h = guid_flip g (documented_iid n) ∙ h
 
 pub unreserved : (g : Guid) → guid_eq (microsoft 1) g ≡ false → guid_eq (microsoft 0x16) g ≡ false → guid_eq (microsoft 0x146) g ≡ false → is_reserved g ≡ false
 unreserved g a b c =

@@ -28,7 +28,8 @@ use Rattle.com_sections.specs.Tables.{has_guid}
 use Rattle.com_sections.specs.Methods.{type_word_of, type_by, type_at, item_at, signature_on, method_of}
 use Rattle.com_sections.specs.Declaring.{free_guid_at, free_name_at, interface_name_at, relay_of, native_at, listed_item, listed_on, listed_at, pick_at, picks_on}
 use Rattle.com_sections.specs.Rules.{call_type_at, verdict_at, refusal_at, in_answers, as_answer, answer_at, kept_at, rule_of}
-use Rattle.com_model.specs.Formed.{IsName, IsKindBy, IsResultBy, IsMethod, same_method, is_agile, IsType, IsAsked, IsRetryAnswer, IsRule}
+use Rattle.com_classes.specs.Activation.{is_agile}
+use Rattle.com_model.specs.Formed.{IsName, IsKindBy, IsResultBy, IsMethod, same_method, IsType, IsAsked, IsRetryAnswer, IsRule}
 use Rattle.com_forming.specs.Holds.{Holds}
 use Rattle.com_forming.proofs.Holds.{done, fails, anything, bind, weaker, either}
 use Rattle.com_forming.proofs.Fields.{number_formed, name_formed, declared_formed}

@@ -14,7 +14,7 @@ use Rattle.com_classes.specs.declared.interfaces.Method.{Method}
 use Rattle.com_classes.specs.declared.classes.Class.{Class}
 use Rattle.com_classes.specs.declared.classes.MethodBody.{MethodBody}
 use Rattle.com_model.specs.declared.scenario.Scenario.{Scenario}
-use Rattle.com_model.specs.Tables.{method_at}
+use Rattle.com_classes.specs.Lookups.{method_at}
 use Rattle.com_model.specs.Formed.{EachFrom, Distinct, Context, IsClassNamed, IsInterfaceNamed, IsPlaceIn, IsCall, IsFilterNamed, IsStatement, FormedBody, FitsMethod, in_class, methods_of, IsBody, IsClass}
 use Rattle.com_forming.specs.Declared.{Fits}
 
@@ -88,7 +88,7 @@ call_grows s t i m args to g h = (
   let k = g.interfaces in let l = h.0 in omega arith,
   elim h.1 [
     | inl none ↦ inl none
-    | inr fits ↦ inr (fits_grows (method_at s i m) (method_at t i m) args to (λ k e. read_grows (λ (x : Interface). slice_get x.methods m) (slice_get s.classes.interfaces i) (slice_get t.classes.interfaces i) k (g.stands i) e) fits)
+    | inr fits ↦ inr (fits_grows (method_at s.classes i m) (method_at t.classes i m) args to (λ k e. read_grows (λ (x : Interface). slice_get x.methods m) (slice_get s.classes.interfaces i) (slice_get t.classes.interfaces i) k (g.stands i) e) fits)
   ],
 )
 

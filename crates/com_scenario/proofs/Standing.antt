@@ -33,7 +33,8 @@ use Rattle.com_sections.specs.Programs.{spot_at, stated, allowed, program_line}
 use Rattle.com_sections.specs.Opened.{program_of, has_body}
 use Rattle.com_sections.specs.Outlines.{taken_iids}
 use Rattle.com_model.specs.declared.scenario.Scenario.{Scenario}
-use Rattle.com_model.specs.Formed.{EachFrom, Distinct, FormedInterfaces, FormedBody, IsInterface, IsAllowed, same_interface, same_class, is_agile, Context, in_script, in_class, IsClass, IsFilter, methods_of}
+use Rattle.com_classes.specs.Activation.{is_agile}
+use Rattle.com_model.specs.Formed.{EachFrom, Distinct, FormedInterfaces, FormedBody, IsInterface, IsAllowed, same_interface, same_class, Context, in_script, in_class, IsClass, IsFilter, methods_of}
 use Rattle.com_forming.specs.Words.{IsWord}
 use Rattle.com_forming.specs.Holds.{Holds}
 use Rattle.com_forming.specs.Declared.{Declares, Fits}

@@ -45,7 +45,7 @@ use Rattle.com_forming.specs.Declared.{Fits}
 use Rattle.com_forming.proofs.Holds.{done, fails, anything, bind, either}
 use Rattle.com_forming.proofs.Fields.{number_formed}
 use Rattle.com_forming.proofs.Calls.{head_formed}
-use Rattle.com_scenario.proofs.Alike.{unlike_bytes, unlike_guids, unlisted, not_first, unnamed, unmet, untyped, unreserved}
+use Rattle.com_scenario.proofs.Alike.{unlisted, not_first, unnamed, unmet, untyped, unreserved}
 use Rattle.com_scenario.proofs.Growing.{distinct_push}
 use Rattle.com_scenario.proofs.Declaring.{free_guid_new, IsNew, free_name_new, interface_name_new, method_new, IsNativeOf, native_new, list_new, picks_new, rule_new}
 use Rattle.com_scenario.proofs.Standing.{so_far, Named, IsVersion, OpenInterface, OpenClass, AtHeader, AtTop, AtInterface, AtClass, AtBody, AtFilter, AtThread, StandsAt, Stands, class_closed, at_least_four, interface_closed_all, filter_closed, script_closed, checked_formed, program_fits, body_declares, script_declares}
@@ -157,9 +157,6 @@ class_renamed names iids cs clsids fs interfaces classes filters c k e f h = rec
 
 -- ---- what is new
 
-both : {X : Type 0} {P Q R : X → Type 0} (xs : List X) → All P xs → All Q xs → ((x : X) → P x → Q x → R x) → All R xs
-both xs p q f = λ k d l. f _ (p k d l) (q k d l)
-
 -- an IID that is not taken
 record IsFreeIid (interfaces : List Interface) (g : Guid) : Type 0 where
   others : All (λ (k : Interface). guid_eq k.iid g ≡ false) interfaces
@@ -188,11 +185,11 @@ free_iid interfaces g built h =
 
 free_interface : (interfaces : List Interface) (i : Interface) → All (λ (k : Interface). bytes_eq k.name i.name ≡ false) interfaces → All (λ (k : Interface). guid_eq k.iid i.iid ≡ false) interfaces
     → All (λ k. same_interface k i ≡ false) interfaces
-free_interface interfaces i a b = both interfaces a b (λ k e f. or_from _ _ (unlike_bytes k.name i.name e) (unlike_guids k.iid i.iid f))
+free_interface interfaces i a b = λ k d l. or_from _ _ (a k d l) (b k d l)
 
 free_class : (classes : List Class) (c : Class) → All (λ (k : Class). bytes_eq k.name c.name ≡ false) classes → All (λ (k : Class). guid_eq k.clsid c.clsid ≡ false) classes
     → All (λ k. same_class k c ≡ false) classes
-free_class classes c a b = both classes a b (λ k e f. or_from _ _ (unlike_bytes k.name c.name e) (unlike_guids k.clsid c.clsid f))
+free_class classes c a b = λ k d l. or_from _ _ (a k d l) (b k d l)
 
 -- a CLSID that no class has
 free_clsid : (classes : List Class) (clsids : List Guid) (g : Guid) → clsids ≡ map (λ (c : Class). c.clsid) classes → has_guid clsids g ≡ false → All (λ (k : Class). guid_eq k.clsid g ≡ false) classes
