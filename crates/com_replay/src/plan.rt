@@ -21,9 +21,9 @@ pub enum Plan {
     Thread { version: u8, script: Script },
 }
 
-/// The number of the counter's interface, and that of the class whose objects the core makes.
+/// The number of the counter's interface.
 const ICOUNTER: u16 = 1;
-
+/// The number of the class whose objects the core makes.
 const COUNTER_CLASS: u32 = 1;
 /// The method `add`.
 const ADD: u16 = 0;

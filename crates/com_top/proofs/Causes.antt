@@ -78,8 +78,10 @@ written_complete : (s : Status) (code : ℕ) (sides : Sides) (bytes : List ℕ) 
     → IsComplete code sides bytes
 written_complete s code sides bytes e written told =
     let which : input_of bytes ≡ written.input = written.which bytes told in
-    inl (e ∙ ap code_of (sym written.answered) ∙ ap (λ (i : Input). code_of (status_of i)) (sym which),
-    subst (λ (i : Input). Gains sides.held sides.held_after (output_of i)) (sym which) written.gained)
+    inl (
+      e ∙ ap code_of (sym written.answered) ∙ ap (λ (i : Input). code_of (status_of i)) (sym which),
+      subst (λ (i : Input). Gains sides.held sides.held_after (output_of i)) (sym which) written.gained,
+    )
 
 complete_cause : (s : Status) (code : ℕ) (sides : Sides) (bytes : List ℕ) → code ≡ code_of s → HasCause s sides → sides.left ≡ Some bytes
     → (Rose sides.read_faults sides.read_faults_after → ⊥) → (Rose sides.write_faults sides.write_faults_after → ⊥) → IsComplete code sides bytes

@@ -18,8 +18,8 @@ use std::alloc::Global;
 const LONGEST_DIGITS: usize = 1_048_576;
 
 /// Does what the words ask for: `replay` reads a scenario from the source and writes its history and report
-/// to the sink, or the line of the refusal; `objref` reads hexadecimal text and shows the OBJREF that it spells. The answer is the exit
-/// status.
+/// to the sink, or the line of the refusal; `objref` reads hexadecimal text and shows the OBJREF that it spells.
+/// The answer is the exit status.
 ///
 /// Status 1 comes exactly for other words, unless the line that says so cannot be written; then nothing was
 /// read.
