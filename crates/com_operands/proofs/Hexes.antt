@@ -47,7 +47,7 @@ unfoldable pub all_below : ℕ → (ℕ → Bool) → Bool
 all_below zero f = true
 all_below (suc k) f = f k && all_below k f
 
-both : (a b : Bool) → (a && b) ≡ true → (a ≡ true) × (b ≡ true)
+pub both : (a b : Bool) → (a && b) ≡ true → (a ≡ true) × (b ≡ true)
 both true true h = (refl, refl)
 both true false h = absurd cc
 both false true h = absurd cc

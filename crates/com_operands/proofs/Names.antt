@@ -1,5 +1,5 @@
 -- Declared names, and GUIDs in their place, are read again.
-use Rattle.std.proofs.Common.{◌≡◌, ℕ, zero, suc, ◌+◌, ◌-◌, ◌<◌, List, [], ◌∷◌, Some, Bool, true, false, nat_lt, if◌then◌else◌, refl, ap, ◌∙◌, arith, length, get_or, Result, Ok, Err, bytes_eq}
+use Rattle.std.proofs.Common.{◌≡◌, ℕ, zero, suc, ◌+◌, ◌-◌, ◌&&◌, ◌<◌, List, [], ◌∷◌, Some, Bool, true, false, nat_lt, if◌then◌else◌, refl, ap, ◌∙◌, arith, length, get_or, Result, Ok, Err, bytes_eq}
 use Rattle.std.proofs.lemmas.Bool.Decides.{nat_tests}
 use Rattle.std.proofs.lemmas.Slice.Eq.{bytes_eq-Decides}
 use Rattle.std.proofs.lemmas.List.Elements.{All-get_or}
@@ -16,6 +16,17 @@ use Rattle.com_operands.specs.Words.{name_at, asked_word}
 use Rattle.com_operands.specs.Ranges.{Distinct, AreNames, IsNamed, FitsAsked}
 use Rattle.com_operands.proofs.Hexes.{guid_again}
 use Rattle.com_operands.proofs.Places.{at, StandsAt, stands, word_again}
+
+-- what a name's form says of its first byte and of the others
+pub name_parts : (a b c : Bool) → (a && b && c) ≡ true → (a ≡ true) × (c ≡ true)
+name_parts true true true h = (refl, refl)
+name_parts true true false h = absurd cc
+name_parts true false c h = absurd cc
+name_parts false b c h = absurd cc
+
+pub tail_parts : (a b : Bool) → (if a then b else false) ≡ true → (a ≡ true) × (b ≡ true)
+tail_parts true b h = (refl, h)
+tail_parts false b h = absurd cc
 
 pub same_bytes : (xs : List ℕ) → bytes_eq xs xs ≡ true
 same_bytes xs = (bytes_eq-Decides xs xs).1 refl

@@ -1,5 +1,5 @@
 -- The words of operands are good words.
-use Rattle.std.proofs.Common.{◌≡◌, ℕ, zero, suc, ◌-◌, ◌/◌, ◌%◌, ◌<◌, ◌≤◌, ◌^◌, List, [], ◌∷◌, ◌++◌, Bool, true, false, ◌&&◌, nat_le, if◌then◌else◌, refl, ◌∙◌, arith, length, slice_index, decimal, pos, negsuc, ℤ}
+use Rattle.std.proofs.Common.{◌≡◌, ℕ, zero, suc, ◌-◌, ◌/◌, ◌%◌, ◌<◌, ◌≤◌, ◌^◌, List, [], ◌∷◌, ◌++◌, Bool, true, false, nat_le, if◌then◌else◌, refl, ◌∙◌, arith, length, slice_index, decimal, pos, negsuc, ℤ}
 use Rattle.std.specs.List.{list_all}
 use Rattle.std.specs.Char.{is_ascii_alphabetic, is_ascii_hexdigit}
 use Rattle.std.specs.Fmt.{signed_decimal}
@@ -35,13 +35,8 @@ use Rattle.com_spelling.specs.Spelled.{plain, IsSpelled, AreSpelled, IsPlainWord
 use Rattle.com_operands.specs.Words.{register_word, slot_word, cell_word, buffer_word, place_word, value_word, op_word, code_word, given_words, destination_words, mode_word, marshal_mode_word, eight_digits, name_at, asked_word}
 use Rattle.com_operands.specs.Ranges.{IsLiteral, TakesOp, TakesGiven, FitsValue, FitsOp, FitsGiven, AreBytes, IsWhole, AreNames, IsNamed}
 use Rattle.com_operands.proofs.Decimals.{decimal_digits}
-use Rattle.com_operands.proofs.Hexes.{all_below, tried, all_hex, all_true, long_hex}
-use Rattle.com_operands.proofs.Names.{is_name_at}
-
-both : (a b : Bool) → (a && b) ≡ true → (a ≡ true) × (b ≡ true)
-both true true h = (refl, refl)
-both true false h = absurd cc
-both false b h = absurd cc
+use Rattle.com_operands.proofs.Hexes.{all_below, both, tried, all_hex, all_true, long_hex}
+use Rattle.com_operands.proofs.Names.{is_name_at, name_parts, tail_parts}
 
 -- a test that a weaker one follows from
 pub all_weaker : (p q : ℕ → Bool) → ((b : ℕ) → p b ≡ true → q b ≡ true) → (xs : List ℕ) → list_all p xs ≡ true → list_all q xs ≡ true
@@ -183,24 +178,14 @@ marshal_mode_spelled packets.Weak = (omega arith, refl)
 tail_words : (bs : List ℕ) → are_tail bs ≡ true → list_all is_word_byte bs ≡ true
 tail_words [] h = refl
 tail_words (b ∷ bs) h =
-    let t = tail_first (is_tail b) (are_tail bs) h in
+    let t = tail_parts (is_tail b) (are_tail bs) h in
     rw (tail_word b t.0, tail_words bs t.1) refl
-  where
-    tail_first : (a b : Bool) → (if a then b else false) ≡ true → (a ≡ true) × (b ≡ true)
-    tail_first true b h = (refl, h)
-    tail_first false b h = absurd cc
 
 pub name_bytes : (bs : List ℕ) → is_name bs ≡ true → IsPlainWord bs
 name_bytes [] h = absurd cc
 name_bytes (b ∷ bs) h =
     let t = name_parts (is_ascii_alphabetic b) (nat_le (length bs) 31) (are_tail bs) h in
     (omega arith, rw (letter_word b t.0, tail_words bs t.1) refl)
-  where
-    name_parts : (a b c : Bool) → (a && b && c) ≡ true → (a ≡ true) × (c ≡ true)
-    name_parts true true true h = (refl, refl)
-    name_parts true true false h = absurd cc
-    name_parts true false c h = absurd cc
-    name_parts false b c h = absurd cc
 
 pub name_spelled : (names : List (List ℕ)) (k : ℕ) → AreNames names → k < length names → IsSpelled (plain (name_at names k))
 name_spelled names k are lt = name_bytes (name_at names k) (is_name_at names k are lt)

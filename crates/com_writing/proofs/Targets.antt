@@ -19,7 +19,7 @@ use Rattle.com_spelling.specs.Spelled.{plain}
 use Rattle.com_operands.specs.Words.{name_at}
 use Rattle.com_operands.specs.Ranges.{AreNames}
 use Rattle.com_operands.proofs.Decimals.{number_again as digits_again}
-use Rattle.com_operands.proofs.Names.{number_again, is_name_at}
+use Rattle.com_operands.proofs.Names.{name_parts, tail_parts, number_again, is_name_at}
 use Rattle.com_operands.proofs.Places.{at, StandsAt, stands, word_bytes}
 use Rattle.com_writing.specs.Standing.{AreDeclared, names_of}
 
@@ -30,16 +30,6 @@ no_dot b h = grind (arith, nat_tests)
 
 letter_no_dot : (b : ℕ) → is_ascii_alphabetic b ≡ true → (b == 46) ≡ false
 letter_no_dot b h = grind (arith, nat_tests)
-
-tail_parts : (a b : Bool) → (if a then b else false) ≡ true → (a ≡ true) × (b ≡ true)
-tail_parts true b h = (refl, h)
-tail_parts false b h = absurd cc
-
-name_parts : (a b c : Bool) → (a && b && c) ≡ true → (a ≡ true) × (c ≡ true)
-name_parts true true true h = (refl, refl)
-name_parts true true false h = absurd cc
-name_parts true false c h = absurd cc
-name_parts false b c h = absurd cc
 
 dot_behind_tail : (bs rest : List ℕ) → are_tail bs ≡ true → dot_of (bs ++ 46 ∷ rest) ≡ Some (length bs)
 dot_behind_tail [] rest h = refl
