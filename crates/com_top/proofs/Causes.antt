@@ -1,9 +1,9 @@
 -- The causes of the statuses, from what the calls below answer.
-use Rattle.std.proofs.Common.{◌≡◌, ℕ, ◌<◌, ◌≤◌, ◌⊎◌, inl, inr, List, [], ◌∷◌, length, refl, sym, ◌∙◌, ap, Option, Some, Ok, Err, subst, Result, map, slice_index_or, ◌↔◌, arith}
+use Rattle.std.proofs.Common.{◌≡◌, ℕ, ◌<◌, ◌≤◌, inl, inr, List, [], ◌∷◌, length, refl, sym, ◌∙◌, ap, Option, Some, Ok, Err, subst, Result, map, slice_index_or, ◌↔◌, arith}
 use Rattle.com_io.specs.declared.whole.ReadAllError.{ReadAllError}
 use Rattle.com_io.specs.declared.whole.ReadAllError.TheVariants as read_all_error
 use Rattle.com_io.specs.Faults.{Rose}
-use Rattle.com_io.specs.Told.{Gains, GainsPrefix, IsAtEnd, IsWholeOf}
+use Rattle.com_io.specs.Told.{Gains, IsAtEnd, IsWholeOf}
 use Rattle.com_io.proofs.Passing.{prefix_of_none}
 use Rattle.com_scenario.proofs.Lengths.{longer_than_all}
 use Rattle.com_top.specs.declared.inputs.Input.{Input}
@@ -11,7 +11,7 @@ use Rattle.com_top.specs.declared.inputs.Input.TheVariants as input
 use Rattle.com_top.specs.declared.statuses.Status.{Status}
 use Rattle.com_top.specs.declared.statuses.Status.TheVariants as status
 use Rattle.com_top.specs.Inputs.{input_of, output_of, status_of}
-use Rattle.com_top.specs.Statuses.{Completes, HasCause, IsAnswered, IsComplete, IsWritten, Says, Sides, WritesPart, code_of}
+use Rattle.com_top.specs.Statuses.{Completes, HasCause, IsAnswered, IsComplete, IsWritten, Says, Sides, code_of}
 
 too_long_input : (bytes : List ℕ) → 16777216 < length bytes → input_of bytes ≡ input.TooLong
 unfolding input_of

@@ -1,5 +1,5 @@
 use Rattle.com_top.specs.declared.inputs.Input.TheVariants as input
-use Rattle.com_top.proofs.Causes.{answered_cause, never_done, told_too_long, told_whole}
+use Rattle.com_top.proofs.Causes.{answered_cause, never_done, told_too_long}
 use Rattle.com_top.proofs.commands.replay_input.Goals as goal
 
 pub returns-in-Err-TooLong : goal.returns-in-Err-TooLong
