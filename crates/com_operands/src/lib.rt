@@ -11,6 +11,10 @@ pub use fields::{
     push_mode, push_name, push_op, push_place,
 };
 pub use numbers::{
-    push_buffer, push_cell, push_decimal, push_link, push_register, push_slot, push_word,
+    push_buffer, push_cell, push_decimal, push_link, push_register, push_signed, push_slot,
+    push_word,
 };
-pub use values::{push_hex, push_value};
+pub use values::{push_guid, push_hex, push_hresult, push_value};
+
+#[cfg(test)]
+mod tests;

@@ -1,5 +1,5 @@
 -- The arguments of a call, and where its result goes, are read again.
-use Rattle.std.proofs.Common.{◌≡◌, ℕ, zero, suc, ◌+◌, ◌<◌, List, [], ◌∷◌, ◌++◌, map, Option, Some, None, Result, Ok, Err, Bool, true, false, if◌then◌else◌, refl, sym, ap, ◌∙◌, arith, All, length, drop, slice_get, codes, bytes_eq, append_assoc, append-nil}
+use Rattle.std.proofs.Common.{◌≡◌, ℕ, zero, suc, ◌+◌, List, [], ◌∷◌, ◌++◌, map, Option, Some, None, Result, Ok, Err, Bool, if◌then◌else◌, refl, sym, ap, ◌∙◌, arith, All, length, drop, slice_get, codes, bytes_eq, append_assoc, append-nil}
 use Rattle.std.proofs.lemmas.List.Elements.{All-head, All-tail}
 use Rattle.com_base.specs.declared.value.Kind.{Kind}
 use Rattle.com_base.specs.declared.value.Kind.TheVariants as kinds
@@ -15,9 +15,9 @@ use Rattle.com_text.specs.Words.{WordAt}
 use Rattle.com_fields.specs.declared.faults.Fault.{Fault}
 use Rattle.com_fields.specs.declared.operands.Operand.{Operand}
 use Rattle.com_fields.specs.declared.operands.Operand.TheVariants as operands
-use Rattle.com_fields.specs.Reading.{◌>>=◌, fault_at, word_at, stands_at, end_at}
+use Rattle.com_fields.specs.Reading.{◌>>=◌, fault_at, word_at, end_at}
 use Rattle.com_fields.specs.Operands.{operand_of, plain_of, literal_of}
-use Rattle.com_statements.specs.Calls.{as_reference, as_value, as_argument, argument_at, arguments_on, landing_of, destination_at}
+use Rattle.com_statements.specs.Calls.{as_value, as_argument, argument_at, arguments_on, landing_of, destination_at}
 use Rattle.com_spelling.specs.Spelled.{Spelled, plain, spelled_of}
 use Rattle.com_operands.specs.Words.{op_word, slot_word, register_word, arg_word, destination_words}
 use Rattle.com_operands.specs.Ranges.{TakesOp, FitsOp, FitsArg}

@@ -1,5 +1,5 @@
 -- Calls are read again.
-use Rattle.std.proofs.Common.{◌≡◌, ℕ, ◌+◌, ◌<◌, ◌^◌, ◌⊎◌, inl, inr, List, [], ◌∷◌, ◌++◌, map, Option, Some, None, Result, Ok, All, length, drop, refl, ap, ◌∙◌, slice_get, codes, true}
+use Rattle.std.proofs.Common.{◌≡◌, ℕ, ◌+◌, inl, inr, List, [], ◌∷◌, ◌++◌, Option, Some, None, Result, Ok, length, drop, refl, ap, ◌∙◌, slice_get}
 use Rattle.com_body.specs.declared.operands.Arg.{Arg}
 use Rattle.com_body.specs.declared.operands.Destination.{Destination}
 use Rattle.com_body.specs.declared.operands.Destination.TheVariants as destinations
@@ -9,8 +9,6 @@ use Rattle.com_classes.specs.declared.interfaces.Method.{Method}
 use Rattle.com_text.specs.Words.{WordAt}
 use Rattle.com_fields.specs.declared.faults.Fault.{Fault}
 use Rattle.com_fields.specs.Reading.{◌>>=◌}
-use Rattle.com_statements.specs.declared.calls.MethodNumber.{MethodNumber}
-use Rattle.com_statements.specs.declared.calls.Target.{Target}
 use Rattle.com_statements.specs.declared.calls.Target.TheVariants as targets
 use Rattle.com_statements.specs.declared.keywords.Program.{Program}
 use Rattle.com_statements.specs.declared.keywords.ObjectWord.TheVariants as objects
@@ -18,12 +16,12 @@ use Rattle.com_statements.specs.declared.keywords.Keyword.TheVariants as keyword
 use Rattle.com_statements.specs.declared.names.Names.{Names}
 use Rattle.com_statements.specs.Keywords.{keyword_of}
 use Rattle.com_statements.specs.Statements.{stmt_of, object_of}
-use Rattle.com_statements.specs.Calls.{method_of, arguments_on, destination_at, call_of, signed_call, call_by, call_at, target_at}
-use Rattle.com_spelling.specs.Spelled.{Spelled, plain, spelled_of}
-use Rattle.com_operands.specs.Words.{arg_word, destination_words, name_at}
+use Rattle.com_statements.specs.Calls.{method_of, arguments_on, destination_at, call_of, signed_call, call_by, call_at}
+use Rattle.com_spelling.specs.Spelled.{Spelled, plain}
+use Rattle.com_operands.specs.Words.{destination_words, name_at}
 use Rattle.com_operands.proofs.Places.{at, end_again, slot_again}
-use Rattle.com_writing.specs.Words.{statement_words, method_text, name_of, target_word}
-use Rattle.com_writing.specs.Standing.{AreDeclared, TakesArgs, TakesResult, TakesMethod, IsCall}
+use Rattle.com_writing.specs.Words.{method_text, name_of}
+use Rattle.com_writing.specs.Standing.{AreDeclared, TakesArgs, TakesResult, TakesMethod}
 use Rattle.com_writing.specs.Reads.{Reads}
 use Rattle.com_writing.proofs.Firsts.{first_bytes, Written}
 use Rattle.com_writing.proofs.Targets.{number_pair, numbered_again, named_again}
@@ -70,7 +68,7 @@ named_reads p names slot iface method given to m w ws are h has text takes resul
       begins = ap keyword_of (first_bytes w ws h.words);
       taken = refl;
       read = rw (slot_again (w ∷ ws) 1 slot (g 1) h.range.0, named_again names (w ∷ ws) 2 iface method m target are h.stands.0 has)
-      (called names (w ∷ ws) slot iface method m given to has arguments.read destination);
+          (called names (w ∷ ws) slot iface method m given to has arguments.read destination);
     }
 
 -- a call of what the table has
@@ -86,14 +84,14 @@ pub call_reads : (p : Program) (names : Names) (slot iface method : ℕ) (given 
     → Written p names (call slot iface method given to) w ws → Reads p names (call slot iface method given to) w ws
 call_reads p names slot iface method [] destinations.Nowhere w ws are h = numbered_reads p names slot iface method w ws are h
 call_reads p names slot iface method [] (destinations.Register n) w ws are h = elim h.stands.1 [
-      | inl none ↦ (let e : destinations.Register n ≡ destinations.Nowhere = none.1 in absurd cc)
-      | inr takes ↦ by_table p names slot iface method [] (destinations.Register n) (method_of names.tables iface method) w ws are h refl refl takes
-    ]
+  | inl none ↦ (let e : destinations.Register n ≡ destinations.Nowhere = none.1 in absurd cc)
+  | inr takes ↦ by_table p names slot iface method [] (destinations.Register n) (method_of names.tables iface method) w ws are h refl refl takes
+]
 call_reads p names slot iface method [] (destinations.Slot n) w ws are h = elim h.stands.1 [
-      | inl none ↦ (let e : destinations.Slot n ≡ destinations.Nowhere = none.1 in absurd cc)
-      | inr takes ↦ by_table p names slot iface method [] (destinations.Slot n) (method_of names.tables iface method) w ws are h refl refl takes
-    ]
+  | inl none ↦ (let e : destinations.Slot n ≡ destinations.Nowhere = none.1 in absurd cc)
+  | inr takes ↦ by_table p names slot iface method [] (destinations.Slot n) (method_of names.tables iface method) w ws are h refl refl takes
+]
 call_reads p names slot iface method (a ∷ given) to w ws are h = elim h.stands.1 [
-      | inl none ↦ (let e : a ∷ given ≡ [] = none.0 in absurd cc)
-      | inr takes ↦ by_table p names slot iface method (a ∷ given) to (method_of names.tables iface method) w ws are h refl refl takes
-    ]
+  | inl none ↦ (let e : a ∷ given ≡ [] = none.0 in absurd cc)
+  | inr takes ↦ by_table p names slot iface method (a ∷ given) to (method_of names.tables iface method) w ws are h refl refl takes
+]

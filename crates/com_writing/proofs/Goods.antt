@@ -1,5 +1,5 @@
 -- A statement's words are good words.
-use Rattle.std.proofs.Common.{◌≡◌, ℕ, ◌+◌, ◌-◌, ◌<◌, ◌≤◌, ◌^◌, ◌⊎◌, inl, inr, List, [], ◌∷◌, ◌++◌, map, Option, Some, None, Bool, true, false, ◌&&◌, All, length, length-append, decimal, refl, sym, ap, ◌∙◌, arith, codes}
+use Rattle.std.proofs.Common.{◌≡◌, ℕ, ◌-◌, ◌<◌, ◌≤◌, ◌^◌, inl, inr, List, [], ◌∷◌, ◌++◌, map, Option, Some, None, true, All, length, length-append, decimal, refl, ap, ◌∙◌, arith}
 use Rattle.std.specs.List.{list_all}
 use Rattle.std.proofs.lemmas.List.Elements.{All-head, All-tail}
 use Rattle.std.proofs.lemmas.List.Folds.{list_all-append}
@@ -19,7 +19,6 @@ use Rattle.com_statements.specs.Calls.{method_of}
 use Rattle.com_spelling.specs.Spelled.{Spelled, plain, IsSpelled, AreSpelled, IsPlainWord, is_word_byte}
 use Rattle.com_operands.specs.Words.{arg_word, destination_words, name_at}
 use Rattle.com_operands.specs.Ranges.{Fits, FitsArg}
-use Rattle.com_operands.proofs.Names.{is_name_at}
 use Rattle.com_operands.proofs.Spellings.{register_spelled, slot_spelled, cell_spelled, buffer_spelled, place_spelled, op_spelled, decimal_spelled, asked_spelled, name_spelled, name_bytes, decimal_word, raw_spelled, code_spelled, given_spelled, destination_spelled, mode_spelled, marshal_mode_spelled}
 use Rattle.com_writing.specs.Words.{statement_words, filter_word, method_text, name_of, target_word}
 use Rattle.com_writing.specs.Standing.{AreDeclared, Stands, IsFilter, IsCall, TakesArg, TakesArgs, TakesMethod}
@@ -71,8 +70,7 @@ by_table : (names : Names) (iface method : ℕ) (given : List Arg) (to : Destina
 by_table names iface method given to None are lt has text range there takes fits = absurd takes
 by_table names iface method given to (Some m) are lt has text range there takes fits =
     let e : method_text names iface method given to ≡ m.name = text ∙ ap name_of has in
-    let good = name_bytes m.name (is_method_name names iface method m are has) in
-    (
+    let good = name_bytes m.name (is_method_name names iface method m are has) in (
       dotted_spelled (name_at names.interfaces iface) (method_text names iface method given to) (name_spelled names.interfaces iface are.interfaces lt) (ap (list_all is_word_byte) e ∙ good.1),
       args_spelled m.params given (destination_words to) range takes.0 fits (destination_spelled to there),
     )
@@ -83,17 +81,17 @@ call_spelled names iface method [] destinations.Nowhere are range there is fits 
     let small = fits.0 in
     (dotted_spelled (name_at names.interfaces iface) (35 ∷ decimal method) (name_spelled names.interfaces iface are.interfaces is.0) (decimal_word method (omega arith)), tt)
 call_spelled names iface method [] (destinations.Register n) are range there is fits = elim is.1 [
-      | inl none ↦ (let e : destinations.Register n ≡ destinations.Nowhere = none.1 in absurd cc)
-      | inr takes ↦ by_table names iface method [] (destinations.Register n) (method_of names.tables iface method) are is.0 refl refl range there takes fits.1
-    ]
+  | inl none ↦ (let e : destinations.Register n ≡ destinations.Nowhere = none.1 in absurd cc)
+  | inr takes ↦ by_table names iface method [] (destinations.Register n) (method_of names.tables iface method) are is.0 refl refl range there takes fits.1
+]
 call_spelled names iface method [] (destinations.Slot n) are range there is fits = elim is.1 [
-      | inl none ↦ (let e : destinations.Slot n ≡ destinations.Nowhere = none.1 in absurd cc)
-      | inr takes ↦ by_table names iface method [] (destinations.Slot n) (method_of names.tables iface method) are is.0 refl refl range there takes fits.1
-    ]
+  | inl none ↦ (let e : destinations.Slot n ≡ destinations.Nowhere = none.1 in absurd cc)
+  | inr takes ↦ by_table names iface method [] (destinations.Slot n) (method_of names.tables iface method) are is.0 refl refl range there takes fits.1
+]
 call_spelled names iface method (a ∷ given) to are range there is fits = elim is.1 [
-      | inl none ↦ (let e : a ∷ given ≡ [] = none.0 in absurd cc)
-      | inr takes ↦ by_table names iface method (a ∷ given) to (method_of names.tables iface method) are is.0 refl refl range there takes fits.1
-    ]
+  | inl none ↦ (let e : a ∷ given ≡ [] = none.0 in absurd cc)
+  | inr takes ↦ by_table names iface method (a ∷ given) to (method_of names.tables iface method) are is.0 refl refl range there takes fits.1
+]
 
 -- ---- statements
 

@@ -1,27 +1,19 @@
 -- Actions on cookies, lanes and apartments are read again.
-use Rattle.std.proofs.Common.{◌≡◌, ℕ, ◌<◌, ◌≤◌, List, [], ◌∷◌, map, Some, None, Ok, Bool, true, false, not, refl, ap, ◌∙◌, arith, slice_get, codes, bytes_eq, if◌then◌else◌, ◌+◌, ◌-◌, Option, Result, length}
+use Rattle.std.proofs.Common.{◌≡◌, ℕ, ◌<◌, List, [], ◌∷◌, Some, None, Ok, Bool, true, false, not, refl, ap, ◌∙◌, arith, slice_get, codes, bytes_eq, if◌then◌else◌, ◌+◌, ◌-◌, Option, Result, length}
 use Rattle.com_base.specs.declared.value.Mode.{Mode}
-use Rattle.com_base.specs.declared.value.MarshalMode.{MarshalMode}
-use Rattle.com_body.specs.declared.operands.Asked.{Asked}
 use Rattle.com_body.specs.declared.operands.Op.{Op}
-use Rattle.com_body.specs.declared.operands.Place.{Place}
 use Rattle.com_body.specs.declared.operands.Code.{Code}
 use Rattle.com_body.specs.declared.operands.Given.{Given}
-use Rattle.com_body.specs.declared.statements.Stmt.{Stmt}
 use Rattle.com_body.specs.declared.statements.Stmt.TheVariants as stmts
-use Rattle.com_body.specs.Bodies.{IsInRange}
 use Rattle.com_text.specs.Words.{WordAt}
 use Rattle.com_statements.specs.declared.keywords.Program.{Program}
-use Rattle.com_statements.specs.declared.keywords.LocalWord.TheVariants as locals
-use Rattle.com_statements.specs.declared.keywords.ObjectWord.TheVariants as objects
 use Rattle.com_statements.specs.declared.keywords.LaneWord.TheVariants as lanes
 use Rattle.com_statements.specs.declared.keywords.Keyword.TheVariants as keywords
 use Rattle.com_statements.specs.declared.names.Names.{Names}
-use Rattle.com_statements.specs.Keywords.{keyword_of, has_cells, has_links}
+use Rattle.com_statements.specs.Keywords.{keyword_of}
 use Rattle.com_statements.specs.Statements.{stmt_of, lane_of, filter_at}
-use Rattle.com_spelling.specs.Spelled.{Spelled, spelled_of, plain}
-use Rattle.com_operands.specs.Ranges.{Fits}
-use Rattle.com_operands.proofs.Places.{at, StandsAt, stands, end_again, register_again, slot_again, cell_again, buffer_again, place_again, number_at_again, mode_again, marshal_mode_again}
+use Rattle.com_spelling.specs.Spelled.{Spelled, plain}
+use Rattle.com_operands.proofs.Places.{at, StandsAt, stands, end_again, register_again, slot_again, number_at_again, mode_again}
 use Rattle.com_operands.proofs.Literals.{op_again, code_again, given_again}
 use Rattle.std.proofs.lemmas.List.Elements.{All-get_or}
 use Rattle.com_body.specs.declared.operands.Given.TheVariants as gifts
@@ -32,8 +24,7 @@ use Rattle.com_fields.specs.Naming.{is_name, declared_at}
 use Rattle.com_operands.proofs.Names.{name_word, is_name_at, declared_again}
 use Rattle.com_operands.specs.Words.{name_at}
 use Rattle.com_writing.specs.Words.{filter_word}
-use Rattle.com_writing.specs.Words.{statement_words}
-use Rattle.com_writing.specs.Standing.{AreDeclared, Stands, IsFilter}
+use Rattle.com_writing.specs.Standing.{AreDeclared, IsFilter}
 use Rattle.com_writing.specs.Reads.{Reads}
 use Rattle.com_writing.proofs.Firsts.{first_bytes, Written}
 
@@ -129,7 +120,7 @@ init_reads p names mode w ws are h =
       read = rw (mode_again (w ∷ ws) 1 mode (g 1), end_again (w ∷ ws) 2 (g 2)) refl;
     }
 
-pub uninit_reads : (p : Program) (names : Names)  (w : WordAt) (ws : List WordAt) → AreDeclared names → Written p names stmts.Uninit w ws → Reads p names stmts.Uninit w ws
+pub uninit_reads : (p : Program) (names : Names) (w : WordAt) (ws : List WordAt) → AreDeclared names → Written p names stmts.Uninit w ws → Reads p names stmts.Uninit w ws
 unfolding stmt_of lane_of keyword_of
 uninit_reads p names w ws are h =
     let g = λ (k : ℕ). ap (λ (l : List Spelled). slice_get l k) h.words in

@@ -8,3 +8,5 @@ pub mod Arguments
 pub mod Calls
 pub mod Whole
 pub mod Goods
+pub mod Prefixes
+pub mod Pieces

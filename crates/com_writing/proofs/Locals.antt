@@ -1,31 +1,18 @@
 -- Local statements are read again.
-use Rattle.std.proofs.Common.{◌≡◌, ℕ, ◌<◌, ◌≤◌, List, [], ◌∷◌, map, Some, None, Ok, Bool, true, false, not, refl, ap, ◌∙◌, arith, slice_get, codes}
-use Rattle.com_base.specs.declared.value.Mode.{Mode}
-use Rattle.com_base.specs.declared.value.MarshalMode.{MarshalMode}
-use Rattle.com_body.specs.declared.operands.Asked.{Asked}
+use Rattle.std.proofs.Common.{ℕ, List, ◌∷◌, refl, ap, arith, slice_get}
 use Rattle.com_body.specs.declared.operands.Op.{Op}
-use Rattle.com_body.specs.declared.operands.Place.{Place}
-use Rattle.com_body.specs.declared.operands.Code.{Code}
-use Rattle.com_body.specs.declared.operands.Given.{Given}
-use Rattle.com_body.specs.declared.statements.Stmt.{Stmt}
 use Rattle.com_body.specs.declared.statements.Stmt.TheVariants as stmts
-use Rattle.com_body.specs.Bodies.{IsInRange}
 use Rattle.com_text.specs.Words.{WordAt}
 use Rattle.com_statements.specs.declared.keywords.Program.{Program}
 use Rattle.com_statements.specs.declared.keywords.LocalWord.TheVariants as locals
-use Rattle.com_statements.specs.declared.keywords.ObjectWord.TheVariants as objects
-use Rattle.com_statements.specs.declared.keywords.LaneWord.TheVariants as lanes
 use Rattle.com_statements.specs.declared.keywords.Keyword.TheVariants as keywords
 use Rattle.com_statements.specs.declared.names.Names.{Names}
-use Rattle.com_statements.specs.Keywords.{keyword_of, has_cells, has_links}
-use Rattle.com_statements.specs.Statements.{stmt_of, local_of, object_of, lane_of}
-use Rattle.com_spelling.specs.Spelled.{Spelled, spelled_of}
-use Rattle.com_operands.specs.Ranges.{Fits}
-use Rattle.com_operands.proofs.Places.{end_again, register_again, slot_again, cell_again, buffer_again, place_again, number_at_again, mode_again, marshal_mode_again}
-use Rattle.com_operands.proofs.Literals.{op_again, code_again, given_again}
-use Rattle.com_operands.proofs.Names.{asked_again}
-use Rattle.com_writing.specs.Words.{statement_words}
-use Rattle.com_writing.specs.Standing.{AreDeclared, Stands}
+use Rattle.com_statements.specs.Keywords.{keyword_of, has_cells}
+use Rattle.com_statements.specs.Statements.{stmt_of, local_of}
+use Rattle.com_spelling.specs.Spelled.{Spelled}
+use Rattle.com_operands.proofs.Places.{end_again, register_again, slot_again, cell_again, number_at_again}
+use Rattle.com_operands.proofs.Literals.{op_again}
+use Rattle.com_writing.specs.Standing.{AreDeclared}
 use Rattle.com_writing.specs.Reads.{Reads}
 use Rattle.com_writing.proofs.Firsts.{first_bytes, Written}
 

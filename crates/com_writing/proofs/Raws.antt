@@ -1,16 +1,16 @@
 -- Bytes as one word of digits are read again.
-use Rattle.std.proofs.Common.{◌≡◌, ℕ, ◌*◌, ◌≤◌, List, Some, Ok, Err, Bool, true, false, not, Result, refl, ap, ◌∙◌, arith, length, nat_lt, if◌then◌else◌}
+use Rattle.std.proofs.Common.{◌≡◌, ℕ, ◌≤◌, List, Some, Ok, Err, Bool, false, not, Result, ap, ◌∙◌, arith, length, nat_lt, if◌then◌else◌}
 use Rattle.std.proofs.lemmas.Bool.Decides.{nat_tests}
 use Rattle.hex.specs.Hex.{encode_lower}
 use Rattle.com_text.specs.Words.{WordAt}
 use Rattle.com_fields.specs.declared.faults.Fault.{Fault}
-use Rattle.com_fields.specs.Reading.{◌>>=◌, word_at, fault_at}
+use Rattle.com_fields.specs.Reading.{fault_at}
 use Rattle.com_fields.specs.Literals.{are_pairs, unhexed}
 use Rattle.com_statements.specs.Statements.{as_raw, raw_at}
 use Rattle.com_spelling.specs.Spelled.{plain}
 use Rattle.com_operands.specs.Ranges.{AreBytes}
 use Rattle.com_operands.proofs.Hexes.{long_hex, pairs_again, unhexed_again}
-use Rattle.com_operands.proofs.Places.{at, StandsAt, stands, word_bytes}
+use Rattle.com_operands.proofs.Places.{at, stands, word_bytes}
 
 abbrev raw_by : WordAt → List ℕ → Result (List ℕ) Fault
 raw_by w bs =

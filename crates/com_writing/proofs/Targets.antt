@@ -1,23 +1,20 @@
 -- The method of a call is read again.
-use Rattle.std.proofs.Common.{◌≡◌, ℕ, zero, suc, ◌+◌, ◌<◌, ◌≤◌, ◌==◌, ◌^◌, List, [], ◌∷◌, ◌++◌, Option, Some, None, Result, Ok, Err, Bool, true, false, ◌&&◌, ◌||◌, nat_le, if◌then◌else◌, refl, sym, ap, ◌∙◌, arith, All, length, take, drop, get_or, slice_get, decimal, option_map, bytes_eq}
+use Rattle.std.proofs.Common.{◌≡◌, ℕ, zero, suc, ◌+◌, ◌<◌, ◌==◌, ◌^◌, List, [], ◌∷◌, ◌++◌, Option, Some, None, Result, Ok, Err, Bool, true, false, ◌&&◌, nat_le, if◌then◌else◌, refl, sym, ap, ◌∙◌, arith, All, length, take, drop, slice_get, decimal, option_map, bytes_eq}
 use Rattle.std.specs.Char.{is_ascii_alphabetic}
 use Rattle.std.proofs.lemmas.Bool.Decides.{nat_tests}
 use Rattle.std.proofs.lemmas.List.Elements.{All-get_or}
 use Rattle.std.proofs.lemmas.Option.{get_or_from_slice_get, slice_get_within}
-use Rattle.com_body.specs.declared.operands.Arg.{Arg}
-use Rattle.com_body.specs.declared.operands.Destination.{Destination}
 use Rattle.com_classes.specs.declared.interfaces.Interface.{Interface}
 use Rattle.com_classes.specs.declared.interfaces.Method.{Method}
 use Rattle.com_text.specs.Words.{WordAt}
 use Rattle.com_fields.specs.declared.faults.Fault.{Fault}
-use Rattle.com_fields.specs.Numbers.{number_of}
-use Rattle.com_fields.specs.Reading.{◌>>=◌, fault_at, word_at, within}
+use Rattle.com_fields.specs.Reading.{◌>>=◌, fault_at, within}
 use Rattle.com_fields.specs.Naming.{is_name, is_tail, are_tail, number_of_name, of_16_bits, position_of}
 use Rattle.com_statements.specs.declared.calls.MethodNumber.{MethodNumber}
 use Rattle.com_statements.specs.declared.calls.Target.{Target}
 use Rattle.com_statements.specs.declared.calls.Target.TheVariants as targets
 use Rattle.com_statements.specs.declared.names.Names.{Names}
-use Rattle.com_statements.specs.Calls.{dot_of, method_position, in_table, method_number, in_methods, method_of, numbered_by, numbered_of, named_in, named_by, named_of, as_target, behind_dot, dotted, target_at}
+use Rattle.com_statements.specs.Calls.{dot_of, method_position, in_table, in_methods, method_of, numbered_by, numbered_of, named_in, named_by, named_of, as_target, behind_dot, dotted, target_at}
 use Rattle.com_spelling.specs.Spelled.{plain}
 use Rattle.com_operands.specs.Words.{name_at}
 use Rattle.com_operands.specs.Ranges.{AreNames}

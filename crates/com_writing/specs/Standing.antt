@@ -1,13 +1,11 @@
 -- Statements that can be written: what stands where, and what must be declared.
-use Rattle.std.specs.Prelude.{◌≡◌, ℕ, ◌^◌, ◌≤◌, ◌<◌, ◌⊎◌, true, false, List, [], ◌∷◌, Option, Some, None, length, All, codes}
+use Rattle.std.specs.Prelude.{◌≡◌, ℕ, ◌≤◌, ◌<◌, ◌⊎◌, true, false, List, [], ◌∷◌, Option, Some, None, length, take, All, codes}
 use Rattle.std.specs.Str.{bytes_eq}
 use Rattle.com_base.specs.declared.value.Kind.{Kind}
 use Rattle.com_base.specs.declared.value.Kind.TheVariants as kinds
 use Rattle.com_body.specs.declared.operands.Asked.{Asked}
-use Rattle.com_body.specs.declared.operands.Op.{Op}
 use Rattle.com_body.specs.declared.operands.Arg.{Arg}
 use Rattle.com_body.specs.declared.operands.Arg.TheVariants as args
-use Rattle.com_body.specs.declared.operands.Given.{Given}
 use Rattle.com_body.specs.declared.operands.Destination.{Destination}
 use Rattle.com_body.specs.declared.operands.Destination.TheVariants as destinations
 use Rattle.com_body.specs.declared.statements.Stmt.{Stmt}
@@ -104,3 +102,10 @@ Stands p names stmts.Uninit = has_cells p ≡ false
 Stands p names (stmts.SetFilter filter) = (has_cells p ≡ false) × IsFilter names filter
 Stands p names (stmts.Pump bound) = (has_cells p ≡ false) × (bound ≤ 1000)
 Stands p names _ = Unit {0}
+
+-- names behind which more may be declared
+pub record Extends (few all : Names) : Type 0 where
+  pub classes : take (length few.classes) all.classes ≡ few.classes
+  pub interfaces : take (length few.interfaces) all.interfaces ≡ few.interfaces
+  pub filters : take (length few.filters) all.filters ≡ few.filters
+  pub tables : take (length few.tables) all.tables ≡ few.tables

@@ -1,8 +1,7 @@
 -- Statements as words: the line of each.
-use Rattle.std.specs.Prelude.{ℕ, ◌-◌, List, [], ◌∷◌, ◌++◌, map, Option, Some, None, codes, decimal, slice_index}
+use Rattle.std.specs.Prelude.{ℕ, ◌-◌, List, [], ◌∷◌, ◌++◌, map, Option, Some, None, codes, decimal}
 use Rattle.hex.specs.Hex.{encode_lower}
 use Rattle.com_body.specs.declared.operands.Asked.{Asked}
-use Rattle.com_body.specs.declared.operands.Op.{Op}
 use Rattle.com_body.specs.declared.operands.Arg.{Arg}
 use Rattle.com_body.specs.declared.operands.Destination.{Destination}
 use Rattle.com_body.specs.declared.operands.Destination.TheVariants as destinations
