@@ -34,11 +34,11 @@ pub new_by : {X : Type 0} (same other : X → X → Bool) (ds : List X) (x : X) 
 new_by same other [] x f h = tt
 new_by same other (d ∷ ds) x f h = (f d h.0, new_by same other ds x f h.1)
 
-either_left : (a b : Bool) → (a || b) ≡ false → a ≡ false
+pub either_left : (a b : Bool) → (a || b) ≡ false → a ≡ false
 either_left true b h = absurd cc
 either_left false b h = refl
 
-either_right : (a b : Bool) → (a || b) ≡ false → b ≡ false
+pub either_right : (a b : Bool) → (a || b) ≡ false → b ≡ false
 either_right true b h = absurd cc
 either_right false b h = h
 

@@ -2,10 +2,12 @@
 #![tactic(auto)]
 
 mod built_in;
+mod printing;
 mod reading;
 
 pub use com_base::Memory;
 pub use com_fields::ScenarioError;
+pub use printing::{print, printed_is_read};
 pub use reading::parse;
 
 #[cfg(test)]
