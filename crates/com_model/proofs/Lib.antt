@@ -4,3 +4,9 @@ pub mod Stands
 pub mod Comes
 pub mod Onces
 pub mod Cases
+pub mod Tabled
+pub mod Rows
+pub mod Lanes
+pub mod Sights
+pub mod Replies
+pub mod Whole

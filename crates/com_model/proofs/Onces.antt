@@ -1,7 +1,7 @@
 -- Each call of a legal history has one Out, at most one Enter, one Leave and one Back, in their order.
 use Rattle.std.proofs.Common.{subst, sym, eqb-true, arith}
 use Rattle.std.proofs.lemmas.Grind.{common_steps}
-use Rattle.std.specs.Prelude.{◌≡◌, refl, ℕ, ◌+◌, ◌≤◌, Bool, true, false, not, cond, ◌==◌, ◌||◌, List, [], ◌∷◌, ◌++◌, Option, Some, None, is_none, is_some, filter, pos, negsuc, nat_lt}
+use Rattle.std.specs.Prelude.{◌≡◌, refl, ℕ, zero, suc, ◌+◌, ◌≤◌, Bool, true, false, not, cond, ◌==◌, ◌||◌, List, [], ◌∷◌, ◌++◌, Option, Some, None, is_none, is_some, filter, pos, negsuc, nat_lt}
 use Rattle.com_model.specs.declared.deeds.Deed.{Deed}
 use Rattle.com_model.specs.declared.deeds.Deed.TheVariants as deed
 use Rattle.com_model.specs.declared.deeds.Entry.{Entry}
@@ -138,6 +138,8 @@ record Inv (h : List Entry) : Type 0 where
   known : (c : ℕ) → (stage h c).out ≡ true → c ≤ calls h
   posted : (c : ℕ) → is_member c (postings h) ≡ true → (stage h c).out ≡ true
   backed : (c : ℕ) → (stage h c).out ≡ false → (stage h c).back ≡ false
+  called : (c : ℕ) → (stage h c).out ≡ false → (stage h c).enter ≡ false
+  from_one : (stage h 0).out ≡ false
   gone : (c : ℕ) → (stage h c).enter ≡ false → (stage h c).leave ≡ false
   entered : (c : ℕ) → is_none (admitted h c) ≡ not (stage h c).enter
   stacks : (l : ℕ) → Stacked (stage h) (issue h) (admitted h) l (openers h l)
@@ -186,7 +188,7 @@ known-out false d c n o q e z k = let y : c ≤ n = k e in omega (arith, y)
 plus-zero : (c n : ℕ) → c ≤ n → c ≤ 0 + n
 plus-zero c n p = omega (arith, p)
 
-known-step : (s : Scenario) (h : List Entry) (l : ℕ) (d : Deed) → Inv h → Comes (sight s h) (postings h) (openers h l) (sort_of d) → (c : ℕ) → (stage_after (event d) c (stage h c)).out ≡ true → c ≤ count_if (is_some (issues l d)) + calls h
+known-step : (s : Scenario) (h : List Entry) (l : ℕ) (d : Deed) → Inv h → Comes s (sight s h) (postings h) (openers h l) (sort_of d) → (c : ℕ) → (stage_after (event d) c (stage h c)).out ≡ true → c ≤ count_if (is_some (issues l d)) + calls h
 known-step s h l (deed.Out d o i m r k bytes) v z c e = known-out (d == c) d c (calls h) (stage h c).out refl e z (v.known c)
 known-step s h l (deed.Enter d o a t vs) v z c e = plus-zero c (calls h) (v.known c e)
 known-step s h l (deed.Leave d hr x bytes) v z c e = plus-zero c (calls h) (v.known c e)
@@ -232,7 +234,7 @@ retry-posted : (h : List Entry) (c d n : ℕ) (b : Bool) → Inv h → (stage h 
 retry-posted h c d n true v p e = out-known h c d v p (member-posted (λ k. not (k == d)) c d (postings h) e)
 retry-posted h c d n false v p e = v.posted c e
 
-posted-step : (s : Scenario) (h : List Entry) (l : ℕ) (d : Deed) → Inv h → Comes (sight s h) (postings h) (openers h l) (sort_of d) → (c : ℕ) → is_member c (posted_last (post_effect d) (postings h)) ≡ true → (stage_after (event d) c (stage h c)).out ≡ true
+posted-step : (s : Scenario) (h : List Entry) (l : ℕ) (d : Deed) → Inv h → Comes s (sight s h) (postings h) (openers h l) (sort_of d) → (c : ℕ) → is_member c (posted_last (post_effect d) (postings h)) ≡ true → (stage_after (event d) c (stage h c)).out ≡ true
 posted-step s h l (deed.Out d o i m route.Post k bytes) v z c e = out-made h c d v (member-posted (λ y. not (y == d)) c d (postings h) e)
 posted-step s h l (deed.Out d o i m route.Direct k bytes) v z c e = or-right (d == c) (stage h c).out (v.posted c e)
 posted-step s h l (deed.Out d o i m route.Switch k bytes) v z c e = or-right (d == c) (stage h c).out (v.posted c e)
@@ -285,7 +287,7 @@ new-enter h d v z = not-of (is_none (admitted h d)) (stage h d).enter (v.entered
 apart : (l m : ℕ) → (l == m) ≡ false → l ≡ m → ⊥
 apart l m q e = not-both (l == m) (subst (λ (k : ℕ). (l == k) ≡ true) e (same-number l)) q
 
-stacks-step : (s : Scenario) (h : List Entry) (l : ℕ) (d : Deed) → Inv h → Comes (sight s h) (postings h) (openers h l) (sort_of d) → fits (effect d) (openers h l) → (m : ℕ) (b : Bool) → (l == m) ≡ b → Stacked (λ c. stage_after (event d) c (stage h c)) (λ c. issue_or (issues l d) c (issue h c)) (λ c. admission_or (admits l d) c (admitted h c)) m (opened (cond b (effect d) Keeps) (openers h m))
+stacks-step : (s : Scenario) (h : List Entry) (l : ℕ) (d : Deed) → Inv h → Comes s (sight s h) (postings h) (openers h l) (sort_of d) → fits (effect d) (openers h l) → (m : ℕ) (b : Bool) → (l == m) ≡ b → Stacked (λ c. stage_after (event d) c (stage h c)) (λ c. issue_or (issues l d) c (issue h c)) (λ c. admission_or (admits l d) c (admitted h c)) m (opened (cond b (effect d) Keeps) (openers h m))
 stacks-step s h l (deed.Out d o i n r k bytes) v z f m true q =
     let u : Issue = record { call = d; lane = l; object = o; iface = i; method = n; route = r; cause = k } in
     let g : (stage h d).out ≡ false = new-out s h d v z in (
@@ -321,23 +323,42 @@ reached : (h : List Entry) (l d : ℕ) → Inv h → Reaches (postings h) (opene
 reached h l d v (by_top p) = (top-waits (stage h) (issue h) (admitted h) l d (openers h l) (v.stacks l) p).0
 reached h l d v (by_post p) = v.posted d p
 
-comes-once : (s : Scenario) (h : List Entry) (l : ℕ) (d : Deed) → Inv h → Comes (sight s h) (postings h) (openers h l) (sort_of d) → fits (effect d) (openers h l) → ComesOnce (event d) (stage h)
+comes-once : (s : Scenario) (h : List Entry) (l : ℕ) (d : Deed) → Inv h → Comes s (sight s h) (postings h) (openers h l) (sort_of d) → fits (effect d) (openers h l) → ComesOnce (event d) (stage h)
 comes-once s h l (deed.Out d o i n r k bytes) v z f = new-out s h d v z
 comes-once s h l (deed.Enter d o a t vs) v z f = (reached h l d v z.1, new-enter h d v z.0)
 comes-once s h l (deed.Leave d hr x bytes) v z f = ((top-enters (stage h) (issue h) (admitted h) l d (openers h l) f (v.stacks l)).0, (top-enters (stage h) (issue h) (admitted h) l d (openers h l) f (v.stacks l)).1)
 comes-once s h l (deed.Back d hr x) v z f = ((top-outs (stage h) (issue h) (admitted h) l d (openers h l) f (v.stacks l)).0, (top-outs (stage h) (issue h) (admitted h) l d (openers h l) f (v.stacks l)).1)
 comes-once s h l _ v z f = tt
 
+called-step : (s : Scenario) (h : List Entry) (l : ℕ) (d : Deed) → Inv h → Comes s (sight s h) (postings h) (openers h l) (sort_of d) → (c : ℕ) → (stage_after (event d) c (stage h c)).out ≡ false → (stage_after (event d) c (stage h c)).enter ≡ false
+called-step s h l (deed.Out d o i m r k bytes) v z c e = v.called c (or-split (d == c) (stage h c).out e).1
+called-step s h l (deed.Enter d o a t vs) v z c e =
+    or-both (d == c) (stage h c).enter
+    (differ (d == c) (λ q. not-both (stage h c).out (subst (λ (k : ℕ). (stage h k).out ≡ true) (eqb-true d c q) (reached h l d v z.1)) e))
+    (v.called c e)
+called-step s h l (deed.Leave d hr x bytes) v z c e = v.called c e
+called-step s h l (deed.Back d hr x) v z c e = v.called c e
+called-step s h l _ v z c e = v.called c e
+
+from-one-step : (s : Scenario) (h : List Entry) (l : ℕ) (d : Deed) → Inv h → Comes s (sight s h) (postings h) (openers h l) (sort_of d) → (stage_after (event d) 0 (stage h 0)).out ≡ false
+from-one-step s h l (deed.Out d o i m r k bytes) v z = or-both (d == 0) (stage h 0).out (differ (d == 0) (λ q. let y : d ≡ 0 = eqb-true d 0 q in omega (arith, y, z))) v.from_one
+from-one-step s h l (deed.Enter d o a t vs) v z = v.from_one
+from-one-step s h l (deed.Leave d hr x bytes) v z = v.from_one
+from-one-step s h l (deed.Back d hr x) v z = v.from_one
+from-one-step s h l _ v z = v.from_one
+
 -- ---- the law
 
 inv-step : (s : Scenario) (h : List Entry) (e : Entry) → Inv h → next s h e.lane ≡ Some e.deed → Inv (e ∷ h)
 inv-step s h e v p =
-    let z : Comes (sight s h) (postings h) (openers h e.lane) (sort_of e.deed) = next-comes s h e.lane e.deed p in
+    let z : Comes s (sight s h) (postings h) (openers h e.lane) (sort_of e.deed) = next-comes s h e.lane e.deed p in
     let f : fits (effect e.deed) (openers h e.lane) = next-fits s h e.lane e.deed p in
     record {
       known = known-step s h e.lane e.deed v z;
       posted = posted-step s h e.lane e.deed v z;
       backed = backed-step h e.lane e.deed v f;
+      called = called-step s h e.lane e.deed v z;
+      from_one = from-one-step s h e.lane e.deed v z;
       gone = gone-step h e.lane e.deed v f;
       entered = entered-step h e.lane e.deed v;
       stacks = λ m. stacks-step s h e.lane e.deed v z f m (e.lane == m) refl;
@@ -348,6 +369,8 @@ first-inv = record {
   known = λ c e. cc;
   posted = λ c e. cc;
   backed = λ c e. refl;
+  called = λ c e. refl;
+  from_one = refl;
   gone = λ c e. refl;
   entered = λ c. refl;
   stacks = λ l. tt;
@@ -360,3 +383,59 @@ legal-inv s (e ∷ h) p = inv-step s h e (legal-inv s h p.0) p.1
 pub legal-once : (s : Scenario) (h : List Entry) → legal s h → once h
 legal-once s [] p = tt
 legal-once s (e ∷ h) p = (legal-once s h p.0, comes-once s h e.lane e.deed (legal-inv s h p.0) (next-comes s h e.lane e.deed p.1) (next-fits s h e.lane e.deed p.1))
+
+-- ---- the calls that entries name
+
+-- The call that a deed names.
+abbrev pub call_named : Deed → Option ℕ
+call_named (deed.Out c o i m r k bytes) = Some c
+call_named (deed.Verdict c t v) = Some c
+call_named (deed.Refuse c hr) = Some c
+call_named (deed.Enter c o a t vs) = Some c
+call_named (deed.Leave c hr x bytes) = Some c
+call_named (deed.Retry c n) = Some c
+call_named (deed.Again c) = Some c
+call_named (deed.Back c hr x) = Some c
+call_named (deed.Pending c w n) = Some c
+call_named _ = None
+
+abbrev pub Names : (ℕ → Type 0) → Option ℕ → Type 0
+Names P None = Unit {0}
+Names P (Some c) = P c
+
+waits-out : (h : List Entry) (l c : ℕ) → Inv h → first (openers h l) ≡ Some (Waits c) → (stage h c).out ≡ true
+waits-out h l c v p = (top-waits (stage h) (issue h) (admitted h) l c (openers h l) (v.stacks l) p).0
+
+true-from : (o n : Bool) → (o ≡ false → n ≡ false) → n ≡ true → o ≡ true
+true-from true n p e = refl
+true-from false n p e = absurd (not-both n e (p refl))
+
+named-out : (s : Scenario) (h : List Entry) (l : ℕ) (d : Deed) → Inv h → Comes s (sight s h) (postings h) (openers h l) (sort_of d) → fits (effect d) (openers h l) → Names (λ c. (stage_after (event d) c (stage h c)).out ≡ true) (call_named d)
+named-out s h l (deed.Out d o i m r k bytes) v z f = subst (λ (b : Bool). (b || (stage h d).out) ≡ true) (sym (same-number d)) refl
+named-out s h l (deed.Verdict d t x) v z f = reached h l d v z
+named-out s h l (deed.Refuse d hr) v z f = reached h l d v z
+named-out s h l (deed.Enter d o a t vs) v z f = reached h l d v z.1
+named-out s h l (deed.Leave d hr x bytes) v z f = true-from (stage h d).out (stage h d).enter (v.called d) (top-enters (stage h) (issue h) (admitted h) l d (openers h l) f (v.stacks l)).0
+named-out s h l (deed.Retry d n) v z f = waits-out h l d v z
+named-out s h l (deed.Again d) v z f = waits-out h l d v z
+named-out s h l (deed.Back d hr x) v z f = (top-outs (stage h) (issue h) (admitted h) l d (openers h l) f (v.stacks l)).0
+named-out s h l (deed.Pending d w n) v z f = waits-out h l d v z
+named-out s h l _ v z f = tt
+
+-- Calls count from 1, and each that an entry names was issued by then.
+abbrev pub InRange : ℕ → ℕ → Type 0
+InRange n c = (1 ≤ c) × (c ≤ n)
+
+in-range : (h : List Entry) → Inv h → (c : ℕ) → (stage h c).out ≡ true → InRange (calls h) c
+in-range h v zero e = absurd (not-both (stage h 0).out e v.from_one)
+in-range h v (suc c) e = (omega arith, v.known (suc c) e)
+
+pub names-all : (P Q : ℕ → Type 0) → ((c : ℕ) → P c → Q c) → (o : Option ℕ) → Names P o → Names Q o
+names-all P Q f None p = tt
+names-all P Q f (Some c) p = f c p
+
+pub named-in-range : (s : Scenario) (h : List Entry) (e : Entry) → legal s (e ∷ h) → Names (InRange (calls (e ∷ h))) (call_named e.deed)
+named-in-range s h e p =
+    let v : Inv h = legal-inv s h p.0 in
+    names-all (λ c. (stage (e ∷ h) c).out ≡ true) (InRange (calls (e ∷ h))) (in-range (e ∷ h) (inv-step s h e v p.1)) (call_named e.deed)
+    (named-out s h e.lane e.deed v (next-comes s h e.lane e.deed p.1) (next-fits s h e.lane e.deed p.1))

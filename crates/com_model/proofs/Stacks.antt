@@ -1,17 +1,19 @@
 -- Every closer of a legal history closes the innermost opener of its lane.
 use Rattle.std.proofs.Common.{subst, sym, ap, eqb-true}
-use Rattle.std.specs.Prelude.{◌≡◌, refl, ℕ, ℤ, zero, suc, Bool, true, false, cond, ◌==◌, ◌&&◌, not, nat_le, length, List, [], ◌∷◌, Option, Some, None, option_map}
+use Rattle.std.specs.Prelude.{◌≡◌, refl, ℕ, ℤ, zero, suc, Bool, true, false, cond, ◌==◌, ◌&&◌, not, nat_le, length, List, [], ◌∷◌, Option, Some, None, option_map, Result, Ok, Err}
 use Rattle.com_base.specs.declared.hresult.HResult.{HResult}
 use Rattle.com_base.specs.declared.value.RefValue.{RefValue}
 use Rattle.com_base.specs.declared.value.Value.{Value}
 use Rattle.com_base.specs.declared.value.Mode.{Mode}
 use Rattle.com_base.specs.declared.value.MarshalMode.{MarshalMode}
 use Rattle.com_base.specs.declared.value.MarshalMode.TheVariants as marshal
-use Rattle.com_model.specs.Answers.{S_OK, E_INVALIDARG, E_NOINTERFACE, CO_E_OBJNOTCONNECTED, RPC_E_OUT_OF_RESOURCES, RPC_E_SERVER_CANTUNMARSHAL_DATA}
+use Rattle.com_model.specs.Answers.{S_OK, E_INVALIDARG, CO_E_OBJNOTCONNECTED, RPC_E_OUT_OF_RESOURCES, RPC_E_SERVER_CANTUNMARSHAL_DATA}
 use Rattle.com_body.specs.declared.operands.Asked.{Asked}
 use Rattle.com_body.specs.declared.actions.Action.{Action}
 use Rattle.com_body.specs.declared.actions.Action.TheVariants as action
 use Rattle.com_body.specs.declared.frame.Outcome.{Outcome}
+use Rattle.com_classes.specs.declared.factory.Placed.{Placed}
+use Rattle.com_classes.specs.Lookups.{class_at}
 use Rattle.com_model.specs.declared.deeds.Deed.{Deed}
 use Rattle.com_model.specs.declared.deeds.Deed.TheVariants as deed
 use Rattle.com_model.specs.declared.deeds.Entry.{Entry}
@@ -20,7 +22,7 @@ use Rattle.com_model.specs.Lists.{where_true, first}
 use Rattle.com_model.specs.Issue.{call_refusal}
 use Rattle.com_body.specs.BodySteps.{body_step}
 use Rattle.com_model.specs.Objects.{class_of}
-use Rattle.com_model.specs.Tables.{script, in_set, class_number, interface_number, LaneSort, Thread, Host, Pool, NoLane, lane_sort}
+use Rattle.com_model.specs.Tables.{script, class_number, interface_number, LaneSort, Thread, Host, Pool, NoLane, lane_sort}
 use Rattle.com_model.specs.Openers.{Opener, Pumps, Waits, Enters, Closes, Keeps, Backs, Leaves, top_call, effect, fits, nested, openers, running_call}
 use Rattle.com_model.specs.Calls.{Issue, issue, object_of, is_post, route_of}
 use Rattle.com_model.specs.Frames.{Scene, Actor, Body, Script, Nobody, scene, outcome, action_of, act_by, new_cells, actor, actor_in, is_leave, reference}
@@ -28,8 +30,8 @@ use Rattle.com_model.specs.Endings.{Answer}
 use Rattle.com_model.specs.Waiting.{Phase, Unposted, Queued, Judged, Delayed, GivenUp, Word, mark_of, not_asked, bound_reached}
 use Rattle.com_model.specs.Books.{Cookie, cookie}
 use Rattle.com_model.specs.Sight.{Sight, sight}
-use Rattle.com_model.specs.Deeds.{hold_refusal, named_by, deed_of, created, created_of, initialised, marshalled, registered, Named, NamesPacket, Refuses, unmarshalled, dropped, got, got_by, got_with, cookie_number, gained_refs, owned_by, made_of, not_made, revoked, uninitialised, in_sta, called, left_by, left_as}
-use Rattle.com_model.specs.Rules.{posted_to_sta, is_handled_in, type_of, verdict_on, arguments_gone, enters_itself, packet_left, due_of, admits_next, no_lane_can, tick_time, legal, next, next_by, stepped, ruled, admission, rule_final, rule_own, rule_answer, rule_bound, rule_inbox, rule_retry, rule_again, rule_pending, rule_word, rule_script, answered, retried, posted_again, asked_on, pumped, takes_word, scripted, is_script_turn, ticks}
+use Rattle.com_model.specs.Deeds.{hold_refusal, named_by, deed_of, created, created_of, initialised, marshalled, registered, Named, NamesPacket, Refuses, unmarshalled, dropped, got, got_by, got_with, cookie_number, gained_refs, owned_by, made_as, creator, placing, revoked, uninitialised, in_sta, called, left_by, left_as}
+use Rattle.com_model.specs.Rules.{posted_to_sta, is_handled_in, call_sort, verdict_on, arguments_gone, enters_itself, packet_left, due_of, admits_next, no_lane_can, tick_time, legal, next, next_by, stepped, ruled, admission, rule_final, rule_own, rule_answer, rule_bound, rule_inbox, rule_retry, rule_again, rule_pending, rule_word, rule_script, answered, retried, posted_again, asked_on, pumped, takes_word, scripted, is_script_turn, ticks}
 use Rattle.com_model.proofs.Given.{Given, given-or, given-where, given-map, cond-of, own-given}
 
 abbrev Fits : List Opener → Deed → Type 0
@@ -43,10 +45,13 @@ Quiet d = (os : List Opener) → Fits os d
 quiet-if : (b : Bool) (x y : Deed) → Quiet x → Quiet y → Quiet (cond b x y)
 quiet-if b x y p q = cond-of Quiet b x y p q
 
+quiet-made_as : (s : Scenario) (v : Sight) (k i : Asked) (r : Result Placed HResult) → Quiet (made_as s v k i r)
+quiet-made_as s v k i (Ok p) = λ os. tt
+quiet-made_as s v k i (Err hr) = λ os. tt
+
 quiet-created_of : (s : Scenario) (v : Sight) (l a : ℕ) (k i : Asked) (c j : Option ℕ) → Quiet (created_of s v l a k i c j)
 quiet-created_of s v l a k i None j = λ os. tt
-quiet-created_of s v l a k i (Some c) None = λ os. tt
-quiet-created_of s v l a k i (Some c) (Some j) = quiet-if (in_set s c j) (made_of s v l a c j) (not_made s k i E_NOINTERFACE) (λ os. tt) (λ os. tt)
+quiet-created_of s v l a k i (Some c) j = quiet-made_as s v k i (placing (creator v l a) c j (class_at s.classes c))
 
 quiet-created : (s : Scenario) (v : Sight) (l : ℕ) (k i : Asked) (a : Option ℕ) → Quiet (created s v l k i a)
 quiet-created s v l k i None = λ os. tt
@@ -134,8 +139,8 @@ body-fits s v l c o a os e _ true q = cc
 quiet-admission : (s : Scenario) (v : Sight) (l c : ℕ) → Quiet (admission s v l c)
 quiet-admission s v l c =
     quiet-if (nat_le 256 (length (v.openers l))) (deed.Refuse c RPC_E_OUT_OF_RESOURCES) _ (λ os. tt)
-    (quiet-if (posted_to_sta v c && not (is_handled_in s v l c)) (deed.Verdict c (type_of v l c) (verdict_on s v l c)) _ (λ os. tt)
-    (quiet-if (arguments_gone v c) (deed.Refuse c RPC_E_SERVER_CANTUNMARSHAL_DATA) (deed.Enter c (object_of (v.issue c)) (v.owner (object_of (v.issue c)) l) (where_true (posted_to_sta v c) (type_of v l c)) (v.sent c)) (λ os. tt) (λ os. tt)))
+    (quiet-if (posted_to_sta v c && not (is_handled_in s v l c)) (deed.Verdict c (call_sort v l c) (verdict_on s v l c)) _ (λ os. tt)
+    (quiet-if (arguments_gone v c) (deed.Refuse c RPC_E_SERVER_CANTUNMARSHAL_DATA) (deed.Enter c (object_of (v.issue c)) (v.owner (object_of (v.issue c)) l) (where_true (posted_to_sta v c) (call_sort v l c)) (v.sent c)) (λ os. tt) (λ os. tt)))
 
 final-fits : (v : Sight) (l : ℕ) (os : List Opener) → Given (Fits os) (rule_final v l)
 final-fits v l os = given-map (Fits os) (λ o. deed.Final o) (first (v.dying l)) (λ o. tt)

@@ -1,27 +1,24 @@
--- A state that stands for a history stands for the longer one after a deed: the parts of lanes, apartments and the clock.
+-- A state that stands for a history stands for the longer one after a deed: the parts of apartments and the clock.
 use Rattle.std.proofs.Common.{subst, ap, ◌∙◌, arith}
 use Rattle.std.proofs.lemmas.Grind.{common_steps}
-use Rattle.std.specs.Prelude.{◌≡◌, refl, ℕ, zero, suc, ◌+◌, ◌≤◌, ◌<◌, Bool, true, false, cond, ◌||◌, ◌&&◌, ◌==◌, List, [], ◌∷◌, length, Option, Some, None, slice_index_or, not}
+use Rattle.std.specs.Prelude.{◌≡◌, refl, ℕ, zero, suc, ◌+◌, ◌≤◌, ◌<◌, Bool, true, false, cond, ◌||◌, ◌&&◌, ◌==◌, List, [], ◌∷◌, length, Option, Some, None, slice_index_or}
 use Rattle.com_model.specs.declared.deeds.Deed.{Deed}
 use Rattle.com_model.specs.declared.deeds.Entry.{Entry}
 use Rattle.com_model.specs.declared.scenario.Scenario.{Scenario}
 use Rattle.com_model.specs.Lists.{each_from, is_member, is_number}
-use Rattle.com_model.specs.Tables.{lanes}
-use Rattle.com_model.specs.Openers.{Opener, effect_on, opened, left_on, openers, served}
-use Rattle.com_model.specs.Apartments.{with_last, makes_sta, ends_sta, home_effect_on, home_after, count_after, is_end, made_in}
-use Rattle.com_model.specs.Clock.{ticked, clock, filter_effect_on, filter_after}
-use Rattle.com_model.specs.Waiting.{mail_effect, mail_after, quit_effect, quit_after, bound_reached, quit_stands, no_mail}
-use Rattle.com_model.specs.State.{State, LanesStand, ApartmentsStand, after, openers_in, served_in}
+use Rattle.com_model.specs.Apartments.{with_last, makes_sta, ends_sta}
+use Rattle.com_model.specs.Clock.{ticked, clock}
+use Rattle.com_model.specs.State.{State, ApartmentsStand, after}
 
-row-from : {X : Type 0} (f : ℕ → X → X) (n : ℕ) (xs : List X) (k : ℕ) (d : X) → k < length xs → slice_index_or (each_from f n xs) k d ≡ f (n + k) (slice_index_or xs k d)
+pub row-from : {X : Type 0} (f : ℕ → X → X) (n : ℕ) (xs : List X) (k : ℕ) (d : X) → k < length xs → slice_index_or (each_from f n xs) k d ≡ f (n + k) (slice_index_or xs k d)
 row-from f n [] k d h = grind (arith, common_steps)
 row-from f n (x ∷ xs) zero d h = grind (arith, common_steps)
 row-from f n (x ∷ xs) (suc k) d h = let ih : slice_index_or (each_from f (n + 1) xs) k d ≡ f (n + 1 + k) (slice_index_or xs k d) = row-from f (n + 1) xs k d (omega (arith, h)) in let e : n + 1 + k ≡ n + suc k = omega arith in subst (λ (m : ℕ). slice_index_or (each_from f (n + 1) xs) k d ≡ f m (slice_index_or xs k d)) e ih
 
-row-of : {X : Type 0} (f : ℕ → X → X) (xs : List X) (n k : ℕ) (d y : X) → length xs ≡ n + 1 → k ≤ n → slice_index_or xs k d ≡ y → slice_index_or (each_from f 0 xs) k d ≡ f k y
+pub row-of : {X : Type 0} (f : ℕ → X → X) (xs : List X) (n k : ℕ) (d y : X) → length xs ≡ n + 1 → k ≤ n → slice_index_or xs k d ≡ y → slice_index_or (each_from f 0 xs) k d ≡ f k y
 row-of f xs n k d y p q e = let z : 0 + k ≡ k = omega arith in subst (λ (x : _). slice_index_or (each_from f 0 xs) k d ≡ f k x) e (subst (λ (m : ℕ). slice_index_or (each_from f 0 xs) k d ≡ f m (slice_index_or xs k d)) z (row-from f 0 xs k d (omega (arith, p, q))))
 
-rows-from : {X : Type 0} (f : ℕ → X → X) (n : ℕ) (xs : List X) (k : ℕ) → length xs ≡ k → length (each_from f n xs) ≡ k
+pub rows-from : {X : Type 0} (f : ℕ → X → X) (n : ℕ) (xs : List X) (k : ℕ) → length xs ≡ k → length (each_from f n xs) ≡ k
 rows-from f n [] k p = p
 rows-from f n (x ∷ xs) k p = grind (arith, common_steps, rows-from f (n + 1) xs (length xs) refl)
 
@@ -31,30 +28,14 @@ or-last true false r t e = refl
 or-last false true r t e = e
 or-last false false r t e = e
 
-member-last : (a : ℕ) (xs : List ℕ) (o : Option ℕ) → is_member a (with_last xs o) ≡ (is_number a o || is_member a xs)
+pub member-last : (a : ℕ) (xs : List ℕ) (o : Option ℕ) → is_member a (with_last xs o) ≡ (is_number a o || is_member a xs)
 member-last a xs None = refl
 member-last a [] (Some y) = refl
 member-last a (x ∷ xs) (Some y) = or-last (a == x) (a == y) (is_member a xs) _ (member-last a xs (Some y))
 
-made-row : (a : ℕ) (b : Bool) (xs : List ℕ) (o : Option ℕ) (m : Bool) → is_member a xs ≡ m → is_member a (cond b (with_last xs o) xs) ≡ ((b && is_number a o) || m)
+pub made-row : (a : ℕ) (b : Bool) (xs : List ℕ) (o : Option ℕ) (m : Bool) → is_member a xs ≡ m → is_member a (cond b (with_last xs o) xs) ≡ ((b && is_number a o) || m)
 made-row a true xs o m e = member-last a xs o ∙ ap (λ (x : Bool). is_number a o || x) e
 made-row a false xs o m e = e
-
-pub lanes-after : (s : Scenario) (st : State) (h : List Entry) (l : ℕ) (d : Deed) → LanesStand s st h → LanesStand s (after s st l d) (record { lane = l; deed = d } ∷ h)
-lanes-after s st h l d p =
-    let e : Entry = record { lane = l; deed = d } in
-    record {
-      rows = (rows-from _ 0 st.openers _ p.rows.0, rows-from _ 0 st.served _ p.rows.1, rows-from _ 0 st.homes _ p.rows.2, rows-from _ 0 st.counts _ p.rows.3, rows-from _ 0 st.made _ p.rows.4, rows-from _ 0 st.over _ p.rows.5, rows-from _ 0 st.filters _ p.rows.6, rows-from _ 0 st.mail _ p.rows.7, rows-from _ 0 st.quits _ p.rows.8);
-      openers = λ m q. row-of (λ k os. opened (effect_on k e) os) st.openers (lanes s) m [] (openers h m) p.rows.0 q (p.openers m q);
-      served = λ m q. row-of (λ k n. left_on (effect_on k e) (opened (effect_on k e) (openers_in st k)) n) st.served (lanes s) m 0 (served h m) p.rows.1 q (p.served m q) ∙ ap (λ (os : List Opener). left_on (effect_on m e) (opened (effect_on m e) os) (served h m)) (p.openers m q);
-      homes = λ m q. row-of (λ k a. home_after (home_effect_on k e) a) st.homes (lanes s) m None _ p.rows.2 q (p.homes m q);
-      counts = λ m q. row-of (λ k n. count_after (home_effect_on k e) n) st.counts (lanes s) m 0 _ p.rows.3 q (p.counts m q);
-      made = λ m a q. ap (is_member a) (row-of (λ k x. cond (e.lane == k) (with_last x (makes_sta e.deed)) x) st.made (lanes s) m [] (slice_index_or st.made m []) p.rows.4 q refl) ∙ made-row a (e.lane == m) (slice_index_or st.made m []) (makes_sta e.deed) (made_in h m a) (p.made m a q);
-      over = λ m q. row-of (λ k b. (e.lane == k && is_end e.deed) || b) st.over (lanes s) m false _ p.rows.5 q (p.over m q);
-      filters = λ m q. row-of (λ k f. filter_after (filter_effect_on k e) f) st.filters (lanes s) m None _ p.rows.6 q (p.filters m q);
-      mail = λ m q. row-of (λ k x. mail_after (mail_effect k (e.lane == k) e.deed) x) st.mail (lanes s) m no_mail _ p.rows.7 q (p.mail m q);
-      quits = λ m q. row-of (λ k b. quit_after (quit_effect k (e.lane == k && not (bound_reached (openers_in st k) (served_in st k))) e.deed) b) st.quits (lanes s) m false (quit_stands h m) p.rows.8 q (p.quits m q) ∙ ap (λ (os : List Opener). quit_after (quit_effect m (e.lane == m && not (bound_reached os (served_in st m))) e.deed) (quit_stands h m)) (p.openers m q) ∙ ap (λ (n : ℕ). quit_after (quit_effect m (e.lane == m && not (bound_reached (openers h m) n)) e.deed) (quit_stands h m)) (p.served m q);
-    }
 
 pub apartments-after : (s : Scenario) (st : State) (h : List Entry) (l : ℕ) (d : Deed) → ApartmentsStand st h → ApartmentsStand (after s st l d) (record { lane = l; deed = d } ∷ h)
 apartments-after s st h l d p =

@@ -9,13 +9,14 @@ use Rattle.com_base.specs.declared.value.MarshalMode.TheVariants as marshal
 use Rattle.com_body.specs.declared.operands.Asked.TheVariants as asked
 use Rattle.com_body.specs.declared.actions.Action.{Action}
 use Rattle.com_body.specs.declared.actions.Action.TheVariants as action
+use Rattle.com_classes.specs.Lookups.{method_at}
 use Rattle.com_model.specs.declared.deeds.Deed.{Deed}
 use Rattle.com_model.specs.declared.deeds.Deed.TheVariants as deed
 use Rattle.com_model.specs.declared.deeds.Entry.{Entry}
 use Rattle.com_model.specs.declared.scenario.Scenario.{Scenario}
 use Rattle.com_model.specs.Answers.{is_S_OK}
 use Rattle.com_model.specs.Lists.{sum_below, put, count_if, is_number, number_or_zero, numbers_from}
-use Rattle.com_model.specs.Tables.{method_at, parameters}
+use Rattle.com_model.specs.Tables.{parameters}
 use Rattle.com_model.specs.Apartments.{running, ends_sta}
 use Rattle.com_model.specs.Objects.{Making, makes, named, disconnects}
 use Rattle.com_model.specs.Values.{sent_values, carried, result_list}
@@ -170,7 +171,7 @@ abbrev pub marshal_all : ℕ → List RefValue → List Row
 marshal_all a rs = map (λ (r : RefValue). Marshals a marshal.Normal r.object r.iface) rs
 
 abbrev pub out_values : Scenario → Books → (marshalled : Bool) → Option Action → List Value
-out_values s b m (Some (action.Call held i method args to)) = sent_values m b.live (parameters (method_at s i method)) args
+out_values s b m (Some (action.Call held i method args to)) = sent_values m b.live (parameters (method_at s.classes i method)) args
 out_values s b m _ = []
 
 abbrev pub query_row : ℕ → ℕ → ℕ → HResult → List Row

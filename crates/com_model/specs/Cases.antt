@@ -1,6 +1,7 @@
 -- Small worked cases: scenarios and their histories, a name for each prefix.
-use Rattle.std.specs.Prelude.{List, [], ◌∷◌, ◌++◌, Some, None, pos, codes}
+use Rattle.std.specs.Prelude.{ℕ, List, [], ◌∷◌, ◌++◌, Some, None, pos, codes}
 use Rattle.com_base.specs.declared.value.Value.TheVariants as value
+use Rattle.com_base.specs.declared.value.MarshalMode.TheVariants as marshal
 use Rattle.com_base.specs.declared.value.Mode.TheVariants as mode
 use Rattle.com_body.specs.declared.operands.Asked.TheVariants as asked
 use Rattle.com_body.specs.declared.operands.Op.TheVariants as op
@@ -16,14 +17,14 @@ use Rattle.com_model.specs.declared.deeds.Deed.TheVariants as deed
 use Rattle.com_model.specs.declared.deeds.Route.TheVariants as route
 use Rattle.com_model.specs.declared.deeds.Entry.{Entry}
 use Rattle.com_model.specs.declared.scenario.Scenario.{Scenario}
-use Rattle.com_model.specs.Formed.{built_in}
+use Rattle.com_classes.specs.BuiltIns.{built_in_interfaces}
 
 -- A direct call in one STA.
 abbrev pub direct_call : Scenario
 direct_call = record {
   version = 1;
   pool = 1;
-  classes = record { interfaces = built_in; classes = (record { name = codes "Cnt"; clsid = record { data1 = 1544224961; data2 = 0; data3 = 16384; data4 = 128 ∷ 0 ∷ 0 ∷ 0 ∷ 0 ∷ 0 ∷ 0 ∷ 1 ∷ [] }; model = model.Both; native = native.Counter; interfaces = 1 ∷ []; bodies = [] }) ∷ [] };
+  classes = record { interfaces = built_in_interfaces; classes = (record { name = codes "Cnt"; clsid = record { data1 = 1544224961; data2 = 0; data3 = 16384; data4 = 128 ∷ 0 ∷ 0 ∷ 0 ∷ 0 ∷ 0 ∷ 0 ∷ 1 ∷ [] }; model = model.Both; native = native.Counter; interfaces = 1 ∷ []; bodies = [] }) ∷ [] };
   filters = [];
   threads = ((stmt.Init mode.Sta) ∷ (stmt.Create 0 (asked.Number 1) (asked.Number 1)) ∷ (stmt.Call 0 1 0 ((arg.Op (op.Literal (value.Int (pos 5)))) ∷ []) (destination.Register 1)) ∷ (stmt.Release (place.Slot 0)) ∷ stmt.Uninit ∷ []) ∷ [];
   picks = [];
@@ -64,7 +65,7 @@ abbrev pub pumped_words : Scenario
 pumped_words = record {
   version = 1;
   pool = 1;
-  classes = record { interfaces = built_in; classes = [] };
+  classes = record { interfaces = built_in_interfaces; classes = [] };
   filters = [];
   threads = ((stmt.Init mode.Sta) ∷ (stmt.Pump 0) ∷ []) ∷ ((stmt.Post (op.Literal (value.Int (pos 1))) (op.Literal (value.Int (pos 7)))) ∷ (stmt.Quit (op.Literal (value.Int (pos 1)))) ∷ []) ∷ [];
   picks = [];
@@ -102,7 +103,7 @@ abbrev pub into_the_host : Scenario
 into_the_host = record {
   version = 1;
   pool = 1;
-  classes = record { interfaces = built_in; classes = (record { name = codes "Cnt"; clsid = record { data1 = 1544224961; data2 = 0; data3 = 16384; data4 = 128 ∷ 0 ∷ 0 ∷ 0 ∷ 0 ∷ 0 ∷ 0 ∷ 1 ∷ [] }; model = model.Apartment; native = native.Counter; interfaces = 1 ∷ []; bodies = [] }) ∷ [] };
+  classes = record { interfaces = built_in_interfaces; classes = (record { name = codes "Cnt"; clsid = record { data1 = 1544224961; data2 = 0; data3 = 16384; data4 = 128 ∷ 0 ∷ 0 ∷ 0 ∷ 0 ∷ 0 ∷ 0 ∷ 1 ∷ [] }; model = model.Apartment; native = native.Counter; interfaces = 1 ∷ []; bodies = [] }) ∷ [] };
   filters = [];
   threads = ((stmt.Init mode.Mta) ∷ (stmt.Create 0 (asked.Number 1) (asked.Number 1)) ∷ (stmt.Call 0 1 0 ((arg.Op (op.Literal (value.Int (pos 7)))) ∷ []) (destination.Register 1)) ∷ (stmt.Release (place.Slot 0)) ∷ []) ∷ [];
   picks = [];
@@ -143,7 +144,7 @@ abbrev pub callback : Scenario
 callback = record {
   version = 1;
   pool = 1;
-  classes = record { interfaces = built_in; classes = (record { name = codes "Cnt"; clsid = record { data1 = 1544224961; data2 = 0; data3 = 16384; data4 = 128 ∷ 0 ∷ 0 ∷ 0 ∷ 0 ∷ 0 ∷ 0 ∷ 1 ∷ [] }; model = model.Both; native = native.Counter; interfaces = 1 ∷ []; bodies = [] }) ∷ (record { name = codes "Rly"; clsid = record { data1 = 1544224963; data2 = 0; data3 = 16384; data4 = 128 ∷ 0 ∷ 0 ∷ 0 ∷ 0 ∷ 0 ∷ 0 ∷ 1 ∷ [] }; model = model.Free; native = native.Relay; interfaces = 2 ∷ []; bodies = [] }) ∷ [] };
+  classes = record { interfaces = built_in_interfaces; classes = (record { name = codes "Cnt"; clsid = record { data1 = 1544224961; data2 = 0; data3 = 16384; data4 = 128 ∷ 0 ∷ 0 ∷ 0 ∷ 0 ∷ 0 ∷ 0 ∷ 1 ∷ [] }; model = model.Both; native = native.Counter; interfaces = 1 ∷ []; bodies = [] }) ∷ (record { name = codes "Rly"; clsid = record { data1 = 1544224963; data2 = 0; data3 = 16384; data4 = 128 ∷ 0 ∷ 0 ∷ 0 ∷ 0 ∷ 0 ∷ 0 ∷ 1 ∷ [] }; model = model.Free; native = native.Relay; interfaces = 2 ∷ []; bodies = [] }) ∷ [] };
   filters = [];
   threads = ((stmt.Init mode.Sta) ∷ (stmt.Create 0 (asked.Number 1) (asked.Number 1)) ∷ (stmt.Create 1 (asked.Number 2) (asked.Number 2)) ∷ (stmt.Call 1 2 0 ((arg.Slot 0) ∷ []) destination.Nowhere) ∷ (stmt.Call 1 2 1 ((arg.Op (op.Literal (value.Int (pos 4)))) ∷ []) (destination.Register 1)) ∷ []) ∷ [];
   picks = [];
@@ -217,7 +218,7 @@ abbrev pub answer_first : Scenario
 answer_first = record {
   version = 1;
   pool = 1;
-  classes = record { interfaces = built_in; classes = (record { name = codes "Cnt"; clsid = record { data1 = 1544224961; data2 = 0; data3 = 16384; data4 = 128 ∷ 0 ∷ 0 ∷ 0 ∷ 0 ∷ 0 ∷ 0 ∷ 1 ∷ [] }; model = model.Both; native = native.Counter; interfaces = 1 ∷ []; bodies = [] }) ∷ (record { name = codes "Far"; clsid = record { data1 = 1544224962; data2 = 0; data3 = 16384; data4 = 128 ∷ 0 ∷ 0 ∷ 0 ∷ 0 ∷ 0 ∷ 0 ∷ 1 ∷ [] }; model = model.Free; native = native.Counter; interfaces = 1 ∷ []; bodies = [] }) ∷ [] };
+  classes = record { interfaces = built_in_interfaces; classes = (record { name = codes "Cnt"; clsid = record { data1 = 1544224961; data2 = 0; data3 = 16384; data4 = 128 ∷ 0 ∷ 0 ∷ 0 ∷ 0 ∷ 0 ∷ 0 ∷ 1 ∷ [] }; model = model.Both; native = native.Counter; interfaces = 1 ∷ []; bodies = [] }) ∷ (record { name = codes "Far"; clsid = record { data1 = 1544224962; data2 = 0; data3 = 16384; data4 = 128 ∷ 0 ∷ 0 ∷ 0 ∷ 0 ∷ 0 ∷ 0 ∷ 1 ∷ [] }; model = model.Free; native = native.Counter; interfaces = 1 ∷ []; bodies = [] }) ∷ [] };
   filters = [];
   threads = ((stmt.Init mode.Sta) ∷ (stmt.Create 0 (asked.Number 1) (asked.Number 1)) ∷ (stmt.Create 1 (asked.Number 2) (asked.Number 1)) ∷ (stmt.Register 0 0) ∷ (stmt.Call 1 1 0 ((arg.Op (op.Literal (value.Int (pos 1)))) ∷ []) (destination.Register 1)) ∷ (stmt.Pump 1) ∷ []) ∷ ((stmt.Init mode.Mta) ∷ (stmt.Get 0 (op.Literal (value.Int (pos 1)))) ∷ (stmt.Call 0 1 0 ((arg.Op (op.Literal (value.Int (pos 2)))) ∷ []) (destination.Register 1)) ∷ []) ∷ [];
   picks = 1 ∷ 1 ∷ 1 ∷ 1 ∷ 1 ∷ 2 ∷ 2 ∷ 2 ∷ 4 ∷ 4 ∷ 1 ∷ [];
@@ -294,7 +295,7 @@ abbrev pub younger_first : Scenario
 younger_first = record {
   version = 1;
   pool = 1;
-  classes = record { interfaces = built_in ++ (record { name = codes "ITwo"; iid = record { data1 = 1544224784; data2 = 0; data3 = 16384; data4 = 128 ∷ 0 ∷ 0 ∷ 0 ∷ 0 ∷ 0 ∷ 0 ∷ 1 ∷ [] }; methods = (record { name = codes "go"; params = []; result = None }) ∷ [] }) ∷ []; classes = (record { name = codes "Cnt"; clsid = record { data1 = 1544224961; data2 = 0; data3 = 16384; data4 = 128 ∷ 0 ∷ 0 ∷ 0 ∷ 0 ∷ 0 ∷ 0 ∷ 1 ∷ [] }; model = model.Both; native = native.Counter; interfaces = 1 ∷ []; bodies = [] }) ∷ (record { name = codes "Two"; clsid = record { data1 = 1544224785; data2 = 0; data3 = 16384; data4 = 128 ∷ 0 ∷ 0 ∷ 0 ∷ 0 ∷ 0 ∷ 0 ∷ 1 ∷ [] }; model = model.Both; native = native.Bodies; interfaces = 4 ∷ []; bodies = (record { iface = 4; method = 0; body = (stmt.Create 0 (asked.Number 1) (asked.Number 1)) ∷ (stmt.Create 1 (asked.Number 1) (asked.Number 1)) ∷ (stmt.Release (place.Slot 1)) ∷ (stmt.Release (place.Slot 0)) ∷ [] }) ∷ [] }) ∷ [] };
+  classes = record { interfaces = built_in_interfaces ++ (record { name = codes "ITwo"; iid = record { data1 = 1544224784; data2 = 0; data3 = 16384; data4 = 128 ∷ 0 ∷ 0 ∷ 0 ∷ 0 ∷ 0 ∷ 0 ∷ 1 ∷ [] }; methods = (record { name = codes "go"; params = []; result = None }) ∷ [] }) ∷ []; classes = (record { name = codes "Cnt"; clsid = record { data1 = 1544224961; data2 = 0; data3 = 16384; data4 = 128 ∷ 0 ∷ 0 ∷ 0 ∷ 0 ∷ 0 ∷ 0 ∷ 1 ∷ [] }; model = model.Both; native = native.Counter; interfaces = 1 ∷ []; bodies = [] }) ∷ (record { name = codes "Two"; clsid = record { data1 = 1544224785; data2 = 0; data3 = 16384; data4 = 128 ∷ 0 ∷ 0 ∷ 0 ∷ 0 ∷ 0 ∷ 0 ∷ 1 ∷ [] }; model = model.Both; native = native.Bodies; interfaces = 4 ∷ []; bodies = (record { iface = 4; method = 0; body = (stmt.Create 0 (asked.Number 1) (asked.Number 1)) ∷ (stmt.Create 1 (asked.Number 1) (asked.Number 1)) ∷ (stmt.Release (place.Slot 1)) ∷ (stmt.Release (place.Slot 0)) ∷ [] }) ∷ [] }) ∷ [] };
   filters = [];
   threads = ((stmt.Init mode.Sta) ∷ (stmt.Create 0 (asked.Number 2) (asked.Number 4)) ∷ (stmt.Call 0 4 0 [] destination.Nowhere) ∷ []) ∷ [];
   picks = [];
@@ -350,7 +351,7 @@ abbrev pub relayed : Scenario
 relayed = record {
   version = 1;
   pool = 1;
-  classes = record { interfaces = built_in; classes = (record { name = codes "Cnt"; clsid = record { data1 = 1544224961; data2 = 0; data3 = 16384; data4 = 128 ∷ 0 ∷ 0 ∷ 0 ∷ 0 ∷ 0 ∷ 0 ∷ 1 ∷ [] }; model = model.Both; native = native.Counter; interfaces = 1 ∷ []; bodies = [] }) ∷ (record { name = codes "Rly"; clsid = record { data1 = 1544224963; data2 = 0; data3 = 16384; data4 = 128 ∷ 0 ∷ 0 ∷ 0 ∷ 0 ∷ 0 ∷ 0 ∷ 1 ∷ [] }; model = model.Both; native = native.Relay; interfaces = 2 ∷ []; bodies = [] }) ∷ [] };
+  classes = record { interfaces = built_in_interfaces; classes = (record { name = codes "Cnt"; clsid = record { data1 = 1544224961; data2 = 0; data3 = 16384; data4 = 128 ∷ 0 ∷ 0 ∷ 0 ∷ 0 ∷ 0 ∷ 0 ∷ 1 ∷ [] }; model = model.Both; native = native.Counter; interfaces = 1 ∷ []; bodies = [] }) ∷ (record { name = codes "Rly"; clsid = record { data1 = 1544224963; data2 = 0; data3 = 16384; data4 = 128 ∷ 0 ∷ 0 ∷ 0 ∷ 0 ∷ 0 ∷ 0 ∷ 1 ∷ [] }; model = model.Both; native = native.Relay; interfaces = 2 ∷ []; bodies = [] }) ∷ [] };
   filters = [];
   threads = ((stmt.Init mode.Sta) ∷ (stmt.Create 0 (asked.Number 1) (asked.Number 1)) ∷ (stmt.Get 1 (op.Literal (value.Int (pos 1)))) ∷ (stmt.Call 1 2 0 ((arg.Slot 0) ∷ []) destination.Nowhere) ∷ (stmt.Call 1 2 1 ((arg.Op (op.Literal (value.Int (pos 4)))) ∷ []) (destination.Register 1)) ∷ []) ∷ ((stmt.Init mode.Mta) ∷ (stmt.Create 0 (asked.Number 2) (asked.Number 2)) ∷ (stmt.Register 0 0) ∷ []) ∷ [];
   picks = 2 ∷ 2 ∷ 2 ∷ [];
@@ -436,7 +437,7 @@ abbrev pub outer_causality : Scenario
 outer_causality = record {
   version = 1;
   pool = 2;
-  classes = record { interfaces = built_in; classes = (record { name = codes "Cnt"; clsid = record { data1 = 1544224961; data2 = 0; data3 = 16384; data4 = 128 ∷ 0 ∷ 0 ∷ 0 ∷ 0 ∷ 0 ∷ 0 ∷ 1 ∷ [] }; model = model.Both; native = native.Counter; interfaces = 1 ∷ []; bodies = [] }) ∷ (record { name = codes "Far"; clsid = record { data1 = 1544224962; data2 = 0; data3 = 16384; data4 = 128 ∷ 0 ∷ 0 ∷ 0 ∷ 0 ∷ 0 ∷ 0 ∷ 1 ∷ [] }; model = model.Free; native = native.Counter; interfaces = 1 ∷ []; bodies = [] }) ∷ (record { name = codes "Rly"; clsid = record { data1 = 1544224963; data2 = 0; data3 = 16384; data4 = 128 ∷ 0 ∷ 0 ∷ 0 ∷ 0 ∷ 0 ∷ 0 ∷ 1 ∷ [] }; model = model.Both; native = native.Relay; interfaces = 2 ∷ []; bodies = [] }) ∷ (record { name = codes "Frl"; clsid = record { data1 = 1544224964; data2 = 0; data3 = 16384; data4 = 128 ∷ 0 ∷ 0 ∷ 0 ∷ 0 ∷ 0 ∷ 0 ∷ 1 ∷ [] }; model = model.Free; native = native.Relay; interfaces = 2 ∷ []; bodies = [] }) ∷ [] };
+  classes = record { interfaces = built_in_interfaces; classes = (record { name = codes "Cnt"; clsid = record { data1 = 1544224961; data2 = 0; data3 = 16384; data4 = 128 ∷ 0 ∷ 0 ∷ 0 ∷ 0 ∷ 0 ∷ 0 ∷ 1 ∷ [] }; model = model.Both; native = native.Counter; interfaces = 1 ∷ []; bodies = [] }) ∷ (record { name = codes "Far"; clsid = record { data1 = 1544224962; data2 = 0; data3 = 16384; data4 = 128 ∷ 0 ∷ 0 ∷ 0 ∷ 0 ∷ 0 ∷ 0 ∷ 1 ∷ [] }; model = model.Free; native = native.Counter; interfaces = 1 ∷ []; bodies = [] }) ∷ (record { name = codes "Rly"; clsid = record { data1 = 1544224963; data2 = 0; data3 = 16384; data4 = 128 ∷ 0 ∷ 0 ∷ 0 ∷ 0 ∷ 0 ∷ 0 ∷ 1 ∷ [] }; model = model.Both; native = native.Relay; interfaces = 2 ∷ []; bodies = [] }) ∷ (record { name = codes "Frl"; clsid = record { data1 = 1544224964; data2 = 0; data3 = 16384; data4 = 128 ∷ 0 ∷ 0 ∷ 0 ∷ 0 ∷ 0 ∷ 0 ∷ 1 ∷ [] }; model = model.Free; native = native.Relay; interfaces = 2 ∷ []; bodies = [] }) ∷ [] };
   filters = [];
   threads = ((stmt.Init mode.Sta) ∷ (stmt.Create 0 (asked.Number 1) (asked.Number 1)) ∷ (stmt.Create 1 (asked.Number 2) (asked.Number 1)) ∷ (stmt.Create 2 (asked.Number 3) (asked.Number 2)) ∷ (stmt.Create 3 (asked.Number 4) (asked.Number 2)) ∷ (stmt.Call 2 2 0 ((arg.Slot 1) ∷ []) destination.Nowhere) ∷ (stmt.Call 3 2 0 ((arg.Slot 0) ∷ []) destination.Nowhere) ∷ (stmt.Register 0 2) ∷ (stmt.Call 3 2 1 ((arg.Op (op.Literal (value.Int (pos 1)))) ∷ []) (destination.Register 1)) ∷ []) ∷ ((stmt.Init mode.Mta) ∷ (stmt.Get 0 (op.Literal (value.Int (pos 1)))) ∷ (stmt.Call 0 2 1 ((arg.Op (op.Literal (value.Int (pos 2)))) ∷ []) (destination.Register 1)) ∷ []) ∷ [];
   picks = 1 ∷ 1 ∷ 1 ∷ 1 ∷ 1 ∷ 1 ∷ 1 ∷ 1 ∷ 1 ∷ 1 ∷ 1 ∷ 4 ∷ 4 ∷ 4 ∷ 1 ∷ 1 ∷ 2 ∷ 2 ∷ 1 ∷ 2 ∷ 1 ∷ 1 ∷ 1 ∷ 4 ∷ 4 ∷ 4 ∷ 1 ∷ 1 ∷ [];
@@ -579,7 +580,7 @@ abbrev pub delayed : Scenario
 delayed = record {
   version = 1;
   pool = 1;
-  classes = record { interfaces = built_in; classes = (record { name = codes "Cnt"; clsid = record { data1 = 1544224961; data2 = 0; data3 = 16384; data4 = 128 ∷ 0 ∷ 0 ∷ 0 ∷ 0 ∷ 0 ∷ 0 ∷ 1 ∷ [] }; model = model.Both; native = native.Counter; interfaces = 1 ∷ []; bodies = [] }) ∷ (record { name = codes "Far"; clsid = record { data1 = 1544224962; data2 = 0; data3 = 16384; data4 = 128 ∷ 0 ∷ 0 ∷ 0 ∷ 0 ∷ 0 ∷ 0 ∷ 1 ∷ [] }; model = model.Free; native = native.Counter; interfaces = 1 ∷ []; bodies = [] }) ∷ [] };
+  classes = record { interfaces = built_in_interfaces; classes = (record { name = codes "Cnt"; clsid = record { data1 = 1544224961; data2 = 0; data3 = 16384; data4 = 128 ∷ 0 ∷ 0 ∷ 0 ∷ 0 ∷ 0 ∷ 0 ∷ 1 ∷ [] }; model = model.Both; native = native.Counter; interfaces = 1 ∷ []; bodies = [] }) ∷ (record { name = codes "Far"; clsid = record { data1 = 1544224962; data2 = 0; data3 = 16384; data4 = 128 ∷ 0 ∷ 0 ∷ 0 ∷ 0 ∷ 0 ∷ 0 ∷ 1 ∷ [] }; model = model.Free; native = native.Counter; interfaces = 1 ∷ []; bodies = [] }) ∷ [] };
   filters = ((rule.Incoming (Some 4) 0 verdict.Later) ∷ []) ∷ ((rule.Retry None 0 (pos 100)) ∷ []) ∷ [];
   threads = ((stmt.Init mode.Sta) ∷ (stmt.SetFilter (Some 1)) ∷ (stmt.Create 0 (asked.Number 1) (asked.Number 1)) ∷ (stmt.Create 1 (asked.Number 2) (asked.Number 1)) ∷ (stmt.Register 0 0) ∷ (stmt.Call 1 1 0 ((arg.Op (op.Literal (value.Int (pos 1)))) ∷ []) (destination.Register 1)) ∷ (stmt.Pump 1) ∷ []) ∷ ((stmt.Init mode.Sta) ∷ (stmt.SetFilter (Some 2)) ∷ (stmt.Get 0 (op.Literal (value.Int (pos 1)))) ∷ (stmt.Call 0 1 0 ((arg.Op (op.Literal (value.Int (pos 2)))) ∷ []) (destination.Register 1)) ∷ []) ∷ [];
   picks = 1 ∷ 1 ∷ 1 ∷ 1 ∷ 1 ∷ 2 ∷ 2 ∷ 2 ∷ 1 ∷ 2 ∷ 1 ∷ [];
@@ -668,3 +669,113 @@ delayed_27 = record { lane = 1; deed = deed.Final 1 } ∷ delayed_26
 
 abbrev pub delayed_28 : List Entry
 delayed_28 = record { lane = 1; deed = deed.End } ∷ delayed_27
+
+-- Bytes with a forged number of references name no packet; the packet itself is unmarshalled once.
+abbrev pub forged : Scenario
+forged = record {
+  version = 1;
+  pool = 1;
+  classes = record { interfaces = built_in_interfaces; classes = (record { name = codes "Cnt"; clsid = record { data1 = 1544224961; data2 = 0; data3 = 16384; data4 = 128 ∷ 0 ∷ 0 ∷ 0 ∷ 0 ∷ 0 ∷ 0 ∷ 1 ∷ [] }; model = model.Both; native = native.Counter; interfaces = 1 ∷ []; bodies = [] }) ∷ [] };
+  filters = [];
+  threads = ((stmt.Init mode.Sta) ∷ (stmt.Create 0 (asked.Number 1) (asked.Number 1)) ∷ (stmt.Marshal 0 0 marshal.Normal) ∷ (stmt.Raw 1 (77 ∷ 69 ∷ 79 ∷ 87 ∷ 1 ∷ 0 ∷ 0 ∷ 0 ∷ 1 ∷ 0 ∷ 11 ∷ 92 ∷ 0 ∷ 0 ∷ 0 ∷ 64 ∷ 128 ∷ 0 ∷ 0 ∷ 0 ∷ 0 ∷ 0 ∷ 0 ∷ 1 ∷ 0 ∷ 0 ∷ 0 ∷ 0 ∷ 6 ∷ 0 ∷ 0 ∷ 0 ∷ 3 ∷ 0 ∷ 0 ∷ 0 ∷ 0 ∷ 0 ∷ 0 ∷ 0 ∷ 1 ∷ 0 ∷ 0 ∷ 0 ∷ 0 ∷ 0 ∷ 0 ∷ 0 ∷ 1 ∷ 0 ∷ 0 ∷ 0 ∷ 1 ∷ 0 ∷ 3 ∷ 0 ∷ 1 ∷ 0 ∷ 0 ∷ 0 ∷ 0 ∷ 0 ∷ 0 ∷ 0 ∷ 2 ∷ 0 ∷ 1 ∷ 0 ∷ 0 ∷ 0 ∷ 0 ∷ 0 ∷ [])) ∷ (stmt.Unmarshal 1 1) ∷ (stmt.Unmarshal 1 0) ∷ (stmt.Unmarshal 2 0) ∷ []) ∷ [];
+  picks = [];
+}
+
+abbrev pub forged_1 : List Entry
+forged_1 = record { lane = 1; deed = deed.Init mode.Sta 3 (record { 0 = 0 }) } ∷ []
+
+abbrev pub forged_2 : List Entry
+forged_2 = record { lane = 1; deed = deed.Made (Some 1) (Some 3) (asked.Number 1) (asked.Number 1) (record { 0 = 0 }) } ∷ forged_1
+
+abbrev pub forged_3 : List Entry
+forged_3 = record { lane = 1; deed = deed.Marshal (Some 1) marshal.Normal (Some (record { object = 1; iface = 1 })) 5 (record { 0 = 0 }) (Some (77 ∷ 69 ∷ 79 ∷ 87 ∷ 1 ∷ 0 ∷ 0 ∷ 0 ∷ 1 ∷ 0 ∷ 11 ∷ 92 ∷ 0 ∷ 0 ∷ 0 ∷ 64 ∷ 128 ∷ 0 ∷ 0 ∷ 0 ∷ 0 ∷ 0 ∷ 0 ∷ 1 ∷ 0 ∷ 0 ∷ 0 ∷ 0 ∷ 5 ∷ 0 ∷ 0 ∷ 0 ∷ 3 ∷ 0 ∷ 0 ∷ 0 ∷ 0 ∷ 0 ∷ 0 ∷ 0 ∷ 1 ∷ 0 ∷ 0 ∷ 0 ∷ 0 ∷ 0 ∷ 0 ∷ 0 ∷ 1 ∷ 0 ∷ 0 ∷ 0 ∷ 1 ∷ 0 ∷ 3 ∷ 0 ∷ 1 ∷ 0 ∷ 0 ∷ 0 ∷ 0 ∷ 0 ∷ 0 ∷ 0 ∷ 2 ∷ 0 ∷ 1 ∷ 0 ∷ 0 ∷ 0 ∷ 0 ∷ 0 ∷ [])) } ∷ forged_2
+
+abbrev pub forged_4 : List Entry
+forged_4 = record { lane = 1; deed = deed.Raw 1 72 } ∷ forged_3
+
+abbrev pub forged_5 : List Entry
+forged_5 = record { lane = 1; deed = deed.Unmarshal None None 0 (record { 0 = 0x800401fd }) } ∷ forged_4
+
+abbrev pub forged_6 : List Entry
+forged_6 = record { lane = 1; deed = deed.Unmarshal (Some 1) (Some (record { object = 1; iface = 1 })) 0 (record { 0 = 0 }) } ∷ forged_5
+
+abbrev pub forged_7 : List Entry
+forged_7 = record { lane = 1; deed = deed.Unmarshal None None 0 (record { 0 = 0x800401fd }) } ∷ forged_6
+
+abbrev pub forged_8 : List Entry
+forged_8 = record { lane = 1; deed = deed.Uninit (Some 3) 0 } ∷ forged_7
+
+abbrev pub forged_9 : List Entry
+forged_9 = record { lane = 1; deed = deed.Final 1 } ∷ forged_8
+
+abbrev pub forged_10 : List Entry
+forged_10 = record { lane = 1; deed = deed.End } ∷ forged_9
+
+-- A proxy gives half of its references, rounded down, and where it has 1 the packet has 5 new ones.
+abbrev pub halved : Scenario
+halved = record {
+  version = 1;
+  pool = 1;
+  classes = record { interfaces = built_in_interfaces; classes = (record { name = codes "Far"; clsid = record { data1 = 1544224962; data2 = 0; data3 = 16384; data4 = 128 ∷ 0 ∷ 0 ∷ 0 ∷ 0 ∷ 0 ∷ 0 ∷ 1 ∷ [] }; model = model.Free; native = native.Counter; interfaces = 1 ∷ []; bodies = [] }) ∷ [] };
+  filters = [];
+  threads = ((stmt.Init mode.Sta) ∷ (stmt.Create 0 (asked.Number 1) (asked.Number 1)) ∷ (stmt.Marshal 0 0 marshal.Normal) ∷ (stmt.Marshal 1 0 marshal.Normal) ∷ (stmt.Marshal 2 0 marshal.Normal) ∷ (stmt.Marshal 3 0 marshal.Normal) ∷ []) ∷ [];
+  picks = [];
+}
+
+abbrev pub halved_1 : List Entry
+halved_1 = record { lane = 1; deed = deed.Init mode.Sta 3 (record { 0 = 0 }) } ∷ []
+
+abbrev pub halved_2 : List Entry
+halved_2 = record { lane = 1; deed = deed.Made (Some 1) (Some 1) (asked.Number 1) (asked.Number 1) (record { 0 = 0 }) } ∷ halved_1
+
+abbrev pub halved_3 : List Entry
+halved_3 = record { lane = 1; deed = deed.Marshal (Some 1) marshal.Normal (Some (record { object = 1; iface = 1 })) 2 (record { 0 = 0 }) (Some (77 ∷ 69 ∷ 79 ∷ 87 ∷ 1 ∷ 0 ∷ 0 ∷ 0 ∷ 1 ∷ 0 ∷ 11 ∷ 92 ∷ 0 ∷ 0 ∷ 0 ∷ 64 ∷ 128 ∷ 0 ∷ 0 ∷ 0 ∷ 0 ∷ 0 ∷ 0 ∷ 1 ∷ 0 ∷ 0 ∷ 0 ∷ 0 ∷ 2 ∷ 0 ∷ 0 ∷ 0 ∷ 1 ∷ 0 ∷ 0 ∷ 0 ∷ 0 ∷ 0 ∷ 0 ∷ 0 ∷ 1 ∷ 0 ∷ 0 ∷ 0 ∷ 0 ∷ 0 ∷ 0 ∷ 0 ∷ 1 ∷ 0 ∷ 0 ∷ 0 ∷ 1 ∷ 0 ∷ 1 ∷ 0 ∷ 1 ∷ 0 ∷ 0 ∷ 0 ∷ 0 ∷ 0 ∷ 0 ∷ 0 ∷ 2 ∷ 0 ∷ 1 ∷ 0 ∷ 0 ∷ 0 ∷ 0 ∷ 0 ∷ [])) } ∷ halved_2
+
+abbrev pub halved_4 : List Entry
+halved_4 = record { lane = 1; deed = deed.Marshal (Some 2) marshal.Normal (Some (record { object = 1; iface = 1 })) 1 (record { 0 = 0 }) (Some (77 ∷ 69 ∷ 79 ∷ 87 ∷ 1 ∷ 0 ∷ 0 ∷ 0 ∷ 1 ∷ 0 ∷ 11 ∷ 92 ∷ 0 ∷ 0 ∷ 0 ∷ 64 ∷ 128 ∷ 0 ∷ 0 ∷ 0 ∷ 0 ∷ 0 ∷ 0 ∷ 1 ∷ 0 ∷ 0 ∷ 0 ∷ 0 ∷ 1 ∷ 0 ∷ 0 ∷ 0 ∷ 1 ∷ 0 ∷ 0 ∷ 0 ∷ 0 ∷ 0 ∷ 0 ∷ 0 ∷ 1 ∷ 0 ∷ 0 ∷ 0 ∷ 0 ∷ 0 ∷ 0 ∷ 0 ∷ 1 ∷ 0 ∷ 0 ∷ 0 ∷ 1 ∷ 0 ∷ 1 ∷ 0 ∷ 2 ∷ 0 ∷ 0 ∷ 0 ∷ 0 ∷ 0 ∷ 0 ∷ 0 ∷ 2 ∷ 0 ∷ 1 ∷ 0 ∷ 0 ∷ 0 ∷ 0 ∷ 0 ∷ [])) } ∷ halved_3
+
+abbrev pub halved_5 : List Entry
+halved_5 = record { lane = 1; deed = deed.Marshal (Some 3) marshal.Normal (Some (record { object = 1; iface = 1 })) 1 (record { 0 = 0 }) (Some (77 ∷ 69 ∷ 79 ∷ 87 ∷ 1 ∷ 0 ∷ 0 ∷ 0 ∷ 1 ∷ 0 ∷ 11 ∷ 92 ∷ 0 ∷ 0 ∷ 0 ∷ 64 ∷ 128 ∷ 0 ∷ 0 ∷ 0 ∷ 0 ∷ 0 ∷ 0 ∷ 1 ∷ 0 ∷ 0 ∷ 0 ∷ 0 ∷ 1 ∷ 0 ∷ 0 ∷ 0 ∷ 1 ∷ 0 ∷ 0 ∷ 0 ∷ 0 ∷ 0 ∷ 0 ∷ 0 ∷ 1 ∷ 0 ∷ 0 ∷ 0 ∷ 0 ∷ 0 ∷ 0 ∷ 0 ∷ 1 ∷ 0 ∷ 0 ∷ 0 ∷ 1 ∷ 0 ∷ 1 ∷ 0 ∷ 3 ∷ 0 ∷ 0 ∷ 0 ∷ 0 ∷ 0 ∷ 0 ∷ 0 ∷ 2 ∷ 0 ∷ 1 ∷ 0 ∷ 0 ∷ 0 ∷ 0 ∷ 0 ∷ [])) } ∷ halved_4
+
+abbrev pub halved_6 : List Entry
+halved_6 = record { lane = 1; deed = deed.Marshal (Some 4) marshal.Normal (Some (record { object = 1; iface = 1 })) 5 (record { 0 = 0 }) (Some (77 ∷ 69 ∷ 79 ∷ 87 ∷ 1 ∷ 0 ∷ 0 ∷ 0 ∷ 1 ∷ 0 ∷ 11 ∷ 92 ∷ 0 ∷ 0 ∷ 0 ∷ 64 ∷ 128 ∷ 0 ∷ 0 ∷ 0 ∷ 0 ∷ 0 ∷ 0 ∷ 1 ∷ 0 ∷ 0 ∷ 0 ∷ 0 ∷ 5 ∷ 0 ∷ 0 ∷ 0 ∷ 1 ∷ 0 ∷ 0 ∷ 0 ∷ 0 ∷ 0 ∷ 0 ∷ 0 ∷ 1 ∷ 0 ∷ 0 ∷ 0 ∷ 0 ∷ 0 ∷ 0 ∷ 0 ∷ 1 ∷ 0 ∷ 0 ∷ 0 ∷ 1 ∷ 0 ∷ 1 ∷ 0 ∷ 4 ∷ 0 ∷ 0 ∷ 0 ∷ 0 ∷ 0 ∷ 0 ∷ 0 ∷ 2 ∷ 0 ∷ 1 ∷ 0 ∷ 0 ∷ 0 ∷ 0 ∷ 0 ∷ [])) } ∷ halved_5
+
+abbrev pub halved_7 : List Entry
+halved_7 = record { lane = 1; deed = deed.Uninit (Some 3) 0 } ∷ halved_6
+
+abbrev pub halved_8 : List Entry
+halved_8 = record { lane = 1; deed = deed.End } ∷ halved_7
+
+-- The lines that are printed of the direct call, and the report behind them.
+abbrev pub direct_call_text : List ℕ
+direct_call_text =
+    codes "1 L1 init sta a3 S_OK\n"
+    ++ codes "2 L1 made o1 a3 C1 I1 S_OK\n"
+    ++ codes "3 L1 out c1 o1 I1.0 direct cause1 -\n"
+    ++ codes "4 L1 enter c1 o1 a3 - (5)\n"
+    ++ codes "5 L1 leave c1 S_OK (5) -\n"
+    ++ codes "6 L1 back c1 S_OK (5)\n"
+    ++ codes "7 L1 release o1 I1\n"
+    ++ codes "8 L1 final o1\n"
+    ++ codes "9 L1 uninit a3 0\n"
+    ++ codes "10 L1 end\n"
+
+abbrev pub direct_call_report : List ℕ
+direct_call_report =
+    codes "o1 C1 a3 released direct 0 proxies 0 packets 0 tables 0 stub 0\n"
+    ++ codes "entries 10 clock 0\n"
+    ++ codes "end ok\n"
+
+-- The report of the packets that a proxy gave: the proxy gave the rest of its references back when its apartment ended.
+abbrev pub halved_report : List ℕ
+halved_report =
+    codes "o1 C1 a1 live direct 0 proxies 0 packets 9 tables 0 stub 9\n"
+    ++ codes "entries 8 clock 0\n"
+    ++ codes "end ok\n"
+
+-- A Back of another call than the innermost Out's, and a Leave of another than the innermost Enter's.
+abbrev pub foreign_back : List Entry
+foreign_back = record { lane = 1; deed = deed.Back 2 (record { 0 = 0 }) None } ∷ direct_call_3
+
+abbrev pub foreign_leave : List Entry
+foreign_leave = record { lane = 1; deed = deed.Leave 2 (record { 0 = 0 }) None None } ∷ direct_call_4

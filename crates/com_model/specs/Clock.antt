@@ -1,4 +1,4 @@
--- The clock, message filters and call types. Source: the documentation of IMessageFilter.
+-- The clock and message filters. Source: the documentation of IMessageFilter.
 use Rattle.std.specs.Prelude.{ℕ, zero, ◌-◌, Bool, true, false, ◌==◌, nat_le, if◌then◌else◌, List, [], ◌∷◌, Option, Some, None}
 use Rattle.com_filter.specs.declared.Verdict.{Verdict}
 use Rattle.com_filter.specs.declared.Verdict.TheVariants as verdict
@@ -8,7 +8,6 @@ use Rattle.com_model.specs.declared.deeds.Deed.TheVariants as deed
 use Rattle.com_model.specs.declared.deeds.Entry.{Entry}
 use Rattle.com_model.specs.declared.scenario.Scenario.{Scenario}
 use Rattle.com_model.specs.Answers.{is_S_OK}
-use Rattle.com_model.specs.Lists.{is_member}
 use Rattle.com_model.specs.Tables.{filter_rules}
 use Rattle.com_model.specs.Apartments.{home}
 use Rattle.com_model.specs.Calls.{Issue, issues}
@@ -64,12 +63,6 @@ filter_of s h l = in_made_sta (home s h l) (last_filter h l)
 abbrev pub rules_of : Scenario → Option ℕ → List Rule
 rules_of s None = []
 rules_of s (Some f) = filter_rules s f
-
--- The call type of a call: 1, CALLTYPE_TOPLEVEL, where no Out is open in the lane; 2, CALLTYPE_NESTED, where some open Out has
--- the call's causality; else 4, CALLTYPE_TOPLEVEL_CALLPENDING.
-abbrev pub call_sort : (causes : List ℕ) → (cause : ℕ) → ℕ
-call_sort [] k = 1
-call_sort (c ∷ cs) k = if is_member k (c ∷ cs) then 2 else 4
 
 -- How long the topmost open Out has waited; 0 where none is open.
 abbrev pub waited : (issued_at : ℕ → ℕ) → (now : ℕ) → List ℕ → ℕ

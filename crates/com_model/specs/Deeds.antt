@@ -1,5 +1,5 @@
 -- The entry of an action, with the first refusal that applies. Each refusal changes nothing but register 15 and the destination.
-use Rattle.std.specs.Prelude.{ℕ, ◌+◌, ◌-◌, ◌%◌, ◌^◌, ℤ, pos, negsuc, Bool, true, false, not, ◌==◌, ◌&&◌, if◌then◌else◌, List, [], ◌∷◌, map, length, Option, Some, None, option_map}
+use Rattle.std.specs.Prelude.{ℕ, ◌+◌, ◌-◌, ◌%◌, ◌^◌, ℤ, pos, negsuc, Bool, true, false, not, ◌==◌, ◌&&◌, if◌then◌else◌, List, [], ◌∷◌, map, length, Option, Some, None, option_map, Result, Ok, Err}
 use Rattle.std.specs.Int.{to_le_bytes, w64}
 use Rattle.com_base.specs.declared.guid.Guid.{Guid}
 use Rattle.com_base.specs.declared.hresult.HResult.{HResult}
@@ -16,6 +16,14 @@ use Rattle.com_body.specs.declared.operands.Asked.TheVariants as asked
 use Rattle.com_body.specs.declared.actions.Action.{Action}
 use Rattle.com_body.specs.declared.actions.Action.TheVariants as action
 use Rattle.com_classes.specs.declared.interfaces.Interface.{Interface}
+use Rattle.com_classes.specs.declared.classes.Class.{Class}
+use Rattle.com_classes.specs.declared.factory.Creator.{Creator}
+use Rattle.com_classes.specs.declared.factory.Placed.{Placed}
+use Rattle.com_classes.specs.Activation.{placed_in}
+use Rattle.com_classes.specs.Lookups.{class_at, has_interface, interface_at, method_at, same_guid}
+use Rattle.objref.specs.declared.decoding.RefFault.{RefFault}
+use Rattle.objref.specs.Grammar.{Reference, standard, written_of}
+use Rattle.objref.specs.Reading.{objref_of}
 use Rattle.com_model.specs.declared.deeds.Deed.{Deed}
 use Rattle.com_model.specs.declared.deeds.Deed.TheVariants as deed
 use Rattle.com_model.specs.declared.deeds.Route.{Route}
@@ -23,15 +31,13 @@ use Rattle.com_model.specs.declared.deeds.Route.TheVariants as route
 use Rattle.com_model.specs.declared.scenario.Scenario.{Scenario}
 use Rattle.com_model.specs.Answers.{S_OK, S_FALSE, E_NOTIMPL, E_NOINTERFACE, E_POINTER, E_INVALIDARG, REGDB_E_CLASSNOTREG, CO_E_NOTINITIALIZED, CO_E_OBJNOTCONNECTED, RPC_E_CHANGED_MODE, RPC_E_DISCONNECTED, RPC_E_INVALID_OBJREF}
 use Rattle.com_model.specs.Lists.{number_or_zero, one_to, first_that}
-use Rattle.com_model.specs.Tables.{is_thread, interface_at, class_number, interface_number, class_model, in_set, shown, method_at, parameters, result_kind, same_guid}
+use Rattle.com_model.specs.Tables.{is_thread, class_number, interface_number, shown, parameters, result_kind}
 use Rattle.com_model.specs.Openers.{running_call}
 use Rattle.com_model.specs.Apartments.{mta, is_sta}
-use Rattle.com_model.specs.Objects.{placed_by}
 use Rattle.com_model.specs.Calls.{Issue, route_for, cause_for, is_marshalled}
-use Rattle.com_model.specs.Values.{carried, result_list, sent_values, sent_result, objref_bytes, request_bytes, reply_bytes}
+use Rattle.com_model.specs.Values.{carried, result_list, sent_values, sent_result, request_bytes, reply_bytes}
 use Rattle.com_model.specs.Frames.{reference}
 use Rattle.com_model.specs.Books.{Books, Packet, Cookie, Row, Marshals, packet, cookie, entered_rows, made_since, marshal_all}
-use Rattle.com_model.specs.ObjRefs.{Marshalled, Standard, Another, NoReference, read_objref}
 use Rattle.com_model.specs.Issue.{call_refusal}
 use Rattle.com_model.specs.Sight.{Sight}
 
@@ -66,15 +72,20 @@ filter_set v l f = deed.SetFilter f (if in_sta (v.home l) then S_OK else S_FALSE
 abbrev pub not_made : Scenario → Asked → Asked → HResult → Deed
 not_made s k i hr = deed.Made None None (shown (class_number s k) k) (shown (interface_number s i) i) hr
 
-abbrev pub made_of : Scenario → Sight → ℕ → (home class iface : ℕ) → Deed
-made_of s v l a k i =
-    deed.Made (Some (v.objects + 1)) (Some (placed_by (class_model s k) (number_or_zero (v.running l)) a v.main_sta))
-    (asked.Number k) (asked.Number i) S_OK
+abbrev pub creator : Sight → ℕ → (home : ℕ) → Creator
+creator v l a = record { running = number_or_zero (v.running l); home = a; main_sta = v.main_sta }
+
+abbrev pub placing : Creator → (class : ℕ) → (iface : Option ℕ) → Option Class → Result Placed HResult
+placing x c i None = Err REGDB_E_CLASSNOTREG
+placing x c i (Some k) = placed_in k c i x
+
+abbrev pub made_as : Scenario → Sight → Asked → Asked → Result Placed HResult → Deed
+made_as s v k i (Err hr) = not_made s k i hr
+made_as s v k i (Ok p) = deed.Made (Some (v.objects + 1)) (Some p.owner) (asked.Number p.class) (asked.Number p.iface) S_OK
 
 abbrev pub created_of : Scenario → Sight → ℕ → ℕ → Asked → Asked → (class iface : Option ℕ) → Deed
 created_of s v l a k i None j = not_made s k i REGDB_E_CLASSNOTREG
-created_of s v l a k i (Some c) None = not_made s k i E_NOINTERFACE
-created_of s v l a k i (Some c) (Some j) = if in_set s c j then made_of s v l a c j else not_made s k i E_NOINTERFACE
+created_of s v l a k i (Some c) j = made_as s v k i (placing (creator v l a) c j (class_at s.classes c))
 
 abbrev pub created : Scenario → Sight → ℕ → Asked → Asked → Option ℕ → Deed
 created s v l k i None = not_made s k i CO_E_NOTINITIALIZED
@@ -88,7 +99,7 @@ owned_by v l o = v.owns o (number_or_zero (v.running l))
 -- Source: IUnknown::QueryInterface.
 abbrev pub offers : Scenario → ℕ → Option ℕ → Bool
 offers s k None = false
-offers s k (Some i) = in_set s k i
+offers s k (Some i) = has_interface s.classes k i
 
 abbrev pub query_answer : Scenario → Sight → ℕ → Option ℕ → Option RefValue → Option ℕ → HResult
 query_answer s v l None held i = CO_E_NOTINITIALIZED
@@ -119,7 +130,7 @@ written_refs _ n = 0
 
 abbrev pub packet_fields : Scenario → Sight → Packet → ℕ → StdFields
 packet_fields s v k p = record {
-  iid = iid_of (interface_at s k.iface);
+  iid = iid_of (interface_at s.classes k.iface);
   refs = written_refs k.mode k.refs;
   oxid = v.named k.object;
   oid = k.object;
@@ -146,7 +157,7 @@ hold_refusal v (Some a) (Some r) = if v.books.live r.object then None else Some 
 abbrev pub marshalled_as : Scenario → Sight → MarshalMode → Option RefValue → Books → Deed
 marshalled_as s v m held b =
     deed.Marshal (Some (next_packet v)) m held (packet b (next_packet v)).refs S_OK
-    (Some (objref_bytes (packet_fields s v (packet b (next_packet v)) (next_packet v))))
+    (Some (written_of (packet_fields s v (packet b (next_packet v)) (next_packet v))))
 
 abbrev pub marshalled : Scenario → Sight → ℕ → MarshalMode → Option RefValue → Option HResult → Deed
 marshalled s v l m held (Some hr) = deed.Marshal None m held 0 hr None
@@ -180,14 +191,14 @@ abbrev pub named_or : Option ℕ → Named
 named_or None = Refuses CO_E_OBJNOTCONNECTED
 named_or (Some p) = NamesPacket p
 
-abbrev pub named_in : Scenario → Sight → Marshalled → Named
-named_in s v NoReference = Refuses RPC_E_INVALID_OBJREF
-named_in s v Another = Refuses E_NOTIMPL
-named_in s v (Standard f) = named_or (named_packet s v f)
+abbrev pub named_in : Scenario → Sight → Result Reference RefFault → Named
+named_in s v (Err x) = Refuses RPC_E_INVALID_OBJREF
+named_in s v (Ok (standard f flags strings)) = named_or (named_packet s v f)
+named_in s v (Ok _) = Refuses E_NOTIMPL
 
 abbrev pub named_by : Scenario → Sight → Option ℕ → List ℕ → Named
 named_by s v None bytes = Refuses CO_E_NOTINITIALIZED
-named_by s v (Some a) bytes = named_in s v (read_objref bytes)
+named_by s v (Some a) bytes = named_in s v (objref_of bytes)
 
 -- What the apartment's proxy gains: nothing where the apartment owns the object; else a normal packet's references, or 5.
 abbrev pub gained_refs : MarshalMode → (owned : Bool) → ℕ → ℕ
@@ -257,7 +268,7 @@ next_cause v l = cause_for v.issue v.causes (running_call (v.openers l))
 abbrev pub out_on : Scenario → Sight → ℕ → Option RefValue → ℕ → ℕ → List Value → Route → Deed
 out_on s v l held i m args r =
     deed.Out (v.calls + 1) (object_in held) i m r (next_cause v l)
-    (out_bytes s v l r (next_cause v l) (sent_values true v.books.live (parameters (method_at s i m)) args))
+    (out_bytes s v l r (next_cause v l) (sent_values true v.books.live (parameters (method_at s.classes i m)) args))
 
 abbrev pub route_to : Sight → ℕ → Option RefValue → Route
 route_to v l None = route.Refused
@@ -280,7 +291,7 @@ abbrev pub left_as : Scenario → Sight → ℕ → ℕ → Option Issue → HRe
 left_as s v l c None hr x = left_with s v l c false hr None
 left_as s v l c (Some i) hr x =
     left_with s v l c (is_marshalled i.route) hr
-    (sent_result (is_marshalled i.route) v.books.live hr (result_kind (method_at s i.iface i.method)) x)
+    (sent_result (is_marshalled i.route) v.books.live hr (result_kind (method_at s.classes i.iface i.method)) x)
 
 abbrev pub left_by : Scenario → Sight → ℕ → HResult → Option Value → Option ℕ → Deed
 left_by s v l hr x None = deed.Leave 0 hr None None

@@ -1,5 +1,5 @@
--- How a history ends, the one history of the schedule, and what a report counts.
-use Rattle.std.specs.Prelude.{ℕ, zero, suc, ◌+◌, ◌-◌, Bool, true, false, not, ◌==◌, ◌&&◌, nat_le, if◌then◌else◌, List, [], ◌∷◌, ◌++◌, length, Option, Some, None, is_none, option_map, sum_by}
+-- How a history ends, the one history of the schedule, and what is printed of it.
+use Rattle.std.specs.Prelude.{ℕ, zero, suc, ◌+◌, ◌-◌, Bool, true, false, not, ◌==◌, ◌&&◌, nat_le, if◌then◌else◌, List, [], ◌∷◌, ◌++◌, length, map, Option, Some, None, is_none, option_map, sum_by}
 use Rattle.com_model.specs.declared.deeds.Deed.{Deed}
 use Rattle.com_model.specs.declared.deeds.Entry.{Entry}
 use Rattle.com_model.specs.declared.scenario.Scenario.{Scenario}
@@ -13,7 +13,9 @@ use Rattle.com_base.specs.declared.value.MarshalMode.TheVariants as marshal
 use Rattle.com_model.specs.Lists.{sum_below, one_to, numbers_from, each_of, first_that, is_empty, or_else}
 use Rattle.com_model.specs.Tables.{threads, lanes}
 use Rattle.com_model.specs.Apartments.{apartments}
-use Rattle.com_model.specs.Objects.{named, class_of, finaled}
+use Rattle.com_model.specs.Objects.{objects, named, class_of, finaled}
+use Rattle.com_model.specs.Clock.{clock}
+use Rattle.com_model.specs.Text.{history_text, report_text}
 use Rattle.com_model.specs.Frames.{scene}
 use Rattle.com_model.specs.Places.{ground, direct_places}
 use Rattle.com_model.specs.Books.{Books, Packet, Cookie, books}
@@ -141,3 +143,17 @@ counts_by s h b o = record {
 
 abbrev pub counts_of : Scenario → List Entry → ℕ → Counts
 counts_of s h o = counts_by s h (books s h) o
+
+-- What is printed: the lines of the history, and behind them, where it has ended, the report, with a line for each object.
+abbrev pub text : Scenario → List Entry → List ℕ
+text s h = history_text s.version h
+
+abbrev pub all_counts : Scenario → List Entry → List Counts
+all_counts s h = map (counts_of s h) (one_to (objects h))
+
+abbrev pub report_as : Scenario → List Entry → Option Ended → List ℕ
+report_as s h None = []
+report_as s h (Some x) = report_text (all_counts s h) (length h) (clock h) x
+
+abbrev pub report : Scenario → List Entry → List ℕ
+report s h = report_as s h (ended_as s h)

@@ -1,6 +1,7 @@
 -- Scenarios that keep the limits, the forms and the ranges of the language, repeat no name or GUID, and name only what is
 -- declared.
 use Rattle.std.specs.Prelude.{◌≡◌, ℕ, ◌+◌, ◌^◌, ◌≤◌, ◌<◌, ℤ, pos, negsuc, Bool, true, false, not, ◌==◌, ◌&&◌, ◌||◌, nat_le, List, [], ◌∷◌, Option, Some, None, length, All, take, codes, ◌⊎◌}
+use Rattle.std.specs.Str.{bytes_eq}
 use Rattle.com_base.specs.declared.guid.Guid.{Guid}
 use Rattle.com_base.specs.declared.value.Kind.{Kind}
 use Rattle.com_base.specs.declared.value.Kind.TheVariants as kind
@@ -27,14 +28,14 @@ use Rattle.com_classes.specs.declared.interfaces.Interface.{Interface}
 use Rattle.com_classes.specs.declared.interfaces.Method.{Method}
 use Rattle.com_classes.specs.declared.classes.Class.{Class}
 use Rattle.com_classes.specs.declared.classes.MethodBody.{MethodBody}
-use Rattle.com_classes.specs.declared.classes.ThreadingModel.{ThreadingModel}
-use Rattle.com_classes.specs.declared.classes.ThreadingModel.TheVariants as model
+use Rattle.com_classes.specs.Activation.{is_agile}
+use Rattle.com_classes.specs.BuiltIns.{built_in_interfaces}
+use Rattle.com_classes.specs.Lookups.{interface_at, method_at, same_guid}
 use Rattle.com_filter.specs.declared.Verdict.{Verdict}
 use Rattle.com_filter.specs.declared.Verdict.TheVariants as verdict
 use Rattle.com_filter.specs.declared.Rule.{Rule}
 use Rattle.com_filter.specs.declared.Rule.TheVariants as rule
 use Rattle.com_model.specs.declared.scenario.Scenario.{Scenario}
-use Rattle.com_model.specs.Tables.{interface_at, method_at, same_guid, same_numbers}
 
 -- ---- names and texts
 
@@ -91,34 +92,17 @@ abbrev pub IsMethod : ℕ → Method → Type 0
 IsMethod n m = IsName m.name × All (IsKindBy n) m.params × (length m.params ≤ 4) × IsResultBy n m.result
 
 abbrev pub same_method : Method → Method → Bool
-same_method m k = same_numbers m.name k.name
+same_method m k = bytes_eq m.name k.name
 
 abbrev pub IsInterface : ℕ → Interface → Type 0
 IsInterface n i = IsName i.name × All (IsMethod n) i.methods × (length i.methods ≤ 32) × Distinct same_method i.methods
 
 abbrev pub same_interface : Interface → Interface → Bool
-same_interface i k = same_numbers i.name k.name || same_guid i.iid k.iid
+same_interface i k = bytes_eq i.name k.name || same_guid i.iid k.iid
 
--- The four built-in interfaces stand first.
-abbrev pub built_in_iid : ℕ → Guid
-built_in_iid n = record { data1 = 0x5c0b0000 + n; data2 = 0; data3 = 0x4000; data4 = 0x80 ∷ 0 ∷ 0 ∷ 0 ∷ 0 ∷ 0 ∷ 0 ∷ 1 ∷ [] }
-
+-- The IIDs that Microsoft's documentation gives to its own interfaces end alike.
 abbrev pub documented_iid : ℕ → Guid
 documented_iid n = record { data1 = n; data2 = 0; data3 = 0; data4 = 0xc0 ∷ 0 ∷ 0 ∷ 0 ∷ 0 ∷ 0 ∷ 0 ∷ 0x46 ∷ [] }
-
-abbrev pub method_of : List ℕ → List Kind → Option Kind → Method
-method_of name params result = record { name = name; params = params; result = result }
-
-abbrev pub interface_of : List ℕ → Guid → List Method → Interface
-interface_of name iid methods = record { name = name; iid = iid; methods = methods }
-
-abbrev pub built_in : List Interface
-built_in =
-    interface_of (codes "IUnknown") (documented_iid 0) []
-    ∷ interface_of (codes "ICounter") (built_in_iid 1) (method_of (codes "add") (kind.Int ∷ []) (Some kind.Int) ∷ method_of (codes "get") [] (Some kind.Int) ∷ [])
-    ∷ interface_of (codes "IRelay") (built_in_iid 2) (method_of (codes "set") (kind.Ref 1 ∷ []) None ∷ method_of (codes "forward") (kind.Int ∷ []) (Some kind.Int) ∷ [])
-    ∷ interface_of (codes "ILatch") (built_in_iid 3) (method_of (codes "set") [] None ∷ method_of (codes "test") [] (Some kind.Bool) ∷ [])
-    ∷ []
 
 -- A scenario may not declare the IIDs of IClassFactory, IMessageFilter and IGlobalInterfaceTable, nor name an interface as a type.
 abbrev pub is_reserved : Guid → Bool
@@ -126,14 +110,15 @@ is_reserved g = same_guid g (documented_iid 1) || (same_guid g (documented_iid 0
 
 abbrev pub is_type_word : List ℕ → Bool
 is_type_word n =
-    same_numbers n (codes "int") || (same_numbers n (codes "bool") || (same_numbers n (codes "text")
-    || (same_numbers n (codes "bytes") || same_numbers n (codes "guid"))))
+    bytes_eq n (codes "int") || (bytes_eq n (codes "bool") || (bytes_eq n (codes "text")
+    || (bytes_eq n (codes "bytes") || bytes_eq n (codes "guid"))))
 
 abbrev pub IsAllowed : Interface → Type 0
 IsAllowed i = (is_reserved i.iid ≡ false) × (is_type_word i.name ≡ false)
 
+-- The four built-in interfaces stand first.
 pub record FormedInterfaces (xs : List Interface) : Type 0 where
-  pub built : take 4 xs ≡ built_in
+  pub built : take 4 xs ≡ built_in_interfaces
   pub few : length xs ≤ 64
   pub each : EachFrom IsInterface 0 xs
   pub allowed : All IsAllowed xs
@@ -187,7 +172,7 @@ FitsMethod (Some m) args to = FitKinds m.params args × FitsResult m.result to
 abbrev pub IsCall : Scenario → ℕ → ℕ → List Arg → Destination → Type 0
 IsCall s i m args to =
     (i < length s.classes.interfaces)
-    × (((args ≡ []) × (to ≡ destination.Nowhere)) ⊎ FitsMethod (method_at s i m) args to)
+    × (((args ≡ []) × (to ≡ destination.Nowhere)) ⊎ FitsMethod (method_at s.classes i m) args to)
 
 abbrev pub IsGivenValue : Given → Type 0
 IsGivenValue (given.Op o) = IsOperand o
@@ -234,10 +219,6 @@ in_script s = record { body = false; links = false; classes = length s.classes.c
 
 -- ---- classes
 
-abbrev pub is_agile : ThreadingModel → Bool
-is_agile model.Agile = true
-is_agile _ = false
-
 abbrev pub in_class : (number : ℕ) → Class → Context
 in_class n k = record { body = true; links = not (is_agile k.model); classes = n }
 
@@ -246,7 +227,7 @@ methods_of None = []
 methods_of (Some i) = i.methods
 
 abbrev pub IsBody : Scenario → Context → MethodBody → Type 0
-IsBody s x b = FormedBody s x 200 b.body × (b.method < length (methods_of (interface_at s b.iface)))
+IsBody s x b = FormedBody s x 200 b.body × (b.method < length (methods_of (interface_at s.classes b.iface)))
 
 abbrev pub same_body : MethodBody → MethodBody → Bool
 same_body b c = b.iface == c.iface && b.method == c.method
@@ -264,7 +245,7 @@ IsClass s n k =
     × All (IsBody s (in_class n k)) k.bodies × Distinct same_body k.bodies
 
 abbrev pub same_class : Class → Class → Bool
-same_class k j = same_numbers k.name j.name || same_guid k.clsid j.clsid
+same_class k j = bytes_eq k.name j.name || same_guid k.clsid j.clsid
 
 pub record FormedClasses (s : Scenario) : Type 0 where
   pub few : length s.classes.classes ≤ 64

@@ -15,6 +15,7 @@ use Rattle.com_body.specs.declared.frame.Cells.{Cells}
 use Rattle.com_body.specs.declared.frame.Outcome.{Outcome}
 use Rattle.com_body.specs.Frames.{FrameView, entered, with_register, with_slot}
 use Rattle.com_body.specs.BodySteps.{body_step}
+use Rattle.com_classes.specs.Lookups.{body_of}
 use Rattle.com_model.specs.declared.deeds.Deed.{Deed}
 use Rattle.com_model.specs.declared.deeds.Deed.TheVariants as deed
 use Rattle.com_model.specs.declared.deeds.Entry.{Entry}
@@ -22,7 +23,6 @@ use Rattle.com_model.specs.declared.scenario.Scenario.{Scenario}
 use Rattle.com_model.specs.Answers.{S_OK, is_S_OK}
 use Rattle.com_model.specs.Lists.{put}
 use Rattle.com_model.specs.Tables.{LaneSort, Thread, lane_sort, script}
-use Rattle.com_model.specs.Bodies.{body_of}
 use Rattle.com_model.specs.Openers.{Opener, Enters, openers}
 use Rattle.com_model.specs.Apartments.{ends_sta}
 use Rattle.com_model.specs.Objects.{class_of, named}
@@ -70,7 +70,7 @@ actor_in s h l = actor (lane_sort s l) l (openers h l)
 
 abbrev pub issued_body : Scenario → (class : ℕ) → Option Issue → FrameView → Cells → Outcome
 issued_body s k None f c = body_step [] f c
-issued_body s k (Some i) f c = body_step (body_of s k i.iface i.method) f c
+issued_body s k (Some i) f c = body_step (body_of s.classes k i.iface i.method) f c
 
 -- The body step of whoever acts, by the classes of objects and the issues of calls.
 abbrev pub outcome : Scenario → (class : ℕ → ℕ) → (issue : ℕ → Option Issue) → Scene → Actor → Option Outcome

@@ -5,11 +5,11 @@ use Rattle.com_base.specs.declared.value.RefValue.{RefValue}
 use Rattle.com_base.specs.declared.value.Value.{Value}
 use Rattle.com_body.specs.declared.actions.Action.{Action}
 use Rattle.com_body.specs.declared.actions.Action.TheVariants as action
+use Rattle.com_classes.specs.Lookups.{method_at}
 use Rattle.com_model.specs.declared.deeds.Entry.{Entry}
 use Rattle.com_model.specs.declared.scenario.Scenario.{Scenario}
 use Rattle.com_model.specs.Answers.{S_OK, CO_E_NOTINITIALIZED, E_POINTER, E_NOINTERFACE, RPC_E_INVALIDMETHOD, RPC_E_DISCONNECTED}
 use Rattle.com_model.specs.Lists.{number_or_zero}
-use Rattle.com_model.specs.Tables.{method_at}
 use Rattle.com_model.specs.Apartments.{home, running}
 use Rattle.com_model.specs.Objects.{owns}
 use Rattle.com_model.specs.Calls.{Issue, issues, is_marshalled}
@@ -23,7 +23,7 @@ call_refusal s None r owns live held i m = Some CO_E_NOTINITIALIZED
 call_refusal s (Some a) r owns live None i m = Some E_POINTER
 call_refusal s (Some a) r owns live (Some t) i m =
     if not (t.iface == i) then Some E_NOINTERFACE
-    else if is_none (method_at s i m) then Some RPC_E_INVALIDMETHOD
+    else if is_none (method_at s.classes i m) then Some RPC_E_INVALIDMETHOD
     else if not (owns t.object (number_or_zero r)) && not (live t.object) then Some RPC_E_DISCONNECTED
     else None
 

@@ -2,7 +2,6 @@ pub mod Text
 pub mod Lists
 pub mod Answers
 pub mod Tables
-pub mod Bodies
 pub mod Openers
 pub mod Apartments
 pub mod Objects
@@ -15,7 +14,6 @@ pub mod Places
 pub mod Books
 pub mod Waiting
 pub mod Dying
-pub mod ObjRefs
 pub mod Issue
 pub mod Sight
 pub mod Deeds

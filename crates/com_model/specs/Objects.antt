@@ -1,18 +1,16 @@
--- Objects: their making, owners, where a new one is placed, and their end.
+-- Objects: their making, owners and end. Where a new one is placed is `owner_for` of `com_classes`.
 use Rattle.std.specs.Prelude.{ℕ, ◌+◌, Bool, false, ◌==◌, ◌||◌, if◌then◌else◌, List, [], ◌∷◌, Option, Some, None}
 use Rattle.std.specs.Prelude.{option_map}
 use Rattle.com_body.specs.declared.operands.Asked.{Asked}
 use Rattle.com_body.specs.declared.operands.Asked.TheVariants as asked
-use Rattle.com_classes.specs.declared.classes.ThreadingModel.{ThreadingModel}
-use Rattle.com_classes.specs.declared.classes.ThreadingModel.TheVariants as model
 use Rattle.com_model.specs.declared.deeds.Deed.{Deed}
 use Rattle.com_model.specs.declared.deeds.Deed.TheVariants as deed
 use Rattle.com_model.specs.declared.deeds.Entry.{Entry}
 use Rattle.com_model.specs.declared.scenario.Scenario.{Scenario}
 use Rattle.com_model.specs.Answers.{is_S_OK}
 use Rattle.com_model.specs.Lists.{number_or_zero, is_number}
-use Rattle.com_model.specs.Tables.{class_model, is_agile_model}
-use Rattle.com_model.specs.Apartments.{neutral, mta, host_sta, is_sta, running}
+use Rattle.com_model.specs.Tables.{is_agile_class}
+use Rattle.com_model.specs.Apartments.{running}
 
 -- The making of an object: the apartment and the class that its Made entry names.
 pub record Making : Type 0 where
@@ -54,7 +52,7 @@ class_of h o = number_or_zero (option_map (λ (m : Making). m.class) (making h o
 
 -- An agile object may be called directly from every apartment, as with the free-threaded marshaler.
 abbrev pub agile : Scenario → List Entry → ℕ → Bool
-agile s h o = is_agile_model (class_model s (class_of h o))
+agile s h o = is_agile_class s (class_of h o)
 
 -- The apartment is the owner of the object; every apartment owns an agile object.
 abbrev pub owns : Scenario → List Entry → ℕ → ℕ → Bool
@@ -63,20 +61,6 @@ owns s h o a = agile s h o || a == named h o
 -- The apartment in which a body of the object runs when the lane enters it.
 abbrev pub owner : Scenario → List Entry → ℕ → ℕ → ℕ
 owner s h o l = if agile s h o then number_or_zero (running s h l) else named h o
-
--- Where an object of a class is placed that a lane creates, by the class's ThreadingModel. A creator that runs in the
--- neutral apartment counts for Apartment as its lane's home.
-abbrev pub creator : (running home : ℕ) → ℕ
-creator r a = if r == neutral then a else r
-
-abbrev pub placed_by : Option ThreadingModel → (running home main : ℕ) → ℕ
-placed_by (Some model.Nothing) r a main = main
-placed_by (Some model.Apartment) r a main = if is_sta (creator r a) then creator r a else host_sta
-placed_by (Some model.Free) r a main = mta
-placed_by (Some model.Both) r a main = r
-placed_by (Some model.Neutral) r a main = neutral
-placed_by (Some model.Agile) r a main = neutral
-placed_by None r a main = neutral
 
 -- Final is made at most once for each object.
 abbrev pub finals : Deed → Option ℕ

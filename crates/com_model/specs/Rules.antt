@@ -13,7 +13,8 @@ use Rattle.com_model.specs.Openers.{Opener, Pumps, Waits, Enters, open_calls}
 use Rattle.com_model.specs.Apartments.{mta, is_sta}
 use Rattle.com_model.specs.Calls.{route_of, object_of, cause_of, is_post, is_marshalled}
 use Rattle.com_filter.specs.Answers.{incoming_answer, retry_answer, pending_answer}
-use Rattle.com_model.specs.Clock.{call_sort, waited, rules_of, is_handled}
+use Rattle.com_cause.specs.CallType.{call_type}
+use Rattle.com_model.specs.Clock.{waited, rules_of, is_handled}
 use Rattle.com_model.specs.Endings.{Answer, answer_of, without_value, is_leave}
 use Rattle.com_model.specs.Books.{packet}
 use Rattle.com_model.specs.Waiting.{Phase, Judged, Delayed, Word, mark_of, not_asked, bound_reached}
@@ -43,13 +44,14 @@ is_gone v p = not (packet v.books p).outstanding
 abbrev pub posted_to_sta : Sight → ℕ → Bool
 posted_to_sta v c = is_post (route_of (v.issue c)) && is_sta (v.named (object_of (v.issue c)))
 
-abbrev pub type_of : Sight → ℕ → ℕ → ℕ
-type_of v l c =
-    call_sort (map (λ d. cause_of (v.issue d)) (open_calls (v.openers l))) (cause_of (v.issue c))
+-- The call type of a call in a lane, over the causalities of the lane's open Outs. Source: IMessageFilter.
+abbrev pub call_sort : Sight → ℕ → ℕ → ℕ
+call_sort v l c =
+    call_type (map (λ d. cause_of (v.issue d)) (open_calls (v.openers l))) (cause_of (v.issue c))
 
 abbrev pub verdict_on : Scenario → Sight → ℕ → ℕ → Verdict
 verdict_on s v l c =
-    incoming_answer (rules_of s (v.filter l)) (type_of v l c) (waited v.issued_at v.clock (open_calls (v.openers l)))
+    incoming_answer (rules_of s (v.filter l)) (call_sort v l c) (waited v.issued_at v.clock (open_calls (v.openers l)))
 
 abbrev pub is_handled_in : Scenario → Sight → ℕ → ℕ → Bool
 is_handled_in s v l c = is_handled (verdict_on s v l c)
@@ -60,9 +62,9 @@ arguments_gone v c = is_marshalled (route_of (v.issue c)) && any_of (is_gone v) 
 abbrev pub admission : Scenario → Sight → ℕ → ℕ → Deed
 admission s v l c =
     if nat_le 256 (length (v.openers l)) then deed.Refuse c RPC_E_OUT_OF_RESOURCES
-    else if posted_to_sta v c && not (is_handled_in s v l c) then deed.Verdict c (type_of v l c) (verdict_on s v l c)
+    else if posted_to_sta v c && not (is_handled_in s v l c) then deed.Verdict c (call_sort v l c) (verdict_on s v l c)
     else if arguments_gone v c then deed.Refuse c RPC_E_SERVER_CANTUNMARSHAL_DATA
-    else deed.Enter c (object_of (v.issue c)) (v.owner (object_of (v.issue c)) l) (where_true (posted_to_sta v c) (type_of v l c)) (v.sent c)
+    else deed.Enter c (object_of (v.issue c)) (v.owner (object_of (v.issue c)) l) (where_true (posted_to_sta v c) (call_sort v l c)) (v.sent c)
 
 -- 1. The Final of the first dying object that the lane serves.
 abbrev pub rule_final : Sight → ℕ → Option Deed

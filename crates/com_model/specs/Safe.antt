@@ -23,7 +23,7 @@ use Rattle.com_model.specs.Dying.{is_dying}
 use Rattle.com_model.specs.Issue.{sent}
 use Rattle.com_model.specs.Deeds.{deed_of}
 use Rattle.com_model.specs.Sight.{sight}
-use Rattle.com_model.specs.Rules.{admission, type_of, verdict_on, is_handled_in, due_of, back_answer}
+use Rattle.com_model.specs.Rules.{admission, call_sort, verdict_on, is_handled_in, due_of, back_answer}
 
 -- A fact of each entry and what stood before it, and a fact of each prefix, the whole history included.
 abbrev pub EachEntry : (List Entry → ℕ → Deed → Type 0) → List Entry → Type 0
@@ -59,7 +59,8 @@ InServing s h l (_ ∷ os) = InServing s h l os
 abbrev pub Stacked : Scenario → List Entry → Type 0
 Stacked s h = (l : ℕ) → nested h l × InServing s h l (openers h l)
 
--- Who can make a deed: a body or a script, a script alone, or a rule.
+-- Who can make a deed: a body or a script, a script alone, or a rule. A packet is dropped by a statement or by a rule, and only
+-- a statement's drop is refused.
 pub data Maker : Type 0 where
   BodyOrScript : Maker
   ScriptAlone : Maker
@@ -72,6 +73,7 @@ maker (deed.Copy held) = BodyOrScript
 maker (deed.Release held) = BodyOrScript
 maker (deed.Marshal p m held refs hr bytes) = BodyOrScript
 maker (deed.Unmarshal p held refs hr) = BodyOrScript
+maker (deed.DropPacket None hr) = BodyOrScript
 maker (deed.Raw b n) = BodyOrScript
 maker (deed.Register g held hr) = BodyOrScript
 maker (deed.Get g held refs hr) = BodyOrScript
@@ -114,7 +116,7 @@ FirstOf s h a c = first (inbox s h a) ≡ Some c
 abbrev pub EntersBy : Scenario → List Entry → ℕ → ℕ → Option ℕ → (route : Route) → (sta : Bool) → Type 0
 EntersBy s h l c t route.Post true =
     FirstOf s h (named h (target h c)) c × CanAdmit s h l (openers h l)
-    × (t ≡ Some (type_of (sight s h) l c)) × (is_handled_in s (sight s h) l c ≡ true)
+    × (t ≡ Some (call_sort (sight s h) l c)) × (is_handled_in s (sight s h) l c ≡ true)
 EntersBy s h l c t route.Post false =
     FirstOf s h mta c × (lane_sort s l ≡ Pool) × (openers h l ≡ []) × (t ≡ None)
 EntersBy s h l c t _ sta = (first (openers h l) ≡ Some (Waits c)) × (t ≡ None)
@@ -123,7 +125,7 @@ abbrev pub Reenters : Scenario → List Entry → ℕ → Deed → Type 0
 Reenters s h l (deed.Enter c o a t vs) = EntersBy s h l c t (route_of (issue h c)) (is_sta (named h (target h c)))
 Reenters s h l (deed.Verdict c t v) =
     FirstOf s h (named h (target h c)) c × CanAdmit s h l (openers h l)
-    × (t ≡ type_of (sight s h) l c) × (v ≡ verdict_on s (sight s h) l c) × (is_handled_in s (sight s h) l c ≡ false)
+    × (t ≡ call_sort (sight s h) l c) × (v ≡ verdict_on s (sight s h) l c) × (is_handled_in s (sight s h) l c ≡ false)
 Reenters s h l _ = Unit {0}
 
 abbrev pub Reentry : Scenario → List Entry → Type 0

@@ -12,9 +12,9 @@ use Rattle.com_model.specs.declared.deeds.Entry.{Entry}
 use Rattle.com_model.specs.declared.scenario.Scenario.{Scenario}
 use Rattle.com_model.specs.Answers.{S_OK}
 use Rattle.com_model.specs.Lists.{or_else, first, is_number, is_member, count_if, number_or_zero, each_from, tabulated, from_one}
-use Rattle.com_model.specs.Tables.{lanes, threads, lane_sort, class_model, is_agile_model}
+use Rattle.com_model.specs.Tables.{lanes, threads, lane_sort, is_agile_class}
 use Rattle.com_model.specs.Openers.{Opener, effect_on, opened, left_on, running_call, entered_apartment, openers, served}
-use Rattle.com_model.specs.Apartments.{home_effect_on, home_after, home_by_sort, count_after, makes_sta, ends_sta, with_last, or_host, serves_by_sort, is_end, thread_home, init_count, stas, ended, made_in, over}
+use Rattle.com_model.specs.Apartments.{home_effect_on, home_after, home_by_sort, count_after, makes_sta, ends_sta, with_last, or_host, serves_by_sort, is_end, thread_home, init_count, stas, ended, made_in, over, next_sta}
 use Rattle.com_model.specs.Objects.{Making, makes, finals, making, objects, finaled}
 use Rattle.com_model.specs.Calls.{Issue, Admission, Leaving, issues, admits, leaves, returns, admission_or, leaving_or, object_of, lane_of, is_marshalled, issue, admitted, left, returned, calls, causes}
 use Rattle.com_model.specs.Clock.{ticked, filter_effect_on, filter_after, in_made_sta, clock, issued_at, last_filter}
@@ -113,7 +113,7 @@ abbrev pub class_in : State → ℕ → ℕ
 class_in st o = number_or_zero (option_map (λ (m : Making). m.class) (making_in st o))
 
 abbrev pub agile_in : Scenario → State → ℕ → Bool
-agile_in s st o = is_agile_model (class_model s (class_in st o))
+agile_in s st o = is_agile_class s (class_in st o)
 
 abbrev pub owns_in : Scenario → State → ℕ → ℕ → Bool
 owns_in s st o a = agile_in s st o || a == named_in st o
@@ -348,6 +348,41 @@ after_by s st su e = completed s st su (scene_next s st su e) e
 abbrev pub after : Scenario → State → (lane : ℕ) → Deed → State
 after s st l d = after_by s st (tables_after s st (record { lane = l; deed = d })) (record { lane = l; deed = d })
 
+-- The state before the first entry: a row for each lane and each buffer, and none of a call or an object but the unused one of
+-- number 0.
+abbrev pub first_tables : Scenario → State
+first_tables s = record {
+  openers = tabulated (lanes s + 1) (λ l. []);
+  served = tabulated (lanes s + 1) (λ l. 0);
+  homes = tabulated (lanes s + 1) (λ l. None);
+  counts = tabulated (lanes s + 1) (λ l. 0);
+  made = tabulated (lanes s + 1) (λ l. []);
+  over = tabulated (lanes s + 1) (λ l. false);
+  filters = tabulated (lanes s + 1) (λ l. None);
+  mail = tabulated (lanes s + 1) (λ l. no_mail);
+  quits = tabulated (lanes s + 1) (λ l. false);
+  stas = [];
+  ended = [];
+  makings = [];
+  finaled = [];
+  issues = [];
+  admissions = [];
+  leavings = [];
+  returned = [];
+  endings = [];
+  refusals = [];
+  sent = [];
+  phases = [];
+  times = [];
+  postings = [];
+  causes = 0;
+  clock = 0;
+  entries = 0;
+  scene = record { scripts = tabulated (threads s + 1) (λ l. entered []); bodies = []; cells = []; buffers = tabulated 64 (λ b. []); destinations = [] };
+  books = record { stub = []; proxy = []; packets = []; cookies = []; live = []; arguments = []; result = [] };
+  fallen = [];
+}
+
 -- ---- the state of a history
 
 pub record SameScene (w x : Scene) : Type 0 where
@@ -369,15 +404,15 @@ pub record SameBooks (b c : Books) : Type 0 where
 -- One clause for each part.
 pub record LanesStand (s : Scenario) (st : State) (h : List Entry) : Type 0 where
   pub rows : (length st.openers ≡ lanes s + 1) × (length st.served ≡ lanes s + 1) × (length st.homes ≡ lanes s + 1) × (length st.counts ≡ lanes s + 1) × (length st.made ≡ lanes s + 1) × (length st.over ≡ lanes s + 1) × (length st.filters ≡ lanes s + 1) × (length st.mail ≡ lanes s + 1) × (length st.quits ≡ lanes s + 1)
-  pub openers : (l : ℕ) → l ≤ lanes s → openers_in st l ≡ openers h l
-  pub served : (l : ℕ) → l ≤ lanes s → served_in st l ≡ served h l
-  pub homes : (l : ℕ) → l ≤ lanes s → slice_index_or st.homes l None ≡ thread_home h l
-  pub counts : (l : ℕ) → l ≤ lanes s → slice_index_or st.counts l 0 ≡ init_count h l
-  pub made : (l a : ℕ) → l ≤ lanes s → is_member a (slice_index_or st.made l []) ≡ made_in h l a
-  pub over : (l : ℕ) → l ≤ lanes s → slice_index_or st.over l false ≡ over h l
-  pub filters : (l : ℕ) → l ≤ lanes s → slice_index_or st.filters l None ≡ last_filter h l
-  pub mail : (l : ℕ) → l ≤ lanes s → slice_index_or st.mail l no_mail ≡ mail h l
-  pub quits : (l : ℕ) → l ≤ lanes s → slice_index_or st.quits l false ≡ quit_stands h l
+  pub openers : (l : ℕ) → openers_in st l ≡ openers h l
+  pub served : (l : ℕ) → served_in st l ≡ served h l
+  pub homes : (l : ℕ) → slice_index_or st.homes l None ≡ thread_home h l
+  pub counts : (l : ℕ) → slice_index_or st.counts l 0 ≡ init_count h l
+  pub made : (l a : ℕ) → is_member a (slice_index_or st.made l []) ≡ made_in h l a
+  pub over : (l : ℕ) → slice_index_or st.over l false ≡ over h l
+  pub filters : (l : ℕ) → slice_index_or st.filters l None ≡ last_filter h l
+  pub mail : (l : ℕ) → slice_index_or st.mail l no_mail ≡ mail h l
+  pub quits : (l : ℕ) → slice_index_or st.quits l false ≡ quit_stands h l
 
 pub record ApartmentsStand (st : State) (h : List Entry) : Type 0 where
   pub stas : st.stas ≡ stas h
@@ -388,19 +423,23 @@ pub record ObjectsStand (st : State) (h : List Entry) : Type 0 where
   pub makings : (o : ℕ) → making_in st o ≡ making h o
   pub finaled : (o : ℕ) → is_member o st.finaled ≡ finaled h o
 
-pub record CallsStand (s : Scenario) (st : State) (h : List Entry) : Type 0 where
+pub record CallsStand (st : State) (h : List Entry) : Type 0 where
   pub number : length st.issues ≡ calls h
+  pub rows : (length st.admissions ≡ calls h) × (length st.leavings ≡ calls h) × (length st.returned ≡ calls h) × (length st.phases ≡ calls h) × (length st.times ≡ calls h)
   pub issues : (c : ℕ) → issue_in st c ≡ issue h c
   pub admissions : (c : ℕ) → admitted_in st c ≡ admitted h c
   pub leavings : (c : ℕ) → left_in st c ≡ left h c
   pub returned : (c : ℕ) → returned_in st c ≡ returned h c
-  pub endings : (c : ℕ) → ending_in st c ≡ ending s h c
-  pub refusals : (c : ℕ) → from_one st.refusals c S_OK ≡ at_issue s h c
-  pub sent : (c : ℕ) → from_one st.sent c [] ≡ sent s h c
   pub phases : (c : ℕ) → phase_in st c ≡ phase h c
   pub times : (c : ℕ) → from_one st.times c 0 ≡ issued_at h c
   pub postings : st.postings ≡ postings h
   pub causes : st.causes ≡ causes h
+
+pub record AnswersStand (s : Scenario) (st : State) (h : List Entry) : Type 0 where
+  pub rows : (length st.endings ≡ calls h) × (length st.refusals ≡ calls h) × (length st.sent ≡ calls h)
+  pub endings : (c : ℕ) → ending_in st c ≡ ending s h c
+  pub refusals : (c : ℕ) → from_one st.refusals c S_OK ≡ at_issue s h c
+  pub sent : (c : ℕ) → from_one st.sent c [] ≡ sent s h c
 
 -- The state stands for a legal history.
 pub record StandsFor (s : Scenario) (st : State) (h : List Entry) : Type 0 where
@@ -408,9 +447,28 @@ pub record StandsFor (s : Scenario) (st : State) (h : List Entry) : Type 0 where
   pub lanes : LanesStand s st h
   pub apartments : ApartmentsStand st h
   pub objects : ObjectsStand st h
-  pub calls : CallsStand s st h
+  pub calls : CallsStand st h
+  pub answers : AnswersStand s st h
   pub scene : SameScene (scene_in st) (scene s h)
   pub books : SameBooks (books_in st) (books s h)
   pub fallen : st.fallen ≡ fallen s h
   pub clock : st.clock ≡ clock h
   pub entries : st.entries ≡ length h
+
+-- Nothing stands outside of the numbers that were given by then: scripts are threads', bodies and packets are those of calls that
+-- were issued, cells and public references those of objects that were made, by declared interfaces, and a proxy's those of an
+-- apartment; there are 64 buffers.
+pub record Bounded (s : Scenario) (h : List Entry) : Type 0 where
+  pub scripts : (l : ℕ) → threads s + 1 ≤ l → (scene s h).scripts l ≡ entered []
+  pub bodies : (c : ℕ) → calls h + 1 ≤ c → (scene s h).bodies c ≡ entered []
+  pub cells : (o : ℕ) → objects h + 1 ≤ o → (scene s h).cells o ≡ new_cells
+  pub buffers : (b : ℕ) → 64 ≤ b → (scene s h).buffers b ≡ []
+  pub destinations : (c : ℕ) → calls h + 1 ≤ c → (scene s h).destinations c ≡ destination.Nowhere
+  pub stub_objects : (o i : ℕ) → objects h + 1 ≤ o → (books s h).stub o i ≡ 0
+  pub stub_interfaces : (o i : ℕ) → length s.classes.interfaces ≤ i → (books s h).stub o i ≡ 0
+  pub proxy_apartments : (a o i : ℕ) → next_sta h ≤ a → (books s h).proxy a o i ≡ 0
+  pub proxy_objects : (a o i : ℕ) → objects h + 1 ≤ o → (books s h).proxy a o i ≡ 0
+  pub proxy_interfaces : (a o i : ℕ) → length s.classes.interfaces ≤ i → (books s h).proxy a o i ≡ 0
+  pub live : (o : ℕ) → objects h + 1 ≤ o → (books s h).live o ≡ false
+  pub arguments : (c : ℕ) → calls h + 1 ≤ c → (books s h).arguments c ≡ []
+  pub result : (c : ℕ) → calls h + 1 ≤ c → (books s h).result c ≡ None

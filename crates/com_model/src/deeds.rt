@@ -1,5 +1,9 @@
 //! Entries of a history.
 
+ghost use Rattle.std.specs.Prelude.{◌≡◌};
+ghost use Rattle.com_model.specs.Calls.{is_marshalled};
+ghost use Rattle.com_model.specs.Frames.{answer_in};
+
 use com_base::{ByteList, HResult, MarshalMode, Mode, RefValue, Rows, Value};
 use com_body::Asked;
 use com_filter::Verdict;
@@ -15,6 +19,18 @@ pub enum Route {
     Post,
     /// The call is refused at its issue, and takes no route.
     Refused,
+}
+
+impl Route {
+    /// Whether the arguments and the result of a call travel as bytes: on the routes by switch and by post.
+    pub fn is_marshalled(self) -> bool
+        ensures { result ≡ is_marshalled self }
+    {
+        match self {
+            Route::Switch | Route::Post => true,
+            Route::Direct | Route::Refused => false,
+        }
+    }
 }
 
 /// What one entry of a history says was done.
@@ -198,6 +214,30 @@ pub enum Deed {
     },
     /// A thread's lane ended.
     End,
+}
+
+impl Deed {
+    /// The HRESULT that whoever acts is given by the entry: the one in it, and S_OK where the action is never refused.
+    pub fn answer(&self) -> HResult
+        ensures { result ≡ answer_in self.now }
+    {
+        match self {
+            Deed::Init { hr, .. }
+            | Deed::Made { hr, .. }
+            | Deed::Query { hr, .. }
+            | Deed::Marshal { hr, .. }
+            | Deed::Unmarshal { hr, .. }
+            | Deed::DropPacket { hr, .. }
+            | Deed::Register { hr, .. }
+            | Deed::Get { hr, .. }
+            | Deed::Revoke { hr, .. }
+            | Deed::SetFilter { hr, .. }
+            | Deed::Post { hr, .. }
+            | Deed::Quit { hr, .. }
+            | Deed::Disconnect { hr, .. } => *hr,
+            _ => HResult::S_OK,
+        }
+    }
 }
 
 /// One entry of a history: the lane that made it, or 0 for the clock, and what was done.

@@ -1,5 +1,8 @@
 //! What a scenario's text says.
 
+ghost use Rattle.std.specs.Prelude.{◌≡◌};
+ghost use Rattle.com_model.specs.Ends.{limit};
+
 use com_base::Rows;
 use com_body::Body;
 use com_classes::Classes;
@@ -15,4 +18,17 @@ pub struct Scenario {
     pub filters: Rows<Filter>,
     pub threads: Rows<Body>,
     pub picks: Rows<u32>,
+}
+
+impl Scenario {
+    /// How many entries a history of the scenario may have: 200,000 in version 1 of the language, 1,000,000 in version 2.
+    pub fn limit(&self) -> u64
+        ensures { result ≡ limit self.now }
+    {
+        if self.version == 2 {
+            1_000_000
+        } else {
+            200_000
+        }
+    }
 }

@@ -13,8 +13,9 @@ use Rattle.com_classes.specs.declared.classes.MethodBody.{MethodBody}
 use Rattle.com_classes.specs.declared.classes.ThreadingModel.{ThreadingModel}
 use Rattle.com_classes.specs.declared.classes.ThreadingModel.TheVariants as models
 use Rattle.com_model.specs.declared.scenario.Scenario.{Scenario}
-use Rattle.com_model.specs.Tables.{same_numbers, same_guid, interface_at}
-use Rattle.com_model.specs.Formed.{Distinct, EachFrom, Context, FormedBody, is_agile, in_class, methods_of, IsBody, same_body, IsNative, IsClass, same_class}
+use Rattle.com_classes.specs.Activation.{is_agile}
+use Rattle.com_classes.specs.Lookups.{same_guid, interface_at}
+use Rattle.com_model.specs.Formed.{Distinct, EachFrom, Context, FormedBody, in_class, methods_of, IsBody, same_body, IsNative, IsClass, same_class}
 use Rattle.com_fields.specs.Naming.{is_name}
 use Rattle.com_statements.specs.declared.keywords.Program.{Program}
 use Rattle.com_statements.specs.declared.keywords.Program.TheVariants as programs
@@ -27,7 +28,7 @@ use Rattle.com_sections.specs.Opened.{program_of}
 use Rattle.com_operands.specs.Ranges.{IsGuid, AreNames, Fits}
 use Rattle.com_writing.specs.Standing.{AreDeclared, names_of}
 use Rattle.com_printing.specs.Ranges.{FitsProgram, FitsBodies, FitsAs, FitsClass}
-use Rattle.com_printing.proofs.Apart.{IsNew, new_of, new_map, new_append, same_bytes, same_guids, no_position, no_guid, either_left, either_right}
+use Rattle.com_printing.proofs.Apart.{IsNew, new_of, new_map, new_append, same_guids, no_position, no_guid, either_left, either_right}
 use Rattle.com_printing.proofs.Bodies.{CanFollow, CanGive}
 use Rattle.com_printing.proofs.Classes.{CanOpen, CanBe, CanAdd, CanAddAll, names_at, names_of_all, name_of_class}
 use Rattle.com_printing.proofs.Defined.{new_front, new_back}
@@ -102,7 +103,7 @@ body_in s full front more filters n c b whole long interfaces tables is fits =
       filters = λ h. absurd cc;
     } in
     let can = can_read_all s x 200 p names b.body corresponds is.0 fits in
-    let m = method_in s.classes.interfaces b.iface b.method (interface_at s b.iface) refl is.1 in
+    let m = method_in s.classes.interfaces b.iface b.method (interface_at s.classes b.iface) refl is.1 in
     let declared = m.declared in
     record {
       method = m.m;
@@ -118,10 +119,10 @@ body_in s full front more filters n c b whole long interfaces tables is fits =
 -- ---- classes
 
 new_class_name : (d c : Class) → same_class d c ≡ false → bytes_eq d.name c.name ≡ false
-new_class_name d c h = same_bytes d.name c.name ∙ either_left (same_numbers d.name c.name) (same_guid d.clsid c.clsid) h
+new_class_name d c h = either_left (bytes_eq d.name c.name) (same_guid d.clsid c.clsid) h
 
 new_clsid : (d c : Class) → same_class d c ≡ false → guid_eq d.clsid c.clsid ≡ false
-new_clsid d c h = same_guids d.clsid c.clsid ∙ either_right (same_numbers d.name c.name) (same_guid d.clsid c.clsid) h
+new_clsid d c h = same_guids d.clsid c.clsid ∙ either_right (bytes_eq d.name c.name) (same_guid d.clsid c.clsid) h
 
 abbrev pub HasClsids : List Class → List Guid → Type 0
 HasClsids before ids = (c : Class) → IsNew same_class before c → IsNew guid_eq ids c.clsid

@@ -8,7 +8,8 @@ use Rattle.com_classes.specs.declared.classes.Class.{Class}
 use Rattle.com_classes.specs.declared.classes.MethodBody.{MethodBody}
 use Rattle.com_classes.specs.declared.classes.ThreadingModel.{ThreadingModel}
 use Rattle.com_classes.specs.declared.classes.ThreadingModel.TheVariants as models
-use Rattle.com_model.specs.Formed.{Distinct, same_body, is_agile}
+use Rattle.com_model.specs.Formed.{Distinct, same_body}
+use Rattle.com_classes.specs.Activation.{is_agile}
 use Rattle.com_text.specs.Words.{WordAt}
 use Rattle.com_fields.specs.Naming.{is_name, position_of}
 use Rattle.com_statements.specs.declared.calls.MethodNumber.{MethodNumber}

@@ -7,14 +7,14 @@ use Rattle.com_base.specs.declared.value.Kind.{Kind}
 use Rattle.com_base.specs.declared.value.Kind.TheVariants as kinds
 use Rattle.com_classes.specs.declared.interfaces.Interface.{Interface}
 use Rattle.com_classes.specs.declared.interfaces.Method.{Method}
-use Rattle.com_model.specs.Tables.{same_numbers, same_guid}
+use Rattle.com_classes.specs.Lookups.{same_guid}
 use Rattle.com_model.specs.Formed.{Distinct, EachFrom, IsKindBy, IsResultBy, IsMethod, same_method, IsInterface, same_interface, is_reserved, is_type_word, IsAllowed, documented_iid}
 use Rattle.com_fields.specs.Naming.{is_name, position_of}
 use Rattle.com_sections.specs.Tables.{guid_eq, has_guid}
 use Rattle.com_sections.specs.Methods.{type_word_of}
 use Rattle.com_operands.specs.Ranges.{IsGuid, AreNames}
 use Rattle.com_printing.specs.Ranges.{FitsInterface}
-use Rattle.com_printing.proofs.Apart.{IsNew, new_of, new_map, new_append, same_bytes, same_guids, no_position, no_guid, either_left, either_right}
+use Rattle.com_printing.proofs.Apart.{IsNew, new_of, new_map, new_append, same_guids, no_position, no_guid, either_left, either_right}
 use Rattle.com_printing.proofs.Forms.{name_of, all_of, all_each, types_front}
 use Rattle.com_printing.proofs.Interfaces.{IsSigned, CanDefine, CanDefineAll, name_of_interface}
 use Rattle.com_printing.proofs.Methods.{AreTypes, IsKind, IsResult}
@@ -44,24 +44,24 @@ signed_in n names m e h = record {
 -- ---- GUIDs and names that are new
 
 new_name : (d i : Interface) → same_interface d i ≡ false → bytes_eq d.name i.name ≡ false
-new_name d i h = same_bytes d.name i.name ∙ either_left (same_numbers d.name i.name) (same_guid d.iid i.iid) h
+new_name d i h = either_left (bytes_eq d.name i.name) (same_guid d.iid i.iid) h
 
 pub new_iid : (d i : Interface) → same_interface d i ≡ false → guid_eq d.iid i.iid ≡ false
-new_iid d i h = same_guids d.iid i.iid ∙ either_right (same_numbers d.name i.name) (same_guid d.iid i.iid) h
+new_iid d i h = same_guids d.iid i.iid ∙ either_right (bytes_eq d.name i.name) (same_guid d.iid i.iid) h
 
 pub no_type_word : (n : List ℕ) → is_type_word n ≡ false → is_some (type_word_of n) ≡ false
 no_type_word n h =
-    let int = either_left (same_numbers n (codes "int")) _ h in
-    let h1 = either_right (same_numbers n (codes "int")) _ h in
-    let bool = either_left (same_numbers n (codes "bool")) _ h1 in
-    let h2 = either_right (same_numbers n (codes "bool")) _ h1 in
-    let text = either_left (same_numbers n (codes "text")) _ h2 in
-    let h3 = either_right (same_numbers n (codes "text")) _ h2 in
-    let bytes = either_left (same_numbers n (codes "bytes")) _ h3 in
-    let guid = either_right (same_numbers n (codes "bytes")) _ h3 in
+    let int = either_left (bytes_eq n (codes "int")) _ h in
+    let h1 = either_right (bytes_eq n (codes "int")) _ h in
+    let bool = either_left (bytes_eq n (codes "bool")) _ h1 in
+    let h2 = either_right (bytes_eq n (codes "bool")) _ h1 in
+    let text = either_left (bytes_eq n (codes "text")) _ h2 in
+    let h3 = either_right (bytes_eq n (codes "text")) _ h2 in
+    let bytes = either_left (bytes_eq n (codes "bytes")) _ h3 in
+    let guid = either_right (bytes_eq n (codes "bytes")) _ h3 in
     none_of_five (bytes_eq n (codes "int")) (bytes_eq n (codes "bool")) (bytes_eq n (codes "text")) (bytes_eq n (codes "bytes")) (bytes_eq n (codes "guid"))
-    (same_bytes n (codes "int") ∙ int) (same_bytes n (codes "bool") ∙ bool) (same_bytes n (codes "text") ∙ text)
-    (same_bytes n (codes "bytes") ∙ bytes) (same_bytes n (codes "guid") ∙ guid)
+    int bool text
+    bytes guid
   where
     none_of_five : (a b c d e : Bool) → a ≡ false → b ≡ false → c ≡ false → d ≡ false → e ≡ false
         → is_some (if a then Some kinds.Int else (if b then Some kinds.Bool else (if c then Some kinds.Text else (if d then Some kinds.Bytes else (if e then Some kinds.Guid else None))))) ≡ false

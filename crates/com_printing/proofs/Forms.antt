@@ -9,7 +9,6 @@ use Rattle.com_base.specs.declared.value.Kind.{Kind}
 use Rattle.com_base.specs.declared.value.Kind.TheVariants as kinds
 use Rattle.com_classes.specs.declared.interfaces.Interface.{Interface}
 use Rattle.com_classes.specs.declared.interfaces.Method.{Method}
-use Rattle.com_model.specs.Tables.{same_numbers, same_guid}
 use Rattle.com_model.specs.Formed.{is_letter, is_name_byte, IsName, Distinct, EachFrom, IsKindBy, IsResultBy, IsMethod, same_method, IsInterface, same_interface, is_reserved, is_type_word, IsAllowed, documented_iid}
 use Rattle.com_fields.specs.Naming.{is_tail, are_tail, is_name, position_of}
 use Rattle.com_sections.specs.Tables.{guid_eq, has_guid}
@@ -17,7 +16,7 @@ use Rattle.com_sections.specs.Methods.{type_word_of}
 use Rattle.com_operands.specs.Ranges.{IsGuid, AreNames, Distinct as Apart}
 use Rattle.com_writing.specs.Standing.{names_of}
 use Rattle.com_printing.specs.Ranges.{FitsInterface}
-use Rattle.com_printing.proofs.Apart.{IsNew, new_of, new_by, new_map, new_append, same_bytes, same_guids, no_position, no_guid, either_left, either_right}
+use Rattle.com_printing.proofs.Apart.{IsNew, new_of, new_by, new_map, new_append, same_guids, no_position, no_guid, either_left, either_right}
 use Rattle.com_printing.proofs.Interfaces.{IsSigned, CanDefine, CanDefineAll, name_of_interface}
 use Rattle.com_printing.proofs.Methods.{AreTypes, IsKind, IsResult}
 

@@ -3,7 +3,8 @@ use Rattle.std.proofs.Common.{◌≡◌, ℕ, ◌+◌, ◌≤◌, List, [], ◌�
 use Rattle.std.proofs.lemmas.List.{append-nil, length-append, take-append-drop}
 use Rattle.com_body.specs.declared.statements.Stmt.{Stmt}
 use Rattle.com_model.specs.declared.scenario.Scenario.{Scenario}
-use Rattle.com_model.specs.Formed.{Formed, built_in}
+use Rattle.com_model.specs.Formed.{Formed}
+use Rattle.com_classes.specs.BuiltIns.{built_in_interfaces}
 use Rattle.com_spelling.specs.Spelled.{Spelled, line_text, text_of}
 use Rattle.com_printing.specs.Printed.{header_words, pool_words, names_in, interface_lines, classes_lines, filters_lines, threads_lines, picks_lines, sections_lines, scenario_lines, printed}
 use Rattle.com_printing.specs.Ranges.{FitsInterface, FitsClass, FitsProgram, FitsTypes}
@@ -19,7 +20,7 @@ grown text longer whole lines others a b =
 pub built_in_there : (s : Scenario) → Formed s → 4 ≤ length s.classes.interfaces
 built_in_there s f =
     let e = ap length (built_first s f) in
-    omega (arith, e, length-append built_in (drop 4 s.classes.interfaces))
+    omega (arith, e, length-append built_in_interfaces (drop 4 s.classes.interfaces))
 
 pub whole_text : (s : Scenario) (a b c d e f g : List ℕ) → a ≡ [] ++ line_text (header_words s.version) → b ≡ a ++ line_text (pool_words s.pool)
     → c ≡ b ++ text_of (interface_lines (names_in s).interfaces (drop 4 s.classes.interfaces)) → d ≡ c ++ text_of (classes_lines (names_in s) s.classes.classes)

@@ -14,8 +14,8 @@ use Rattle.com_classes.specs.declared.interfaces.Method.{Method}
 use Rattle.com_classes.specs.declared.classes.Class.{Class}
 use Rattle.com_filter.specs.declared.Rule.{Rule}
 use Rattle.com_model.specs.declared.scenario.Scenario.{Scenario}
-use Rattle.com_model.specs.Tables.{same_numbers, same_guid}
-use Rattle.com_model.specs.Formed.{Formed, built_in, Distinct, EachFrom, IsMethod, same_method, IsInterface, same_interface, is_reserved, is_type_word, IsAllowed, documented_iid, FormedBody, in_script, IsClass, same_class, IsFilter}
+use Rattle.com_classes.specs.Lookups.{same_guid}
+use Rattle.com_model.specs.Formed.{Formed, Distinct, EachFrom, IsMethod, same_method, IsInterface, same_interface, is_reserved, is_type_word, IsAllowed, documented_iid, FormedBody, in_script, IsClass, same_class, IsFilter}
 use Rattle.com_text.specs.declared.word.Sort.TheVariants as sorts
 use Rattle.com_text.specs.Words.{WordAt}
 use Rattle.com_fields.specs.declared.faults.Fault.{Fault}
@@ -39,7 +39,7 @@ use Rattle.com_writing.specs.Standing.{AreDeclared, names_of}
 use Rattle.com_printing.specs.Printed.{header_words, pool_words, number_word, filter_name, filter_names, names_in, interface_lines, class_lines, classes_lines, filters_lines, threads_lines, picks_lines, sections_lines, scenario_lines, outline_of}
 use Rattle.com_printing.specs.Ranges.{FitsInterface, FitsClass, FitsProgram, FitsTypes}
 use Rattle.com_printing.proofs.Added.{add_all, can_read_all}
-use Rattle.com_printing.proofs.Apart.{IsNew, new_append, same_bytes, same_guids, either_left, either_right}
+use Rattle.com_printing.proofs.Apart.{IsNew, new_append, either_left, either_right}
 use Rattle.com_printing.proofs.Classes.{at_classes, names_of_all, name_of_class, CanAddAll, classes_on}
 use Rattle.com_printing.proofs.Defined.{new_front, new_back, define_all, new_iid, no_type_word}
 use Rattle.com_printing.proofs.Filters.{at_filters, filters_on, good_name, no_none, AreOlder, at_threads, CanRun, threads_on, at_picks, picks_on, filters_named}
@@ -103,7 +103,7 @@ interface_names s f =
     record {
       good = record {
         each = all_map name_of_interface (λ i. is_name i.name ≡ true) (λ n. is_name n ≡ true) (λ i h. h) xs (all_of IsInterface (λ i. is_name i.name ≡ true) interface_name_of 0 xs f.interfaces.each);
-        distinct = apart_map name_of_interface same_interface (λ a b h. same_bytes a.name b.name ∙ either_left (same_numbers a.name b.name) (same_guid a.iid b.iid) h) xs f.interfaces.distinct;
+        distinct = apart_map name_of_interface same_interface (λ a b h. either_left (bytes_eq a.name b.name) (same_guid a.iid b.iid) h) xs f.interfaces.distinct;
         few = (let e = length-map xs name_of_interface in omega arith);
       };
       no_type = all_map name_of_interface IsAllowed (λ n. is_some (type_word_of n) ≡ false) (λ i h. no_type_word i.name h.1) xs f.interfaces.allowed;
@@ -115,7 +115,7 @@ class_names s f =
     let few = f.classes.few in
     record {
       each = all_map name_of_class (λ c. is_name c.name ≡ true) (λ n. is_name n ≡ true) (λ c h. h) cs (all_of (IsClass s) (λ c. is_name c.name ≡ true) (class_name_of s) 1 cs f.classes.each);
-      distinct = apart_map name_of_class same_class (λ a b h. same_bytes a.name b.name ∙ either_left (same_numbers a.name b.name) (same_guid a.clsid b.clsid) h) cs f.classes.distinct;
+      distinct = apart_map name_of_class same_class (λ a b h. either_left (bytes_eq a.name b.name) (same_guid a.clsid b.clsid) h) cs f.classes.distinct;
       few = (let e = length-map cs name_of_class in omega arith);
     }
 
@@ -128,7 +128,7 @@ method_names n i h =
     let few = h.2 in
     subst AreNames (sym (names_as_map i.methods)) (record {
       each = all_map (λ (m : Method). m.name) (IsMethod n) (λ x. is_name x ≡ true) (λ m g. name_of m.name g.0) i.methods h.1;
-      distinct = apart_map (λ (m : Method). m.name) same_method (λ a b g. same_bytes a.name b.name ∙ g) i.methods h.3;
+      distinct = apart_map (λ (m : Method). m.name) same_method (λ a b g. g) i.methods h.3;
       few = (let e = length-map i.methods (λ (m : Method). m.name) in omega arith);
     })
 
@@ -163,19 +163,18 @@ all_declared s f =
 equal_sym : (a b : ℕ) → (a == b) ≡ (b == a)
 equal_sym a b = grind (arith, nat_tests)
 
-numbers_sym : (xs ys : List ℕ) → same_numbers xs ys ≡ same_numbers ys xs
-numbers_sym [] [] = refl
-numbers_sym [] (y ∷ ys) = refl
-numbers_sym (x ∷ xs) [] = refl
-numbers_sym (x ∷ xs) (y ∷ ys) = ap (λ b. b && same_numbers xs ys) (equal_sym x y) ∙ ap (λ b. y == x && b) (numbers_sym xs ys)
+bytes_sym : (xs ys : List ℕ) → bytes_eq xs ys ≡ bytes_eq ys xs
+bytes_sym [] [] = refl
+bytes_sym [] (y ∷ ys) = refl
+bytes_sym (x ∷ xs) [] = refl
+bytes_sym (x ∷ xs) (y ∷ ys) = ap (λ b. b && bytes_eq xs ys) (equal_sym x y) ∙ ap (λ b. y == x && b) (bytes_sym xs ys)
 
 other_way : (g k : Guid) → same_guid k g ≡ false → guid_eq g k ≡ false
 other_way g k h =
-    same_guids g k
-    ∙ ap (λ b. b && (g.data2 == k.data2 && (g.data3 == k.data3 && same_numbers g.data4 k.data4))) (equal_sym g.data1 k.data1)
-    ∙ ap (λ b. k.data1 == g.data1 && (b && (g.data3 == k.data3 && same_numbers g.data4 k.data4))) (equal_sym g.data2 k.data2)
-    ∙ ap (λ b. k.data1 == g.data1 && (k.data2 == g.data2 && (b && same_numbers g.data4 k.data4))) (equal_sym g.data3 k.data3)
-    ∙ ap (λ b. k.data1 == g.data1 && (k.data2 == g.data2 && (k.data3 == g.data3 && b))) (numbers_sym g.data4 k.data4)
+    ap (λ b. b && g.data2 == k.data2 && g.data3 == k.data3 && bytes_eq g.data4 k.data4) (equal_sym g.data1 k.data1)
+    ∙ ap (λ b. k.data1 == g.data1 && b && g.data3 == k.data3 && bytes_eq g.data4 k.data4) (equal_sym g.data2 k.data2)
+    ∙ ap (λ b. k.data1 == g.data1 && k.data2 == g.data2 && b && bytes_eq g.data4 k.data4) (equal_sym g.data3 k.data3)
+    ∙ ap (λ b. k.data1 == g.data1 && k.data2 == g.data2 && k.data3 == g.data3 && b) (bytes_sym g.data4 k.data4)
     ∙ h
 
 built_taken : (i : Interface) → IsNew same_interface built_in_interfaces i → IsAllowed i → IsNew guid_eq (taken_iids built_in_interfaces) i.iid

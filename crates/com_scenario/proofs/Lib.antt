@@ -1,1 +1,7 @@
+pub mod Alike
+pub mod Growing
+pub mod Declaring
+pub mod Standing
+pub mod Steps
+pub mod Forms
 pub mod Again

@@ -1,5 +1,5 @@
 -- Scenario text: the scenario that a text spells, or its first fault.
-use Rattle.std.specs.Prelude.{ℕ, List, ◌++◌, drop, Result, Ok, Err}
+use Rattle.std.specs.Prelude.{ℕ, List, ◌++◌, drop, Result, Ok}
 use Rattle.com_classes.specs.Tables.{Tables}
 use Rattle.com_classes.specs.BuiltIns.{built_in_interfaces}
 use Rattle.com_classes.specs.declared.interfaces.Interface.{Interface}

@@ -2,11 +2,13 @@
 #![tactic(auto)]
 
 mod built_in;
+mod laws;
 mod printing;
 mod reading;
 
 pub use com_base::Memory;
 pub use com_fields::ScenarioError;
+pub use laws::scenarios_are_formed;
 pub use printing::{print, printed_is_read};
 pub use reading::parse;
 

@@ -2,6 +2,7 @@
 
 ghost use Rattle.std.specs.Prelude.{◌≡◌, ◌++◌, ◌∷◌, [], drop, Ok, OnOk, IfOk};
 ghost use Rattle.com_fields.specs.Reading.{Gives};
+ghost use Rattle.com_model.specs.Formed.{Formed};
 ghost use Rattle.com_scenario.specs.Scenarios.{tables_of, scenario_of, reading};
 
 use crate::built_in::built_in;
@@ -73,10 +74,12 @@ fn scenario(alloc: Global, outline: Outline) -> Result<Scenario, Memory>
 
 /// The scenario that a text spells, or the first fault by place, and of two at one place the one
 /// with the lower number. `Memory` comes where memory is short, and for a text of nearly 2^32 bytes
-/// or more.
+/// or more. The scenario keeps the limits, the forms and the ranges of the language, repeats no name
+/// or GUID, and names only what is declared.
 #[tactic(auto, unfolding(crate::specs::Scenarios::reading))]
 pub fn parse(alloc: Global, text: &[u8]) -> Result<Scenario, ScenarioError>
-    ensures { Gives (λ s. s) result (reading text.now) }
+    ensures value { Gives (λ s. s) result (reading text.now) }
+    ensures formed { IfOk result (λ s. Formed s) }
 {
     let outline = outline_of(alloc, built_in(alloc)?, text)?;
     Ok(scenario(alloc, outline)?)

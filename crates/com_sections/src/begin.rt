@@ -19,7 +19,7 @@ use std::mem;
 
 /// The word that begins a line outside of sections.
 #[derive(Clone, Copy, Debug, PartialEq, Eq)]
-enum SectionWord {
+pub enum SectionWord {
     Pool,
     Interface,
     Class,

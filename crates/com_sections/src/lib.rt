@@ -13,8 +13,11 @@ mod rules;
 mod state;
 mod tables;
 
+pub use begin::SectionWord;
 pub use com_base::Memory;
+pub use methods::{Signature, TypeWord};
 pub use outline::{Outline, outline_of};
+pub use rules::RuleWord;
 pub use state::{Code, Section, State};
 
 #[cfg(test)]

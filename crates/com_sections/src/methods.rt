@@ -16,16 +16,16 @@ const PARAMETER_LIMIT: usize = 4;
 
 /// The kinds of a method's parameters and of its result.
 #[derive(Drop)]
-pub(crate) struct Signature {
+pub struct Signature {
     pub params: Rows<Kind>,
     pub result: Option<Kind>,
 }
 
 /// A type in a method's line, and whether it is the result's.
 #[derive(Clone, Copy)]
-struct TypeWord {
-    kind: Kind,
-    last: bool,
+pub struct TypeWord {
+    pub kind: Kind,
+    pub last: bool,
 }
 
 /// The kind that a word of the language names.

@@ -10,7 +10,7 @@ use com_text::Word;
 
 /// The word that begins a rule.
 #[derive(Clone, Copy, Debug, PartialEq, Eq)]
-pub(crate) enum RuleWord {
+pub enum RuleWord {
     Incoming,
     Retry,
     Pending,

@@ -1,4 +1,4 @@
-use Rattle.com_model.proofs.Cases.{no-tick, whole-direct_call, whole-pumped_words, whole-into_the_host, whole-callback, whole-answer_first, whole-younger_first, whole-relayed, whole-outer_causality, whole-delayed, scheduled-direct_call, scheduled-pumped_words, scheduled-into_the_host, scheduled-callback, scheduled-answer_first, scheduled-younger_first, scheduled-relayed, scheduled-outer_causality, scheduled-delayed}
+use Rattle.com_model.proofs.Cases.{text-direct_call, report-direct_call, report-halved, foreign-back, foreign-leave, whole-forged, scheduled-forged, whole-halved, scheduled-halved, no-tick, whole-direct_call, whole-pumped_words, whole-into_the_host, whole-callback, whole-answer_first, whole-younger_first, whole-relayed, whole-outer_causality, whole-delayed, scheduled-direct_call, scheduled-pumped_words, scheduled-into_the_host, scheduled-callback, scheduled-answer_first, scheduled-younger_first, scheduled-relayed, scheduled-outer_causality, scheduled-delayed}
 use Rattle.com_model.proofs.laws.worked_cases.Goals as goal
 
 pub returns-clause-direct_call : goal.returns-clause-direct_call
@@ -28,5 +28,23 @@ returns-clause-outer_causality c = (scheduled-outer_causality, whole-outer_causa
 pub returns-clause-delayed : goal.returns-clause-delayed
 returns-clause-delayed c = (scheduled-delayed, whole-delayed.0, whole-delayed.1)
 
+pub returns-clause-forged : goal.returns-clause-forged
+returns-clause-forged c = (scheduled-forged, whole-forged.0, whole-forged.1)
+
+pub returns-clause-halved : goal.returns-clause-halved
+returns-clause-halved c = (scheduled-halved, whole-halved.0, whole-halved.1)
+
 pub returns-clause-no_tick : goal.returns-clause-no_tick
 returns-clause-no_tick c = no-tick
+
+pub returns-clause-foreign_closers : goal.returns-clause-foreign_closers
+returns-clause-foreign_closers c = (foreign-back, foreign-leave)
+
+pub returns-clause-direct_call_text : goal.returns-clause-direct_call_text
+returns-clause-direct_call_text c = text-direct_call
+
+pub returns-clause-direct_call_report : goal.returns-clause-direct_call_report
+returns-clause-direct_call_report c = report-direct_call
+
+pub returns-clause-halved_report : goal.returns-clause-halved_report
+returns-clause-halved_report c = report-halved

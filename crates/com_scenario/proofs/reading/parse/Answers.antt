@@ -1,0 +1,5 @@
+use Rattle.com_scenario.proofs.Forms.{outline_formed}
+use Rattle.com_scenario.proofs.reading.parse.Goals as goal
+
+pub returns-clause-formed : goal.returns-clause-formed
+returns-clause-formed c = outline_formed c.args.text.now _ _ _ c.in_ok-built_in.ensures c.in_ok-outline.ensures c.in_ok-scenario.ensures
