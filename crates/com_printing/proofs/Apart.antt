@@ -6,7 +6,7 @@ use Rattle.std.proofs.lemmas.Slice.Eq.{bytes_eq-Decides}
 use Rattle.com_base.specs.declared.guid.Guid.{Guid}
 use Rattle.com_classes.specs.declared.interfaces.Method.{Method}
 use Rattle.com_classes.specs.declared.classes.MethodBody.{MethodBody}
-use Rattle.com_model.specs.Tables.{same_numbers, same_guid}
+use Rattle.com_classes.specs.Lookups.{same_guid}
 use Rattle.com_model.specs.Formed.{Distinct, same_body, same_method}
 use Rattle.com_fields.specs.Naming.{position_of}
 use Rattle.com_statements.specs.declared.calls.MethodNumber.{MethodNumber}
@@ -34,32 +34,18 @@ pub new_by : {X : Type 0} (same other : X → X → Bool) (ds : List X) (x : X) 
 new_by same other [] x f h = tt
 new_by same other (d ∷ ds) x f h = (f d h.0, new_by same other ds x f h.1)
 
-either_left : (a b : Bool) → (a || b) ≡ false → a ≡ false
+pub either_left : (a b : Bool) → (a || b) ≡ false → a ≡ false
 either_left true b h = absurd cc
 either_left false b h = refl
 
-either_right : (a b : Bool) → (a || b) ≡ false → b ≡ false
+pub either_right : (a b : Bool) → (a || b) ≡ false → b ≡ false
 either_right true b h = absurd cc
 either_right false b h = h
 
--- ---- the tests of the language and of the model
-
-pub same_bytes : (xs ys : List ℕ) → bytes_eq xs ys ≡ same_numbers xs ys
-same_bytes [] [] = refl
-same_bytes [] (y ∷ ys) = refl
-same_bytes (x ∷ xs) [] = refl
-same_bytes (x ∷ xs) (y ∷ ys) = ap (λ b. x == y && b) (same_bytes xs ys)
-
-four : (a b c d : Bool) → (a && b && c && d) ≡ (a && (b && (c && d)))
-four true true true d = refl
-four true true false d = refl
-four true false c d = refl
-four false b c d = refl
+-- ---- the tests of the language and of the tables
 
 pub same_guids : (g k : Guid) → guid_eq g k ≡ same_guid g k
-same_guids g k =
-    ap (λ b. (g.data1 == k.data1) && (g.data2 == k.data2) && (g.data3 == k.data3) && b) (same_bytes g.data4 k.data4)
-    ∙ four (g.data1 == k.data1) (g.data2 == k.data2) (g.data3 == k.data3) (same_numbers g.data4 k.data4)
+same_guids g k = refl
 
 -- ---- lists of names, GUIDs, methods and bodies
 
@@ -80,7 +66,7 @@ no_guid (d ∷ ds) g h = ap (λ (b : Bool). if b then true else has_guid ds g) h
 pub no_method : (methods : List Method) (m : Method) → IsNew same_method methods m → is_some (method_position methods m.name) ≡ false
 no_method [] m h = refl
 no_method (d ∷ ds) m h =
-    ap (λ (b : Bool). is_some (if b then Some 0 else option_map (λ k. k + 1) (method_position ds m.name))) (same_bytes d.name m.name ∙ h.0)
+    ap (λ (b : Bool). is_some (if b then Some 0 else option_map (λ k. k + 1) (method_position ds m.name))) h.0
     ∙ no_more (method_position ds m.name) ∙ no_method ds m h.1
 
 pub no_body : (bodies : List MethodBody) (b : MethodBody) → IsNew same_body bodies b → has_body bodies (record { iface = b.iface; method = b.method }) ≡ false

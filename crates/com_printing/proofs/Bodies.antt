@@ -115,7 +115,7 @@ unfolding body_head
 head_again st c head line b m e are lt has new =
     let t = in_class st c head in
     let there : at line 1 ≡ Some (plain (name_at st.names.interfaces b.iface ++ 46 ∷ m.name)) =
-        at_of line _ 1 e ∙ ap (λ (o : Option Method). Some (plain (name_at st.names.interfaces b.iface ++ 46 ∷ name_of o))) has in
+    at_of line _ 1 e ∙ ap (λ (o : Option Method). Some (plain (name_at st.names.interfaces b.iface ++ 46 ∷ name_of o))) has in
     let read = head_as st.names line 1 (number_of_body b) (named_again st.names line 1 b.iface b.method m there are lt has) in
     class_word st c head line (codes "body") _ e
     ∙ ap (λ (r : Result MethodNumber Fault). r >>= λ h. if has_body c.bodies h then (word_at line 1 >>= λ w. Err (fault_at 9 w)) else (end_at line 2 >>= λ done. Ok (in_body (in_class st c h) blank_code))) read
@@ -153,8 +153,8 @@ pub bodies_on : (st : State) (full : Names) (c : Class) (rest done : List Method
 bodies_on st full c [] done head ls o words are all apart more =
     let e : done ++ [] ≡ done = append-nil done in
     line_then (in_class st (record c { bodies = done }) head) (class_read st (record c { bodies = done }) head) end_words ls o
-        (class_end st (record c { bodies = done }) head)
-        (subst (λ (x : List MethodBody). Gets (class_read st (record c { bodies = x }) head) ls o) e (more head))
+    (class_end st (record c { bodies = done }) head)
+    (subst (λ (x : List MethodBody). Gets (class_read st (record c { bodies = x }) head) ls o) e (more head))
 bodies_on st full c (b ∷ bs) done head ls o words are all apart more =
     let can = All-head (CanGive (program_of c.model) st.names full) b bs all in
     let open' = record c { bodies = done } in
@@ -162,13 +162,13 @@ bodies_on st full c (b ∷ bs) done head ls o words are all apart more =
     let new = no_body done b (new_of same_body done b bs apart) in
     let e : done ++ b ∷ bs ≡ (done ++ b ∷ []) ++ bs = sym (append_assoc done (b ∷ []) bs) in
     let rest_read = bodies_on st full c bs (done ++ b ∷ []) (number_of_body b) ls o words are (All-tail (CanGive (program_of c.model) st.names full) b bs all)
-        (subst (Distinct same_body) e apart)
-        (λ h. subst (λ (x : List MethodBody). Gets (class_read st (record c { bodies = x }) h) ls o) e (more h)) in
+    (subst (Distinct same_body) e apart)
+    (λ h. subst (λ (x : List MethodBody). Gets (class_read st (record c { bodies = x }) h) ls o) e (more h)) in
     let body = program_on (in_body t) (body_read t) 200 full (CanFollow (program_of c.model) st.names full)
-        (λ code s line one room h. body_statement t full code s line are one.can room one.same h)
-        (body_end t) b.body blank_code (bodies_lines full bs ++ ls) o can.statements can.whole rest_read in
+    (λ code s line one room h. body_statement t full code s line are one.can room one.same h)
+    (body_end t) b.body blank_code (bodies_lines full bs ++ ls) o can.statements can.whole rest_read in
     let split : (program_lines full b.body ++ bodies_lines full bs) ++ ls ≡ program_lines full b.body ++ (bodies_lines full bs ++ ls)
-        = append_assoc (program_lines full b.body) (bodies_lines full bs) ls in
+    = append_assoc (program_lines full b.body) (bodies_lines full bs) ls in
     line_then (in_class st open' head) (in_body t blank_code) (body_words full b) ((program_lines full b.body ++ bodies_lines full bs) ++ ls) o
-        (λ line h. head_again st open' head line b can.method (h ∙ words b) are can.declared can.has new)
-        (subst (λ (x : List (List Spelled)). Gets (in_body t blank_code) x o) (sym split) body)
+    (λ line h. head_again st open' head line b can.method (h ∙ words b) are can.declared can.has new)
+    (subst (λ (x : List (List Spelled)). Gets (in_body t blank_code) x o) (sym split) body)

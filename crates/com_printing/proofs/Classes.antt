@@ -8,7 +8,8 @@ use Rattle.com_classes.specs.declared.classes.Class.{Class}
 use Rattle.com_classes.specs.declared.classes.MethodBody.{MethodBody}
 use Rattle.com_classes.specs.declared.classes.ThreadingModel.{ThreadingModel}
 use Rattle.com_classes.specs.declared.classes.ThreadingModel.TheVariants as models
-use Rattle.com_model.specs.Formed.{Distinct, same_body, is_agile}
+use Rattle.com_model.specs.Formed.{Distinct, same_body}
+use Rattle.com_classes.specs.Activation.{is_agile}
 use Rattle.com_text.specs.Words.{WordAt}
 use Rattle.com_fields.specs.Naming.{is_name, position_of}
 use Rattle.com_statements.specs.declared.calls.MethodNumber.{MethodNumber}
@@ -100,8 +101,8 @@ native_on st before clsids classes head full c native bs ls o can is kind more =
     let t = at_classes st before clsids classes head in
     let declare : CanDeclare t c = record { room = can.room; name = can.name; free = can.free; fits = can.fits; new = can.new } in
     line_then t (native_by t c c.name c.model native) (class_head (codes "native") c (plain bs ∷ [])) ls o
-        (λ line e. step_in t line _ _ e ∙ native_again t line c native bs e declare (kind line (at_of line _ 4 e)))
-        (subst (λ (x : Class). Gets (at_classes st (before ++ c.name ∷ []) (clsids ++ c.clsid ∷ []) (classes ++ x ∷ []) head) ls o) (sym is) more)
+    (λ line e. step_in t line _ _ e ∙ native_again t line c native bs e declare (kind line (at_of line _ 4 e)))
+    (subst (λ (x : Class). Gets (at_classes st (before ++ c.name ∷ []) (clsids ++ c.clsid ∷ []) (classes ++ x ∷ []) head) ls o) (sym is) more)
 
 class_on : (st : State) (before : List (List ℕ)) (clsids : List Guid) (classes : List Class) (head : MethodNumber) (all filters : List (List ℕ)) (c : Class) (native : Native)
     (ls : List (List Spelled)) (o : Outline) → CanAdd st before clsids (names_of_all st all filters) c → c.native ≡ native
@@ -115,19 +116,19 @@ class_on st before clsids classes head all filters c natives.Bodies ls o can e k
     let declare : CanDeclare t c = record { room = can.room; name = can.name; free = can.free; fits = can.fits; new = can.new } in
     let same : record c { native = natives.Bodies } ≡ c = ap (λ (n : Native). record c { native = n }) (sym e) in
     let body = bodies_on next full (record c { native = natives.Bodies }) c.bodies [] head ls o (λ b. refl) can.are kind.bodies kind.apart
-        (λ h. subst (λ (x : Class). Gets (class_read next x h) ls o) (sym same) (more h)) in
+    (λ h. subst (λ (x : Class). Gets (class_read next x h) ls o) (sym same) (more h)) in
     line_then t (class_by t c c.name c.model c.interfaces) (class_head (codes "class") c (map (interface_name full) c.interfaces)) (bodies_lines full c.bodies ++ ls) o
-        (λ line h. step_in t line _ _ h ∙ class_again t line c h declare can.are.interfaces kind.listed kind.some kind.few)
-        body
+    (λ line h. step_in t line _ _ h ∙ class_again t line c h declare can.are.interfaces kind.listed kind.some kind.few)
+    body
 class_on st before clsids classes head all filters c natives.Counter ls o can e kind more =
     native_on st before clsids classes head (names_of_all st all filters) c natives.Counter (codes "counter") ls o can
-        (is_native c natives.Counter (1 ∷ []) e kind.0 kind.1) (λ line h. counter_again c.model line 4 h) (more head)
+    (is_native c natives.Counter (1 ∷ []) e kind.0 kind.1) (λ line h. counter_again c.model line 4 h) (more head)
 class_on st before clsids classes head all filters c natives.Relay ls o can e kind more =
     native_on st before clsids classes head (names_of_all st all filters) c natives.Relay (codes "relay") ls o can
-        (is_native c natives.Relay (2 ∷ []) e kind.0 kind.1) (λ line h. relay_again c.model line 4 h (relay_good c.model kind.2)) (more head)
+    (is_native c natives.Relay (2 ∷ []) e kind.0 kind.1) (λ line h. relay_again c.model line 4 h (relay_good c.model kind.2)) (more head)
 class_on st before clsids classes head all filters c natives.Latch ls o can e kind more =
     native_on st before clsids classes head (names_of_all st all filters) c natives.Latch (codes "latch") ls o can
-        (is_native c natives.Latch (3 ∷ []) e kind.0 kind.1) (λ line h. latch_again c.model line 4 h) (more head)
+    (is_native c natives.Latch (3 ∷ []) e kind.0 kind.1) (λ line h. latch_again c.model line 4 h) (more head)
 
 -- each class of a list can be added behind those before it
 abbrev pub CanAddAll : State → Names → List (List ℕ) → List Guid → List Class → Type 0
@@ -143,15 +144,15 @@ pub classes_on : (st : State) (all filters before : List (List ℕ)) (clsids : L
     → Gets (at_classes st before clsids done head) (classes_lines (names_of_all st all filters) rest ++ ls) o
 classes_on st all filters before clsids done [] head ls o can more =
     subst (λ (x : List (List ℕ)). Gets (at_classes st x clsids done head) ls o) (append-nil before)
-        (subst (λ (x : List Class). Gets (at_classes st (before ++ []) clsids x head) ls o) (append-nil done) (more clsids head))
+    (subst (λ (x : List Class). Gets (at_classes st (before ++ []) clsids x head) ls o) (append-nil done) (more clsids head))
 classes_on st all filters before clsids done (c ∷ cs) head ls o can more =
     let full = names_of_all st all filters in
     let split : (class_lines full c c.native ++ classes_lines full cs) ++ ls ≡ class_lines full c c.native ++ (classes_lines full cs ++ ls)
-        = append_assoc (class_lines full c c.native) (classes_lines full cs) ls in
+    = append_assoc (class_lines full c c.native) (classes_lines full cs) ls in
     let e : before ++ c.name ∷ map name_of_class cs ≡ (before ++ c.name ∷ []) ++ map name_of_class cs = sym (append_assoc before (c.name ∷ []) (map name_of_class cs)) in
     let f : done ++ c ∷ cs ≡ (done ++ c ∷ []) ++ cs = sym (append_assoc done (c ∷ []) cs) in
     let behind = λ (h : MethodNumber). classes_on st all filters (before ++ c.name ∷ []) (clsids ++ c.clsid ∷ []) (done ++ c ∷ []) cs h ls o can.1
-        (λ ids k. subst (λ (x : List (List ℕ)). Gets (at_classes st x ids ((done ++ c ∷ []) ++ cs) k) ls o) e
-            (subst (λ (x : List Class). Gets (at_classes st (before ++ c.name ∷ map name_of_class cs) ids x k) ls o) f (more ids k))) in
+    (λ ids k. subst (λ (x : List (List ℕ)). Gets (at_classes st x ids ((done ++ c ∷ []) ++ cs) k) ls o) e
+    (subst (λ (x : List Class). Gets (at_classes st (before ++ c.name ∷ map name_of_class cs) ids x k) ls o) f (more ids k))) in
     subst (λ (x : List (List Spelled)). Gets (at_classes st before clsids done head) x o) (sym split)
-        (class_on st before clsids done head all filters c c.native (classes_lines full cs ++ ls) o can.0 refl can.0.kind behind)
+    (class_on st before clsids done head all filters c c.native (classes_lines full cs ++ ls) o can.0 refl can.0.kind behind)

@@ -1,9 +1,9 @@
 -- Filters, threads and picks are read again.
-use Rattle.std.proofs.Common.{◌≡◌, ℕ, ◌+◌, ◌≤◌, ◌<◌, ◌^◌, ◌&&◌, List, [], ◌∷◌, ◌++◌, map, Some, None, is_some, Bool, true, false, nat_le, if◌then◌else◌, refl, sym, ap, ◌∙◌, subst, arith, length, length-append, codes, decimal, Result, Ok, Err, All, append_assoc, bytes_eq}
+use Rattle.std.proofs.Common.{◌≡◌, ℕ, ◌+◌, ◌≤◌, ◌<◌, ◌^◌, ◌&&◌, List, [], ◌∷◌, ◌++◌, map, Some, None, is_some, Bool, true, false, nat_le, if◌then◌else◌, refl, sym, ap, ◌∙◌, subst, arith, length, length-append, codes, decimal, Result, Ok, Err, All, append_assoc, bytes_eq, slice_index_or, zero, suc}
 use Rattle.std.specs.List.{list_all}
 use Rattle.std.specs.Char.{is_ascii_alphabetic}
 use Rattle.std.proofs.lemmas.List.{append-nil}
-use Rattle.std.proofs.lemmas.List.Elements.{All-head, All-tail}
+use Rattle.std.proofs.lemmas.List.Elements.{All-head, All-tail, All-append}
 use Rattle.std.proofs.lemmas.Bool.Decides.{nat_tests}
 use Rattle.std.proofs.lemmas.Slice.Eq.{bytes_eq-Decides}
 use Rattle.std.proofs.lemmas.Fmt.{decimal_injective, length-decimal-le}
@@ -25,6 +25,7 @@ use Rattle.com_sections.specs.Codes.{blank_code}
 use Rattle.com_sections.specs.Rules.{rule_word_of}
 use Rattle.com_sections.specs.Opened.{step, filter_ended, ruled, inner_filter}
 use Rattle.com_spelling.specs.Spelled.{Spelled, plain, spelled_of}
+use Rattle.com_operands.specs.Ranges.{Distinct as Apart}
 use Rattle.com_operands.proofs.Decimals.{decimal_digits}
 use Rattle.com_operands.proofs.Places.{end_again}
 use Rattle.com_writing.specs.Standing.{AreDeclared}
@@ -77,6 +78,29 @@ other_name m n lt few = apart (bytes_eq (filter_name m) (filter_name n)) (bytes_
         absurd (omega arith)
     apart false h = refl
 
+all_cons : {X : Type 0} (P : X → Type 0) (x : X) (xs : List X) → P x → All P xs → All P (x ∷ xs)
+all_cons P x xs h hs = All-append P (x ∷ []) xs (λ k d lt. one k d lt) hs
+  where
+    one : (k : ℕ) (d : _) → k < 1 → P (slice_index_or (x ∷ []) k d)
+    one zero d lt = h
+    one (suc k) d lt = absurd (omega arith)
+
+-- a filter's name differs from those that follow
+apart_filters : (m n : ℕ) (fs : List (List Rule)) → m < n → n + length fs ≤ 17 → All (λ x. bytes_eq (filter_name m) x ≡ false) (filter_names n fs)
+apart_filters m n [] lt few = λ k d h. absurd (omega arith)
+apart_filters m n (f ∷ fs) lt few =
+    all_cons (λ x. bytes_eq (filter_name m) x ≡ false) (filter_name n) (filter_names (n + 1) fs) (other_name m n lt (omega arith)) (apart_filters m (n + 1) fs (omega arith) (omega arith))
+
+pub filters_named : (n : ℕ) (fs : List (List Rule)) → n + length fs ≤ 17
+    → All (λ x. is_name x ≡ true) (filter_names n fs) × Apart (filter_names n fs) × All (λ x. bytes_eq x (codes "none") ≡ false) (filter_names n fs)
+filters_named n [] few = (λ k d lt. absurd (omega arith), tt, λ k d lt. absurd (omega arith))
+filters_named n (f ∷ fs) few =
+    let more = filters_named (n + 1) fs (omega arith) in (
+      all_cons (λ x. is_name x ≡ true) (filter_name n) (filter_names (n + 1) fs) (good_name n (omega arith)) more.0,
+      (apart_filters n (n + 1) fs (omega arith) (omega arith), more.1),
+      all_cons (λ x. bytes_eq x (codes "none") ≡ false) (filter_name n) (filter_names (n + 1) fs) (no_none n) more.2,
+    )
+
 -- Each name from a number on is new.
 abbrev pub AreOlder : List (List ℕ) → ℕ → Type 0
 AreOlder names n = (m : ℕ) → n ≤ m → m < 100 → IsNew bytes_eq names (filter_name m)
@@ -123,13 +147,13 @@ rules_on : (st : State) (rest done : List Rule) (ls : List (List Spelled)) (o : 
     → Gets (filter_read st (done ++ rest)) ls o → Gets (in_filter st done) (rules_lines rest ++ ls) o
 rules_on st [] done ls o all few more =
     line_then (in_filter st done) (filter_read st done) end_words ls o (filter_end st done)
-        (subst (λ (x : List Rule). Gets (filter_read st x) ls o) (append-nil done) more)
+    (subst (λ (x : List Rule). Gets (filter_read st x) ls o) (append-nil done) more)
 rules_on st (r ∷ rs) done ls o all few more =
     let e : done ++ r ∷ rs ≡ (done ++ r ∷ []) ++ rs = sym (append_assoc done (r ∷ []) rs) in
     let shorter : length (done ++ r ∷ []) + length rs ≤ 32 = simp length-append (omega arith) in
     line_then (in_filter st done) (in_filter st (done ++ r ∷ [])) (rule_words r) (rules_lines rs ++ ls) o
-        (λ line h. rule_step st done r line h (All-head IsRule r rs all) (omega arith))
-        (rules_on st rs (done ++ r ∷ []) ls o (All-tail IsRule r rs all) shorter (subst (λ (x : List Rule). Gets (filter_read st x) ls o) e more))
+    (λ line h. rule_step st done r line h (All-head IsRule r rs all) (omega arith))
+    (rules_on st rs (done ++ r ∷ []) ls o (All-tail IsRule r rs all) shorter (subst (λ (x : List Rule). Gets (filter_read st x) ls o) e more))
 
 -- ---- filters
 
@@ -141,7 +165,7 @@ pub filters_on : (st : State) (n : ℕ) (names : List (List ℕ)) (rest done : L
     → Gets (at_filters st (names ++ filter_names n rest) (done ++ rest)) ls o → Gets (at_filters st names done) (filters_lines n rest ++ ls) o
 filters_on st n names [] done ls o older all few last more =
     subst (λ (x : List (List ℕ)). Gets (at_filters st x done) ls o) (append-nil names)
-        (subst (λ (x : List (List Rule)). Gets (at_filters st (names ++ []) x) ls o) (append-nil done) more)
+    (subst (λ (x : List (List Rule)). Gets (at_filters st (names ++ []) x) ls o) (append-nil done) more)
 filters_on st n names (f ∷ fs) done ls o older all few last more =
     let t = at_filters st names done in
     let next = filter_by t (filter_name n) in
@@ -151,13 +175,13 @@ filters_on st n names (f ∷ fs) done ls o older all few last more =
     let shorter : length (names ++ filter_name n ∷ []) + length fs ≤ 16 = simp length-append (omega arith) in
     let split : (rules_lines f ++ filters_lines (n + 1) fs) ++ ls ≡ rules_lines f ++ (filters_lines (n + 1) fs ++ ls) = append_assoc (rules_lines f) (filters_lines (n + 1) fs) ls in
     let behind = filters_on st (n + 1) (names ++ filter_name n ∷ []) fs (done ++ f ∷ []) ls o (older_more names n older) (All-tail IsFilter f fs all) shorter (omega arith)
-        (subst (λ (x : List (List ℕ)). Gets (at_filters st x ((done ++ f ∷ []) ++ fs)) ls o) e
-            (subst (λ (x : List (List Rule)). Gets (at_filters st (names ++ filter_name n ∷ filter_names (n + 1) fs) x) ls o) g more)) in
+    (subst (λ (x : List (List ℕ)). Gets (at_filters st x ((done ++ f ∷ []) ++ fs)) ls o) e
+    (subst (λ (x : List (List Rule)). Gets (at_filters st (names ++ filter_name n ∷ filter_names (n + 1) fs) x) ls o) g more)) in
     let rules = rules_on next f [] (filters_lines (n + 1) fs ++ ls) o is.0 (omega (arith, is.1)) behind in
     line_then t next (filter_words n) ((rules_lines f ++ filters_lines (n + 1) fs) ++ ls) o
-        (λ line h. step_in t line _ _ h ∙ filter_again t line n h (omega arith) (good_name n (omega arith)) (no_none n)
-            (no_position names (filter_name n) (older n (omega arith) (omega arith))))
-        (subst (λ (x : List (List Spelled)). Gets next x o) (sym split) rules)
+    (λ line h. step_in t line _ _ h ∙ filter_again t line n h (omega arith) (good_name n (omega arith)) (no_none n)
+    (no_position names (filter_name n) (older n (omega arith) (omega arith))))
+    (subst (λ (x : List (List Spelled)). Gets next x o) (sym split) rules)
 
 -- ---- threads
 
@@ -178,14 +202,14 @@ threads_on st (b ∷ bs) done ls o are all few more =
     let e : done ++ b ∷ bs ≡ (done ++ b ∷ []) ++ bs = sym (append_assoc done (b ∷ []) bs) in
     let shorter : length (done ++ b ∷ []) + length bs ≤ 16 = simp length-append (omega arith) in
     let split : (program_lines st.names b ++ threads_lines st.names bs) ++ ls ≡ program_lines st.names b ++ (threads_lines st.names bs ++ ls)
-        = append_assoc (program_lines st.names b) (threads_lines st.names bs) ls in
+    = append_assoc (program_lines st.names b) (threads_lines st.names bs) ls in
     let behind = threads_on st bs (done ++ b ∷ []) ls o are (All-tail (CanRun st.names) b bs all) shorter
-        (subst (λ (x : List (List Stmt)). Gets (at_threads st x) ls o) e more) in
+    (subst (λ (x : List (List Stmt)). Gets (at_threads st x) ls o) e more) in
     let script = program_on (in_thread t) (thread_read t) 2000 st.names (CanRead programs.Script st.names)
-        (λ code s line one room h. thread_statement t code s line are one room h) (thread_end t) b blank_code (threads_lines st.names bs ++ ls) o can.statements can.whole behind in
+    (λ code s line one room h. thread_statement t code s line are one room h) (thread_end t) b blank_code (threads_lines st.names bs ++ ls) o can.statements can.whole behind in
     line_then t (in_thread t blank_code) thread_words ((program_lines st.names b ++ threads_lines st.names bs) ++ ls) o
-        (λ line h. step_in t line _ _ h ∙ thread_again t line h (omega arith))
-        (subst (λ (x : List (List Spelled)). Gets (in_thread t blank_code) x o) (sym split) script)
+    (λ line h. step_in t line _ _ h ∙ thread_again t line h (omega arith))
+    (subst (λ (x : List (List Spelled)). Gets (in_thread t blank_code) x o) (sym split) script)
 
 -- ---- picks
 
@@ -196,4 +220,4 @@ pub picks_on : (st : State) (ns : List ℕ) (o : Outline) → All (λ n. n < 2 ^
 picks_on st [] o all more = more
 picks_on st (n ∷ ns) o all more =
     line_then (at_picks st []) (at_picks st (n ∷ ns)) (plain (codes "picks") ∷ map number_word (n ∷ ns)) [] o
-        (λ line h. step_in (at_picks st []) line _ _ h ∙ picks_again (at_picks st []) line (n ∷ ns) h all) more
+    (λ line h. step_in (at_picks st []) line _ _ h ∙ picks_again (at_picks st []) line (n ∷ ns) h all) more

@@ -1,5 +1,5 @@
 -- What follows a place of a line, word by word.
-use Rattle.std.proofs.Common.{◌≡◌, ℕ, zero, suc, ◌+◌, ◌≤◌, ◌<◌, ◌^◌, List, [], ◌∷◌, ◌++◌, map, drop,  length-append, Option, Some, None, Bool, true, false, nat_le, ◌&&◌, refl, sym, ap, ◌∙◌, arith, length, slice_get, codes, decimal, Result, Ok, Err, bytes_eq, All, append_assoc}
+use Rattle.std.proofs.Common.{◌≡◌, ℕ, zero, suc, ◌+◌, ◌≤◌, ◌<◌, ◌^◌, List, [], ◌∷◌, ◌++◌, map, drop, length-append, Option, Some, None, Bool, true, false, nat_le, ◌&&◌, refl, sym, ap, ◌∙◌, arith, length, slice_get, codes, decimal, Result, Ok, Err, bytes_eq, All, append_assoc}
 use Rattle.std.proofs.lemmas.List.{append-nil}
 use Rattle.std.proofs.lemmas.Slice.Eq.{bytes_eq-Decides}
 use Rattle.std.proofs.lemmas.Bool.Decides.{nat_tests}
@@ -88,7 +88,7 @@ listed_on_again names (i ∷ is) done line k (v ∷ vs) are all few f e =
     let one = item_again names (length done) line k i (here_is line k v vs _ _ f e) are (All-head (λ (x : ℕ). x < length names) i is all) (omega arith) in
     let shorter : length (done ++ i ∷ []) + length is ≤ 16 = simp length-append (omega arith) in
     let more = listed_on_again names is (done ++ i ∷ []) line (k + 1) vs are (All-tail (λ (x : ℕ). x < length names) i is all) shorter
-        (follows_next line k v vs f) (tail_of v vs _ _ e) in
+    (follows_next line k v vs f) (tail_of v vs _ _ e) in
     ap (λ (r : Result ℕ Fault). r >>= λ n. listed_on names (done ++ n ∷ []) line (k + 1) vs) one
     ∙ more ∙ ap Ok (append_assoc done (i ∷ []) is)
 
@@ -117,6 +117,6 @@ picks_on_again (n ∷ ns) done line k [] all f e = absurd cc
 picks_on_again (n ∷ ns) done line k (v ∷ vs) all f e =
     let one = pick_again line k n (here_is line k v vs _ _ f e) (All-head (λ (x : ℕ). x < 2 ^ 32) n ns all) in
     let more = picks_on_again ns (done ++ n ∷ []) line (k + 1) vs (All-tail (λ (x : ℕ). x < 2 ^ 32) n ns all)
-        (follows_next line k v vs f) (tail_of v vs _ _ e) in
+    (follows_next line k v vs f) (tail_of v vs _ _ e) in
     ap (λ (r : Result ℕ Fault). r >>= λ m. picks_on (done ++ m ∷ []) line (k + 1) vs) one
     ∙ more ∙ ap Ok (append_assoc done (n ∷ []) ns)

@@ -77,7 +77,7 @@ closes_end st i o more [] h = absurd h
 closes_end st i o more (x ∷ xs) h =
     let closed = interface_closed (with_open st i) in
     let good : outlined closed ≡ o =
-        ok_same (outlined closed) o (read closed (x ∷ xs)) (ap (behind x xs) (no_words closed x.words h.1) ∙ ap (by_last closed x xs) h.0) (more (x ∷ xs) h) in
+    ok_same (outlined closed) o (read closed (x ∷ xs)) (ap (behind x xs) (no_words closed x.words h.1) ∙ ap (by_last closed x xs) h.0) (more (x ∷ xs) h) in
     ap (behind x xs) (no_words (with_open st i) x.words h.1) ∙ ap (by_last (with_open st i) x xs) h.0 ∙ ap Ok good
   where
     ok_same : (a b : Outline) (r : Result Outline Fault) → r ≡ Ok a → r ≡ Ok b → a ≡ b
@@ -116,7 +116,7 @@ pub record IsSigned (names : List (List ℕ)) (m : Method) : Type 0 where
   pub few : length m.params ≤ 4
   pub result : IsResult names m.result
 
-method_same : (front back : List (List ℕ)) (m : Method) → IsSigned front m → method_words (front ++ back) m ≡ method_words front m
+pub method_same : (front back : List (List ℕ)) (m : Method) → IsSigned front m → method_words (front ++ back) m ≡ method_words front m
 method_same front back m h =
     ap (λ (ws : List Spelled). plain (codes "method") ∷ plain m.name ∷ (ws ++ result_words (front ++ back) m.result)) (kinds_same front back m.params h.params)
     ∙ ap (λ (ws : List Spelled). plain (codes "method") ∷ plain m.name ∷ (map (kind_word front) m.params ++ ws)) (result_same front back m.result h.result)
@@ -146,12 +146,12 @@ methods_on st back i (m ∷ ms) done ls o are all apart few more =
     let e : done ++ m ∷ ms ≡ (done ++ m ∷ []) ++ ms = sym (append_assoc done (m ∷ []) ms) in
     let shorter : length (done ++ m ∷ []) + length ms ≤ 32 = simp length-append (omega arith) in
     let rest_read = methods_on st back i ms (done ++ m ∷ []) ls o are (All-tail (IsSigned st.names.interfaces) m ms all) (subst (Distinct same_method) e apart) shorter
-        (subst (λ (x : List Method). Gets (with_open st (record i { methods = x })) ls o) e more) in
+    (subst (λ (x : List Method). Gets (with_open st (record i { methods = x })) ls o) e more) in
     line_then (with_open st (record i { methods = done })) (with_open st (record i { methods = done ++ m ∷ [] })) (method_words (st.names.interfaces ++ back) m)
-        (map (method_words (st.names.interfaces ++ back)) ms ++ ls) o
-        (λ line h. method_step st (record i { methods = done }) m line (h ∙ method_same st.names.interfaces back m is) are is
-            (no_method done m (new_of same_method done m ms apart)) (omega arith))
-        rest_read
+    (map (method_words (st.names.interfaces ++ back)) ms ++ ls) o
+    (λ line h. method_step st (record i { methods = done }) m line (h ∙ method_same st.names.interfaces back m is) are is
+    (no_method done m (new_of same_method done m ms apart)) (omega arith))
+    rest_read
 
 -- ---- interfaces
 
@@ -186,8 +186,8 @@ interface_on st before back iids tables i ls o can top more =
     let closed = closes next i ls o top more in
     let methods = methods_on next back i i.methods [] ls o can.types can.methods can.apart (omega (arith, can.few)) closed in
     line_then t next (interface_words i) (map (method_words ((before ++ i.name ∷ []) ++ back)) i.methods ++ ls) o
-        (λ line e. step_in t line _ _ e ∙ interface_again t line i e can.room can.name can.no_type can.free can.fits can.new)
-        methods
+    (λ line e. step_in t line _ _ e ∙ interface_again t line i e can.room can.name can.no_type can.free can.fits can.new)
+    methods
 
 abbrev pub CanDefineAll : List (List ℕ) → List Guid → List Interface → Type 0
 CanDefineAll before iids [] = Unit {0}
@@ -207,14 +207,14 @@ pub interfaces_on : (st : State) (all before : List (List ℕ)) (iids : List Gui
 interfaces_on st all before iids done [] ls o is can top more =
     let e : all ≡ before = is ∙ append-nil before in
     subst (λ (x : List (List ℕ)). Gets (at_interfaces st x iids done) ls o) e
-        (subst (λ (x : List Interface). Gets (at_interfaces st all iids x) ls o) (append-nil done) (more iids))
+    (subst (λ (x : List Interface). Gets (at_interfaces st all iids x) ls o) (append-nil done) (more iids))
 interfaces_on st all before iids done (i ∷ is) ls o is_all can top more =
     let e : all ≡ (before ++ i.name ∷ []) ++ map name_of_interface is = is_all ∙ sym (append_assoc before (i.name ∷ []) (map name_of_interface is)) in
     let f : done ++ i ∷ is ≡ (done ++ i ∷ []) ++ is = sym (append_assoc done (i ∷ []) is) in
     let rest_read = interfaces_on st all (before ++ i.name ∷ []) (iids ++ i.iid ∷ []) (done ++ i ∷ []) is ls o e can.1 top
-        (λ ids. subst (λ (x : List Interface). Gets (at_interfaces st all ids x) ls o) f (more ids)) in
+    (λ ids. subst (λ (x : List Interface). Gets (at_interfaces st all ids x) ls o) f (more ids)) in
     let split : (map (method_words all) i.methods ++ interface_lines all is) ++ ls ≡ map (method_words all) i.methods ++ (interface_lines all is ++ ls)
-        = append_assoc (map (method_words all) i.methods) (interface_lines all is) ls in
+    = append_assoc (map (method_words all) i.methods) (interface_lines all is) ls in
     subst (λ (x : List (List Spelled)). Gets (at_interfaces st before iids done) (interface_words i ∷ x) o) (sym split)
-        (subst (λ (x : List (List ℕ)). Gets (at_interfaces st before iids done) (interface_words i ∷ (map (method_words x) i.methods ++ (interface_lines all is ++ ls))) o) (sym e)
-            (interface_on st before (map name_of_interface is) iids done i (interface_lines all is ++ ls) o can.0 (lines_top all is ls top) rest_read))
+    (subst (λ (x : List (List ℕ)). Gets (at_interfaces st before iids done) (interface_words i ∷ (map (method_words x) i.methods ++ (interface_lines all is ++ ls))) o) (sym e)
+    (interface_on st before (map name_of_interface is) iids done i (interface_lines all is ++ ls) o can.0 (lines_top all is ls top) rest_read))

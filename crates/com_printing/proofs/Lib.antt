@@ -11,3 +11,11 @@ pub mod Bodies
 pub mod Classes
 pub mod Interfaces
 pub mod Filters
+pub mod Forms
+pub mod Defined
+pub mod Added
+pub mod Whole
+pub mod Goods
+pub mod Lists
+pub mod Pieces
+pub mod Text

@@ -75,8 +75,8 @@ item_by names count line k w arrow =
       kind ← type_at names line (k + 1)
       done ← end_at line (k + 2)
       Ok (record { kind = kind; last = true })) else (do
-      kind ← type_at names line k
-      if nat_le 4 count then Err (fault_at 12 w) else Ok (record { kind = kind; last = false }))
+        kind ← type_at names line k
+        if nat_le 4 count then Err (fault_at 12 w) else Ok (record { kind = kind; last = false }))
 
 plain_kind : (names : List (List ℕ)) (kind : Kind) → kind_word names kind ≡ plain (kind_word names kind).bytes
 plain_kind names kinds.Int = refl
@@ -158,10 +158,10 @@ method_again names methods line m e can =
     let s = stands line 1 (plain m.name) (at_of line _ 1 e) in
     let good : Signature → Method = λ x. record { name = s.word.bytes; params = x.params; result = x.result } in
     ap (λ (r : Result WordAt Fault). r >>= λ w. if is_some (method_position methods w.bytes) then Err (fault_at 9 w) else (do
-        x ← signature_on names [] line 2 (drop 2 line)
-        Ok (record { name = w.bytes; params = x.params; result = x.result }))) (name_word line 1 m.name s can.name)
+      x ← signature_on names [] line 2 (drop 2 line)
+      Ok (record { name = w.bytes; params = x.params; result = x.result }))) (name_word line 1 m.name s can.name)
     ∙ ap (λ (b : Bool). if b then Err (fault_at 9 s.word) else (signature_on names [] line 2 (drop 2 line) >>= λ x. Ok (good x)))
-        (ap (λ (x : List ℕ). is_some (method_position methods x)) s.bytes ∙ can.free)
+    (ap (λ (x : List ℕ). is_some (method_position methods x)) s.bytes ∙ can.free)
     ∙ ap (λ (r : Result Signature Fault). r >>= λ x. Ok (good x))
-        (signature_again names m.params m.result [] line 2 (drop 2 line) can.types can.params can.result (omega (arith, can.few)) (follows 2 line) (rest_of 2 line _ e))
+    (signature_again names m.params m.result [] line 2 (drop 2 line) can.types can.params can.result (omega (arith, can.few)) (follows 2 line) (rest_of 2 line _ e))
     ∙ ap (λ (x : List ℕ). Ok (record { name = x; params = m.params; result = m.result })) s.bytes

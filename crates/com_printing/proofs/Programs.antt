@@ -102,12 +102,13 @@ statement_again : (p : Program) (limit : ℕ) (names : Names) (code : CodeAt) (s
 unfolding program_line
 statement_again p limit names code s w ws r room =
     let k = r.keyword in
-    let line : List WordAt = w ∷ ws in
-    (spot_at k line,
-        ap (allowed p limit names code w line) r.begins
-        ∙ ap (λ (b : Bool). if b then stated p limit names code w line k else Err (fault_at 3 w)) r.taken
-        ∙ ap (λ (b : Bool). if b then Err (fault_at 12 w) else (stmt_of p names k line >>= λ x. Ok (code_more code x (spot_at k line)))) (room_of limit (length code.statements) room)
-        ∙ ap (λ (x : Result Stmt Fault). x >>= λ y. Ok (code_more code y (spot_at k line))) r.read)
+    let line : List WordAt = w ∷ ws in (
+      spot_at k line,
+      ap (allowed p limit names code w line) r.begins
+          ∙ ap (λ (b : Bool). if b then stated p limit names code w line k else Err (fault_at 3 w)) r.taken
+          ∙ ap (λ (b : Bool). if b then Err (fault_at 12 w) else (stmt_of p names k line >>= λ x. Ok (code_more code x (spot_at k line)))) (room_of limit (length code.statements) room)
+          ∙ ap (λ (x : Result Stmt Fault). x >>= λ y. Ok (code_more code y (spot_at k line))) r.read,
+    )
 
 -- ---- bodies
 
@@ -133,17 +134,18 @@ body_statement st names code s line are can room same e =
     let words : map spelled_of line ≡ plain b.word ∷ b.rest = e ∙ same ∙ b.is in
     let l = opens line b.word b.rest words in
     let written : Written (program_of st.class.model) st.names s l.word l.rest =
-        record { words = ap (map spelled_of) (sym l.is) ∙ e ∙ same; range = can.range; stands = can.stands; fits = can.fits } in
+    record { words = ap (map spelled_of) (sym l.is) ∙ e ∙ same; range = can.range; stands = can.stands; fits = can.fits } in
     let reads = statement_reads (program_of st.class.model) st.names s l.word l.rest are written in
     let r = statement_again (program_of st.class.model) 200 st.names code s l.word l.rest reads room in
     let p = program_of st.class.model in
-    let t = in_body st code in
-    (r.0,
-        step_in t line (plain b.word) b.rest words
-        ∙ ap (λ (x : Result WordAt Fault). x >>= λ w. by_end st code p 200 line w (bytes_eq w.bytes (codes "end")) (body_ended t) (in_body st)) l.first
-        ∙ ap (λ (x : Bool). by_end st code p 200 line l.word x (body_ended t) (in_body st)) (no_end l.word.bytes reads.keyword reads.begins)
-        ∙ ap (λ (x : List WordAt). program_line p 200 st.names code l.word x >>= λ c. Ok (in_body st c)) l.is
-        ∙ ap (λ (x : Result CodeAt Fault). x >>= λ c. Ok (in_body st c)) r.1)
+    let t = in_body st code in (
+      r.0,
+      step_in t line (plain b.word) b.rest words
+          ∙ ap (λ (x : Result WordAt Fault). x >>= λ w. by_end st code p 200 line w (bytes_eq w.bytes (codes "end")) (body_ended t) (in_body st)) l.first
+          ∙ ap (λ (x : Bool). by_end st code p 200 line l.word x (body_ended t) (in_body st)) (no_end l.word.bytes reads.keyword reads.begins)
+          ∙ ap (λ (x : List WordAt). program_line p 200 st.names code l.word x >>= λ c. Ok (in_body st c)) l.is
+          ∙ ap (λ (x : Result CodeAt Fault). x >>= λ c. Ok (in_body st c)) r.1,
+    )
 
 pub body_end : (st : State) (code : CodeAt) (line : List WordAt) → checked code 200 ≡ Ok code.statements → map spelled_of line ≡ end_words
     → step (in_body st code) line ≡ Ok (body_read st code.statements)
@@ -174,16 +176,17 @@ thread_statement st code s line are can room e =
     let words : map spelled_of line ≡ plain b.word ∷ b.rest = e ∙ b.is in
     let l = opens line b.word b.rest words in
     let written : Written programs.Script st.names s l.word l.rest =
-        record { words = ap (map spelled_of) (sym l.is) ∙ e; range = can.range; stands = can.stands; fits = can.fits } in
+    record { words = ap (map spelled_of) (sym l.is) ∙ e; range = can.range; stands = can.stands; fits = can.fits } in
     let reads = statement_reads programs.Script st.names s l.word l.rest are written in
     let r = statement_again programs.Script 2000 st.names code s l.word l.rest reads room in
-    let t = in_thread st code in
-    (r.0,
-        step_in t line (plain b.word) b.rest words
-        ∙ ap (λ (x : Result WordAt Fault). x >>= λ w. by_end st code programs.Script 2000 line w (bytes_eq w.bytes (codes "end")) (thread_ended t) (in_thread st)) l.first
-        ∙ ap (λ (x : Bool). by_end st code programs.Script 2000 line l.word x (thread_ended t) (in_thread st)) (no_end l.word.bytes reads.keyword reads.begins)
-        ∙ ap (λ (x : List WordAt). program_line programs.Script 2000 st.names code l.word x >>= λ c. Ok (in_thread st c)) l.is
-        ∙ ap (λ (x : Result CodeAt Fault). x >>= λ c. Ok (in_thread st c)) r.1)
+    let t = in_thread st code in (
+      r.0,
+      step_in t line (plain b.word) b.rest words
+          ∙ ap (λ (x : Result WordAt Fault). x >>= λ w. by_end st code programs.Script 2000 line w (bytes_eq w.bytes (codes "end")) (thread_ended t) (in_thread st)) l.first
+          ∙ ap (λ (x : Bool). by_end st code programs.Script 2000 line l.word x (thread_ended t) (in_thread st)) (no_end l.word.bytes reads.keyword reads.begins)
+          ∙ ap (λ (x : List WordAt). program_line programs.Script 2000 st.names code l.word x >>= λ c. Ok (in_thread st c)) l.is
+          ∙ ap (λ (x : Result CodeAt Fault). x >>= λ c. Ok (in_thread st c)) r.1,
+    )
 
 pub thread_end : (st : State) (code : CodeAt) (line : List WordAt) → checked code 2000 ≡ Ok code.statements → map spelled_of line ≡ end_words
     → step (in_thread st code) line ≡ Ok (thread_read st code.statements)

@@ -80,7 +80,7 @@ refusal_again line k (Some verdicts.Handled) h is = absurd is
 refusal_again line k (Some verdicts.Rejected) h is = word_bytes refusal_by line k (codes "rejected") (stands line k _ h)
 refusal_again line k (Some verdicts.Later) h is = word_bytes refusal_by line k (codes "later") (stands line k _ h)
 
-whole_answer : (z : ℤ) → IsRetryAnswer z → IsWhole z
+pub whole_answer : (z : ℤ) → IsRetryAnswer z → IsWhole z
 whole_answer (pos n) is = omega (arith, is)
 whole_answer (negsuc n) is = omega (arith, is)
 
@@ -128,20 +128,40 @@ read_by st w q r e room = ap (taken st w q) room ∙ ap (λ (x : Result Rule Fau
 pub rule_again : (line : List WordAt) (r : Rule) → map spelled_of line ≡ rule_words r → IsRule r → RuleReads line r
 unfolding rule_of
 rule_again line (rules.Incoming t ms v) e is = record {
-  word = codes "incoming"; rest = _; first = e; no_end = refl;
+  word = codes "incoming";
+  rest = _;
+  first = e;
+  no_end = refl;
   read = λ st w room. read_by st w _ (rules.Incoming t ms v)
-      (rw (type_again line 1 t (at_of line _ 1 e) is.0, number_at_again 0 2147483647 line 2 ms (at_of line _ 2 e) (omega arith) is.1 (omega arith),
-      verdict_again line 3 v (at_of line _ 3 e), end_again line 4 (at_of line _ 4 e)) refl) room;
+      (rw (
+        type_again line 1 t (at_of line _ 1 e) is.0,
+        number_at_again 0 2147483647 line 2 ms (at_of line _ 2 e) (omega arith) is.1 (omega arith),
+        verdict_again line 3 v (at_of line _ 3 e),
+        end_again line 4 (at_of line _ 4 e),
+      ) refl) room;
 }
 rule_again line (rules.Retry v ms z) e is = record {
-  word = codes "retry"; rest = _; first = e; no_end = refl;
+  word = codes "retry";
+  rest = _;
+  first = e;
+  no_end = refl;
   read = λ st w room. read_by st w _ (rules.Retry v ms z)
-      (rw (refusal_again line 1 v (at_of line _ 1 e) is.0, number_at_again 0 2147483647 line 2 ms (at_of line _ 2 e) (omega arith) is.1 (omega arith),
-      answer_again line 3 z (at_of line _ 3 e) is.2, end_again line 4 (at_of line _ 4 e)) refl) room;
+      (rw (
+        refusal_again line 1 v (at_of line _ 1 e) is.0,
+        number_at_again 0 2147483647 line 2 ms (at_of line _ 2 e) (omega arith) is.1 (omega arith),
+        answer_again line 3 z (at_of line _ 3 e) is.2,
+        end_again line 4 (at_of line _ 4 e),
+      ) refl) room;
 }
 rule_again line (rules.Pending ms n) e is = record {
-  word = codes "pending"; rest = _; first = e; no_end = refl;
+  word = codes "pending";
+  rest = _;
+  first = e;
+  no_end = refl;
   read = λ st w room. read_by st w _ (rules.Pending ms n)
-      (rw (number_at_again 0 2147483647 line 1 ms (at_of line _ 1 e) (omega arith) is.0 (omega arith),
-      kept_again line 2 n (at_of line _ 2 e) is.1, end_again line 3 (at_of line _ 3 e)) refl) room;
+      (rw (
+        number_at_again 0 2147483647 line 1 ms (at_of line _ 1 e) (omega arith) is.0 (omega arith),
+        kept_again line 2 n (at_of line _ 2 e) is.1,
+        end_again line 3 (at_of line _ 3 e),
+      ) refl) room;
 }

@@ -78,7 +78,7 @@ within_limit xs limit h = let t = too_long (nat_lt limit (length xs)) _ _ h in g
 -- stands; behind the end it has none.
 pub program_on : (opened : CodeAt → State) (final : List Stmt → State) (limit : ℕ) (names : Names) (CanRead : Stmt → Type 0)
     → ((c : CodeAt) (s : Stmt) (line : List WordAt) → CanRead s → length c.statements < limit → map spelled_of line ≡ statement_words names s
-        → (f : Fault) × (step (opened c) line ≡ Ok (opened (code_more c s f))))
+    → (f : Fault) × (step (opened c) line ≡ Ok (opened (code_more c s f))))
     → ((c : CodeAt) (line : List WordAt) → checked c limit ≡ Ok c.statements → map spelled_of line ≡ end_words → step (opened c) line ≡ Ok (final c.statements))
     → (rest : List Stmt) (c : CodeAt) (ls : List (List Spelled)) (o : Outline) → All CanRead rest → fault_of (c.statements ++ rest) limit ≡ None
     → Gets (final (c.statements ++ rest)) ls o → Gets (opened c) (program_lines names rest ++ ls) o
@@ -86,13 +86,13 @@ program_on opened final limit names CanRead one stop [] c ls o all whole more =
     let e : c.statements ++ [] ≡ c.statements = append-nil c.statements in
     let good : checked c limit ≡ Ok c.statements = ap (checked_by c) (ap (λ (x : List Stmt). fault_of x limit) (sym e) ∙ whole) in
     line_then (opened c) (final c.statements) end_words ls o (λ line h. stop c line good h)
-        (subst (λ (x : List Stmt). Gets (final x) ls o) e more)
+    (subst (λ (x : List Stmt). Gets (final x) ls o) e more)
 program_on opened final limit names CanRead one stop (s ∷ ss) c ls o all whole more =
     let e : c.statements ++ s ∷ ss ≡ (c.statements ++ s ∷ []) ++ ss = sym (append_assoc c.statements (s ∷ []) ss) in
     let short = within_limit (c.statements ++ s ∷ ss) limit whole in
     let room : length c.statements < limit = omega (arith, short, length-append c.statements (s ∷ ss)) in
     spot_then (opened c) (λ f. opened (code_more c s f)) (statement_words names s) (program_lines names ss ++ ls) o
-        (λ line h. one c s line (All-head CanRead s ss all) room h)
-        (λ f. program_on opened final limit names CanRead one stop ss (code_more c s f) ls o (All-tail CanRead s ss all)
-            (ap (λ (x : List Stmt). fault_of x limit) (sym e) ∙ whole)
-            (subst (λ (x : List Stmt). Gets (final x) ls o) e more))
+    (λ line h. one c s line (All-head CanRead s ss all) room h)
+    (λ f. program_on opened final limit names CanRead one stop ss (code_more c s f) ls o (All-tail CanRead s ss all)
+    (ap (λ (x : List Stmt). fault_of x limit) (sym e) ∙ whole)
+    (subst (λ (x : List Stmt). Gets (final x) ls o) e more))

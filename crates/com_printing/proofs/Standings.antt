@@ -22,7 +22,7 @@ use Rattle.com_body.specs.declared.statements.Stmt.TheVariants as stmts
 use Rattle.com_classes.specs.declared.interfaces.Interface.{Interface}
 use Rattle.com_classes.specs.declared.interfaces.Method.{Method}
 use Rattle.com_model.specs.declared.scenario.Scenario.{Scenario}
-use Rattle.com_model.specs.Tables.{method_at}
+use Rattle.com_classes.specs.Lookups.{method_at}
 use Rattle.com_model.specs.Formed.{Context, IsLiteral, IsOperand, IsClassNamed, IsInterfaceNamed, IsPlaceIn, FitsKind, FitKinds, FitsResult, FitsMethod, IsGivenValue, IsFilterNamed, IsStatement}
 use Rattle.com_statements.specs.declared.keywords.Program.{Program}
 use Rattle.com_statements.specs.declared.names.Names.{Names}
@@ -130,15 +130,15 @@ in_interface None m = refl
 in_interface (Some i) m = refl
 
 -- the tables' method is the scenario's
-same_method : (s : Scenario) (tables : List Interface) (i m : ℕ) → tables ≡ s.classes.interfaces → method_at s i m ≡ method_of tables i m
+same_method : (s : Scenario) (tables : List Interface) (i m : ℕ) → tables ≡ s.classes.interfaces → method_at s.classes i m ≡ method_of tables i m
 same_method s tables i m e = in_interface (slice_get s.classes.interfaces i) m ∙ ap (λ (x : List Interface). method_of x i m) (sym e)
 
 call : (s : Scenario) (tables : List Interface) (i m : ℕ) (as' : List Arg) (d : Destination) → tables ≡ s.classes.interfaces
-    → ((as' ≡ []) × (d ≡ destinations.Nowhere)) ⊎ FitsMethod (method_at s i m) as' d
+    → ((as' ≡ []) × (d ≡ destinations.Nowhere)) ⊎ FitsMethod (method_at s.classes i m) as' d
     → ((as' ≡ []) × (d ≡ destinations.Nowhere)) ⊎ TakesMethod (method_of tables i m) as' d
 call s tables i m as' d e h = elim h [
   | inl plain ↦ inl plain
-  | inr fits ↦ inr (subst (λ (x : Option Method). TakesMethod x as' d) (same_method s tables i m e) (method (method_at s i m) as' d fits))
+  | inr fits ↦ inr (subst (λ (x : Option Method). TakesMethod x as' d) (same_method s tables i m e) (method (method_at s.classes i m) as' d fits))
 ]
 
 filter_named : (s : Scenario) (names : Names) (f : Option ℕ) → length names.filters ≡ length s.filters → IsFilterNamed s f → IsFilter names f

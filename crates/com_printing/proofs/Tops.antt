@@ -76,7 +76,7 @@ interface_again st line i e room is no_type free fits new =
     top_word st line (codes "interface") _ e
     ∙ ap (unless (fault_at 12 s.word) reads) (room_of 64 (length st.names.interfaces) room)
     ∙ ap (λ (r : Result WordAt Fault). r >>= λ name. free_guid_at st.iids line 2 >>= λ iid. end_at line 3 >>= λ done. Ok (opened_by st name.bytes iid))
-        (interface_name_again st.names.interfaces line i.name n is no_type free)
+    (interface_name_again st.names.interfaces line i.name n is no_type free)
     ∙ ap (λ (r : Result Guid Fault). r >>= λ iid. end_at line 3 >>= λ done. Ok (opened_by st n.word.bytes iid)) (free_guid_again st.iids line 2 i.iid (at_of line _ 2 e) fits new)
     ∙ ap (λ (r : Result (Unit {0}) Fault). r >>= λ done. Ok (opened_by st n.word.bytes i.iid)) (end_again line 3 (at_of line _ 3 e))
     ∙ ap (λ (x : List ℕ). Ok (opened_by st x i.iid)) n.bytes
@@ -106,19 +106,19 @@ class_again st line c e can are all some few =
     let s = first_of line _ _ e in
     let n = stands line 1 (plain c.name) (at_of line _ 1 e) in
     let reads = free_name_at st.names.classes line 1 >>= λ name. free_guid_at st.clsids line 2 >>= λ clsid. model_at line 3 >>= λ model.
-        listed_at st.names.interfaces line >>= λ interfaces. Ok (class_by st (record c { clsid = clsid }) name.bytes model interfaces) in
+    listed_at st.names.interfaces line >>= λ interfaces. Ok (class_by st (record c { clsid = clsid }) name.bytes model interfaces) in
     top_word st line (codes "class") _ e
     ∙ ap (unless (fault_at 12 s.word) reads) (room_of 64 (length st.names.classes) can.room)
     ∙ ap (λ (r : Result WordAt Fault). r >>= λ name. free_guid_at st.clsids line 2 >>= λ clsid. model_at line 3 >>= λ model.
-        listed_at st.names.interfaces line >>= λ interfaces. Ok (class_by st (record c { clsid = clsid }) name.bytes model interfaces))
-        (free_name_again st.names.classes line 1 c.name n can.name can.free)
+    listed_at st.names.interfaces line >>= λ interfaces. Ok (class_by st (record c { clsid = clsid }) name.bytes model interfaces))
+    (free_name_again st.names.classes line 1 c.name n can.name can.free)
     ∙ ap (λ (r : Result Guid Fault). r >>= λ clsid. model_at line 3 >>= λ model.
-        listed_at st.names.interfaces line >>= λ interfaces. Ok (class_by st (record c { clsid = clsid }) n.word.bytes model interfaces))
-        (free_guid_again st.clsids line 2 c.clsid (at_of line _ 2 e) can.fits can.new)
+    listed_at st.names.interfaces line >>= λ interfaces. Ok (class_by st (record c { clsid = clsid }) n.word.bytes model interfaces))
+    (free_guid_again st.clsids line 2 c.clsid (at_of line _ 2 e) can.fits can.new)
     ∙ ap (λ (r : Result ThreadingModel Fault). r >>= λ model. listed_at st.names.interfaces line >>= λ interfaces. Ok (class_by st c n.word.bytes model interfaces))
-        (model_again line 3 c.model (at_of line _ 3 e))
+    (model_again line 3 c.model (at_of line _ 3 e))
     ∙ ap (λ (r : Result (List ℕ) Fault). r >>= λ interfaces. Ok (class_by st c n.word.bytes c.model interfaces))
-        (listed_again st.names.interfaces c.interfaces line _ _ _ _ are all some few e)
+    (listed_again st.names.interfaces c.interfaces line _ _ _ _ are all some few e)
     ∙ ap (λ (x : List ℕ). Ok (class_by st c x c.model c.interfaces)) n.bytes
 
 -- a native is declared and closed
@@ -137,17 +137,17 @@ native_again st line c native bs e can is =
     let s = first_of line _ _ e in
     let n = stands line 1 (plain c.name) (at_of line _ 1 e) in
     let reads = free_name_at st.names.classes line 1 >>= λ name. free_guid_at st.clsids line 2 >>= λ clsid. model_at line 3 >>= λ model.
-        native_at model line 4 >>= λ kind. end_at line 5 >>= λ done. Ok (native_by st (record c { clsid = clsid }) name.bytes model kind) in
+    native_at model line 4 >>= λ kind. end_at line 5 >>= λ done. Ok (native_by st (record c { clsid = clsid }) name.bytes model kind) in
     top_word st line (codes "native") _ e
     ∙ ap (unless (fault_at 12 s.word) reads) (room_of 64 (length st.names.classes) can.room)
     ∙ ap (λ (r : Result WordAt Fault). r >>= λ name. free_guid_at st.clsids line 2 >>= λ clsid. model_at line 3 >>= λ model.
-        native_at model line 4 >>= λ kind. end_at line 5 >>= λ done. Ok (native_by st (record c { clsid = clsid }) name.bytes model kind))
-        (free_name_again st.names.classes line 1 c.name n can.name can.free)
+    native_at model line 4 >>= λ kind. end_at line 5 >>= λ done. Ok (native_by st (record c { clsid = clsid }) name.bytes model kind))
+    (free_name_again st.names.classes line 1 c.name n can.name can.free)
     ∙ ap (λ (r : Result Guid Fault). r >>= λ clsid. model_at line 3 >>= λ model.
-        native_at model line 4 >>= λ kind. end_at line 5 >>= λ done. Ok (native_by st (record c { clsid = clsid }) n.word.bytes model kind))
-        (free_guid_again st.clsids line 2 c.clsid (at_of line _ 2 e) can.fits can.new)
+    native_at model line 4 >>= λ kind. end_at line 5 >>= λ done. Ok (native_by st (record c { clsid = clsid }) n.word.bytes model kind))
+    (free_guid_again st.clsids line 2 c.clsid (at_of line _ 2 e) can.fits can.new)
     ∙ ap (λ (r : Result ThreadingModel Fault). r >>= λ model. native_at model line 4 >>= λ kind. end_at line 5 >>= λ done. Ok (native_by st c n.word.bytes model kind))
-        (model_again line 3 c.model (at_of line _ 3 e))
+    (model_again line 3 c.model (at_of line _ 3 e))
     ∙ ap (λ (r : Result Native Fault). r >>= λ kind. end_at line 5 >>= λ done. Ok (native_by st c n.word.bytes c.model kind)) is
     ∙ ap (λ (r : Result (Unit {0}) Fault). r >>= λ done. Ok (native_by st c n.word.bytes c.model native)) (end_again line 5 (at_of line _ 5 e))
     ∙ ap (λ (x : List ℕ). Ok (native_by st c x c.model native)) n.bytes
@@ -188,4 +188,4 @@ unfolding picks_line
 picks_again st line ns e all =
     top_word st line (codes "picks") _ e
     ∙ ap (λ (r : Result (List ℕ) Fault). r >>= λ more. Ok (record st { picks = st.picks ++ more }))
-        (picks_on_again ns [] line 1 (drop 1 line) all (follows 1 line) (rest_of 1 line _ e))
+    (picks_on_again ns [] line 1 (drop 1 line) all (follows 1 line) (rest_of 1 line _ e))

@@ -19,6 +19,7 @@ use Rattle.com_filter.specs.declared.Rule.TheVariants as rules
 use Rattle.com_filter.specs.declared.Verdict.{Verdict}
 use Rattle.com_filter.specs.declared.Verdict.TheVariants as verdicts
 use Rattle.com_model.specs.declared.scenario.Scenario.{Scenario}
+use Rattle.com_sections.specs.declared.outline.Outline.{Outline}
 use Rattle.com_statements.specs.declared.names.Names.{Names}
 use Rattle.com_statements.specs.Calls.{method_of}
 use Rattle.com_spelling.specs.Spelled.{Spelled, plain, text_of}
@@ -188,3 +189,15 @@ scenario_lines s = header_words s.version ∷ pool_words s.pool ∷ sections_lin
 -- the text of a scenario
 abbrev pub printed : Scenario → List ℕ
 printed s = text_of (scenario_lines s)
+
+-- what the lines of a scenario declare
+abbrev pub outline_of : Scenario → Outline
+outline_of s = record {
+  version = s.version;
+  pool = s.pool;
+  interfaces = s.classes.interfaces;
+  classes = s.classes.classes;
+  filters = s.filters;
+  threads = s.threads;
+  picks = s.picks;
+}

@@ -5,3 +5,4 @@ pub mod Declaring
 pub mod Standing
 pub mod Steps
 pub mod Forms
+pub mod Again

@@ -3,12 +3,14 @@
 
 mod built_in;
 mod laws;
+mod printing;
 mod reading;
 mod sizes;
 
 pub use com_base::Memory;
 pub use com_fields::ScenarioError;
 pub use laws::scenarios_are_formed;
+pub use printing::{print, printed_is_read};
 pub use reading::parse;
 pub use sizes::{LONGEST, is_too_long};
 

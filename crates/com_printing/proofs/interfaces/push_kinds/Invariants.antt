@@ -1,0 +1,10 @@
+use Rattle.std.proofs.Common.{◌≡◌, ◌++◌, ◌≤◌, ◌-◌, ◌+◌, length, map, All, drop}
+use Rattle.com_spelling.specs.Spelled.{more_text}
+use Rattle.com_printing.specs.Printed.{kind_word}
+use Rattle.com_printing.proofs.interfaces.push_kinds.Given as goal
+
+abbrev pub invariant-kinds : goal.invariant-kinds
+invariant-kinds l = l.out ++ more_text (map (kind_word l.names) l.rest) ≡ l.initial.out ++ more_text (map (kind_word l.names) l.kinds)
+
+abbrev pub decreases-kinds : goal.decreases-kinds
+decreases-kinds l = length l.rest
