@@ -1,6 +1,6 @@
 -- Texts of lines in parts.
-use Rattle.std.proofs.Common.{◌≡◌, ℕ, ◌+◌, List, [], ◌∷◌, ◌++◌, map, drop, codes, refl, sym, ap, ◌∙◌, append_assoc, All, zero, suc, Option, Some, None, slice_get, length, arith, subst, ◌<◌}
-use Rattle.std.proofs.lemmas.List.{append-nil}
+use Rattle.std.proofs.Common.{◌≡◌, ℕ, ◌+◌, List, [], ◌∷◌, ◌++◌, map, drop, codes, refl, sym, ap, ◌∙◌, append_assoc, All, zero, suc, Option, Some, None, slice_get, length, arith, subst, ◌<◌, get_or}
+use Rattle.std.proofs.lemmas.List.{append-nil, drop_more}
 use Rattle.std.proofs.lemmas.List.Elements.{All-cons}
 use Rattle.com_base.specs.declared.value.Kind.{Kind}
 use Rattle.com_body.specs.declared.statements.Stmt.{Stmt}
@@ -18,7 +18,7 @@ use Rattle.com_writing.specs.Words.{statement_words}
 use Rattle.com_writing.proofs.Pieces.{both_texts, words_behind}
 use Rattle.com_printing.specs.Printed.{kind_word, result_words, method_words, interface_words, interface_lines, program_lines, body_words, bodies_lines, class_head, interface_name, class_lines, classes_lines, rule_words, rules_lines, filter_words, filters_lines, thread_words, threads_lines, number_word, kept_word, picks_lines}
 use Rattle.com_printing.specs.Ranges.{FitsProgram, FitsBodies, FitsClass, FitsInterface}
-use Rattle.com_printing.proofs.Lists.{next_of, next_class, no_class, all_dropped}
+use Rattle.com_printing.proofs.Lists.{next_class, no_class, all_dropped}
 
 -- lines, and more lines behind them
 pub all_text : (a b : List (List Spelled)) → text_of (a ++ b) ≡ text_of a ++ text_of b
@@ -131,14 +131,18 @@ pub rule_first : (text longer : List ℕ) (r : Rule) (rest : List Rule) → long
     → longer ++ text_of (rules_lines rest) ≡ text ++ text_of (rules_lines (r ∷ rest))
 rule_first text longer r rest h = line_in_two text longer (line_text (rule_words r)) (text_of (rules_lines rest)) h
 
-filter_at : (filters : List (List Rule)) (n m : ℕ) (f : List Rule) → Some f ≡ slice_get filters n → filters_lines m (drop n filters) ≡ filter_words m ∷ (rules_lines f ++ filters_lines (m + 1) (drop (n + 1) filters))
-filter_at filters n m f is = ap (filters_lines m) (next_of filters n f is)
+filter_at : (filters : List (List Rule)) (n m : ℕ) (f : List Rule) → n < length filters → f ≡ get_or filters n f
+    → filters_lines m (drop n filters) ≡ filter_words m ∷ (rules_lines f ++ filters_lines (m + 1) (drop (n + 1) filters))
+filter_at filters n m f lt is =
+    ap (filters_lines m) (drop_more filters n f lt)
+    ∙ ap (λ (x : List Rule). filter_words m ∷ (rules_lines x ++ filters_lines (m + 1) (drop (n + 1) filters))) (sym is)
 
-pub filter_first : (text second longer : List ℕ) (filters : List (List Rule)) (n : ℕ) (f : List Rule) → Some f ≡ slice_get filters n → second ≡ text ++ line_text (filter_words (n + 1))
-    → longer ≡ second ++ text_of (rules_lines f) → longer ++ text_of (filters_lines (n + 1 + 1) (drop (n + 1) filters)) ≡ text ++ text_of (filters_lines (n + 1) (drop n filters))
-filter_first text second longer filters n f is a b =
+pub filter_first : (text second longer : List ℕ) (filters : List (List Rule)) (n : ℕ) (f : List Rule) → n < length filters → f ≡ get_or filters n f
+    → second ≡ text ++ line_text (filter_words (n + 1)) → longer ≡ second ++ text_of (rules_lines f)
+    → longer ++ text_of (filters_lines (n + 1 + 1) (drop (n + 1) filters)) ≡ text ++ text_of (filters_lines (n + 1) (drop n filters))
+filter_first text second longer filters n f lt is a b =
     lines_in_three text second longer (line_text (filter_words (n + 1))) (rules_lines f) (filters_lines (n + 1 + 1) (drop (n + 1) filters)) a b
-    ∙ ap (λ (x : List (List Spelled)). text ++ text_of x) (sym (filter_at filters n (n + 1) f is))
+    ∙ ap (λ (x : List (List Spelled)). text ++ text_of x) (sym (filter_at filters n (n + 1) f lt is))
 
 pub filters_all : (text : List ℕ) (filters : List (List Rule)) (n m : ℕ) → n ≡ length filters → text ++ text_of (filters_lines m (drop n filters)) ≡ text
 filters_all text filters n m e = ap (λ (k : ℕ). text ++ text_of (filters_lines m (drop k filters))) e ∙ ap (λ (x : List (List Rule)). text ++ text_of (filters_lines m x)) (all_dropped filters) ∙ append-nil text
