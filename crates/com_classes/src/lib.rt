@@ -10,3 +10,6 @@ pub use classes::{Class, ClassError, Classes, MethodBody, ThreadingModel};
 pub use com_base::Memory;
 pub use factory::{Creator, Factory, Placed};
 pub use interfaces::{Interface, Method};
+
+#[cfg(test)]
+mod tests;

@@ -38,7 +38,7 @@ fn header_faults(rt: HostRuntime) {
 
 #[test]
 fn faults_of_sections(rt: HostRuntime) {
-    let cases: [(&[u8], Place); 18] = [
+    let cases: [(&[u8], Place); 20] = [
         (b"scenario 1\npool 3 ; \x01\n".as_slice(), (2, 2, 10)),
         (b"scenario 1\npool 3\r \n".as_slice(), (2, 2, 7)),
         (b"scenario 1\npool 9\n".as_slice(), (6, 2, 6)),
@@ -89,6 +89,14 @@ fn faults_of_sections(rt: HostRuntime) {
         (
             b"scenario 1\nfilter F\nend\npicks 1 4294967296\n".as_slice(),
             (6, 4, 9),
+        ),
+        (
+            b"scenario 1\nclass A {5C0B0001-0000-4000-8000-000000000009} none ILatch ILatch ILatch ILatch ILatch ILatch ILatch ILatch ILatch ILatch ILatch ILatch ILatch ILatch ILatch ILatch ILatch\nend\n".as_slice(),
+            (12, 2, 165),
+        ),
+        (
+            b"scenario 1\nthread\nend\nthread\nend\nthread\nend\nthread\nend\nthread\nend\nthread\nend\nthread\nend\nthread\nend\nthread\nend\nthread\nend\nthread\nend\nthread\nend\nthread\nend\nthread\nend\nthread\nend\nthread\nend\nthread\nend\n".as_slice(),
+            (12, 34, 1),
         ),
     ];
     for (text, want) in cases {

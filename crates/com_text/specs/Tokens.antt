@@ -10,7 +10,7 @@ use Rattle.com_text.specs.declared.token.TokenSort.TheVariants as kinds
 use Rattle.com_text.specs.declared.token.TextError.{TextError}
 use Rattle.com_text.specs.declared.token.TextError.TheVariants as errors
 use Rattle.com_text.specs.Words.{WordAt, LineAt}
-use Rattle.com_text.specs.Scanning.{class_of, lines_of}
+use Rattle.com_text.specs.Scanning.{class_of}
 
 abbrev pub is_bad : Class → Bool
 is_bad classes.Bad = true

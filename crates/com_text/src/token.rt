@@ -3,6 +3,7 @@
 ghost use Rattle.std.specs.Prelude.{◌≡◌, ◌<◌, ◌^◌, ◌++◌, ◌∷◌, [], OnOk, IfOk, IfErr, map};
 ghost use Rattle.com_text.specs.Tokens.{first_stray, token_sort, token_of, end_token, tokens_of, Refuses};
 ghost use Rattle.com_text.specs.Scanning.{lines_of};
+ghost use Rattle.com_text.specs.Cutting.{IsCut};
 ghost use Rattle.com_text.specs.declared.token.TextError.TheVariants.{Memory};
 
 use crate::scan::{Class, LineEnd, class_of, line_at};
@@ -120,12 +121,13 @@ fn push_end(end: &LineEnd, tokens: &mut Vec<Token>) -> Result<(), AllocError>
     Ok(())
 }
 
-/// The tokens of a text: its words and literals, and a token for each line end, in order. Spaces
-/// and comments are no part of a token. `Character` comes exactly where a byte is outside the
+/// The tokens of a text: its words and literals, and a token for each line end, in order. Each is a
+/// piece of the text, and what stands between them is spaces and comments alone. `Character` comes exactly where a byte is outside the
 /// characters, with the index of the first one, and `Memory` where memory is short.
 #[tactic(auto, unfolding(crate::specs::Scanning::lines_of))]
 pub fn tokens(alloc: Global, text: &[u8]) -> Result<Vec<Token>, TextError>
     ensures value { IfOk result (λ v. v.items ≡ tokens_of (lines_of text.now)) }
+    ensures cut { IfOk result (λ v. IsCut text.now 0 v.items) }
     ensures characters { OnOk result (first_stray text.now ≡ None) }
     ensures err { IfErr result (Refuses text.now) }
 {
