@@ -215,7 +215,7 @@ all-tail P x xs p = λ k d h. p (suc k) d (grind (arith, common_steps, h))
 abbrev Walks : (n m : ℕ) → List Stmt → Type 0
 Walks n m xs = (k : ℕ) (f : FrameView) (c : Cells) → GoodFrame n m f → GoodCells n m c → GoodOutcome n m (walk xs k f c)
 
-stepped-good : (n m : ℕ) (xs : List Stmt) (f : FrameView) (c : Cells) (e : Effect) → GoodFrame n m f → GoodCells n m c → Walks n m xs → GoodEffect n m e → GoodOutcome n m (elim e [ | Goes g d k ↦ walk xs k (moved g (k + 1)) d | Acts a ↦ record { frame = moved f 1; cells = c; action = a } ])
+stepped-good : (n m : ℕ) (xs : List Stmt) (f : FrameView) (c : Cells) (e : Effect) → GoodFrame n m f → GoodCells n m c → Walks n m xs → GoodEffect n m e → GoodOutcome n m (elim e [ Goes g d k ↦ walk xs k (moved g (k + 1)) d | Acts a ↦ record { frame = moved f 1; cells = c; action = a } ])
 stepped-good n m xs f c (Goes g d k) gf gc w p = w k (moved g (k + 1)) d (moved-good n m g (k + 1) p.0) p.1
 stepped-good n m xs f c (Acts a) gf gc w p = record { frame = moved-good n m f 1 gf; cells = gc; action = p }
 

@@ -104,59 +104,94 @@ GoodChange n m a _ = Unit {0}
 
 changed-good : (s : Scenario) (n c a : ℕ) (b : Books) (x : Change) → 0 < faces s → GoodChange n (faces s) a x → GoodBooks s n c a b → GoodBooks s n c a (changed b x)
 changed-good s n c a b (ToProxy y o i k) h p g = record {
-  packets = g.packets; cookies = g.cookies;
+  packets = g.packets;
+  cookies = g.cookies;
   stub_o = λ u v z. at2-left o i _ b.stub u v (apart-o n u o p.1 z) (g.stub_o u v z);
   stub_i = λ u v z. at2-right o i _ b.stub u v (apart-i (faces s) v i p.2 z) (g.stub_i u v z);
   proxy_a = λ w u v z. at3-first y o i _ b.proxy w u v (apart-i a w y p.0 z) (g.proxy_a w u v z);
   proxy_o = λ w u v z. at3-second y o i _ b.proxy w u v (apart-o n u o p.1 z) (g.proxy_o w u v z);
   proxy_i = λ w u v z. at3-third y o i _ b.proxy w u v (apart-i (faces s) v i p.2 z) (g.proxy_i w u v z);
-  live = g.live; arguments = g.arguments; result = g.result;
+  live = g.live;
+  arguments = g.arguments;
+  result = g.result;
 }
 changed-good s n c a b (ToPacket y o i k) h p g = record {
-  packets = last-all (GoodPacket n (faces s)) b.packets _ (p.0, p.1) g.packets; cookies = g.cookies;
+  packets = last-all (GoodPacket n (faces s)) b.packets _ (p.0, p.1) g.packets;
+  cookies = g.cookies;
   stub_o = λ u v z. at2-left o i _ b.stub u v (apart-o n u o p.0 z) (g.stub_o u v z);
   stub_i = λ u v z. at2-right o i _ b.stub u v (apart-i (faces s) v i p.1 z) (g.stub_i u v z);
-  proxy_a = g.proxy_a; proxy_o = g.proxy_o; proxy_i = g.proxy_i; live = g.live; arguments = g.arguments; result = g.result;
+  proxy_a = g.proxy_a;
+  proxy_o = g.proxy_o;
+  proxy_i = g.proxy_i;
+  live = g.live;
+  arguments = g.arguments;
+  result = g.result;
 }
 changed-good s n c a b (Split y o i k) h p g = record {
-  packets = last-all (GoodPacket n (faces s)) b.packets _ (p.1, p.2) g.packets; cookies = g.cookies;
-  stub_o = g.stub_o; stub_i = g.stub_i;
+  packets = last-all (GoodPacket n (faces s)) b.packets _ (p.1, p.2) g.packets;
+  cookies = g.cookies;
+  stub_o = g.stub_o;
+  stub_i = g.stub_i;
   proxy_a = λ w u v z. at3-first y o i _ b.proxy w u v (apart-i a w y p.0 z) (g.proxy_a w u v z);
   proxy_o = λ w u v z. at3-second y o i _ b.proxy w u v (apart-o n u o p.1 z) (g.proxy_o w u v z);
   proxy_i = λ w u v z. at3-third y o i _ b.proxy w u v (apart-i (faces s) v i p.2 z) (g.proxy_i w u v z);
-  live = g.live; arguments = g.arguments; result = g.result;
+  live = g.live;
+  arguments = g.arguments;
+  result = g.result;
 }
 changed-good s n c a b (Join y p) h q g =
     let k : GoodPacket n (faces s) (packet b p) = packet-good n (faces s) b p h g.packets in
     record {
-      packets = set-all (GoodPacket n (faces s)) b.packets p _ k g.packets; cookies = g.cookies;
-      stub_o = g.stub_o; stub_i = g.stub_i;
+      packets = set-all (GoodPacket n (faces s)) b.packets p _ k g.packets;
+      cookies = g.cookies;
+      stub_o = g.stub_o;
+      stub_i = g.stub_i;
       proxy_a = λ w u v z. at3-first y (packet b p).object (packet b p).iface _ b.proxy w u v (apart-i a w y q z) (g.proxy_a w u v z);
       proxy_o = λ w u v z. at3-second y (packet b p).object (packet b p).iface _ b.proxy w u v (apart-o n u _ k.0 z) (g.proxy_o w u v z);
       proxy_i = λ w u v z. at3-third y (packet b p).object (packet b p).iface _ b.proxy w u v (apart-i (faces s) v _ k.1 z) (g.proxy_i w u v z);
-      live = g.live; arguments = g.arguments; result = g.result;
+      live = g.live;
+      arguments = g.arguments;
+      result = g.result;
     }
 changed-good s n c a b (Return p) h q g =
     let k : GoodPacket n (faces s) (packet b p) = packet-good n (faces s) b p h g.packets in
     record {
-      packets = set-all (GoodPacket n (faces s)) b.packets p _ k g.packets; cookies = g.cookies;
+      packets = set-all (GoodPacket n (faces s)) b.packets p _ k g.packets;
+      cookies = g.cookies;
       stub_o = λ u v z. at2-left (packet b p).object (packet b p).iface _ b.stub u v (apart-o n u _ k.0 z) (g.stub_o u v z);
       stub_i = λ u v z. at2-right (packet b p).object (packet b p).iface _ b.stub u v (apart-i (faces s) v _ k.1 z) (g.stub_i u v z);
-      proxy_a = g.proxy_a; proxy_o = g.proxy_o; proxy_i = g.proxy_i; live = g.live; arguments = g.arguments; result = g.result;
+      proxy_a = g.proxy_a;
+      proxy_o = g.proxy_o;
+      proxy_i = g.proxy_i;
+      live = g.live;
+      arguments = g.arguments;
+      result = g.result;
     }
 changed-good s n c a b (ToCookie o i k) h p g = record {
-  packets = g.packets; cookies = last-all (GoodCookie n (faces s)) b.cookies _ (p.0, p.1) g.cookies;
+  packets = g.packets;
+  cookies = last-all (GoodCookie n (faces s)) b.cookies _ (p.0, p.1) g.cookies;
   stub_o = λ u v z. at2-left o i _ b.stub u v (apart-o n u o p.0 z) (g.stub_o u v z);
   stub_i = λ u v z. at2-right o i _ b.stub u v (apart-i (faces s) v i p.1 z) (g.stub_i u v z);
-  proxy_a = g.proxy_a; proxy_o = g.proxy_o; proxy_i = g.proxy_i; live = g.live; arguments = g.arguments; result = g.result;
+  proxy_a = g.proxy_a;
+  proxy_o = g.proxy_o;
+  proxy_i = g.proxy_i;
+  live = g.live;
+  arguments = g.arguments;
+  result = g.result;
 }
 changed-good s n c a b (Withdraw x) h p g =
     let k : GoodCookie n (faces s) (cookie b x) = cookie-good n (faces s) b x h g.cookies in
     record {
-      packets = g.packets; cookies = set-all (GoodCookie n (faces s)) b.cookies x _ k g.cookies;
+      packets = g.packets;
+      cookies = set-all (GoodCookie n (faces s)) b.cookies x _ k g.cookies;
       stub_o = λ u v z. at2-left (cookie b x).object (cookie b x).iface _ b.stub u v (apart-o n u _ k.0 z) (g.stub_o u v z);
       stub_i = λ u v z. at2-right (cookie b x).object (cookie b x).iface _ b.stub u v (apart-i (faces s) v _ k.1 z) (g.stub_i u v z);
-      proxy_a = g.proxy_a; proxy_o = g.proxy_o; proxy_i = g.proxy_i; live = g.live; arguments = g.arguments; result = g.result;
+      proxy_a = g.proxy_a;
+      proxy_o = g.proxy_o;
+      proxy_i = g.proxy_i;
+      live = g.live;
+      arguments = g.arguments;
+      result = g.result;
     }
 changed-good s n c a b Same h p g = g
 
@@ -297,13 +332,16 @@ none-cut false x e = refl
 
 given-good : (s : Scenario) (n c a k : ℕ) (f : ℕ → ℕ → ℕ) (b : Books) → GoodBooks s n c a b → GoodBooks s n c a (given_back k f b)
 given-good s n c a k f b g = record {
-  packets = g.packets; cookies = g.cookies;
+  packets = g.packets;
+  cookies = g.cookies;
   stub_o = λ o i h. less-of (b.stub o i) _ (g.stub_o o i h);
   stub_i = λ o i h. less-of (b.stub o i) _ (g.stub_i o i h);
   proxy_a = λ x o i h. none-given (f x o == 0) (b.proxy x o i) (g.proxy_a x o i h);
   proxy_o = λ x o i h. none-given (f x o == 0) (b.proxy x o i) (g.proxy_o x o i h);
   proxy_i = λ x o i h. none-given (f x o == 0) (b.proxy x o i) (g.proxy_i x o i h);
-  live = g.live; arguments = g.arguments; result = g.result;
+  live = g.live;
+  arguments = g.arguments;
+  result = g.result;
 }
 
 cut-books : (s : Scenario) (n c a : ℕ) (live : ℕ → Bool) (b : Books) → ((o : ℕ) → n + 1 ≤ o → live o ≡ false) → GoodBooks s n c a b → GoodBooks s n c a (cut live b)
@@ -315,7 +353,9 @@ cut-books s n c a live b p g = record {
   proxy_a = λ x o i h. none-cut (live o) (b.proxy x o i) (g.proxy_a x o i h);
   proxy_o = λ x o i h. none-cut (live o) (b.proxy x o i) (g.proxy_o x o i h);
   proxy_i = λ x o i h. none-cut (live o) (b.proxy x o i) (g.proxy_i x o i h);
-  live = p; arguments = g.arguments; result = g.result;
+  live = p;
+  arguments = g.arguments;
+  result = g.result;
 }
 
 not-made-by : (n o : ℕ) (d : Deed) → NewWithin n d → n + 1 ≤ o → made_by (makes d) o ≡ false

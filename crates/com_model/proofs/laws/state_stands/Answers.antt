@@ -1,3 +1,4 @@
+use Rattle.std.specs.Prelude.{◌∷◌}
 use Rattle.com_model.proofs.Whole.{first-stands, whole-after}
 use Rattle.com_model.proofs.Kept.{legal-bounded}
 use Rattle.com_model.proofs.laws.state_stands.Goals as goal
