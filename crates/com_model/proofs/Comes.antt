@@ -184,7 +184,7 @@ given-when : (P : Deed → Type 0) (b : Bool) (d : Deed) → (b ≡ true → P d
 given-when P true d p = p refl
 given-when P false d p = tt
 
-given-found : (P : Deed → Type 0) (f : ℕ → Deed) (o : Option ℕ) → ((x : ℕ) → o ≡ Some x → P (f x)) → Given P (option_map f o)
+pub given-found : {X : Type 0} (P : Deed → Type 0) (f : X → Deed) (o : Option X) → ((x : X) → o ≡ Some x → P (f x)) → Given P (option_map f o)
 given-found P f None p = tt
 given-found P f (Some x) p = p x refl
 
@@ -320,7 +320,7 @@ first-passes : (test : ℕ → Bool) (x : ℕ) (xs : List ℕ) (c : ℕ) (b : Bo
 first-passes test x xs c true q e ih = let z : x ≡ c = some-number x c e in (subst (λ (y : ℕ). test y ≡ true) z q, subst (λ (y : ℕ). is_member c (y ∷ xs) ≡ true) (sym z) (own-member c xs))
 first-passes test x xs c false q e ih = ((ih e).0, or-true (c == x) (is_member c xs) (ih e).1)
 
-first-filter : (test : ℕ → Bool) (xs : List ℕ) (c : ℕ) → first (filter test xs) ≡ Some c → (test c ≡ true) × (is_member c xs ≡ true)
+pub first-filter : (test : ℕ → Bool) (xs : List ℕ) (c : ℕ) → first (filter test xs) ≡ Some c → (test c ≡ true) × (is_member c xs ≡ true)
 first-filter test [] c e = cc
 first-filter test (x ∷ xs) c e = first-passes test x xs c (test x) refl e (λ q. first-filter test xs c q)
 

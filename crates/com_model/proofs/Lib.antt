@@ -10,3 +10,9 @@ pub mod Lanes
 pub mod Sights
 pub mod Replies
 pub mod Whole
+pub mod Goods
+pub mod Cleans
+pub mod Fines
+pub mod Scenes
+pub mod Holdings
+pub mod Kept

@@ -15,6 +15,7 @@ ghost use Rattle.com_model.specs.Ends.{scheduled, ended_as, text, report};
 ghost use Rattle.com_model.specs.Cases.{direct_call_text, direct_call_report, halved_report, foreign_back, foreign_leave, forged, forged_10, halved, halved_8, direct_call, pumped_words, into_the_host, callback, answer_first, younger_first, relayed, outer_causality, delayed, direct_call_10, pumped_words_9, into_the_host_10, callback_21, answer_first_22, younger_first_15, relayed_25, outer_causality_44, delayed_28, delayed_12};
 ghost use Rattle.com_model.specs.declared.counts.Ended.TheVariants as ended;
 ghost use Rattle.com_model.specs.Clock.{clock};
+ghost use Rattle.com_model.specs.Formed.{Formed};
 ghost use Rattle.com_model.specs.State.{State, LanesStand, ApartmentsStand, ObjectsStand, CallsStand, AnswersStand, StandsFor, Bounded, first_tables, after, next_of};
 
 /// In each lane of each legal history every closer closes the innermost opener: a Back the Out of its own call, and a Leave
@@ -45,11 +46,13 @@ pub fn tables_stand()
     ensures clock { (s : Scenario) (st : State) (h : List Entry) (l : ℕ) (d : Deed) → st.clock ≡ clock h → (after s st l d).clock ≡ clock (record { lane = l; deed = d } ∷ h) }
 {}
 
-/// The first state stands for the empty history. A state that stands for a history stands, after a deed that makes a legal one, for
-/// the longer history, where nothing of it stands outside of the numbers that were given by then.
+/// The first state stands for the empty history. In a formed scenario a state that stands for a history stands, after a deed that
+/// makes a legal one, for the longer history. For nothing of a legal history of a formed scenario stands outside of the numbers
+/// that were given.
 pub fn state_stands()
     ensures first { (s : Scenario) → StandsFor s (first_tables s) [] }
-    ensures later { (s : Scenario) (st : State) (h : List Entry) (l : ℕ) (d : Deed) → legal s (record { lane = l; deed = d } ∷ h) → Bounded s (record { lane = l; deed = d } ∷ h) → StandsFor s st h → StandsFor s (after s st l d) (record { lane = l; deed = d } ∷ h) }
+    ensures bounded { (s : Scenario) (h : List Entry) → Formed s → legal s h → Bounded s h }
+    ensures later { (s : Scenario) (st : State) (h : List Entry) (l : ℕ) (d : Deed) → Formed s → legal s (record { lane = l; deed = d } ∷ h) → StandsFor s st h → StandsFor s (after s st l d) (record { lane = l; deed = d } ∷ h) }
 {}
 
 /// Where a state stands for a history, the next entry of each lane by the state's tables is the next one after the history.
