@@ -49,13 +49,20 @@ fn push_result(out: &mut ByteList, names: &[ByteList], kind: Option<Kind>) -> Re
     }
 }
 
+/// Appends the word that opens a line, and a name.
+fn push_named(out: &mut ByteList, keyword: &[u8], name: &[u8]) -> Result<(), Memory>
+    ensures { OnOk result (out.new ≡ out.old ++ words_text (plain keyword.now ∷ plain name.now ∷ [])) }
+{
+    out.push_all(keyword)?;
+    push_word(out, name)
+}
+
 /// Appends a method's line.
 #[tactic(auto, using(crate::proofs::Pieces::method_behind))]
 fn push_method(out: &mut ByteList, names: &[ByteList], method: &Method) -> Result<(), Memory>
     ensures { OnOk result (out.new ≡ out.old ++ line_text (method_words names.now method.now)) }
 {
-    out.push_all(b"method")?;
-    push_word(out, method.name.as_slice())?;
+    push_named(out, b"method", method.name.as_slice())?;
     push_kinds(out, names, method.params.as_slice())?;
     push_result(out, names, method.result)?;
     push_end(out)
@@ -77,8 +84,7 @@ fn push_interface_head(out: &mut ByteList, interface: &Interface) -> Result<(), 
     ensures ok { OnOk result (out.new ≡ out.old ++ line_text (interface_words interface.now)) }
     ensures fits { OnOk result (IsGuid interface.now.iid) }
 {
-    out.push_all(b"interface")?;
-    push_word(out, interface.name.as_slice())?;
+    push_named(out, b"interface", interface.name.as_slice())?;
     push_guid(out, interface.iid)?;
     push_end(out)
 }
