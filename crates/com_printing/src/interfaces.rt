@@ -58,7 +58,6 @@ fn push_named(out: &mut ByteList, keyword: &[u8], name: &[u8]) -> Result<(), Mem
 }
 
 /// Appends a method's line.
-#[tactic(auto, using(crate::proofs::Pieces::method_behind))]
 fn push_method(out: &mut ByteList, names: &[ByteList], method: &Method) -> Result<(), Memory>
     ensures { OnOk result (out.new ≡ out.old ++ line_text (method_words names.now method.now)) }
 {
@@ -89,6 +88,20 @@ fn push_interface_head(out: &mut ByteList, interface: &Interface) -> Result<(), 
     push_end(out)
 }
 
+/// Appends an interface's line and those of its methods.
+fn push_interface(
+    out: &mut ByteList,
+    names: &[ByteList],
+    interface: &Interface,
+) -> Result<(), Memory>
+    ensures ok { OnOk result (out.new ≡
+        out.old ++ (line_text (interface_words interface.now) ++ text_of (map (method_words names.now) interface.now.methods))) }
+    ensures fits { OnOk result (IsGuid interface.now.iid) }
+{
+    push_interface_head(out, interface)?;
+    push_methods(out, names, interface.methods.as_slice())
+}
+
 /// Appends interfaces, each with its methods.
 #[tactic(auto, using(crate::proofs::Pieces::interface_first, crate::proofs::Pieces::interfaces_fit))]
 pub(crate) fn push_interfaces(
@@ -101,8 +114,7 @@ pub(crate) fn push_interfaces(
 {
     let mut rest = interfaces;
     'interfaces: while let Some((interface, others)) = rest.split_first() {
-        push_interface_head(out, interface)?;
-        push_methods(out, names, interface.methods.as_slice())?;
+        push_interface(out, names, interface)?;
         rest = others;
     }
     Ok(())
