@@ -30,7 +30,7 @@ use Rattle.com_writing.specs.Standing.{AreDeclared, names_of}
 use Rattle.com_printing.specs.Ranges.{FitsProgram, FitsBodies, FitsAs, FitsClass}
 use Rattle.com_printing.proofs.Apart.{IsNew, new_of, new_map, new_append, same_guids, no_position, no_guid, either_left, either_right}
 use Rattle.com_printing.proofs.Bodies.{CanFollow, CanGive}
-use Rattle.com_printing.proofs.Classes.{CanOpen, CanBe, CanAdd, CanAddAll, names_at, names_of_all, name_of_class}
+use Rattle.com_printing.proofs.ClassesRead.{CanOpen, CanBe, CanAdd, CanAddAll, names_at, names_of_all, name_of_class}
 use Rattle.com_printing.proofs.Defined.{new_front, new_back}
 use Rattle.com_printing.proofs.Forms.{name_of, names_front}
 use Rattle.com_printing.proofs.Programs.{CanRead}

@@ -16,7 +16,7 @@ use Rattle.com_operands.specs.Ranges.{IsGuid, AreNames}
 use Rattle.com_printing.specs.Ranges.{FitsInterface}
 use Rattle.com_printing.proofs.Apart.{IsNew, new_of, new_map, new_append, same_guids, no_position, no_guid, either_left, either_right}
 use Rattle.com_printing.proofs.Forms.{name_of, all_of, all_each, types_front}
-use Rattle.com_printing.proofs.Interfaces.{IsSigned, CanDefine, CanDefineAll, name_of_interface}
+use Rattle.com_printing.proofs.InterfacesRead.{IsSigned, CanDefine, CanDefineAll, name_of_interface}
 use Rattle.com_printing.proofs.Methods.{AreTypes, IsKind, IsResult}
 
 -- ---- methods

@@ -46,9 +46,9 @@ use Rattle.com_writing.proofs.Targets.{is_method_name}
 use Rattle.com_printing.specs.Printed.{number_word, end_words, filter_name, filter_names, names_in, header_words, pool_words, kind_word, result_words, method_words, interface_words, interface_lines, model_word, class_head, interface_name, body_words, program_lines, bodies_lines, class_lines, classes_lines, type_word, verdict_word, refusal_word, kept_word, rule_words, rules_lines, filter_words, filters_lines, thread_words, threads_lines, picks_lines, sections_lines, scenario_lines}
 use Rattle.com_printing.specs.Ranges.{FitsTypes}
 use Rattle.com_printing.proofs.Bodies.{CanFollow, CanGive}
-use Rattle.com_printing.proofs.Classes.{CanAdd, CanBe, CanAddAll, names_at, names_of_all, name_of_class}
-use Rattle.com_printing.proofs.Filters.{good_name, CanRun}
-use Rattle.com_printing.proofs.Interfaces.{IsSigned, method_same, CanDefine, CanDefineAll, name_of_interface}
+use Rattle.com_printing.proofs.ClassesRead.{CanAdd, CanBe, CanAddAll, names_at, names_of_all, name_of_class}
+use Rattle.com_printing.proofs.FiltersRead.{good_name, CanRun}
+use Rattle.com_printing.proofs.InterfacesRead.{IsSigned, method_same, CanDefine, CanDefineAll, name_of_interface}
 use Rattle.com_printing.proofs.Methods.{AreTypes, IsKind, IsResult}
 use Rattle.com_printing.proofs.Programs.{CanRead}
 use Rattle.com_printing.proofs.Rules.{whole_answer}

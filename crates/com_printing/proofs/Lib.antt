@@ -8,9 +8,9 @@ pub mod Standings
 pub mod Apart
 pub mod Programs
 pub mod Bodies
-pub mod Classes
-pub mod Interfaces
-pub mod Filters
+pub mod ClassesRead
+pub mod InterfacesRead
+pub mod FiltersRead
 pub mod Forms
 pub mod Defined
 pub mod Added

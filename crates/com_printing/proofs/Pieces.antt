@@ -3,6 +3,7 @@ use Rattle.std.proofs.Common.{◌≡◌, ℕ, ◌+◌, List, [], ◌∷◌, ◌+
 use Rattle.std.proofs.lemmas.List.{append-nil, drop_more}
 use Rattle.std.proofs.lemmas.List.Elements.{All-cons}
 use Rattle.com_base.specs.declared.value.Kind.{Kind}
+use Rattle.com_base.specs.Guids.{text_of as text_of_guid}
 use Rattle.com_body.specs.declared.statements.Stmt.{Stmt}
 use Rattle.com_classes.specs.declared.interfaces.Interface.{Interface}
 use Rattle.com_classes.specs.declared.interfaces.Method.{Method}
@@ -16,7 +17,7 @@ use Rattle.com_spelling.specs.Spelled.{Spelled, plain, more_text, words_text, li
 use Rattle.com_operands.specs.Ranges.{Fits, IsGuid}
 use Rattle.com_writing.specs.Words.{statement_words}
 use Rattle.com_writing.proofs.Pieces.{both_texts, words_behind}
-use Rattle.com_printing.specs.Printed.{kind_word, result_words, method_words, interface_words, interface_lines, program_lines, body_words, bodies_lines, class_head, interface_name, class_lines, classes_lines, rule_words, rules_lines, filter_words, filters_lines, thread_words, threads_lines, number_word, kept_word, picks_lines}
+use Rattle.com_printing.specs.Printed.{kind_word, result_words, method_words, interface_words, interface_lines, program_lines, body_words, bodies_lines, class_head, interface_name, class_lines, classes_lines, rule_words, rules_lines, filter_words, filters_lines, thread_words, threads_lines, number_word, kept_word, picks_lines, model_word}
 use Rattle.com_printing.specs.Ranges.{FitsProgram, FitsBodies, FitsClass, FitsInterface}
 use Rattle.com_printing.proofs.Lists.{next_class, no_class, all_dropped}
 
@@ -54,9 +55,14 @@ pub method_first : (text longer : List ℕ) (names : List (List ℕ)) (m : Metho
     → longer ++ text_of (map (method_words names) rest) ≡ text ++ text_of (map (method_words names) (m ∷ rest))
 method_first text longer names m rest h = line_in_two text longer (line_text (method_words names m)) (text_of (map (method_words names) rest)) h
 
-pub interface_first : (text second longer : List ℕ) (names : List (List ℕ)) (i : Interface) (rest : List Interface) → second ≡ text ++ line_text (interface_words i)
-    → longer ≡ second ++ text_of (map (method_words names) i.methods) → longer ++ text_of (interface_lines names rest) ≡ text ++ text_of (interface_lines names (i ∷ rest))
-interface_first text second longer names i rest a b = lines_in_three text second longer (line_text (interface_words i)) (map (method_words names) i.methods) (interface_lines names rest) a b
+pub interface_first : (text longer : List ℕ) (names : List (List ℕ)) (i : Interface) (rest : List Interface)
+    → longer ≡ text ++ (line_text (interface_words i) ++ text_of (map (method_words names) i.methods)) → longer ++ text_of (interface_lines names rest) ≡ text ++ text_of (interface_lines names (i ∷ rest))
+interface_first text longer names i rest h =
+    let line = line_text (interface_words i) in
+    let methods = map (method_words names) i.methods in
+    line_in_two text longer (line ++ text_of methods) (text_of (interface_lines names rest)) h
+    ∙ ap (λ (t : List ℕ). text ++ t) (append_assoc line (text_of methods) (text_of (interface_lines names rest)))
+    ∙ ap (λ (t : List ℕ). text ++ (line ++ t)) (sym (all_text methods (interface_lines names rest)))
 
 pub interfaces_fit : (i : Interface) (rest whole : List Interface) → (All FitsInterface (i ∷ rest) → All FitsInterface whole) → IsGuid i.iid → All FitsInterface rest → All FitsInterface whole
 interfaces_fit i rest whole f one all = f (All-cons FitsInterface i rest one all)
@@ -89,18 +95,18 @@ line_behind : (text first second : List ℕ) (w : Spelled) (ws more : List Spell
 line_behind text first second w ws more a b =
     ap (λ (t : List ℕ). t ++ 10 ∷ []) (b ∙ words_behind text first w ws more a) ∙ append_assoc text (words_text (w ∷ (ws ++ more))) (10 ∷ [])
 
-pub class_behind : (text first second : List ℕ) (c : Class) (more : List Spelled) → first ≡ text ++ words_text (class_head (codes "class") c []) → second ≡ first ++ more_text more
-    → second ++ 10 ∷ [] ≡ text ++ line_text (class_head (codes "class") c more)
-class_behind text first second c more a b = line_behind text first second _ _ more a b
+-- a class's name, CLSID and model
+abbrev head_words : Class → List Spelled
+head_words c = plain c.name ∷ plain (text_of_guid c.clsid) ∷ model_word c.model ∷ []
 
-pub native_behind : (text first second : List ℕ) (c : Class) (kind : List ℕ) → first ≡ text ++ words_text (class_head (codes "native") c []) → second ≡ first ++ more_text (plain kind ∷ [])
-    → second ++ 10 ∷ [] ≡ text ++ line_text (class_head (codes "native") c (plain kind ∷ []))
-native_behind text first second c kind a b = line_behind text first second _ _ (plain kind ∷ []) a b
+pub class_behind : (text first second : List ℕ) (word : List ℕ) (c : Class) (more : List Spelled) → first ≡ text ++ words_text (class_head word c []) → second ≡ first ++ more_text more
+    → second ++ 10 ∷ [] ≡ text ++ line_text (class_head word c more)
+class_behind text first second word c more a b = line_behind text first second (plain word) (head_words c) more a b
 
 pub method_behind : (text first second third : List ℕ) (name : List ℕ) (kinds result : List Spelled) → first ≡ text ++ words_text (plain (codes "method") ∷ plain name ∷ []) → second ≡ first ++ more_text kinds
     → third ≡ second ++ more_text result → third ++ 10 ∷ [] ≡ text ++ line_text (plain (codes "method") ∷ plain name ∷ (kinds ++ result))
 method_behind text first second third name kinds result a b c =
-    line_behind text second third _ (plain name ∷ kinds) result (b ∙ words_behind text first _ (plain name ∷ []) kinds a) c
+    line_behind text second third (plain (codes "method")) (plain name ∷ kinds) result (b ∙ words_behind text first (plain (codes "method")) (plain name ∷ []) kinds a) c
 
 -- a class, and then the others of the tables
 pub class_first : (text longer : List ℕ) (names : Names) (t : Tables) (n : ℕ) (c : Class) → Some c ≡ class_at t (n + 1)

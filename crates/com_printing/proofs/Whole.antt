@@ -40,11 +40,11 @@ use Rattle.com_printing.specs.Printed.{header_words, pool_words, number_word, fi
 use Rattle.com_printing.specs.Ranges.{FitsInterface, FitsClass, FitsProgram, FitsTypes}
 use Rattle.com_printing.proofs.Added.{add_all, can_read_all}
 use Rattle.com_printing.proofs.Apart.{IsNew, new_append, either_left, either_right}
-use Rattle.com_printing.proofs.Classes.{at_classes, names_of_all, name_of_class, CanAddAll, classes_on}
+use Rattle.com_printing.proofs.ClassesRead.{at_classes, names_of_all, name_of_class, CanAddAll, classes_on}
 use Rattle.com_printing.proofs.Defined.{new_front, new_back, define_all, new_iid, no_type_word}
-use Rattle.com_printing.proofs.Filters.{at_filters, filters_on, good_name, no_none, AreOlder, at_threads, CanRun, threads_on, at_picks, picks_on, filters_named}
+use Rattle.com_printing.proofs.FiltersRead.{at_filters, filters_on, good_name, no_none, AreOlder, at_threads, CanRun, threads_on, at_picks, picks_on, filters_named}
 use Rattle.com_printing.proofs.Forms.{name_of, apart_map, all_map, all_of, all_each}
-use Rattle.com_printing.proofs.Interfaces.{IsTop, at_interfaces, name_of_interface, CanDefineAll, interfaces_on}
+use Rattle.com_printing.proofs.InterfacesRead.{IsTop, at_interfaces, name_of_interface, CanDefineAll, interfaces_on}
 use Rattle.com_printing.proofs.Methods.{AreTypes}
 use Rattle.com_printing.proofs.Places.{at_of}
 use Rattle.com_printing.proofs.Runs.{Gets, line_then, step_in, ends}

@@ -96,7 +96,6 @@ fn push_listed(out: &mut ByteList, names: &Names, interfaces: &[u16]) -> Result<
 }
 
 /// Appends a class's first line.
-#[tactic(auto, using(crate::proofs::Pieces::class_behind))]
 fn push_class_line(out: &mut ByteList, names: &Names, class: &Class) -> Result<(), Memory>
     ensures ok { OnOk result (out.new ≡ out.old ++ line_text (class_head (codes "class") class.now (map (interface_name names.now) class.now.interfaces))) }
     ensures fits { OnOk result (IsGuid class.now.clsid) }
@@ -107,7 +106,6 @@ fn push_class_line(out: &mut ByteList, names: &Names, class: &Class) -> Result<(
 }
 
 /// Appends a native's line.
-#[tactic(auto, using(crate::proofs::Pieces::native_behind))]
 fn push_native(out: &mut ByteList, class: &Class, kind: &[u8]) -> Result<(), Memory>
     ensures ok { OnOk result (out.new ≡ out.old ++ line_text (class_head (codes "native") class.now (plain kind.now ∷ []))) }
     ensures fits { OnOk result (IsGuid class.now.clsid) }

@@ -49,13 +49,19 @@ fn push_result(out: &mut ByteList, names: &[ByteList], kind: Option<Kind>) -> Re
     }
 }
 
+/// Appends the word that opens a line, and a name.
+fn push_named(out: &mut ByteList, keyword: &[u8], name: &[u8]) -> Result<(), Memory>
+    ensures { OnOk result (out.new ≡ out.old ++ words_text (plain keyword.now ∷ plain name.now ∷ [])) }
+{
+    out.push_all(keyword)?;
+    push_word(out, name)
+}
+
 /// Appends a method's line.
-#[tactic(auto, using(crate::proofs::Pieces::method_behind))]
 fn push_method(out: &mut ByteList, names: &[ByteList], method: &Method) -> Result<(), Memory>
     ensures { OnOk result (out.new ≡ out.old ++ line_text (method_words names.now method.now)) }
 {
-    out.push_all(b"method")?;
-    push_word(out, method.name.as_slice())?;
+    push_named(out, b"method", method.name.as_slice())?;
     push_kinds(out, names, method.params.as_slice())?;
     push_result(out, names, method.result)?;
     push_end(out)
@@ -77,10 +83,23 @@ fn push_interface_head(out: &mut ByteList, interface: &Interface) -> Result<(), 
     ensures ok { OnOk result (out.new ≡ out.old ++ line_text (interface_words interface.now)) }
     ensures fits { OnOk result (IsGuid interface.now.iid) }
 {
-    out.push_all(b"interface")?;
-    push_word(out, interface.name.as_slice())?;
+    push_named(out, b"interface", interface.name.as_slice())?;
     push_guid(out, interface.iid)?;
     push_end(out)
+}
+
+/// Appends an interface's line and those of its methods.
+fn push_interface(
+    out: &mut ByteList,
+    names: &[ByteList],
+    interface: &Interface,
+) -> Result<(), Memory>
+    ensures ok { OnOk result (out.new ≡
+        out.old ++ (line_text (interface_words interface.now) ++ text_of (map (method_words names.now) interface.now.methods))) }
+    ensures fits { OnOk result (IsGuid interface.now.iid) }
+{
+    push_interface_head(out, interface)?;
+    push_methods(out, names, interface.methods.as_slice())
 }
 
 /// Appends interfaces, each with its methods.
@@ -95,8 +114,7 @@ pub(crate) fn push_interfaces(
 {
     let mut rest = interfaces;
     'interfaces: while let Some((interface, others)) = rest.split_first() {
-        push_interface_head(out, interface)?;
-        push_methods(out, names, interface.methods.as_slice())?;
+        push_interface(out, names, interface)?;
         rest = others;
     }
     Ok(())
