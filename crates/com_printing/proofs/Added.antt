@@ -1,6 +1,6 @@
 -- The classes of a formed scenario can be declared one after another, and its bodies and scripts stand where they are.
-use Rattle.std.proofs.Common.{◌≡◌, ℕ, zero, suc, ◌+◌, ◌≤◌, ◌<◌, ◌&&◌, ◌||◌, List, [], ◌∷◌, ◌++◌, map, Option, Some, None, is_some, Bool, true, false, not, if◌then◌else◌, refl, sym, ap, ◌∙◌, subst, arith, length, length-append, slice_get, All, append_assoc, bytes_eq}
-use Rattle.std.proofs.lemmas.List.{append-nil, map-append, length-map}
+use Rattle.std.proofs.Common.{◌≡◌, ℕ, zero, suc, ◌+◌, ◌≤◌, ◌<◌, List, [], ◌∷◌, ◌++◌, map, Option, Some, None, true, false, not, refl, sym, ap, ◌∙◌, subst, arith, length, length-append, slice_get, All, append_assoc, bytes_eq}
+use Rattle.std.proofs.lemmas.List.{map-append, length-map}
 use Rattle.std.proofs.lemmas.List.Elements.{All-head, All-tail}
 use Rattle.com_base.specs.declared.guid.Guid.{Guid}
 use Rattle.com_body.specs.declared.statements.Stmt.{Stmt}
@@ -16,21 +16,19 @@ use Rattle.com_model.specs.declared.scenario.Scenario.{Scenario}
 use Rattle.com_classes.specs.Activation.{is_agile}
 use Rattle.com_classes.specs.Lookups.{same_guid, interface_at}
 use Rattle.com_model.specs.Formed.{Distinct, EachFrom, Context, FormedBody, in_class, methods_of, IsBody, same_body, IsNative, IsClass, same_class}
-use Rattle.com_fields.specs.Naming.{is_name}
 use Rattle.com_statements.specs.declared.keywords.Program.{Program}
-use Rattle.com_statements.specs.declared.keywords.Program.TheVariants as programs
 use Rattle.com_statements.specs.declared.names.Names.{Names}
 use Rattle.com_statements.specs.Keywords.{has_cells, has_links}
 use Rattle.com_statements.specs.Calls.{method_of, in_methods}
 use Rattle.com_sections.specs.declared.state.State.{State}
 use Rattle.com_sections.specs.Tables.{guid_eq}
 use Rattle.com_sections.specs.Opened.{program_of}
-use Rattle.com_operands.specs.Ranges.{IsGuid, AreNames, Fits}
-use Rattle.com_writing.specs.Standing.{AreDeclared, names_of}
+use Rattle.com_operands.specs.Ranges.{AreNames}
+use Rattle.com_writing.specs.Standing.{AreDeclared}
 use Rattle.com_printing.specs.Ranges.{FitsProgram, FitsBodies, FitsAs, FitsClass}
 use Rattle.com_printing.proofs.Apart.{IsNew, new_of, new_map, new_append, same_guids, no_position, no_guid, either_left, either_right}
-use Rattle.com_printing.proofs.Bodies.{CanFollow, CanGive}
-use Rattle.com_printing.proofs.ClassesRead.{CanOpen, CanBe, CanAdd, CanAddAll, names_at, names_of_all, name_of_class}
+use Rattle.com_printing.proofs.Bodies.{CanGive}
+use Rattle.com_printing.proofs.ClassesRead.{CanBe, CanAdd, CanAddAll, names_at, names_of_all, name_of_class}
 use Rattle.com_printing.proofs.Defined.{new_front, new_back}
 use Rattle.com_printing.proofs.Forms.{name_of, names_front}
 use Rattle.com_printing.proofs.Programs.{CanRead}

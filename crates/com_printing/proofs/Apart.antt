@@ -1,15 +1,12 @@
 -- What is declared is new where it is declared.
-use Rattle.std.proofs.Common.{◌≡◌, ℕ, ◌+◌, ◌==◌, ◌&&◌, ◌||◌, List, [], ◌∷◌, ◌++◌, map, Option, Some, None, is_some, Bool, true, false, if◌then◌else◌, refl, sym, ap, ◌∙◌, All, option_map, bytes_eq, arith, length}
-use Rattle.std.proofs.lemmas.Bool.Decides.{nat_tests}
+use Rattle.std.proofs.Common.{◌≡◌, ℕ, ◌+◌, ◌||◌, List, [], ◌∷◌, ◌++◌, map, Option, Some, None, is_some, Bool, true, false, if◌then◌else◌, refl, ap, ◌∙◌, All, option_map, bytes_eq}
 use Rattle.std.proofs.lemmas.List.Elements.{All-head, All-tail}
-use Rattle.std.proofs.lemmas.Slice.Eq.{bytes_eq-Decides}
 use Rattle.com_base.specs.declared.guid.Guid.{Guid}
 use Rattle.com_classes.specs.declared.interfaces.Method.{Method}
 use Rattle.com_classes.specs.declared.classes.MethodBody.{MethodBody}
 use Rattle.com_classes.specs.Lookups.{same_guid}
 use Rattle.com_model.specs.Formed.{Distinct, same_body, same_method}
 use Rattle.com_fields.specs.Naming.{position_of}
-use Rattle.com_statements.specs.declared.calls.MethodNumber.{MethodNumber}
 use Rattle.com_statements.specs.Calls.{method_position}
 use Rattle.com_sections.specs.Tables.{guid_eq, has_guid}
 use Rattle.com_sections.specs.Opened.{has_body}

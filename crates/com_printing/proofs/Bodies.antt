@@ -1,5 +1,5 @@
 -- The bodies of a class are read again.
-use Rattle.std.proofs.Common.{◌≡◌, ℕ, ◌+◌, ◌≤◌, ◌<◌, ◌==◌, List, [], ◌∷◌, ◌++◌, map, take, drop, Option, Some, None, Bool, true, false, if◌then◌else◌, refl, sym, ap, ◌∙◌, subst, arith, length, slice_get, codes, Result, Ok, Err, bytes_eq, All, append_assoc}
+use Rattle.std.proofs.Common.{◌≡◌, ℕ, ◌+◌, ◌<◌, ◌==◌, List, [], ◌∷◌, ◌++◌, map, take, drop, Option, Some, None, Bool, true, false, if◌then◌else◌, sym, ap, ◌∙◌, subst, length, codes, Result, Ok, Err, bytes_eq, All, append_assoc}
 use Rattle.std.proofs.lemmas.List.{append-nil}
 use Rattle.std.proofs.lemmas.List.Elements.{All-head, All-tail}
 use Rattle.com_body.specs.declared.statements.Stmt.{Stmt}
@@ -10,11 +10,10 @@ use Rattle.com_classes.specs.declared.classes.MethodBody.{MethodBody}
 use Rattle.com_model.specs.Formed.{Distinct, same_body}
 use Rattle.com_text.specs.Words.{WordAt}
 use Rattle.com_fields.specs.declared.faults.Fault.{Fault}
-use Rattle.com_fields.specs.Reading.{◌>>=◌, fault_at, word_at, first_at, end_at, within}
+use Rattle.com_fields.specs.Reading.{◌>>=◌, fault_at, word_at, end_at, within}
 use Rattle.com_fields.specs.Numbers.{number_of}
 use Rattle.com_fields.specs.Naming.{is_name, number_of_name}
 use Rattle.com_statements.specs.declared.calls.MethodNumber.{MethodNumber}
-use Rattle.com_statements.specs.declared.calls.Target.{Target}
 use Rattle.com_statements.specs.declared.calls.Target.TheVariants as targets
 use Rattle.com_statements.specs.declared.names.Names.{Names}
 use Rattle.com_statements.specs.declared.keywords.Program.{Program}
@@ -22,12 +21,12 @@ use Rattle.com_statements.specs.Calls.{dot_of, method_of, method_at, target_at, 
 use Rattle.com_sections.specs.declared.outline.Outline.{Outline}
 use Rattle.com_sections.specs.declared.state.State.{State}
 use Rattle.com_sections.specs.declared.state.Section.TheVariants as sections
-use Rattle.com_sections.specs.Codes.{CodeAt, code_more, blank_code}
+use Rattle.com_sections.specs.Codes.{blank_code}
 use Rattle.com_sections.specs.Tables.{blank_class}
 use Rattle.com_sections.specs.Opened.{step, has_body, body_head, class_ended, inner_class, program_of}
 use Rattle.com_spelling.specs.Spelled.{Spelled, plain, spelled_of}
 use Rattle.com_operands.specs.Words.{name_at}
-use Rattle.com_operands.proofs.Places.{at, StandsAt, stands, end_again, word_again}
+use Rattle.com_operands.proofs.Places.{at, end_again}
 use Rattle.com_writing.specs.Standing.{AreDeclared}
 use Rattle.com_writing.specs.Words.{statement_words, name_of}
 use Rattle.com_writing.proofs.Targets.{named_again}

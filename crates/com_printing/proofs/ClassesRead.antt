@@ -1,5 +1,5 @@
 -- Classes and natives are read again.
-use Rattle.std.proofs.Common.{◌≡◌, ℕ, ◌+◌, ◌≤◌, ◌<◌, List, [], ◌∷◌, ◌++◌, map, Some, is_some, Bool, true, false, refl, sym, ap, ◌∙◌, subst, arith, length, codes, Ok, All, append_assoc}
+use Rattle.std.proofs.Common.{◌≡◌, ℕ, ◌≤◌, ◌<◌, List, [], ◌∷◌, ◌++◌, map, Some, is_some, true, false, refl, sym, ap, ◌∙◌, subst, length, codes, Ok, All, append_assoc}
 use Rattle.std.proofs.lemmas.List.{append-nil}
 use Rattle.com_base.specs.declared.guid.Guid.{Guid}
 use Rattle.com_body.specs.declared.frame.Native.{Native}
@@ -21,13 +21,13 @@ use Rattle.com_sections.specs.Codes.{blank_code}
 use Rattle.com_sections.specs.Tables.{has_guid, blank_class}
 use Rattle.com_sections.specs.Declaring.{relay_of, native_at, natives_of}
 use Rattle.com_sections.specs.Opened.{program_of}
-use Rattle.com_spelling.specs.Spelled.{Spelled, plain, spelled_of}
+use Rattle.com_spelling.specs.Spelled.{Spelled, plain}
 use Rattle.com_operands.specs.Ranges.{IsGuid}
 use Rattle.com_operands.proofs.Places.{at}
 use Rattle.com_writing.specs.Standing.{AreDeclared}
 use Rattle.com_printing.specs.Printed.{class_head, interface_name, bodies_lines, class_lines, classes_lines}
 use Rattle.com_printing.proofs.Places.{at_of, counter_again, relay_again, latch_again}
-use Rattle.com_printing.proofs.Bodies.{CanGive, in_class, class_read, bodies_on}
+use Rattle.com_printing.proofs.Bodies.{CanGive, class_read, bodies_on}
 use Rattle.com_printing.proofs.Runs.{Gets, line_then, step_in}
 use Rattle.com_printing.proofs.Tops.{CanDeclare, class_by, class_again, native_by, native_again}
 

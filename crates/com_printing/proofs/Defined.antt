@@ -1,6 +1,6 @@
 -- The interfaces of a formed scenario can be declared one after another.
-use Rattle.std.proofs.Common.{◌≡◌, ℕ, ◌+◌, ◌≤◌, ◌<◌, ◌&&◌, ◌||◌, List, [], ◌∷◌, ◌++◌, map, Option, Some, None, is_some, Bool, true, false, if◌then◌else◌, refl, sym, ap, ◌∙◌, subst, arith, length, length-append, codes, All, append_assoc, bytes_eq}
-use Rattle.std.proofs.lemmas.List.{append-nil, map-append, length-map}
+use Rattle.std.proofs.Common.{◌≡◌, ℕ, ◌+◌, ◌≤◌, List, [], ◌∷◌, ◌++◌, map, Option, Some, None, is_some, Bool, false, if◌then◌else◌, refl, sym, ap, ◌∙◌, subst, arith, length, length-append, codes, All, append_assoc, bytes_eq}
+use Rattle.std.proofs.lemmas.List.{map-append, length-map}
 use Rattle.std.proofs.lemmas.List.Elements.{All-head, All-tail}
 use Rattle.com_base.specs.declared.guid.Guid.{Guid}
 use Rattle.com_base.specs.declared.value.Kind.{Kind}
@@ -8,14 +8,12 @@ use Rattle.com_base.specs.declared.value.Kind.TheVariants as kinds
 use Rattle.com_classes.specs.declared.interfaces.Interface.{Interface}
 use Rattle.com_classes.specs.declared.interfaces.Method.{Method}
 use Rattle.com_classes.specs.Lookups.{same_guid}
-use Rattle.com_model.specs.Formed.{Distinct, EachFrom, IsKindBy, IsResultBy, IsMethod, same_method, IsInterface, same_interface, is_reserved, is_type_word, IsAllowed, documented_iid}
-use Rattle.com_fields.specs.Naming.{is_name, position_of}
-use Rattle.com_sections.specs.Tables.{guid_eq, has_guid}
+use Rattle.com_model.specs.Formed.{Distinct, EachFrom, IsKindBy, IsResultBy, IsMethod, IsInterface, same_interface, is_type_word, IsAllowed}
+use Rattle.com_sections.specs.Tables.{guid_eq}
 use Rattle.com_sections.specs.Methods.{type_word_of}
-use Rattle.com_operands.specs.Ranges.{IsGuid, AreNames}
 use Rattle.com_printing.specs.Ranges.{FitsInterface}
 use Rattle.com_printing.proofs.Apart.{IsNew, new_of, new_map, new_append, same_guids, no_position, no_guid, either_left, either_right}
-use Rattle.com_printing.proofs.Forms.{name_of, all_of, all_each, types_front}
+use Rattle.com_printing.proofs.Forms.{name_of, all_each, types_front}
 use Rattle.com_printing.proofs.InterfacesRead.{IsSigned, CanDefine, CanDefineAll, name_of_interface}
 use Rattle.com_printing.proofs.Methods.{AreTypes, IsKind, IsResult}
 

@@ -1,5 +1,5 @@
 -- Filters, threads and picks are read again.
-use Rattle.std.proofs.Common.{◌≡◌, ℕ, ◌+◌, ◌≤◌, ◌<◌, ◌^◌, ◌&&◌, List, [], ◌∷◌, ◌++◌, map, Some, None, is_some, Bool, true, false, nat_le, if◌then◌else◌, refl, sym, ap, ◌∙◌, subst, arith, length, length-append, codes, decimal, Result, Ok, Err, All, append_assoc, bytes_eq, slice_index_or, zero, suc}
+use Rattle.std.proofs.Common.{◌≡◌, ℕ, ◌+◌, ◌≤◌, ◌<◌, ◌^◌, ◌&&◌, List, [], ◌∷◌, ◌++◌, map, None, Bool, true, false, nat_le, if◌then◌else◌, refl, sym, ap, ◌∙◌, subst, arith, length, length-append, codes, decimal, Result, Ok, All, append_assoc, bytes_eq, slice_index_or, zero, suc}
 use Rattle.std.specs.List.{list_all}
 use Rattle.std.specs.Char.{is_ascii_alphabetic}
 use Rattle.std.proofs.lemmas.List.{append-nil}
@@ -14,8 +14,8 @@ use Rattle.com_model.specs.Formed.{IsRule, IsFilter}
 use Rattle.com_text.specs.Words.{WordAt}
 use Rattle.com_fields.specs.declared.faults.Fault.{Fault}
 use Rattle.com_fields.specs.Numbers.{is_digit}
-use Rattle.com_fields.specs.Reading.{◌>>=◌, first_at, end_at}
-use Rattle.com_fields.specs.Naming.{is_name, is_tail, are_tail, position_of}
+use Rattle.com_fields.specs.Reading.{◌>>=◌}
+use Rattle.com_fields.specs.Naming.{is_name, is_tail, are_tail}
 use Rattle.com_statements.specs.declared.keywords.Program.TheVariants as programs
 use Rattle.com_statements.specs.declared.names.Names.{Names}
 use Rattle.com_sections.specs.declared.outline.Outline.{Outline}

@@ -1,19 +1,18 @@
 -- What follows a place of a line, word by word.
-use Rattle.std.proofs.Common.{◌≡◌, ℕ, zero, suc, ◌+◌, ◌≤◌, ◌<◌, ◌^◌, List, [], ◌∷◌, ◌++◌, map, drop, length-append, Option, Some, None, Bool, true, false, nat_le, ◌&&◌, refl, sym, ap, ◌∙◌, arith, length, slice_get, codes, decimal, Result, Ok, Err, bytes_eq, All, append_assoc}
+use Rattle.std.proofs.Common.{◌≡◌, ℕ, zero, suc, ◌+◌, ◌≤◌, ◌<◌, ◌^◌, List, [], ◌∷◌, ◌++◌, map, drop, length-append, Some, Bool, true, false, nat_le, refl, sym, ap, ◌∙◌, arith, length, slice_get, Result, Ok, bytes_eq, All, append_assoc}
 use Rattle.std.proofs.lemmas.List.{append-nil}
 use Rattle.std.proofs.lemmas.Slice.Eq.{bytes_eq-Decides}
 use Rattle.std.proofs.lemmas.Bool.Decides.{nat_tests}
 use Rattle.std.proofs.lemmas.List.Elements.{All-head, All-tail}
 use Rattle.com_text.specs.Words.{WordAt}
 use Rattle.com_fields.specs.declared.faults.Fault.{Fault}
-use Rattle.com_fields.specs.Reading.{◌>>=◌, fault_at, word_at, stands_at, number_at}
-use Rattle.com_fields.specs.Naming.{declared_at}
+use Rattle.com_fields.specs.Reading.{◌>>=◌}
 use Rattle.com_sections.specs.Declaring.{listed_item, listed_on, listed_at, pick_at, picks_on}
 use Rattle.com_spelling.specs.Spelled.{Spelled, plain, spelled_of}
 use Rattle.com_operands.specs.Words.{name_at}
 use Rattle.com_operands.specs.Ranges.{AreNames}
 use Rattle.com_operands.proofs.Names.{declared_again}
-use Rattle.com_operands.proofs.Places.{at, StandsAt, stands, word_again, present, number_at_again}
+use Rattle.com_operands.proofs.Places.{at, stands, word_again, present, number_at_again}
 use Rattle.com_printing.specs.Printed.{number_word}
 
 -- words that differ by a test

@@ -1,24 +1,13 @@
 -- What a formed scenario declares can be written and read where it stands: names and interfaces.
-use Rattle.std.proofs.Common.{◌≡◌, ℕ, zero, suc, ◌+◌, ◌≤◌, ◌<◌, ◌^◌, ◌&&◌, ◌||◌, List, [], ◌∷◌, ◌++◌, map, Option, Some, None, is_some, Bool, true, false, nat_le, if◌then◌else◌, refl, sym, ap, ◌∙◌, subst, arith, length, length-append, codes, All, append_assoc, bytes_eq, slice_index_or}
+use Rattle.std.proofs.Common.{◌≡◌, ℕ, zero, suc, ◌+◌, ◌<◌, ◌&&◌, List, [], ◌∷◌, ◌++◌, map, is_some, Bool, true, false, nat_le, if◌then◌else◌, refl, ap, ◌∙◌, arith, length, length-append, All, bytes_eq, slice_index_or}
 use Rattle.std.specs.Char.{is_ascii_alphabetic}
-use Rattle.std.proofs.lemmas.List.{append-nil, map-append, length-map}
 use Rattle.std.proofs.lemmas.List.Elements.{All-head, All-tail, All-append}
 use Rattle.std.proofs.lemmas.Bool.Decides.{nat_tests}
-use Rattle.com_base.specs.declared.guid.Guid.{Guid}
-use Rattle.com_base.specs.declared.value.Kind.{Kind}
-use Rattle.com_base.specs.declared.value.Kind.TheVariants as kinds
-use Rattle.com_classes.specs.declared.interfaces.Interface.{Interface}
-use Rattle.com_classes.specs.declared.interfaces.Method.{Method}
-use Rattle.com_model.specs.Formed.{is_letter, is_name_byte, IsName, Distinct, EachFrom, IsKindBy, IsResultBy, IsMethod, same_method, IsInterface, same_interface, is_reserved, is_type_word, IsAllowed, documented_iid}
-use Rattle.com_fields.specs.Naming.{is_tail, are_tail, is_name, position_of}
-use Rattle.com_sections.specs.Tables.{guid_eq, has_guid}
+use Rattle.com_model.specs.Formed.{is_letter, is_name_byte, IsName, Distinct, EachFrom}
+use Rattle.com_fields.specs.Naming.{is_tail, are_tail, is_name}
 use Rattle.com_sections.specs.Methods.{type_word_of}
-use Rattle.com_operands.specs.Ranges.{IsGuid, AreNames, Distinct as Apart}
-use Rattle.com_writing.specs.Standing.{names_of}
-use Rattle.com_printing.specs.Ranges.{FitsInterface}
-use Rattle.com_printing.proofs.Apart.{IsNew, new_of, new_by, new_map, new_append, same_guids, no_position, no_guid, either_left, either_right}
-use Rattle.com_printing.proofs.InterfacesRead.{IsSigned, CanDefine, CanDefineAll, name_of_interface}
-use Rattle.com_printing.proofs.Methods.{AreTypes, IsKind, IsResult}
+use Rattle.com_operands.specs.Ranges.{AreNames, Distinct as Apart}
+use Rattle.com_printing.proofs.Methods.{AreTypes}
 
 -- ---- names
 

@@ -1,7 +1,5 @@
 -- The words of a formed scenario's lines are good words.
-use Rattle.std.proofs.Common.{◌≡◌, ℕ, ◌+◌, ◌≤◌, ◌<◌, ◌^◌, ◌&&◌, List, [], ◌∷◌, ◌++◌, map, drop, Option, Some, None, Bool, true, false, refl, sym, ap, ◌∙◌, subst, arith, length, length-append, codes, decimal, All, append_assoc, zero, suc, ◌==◌, ◌||◌, ℤ, pos, negsuc}
-use Rattle.std.specs.List.{list_all}
-use Rattle.std.specs.Fmt.{signed_decimal}
+use Rattle.std.proofs.Common.{◌≡◌, ℕ, ◌+◌, ◌≤◌, ◌<◌, ◌^◌, List, [], ◌∷◌, ◌++◌, map, drop, Option, Some, None, true, refl, sym, ap, ◌∙◌, subst, arith, length, length-append, codes, All, append_assoc, zero, suc, ◌==◌, ◌||◌}
 use Rattle.std.proofs.lemmas.Bool.Decides.{nat_tests}
 use Rattle.std.proofs.lemmas.List.Folds.{list_all-append}
 use Rattle.std.proofs.lemmas.List.Elements.{All-head, All-tail}
@@ -9,7 +7,6 @@ use Rattle.com_base.specs.declared.guid.Guid.{Guid}
 use Rattle.com_base.specs.declared.value.Kind.{Kind}
 use Rattle.com_base.specs.declared.value.Kind.TheVariants as kinds
 use Rattle.com_base.specs.declared.value.Value.TheVariants as values
-use Rattle.com_base.specs.Guids.{text_of as text_of_guid}
 use Rattle.com_body.specs.declared.operands.Op.TheVariants as ops
 use Rattle.com_body.specs.declared.statements.Stmt.{Stmt}
 use Rattle.com_body.specs.declared.frame.Native.{Native}
@@ -26,31 +23,29 @@ use Rattle.com_filter.specs.declared.Rule.TheVariants as rules
 use Rattle.com_filter.specs.declared.Verdict.{Verdict}
 use Rattle.com_filter.specs.declared.Verdict.TheVariants as verdicts
 use Rattle.com_model.specs.declared.scenario.Scenario.{Scenario}
-use Rattle.com_model.specs.Formed.{Formed, IsRule, IsType, IsRetryAnswer, IsFilter}
+use Rattle.com_model.specs.Formed.{Formed, IsRule, IsType, IsFilter}
 use Rattle.com_fields.specs.Naming.{is_name}
 use Rattle.com_statements.specs.declared.keywords.Program.{Program}
 use Rattle.com_statements.specs.declared.keywords.Program.TheVariants as programs
 use Rattle.com_statements.specs.declared.names.Names.{Names}
-use Rattle.com_statements.specs.Calls.{method_of}
 use Rattle.com_sections.specs.declared.state.State.{State}
 use Rattle.com_sections.specs.Opened.{program_of}
 use Rattle.com_sections.specs.Outlines.{taken_iids}
 use Rattle.com_spelling.specs.Spelled.{Spelled, plain, is_word_byte, IsPlainWord, IsSpelled, AreSpelled, AreLines}
 use Rattle.com_operands.specs.Words.{name_at}
-use Rattle.com_operands.specs.Ranges.{AreNames, IsWhole}
+use Rattle.com_operands.specs.Ranges.{AreNames}
 use Rattle.com_operands.proofs.Spellings.{decimal_spelled, guid_spelled, op_spelled, name_spelled, name_bytes}
 use Rattle.com_writing.specs.Standing.{AreDeclared}
-use Rattle.com_writing.specs.Words.{statement_words, name_of}
+use Rattle.com_writing.specs.Words.{name_of}
 use Rattle.com_writing.proofs.Goods.{statement_spelled}
 use Rattle.com_writing.proofs.Targets.{is_method_name}
-use Rattle.com_printing.specs.Printed.{number_word, end_words, filter_name, filter_names, names_in, header_words, pool_words, kind_word, result_words, method_words, interface_words, interface_lines, model_word, class_head, interface_name, body_words, program_lines, bodies_lines, class_lines, classes_lines, type_word, verdict_word, refusal_word, kept_word, rule_words, rules_lines, filter_words, filters_lines, thread_words, threads_lines, picks_lines, sections_lines, scenario_lines}
+use Rattle.com_printing.specs.Printed.{number_word, end_words, filter_name, filter_names, names_in, kind_word, result_words, method_words, interface_lines, model_word, class_head, interface_name, body_words, program_lines, bodies_lines, class_lines, classes_lines, type_word, verdict_word, refusal_word, kept_word, rule_words, rules_lines, filters_lines, threads_lines, picks_lines, scenario_lines}
 use Rattle.com_printing.specs.Ranges.{FitsTypes}
 use Rattle.com_printing.proofs.Bodies.{CanFollow, CanGive}
-use Rattle.com_printing.proofs.ClassesRead.{CanAdd, CanBe, CanAddAll, names_at, names_of_all, name_of_class}
+use Rattle.com_printing.proofs.ClassesRead.{CanBe, CanAddAll, names_at, names_of_all, name_of_class}
 use Rattle.com_printing.proofs.FiltersRead.{good_name, CanRun}
-use Rattle.com_printing.proofs.InterfacesRead.{IsSigned, method_same, CanDefine, CanDefineAll, name_of_interface}
-use Rattle.com_printing.proofs.Methods.{AreTypes, IsKind, IsResult}
-use Rattle.com_printing.proofs.Programs.{CanRead}
+use Rattle.com_printing.proofs.InterfacesRead.{IsSigned, method_same, CanDefineAll, name_of_interface}
+use Rattle.com_printing.proofs.Methods.{IsKind, IsResult}
 use Rattle.com_printing.proofs.Rules.{whole_answer}
 use Rattle.com_printing.proofs.Whole.{all_declared, interfaces_define, classes_add, scripts_run, built_first, behind_interfaces}
 

@@ -1,5 +1,5 @@
 -- Interfaces and their methods are read again.
-use Rattle.std.proofs.Common.{◌≡◌, ℕ, ◌+◌, ◌≤◌, ◌<◌, List, [], ◌∷◌, ◌++◌, map, Option, Some, None, is_some, Bool, true, false, not, nat_le, if◌then◌else◌, refl, sym, ap, ◌∙◌, subst, arith, length, length-append, codes, Result, Ok, Err, All, append_assoc, bytes_eq}
+use Rattle.std.proofs.Common.{◌≡◌, ℕ, ◌+◌, ◌≤◌, ◌<◌, List, [], ◌∷◌, ◌++◌, map, Option, Some, None, is_some, Bool, true, false, if◌then◌else◌, refl, sym, ap, ◌∙◌, subst, arith, length, length-append, codes, Result, Ok, Err, All, append_assoc, bytes_eq}
 use Rattle.std.proofs.lemmas.List.{append-nil}
 use Rattle.std.proofs.lemmas.List.Elements.{All-head, All-tail}
 use Rattle.std.proofs.Math.ListN.{get_or-append}
@@ -10,9 +10,9 @@ use Rattle.com_classes.specs.declared.interfaces.Interface.{Interface}
 use Rattle.com_classes.specs.declared.interfaces.Method.{Method}
 use Rattle.com_model.specs.Formed.{Distinct, same_method}
 use Rattle.com_text.specs.declared.word.Sort.TheVariants as sorts
-use Rattle.com_text.specs.Words.{WordAt, LineAt}
+use Rattle.com_text.specs.Words.{WordAt}
 use Rattle.com_fields.specs.declared.faults.Fault.{Fault}
-use Rattle.com_fields.specs.Reading.{◌>>=◌, fault_at, first_at}
+use Rattle.com_fields.specs.Reading.{◌>>=◌, fault_at}
 use Rattle.com_fields.specs.Naming.{is_name, position_of}
 use Rattle.com_statements.specs.Calls.{method_position}
 use Rattle.com_sections.specs.declared.outline.Outline.{Outline}
@@ -23,9 +23,8 @@ use Rattle.com_sections.specs.Methods.{type_word_of, method_of}
 use Rattle.com_sections.specs.Beginning.{top_line}
 use Rattle.com_sections.specs.Opened.{step, method_line, inner_interface, interface_closed}
 use Rattle.com_sections.specs.Outlines.{finish, read, outlined}
-use Rattle.com_spelling.specs.Spelled.{Spelled, plain, spelled_of, Shown, shown}
-use Rattle.com_operands.specs.Words.{name_at}
-use Rattle.com_operands.specs.Ranges.{IsGuid, AreNames}
+use Rattle.com_spelling.specs.Spelled.{Spelled, plain, spelled_of, shown}
+use Rattle.com_operands.specs.Ranges.{IsGuid}
 use Rattle.com_printing.specs.Printed.{kind_word, result_words, method_words, interface_words, interface_lines}
 use Rattle.com_printing.proofs.Apart.{new_of, no_method}
 use Rattle.com_printing.proofs.Methods.{AreTypes, IsKind, IsResult, CanRead, method_again}

@@ -8,17 +8,17 @@ use Rattle.com_base.specs.declared.value.Kind.TheVariants as kinds
 use Rattle.com_classes.specs.declared.interfaces.Method.{Method}
 use Rattle.com_text.specs.Words.{WordAt}
 use Rattle.com_fields.specs.declared.faults.Fault.{Fault}
-use Rattle.com_fields.specs.Reading.{◌>>=◌, fault_at, word_at, stands_at, end_at}
-use Rattle.com_fields.specs.Naming.{is_name, declared_at, name_at as word_of_name}
+use Rattle.com_fields.specs.Reading.{◌>>=◌, fault_at, word_at, end_at}
+use Rattle.com_fields.specs.Naming.{is_name}
 use Rattle.com_statements.specs.Calls.{method_position}
 use Rattle.com_sections.specs.Methods.{type_word_of, type_by, type_at, item_at, signature_on, method_of}
 use Rattle.com_spelling.specs.Spelled.{Spelled, plain, spelled_of}
 use Rattle.com_operands.specs.Words.{name_at}
 use Rattle.com_operands.specs.Ranges.{AreNames}
 use Rattle.com_operands.proofs.Names.{declared_again, name_word, is_name_at}
-use Rattle.com_operands.proofs.Places.{at, StandsAt, stands, word_again, word_bytes, present, end_again}
+use Rattle.com_operands.proofs.Places.{at, StandsAt, stands, word_bytes, present, end_again}
 use Rattle.com_printing.specs.Printed.{kind_word, result_words, method_words}
-use Rattle.com_printing.proofs.Following.{differs, Follows, follows, follows_next, follows_here, here_is, rest_of}
+use Rattle.com_printing.proofs.Following.{differs, Follows, follows, follows_next, here_is, rest_of}
 use Rattle.com_printing.proofs.Places.{at_of}
 
 -- what is read of a type, and of a method's types

@@ -1,5 +1,5 @@
 -- Texts of lines in parts.
-use Rattle.std.proofs.Common.{◌≡◌, ℕ, ◌+◌, List, [], ◌∷◌, ◌++◌, map, drop, codes, refl, sym, ap, ◌∙◌, append_assoc, All, zero, suc, Option, Some, None, slice_get, length, arith, subst, ◌<◌, get_or}
+use Rattle.std.proofs.Common.{◌≡◌, ℕ, ◌+◌, List, [], ◌∷◌, ◌++◌, map, drop, codes, refl, sym, ap, ◌∙◌, append_assoc, All, zero, suc, Some, None, length, arith, subst, ◌<◌, get_or}
 use Rattle.std.proofs.lemmas.List.{append-nil, drop_more}
 use Rattle.std.proofs.lemmas.List.Elements.{All-cons}
 use Rattle.com_base.specs.declared.value.Kind.{Kind}
@@ -17,7 +17,7 @@ use Rattle.com_spelling.specs.Spelled.{Spelled, plain, more_text, words_text, li
 use Rattle.com_operands.specs.Ranges.{Fits, IsGuid}
 use Rattle.com_writing.specs.Words.{statement_words}
 use Rattle.com_writing.proofs.Pieces.{both_texts, words_behind}
-use Rattle.com_printing.specs.Printed.{kind_word, result_words, method_words, interface_words, interface_lines, program_lines, body_words, bodies_lines, class_head, interface_name, class_lines, classes_lines, rule_words, rules_lines, filter_words, filters_lines, thread_words, threads_lines, number_word, kept_word, picks_lines, model_word}
+use Rattle.com_printing.specs.Printed.{kind_word, method_words, interface_words, interface_lines, program_lines, body_words, bodies_lines, class_head, interface_name, class_lines, classes_lines, rule_words, rules_lines, filter_words, filters_lines, thread_words, threads_lines, number_word, kept_word, picks_lines, model_word}
 use Rattle.com_printing.specs.Ranges.{FitsProgram, FitsBodies, FitsClass, FitsInterface}
 use Rattle.com_printing.proofs.Lists.{next_class, no_class, all_dropped}
 

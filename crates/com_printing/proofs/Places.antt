@@ -1,6 +1,5 @@
 -- The words of declarations are read as what they were written for.
-use Rattle.std.proofs.Common.{◌≡◌, ℕ, ◌+◌, ◌≤◌, ◌<◌, ◌^◌, List, [], ◌∷◌, ◌++◌, map, Option, Some, None, is_some, Bool, true, false, nat_le, if◌then◌else◌, refl, sym, ap, ◌∙◌, arith, length, slice_get, codes, decimal, Result, Ok, Err, bytes_eq, ℤ, pos, negsuc}
-use Rattle.std.specs.Fmt.{signed_decimal}
+use Rattle.std.proofs.Common.{◌≡◌, ℕ, List, map, Some, is_some, Bool, true, false, if◌then◌else◌, refl, ap, ◌∙◌, slice_get, codes, Result, Ok, Err, bytes_eq}
 use Rattle.com_base.specs.declared.guid.Guid.{Guid}
 use Rattle.com_base.specs.Guids.{text_of as text_of_guid}
 use Rattle.com_body.specs.declared.frame.Native.{Native}
@@ -13,7 +12,7 @@ use Rattle.com_text.specs.Words.{WordAt}
 use Rattle.com_fields.specs.declared.faults.Fault.{Fault}
 use Rattle.com_fields.specs.Reading.{◌>>=◌, fault_at, word_at, first_at, opened, opening}
 use Rattle.com_fields.specs.Literals.{guid_of, guid_at, as_guid}
-use Rattle.com_fields.specs.Naming.{is_name, position_of, name_at as word_of_name}
+use Rattle.com_fields.specs.Naming.{is_name, position_of}
 use Rattle.com_sections.specs.Tables.{has_guid}
 use Rattle.com_sections.specs.Methods.{type_word_of}
 use Rattle.com_sections.specs.Declaring.{free_guid_at, free_name_at, interface_name_at, filter_name_at, model_at, native_at, relay_of}
@@ -21,7 +20,7 @@ use Rattle.com_spelling.specs.Spelled.{Spelled, plain, spelled_of}
 use Rattle.com_operands.specs.Ranges.{IsGuid}
 use Rattle.com_operands.proofs.Hexes.{guid_again}
 use Rattle.com_operands.proofs.Names.{name_word}
-use Rattle.com_operands.proofs.Places.{at, StandsAt, stands, IsGood, word_again, word_bytes}
+use Rattle.com_operands.proofs.Places.{at, StandsAt, stands, IsGood, word_bytes}
 use Rattle.com_printing.specs.Printed.{model_word}
 
 -- what stands at a place of a line that was written

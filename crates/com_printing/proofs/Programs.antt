@@ -1,12 +1,8 @@
 -- The statements of a body and of a script are read again.
-use Rattle.std.proofs.Common.{◌≡◌, ℕ, ◌+◌, ◌≤◌, ◌<◌, List, [], ◌∷◌, ◌++◌, map, Option, Some, None, is_some, Bool, true, false, nat_le, if◌then◌else◌, refl, sym, ap, ◌∙◌, subst, arith, length, slice_get, codes, Result, Ok, Err, bytes_eq, All}
+use Rattle.std.proofs.Common.{◌≡◌, ℕ, ◌<◌, List, [], ◌∷◌, ◌++◌, map, Some, is_some, Bool, false, if◌then◌else◌, refl, sym, ap, ◌∙◌, length, codes, Result, Ok, Err, bytes_eq}
 use Rattle.com_body.specs.declared.statements.Stmt.{Stmt}
 use Rattle.com_body.specs.declared.statements.Stmt.TheVariants as stmts
 use Rattle.com_body.specs.Bodies.{IsInRange}
-use Rattle.com_classes.specs.declared.classes.Class.{Class}
-use Rattle.com_classes.specs.declared.classes.MethodBody.{MethodBody}
-use Rattle.com_text.specs.declared.word.Sort.{Sort}
-use Rattle.com_text.specs.declared.word.Sort.TheVariants as sorts
 use Rattle.com_text.specs.Words.{WordAt}
 use Rattle.com_fields.specs.declared.faults.Fault.{Fault}
 use Rattle.com_fields.specs.Reading.{◌>>=◌, fault_at, first_at, end_at}
@@ -14,16 +10,16 @@ use Rattle.com_statements.specs.declared.keywords.Program.{Program}
 use Rattle.com_statements.specs.declared.keywords.Program.TheVariants as programs
 use Rattle.com_statements.specs.declared.keywords.Keyword.{Keyword}
 use Rattle.com_statements.specs.declared.names.Names.{Names}
-use Rattle.com_statements.specs.Keywords.{keyword_of, takes}
+use Rattle.com_statements.specs.Keywords.{keyword_of}
 use Rattle.com_statements.specs.Statements.{stmt_of}
 use Rattle.com_sections.specs.declared.state.State.{State}
 use Rattle.com_sections.specs.declared.state.Section.TheVariants as sections
 use Rattle.com_sections.specs.Codes.{CodeAt, code_more, blank_code, checked}
 use Rattle.com_sections.specs.Programs.{spot_at, allowed, stated, program_line}
-use Rattle.com_sections.specs.Opened.{step, by_section, program_of, inner_body, body_ended, inner_thread, thread_ended}
+use Rattle.com_sections.specs.Opened.{step, program_of, inner_body, body_ended, inner_thread, thread_ended}
 use Rattle.com_spelling.specs.Spelled.{Spelled, plain, spelled_of}
 use Rattle.com_operands.specs.Ranges.{Fits}
-use Rattle.com_operands.proofs.Places.{StandsAt, stands, end_again}
+use Rattle.com_operands.proofs.Places.{end_again}
 use Rattle.com_writing.specs.Reads.{Reads}
 use Rattle.com_writing.specs.Standing.{Stands, AreDeclared}
 use Rattle.com_writing.specs.Words.{statement_words}

@@ -1,5 +1,5 @@
 -- A rule's line is read as the rule.
-use Rattle.std.proofs.Common.{◌≡◌, ℕ, zero, suc, ◌+◌, ◌≤◌, ◌<◌, ◌^◌, ◌⊎◌, ◌==◌, ◌||◌, List, [], ◌∷◌, map, Option, Some, None, Bool, true, false, nat_le, if◌then◌else◌, refl, sym, ap, ◌∙◌, arith, inl, inr, slice_get, codes, decimal, Result, Ok, Err, bytes_eq, ℤ, pos, negsuc, length, ◌++◌}
+use Rattle.std.proofs.Common.{◌≡◌, ℕ, zero, suc, ◌≤◌, ◌⊎◌, ◌==◌, ◌||◌, List, [], ◌∷◌, map, Option, Some, None, Bool, true, false, nat_le, if◌then◌else◌, refl, sym, ap, ◌∙◌, arith, inl, inr, codes, decimal, Result, Ok, Err, bytes_eq, ℤ, pos, negsuc, length, ◌++◌}
 use Rattle.std.specs.Fmt.{signed_decimal}
 use Rattle.std.proofs.lemmas.Fmt.{decimal_digit}
 use Rattle.std.proofs.lemmas.Bool.Decides.{nat_tests}
@@ -11,14 +11,14 @@ use Rattle.com_model.specs.Formed.{IsRule, IsType, IsAsked, IsRetryAnswer}
 use Rattle.com_text.specs.Words.{WordAt}
 use Rattle.com_fields.specs.declared.faults.Fault.{Fault}
 use Rattle.com_fields.specs.Numbers.{signed_of}
-use Rattle.com_fields.specs.Reading.{◌>>=◌, fault_at, word_at, end_at, number_at}
+use Rattle.com_fields.specs.Reading.{◌>>=◌, fault_at}
 use Rattle.com_sections.specs.declared.state.State.{State}
 use Rattle.com_sections.specs.Opened.{ruled}
 use Rattle.com_sections.specs.Rules.{rule_word_of, call_type_at, verdict_at, refusal_at, in_answers, as_answer, answer_at, kept_at, rule_of}
 use Rattle.com_spelling.specs.Spelled.{Spelled, plain, spelled_of}
 use Rattle.com_operands.specs.Ranges.{IsWhole}
 use Rattle.com_operands.proofs.Decimals.{signed_again}
-use Rattle.com_operands.proofs.Places.{at, StandsAt, stands, word_bytes, end_again, number_at_again}
+use Rattle.com_operands.proofs.Places.{at, stands, word_bytes, end_again, number_at_again}
 use Rattle.com_printing.specs.Printed.{number_word, type_word, verdict_word, refusal_word, kept_word, rule_words}
 use Rattle.com_printing.proofs.Places.{at_of}
 

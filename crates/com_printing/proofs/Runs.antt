@@ -1,12 +1,11 @@
 -- Reading written lines one after another.
-use Rattle.std.proofs.Common.{◌≡◌, ℕ, ◌+◌, ◌≤◌, ◌<◌, List, [], ◌∷◌, ◌++◌, map, Option, Some, None, is_some, Bool, true, false, nat_lt, nat_le, if◌then◌else◌, refl, sym, ap, ◌∙◌, subst, arith, length, length-append, slice_get, codes, Result, Ok, Err, bytes_eq, All, append_assoc}
+use Rattle.std.proofs.Common.{◌≡◌, ℕ, ◌≤◌, ◌<◌, List, [], ◌∷◌, ◌++◌, map, Option, Some, None, Bool, true, false, nat_lt, if◌then◌else◌, refl, sym, ap, ◌∙◌, subst, arith, length, length-append, Result, Ok, All, append_assoc}
 use Rattle.std.proofs.lemmas.List.{append-nil}
 use Rattle.std.proofs.lemmas.Bool.Decides.{nat_tests}
 use Rattle.std.proofs.lemmas.List.Elements.{All-head, All-tail}
 use Rattle.com_body.specs.declared.statements.Stmt.{Stmt}
 use Rattle.com_body.specs.declared.body.BodyFault.{BodyFault}
 use Rattle.com_body.specs.Bodies.{fault_of}
-use Rattle.com_text.specs.declared.word.Sort.TheVariants as sorts
 use Rattle.com_text.specs.Words.{WordAt, LineAt}
 use Rattle.com_fields.specs.declared.faults.Fault.{Fault}
 use Rattle.com_fields.specs.Reading.{◌>>=◌}
@@ -16,7 +15,7 @@ use Rattle.com_sections.specs.Codes.{CodeAt, code_more, checked, checked_by}
 use Rattle.com_sections.specs.Opened.{by_section, step}
 use Rattle.com_sections.specs.Outlines.{finish, read}
 use Rattle.com_statements.specs.declared.names.Names.{Names}
-use Rattle.com_spelling.specs.Spelled.{Spelled, plain, spelled_of, Shown, shown}
+use Rattle.com_spelling.specs.Spelled.{Spelled, spelled_of, Shown}
 use Rattle.com_writing.specs.Words.{statement_words}
 use Rattle.com_printing.specs.Printed.{end_words, program_lines}
 

@@ -1,5 +1,5 @@
 -- The statements of a formed scenario can be written and read where they stand.
-use Rattle.std.proofs.Common.{◌≡◌, ℕ, ◌+◌, ◌-◌, ◌≤◌, ◌<◌, ◌⊎◌, inl, inr, List, [], ◌∷◌, ◌++◌, map, Option, Some, None, Bool, true, false, refl, sym, ap, ◌∙◌, arith, length, slice_get, option_and_then, get_or, subst, codes}
+use Rattle.std.proofs.Common.{◌≡◌, ℕ, ◌-◌, ◌<◌, ◌⊎◌, inl, inr, List, [], ◌∷◌, ◌++◌, Option, Some, None, Bool, false, refl, sym, ap, ◌∙◌, arith, length, slice_get, option_and_then, subst, codes}
 use Rattle.std.proofs.Math.ListN.{get_or-append}
 use Rattle.com_base.specs.declared.value.Kind.{Kind}
 use Rattle.com_base.specs.declared.value.Kind.TheVariants as kinds
@@ -28,7 +28,7 @@ use Rattle.com_statements.specs.declared.keywords.Program.{Program}
 use Rattle.com_statements.specs.declared.names.Names.{Names}
 use Rattle.com_statements.specs.Keywords.{has_cells, has_links}
 use Rattle.com_statements.specs.Calls.{method_of, in_methods}
-use Rattle.com_operands.specs.Words.{name_at, asked_word, slot_word}
+use Rattle.com_operands.specs.Words.{name_at, slot_word}
 use Rattle.com_operands.specs.Ranges.{TakesOp, TakesGiven, TakesPlace, IsNamed, IsLiteral as CanWrite}
 use Rattle.com_writing.specs.Standing.{IsFilter, TakesArg, TakesArgs, TakesResult, TakesMethod, Stands}
 use Rattle.com_writing.specs.Words.{statement_words, class_word, interface_word}

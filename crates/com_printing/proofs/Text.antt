@@ -1,7 +1,6 @@
 -- The text of a whole scenario in parts.
-use Rattle.std.proofs.Common.{◌≡◌, ℕ, ◌+◌, ◌≤◌, List, [], ◌∷◌, ◌++◌, take, drop, length, refl, sym, ap, ◌∙◌, append_assoc, arith, All}
-use Rattle.std.proofs.lemmas.List.{append-nil, length-append, take-append-drop}
-use Rattle.com_body.specs.declared.statements.Stmt.{Stmt}
+use Rattle.std.proofs.Common.{◌≡◌, ℕ, ◌≤◌, List, [], ◌++◌, drop, length, sym, ap, ◌∙◌, append_assoc, arith, All}
+use Rattle.std.proofs.lemmas.List.{length-append}
 use Rattle.com_model.specs.declared.scenario.Scenario.{Scenario}
 use Rattle.com_model.specs.Formed.{Formed}
 use Rattle.com_classes.specs.BuiltIns.{built_in_interfaces}

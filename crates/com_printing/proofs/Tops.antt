@@ -1,29 +1,27 @@
 -- The lines that declare something are read as what they declare.
-use Rattle.std.proofs.Common.{◌≡◌, ℕ, ◌+◌, ◌≤◌, ◌<◌, ◌^◌, List, [], ◌∷◌, ◌++◌, map, drop, Option, Some, None, is_some, Bool, true, false, nat_le, if◌then◌else◌, refl, sym, ap, ◌∙◌, arith, length, slice_get, codes, Result, Ok, Err, bytes_eq, All, append_assoc}
+use Rattle.std.proofs.Common.{◌≡◌, ℕ, ◌≤◌, ◌<◌, ◌^◌, List, [], ◌∷◌, ◌++◌, map, drop, Some, is_some, Bool, true, false, nat_le, if◌then◌else◌, refl, ap, ◌∙◌, arith, length, slice_get, codes, Result, Ok, Err, bytes_eq, All}
 use Rattle.std.proofs.lemmas.Bool.Decides.{nat_tests}
 use Rattle.com_base.specs.declared.guid.Guid.{Guid}
-use Rattle.com_base.specs.Guids.{text_of as text_of_guid}
 use Rattle.com_body.specs.declared.frame.Native.{Native}
 use Rattle.com_body.specs.declared.frame.Native.TheVariants as natives
 use Rattle.com_classes.specs.declared.interfaces.Interface.{Interface}
-use Rattle.com_classes.specs.declared.interfaces.Method.{Method}
 use Rattle.com_classes.specs.declared.classes.Class.{Class}
 use Rattle.com_classes.specs.declared.classes.ThreadingModel.{ThreadingModel}
 use Rattle.com_text.specs.Words.{WordAt}
 use Rattle.com_fields.specs.declared.faults.Fault.{Fault}
-use Rattle.com_fields.specs.Reading.{◌>>=◌, fault_at, word_at, first_at, end_at, number_at}
+use Rattle.com_fields.specs.Reading.{◌>>=◌, fault_at, end_at, number_at}
 use Rattle.com_fields.specs.Naming.{is_name, position_of}
 use Rattle.com_sections.specs.declared.state.State.{State}
 use Rattle.com_sections.specs.declared.state.Section.TheVariants as sections
 use Rattle.com_sections.specs.Codes.{blank_code}
 use Rattle.com_sections.specs.Tables.{has_guid}
 use Rattle.com_sections.specs.Methods.{type_word_of}
-use Rattle.com_sections.specs.Declaring.{free_name_at, free_guid_at, interface_name_at, filter_name_at, listed_at, model_at, native_at, natives_of, picks_on, relay_of}
+use Rattle.com_sections.specs.Declaring.{free_name_at, free_guid_at, interface_name_at, filter_name_at, listed_at, model_at, native_at, natives_of}
 use Rattle.com_sections.specs.Beginning.{section_word_of, pool_line, interface_line, class_line, native_line, filter_line, thread_line, picks_line, top_by, top_line}
 use Rattle.com_spelling.specs.Spelled.{Spelled, plain, spelled_of}
 use Rattle.com_operands.specs.Ranges.{IsGuid, AreNames}
-use Rattle.com_operands.proofs.Places.{at, StandsAt, stands, end_again, number_at_again}
-use Rattle.com_printing.specs.Printed.{number_word, pool_words, interface_words, class_head, filter_name, filter_words, thread_words, model_word}
+use Rattle.com_operands.proofs.Places.{StandsAt, stands, end_again, number_at_again}
+use Rattle.com_printing.specs.Printed.{number_word, pool_words, interface_words, class_head, filter_name, filter_words, thread_words}
 use Rattle.com_printing.proofs.Places.{at_of, first_word, free_guid_again, free_name_again, interface_name_again, filter_name_again, model_again}
 use Rattle.com_printing.proofs.Following.{interface_word_of, listed_again, follows, rest_of, picks_on_again}
 

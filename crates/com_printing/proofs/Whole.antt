@@ -1,8 +1,8 @@
 -- A whole scenario is read again.
-use Rattle.std.proofs.Common.{◌≡◌, ℕ, ◌+◌, ◌≤◌, ◌<◌, ◌^◌, ◌⊎◌, inl, inr, List, [], ◌∷◌, ◌++◌, map, take, drop, Option, Some, None, is_some, Bool, true, false, not, if◌then◌else◌, refl, sym, ap, ◌∙◌, subst, arith, length, length-append, codes, decimal, Result, Ok, Err, All, append_assoc, bytes_eq, ◌==◌, ◌&&◌}
+use Rattle.std.proofs.Common.{◌≡◌, ℕ, ◌+◌, ◌≤◌, ◌⊎◌, inl, inr, List, [], ◌∷◌, ◌++◌, map, drop, Option, Some, None, is_some, true, false, not, if◌then◌else◌, refl, sym, ap, ◌∙◌, subst, arith, length, length-append, codes, decimal, Result, Ok, Err, All, bytes_eq, ◌==◌, ◌&&◌}
 use Rattle.std.proofs.lemmas.Bool.Decides.{nat_tests}
-use Rattle.std.proofs.lemmas.List.{take-append-drop, append-nil, map-append, length-map}
-use Rattle.std.proofs.lemmas.List.Elements.{All-head, All-tail}
+use Rattle.std.proofs.lemmas.List.{take-append-drop, length-map}
+use Rattle.std.proofs.lemmas.List.Elements.{All-tail}
 use Rattle.std.proofs.lemmas.Fmt.{decimal_digit}
 use Rattle.com_base.specs.declared.guid.Guid.{Guid}
 use Rattle.com_body.specs.declared.statements.Stmt.{Stmt}
@@ -15,35 +15,33 @@ use Rattle.com_classes.specs.declared.classes.Class.{Class}
 use Rattle.com_filter.specs.declared.Rule.{Rule}
 use Rattle.com_model.specs.declared.scenario.Scenario.{Scenario}
 use Rattle.com_classes.specs.Lookups.{same_guid}
-use Rattle.com_model.specs.Formed.{Formed, Distinct, EachFrom, IsMethod, same_method, IsInterface, same_interface, is_reserved, is_type_word, IsAllowed, documented_iid, FormedBody, in_script, IsClass, same_class, IsFilter}
+use Rattle.com_model.specs.Formed.{Formed, Distinct, EachFrom, IsMethod, same_method, IsInterface, same_interface, IsAllowed, documented_iid, in_script, IsClass, same_class}
 use Rattle.com_text.specs.declared.word.Sort.TheVariants as sorts
 use Rattle.com_text.specs.Words.{WordAt}
 use Rattle.com_fields.specs.declared.faults.Fault.{Fault}
-use Rattle.com_fields.specs.Reading.{◌>>=◌, fault_at, end_at}
+use Rattle.com_fields.specs.Reading.{◌>>=◌, fault_at}
 use Rattle.com_fields.specs.Naming.{is_name}
 use Rattle.com_statements.specs.declared.calls.MethodNumber.{MethodNumber}
 use Rattle.com_statements.specs.declared.keywords.Program.TheVariants as programs
 use Rattle.com_statements.specs.declared.names.Names.{Names}
-use Rattle.com_sections.specs.declared.outline.Outline.{Outline}
 use Rattle.com_sections.specs.declared.state.State.{State}
 use Rattle.com_sections.specs.declared.state.Section.TheVariants as sections
 use Rattle.com_sections.specs.Tables.{guid_eq}
 use Rattle.com_sections.specs.Methods.{type_word_of}
-use Rattle.com_sections.specs.Header.{version_of, ended, compared, version_by, version_at, header_line}
-use Rattle.com_sections.specs.Opened.{step}
-use Rattle.com_sections.specs.Outlines.{begun, taken_iids, outlined, finish}
+use Rattle.com_sections.specs.Header.{version_of, ended, version_by, version_at, header_line}
+use Rattle.com_sections.specs.Outlines.{begun, taken_iids, finish}
 use Rattle.com_spelling.specs.Spelled.{Spelled, plain, spelled_of}
-use Rattle.com_operands.specs.Ranges.{AreNames, Distinct as Apart}
+use Rattle.com_operands.specs.Ranges.{AreNames}
 use Rattle.com_operands.proofs.Places.{end_again}
 use Rattle.com_writing.specs.Standing.{AreDeclared, names_of}
-use Rattle.com_printing.specs.Printed.{header_words, pool_words, number_word, filter_name, filter_names, names_in, interface_lines, class_lines, classes_lines, filters_lines, threads_lines, picks_lines, sections_lines, scenario_lines, outline_of}
-use Rattle.com_printing.specs.Ranges.{FitsInterface, FitsClass, FitsProgram, FitsTypes}
+use Rattle.com_printing.specs.Printed.{header_words, pool_words, number_word, filter_names, names_in, interface_lines, class_lines, classes_lines, filters_lines, threads_lines, picks_lines, sections_lines, scenario_lines, outline_of}
+use Rattle.com_printing.specs.Ranges.{FitsTypes}
 use Rattle.com_printing.proofs.Added.{add_all, can_read_all}
-use Rattle.com_printing.proofs.Apart.{IsNew, new_append, either_left, either_right}
+use Rattle.com_printing.proofs.Apart.{IsNew, either_left, either_right}
 use Rattle.com_printing.proofs.ClassesRead.{at_classes, names_of_all, name_of_class, CanAddAll, classes_on}
-use Rattle.com_printing.proofs.Defined.{new_front, new_back, define_all, new_iid, no_type_word}
-use Rattle.com_printing.proofs.FiltersRead.{at_filters, filters_on, good_name, no_none, AreOlder, at_threads, CanRun, threads_on, at_picks, picks_on, filters_named}
-use Rattle.com_printing.proofs.Forms.{name_of, apart_map, all_map, all_of, all_each}
+use Rattle.com_printing.proofs.Defined.{define_all, new_iid, no_type_word}
+use Rattle.com_printing.proofs.FiltersRead.{at_filters, filters_on, at_threads, CanRun, threads_on, at_picks, picks_on, filters_named}
+use Rattle.com_printing.proofs.Forms.{name_of, apart_map, all_map, all_of}
 use Rattle.com_printing.proofs.InterfacesRead.{IsTop, at_interfaces, name_of_interface, CanDefineAll, interfaces_on}
 use Rattle.com_printing.proofs.Methods.{AreTypes}
 use Rattle.com_printing.proofs.Places.{at_of}

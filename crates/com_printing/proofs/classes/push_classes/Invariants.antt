@@ -1,4 +1,4 @@
-use Rattle.std.proofs.Common.{◌≡◌, ◌++◌, ◌≤◌, ◌-◌, ◌+◌, length, map, All, drop}
+use Rattle.std.proofs.Common.{◌≡◌, ◌++◌, ◌≤◌, ◌-◌, length, All, drop}
 use Rattle.com_spelling.specs.Spelled.{text_of}
 use Rattle.com_printing.specs.Printed.{classes_lines}
 use Rattle.com_printing.specs.Ranges.{FitsClass}

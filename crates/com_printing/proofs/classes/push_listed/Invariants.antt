@@ -1,4 +1,4 @@
-use Rattle.std.proofs.Common.{◌≡◌, ◌++◌, ◌≤◌, ◌-◌, ◌+◌, length, map, All, drop}
+use Rattle.std.proofs.Common.{◌≡◌, ◌++◌, length, map}
 use Rattle.com_spelling.specs.Spelled.{more_text}
 use Rattle.com_printing.specs.Printed.{interface_name}
 use Rattle.com_printing.proofs.classes.push_listed.Given as goal

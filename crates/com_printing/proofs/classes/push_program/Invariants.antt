@@ -1,4 +1,4 @@
-use Rattle.std.proofs.Common.{◌≡◌, ◌++◌, ◌≤◌, ◌-◌, ◌+◌, length, map, All, drop}
+use Rattle.std.proofs.Common.{◌≡◌, ◌++◌, length}
 use Rattle.com_spelling.specs.Spelled.{text_of}
 use Rattle.com_printing.specs.Printed.{program_lines}
 use Rattle.com_printing.specs.Ranges.{FitsProgram}

@@ -1,4 +1,4 @@
-use Rattle.std.proofs.Common.{◌≡◌, ◌++◌, ◌≤◌, ◌-◌, ◌+◌, length, map, All, drop}
+use Rattle.std.proofs.Common.{◌≡◌, ◌++◌, length, map}
 use Rattle.com_spelling.specs.Spelled.{more_text}
 use Rattle.com_printing.specs.Printed.{number_word}
 use Rattle.com_printing.proofs.filters.push_numbers.Given as goal

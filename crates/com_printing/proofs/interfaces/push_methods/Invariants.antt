@@ -1,4 +1,4 @@
-use Rattle.std.proofs.Common.{◌≡◌, ◌++◌, ◌≤◌, ◌-◌, ◌+◌, length, map, All, drop}
+use Rattle.std.proofs.Common.{◌≡◌, ◌++◌, length, map}
 use Rattle.com_spelling.specs.Spelled.{text_of}
 use Rattle.com_printing.specs.Printed.{method_words}
 use Rattle.com_printing.proofs.interfaces.push_methods.Given as goal
