@@ -189,7 +189,8 @@ fn a_text_gives_its_scenario(rt: HostRuntime) -> Result<(), Fail> {
 
 #[test]
 fn a_printed_scenario_is_read_as_the_same(rt: HostRuntime) -> Result<(), Fail> {
-    let text = b"scenario 1\nnative Cnt {5C0B00C1-0000-4000-8000-000000000001} Both counter\nthread\ninit sta\ncreate s0 Cnt ICounter\ncall s0 ICounter.add 5 -> r1\nrelease s0\nuninit\nend\n";
+    let text =
+        b"scenario 1\nnative Cnt {5C0B00C1-0000-4000-8000-000000000001} Both counter\nthread\ninit sta\ncreate s0 Cnt ICounter\ncall s0 ICounter.add 5 -> r1\nrelease s0\nuninit\nend\n";
     let scenario = parse(rt.alloc(), text)?;
     let written = print(rt.alloc(), &scenario)?;
     assert_eq!(rt;
@@ -205,7 +206,8 @@ fn a_printed_scenario_is_read_as_the_same(rt: HostRuntime) -> Result<(), Fail> {
 
 #[test]
 fn sections_are_printed_in_their_order(rt: HostRuntime) -> Result<(), Fail> {
-    let text = b"scenario 2\npool 3\nfilter Slow\npending 5 wait\nretry * 0 -1\nend\npicks 1 2\nthread ; first\nsetfilter Slow\nend\ninterface A {5c0b0001-0000-4000-8000-000000000009}\nmethod go A int -> A\nclass D {5c0b0001-0000-4000-8000-000000000002} none A\nbody A.go\nleave 0x00000000 s0\nend\nend\npicks 3\n";
+    let text =
+        b"scenario 2\npool 3\nfilter Slow\npending 5 wait\nretry * 0 -1\nend\npicks 1 2\nthread ; first\nsetfilter Slow\nend\ninterface A {5c0b0001-0000-4000-8000-000000000009}\nmethod go A int -> A\nclass D {5c0b0001-0000-4000-8000-000000000002} none A\nbody A.go\nleave 0x00000000 s0\nend\nend\npicks 3\n";
     let scenario = parse(rt.alloc(), text)?;
     let written = print(rt.alloc(), &scenario)?;
     assert_eq!(rt;
