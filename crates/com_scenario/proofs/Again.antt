@@ -1,7 +1,5 @@
 -- The text of a formed scenario is read as the same scenario.
-use Rattle.std.proofs.Common.{◌≡◌, ℕ, List, ◌++◌, drop, Result, Ok, Err, sym, ap, ◌∙◌}
-use Rattle.com_classes.specs.BuiltIns.{built_in_interfaces}
-use Rattle.com_classes.specs.Tables.{Tables}
+use Rattle.std.proofs.Common.{◌≡◌, ℕ, List, Result, Ok, sym, ap, ◌∙◌}
 use Rattle.com_classes.specs.declared.interfaces.Interface.{Interface}
 use Rattle.com_model.specs.declared.scenario.Scenario.{Scenario}
 use Rattle.com_model.specs.Formed.{Formed}
@@ -10,7 +8,7 @@ use Rattle.com_fields.specs.declared.faults.Fault.{Fault}
 use Rattle.com_fields.specs.Reading.{◌>>=◌}
 use Rattle.com_sections.specs.declared.outline.Outline.{Outline}
 use Rattle.com_spelling.proofs.Scanned.{lines_again}
-use Rattle.com_printing.specs.Printed.{scenario_lines, printed, outline_of}
+use Rattle.com_printing.specs.Printed.{scenario_lines, printed}
 use Rattle.com_printing.specs.Ranges.{FitsTypes}
 use Rattle.com_printing.proofs.Goods.{scenario_good}
 use Rattle.com_printing.proofs.Whole.{scenario_read, built_first}
