@@ -12,8 +12,6 @@ mod operand_values;
 mod operands;
 mod statements;
 mod steps;
-#[cfg(test)]
-mod tests;
 
 pub use actions::Action;
 pub use body::{Body, BodyFault};

@@ -10,6 +10,3 @@ pub use classes::{Class, ClassError, Classes, MethodBody, ThreadingModel};
 pub use com_base::Memory;
 pub use factory::{Creator, Factory, Placed};
 pub use interfaces::{Interface, Method};
-
-#[cfg(test)]
-mod tests;

@@ -22,6 +22,3 @@ pub use operands::{
     Operand, buffer, cell, code, given, hresult_of, literal, marshal_mode, mode, op, operand_of,
     place, register, slot, unfit,
 };
-
-#[cfg(test)]
-mod tests;

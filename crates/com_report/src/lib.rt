@@ -6,8 +6,6 @@ mod deeds;
 mod lines;
 mod references;
 mod reports;
-#[cfg(test)]
-mod tests;
 mod values;
 mod words;
 

@@ -13,6 +13,3 @@ pub use laws::scenarios_are_formed;
 pub use printing::{print, printed_is_read};
 pub use reading::parse;
 pub use sizes::{LONGEST, is_too_long};
-
-#[cfg(test)]
-mod tests;

@@ -19,6 +19,3 @@ pub use methods::{Signature, TypeWord};
 pub use outline::{Outline, outline_of};
 pub use rules::RuleWord;
 pub use state::{Code, Section, State};
-
-#[cfg(test)]
-mod tests;

@@ -10,6 +10,3 @@ pub use calling::method_name;
 pub use com_base::Memory;
 pub use laws::written_is_read;
 pub use statements::write_statement;
-
-#[cfg(test)]
-mod tests;

@@ -1,6 +1,8 @@
-use crate::*;
+//! What the sections of a text declare, and where a skip past the end is refused.
+
 use com_base::Rows;
 use com_fields::ScenarioError;
+use com_sections::outline_of;
 use std::test::*;
 
 #[test]

@@ -1,6 +1,10 @@
-use crate::*;
-use com_base::{ByteList, Guid, IID_IUNKNOWN, Rows};
+//! What the tables of classes have, and where a new object is placed.
+
+use com_base::{ByteList, Guid, IID_IUNKNOWN, Memory, Rows};
 use com_body::Native;
+use com_classes::{
+    Class, ClassError, Classes, Creator, Factory, Interface, Placed, ThreadingModel,
+};
 use std::alloc::Global;
 use std::test::*;
 
@@ -54,8 +58,10 @@ fn an_iid_that_is_there_is_repeated(rt: HostRuntime) -> Result<(), Fail> {
 #[test]
 fn every_class_has_iunknown(rt: HostRuntime) -> Result<(), Fail> {
     let alloc = rt.alloc();
+    let mut tables = Classes::new(alloc)?;
     let class = class(alloc, 9, ThreadingModel::Both, Native::Bodies)?;
-    assert!(rt; class.has(0) && class.has(1) && !class.has(2));
+    let number = tables.add_class(class).ok().ok_or("no class")?;
+    assert!(rt; tables.has(number, 0) && tables.has(number, 1) && !tables.has(number, 2));
     Ok(())
 }
 

@@ -1,6 +1,8 @@
-use crate::*;
+//! What stands at the places of a line: operands, HRESULTs, and faults at their columns.
+
 use com_base::{HResult, Value};
 use com_body::{Code, Given, Op};
+use com_fields::{ScenarioError, buffer, code, given, hresult_of, op, register, signed_of, slot};
 use com_text::{Word, line_at};
 use std::alloc::Global;
 use std::test::*;

@@ -1,9 +1,9 @@
 //! Lines that worked histories print, one of each kind of deed.
-use crate::{line, report};
 use com_base::{ByteList, Guid, HResult, MarshalMode, Memory, Mode, RefValue, Rows, Value};
 use com_body::Asked;
 use com_filter::Verdict;
 use com_model::{Counts, Deed, Ended, Entry, ObjectState, Route};
+use com_report::{line, report};
 use std::alloc::Global;
 use std::process::Abort;
 use std::test::Fail;

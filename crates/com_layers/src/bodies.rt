@@ -1,12 +1,10 @@
 //! What frames begin with, and what small bodies do.
 
-use crate::actions::Action;
-use crate::body::{Body, BodyFault};
-use crate::frame::{Cells, Frame, Outcome};
-use crate::operands::{Code, Given, Op, Place};
-use crate::statements::Stmt;
-use crate::steps::{step, step_no_body};
 use com_base::{ByteList, HResult, RefValue, Value};
+use com_body::{
+    Action, Body, BodyFault, Cells, Code, Frame, Given, Op, Outcome, Place, Stmt, step,
+    step_no_body,
+};
 use std::test::Fail;
 
 const HELD: RefValue = RefValue {

@@ -1,4 +1,6 @@
-use crate::*;
+//! The first faults of texts, and texts that are written and read again.
+
+use com_scenario::{ScenarioError, parse, print};
 use std::alloc::Global;
 use std::test::*;
 
