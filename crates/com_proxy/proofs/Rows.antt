@@ -3,9 +3,9 @@ use Rattle.std.proofs.Common.{◌≡◌, ℕ, true, false, ◌+◌, ◌<◌, ◌
 use Rattle.std.proofs.lemmas.Bool.{cases_eq, cases_lt}
 use Rattle.std.proofs.lemmas.List.{length-map, length-set, length-append, map-append, ext_get_or, get_or-set_same, get_or-set_other, get_or_append_left, get_or_at, get_or_read}
 use Rattle.std.proofs.lemmas.Grind.{common_steps}
-use Rattle.std.specs.Prelude.{slice_set, slice_index_or, slice_index}
+use Rattle.std.specs.Prelude.{map, slice_set, slice_index_or, slice_index}
 use Rattle.com_proxy.specs.declared.ProxyRow.{ProxyRow}
-use Rattle.com_proxy.specs.Rows.{is_for, no_row, row_of, row_at, local_of, public_of, place_of, changed_row, objects_of, EachFirst, IsLowest, no_public, cut_row, cut_rows}
+use Rattle.com_proxy.specs.Rows.{is_for, no_row, row_of, row_at, local_of, public_of, place_of, changed_row, proxy_key_of, key_of, proxies_of, objects_of, EachFirst, IsFree, IsLowest, no_public, cut_row, cut_rows}
 use Rattle.com_chains.specs.Places.{Places}
 use Rattle.com_proxy.specs.Table.{IsTable}
 
@@ -52,10 +52,26 @@ pub row_cut : (rs : List ProxyRow) (o b p j : ℕ) → row_of (cut_rows o rs) b 
 row_cut [] o b p j = grind (arith, common_steps)
 row_cut (r ∷ rs) o b p j = grind (arith, common_steps, row_cut rs o b p j)
 
-pub object_at : (rs : List ProxyRow) (p : ℕ) → slice_index (objects_of rs) p ≡ (row_at rs p).object
-object_at [] p = refl
-object_at (r ∷ rs) zero = refl
-object_at (r ∷ rs) (suc p) = object_at rs p
+-- the keys of rows, place by place
+pub key_at : (key : ProxyRow → ℕ) (rs : List ProxyRow) (p : ℕ) → p < length rs → slice_index (map key rs) p ≡ key (row_at rs p)
+key_at key [] p h = absurd (omega arith)
+key_at key (r ∷ rs) zero h = refl
+key_at key (r ∷ rs) (suc p) h = key_at key rs p (omega arith)
+
+-- where places are under the rows' keys, what holds of each place of a key holds of each row that has it
+module _ (key : ProxyRow → ℕ) (rs : List ProxyRow) (keys : List ℕ) (k : ℕ) (e : keys ≡ map key rs) where
+  pub row_inside : (p : ℕ) → p < length keys → p < length rs
+  row_inside p h = rw (← length-map rs key, ← e) h
+
+  pub row_passed : (P : ℕ → Type 0) → ((p : ℕ) → p < length keys → slice_index keys p ≡ k → P p) → (p : ℕ) → p < length rs → key (row_at rs p) ≡ k → P p
+  row_passed P passed p h same =
+      let inside : p < length keys = rw (e, length-map rs key) h in
+      passed p inside (ap (λ ks. slice_index ks p) e ∙ key_at key rs p h ∙ same)
+
+-- the rows of an apartment and an object have the key of that proxy
+pub proxy_passed : (rs : List ProxyRow) (keys : List ℕ) (a o : ℕ) (P : ℕ → Type 0) → keys ≡ proxies_of rs → ((p : ℕ) → p < length keys → slice_index keys p ≡ proxy_key_of a o → P p)
+    → (p : ℕ) → p < length rs → (row_at rs p).object ≡ o → (row_at rs p).apartment ≡ a → P p
+proxy_passed rs keys a o P e passed p h eo ea = row_passed key_of rs keys (proxy_key_of a o) e P passed p h (ap (λ b. proxy_key_of b (row_at rs p).object) ea ∙ ap (λ b. proxy_key_of a b) eo)
 
 -- a row that no place has is not there
 pub place_none : (rs : List ProxyRow) (a o i : ℕ) → ((p : ℕ) → p < length rs → is_for a o i (row_at rs p) ≡ false) → place_of rs a o i ≡ length rs
@@ -67,18 +83,16 @@ place_none (r ∷ rs) a o i none =
 pub place_first : (rs : List ProxyRow) (a o i p : ℕ) → EachFirst rs → p < length rs → (row_at rs p).object ≡ o → (row_at rs p).apartment ≡ a → (row_at rs p).iface ≡ i → place_of rs a o i ≡ p
 place_first rs a o i p each h eo ea ei = rw (← eo, ← ea, ← ei) (each p h)
 
--- where a walk over the object's places found none
-pub place_past : (rs : List ProxyRow) (keys : List ℕ) (a o i : ℕ) → keys ≡ objects_of rs → ((p : ℕ) → p < length keys → slice_index keys p ≡ o → is_for a o i (row_at rs p) ≡ false) → length rs ≡ place_of rs a o i
-place_past rs keys a o i e none = sym (place_none rs a o i (λ p h. one p h)) where
-  inside : (p : ℕ) → p < length rs → p < length keys
-  inside p h = rw (e, length-map rs (λ r. r.object)) h
-
-  key_at : (p : ℕ) → slice_index keys p ≡ (row_at rs p).object
-  key_at p = ap (λ k. slice_index k p) e ∙ object_at rs p
-
+-- where a walk over the proxy's places found none
+pub place_past : (rs : List ProxyRow) (keys : List ℕ) (a o i : ℕ) → keys ≡ proxies_of rs → ((p : ℕ) → p < length keys → slice_index keys p ≡ proxy_key_of a o → is_for a o i (row_at rs p) ≡ false)
+    → length rs ≡ place_of rs a o i
+place_past rs keys a o i e none = sym (place_none rs a o i one) where
   one : (p : ℕ) → p < length rs → is_for a o i (row_at rs p) ≡ false
   one p h = elim (cases_eq (row_at rs p).object o) [
-    | inl same ↦ none p (inside p h) (key_at p ∙ same)
+    | inl eo ↦ elim (cases_eq (row_at rs p).apartment a) [
+      | inl ea ↦ proxy_passed rs keys a o (λ q. is_for a o i (row_at rs q) ≡ false) e none p h eo ea
+      | inr other ↦ grind (arith, other)
+    ]
     | inr other ↦ grind (arith, other)
   ]
 
@@ -105,22 +119,19 @@ none_held field empty rs a o none i = elim (cases_lt (place_of rs a o i) (length
 ]
 
 -- the same of the rows that a walk passes
-pub walk_free : (rs : List ProxyRow) (keys : List ℕ) (a o : ℕ) → keys ≡ objects_of rs → ((p : ℕ) → p < length keys → slice_index keys p ≡ o → (row_at rs p).apartment ≡ a → (row_at rs p).local ≡ 0)
-    → (i : ℕ) → local_of rs a o i ≡ 0
-walk_free rs keys a o e none = none_held (λ r. r.local) (λ a o i. refl) rs a o (λ p h same. none p (inside p h) (key_at p ∙ same)) where
-  inside : (p : ℕ) → p < length rs → p < length keys
-  inside p h = rw (e, length-map rs (λ r. r.object)) h
+pub walk_free : (rs : List ProxyRow) (keys : List ℕ) (a o : ℕ) → keys ≡ proxies_of rs
+    → ((p : ℕ) → p < length keys → slice_index keys p ≡ proxy_key_of a o → (row_at rs p).object ≡ o → (row_at rs p).apartment ≡ a → (row_at rs p).local ≡ 0) → IsFree rs a o
+walk_free rs keys a o e none = record {
+  none_held = none_held (λ r. r.local) (λ a o i. refl) rs a o
+      (λ p h eo ea. proxy_passed rs keys a o (λ q. (row_at rs q).object ≡ o → (row_at rs q).apartment ≡ a → (row_at rs q).local ≡ 0) e none p h eo ea eo ea);
+}
 
-  key_at : (p : ℕ) → slice_index keys p ≡ (row_at rs p).object
-  key_at p = ap (λ k. slice_index k p) e ∙ object_at rs p
-
-pub not_free : (rs : List ProxyRow) (keys : List ℕ) (a o p : ℕ) → keys ≡ objects_of rs → EachFirst rs → p < length keys → slice_index keys p ≡ o → (row_at rs p).apartment ≡ a
-    → 0 < (row_at rs p).local → ((i : ℕ) → local_of rs a o i ≡ 0) → ⊥
-not_free rs keys a o p e each h k same some none =
-    let inside : p < length rs = rw (← length-map rs (λ r. r.object), ← e) h in
-    let object : (row_at rs p).object ≡ o = sym (object_at rs p) ∙ ap (λ ks. slice_index ks p) (sym e) ∙ k in
-    let row : row_of rs a o (row_at rs p).iface ≡ row_at rs p = row_first rs a o (row_at rs p).iface p each inside object same refl in
-    let held : (row_at rs p).local ≡ 0 = ap (λ r. r.local) (sym row) ∙ none (row_at rs p).iface in
+pub not_free : (rs : List ProxyRow) (keys : List ℕ) (a o p : ℕ) → keys ≡ proxies_of rs → EachFirst rs → p < length keys → (row_at rs p).object ≡ o → (row_at rs p).apartment ≡ a
+    → 0 < (row_at rs p).local → IsFree rs a o → ⊥
+not_free rs keys a o p e each h eo ea some free =
+    let inside : p < length rs = row_inside key_of rs keys 0 e p h in
+    let row : row_of rs a o (row_at rs p).iface ≡ row_at rs p = row_first rs a o (row_at rs p).iface p each inside eo ea refl in
+    let held : (row_at rs p).local ≡ 0 = ap (λ r. r.local) (sym row) ∙ free.none_held (row_at rs p).iface in
     omega arith
 
 -- the lowest interface of which an apartment has public references
@@ -149,17 +160,15 @@ pub cut_is : (rows rs : List ProxyRow) (keys : List ℕ) (o : ℕ) → length ro
     → ((p : ℕ) → p < length keys → slice_index keys p ≡ o → row_at rows p ≡ no_public (row_at rs p)) → ((p : ℕ) → ((row_at rs p).object ≡ o → ⊥) → row_at rows p ≡ row_at rs p)
     → rows ≡ cut_rows o rs
 cut_is rows rs keys o len e passed others = ext_get_or (no_row 0 0 0) rows (cut_rows o rs) (len ∙ sym (length-map rs (cut_row o))) each where
-  inside : (p : ℕ) → p < length rows → p < length keys
-  inside p h = rw (e, length-map rs (λ r. r.object), ← len) h
-
-  key_at : (p : ℕ) → slice_index keys p ≡ (row_at rs p).object
-  key_at p = ap (λ k. slice_index k p) e ∙ object_at rs p
-
   each : (p : ℕ) → p < length rows → row_at rows p ≡ row_at (cut_rows o rs) p
-  each p h = elim (cases_eq (row_at rs p).object o) [
-    | inl same ↦ passed p (inside p h) (key_at p ∙ same) ∙ sym (grind (arith, cut_at rs o p, same))
-    | inr other ↦ others p other ∙ sym (grind (arith, cut_at rs o p, other))
-  ]
+  each p h =
+      let there : p < length rs = omega arith in
+      elim (cases_eq (row_at rs p).object o) [
+        | inl same ↦
+            let is : row_at rows p ≡ no_public (row_at rs p) = row_passed (λ r. r.object) rs keys o e (λ q. row_at rows q ≡ no_public (row_at rs q)) passed p there same in
+            is ∙ sym (grind (arith, cut_at rs o p, same))
+        | inr other ↦ others p other ∙ sym (grind (arith, cut_at rs o p, other))
+      ]
 
 -- rows after a write that keeps the row's apartment, object and interface
 pub place_set : (rs : List ProxyRow) (p : ℕ) (x : ProxyRow) (a o i : ℕ) → x.apartment ≡ (row_at rs p).apartment → x.object ≡ (row_at rs p).object → x.iface ≡ (row_at rs p).iface
@@ -168,15 +177,16 @@ place_set [] p x a o i ea eo ei = refl
 place_set (r ∷ rs) zero x a o i ea eo ei = grind (arith, ea, eo, ei)
 place_set (r ∷ rs) (suc p) x a o i ea eo ei = grind (arith, place_set rs p x a o i ea eo ei)
 
-pub objects_set : (rs : List ProxyRow) (p : ℕ) (x : ProxyRow) → x.object ≡ (row_at rs p).object → objects_of (slice_set rs p x) ≡ objects_of rs
-objects_set [] p x e = refl
-objects_set (r ∷ rs) zero x e = ap (λ o. o ∷ objects_of rs) e
-objects_set (r ∷ rs) (suc p) x e = ap (λ os. r.object ∷ os) (objects_set rs p x e)
+pub keys_set : (key : ProxyRow → ℕ) (rs : List ProxyRow) (p : ℕ) (x : ProxyRow) → key x ≡ key (row_at rs p) → map key (slice_set rs p x) ≡ map key rs
+keys_set key [] p x e = refl
+keys_set key (r ∷ rs) zero x e = ap (λ k. k ∷ map key rs) e
+keys_set key (r ∷ rs) (suc p) x e = ap (λ ks. key r ∷ ks) (keys_set key rs p x e)
 
-pub table_set : (rs : List ProxyRow) (places : Places) (p : ℕ) (x : ProxyRow) → IsTable rs places → p < length rs → x.apartment ≡ (row_at rs p).apartment → x.object ≡ (row_at rs p).object
-    → x.iface ≡ (row_at rs p).iface → IsTable (slice_set rs p x) places
-table_set rs places p x t inside ea eo ei = record {
-  keyed = t.keyed ∙ sym (objects_set rs p x eo);
+pub table_set : (rs : List ProxyRow) (proxies objects : Places) (p : ℕ) (x : ProxyRow) → IsTable rs proxies objects → p < length rs → x.apartment ≡ (row_at rs p).apartment → x.object ≡ (row_at rs p).object
+    → x.iface ≡ (row_at rs p).iface → IsTable (slice_set rs p x) proxies objects
+table_set rs proxies objects p x t inside ea eo ei = record {
+  by_proxy = t.by_proxy ∙ sym (keys_set key_of rs p x (ap (λ b. proxy_key_of b x.object) ea ∙ ap (λ b. proxy_key_of (row_at rs p).apartment b) eo));
+  by_object = t.by_object ∙ sym (keys_set (λ r. r.object) rs p x eo);
   first = λ q h.
       let there : q < length rs = rw (← length-set rs p x) h in
       elim (cases_eq q p) [
@@ -199,10 +209,14 @@ pub place_push : (rs : List ProxyRow) (x : ProxyRow) (a o i : ℕ) → length rs
 place_push [] x a o i h e = grind (arith, e)
 place_push (r ∷ rs) x a o i h e = grind (arith, common_steps, place_push rs x a o i, h, e)
 
-pub table_push : (rs : List ProxyRow) (places more : Places) (x : ProxyRow) → IsTable rs places → more.keys ≡ places.keys ++ x.object ∷ [] → length rs ≤ place_of rs x.apartment x.object x.iface
-    → IsTable (rs ++ x ∷ []) more
-table_push rs places more x t e new = record {
-  keyed = e ∙ ap (λ ks. ks ++ x.object ∷ []) t.keyed ∙ sym (map-append (λ (r : ProxyRow). r.object) rs (x ∷ []));
+pub keys_push : (key : ProxyRow → ℕ) (rs : List ProxyRow) (x : ProxyRow) (keys more : List ℕ) → keys ≡ map key rs → more ≡ keys ++ key x ∷ [] → more ≡ map key (rs ++ x ∷ [])
+keys_push key rs x keys more e is = is ∙ ap (λ ks. ks ++ key x ∷ []) e ∙ sym (map-append key rs (x ∷ []))
+
+pub table_push : (rs : List ProxyRow) (proxies objects more_proxies more_objects : Places) (x : ProxyRow) → IsTable rs proxies objects → more_proxies.keys ≡ proxies.keys ++ key_of x ∷ []
+    → more_objects.keys ≡ objects.keys ++ x.object ∷ [] → length rs ≤ place_of rs x.apartment x.object x.iface → IsTable (rs ++ x ∷ []) more_proxies more_objects
+table_push rs proxies objects more_proxies more_objects x t by_proxy by_object new = record {
+  by_proxy = keys_push key_of rs x proxies.keys more_proxies.keys t.by_proxy by_proxy;
+  by_object = keys_push (λ r. r.object) rs x objects.keys more_objects.keys t.by_object by_object;
   first = λ q h.
       elim (cases_lt q (length rs)) [
         | inl there ↦
@@ -218,15 +232,16 @@ table_push rs places more x t e new = record {
 }
 
 -- the same, where the row was read
-pub table_write : (rs : List ProxyRow) (places : Places) (p : ℕ) (old x : ProxyRow) → IsTable rs places → p < length rs → old ≡ slice_index_or rs p old → x.apartment ≡ old.apartment
-    → x.object ≡ old.object → x.iface ≡ old.iface → IsTable (slice_set rs p x) places
-table_write rs places p old x t inside is ea eo ei =
+pub table_write : (rs : List ProxyRow) (proxies objects : Places) (p : ℕ) (old x : ProxyRow) → IsTable rs proxies objects → p < length rs → old ≡ slice_index_or rs p old → x.apartment ≡ old.apartment
+    → x.object ≡ old.object → x.iface ≡ old.iface → IsTable (slice_set rs p x) proxies objects
+table_write rs proxies objects p old x t inside is ea eo ei =
     let at : old ≡ row_at rs p = get_or_read rs p old inside is (no_row 0 0 0) in
-    table_set rs places p x t inside (ea ∙ ap (λ r. r.apartment) at) (eo ∙ ap (λ r. r.object) at) (ei ∙ ap (λ r. r.iface) at)
+    table_set rs proxies objects p x t inside (ea ∙ ap (λ r. r.apartment) at) (eo ∙ ap (λ r. r.object) at) (ei ∙ ap (λ r. r.iface) at)
 
-pub table_cut : (rs : List ProxyRow) (places : Places) (o : ℕ) → IsTable rs places → IsTable (cut_rows o rs) places
-table_cut rs places o t = record {
-  keyed = t.keyed ∙ sym (objects_cut rs);
+pub table_cut : (rs : List ProxyRow) (proxies objects : Places) (o : ℕ) → IsTable rs proxies objects → IsTable (cut_rows o rs) proxies objects
+table_cut rs proxies objects o t = record {
+  by_proxy = t.by_proxy ∙ sym (keys_cut key_of (λ r. ap (λ b. proxy_key_of b (cut_row o r).object) (apartment_cut r) ∙ ap (λ b. proxy_key_of r.apartment b) (object_cut r)) rs);
+  by_object = t.by_object ∙ sym (keys_cut (λ r. r.object) object_cut rs);
   first = λ q h.
       let there : q < length rs = rw (← length-map rs (cut_row o)) h in
       let row : row_at (cut_rows o rs) q ≡ cut_row o (row_at rs q) = cut_at rs o q in
@@ -241,29 +256,30 @@ table_cut rs places o t = record {
   iface_cut : (r : ProxyRow) → (cut_row o r).iface ≡ r.iface
   iface_cut r = grind arith
 
-  objects_cut : (rs : List ProxyRow) → objects_of (cut_rows o rs) ≡ objects_of rs
-  objects_cut [] = refl
-  objects_cut (r ∷ rs) = grind (arith, objects_cut rs)
+  keys_cut : (key : ProxyRow → ℕ) → ((r : ProxyRow) → key (cut_row o r) ≡ key r) → (rs : List ProxyRow) → map key (cut_rows o rs) ≡ map key rs
+  keys_cut key kept [] = refl
+  keys_cut key kept (r ∷ rs) = ap (λ k. k ∷ map key (cut_rows o rs)) (kept r) ∙ ap (λ ks. key r ∷ ks) (keys_cut key kept rs)
 
   place_cut : (rs : List ProxyRow) (a p i : ℕ) → place_of (cut_rows o rs) a p i ≡ place_of rs a p i
   place_cut [] a p i = refl
   place_cut (r ∷ rs) a p i = grind (arith, place_cut rs a p i)
 
 -- what is known where the public references of the lowest interface are taken
-pub record Taking (rs : List ProxyRow) (places : Places) (a o p : ℕ) (old : ProxyRow) : Type 0 where
-  pub table : IsTable (slice_set rs p (no_public old)) places
+pub record Taking (rs : List ProxyRow) (proxies objects : Places) (a o p : ℕ) (old : ProxyRow) : Type 0 where
+  pub table : IsTable (slice_set rs p (no_public old)) proxies objects
   pub held : old.public ≡ public_of rs a o old.iface
   pub least : (i : ℕ) → 0 < public_of rs a o i → old.iface ≤ i
   pub changes : slice_set rs p (no_public old) ≡ changed_row no_public a o old.iface rs
 
-pub taking : (rs : List ProxyRow) (places : Places) (a o p : ℕ) (old : ProxyRow) → IsTable rs places → IsLowest a o rs p → old ≡ slice_index_or rs p old → Taking rs places a o p old
-taking rs places a o p old t l is =
+pub taking : (rs : List ProxyRow) (proxies objects : Places) (a o p : ℕ) (old : ProxyRow) → IsTable rs proxies objects → IsLowest a o rs p → old ≡ slice_index_or rs p old
+    → Taking rs proxies objects a o p old
+taking rs proxies objects a o p old t l is =
     let at : old ≡ row_at rs p = get_or_read rs p old l.inside is (no_row 0 0 0) in
     let row : row_of rs a o old.iface ≡ old = rw at (lowest_row rs a o p t.first l) in
     let place : place_of rs a o old.iface ≡ p = rw at (lowest_place rs a o p t.first l) in
     let inside : place_of rs a o old.iface < length rs = rw place l.inside in
     record {
-      table = table_write rs places p old (no_public old) t l.inside is refl refl refl;
+      table = table_write rs proxies objects p old (no_public old) t l.inside is refl refl refl;
       held = ap (λ r. r.public) (sym row);
       least = λ i h. rw at (lowest_least rs a o p i l h);
       changes = sym (changed_at rs no_public a o old.iface inside ∙ ap (λ n. slice_set rs n (no_public (row_of rs a o old.iface))) place ∙ ap (λ r. slice_set rs p (no_public r)) row);

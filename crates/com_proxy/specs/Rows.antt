@@ -1,5 +1,6 @@
 -- The rows of the proxies: what each apartment holds of each interface of each object.
-use Rattle.std.specs.Prelude.{ℕ, ◌≡◌, ◌+◌, ◌-◌, ◌/◌, ◌<◌, ◌≤◌, Bool, ◌==◌, ◌&&◌, if◌then◌else◌, nat_le, List, [], ◌∷◌, map, length, slice_index_or}
+use Rattle.std.specs.Prelude.{ℕ, ◌≡◌, ◌+◌, ◌-◌, ◌*◌, ◌/◌, ◌%◌, ◌^◌, ◌<◌, ◌≤◌, Bool, ◌==◌, ◌&&◌, if◌then◌else◌, nat_le, List, [], ◌∷◌, map, length, slice_index_or}
+use Rattle.com_proxy.specs.declared.TheConstants.{MIX}
 use Rattle.com_proxy.specs.declared.ProxyRow.{ProxyRow}
 use Rattle.com_proxy.specs.declared.Split.{Split}
 use Rattle.com_proxy.specs.declared.Split.TheVariants.{Moved, New}
@@ -23,6 +24,10 @@ local_of rows apartment object iface = (row_of rows apartment object iface).loca
 -- the public references that are held
 abbrev pub public_of : List ProxyRow → ℕ → ℕ → ℕ → ℕ
 public_of rows apartment object iface = (row_of rows apartment object iface).public
+
+-- the apartment has no local reference to the object, by any interface
+pub record IsFree (rows : List ProxyRow) (apartment object : ℕ) : Type 0 where
+  pub none_held : (iface : ℕ) → local_of rows apartment object iface ≡ 0
 
 -- where that row stands, or the number of rows
 abbrev pub place_of : List ProxyRow → ℕ → ℕ → ℕ → ℕ
@@ -66,6 +71,19 @@ cut_row object row = if row.object == object then no_public row else row
 abbrev pub cut_rows : ℕ → List ProxyRow → List ProxyRow
 cut_rows object rows = map (cut_row object) rows
 
+-- the key of a proxy, which another proxy may share
+unfoldable pub proxy_key_of : ℕ → ℕ → ℕ
+proxy_key_of apartment object = (apartment * MIX % 2 ^ 32 + object) % 2 ^ 32
+
+-- the key of a row's proxy
+abbrev pub key_of : ProxyRow → ℕ
+key_of row = proxy_key_of row.apartment row.object
+
+-- the key of the proxy of each row
+abbrev pub proxies_of : List ProxyRow → List ℕ
+proxies_of rows = map key_of rows
+
+-- the object of each row
 abbrev pub objects_of : List ProxyRow → List ℕ
 objects_of rows = map (λ row. row.object) rows
 

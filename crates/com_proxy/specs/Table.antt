@@ -2,14 +2,16 @@
 use Rattle.std.specs.Prelude.{ℕ, ◌≡◌, List}
 use Rattle.com_chains.specs.Places.{Places}
 use Rattle.com_proxy.specs.declared.ProxyRow.{ProxyRow}
-use Rattle.com_proxy.specs.Rows.{EachFirst, objects_of}
+use Rattle.com_proxy.specs.Rows.{EachFirst, proxies_of, objects_of}
 
 -- the rows, in the order of their first references, and how many more rows are sure to find memory
 pub record Table : Type 0 where
   pub rows : List ProxyRow
   pub spare : ℕ
 
--- the places are under the objects of the rows, and there is one row of each
-pub record IsTable (rows : List ProxyRow) (places : Places) : Type 0 where
-  pub keyed : places.keys ≡ objects_of rows
+-- the places are under the keys of the rows' proxies and under the rows' objects, and there is one row
+-- of each apartment, object and interface
+pub record IsTable (rows : List ProxyRow) (proxies objects : Places) : Type 0 where
+  pub by_proxy : proxies.keys ≡ proxies_of rows
+  pub by_object : objects.keys ≡ objects_of rows
   pub first : EachFirst rows

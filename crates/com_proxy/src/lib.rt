@@ -7,7 +7,7 @@
 #![tactic(auto)]
 
 ghost use Rattle.std.specs.Prelude.{◌≡◌, ◌+◌, ◌<◌, ◌≤◌, ◌^◌, ◌↔◌, ℕ, [], OnOk, OnErr, IsOk, IsTrue, IfNone, IfSome, length};
-ghost use Rattle.com_proxy.specs.Rows.{local_of, public_of, changed_row, gaining, one_local_more, one_local_less, no_public, split_of, split_rows, cut_rows, place_of, row_at, objects_of, EachFirst, HasNoPublic, IsLowest};
+ghost use Rattle.com_proxy.specs.Rows.{local_of, public_of, changed_row, gaining, one_local_more, one_local_less, no_public, split_of, split_rows, cut_rows, place_of, row_at, proxy_key_of, proxies_of, objects_of, EachFirst, HasNoPublic, IsFree, IsLowest};
 
 use com_chains::Chains;
 use std::alloc::Global;
@@ -40,7 +40,10 @@ pub enum Split {
 #[derive(Debug, Drop)]
 pub struct Proxies {
     rows: Vec<ProxyRow>,
-    chains: Chains,
+    // The places of the rows under the keys of their proxies.
+    proxies: Chains,
+    // The places of the rows under their objects.
+    objects: Chains,
 }
 
 impl Model for Proxies {
@@ -51,43 +54,60 @@ impl Model for Proxies {
 
     ghost view = { λ p. record {
       rows = p.rows.items;
-      spare = min p.chains.spare (vec_capacity p.rows - vec_len p.rows);
+      spare = min (min p.proxies.spare p.objects.spare) (vec_capacity p.rows - vec_len p.rows);
     } };
 
-    ghost invariant = { λ p. IsTable p.rows.items p.chains };
+    ghost invariant = { λ p. IsTable p.rows.items p.proxies p.objects };
+}
+
+// 2 ^ 32 divided by the golden ratio. It is odd, so that two apartments never have the same multiple of
+// it, and the multiples of apartments that follow each other lie far apart: then the proxies of one
+// object in many apartments, and those of many objects in one apartment, seldom share a key.
+const MIX: u32 = 2_654_435_769;
+
+// The key of a proxy, which another proxy may share.
+#[tactic(auto, unfolding(crate::specs::Rows::proxy_key_of))]
+fn proxy_key(apartment: u32, object: u32) -> u32
+    ensures { result ≡ proxy_key_of apartment object }
+{
+    apartment.wrapping_mul(MIX).wrapping_add(object)
 }
 
 // The place of a row, or the number of rows.
-fn find(rows: &[ProxyRow], chains: &Chains, apartment: u32, object: u32, iface: u16) -> usize
-    requires keyed { chains.now.keys ≡ objects_of rows.now }
+fn find(rows: &[ProxyRow], proxies: &Chains, apartment: u32, object: u32, iface: u16) -> usize
+    requires keyed { proxies.now.keys ≡ proxies_of rows.now }
     requires first { EachFirst rows.now }
     ensures { result ≡ place_of rows.now apartment object iface }
 {
-    let mut at = chains.last(object);
+    let mut at = proxies.last(proxy_key(apartment, object));
     while let Some(place) = at {
         let row = &rows[place];
-        if row.apartment == apartment && row.iface == iface {
+        if row.object == object && row.apartment == apartment && row.iface == iface {
             return place;
         }
-        at = chains.earlier(place);
+        at = proxies.earlier(place);
     }
     rows.len()
 }
 
 // The place of the row of the lowest interface of which the apartment has public references.
-fn lowest(rows: &[ProxyRow], chains: &Chains, apartment: u32, object: u32) -> Option<usize>
-    requires keyed { chains.now.keys ≡ objects_of rows.now }
+fn lowest(rows: &[ProxyRow], proxies: &Chains, apartment: u32, object: u32) -> Option<usize>
+    requires keyed { proxies.now.keys ≡ proxies_of rows.now }
     ensures none { IfNone result ((place : ℕ) → place < length rows.now → HasNoPublic apartment object rows.now place) }
     ensures lowest { IfSome result (IsLowest apartment object rows.now) }
 {
     let mut lowest: Option<usize> = None;
-    let mut at = chains.last(object);
+    let mut at = proxies.last(proxy_key(apartment, object));
     while let Some(place) = at {
         let row = &rows[place];
-        if row.apartment == apartment && row.public > 0 && is_lower(rows, row.iface, lowest) {
+        if row.object == object
+            && row.apartment == apartment
+            && row.public > 0
+            && is_lower(rows, row.iface, lowest)
+        {
             lowest = Some(place);
         }
-        at = chains.earlier(place);
+        at = proxies.earlier(place);
     }
     lowest
 }
@@ -104,31 +124,31 @@ fn is_lower(rows: &[ProxyRow], iface: u16, place: Option<usize>) -> bool
 }
 
 // True exactly where the apartment has no local reference to the object, by any interface.
-fn is_free(rows: &[ProxyRow], chains: &Chains, apartment: u32, object: u32) -> bool
-    requires keyed { chains.now.keys ≡ objects_of rows.now }
+fn is_free(rows: &[ProxyRow], proxies: &Chains, apartment: u32, object: u32) -> bool
+    requires keyed { proxies.now.keys ≡ proxies_of rows.now }
     requires first { EachFirst rows.now }
-    ensures { IsTrue result ↔ ((iface : ℕ) → local_of rows.now apartment object iface ≡ 0) }
+    ensures { IsTrue result ↔ IsFree rows.now apartment object }
 {
-    let mut at = chains.last(object);
+    let mut at = proxies.last(proxy_key(apartment, object));
     while let Some(place) = at {
         let row = &rows[place];
-        if row.apartment == apartment && row.local > 0 {
+        if row.object == object && row.apartment == apartment && row.local > 0 {
             return false;
         }
-        at = chains.earlier(place);
+        at = proxies.earlier(place);
     }
     true
 }
 
 // Takes the public references of all proxies of the object away.
-fn cut_all(rows: &mut [ProxyRow], chains: &Chains, object: u32)
-    requires keyed { chains.now.keys ≡ objects_of rows.old }
+fn cut_all(rows: &mut [ProxyRow], objects: &Chains, object: u32)
+    requires keyed { objects.now.keys ≡ objects_of rows.old }
     ensures { rows.new ≡ cut_rows object rows.old }
 {
-    let mut at = chains.last(object);
+    let mut at = objects.last(object);
     while let Some(place) = at {
         rows[place].public = 0;
-        at = chains.earlier(place);
+        at = objects.earlier(place);
     }
 }
 
@@ -139,7 +159,8 @@ impl Proxies {
     {
         Proxies {
             rows: Vec::new(alloc),
-            chains: Chains::new(alloc),
+            proxies: Chains::new(alloc),
+            objects: Chains::new(alloc),
         }
     }
 
@@ -149,7 +170,8 @@ impl Proxies {
         ensures rows { self.new.rows ≡ self.old.rows }
         ensures spare { self.old.spare ≤ self.new.spare }
     {
-        self.chains.reserve(n)?;
+        self.proxies.reserve(n)?;
+        self.objects.reserve(n)?;
         self.rows.reserve(n as usize)
     }
 
@@ -165,16 +187,18 @@ impl Proxies {
         ensures room { 0 < self.old.spare → IsOk result }
         ensures spare { self.old.spare ≤ self.new.spare + 1 }
     {
-        let at = find(&self.rows, &self.chains, apartment, object, iface);
+        let at = find(&self.rows, &self.proxies, apartment, object, iface);
         if at < self.rows.len() {
             let row = &mut self.rows[at];
             row.local += 1;
             row.public += u64::from(refs);
             return Ok(());
         }
-        self.chains.reserve(1)?;
+        self.proxies.reserve(1)?;
+        self.objects.reserve(1)?;
         self.rows.reserve(1)?;
-        self.chains.append(object);
+        self.proxies.append(proxy_key(apartment, object));
+        self.objects.append(object);
         self.rows.push_reserved(ProxyRow {
             apartment,
             object,
@@ -193,7 +217,7 @@ impl Proxies {
         ensures rows { self.new.rows ≡ changed_row one_local_more apartment object iface self.old.rows }
         ensures spare { self.new.spare ≡ self.old.spare }
     {
-        let at = find(&self.rows, &self.chains, apartment, object, iface);
+        let at = find(&self.rows, &self.proxies, apartment, object, iface);
         let row = &mut self.rows[at];
         row.local += 1;
     }
@@ -204,13 +228,13 @@ impl Proxies {
     pub fn release(&mut self, apartment: u32, object: u32, iface: u16) -> bool
         requires held { 0 < local_of self.old.rows apartment object iface }
         ensures rows { self.new.rows ≡ changed_row one_local_less apartment object iface self.old.rows }
-        ensures free { IsTrue result ↔ ((other : ℕ) → local_of self.new.rows apartment object other ≡ 0) }
+        ensures free { IsTrue result ↔ IsFree self.new.rows apartment object }
         ensures spare { self.new.spare ≡ self.old.spare }
     {
-        let at = find(&self.rows, &self.chains, apartment, object, iface);
+        let at = find(&self.rows, &self.proxies, apartment, object, iface);
         let row = &mut self.rows[at];
         row.local -= 1;
-        is_free(&self.rows, &self.chains, apartment, object)
+        is_free(&self.rows, &self.proxies, apartment, object)
     }
 
     /// The local references of the interface that the apartment holds.
@@ -218,7 +242,7 @@ impl Proxies {
     pub fn local(&self, apartment: u32, object: u32, iface: u16) -> u64
         ensures { result ≡ local_of self.now.rows apartment object iface }
     {
-        let at = find(&self.rows, &self.chains, apartment, object, iface);
+        let at = find(&self.rows, &self.proxies, apartment, object, iface);
         if at < self.rows.len() {
             return self.rows[at].local;
         }
@@ -230,7 +254,7 @@ impl Proxies {
     pub fn public(&self, apartment: u32, object: u32, iface: u16) -> u64
         ensures { result ≡ public_of self.now.rows apartment object iface }
     {
-        let at = find(&self.rows, &self.chains, apartment, object, iface);
+        let at = find(&self.rows, &self.proxies, apartment, object, iface);
         if at < self.rows.len() {
             return self.rows[at].public;
         }
@@ -248,7 +272,7 @@ impl Proxies {
         ensures rows { IfSome result (λ taken. self.new.rows ≡ changed_row no_public apartment object taken.0 self.old.rows) }
         ensures spare { self.new.spare ≡ self.old.spare }
     {
-        let Some(at) = lowest(&self.rows, &self.chains, apartment, object) else {
+        let Some(at) = lowest(&self.rows, &self.proxies, apartment, object) else {
             return None;
         };
         let row = &mut self.rows[at];
@@ -265,7 +289,7 @@ impl Proxies {
         ensures rows { self.new.rows ≡ split_rows apartment object iface self.old.rows }
         ensures spare { self.new.spare ≡ self.old.spare }
     {
-        let at = find(&self.rows, &self.chains, apartment, object, iface);
+        let at = find(&self.rows, &self.proxies, apartment, object, iface);
         if at >= self.rows.len() {
             return Split::New;
         }
@@ -283,7 +307,7 @@ impl Proxies {
         ensures rows { self.new.rows ≡ cut_rows object self.old.rows }
         ensures spare { self.new.spare ≡ self.old.spare }
     {
-        cut_all(&mut self.rows, &self.chains, object);
+        cut_all(&mut self.rows, &self.objects, object);
     }
 }
 
@@ -320,6 +344,32 @@ mod tests {
         assert_eq!(rt; proxies.take_public(4, 1), Some((0, 5)));
         assert_eq!(rt; proxies.take_public(4, 1), Some((2, 5)));
         assert_eq!(rt; proxies.take_public(4, 1), None);
+        Ok(())
+    }
+
+    #[test]
+    fn what_is_asked_of_a_proxy_is_of_its_apartment_and_object_alone(
+        rt: HostRuntime,
+    ) -> Result<(), Fail> {
+        let mut proxies = Proxies::new(rt.alloc());
+        proxies.gain(3, 7, 2, 5)?;
+        proxies.gain(4, 7, 2, 6)?;
+        proxies.gain(4, 7, 0, 7)?;
+        proxies.gain(5, 7, 0, 8)?;
+        // This proxy has the key of the one of apartment 4.
+        proxies.gain(3, 7 + MIX, 2, 9)?;
+        assert!(rt; !proxies.release(4, 7, 2));
+        assert!(rt; proxies.release(4, 7, 0));
+        assert_eq!(rt; proxies.local(4, 7, 2), 0);
+        assert_eq!(rt; proxies.local(3, 7, 2), 1);
+        assert_eq!(rt; proxies.local(5, 7, 0), 1);
+        assert_eq!(rt; proxies.local(3, 7 + MIX, 2), 1);
+        assert_eq!(rt; proxies.take_public(4, 7), Some((0, 7)));
+        assert_eq!(rt; proxies.take_public(4, 7), Some((2, 6)));
+        assert_eq!(rt; proxies.take_public(4, 7), None);
+        assert_eq!(rt; proxies.public(3, 7, 2), 5);
+        assert_eq!(rt; proxies.public(5, 7, 0), 8);
+        assert_eq!(rt; proxies.public(3, 7 + MIX, 2), 9);
         Ok(())
     }
 

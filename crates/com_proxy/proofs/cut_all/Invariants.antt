@@ -6,7 +6,7 @@ use Rattle.com_proxy.proofs.cut_all.Given as goal
 
 abbrev pub invariant-loop-at : goal.invariant-loop-at
 invariant-loop-at l = record {
-  walks : Walks l.chains.keys l.object (λ p. row_at l.rows p ≡ no_public (row_at l.fn.rows p)) l.at;
+  walks : Walks l.objects.keys l.object (λ p. row_at l.rows p ≡ no_public (row_at l.fn.rows p)) l.at;
   ahead : (p : ℕ) → p < reach l.at → row_at l.rows p ≡ row_at l.fn.rows p;
   others : (p : ℕ) → ((row_at l.fn.rows p).object ≡ l.object → ⊥) → row_at l.rows p ≡ row_at l.fn.rows p;
 }

@@ -2,11 +2,12 @@ use Rattle.std.specs.Prelude.{IfSome}
 use Rattle.com_chains.specs.Places.{reach}
 use Rattle.com_chains.proofs.Walking.{Walks}
 use Rattle.com_proxy.proofs.Candidates.{IsCandidate, Bounds}
+use Rattle.com_proxy.specs.Rows.{proxy_key_of}
 use Rattle.com_proxy.proofs.lowest.Given as goal
 
 abbrev pub invariant-loop-at : goal.invariant-loop-at
 invariant-loop-at l = record {
-  walks : Walks l.chains.keys l.object (Bounds l.apartment l.rows l.lowest) l.at;
+  walks : Walks l.proxies.keys (proxy_key_of l.apartment l.object) (Bounds l.apartment l.object l.rows l.lowest) l.at;
   candidate : IfSome l.lowest (IsCandidate l.apartment l.object l.rows);
 }
 

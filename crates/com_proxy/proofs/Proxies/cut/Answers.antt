@@ -8,4 +8,4 @@ pub invariant_of-self : goal.invariant_of-self
 invariant_of-self c =
     let rows = c.self.inside.rows in
     let is : take rows.len (c.cut_all.new.rows ++ drop (length c.cut_all.new.rows) rows.items) ≡ cut_rows c.args.object rows.items = grind (arith, common_steps) in
-    rw is (table_cut rows.items c.self.inside.chains c.args.object c.self.invariant)
+    rw is (table_cut rows.items c.self.inside.proxies c.self.inside.objects c.args.object c.self.invariant)

@@ -6,4 +6,4 @@ pub invariant_of-self : goal.invariant_of-self
 invariant_of-self c =
     let rows = c.self.inside.rows in
     let inside : c.find-at.result < length rows.items = omega (arith, rows.ok.0) in
-    table_write rows.items c.self.inside.chains c.find-at.result c.index_mut-row.result.now _ c.self.invariant inside c.index_mut-row.ensures.value refl refl refl
+    table_write rows.items c.self.inside.proxies c.self.inside.objects c.find-at.result c.index_mut-row.result.now _ c.self.invariant inside c.index_mut-row.ensures.value refl refl refl
