@@ -1,0 +1,4 @@
+pub mod Sums
+pub mod Evens
+pub mod Lows
+pub mod Balances
