@@ -19,7 +19,7 @@ use Rattle.com_model.specs.Safe.{EachEntry, OwnReply, Replies, is_refused_route,
 use Rattle.com_model.proofs.Given.{cond-of}
 use Rattle.com_model.proofs.Onces.{legal-once}
 use Rattle.com_safety.proofs.Sources.{IsRest, Source, by_body, by_script, by_end, by_final, by_own, by_answer, by_inbox, by_retry, by_again, by_rest, next-source}
-use Rattle.com_safety.proofs.Acted.{is_scripts, OfAction, deed-acted}
+use Rattle.com_safety.proofs.Acted.{ActionSort, action_sort, OfAction, deed-acted}
 use Rattle.com_safety.proofs.Waits.{First, taken-first, next-taken, Own, own-enters}
 
 -- ---- a law of each entry from a law of each next deed
@@ -34,7 +34,7 @@ refused : (s : Scenario) (h : List Entry) (l : ℕ) (d : Deed) (b : Bool) → op
 refused s h l d true e = e
 refused s h l d false e = tt
 
-acted-cause : (s : Scenario) (h : List Entry) (l : ℕ) (b : Bool) (d : Deed) → OfAction b d → option_map (deed_of s (sight s h) l) (act s h l) ≡ Some d → HasCause s h l d
+acted-cause : (s : Scenario) (h : List Entry) (l : ℕ) (b : ActionSort) (d : Deed) → OfAction b d → option_map (deed_of s (sight s h) l) (act s h l) ≡ Some d → HasCause s h l d
 acted-cause s h l b (deed.Back c hr v) p e = absurd p
 acted-cause s h l b (deed.Refuse c hr) p e = absurd p
 acted-cause s h l b (deed.Verdict c t v) p e = absurd p
@@ -68,8 +68,8 @@ acted-by : (s : Scenario) (v : Sight) (l : ℕ) (x : Action) (d : Deed) → v.ac
 acted-by s v l x d p e = subst (λ (y : Deed). option_map (deed_of s v l) (v.act l) ≡ Some y) e (ap (option_map (deed_of s v l)) p)
 
 pub has-cause : (s : Scenario) (h : List Entry) (l : ℕ) (d : Deed) → Source s (sight s h) l d → HasCause s h l d
-has-cause s h l d (by_body c o a os x p q e) = acted-cause s h l (is_scripts x) d (subst (OfAction (is_scripts x)) e (deed-acted s (sight s h) l x)) (acted-by s (sight s h) l x d q e)
-has-cause s h l d (by_script x p t q e) = acted-cause s h l (is_scripts x) d (subst (OfAction (is_scripts x)) e (deed-acted s (sight s h) l x)) (acted-by s (sight s h) l x d q e)
+has-cause s h l d (by_body c o a os x p q e) = acted-cause s h l (action_sort x) d (subst (OfAction (action_sort x)) e (deed-acted s (sight s h) l x)) (acted-by s (sight s h) l x d q e)
+has-cause s h l d (by_script x p t q e) = acted-cause s h l (action_sort x) d (subst (OfAction (action_sort x)) e (deed-acted s (sight s h) l x)) (acted-by s (sight s h) l x d q e)
 has-cause s h l d (by_end p t e) = subst (HasCause s h l) e (ended-cause s h l)
 has-cause s h l d (by_final o p e) = subst (HasCause s h l) e tt
 has-cause s h l d (by_own c p q e) = subst (HasCause s h l) e (admission-cause s h l c)
@@ -84,7 +84,7 @@ legal-causes s = each-next s (HasCause s) (λ h l d p z. has-cause s h l d z)
 
 -- ---- a call's own values and answers
 
-acted-reply : (s : Scenario) (h : List Entry) (l : ℕ) (b : Bool) (d : Deed) → OfAction b d → option_map (deed_of s (sight s h) l) (act s h l) ≡ Some d → OwnReply s h l d
+acted-reply : (s : Scenario) (h : List Entry) (l : ℕ) (b : ActionSort) (d : Deed) → OfAction b d → option_map (deed_of s (sight s h) l) (act s h l) ≡ Some d → OwnReply s h l d
 acted-reply s h l b (deed.Enter c o a t vs) p e = absurd p
 acted-reply s h l b (deed.Leave c hr v bytes) p e = e
 acted-reply s h l b (deed.Back c hr v) p e = absurd p
@@ -112,8 +112,8 @@ ended-reply : (s : Scenario) (h : List Entry) (l : ℕ) → OwnReply s h l (afte
 ended-reply s h l = cond-of (OwnReply s h l) ((sight s h).count l == 0) deed.End (uninitialised (sight s h) l) tt tt
 
 pub own-reply : (s : Scenario) (h : List Entry) (l : ℕ) (d : Deed) → Source s (sight s h) l d → OwnReply s h l d
-own-reply s h l d (by_body c o a os x p q e) = acted-reply s h l (is_scripts x) d (subst (OfAction (is_scripts x)) e (deed-acted s (sight s h) l x)) (acted-by s (sight s h) l x d q e)
-own-reply s h l d (by_script x p t q e) = acted-reply s h l (is_scripts x) d (subst (OfAction (is_scripts x)) e (deed-acted s (sight s h) l x)) (acted-by s (sight s h) l x d q e)
+own-reply s h l d (by_body c o a os x p q e) = acted-reply s h l (action_sort x) d (subst (OfAction (action_sort x)) e (deed-acted s (sight s h) l x)) (acted-by s (sight s h) l x d q e)
+own-reply s h l d (by_script x p t q e) = acted-reply s h l (action_sort x) d (subst (OfAction (action_sort x)) e (deed-acted s (sight s h) l x)) (acted-by s (sight s h) l x d q e)
 own-reply s h l d (by_end p t e) = subst (OwnReply s h l) e (ended-reply s h l)
 own-reply s h l d (by_final o p e) = subst (OwnReply s h l) e tt
 own-reply s h l d (by_own c p q e) = subst (OwnReply s h l) e (admission-reply s h l c (own-enters (sight s h) c q).not_answered)

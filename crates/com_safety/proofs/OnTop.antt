@@ -10,14 +10,13 @@ use Rattle.com_model.specs.Lists.{where_true}
 use Rattle.com_model.specs.Openers.{Opener, Enters, openers}
 use Rattle.com_model.specs.Calls.{object_of}
 use Rattle.com_model.specs.Endings.{Answer}
-use Rattle.com_model.specs.Deeds.{deed_of}
 use Rattle.com_model.specs.Sight.{Sight, sight}
 use Rattle.com_model.specs.Formed.{Formed}
 use Rattle.com_model.specs.Rules.{posted_to_sta, call_sort, verdict_on, is_handled_in, arguments_gone, admission, packet_left, answered, legal}
 use Rattle.com_model.specs.Safe.{EachEntry, Maker, BodyOrScript, ScriptAlone, ARule, maker, MadeOnTop}
 use Rattle.com_model.proofs.Given.{cond-of}
 use Rattle.com_safety.proofs.Sources.{IsRest, Source, by_body, by_script, by_end, by_final, by_own, by_answer, by_inbox, by_retry, by_again, by_rest}
-use Rattle.com_safety.proofs.Acted.{is_scripts, OfAction, deed-acted}
+use Rattle.com_safety.proofs.Acted.{ActionSort, Initial, Uninitial, OfScript, action_sort, is_of_script, OfAction, deed-acted}
 use Rattle.com_safety.proofs.Bodies.{not-scripts}
 use Rattle.com_safety.proofs.Caused.{each-next}
 
@@ -29,15 +28,18 @@ none-open ARule = tt
 none-open BodyOrScript = tt
 none-open ScriptAlone = tt
 
-above-enter : (c o a : ℕ) (os : List Opener) (d : Deed) → OfAction false d → OnTop (Enters c o a ∷ os) d
-above-enter c o a os (deed.Init m b hr) p = cc
-above-enter c o a os (deed.Uninit b n) p = cc
-above-enter c o a os (deed.SetFilter f hr) p = cc
-above-enter c o a os (deed.Pump n) p = cc
-above-enter c o a os deed.End p = absurd p
-above-enter c o a os (deed.DropPacket None hr) p = tt
-above-enter c o a os (deed.DropPacket (Some k) hr) p = tt
-above-enter c o a os _ p = tt
+not-of-script : (t u : ActionSort) → is_of_script t ≡ false → is_of_script u ≡ true → t ≡ u → ⊥
+not-of-script t u p q e = let z : is_of_script t ≡ true = subst (λ (x : ActionSort). is_of_script x ≡ true) (sym e) q in cc
+
+above-enter : (t : ActionSort) (c o a : ℕ) (os : List Opener) (d : Deed) → is_of_script t ≡ false → OfAction t d → OnTop (Enters c o a ∷ os) d
+above-enter t c o a os (deed.Init m b hr) q p = not-of-script t Initial q refl p
+above-enter t c o a os (deed.Uninit b n) q p = not-of-script t Uninitial q refl p
+above-enter t c o a os (deed.SetFilter f hr) q p = not-of-script t OfScript q refl p
+above-enter t c o a os (deed.Pump n) q p = not-of-script t OfScript q refl p
+above-enter t c o a os deed.End q p = absurd p
+above-enter t c o a os (deed.DropPacket None hr) q p = tt
+above-enter t c o a os (deed.DropPacket (Some k) hr) q p = tt
+above-enter t c o a os _ q p = tt
 
 rest-on-top : (os : List Opener) (d : Deed) → IsRest d → OnTop os d
 rest-on-top os deed.EndPump p = tt
@@ -59,7 +61,7 @@ admission-on-top s v os l c =
 pub made-on-top : (s : Scenario) → Formed s → (h : List Entry) (l : ℕ) (d : Deed) → Source s (sight s h) l d → MadeOnTop (maker d) (openers h l)
 made-on-top s f h l d (by_body c o a os x p q e) =
     subst (λ (y : List Opener). OnTop y d) (sym p)
-    (above-enter c o a os d (subst (OfAction false) e (subst (λ (b : Bool). OfAction b (deed_of s (sight s h) l x)) (not-scripts s h l c o a os x f p q) (deed-acted s (sight s h) l x))))
+    (above-enter (action_sort x) c o a os d (not-scripts s h l c o a os x f p q) (subst (OfAction (action_sort x)) e (deed-acted s (sight s h) l x)))
 made-on-top s f h l d (by_script x p t q e) = subst (λ (y : List Opener). OnTop y d) (sym p) (none-open (maker d))
 made-on-top s f h l d (by_end p t e) = subst (λ (y : List Opener). OnTop y d) (sym p) (none-open (maker d))
 made-on-top s f h l d (by_final o p e) = subst (OnTop (openers h l)) e tt

@@ -21,7 +21,7 @@ use Rattle.com_model.specs.Rules.{posted_to_sta, call_sort, verdict_on, is_handl
 use Rattle.com_model.proofs.Given.{cond-of}
 use Rattle.com_model.proofs.Comes.{Comes, sort_of, next-comes}
 use Rattle.com_safety.proofs.Sources.{IsRest, Source, by_body, by_script, by_end, by_final, by_own, by_answer, by_inbox, by_retry, by_again, by_rest, next-source}
-use Rattle.com_safety.proofs.Acted.{is_scripts, OfAction, deed-acted}
+use Rattle.com_safety.proofs.Acted.{ActionSort, action_sort, OfAction, deed-acted}
 use Rattle.com_safety.proofs.Waits.{First, taken-first, next-taken, Own, own-enters, and-left}
 
 -- ---- small facts
@@ -119,7 +119,7 @@ own-issue : (i : Issue) (b : Bool) (x : Option Issue) → b ≡ true → is_post
 own-issue i true x e p = p
 own-issue i false x e p = cc
 
-acted-post : (h : List Entry) (l : ℕ) (b : Bool) (d : Deed) → OfAction b d → NewOut (calls h) d → Post (Later h l d) (post_effect d)
+acted-post : (h : List Entry) (l : ℕ) (b : ActionSort) (d : Deed) → OfAction b d → NewOut (calls h) d → Post (Later h l d) (post_effect d)
 acted-post h l b (deed.Out c o i m route.Post k bytes) p n = record {
   post = own-issue (record { call = c; lane = l; object = o; iface = i; method = m; route = route.Post; cause = k }) (c == c) (issue h c) (same-number c) refl;
   issued = omega (arith, n);
@@ -162,8 +162,8 @@ ended-post : (P : ℕ → Type 0) (v : Sight) (l : ℕ) → Post P (post_effect 
 ended-post P v l = cond-of (λ d. Post P (post_effect d)) (v.count l == 0) deed.End (uninitialised v l) tt tt
 
 source-post : (s : Scenario) (h : List Entry) (l : ℕ) (d : Deed) → NewOut (calls h) d → ((c : ℕ) → At (Known h) c (phase h c)) → Source s (sight s h) l d → Post (Later h l d) (post_effect d)
-source-post s h l d n k (by_body c o a os x p q e) = acted-post h l (is_scripts x) d (subst (OfAction (is_scripts x)) e (deed-acted s (sight s h) l x)) n
-source-post s h l d n k (by_script x p t q e) = acted-post h l (is_scripts x) d (subst (OfAction (is_scripts x)) e (deed-acted s (sight s h) l x)) n
+source-post s h l d n k (by_body c o a os x p q e) = acted-post h l (action_sort x) d (subst (OfAction (action_sort x)) e (deed-acted s (sight s h) l x)) n
+source-post s h l d n k (by_script x p t q e) = acted-post h l (action_sort x) d (subst (OfAction (action_sort x)) e (deed-acted s (sight s h) l x)) n
 source-post s h l d n k (by_end p t e) = subst (λ (y : Deed). Post (Later h l d) (post_effect y)) e (ended-post (Later h l d) (sight s h) l)
 source-post s h l d n k (by_final o p e) = subst (λ (y : Deed). Post (Later h l d) (post_effect y)) e tt
 source-post s h l d n k (by_own c p q e) =

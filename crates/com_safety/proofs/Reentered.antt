@@ -21,7 +21,7 @@ use Rattle.com_model.specs.Rules.{top, waiting_call, posted_to_sta, call_sort, v
 use Rattle.com_model.specs.Safe.{EachEntry, CanAdmit, FirstOf, EntersBy, Reenters, Reentry}
 use Rattle.com_model.proofs.Given.{cond-of}
 use Rattle.com_safety.proofs.Sources.{IsRest, Source, by_body, by_script, by_end, by_final, by_own, by_answer, by_inbox, by_retry, by_again, by_rest}
-use Rattle.com_safety.proofs.Acted.{is_scripts, OfAction, deed-acted}
+use Rattle.com_safety.proofs.Acted.{ActionSort, action_sort, OfAction, deed-acted}
 use Rattle.com_safety.proofs.Waits.{First, first-in, Taken, in_pool, in_sta, next-taken, Own, own-enters, and-left, and-right, not-true}
 use Rattle.com_safety.proofs.Posted.{cond-when, not-both, Known, first-posted}
 use Rattle.com_safety.proofs.Caused.{each-next}
@@ -70,7 +70,7 @@ sta-way s h l c t route.Refused sta p q f g e i = cc
 
 -- ---- the rules
 
-acted-reenters : (s : Scenario) (h : List Entry) (l : ℕ) (b : Bool) (d : Deed) → OfAction b d → Reenters s h l d
+acted-reenters : (s : Scenario) (h : List Entry) (l : ℕ) (b : ActionSort) (d : Deed) → OfAction b d → Reenters s h l d
 acted-reenters s h l b (deed.Enter c o a t vs) p = absurd p
 acted-reenters s h l b (deed.Verdict c t v) p = absurd p
 acted-reenters s h l b _ p = tt
@@ -142,8 +142,8 @@ taken-reenters s h l c p q (in_sta a t b o r) =
     sta-reenters s h l a c b f (can-admit s h l (lane_sort s l) (openers h l) refl o (λ d z. unanswered s h l d q z)) (first-posted s h a c p f)
 
 reenters : (s : Scenario) (h : List Entry) (l : ℕ) (d : Deed) → legal s h → Source s (sight s h) l d → Reenters s h l d
-reenters s h l d z (by_body c o a os x p q e) = acted-reenters s h l (is_scripts x) d (subst (OfAction (is_scripts x)) e (deed-acted s (sight s h) l x))
-reenters s h l d z (by_script x p t q e) = acted-reenters s h l (is_scripts x) d (subst (OfAction (is_scripts x)) e (deed-acted s (sight s h) l x))
+reenters s h l d z (by_body c o a os x p q e) = acted-reenters s h l (action_sort x) d (subst (OfAction (action_sort x)) e (deed-acted s (sight s h) l x))
+reenters s h l d z (by_script x p t q e) = acted-reenters s h l (action_sort x) d (subst (OfAction (action_sort x)) e (deed-acted s (sight s h) l x))
 reenters s h l d z (by_end p t e) = subst (Reenters s h l) e (ended-reenters s h l)
 reenters s h l d z (by_final o p e) = subst (Reenters s h l) e tt
 reenters s h l d z (by_own c p q e) = subst (Reenters s h l) e (own-reenters s h l c p (own-enters (sight s h) c q))
