@@ -10,3 +10,4 @@ pub mod Kept
 pub mod Facts
 pub mod Threads
 pub mod Served
+pub mod Ready

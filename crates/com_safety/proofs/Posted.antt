@@ -53,7 +53,7 @@ new-out s h l _ p = tt
 pub next-new : (s : Scenario) (h : List Entry) (l : ℕ) (d : Deed) → next s h l ≡ Some d → NewOut (calls h) d
 next-new s h l d e = new-out s h l d (next-comes s h l d e)
 
-other-call : (k c n : ℕ) → k ≡ n + 1 → c ≤ n → (k == c) ≡ false
+pub other-call : (k c n : ℕ) → k ≡ n + 1 → c ≤ n → (k == c) ≡ false
 other-call k c n e p = differ (k == c) (λ q. let y : k ≡ c = eqb-true k c q in omega (arith, y, e, p))
 
 pub issue-kept : (h : List Entry) (l c : ℕ) (d : Deed) → NewOut (calls h) d → c ≤ calls h → issue_or (issues l d) c (issue h c) ≡ issue h c

@@ -13,7 +13,7 @@ use Rattle.com_model.specs.declared.scenario.Scenario.{Scenario}
 use Rattle.com_model.specs.Answers.{S_OK, is_S_OK}
 use Rattle.com_model.specs.Lists.{where_true, is_number, number_or_zero}
 use Rattle.com_model.specs.Tables.{LaneSort, Thread, Host, Pool, NoLane, lane_sort, is_agile_class}
-use Rattle.com_model.specs.Openers.{Opener, openers}
+use Rattle.com_model.specs.Openers.{Opener, Keeps, effect, opened, openers}
 use Rattle.com_model.specs.Apartments.{is_sta, host_sta, HomeEffect, Initialises, Uninitialises, Remains, home_effect, home_after, thread_home, home_by_sort, home, makes_sta, made_in, serves_by_sort, serves}
 use Rattle.com_model.specs.Objects.{Making, makes, made_or, making, asked_number, agile, named}
 use Rattle.com_model.specs.Formed.{Formed}
@@ -26,7 +26,7 @@ use Rattle.com_safety.proofs.OnTop.{made-on-top}
 use Rattle.com_safety.proofs.Facts.{Fact, source-fact}
 use Rattle.com_safety.proofs.Threads.{is_homes, source-thread}
 
-or-right : (p q : Bool) → q ≡ true → (p || q) ≡ true
+pub or-right : (p q : Bool) → q ≡ true → (p || q) ≡ true
 or-right true q e = refl
 or-right false q e = e
 
@@ -41,7 +41,7 @@ and-both false q p e = cc
 some-number : (x y : ℕ) → Some x ≡ Some y → x ≡ y
 some-number x y e = cc
 
-same-number : (c : ℕ) → (c == c) ≡ true
+pub same-number : (c : ℕ) → (c == c) ≡ true
 same-number c = grind (arith, common_steps)
 
 -- ---- the STAs that are homes of threads were made there
@@ -102,24 +102,24 @@ sort-served h l a NoLane p e t = cc
 pub home-served : (s : Scenario) (h : List Entry) (l a : ℕ) → Formed s → legal s h → home s h l ≡ Some a → is_sta a ≡ true → serves s h l a ≡ true
 home-served s h l a f p = sort-served h l a (lane_sort s l) (legal-served s h l f p)
 
--- ---- the home of a lane with an opener stays
+-- ---- the home of a lane stays, or nothing is open there
 
-stays-on-top : (d : Deed) (os : List Opener) → MadeOnTop (maker d) os → (os ≡ []) ⊎ (home_effect d ≡ Remains)
+stays-on-top : (d : Deed) (os : List Opener) → MadeOnTop (maker d) os → (opened (effect d) os ≡ []) ⊎ (home_effect d ≡ Remains)
 stays-on-top (deed.Init m a hr) [] p = inl refl
 stays-on-top (deed.Init m a hr) (o ∷ os) p = absurd p
 stays-on-top (deed.Uninit a n) [] p = inl refl
 stays-on-top (deed.Uninit a n) (o ∷ os) p = absurd p
 stays-on-top _ os p = inr refl
 
-stays-in : (s : Scenario) (h : List Entry) (e : Entry) (l : ℕ) (b : Bool) → (e.lane == l) ≡ b → MadeOnTop (maker e.deed) (openers h e.lane) → (openers h l ≡ []) ⊎ (home_by_sort (lane_sort s l) (home_after (cond b (home_effect e.deed) Remains) (thread_home h l)) ≡ home s h l)
+stays-in : (s : Scenario) (h : List Entry) (e : Entry) (l : ℕ) (b : Bool) → (e.lane == l) ≡ b → MadeOnTop (maker e.deed) (openers h e.lane) → (opened (cond b (effect e.deed) Keeps) (openers h l) ≡ []) ⊎ (home_by_sort (lane_sort s l) (home_after (cond b (home_effect e.deed) Remains) (thread_home h l)) ≡ home s h l)
 stays-in s h e l false q p = inr refl
 stays-in s h e l true q p = either (stays-on-top e.deed (openers h l) (subst (λ (x : ℕ). MadeOnTop (maker e.deed) (openers h x)) (eqb-true e.lane l q) p))
   where
-    either : (openers h l ≡ []) ⊎ (home_effect e.deed ≡ Remains) → (openers h l ≡ []) ⊎ (home_by_sort (lane_sort s l) (home_after (home_effect e.deed) (thread_home h l)) ≡ home s h l)
+    either : (opened (effect e.deed) (openers h l) ≡ []) ⊎ (home_effect e.deed ≡ Remains) → (opened (effect e.deed) (openers h l) ≡ []) ⊎ (home_by_sort (lane_sort s l) (home_after (home_effect e.deed) (thread_home h l)) ≡ home s h l)
     either (inl x) = inl x
     either (inr x) = inr (ap (λ (y : HomeEffect). home_by_sort (lane_sort s l) (home_after y (thread_home h l))) x)
 
-pub home-stays : (s : Scenario) (h : List Entry) (e : Entry) (l : ℕ) → MadeOnTop (maker e.deed) (openers h e.lane) → (openers h l ≡ []) ⊎ (home s (e ∷ h) l ≡ home s h l)
+pub home-stays : (s : Scenario) (h : List Entry) (e : Entry) (l : ℕ) → MadeOnTop (maker e.deed) (openers h e.lane) → (openers (e ∷ h) l ≡ []) ⊎ (home s (e ∷ h) l ≡ home s h l)
 home-stays s h e l p = stays-in s h e l (e.lane == l) refl p
 
 -- ---- an agile object is named with the neutral apartment
@@ -142,10 +142,10 @@ legal-well : (s : Scenario) (h : List Entry) (o : ℕ) → legal s h → Well s 
 legal-well s [] o p = tt
 legal-well s (e ∷ h) o p = well-step s (sight s h) e.lane o e.deed (making h o) (source-fact s (sight s h) e.lane e.deed (next-source s h e.lane e.deed p.1)) (legal-well s h o p.0)
 
-abbrev named-of : Option Making → ℕ
+abbrev pub named-of : Option Making → ℕ
 named-of x = number_or_zero (option_map (λ (m : Making). m.apartment) x)
 
-abbrev class-in : Option Making → ℕ
+abbrev pub class-in : Option Making → ℕ
 class-in x = number_or_zero (option_map (λ (m : Making). m.class) x)
 
 pub agile-neutral : (s : Scenario) (h : List Entry) (o : ℕ) → legal s h → agile s h o ≡ true → named h o ≡ 0

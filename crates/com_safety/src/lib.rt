@@ -10,7 +10,7 @@ ghost use Rattle.com_model.specs.Formed.{Formed};
 ghost use Rattle.com_model.specs.Objects.{agile, named, objects};
 ghost use Rattle.com_model.specs.Openers.{openers};
 ghost use Rattle.com_model.specs.Rules.{legal};
-ghost use Rattle.com_model.specs.Safe.{Causes, EachEntry, OwnReply, Replies, maker, MadeOnTop, Reentry};
+ghost use Rattle.com_model.specs.Safe.{Apartment, Causes, EachEntry, OwnReply, Replies, maker, MadeOnTop, OneStack, Reentry};
 
 /// In every legal history each entry has its cause. A Back has the call's answer. Each Refuse and Verdict is what admission gives.
 /// Each other entry that is refused is the entry of the lane's own next action.
@@ -49,4 +49,16 @@ pub fn targets_are_made()
 pub fn homes_are_served()
     ensures served { (s : Scenario) (h : List Entry) (l a : ℕ) → Formed s → legal s h → home s h l ≡ Some a → is_sta a ≡ true → serves s h l a ≡ true }
     ensures agile { (s : Scenario) (h : List Entry) (o : ℕ) → legal s h → agile s h o ≡ true → named h o ≡ 0 }
+{}
+
+/// In every legal history of a formed scenario a body runs in an apartment that owns its object, and in that apartment's lane; a
+/// body of an agile object or of one in the neutral apartment runs in the caller's lane.
+pub fn apartment()
+    ensures { (s : Scenario) (h : List Entry) → Formed s → legal s h → Apartment s h }
+{}
+
+/// In every legal history of a formed scenario, after each of its entries, the openers of each lane nest, and each open body of an
+/// STA stands in the lane that serves it; and a body's action is made while its Enter is the innermost opener of the lane.
+pub fn one_stack()
+    ensures { (s : Scenario) (h : List Entry) → Formed s → legal s h → OneStack s h }
 {}
