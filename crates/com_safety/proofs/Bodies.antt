@@ -22,8 +22,9 @@ use Rattle.com_model.specs.Tables.{lane_sort}
 use Rattle.com_model.specs.Openers.{Opener, Enters, openers}
 use Rattle.com_model.specs.Objects.{class_of}
 use Rattle.com_model.specs.Calls.{Issue, issue}
-use Rattle.com_model.specs.Frames.{Scene, Actor, Body, issued_body, scene, actor, act_by, act}
+use Rattle.com_model.specs.Frames.{Scene, Body, issued_body, scene, actor, act_by, act}
 use Rattle.com_model.specs.Formed.{IsStatement, Context, FormedBody, in_class, IsBody, IsClass, EachFrom, Formed}
+use Rattle.com_safety.proofs.Small.{not-both}
 use Rattle.com_safety.proofs.Acted.{is_scripts}
 
 abbrev Plain : Stmt → Type 0
@@ -32,9 +33,6 @@ Plain stmt.Uninit = ⊥
 Plain (stmt.SetFilter f) = ⊥
 Plain (stmt.Pump n) = ⊥
 Plain _ = Unit {0}
-
-not-both : (b : Bool) → b ≡ true → b ≡ false → ⊥
-not-both b p q = cc
 
 statement-plain : (s : Scenario) (x : Context) (t : Stmt) → x.body ≡ true → IsStatement s x t → Plain t
 statement-plain s x (stmt.Init m) e p = not-both x.body e p

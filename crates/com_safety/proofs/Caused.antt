@@ -20,7 +20,7 @@ use Rattle.com_model.proofs.Given.{cond-of}
 use Rattle.com_model.proofs.Onces.{legal-once}
 use Rattle.com_safety.proofs.Sources.{IsRest, Source, by_body, by_script, by_end, by_final, by_own, by_answer, by_inbox, by_retry, by_again, by_rest, next-source}
 use Rattle.com_safety.proofs.Acted.{ActionSort, action_sort, OfAction, deed-acted}
-use Rattle.com_safety.proofs.Waits.{First, taken-first, next-taken, Own, own-enters}
+use Rattle.com_safety.proofs.Waits.{taken-first, next-taken, own-enters}
 
 -- ---- a law of each entry from a law of each next deed
 

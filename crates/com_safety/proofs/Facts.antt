@@ -1,6 +1,6 @@
 -- What the entries that initialise a lane, issue a call or make an object say of what stood before them.
-use Rattle.std.proofs.Common.{subst, sym, ap, ◌∙◌}
-use Rattle.std.specs.Prelude.{◌≡◌, refl, ℕ, Bool, true, false, cond, not, ◌==◌, ◌||◌, ◌&&◌, nat_le, length, List, Option, Some, None, Result, Ok, Err}
+use Rattle.std.proofs.Common.{subst, ap}
+use Rattle.std.specs.Prelude.{◌≡◌, refl, ℕ, Bool, true, false, cond, not, ◌==◌, ◌||◌, ◌&&◌, nat_le, length, List, Option, Some, None, Ok, Err}
 use Rattle.com_base.specs.declared.hresult.HResult.{HResult}
 use Rattle.com_base.specs.declared.value.RefValue.{RefValue}
 use Rattle.com_base.specs.declared.value.Value.{Value}
@@ -12,7 +12,6 @@ use Rattle.com_classes.specs.declared.classes.Class.{Class}
 use Rattle.com_classes.specs.declared.classes.ThreadingModel.{ThreadingModel}
 use Rattle.com_classes.specs.declared.classes.ThreadingModel.TheVariants as model
 use Rattle.com_classes.specs.declared.factory.Creator.{Creator}
-use Rattle.com_classes.specs.declared.factory.Placed.{Placed}
 use Rattle.com_classes.specs.Activation.{owner_for, is_agile}
 use Rattle.com_classes.specs.Lookups.{class_at, class_has}
 use Rattle.com_model.specs.declared.deeds.Deed.{Deed}
@@ -25,15 +24,15 @@ use Rattle.com_model.specs.Lists.{number_or_zero, is_number, where_true}
 use Rattle.com_model.specs.Tables.{class_number, interface_number, has_agile_model, is_agile_class}
 use Rattle.com_model.specs.Apartments.{neutral}
 use Rattle.com_model.specs.Objects.{asked_number}
-use Rattle.com_model.specs.Calls.{object_of, route_for}
+use Rattle.com_model.specs.Calls.{object_of}
 use Rattle.com_model.specs.Endings.{Answer}
 use Rattle.com_model.specs.Issue.{call_refusal}
 use Rattle.com_model.specs.Sight.{Sight}
-use Rattle.com_model.specs.Deeds.{deed_of, created, created_of, made_as, creator, placing, initialised, uninitialised, owned_by, out_on, route_to, called}
+use Rattle.com_model.specs.Deeds.{deed_of, created, created_of, made_as, creator, placing, initialised, uninitialised, owned_by, called}
 use Rattle.com_model.specs.Rules.{posted_to_sta, call_sort, verdict_on, is_handled_in, arguments_gone, admission, packet_left, answered, after_script}
 use Rattle.com_model.proofs.Given.{cond-of}
 use Rattle.com_safety.proofs.Sources.{IsRest, Source, by_body, by_script, by_end, by_final, by_own, by_answer, by_inbox, by_retry, by_again, by_rest}
-use Rattle.com_safety.proofs.Acted.{ActionSort, Common, action_sort, OfAction, deed-acted}
+use Rattle.com_safety.proofs.Acted.{Common, OfAction, deed-acted}
 
 -- The apartment is the neutral one or the home.
 abbrev pub near : Option ℕ → ℕ → Bool

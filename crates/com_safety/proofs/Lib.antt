@@ -1,3 +1,4 @@
+pub mod Small
 pub mod Sources
 pub mod Acted
 pub mod Waits

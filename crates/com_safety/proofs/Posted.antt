@@ -1,6 +1,5 @@
 -- A call that was ever posted is of route post.
 use Rattle.std.proofs.Common.{subst, sym, ap, eqb-true, arith}
-use Rattle.std.proofs.lemmas.Grind.{common_steps}
 use Rattle.std.specs.Prelude.{◌≡◌, refl, ℕ, ℤ, pos, negsuc, ◌+◌, ◌≤◌, Bool, true, false, cond, not, ◌==◌, ◌&&◌, nat_le, nat_lt, length, List, [], ◌∷◌, Option, Some, None}
 use Rattle.com_model.specs.declared.deeds.Deed.{Deed}
 use Rattle.com_model.specs.declared.deeds.Deed.TheVariants as deed
@@ -10,35 +9,22 @@ use Rattle.com_model.specs.declared.scenario.Scenario.{Scenario}
 use Rattle.com_model.specs.Answers.{RPC_E_OUT_OF_RESOURCES, RPC_E_SERVER_CANTUNMARSHAL_DATA}
 use Rattle.com_model.specs.Lists.{where_true}
 use Rattle.com_model.specs.Tables.{lane_sort}
-use Rattle.com_model.specs.Openers.{Opener, openers}
+use Rattle.com_model.specs.Openers.{openers}
 use Rattle.com_model.specs.Calls.{Issue, issues, issue_or, issue, calls, object_of, route_of, is_post}
 use Rattle.com_model.specs.Clock.{clock}
 use Rattle.com_model.specs.Endings.{Answer}
 use Rattle.com_model.specs.Waiting.{PostEffect, Posts, Judges, Delays, GivesUp, PostsNone, retries, post_effect, Phase, Unposted, Queued, Judged, Delayed, GivenUp, phase_after, phase, is_queued, postings}
-use Rattle.com_model.specs.Deeds.{deed_of, uninitialised}
+use Rattle.com_model.specs.Deeds.{uninitialised}
 use Rattle.com_model.specs.Sight.{Sight, sight}
 use Rattle.com_model.specs.Rules.{posted_to_sta, call_sort, verdict_on, is_handled_in, arguments_gone, admission, packet_left, answered, after_script, next, legal}
 use Rattle.com_model.proofs.Given.{cond-of}
 use Rattle.com_model.proofs.Comes.{Comes, sort_of, next-comes}
+use Rattle.com_safety.proofs.Small.{not-both, differ, and-left, cond-when, same-number}
 use Rattle.com_safety.proofs.Sources.{IsRest, Source, by_body, by_script, by_end, by_final, by_own, by_answer, by_inbox, by_retry, by_again, by_rest, next-source}
 use Rattle.com_safety.proofs.Acted.{ActionSort, action_sort, OfAction, deed-acted}
-use Rattle.com_safety.proofs.Waits.{First, taken-first, next-taken, Own, own-enters, and-left}
+use Rattle.com_safety.proofs.Waits.{First, taken-first, next-taken, own-enters}
 
 -- ---- small facts
-
-pub cond-when : {X : Type 0} (P : X → Type 0) (b : Bool) (x y : X) → (b ≡ true → P x) → (b ≡ false → P y) → P (cond b x y)
-cond-when P true x y p q = p refl
-cond-when P false x y p q = q refl
-
-pub not-both : (b : Bool) → b ≡ true → b ≡ false → ⊥
-not-both b p q = cc
-
-pub differ : (b : Bool) → (b ≡ true → ⊥) → b ≡ false
-differ true p = absurd (p refl)
-differ false p = refl
-
-pub same-number : (c : ℕ) → (c == c) ≡ true
-same-number c = grind (arith, common_steps)
 
 -- ---- a call that was issued keeps what its Out says
 

@@ -10,7 +10,7 @@ use Rattle.com_model.specs.declared.deeds.Route.TheVariants as route
 use Rattle.com_model.specs.declared.scenario.Scenario.{Scenario}
 use Rattle.com_model.specs.Answers.{RPC_E_OUT_OF_RESOURCES, RPC_E_SERVER_CANTUNMARSHAL_DATA}
 use Rattle.com_model.specs.Lists.{or_else, first, without_first, number_or_zero, is_number, where_true}
-use Rattle.com_model.specs.Tables.{LaneSort, Pool, lane_sort, is_agile_class}
+use Rattle.com_model.specs.Tables.{LaneSort, lane_sort, is_agile_class}
 use Rattle.com_model.specs.Openers.{Opener, Pumps, Waits, Enters, Keeps, effect, opened, openers, entered_apartment}
 use Rattle.com_model.specs.Apartments.{neutral, mta, is_sta, thread_home, home_by_sort, home, running, serves}
 use Rattle.com_model.specs.Objects.{Making, asked_number, makes, made_or, making, objects, named, agile, owner}
@@ -21,19 +21,20 @@ use Rattle.com_model.specs.Deeds.{uninitialised}
 use Rattle.com_model.specs.Formed.{Formed}
 use Rattle.com_model.specs.Sight.{Sight, sight}
 use Rattle.com_model.specs.Rules.{posted_to_sta, call_sort, verdict_on, is_handled_in, arguments_gone, admission, packet_left, answered, after_script, legal}
-use Rattle.com_model.specs.Safe.{Either, InApartment, Apartment, InServing, Stacked, OneStack, EachPrefix, maker, MadeOnTop}
+use Rattle.com_model.specs.Safe.{Either, InApartment, Apartment, InServing, Stacked, OneStack, EachPrefix}
 use Rattle.com_model.proofs.Given.{cond-of}
 use Rattle.com_model.proofs.Comes.{Comes, sort_of, next-comes}
 use Rattle.com_model.proofs.Stacks.{legal-nested}
+use Rattle.com_safety.proofs.Small.{not-both, differ, or-right, or-second, neither, not-either, cond-when, same-number}
 use Rattle.com_safety.proofs.Sources.{IsRest, Source, by_body, by_script, by_end, by_final, by_own, by_answer, by_inbox, by_retry, by_again, by_rest, next-source}
 use Rattle.com_safety.proofs.Acted.{ActionSort, action_sort, OfAction, deed-acted}
 use Rattle.com_safety.proofs.Waits.{First, first-in, Taken, in_pool, in_sta, next-taken, Own, own-enters}
 use Rattle.com_safety.proofs.Caused.{each-next}
 use Rattle.com_safety.proofs.OnTop.{made-on-top, legal-on-top}
-use Rattle.com_safety.proofs.Posted.{cond-when, not-both, differ, NewOut, next-new, other-call, issue-kept}
+use Rattle.com_safety.proofs.Posted.{NewOut, next-new, other-call, issue-kept}
 use Rattle.com_safety.proofs.Kept.{legal-kept}
 use Rattle.com_safety.proofs.Facts.{near, RouteFact, Fact, source-fact}
-use Rattle.com_safety.proofs.Served.{or-right, same-number, named-of, class-in, home-served, home-stays, agile-neutral}
+use Rattle.com_safety.proofs.Served.{named-of, class-in, home-served, home-stays, agile-neutral}
 
 -- ---- an object that was made keeps what its Made says
 
@@ -142,9 +143,6 @@ new-ready s h l c i m k o r bytes n f =
 home-of : (n : ℕ) (home : Option ℕ) → (n == neutral) ≡ false → near home n ≡ true → home ≡ Some n
 home-of n home z p = of-number home (or-second (n == neutral) (is_number n home) z p)
   where
-    or-second : (a b : Bool) → a ≡ false → (a || b) ≡ true → b ≡ true
-    or-second true b z p = cc
-    or-second false b z p = p
     of-number : (x : Option ℕ) → is_number n x ≡ true → x ≡ Some n
     of-number None p = cc
     of-number (Some x) p = ap (λ (y : ℕ). Some y) (sym (eqb-true n x p))
@@ -155,10 +153,6 @@ not-neutral a t = differ (a == neutral) (λ e. not-both (is_sta a) t (ap is_sta 
 either-by : (b : Bool) (A B : Type 0) → (b ≡ true → A) → (b ≡ false → B) → Either b A B
 either-by true A B p q = p refl
 either-by false A B p q = q refl
-
-neither : (p q : Bool) → (p || q) ≡ false → (p ≡ false) × (q ≡ false)
-neither true q e = cc
-neither false q e = (refl, e)
 
 direct-near : (g : Bool) (u n : ℕ) (home : Option ℕ) → (g || u == n) ≡ true → g ≡ false → near home u ≡ true → near home n ≡ true
 direct-near true u n home p z q = cc
@@ -197,7 +191,7 @@ own-in : (s : Scenario) (h : List Entry) (l c u : ℕ) → Ready s h (home s h l
 own-in s h l c u r p q w =
     let n : agile s h (target h c) ≡ false → near (home s h l) (named h (target h c)) ≡ true = λ z. way-near (route_of (issue h c)) (agile s h (target h c)) (named h (target h c)) (home s h l) (ending s h c) u r.way z w.not_posted w.not_answered p in (
       either-by (agile s h (target h c) || named h (target h c) == neutral) _ _ (λ z. sym r.lane)
-      (λ z. let y : (agile s h (target h c) ≡ false) × ((named h (target h c) == neutral) ≡ false) = neither (agile s h (target h c)) (named h (target h c) == neutral) z in home-of (named h (target h c)) (home s h l) y.1 (n y.0)),
+          (λ z. let y : (agile s h (target h c) ≡ false) × ((named h (target h c) == neutral) ≡ false) = neither (agile s h (target h c)) (named h (target h c) == neutral) z in home-of (named h (target h c)) (home s h l) y.1 (n y.0)),
       cond-when (λ (a : ℕ). near (home s h l) a ≡ true) (agile s h (target h c)) (number_or_zero (running s h l)) (named h (target h c)) (λ z. q) n,
     )
 
@@ -213,14 +207,10 @@ inbox-in s h l a c p e z f =
     let g : agile s h (target h c) ≡ false = differ (agile s h (target h c)) (λ q. not-both (named h (target h c) == neutral) (ap (λ (x : ℕ). x == neutral) (agile-neutral s h (target h c) p q)) n) in
     let i : home s h l ≡ Some (named h (target h c)) = e ∙ ap (λ (x : ℕ). Some x) (sym f.named) in (
       either-by (agile s h (target h c) || named h (target h c) == neutral) _ _
-      (λ q. absurd (not-both _ q (none-of (agile s h (target h c)) (named h (target h c) == neutral) g n))) (λ q. i),
+          (λ q. absurd (not-both _ q (not-either (agile s h (target h c)) (named h (target h c) == neutral) g n))) (λ q. i),
       cond-when (λ (x : ℕ). near (home s h l) x ≡ true) (agile s h (target h c)) (number_or_zero (running s h l)) (named h (target h c))
-      (λ q. absurd (not-both (agile s h (target h c)) q g)) (λ q. subst (λ (x : Option ℕ). near x (named h (target h c)) ≡ true) (sym i) (home-near (Some (named h (target h c))))),
+          (λ q. absurd (not-both (agile s h (target h c)) q g)) (λ q. subst (λ (x : Option ℕ). near x (named h (target h c)) ≡ true) (sym i) (home-near (Some (named h (target h c))))),
     )
-  where
-    none-of : (x y : Bool) → x ≡ false → y ≡ false → (x || y) ≡ false
-    none-of true y p q = cc
-    none-of false y p q = q
 
 taken-in : (s : Scenario) (h : List Entry) (l c : ℕ) → legal s h → Taken (sight s h) l (lane_sort s l) c → EnterIn s h l c
 taken-in s h l c p (in_pool t e q) = inbox-in s h l mta c p (ap (λ (x : LaneSort). home_by_sort x (thread_home h l)) t) refl (first-in s h mta c q)

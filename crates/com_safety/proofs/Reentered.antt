@@ -1,6 +1,6 @@
 -- Who is admitted above what.
 use Rattle.std.proofs.Common.{subst, sym, ap}
-use Rattle.std.specs.Prelude.{◌≡◌, refl, ℕ, Bool, true, false, cond, not, ◌==◌, ◌&&◌, nat_le, length, List, [], ◌∷◌, Option, Some, None, option_map, option_and_then}
+use Rattle.std.specs.Prelude.{◌≡◌, refl, ℕ, Bool, true, false, not, ◌==◌, ◌&&◌, nat_le, length, List, [], ◌∷◌, Option, Some, None, option_map, option_and_then}
 use Rattle.com_model.specs.declared.deeds.Deed.{Deed}
 use Rattle.com_model.specs.declared.deeds.Deed.TheVariants as deed
 use Rattle.com_model.specs.declared.deeds.Entry.{Entry}
@@ -15,15 +15,16 @@ use Rattle.com_model.specs.Apartments.{mta, is_sta}
 use Rattle.com_model.specs.Objects.{named}
 use Rattle.com_model.specs.Calls.{issue, target, object_of, route_of, is_post}
 use Rattle.com_model.specs.Endings.{Answer, ending}
-use Rattle.com_model.specs.Deeds.{deed_of, uninitialised}
+use Rattle.com_model.specs.Deeds.{uninitialised}
 use Rattle.com_model.specs.Sight.{Sight, sight}
-use Rattle.com_model.specs.Rules.{top, waiting_call, posted_to_sta, call_sort, verdict_on, is_handled_in, arguments_gone, admission, due_of, packet_left, answered, rule_answer, is_open_to_calls, after_script, legal}
-use Rattle.com_model.specs.Safe.{EachEntry, CanAdmit, FirstOf, EntersBy, Reenters, Reentry}
+use Rattle.com_model.specs.Rules.{waiting_call, posted_to_sta, call_sort, verdict_on, is_handled_in, arguments_gone, admission, due_of, packet_left, answered, rule_answer, is_open_to_calls, after_script, legal}
+use Rattle.com_model.specs.Safe.{CanAdmit, FirstOf, EntersBy, Reenters, Reentry}
 use Rattle.com_model.proofs.Given.{cond-of}
+use Rattle.com_safety.proofs.Small.{not-both, not-true, and-left, and-right, cond-when}
 use Rattle.com_safety.proofs.Sources.{IsRest, Source, by_body, by_script, by_end, by_final, by_own, by_answer, by_inbox, by_retry, by_again, by_rest}
 use Rattle.com_safety.proofs.Acted.{ActionSort, action_sort, OfAction, deed-acted}
-use Rattle.com_safety.proofs.Waits.{First, first-in, Taken, in_pool, in_sta, next-taken, Own, own-enters, and-left, and-right, not-true}
-use Rattle.com_safety.proofs.Posted.{cond-when, not-both, Known, first-posted}
+use Rattle.com_safety.proofs.Waits.{First, first-in, Taken, in_pool, in_sta, next-taken, Own, own-enters}
+use Rattle.com_safety.proofs.Posted.{Known, first-posted}
 use Rattle.com_safety.proofs.Caused.{each-next}
 
 -- ---- where no answer is due, the Out on top has none

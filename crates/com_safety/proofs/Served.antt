@@ -1,7 +1,6 @@
 -- An STA that is a lane's home is served by the lane; and an object of an agile class is named with the neutral apartment.
-use Rattle.std.proofs.Common.{subst, sym, ap, eqb-true, ◌∙◌, arith}
-use Rattle.std.proofs.lemmas.Grind.{common_steps}
-use Rattle.std.specs.Prelude.{◌≡◌, refl, ℕ, zero, suc, ◌+◌, ◌≤◌, Bool, true, false, cond, not, ◌==◌, ◌||◌, ◌&&◌, List, [], ◌∷◌, Option, Some, None, option_map, ◌⊎◌}
+use Rattle.std.proofs.Common.{subst, sym, ap, eqb-true, ◌∙◌}
+use Rattle.std.specs.Prelude.{◌≡◌, refl, ℕ, zero, suc, Bool, true, false, cond, ◌==◌, ◌&&◌, List, [], ◌∷◌, Option, Some, None, option_map, ◌⊎◌}
 use Rattle.std.proofs.Common.{inl, inr}
 use Rattle.com_base.specs.declared.hresult.HResult.{HResult}
 use Rattle.com_base.specs.declared.value.Mode.{Mode}
@@ -14,35 +13,17 @@ use Rattle.com_model.specs.Answers.{S_OK, is_S_OK}
 use Rattle.com_model.specs.Lists.{where_true, is_number, number_or_zero}
 use Rattle.com_model.specs.Tables.{LaneSort, Thread, Host, Pool, NoLane, lane_sort, is_agile_class}
 use Rattle.com_model.specs.Openers.{Opener, Keeps, effect, opened, openers}
-use Rattle.com_model.specs.Apartments.{is_sta, host_sta, HomeEffect, Initialises, Uninitialises, Remains, home_effect, home_after, thread_home, home_by_sort, home, makes_sta, made_in, serves_by_sort, serves}
+use Rattle.com_model.specs.Apartments.{is_sta, host_sta, HomeEffect, Uninitialises, Remains, home_effect, home_after, thread_home, home_by_sort, home, makes_sta, made_in, serves_by_sort, serves}
 use Rattle.com_model.specs.Objects.{Making, makes, made_or, making, asked_number, agile, named}
 use Rattle.com_model.specs.Formed.{Formed}
 use Rattle.com_model.specs.Deeds.{initialised, new_home}
 use Rattle.com_model.specs.Sight.{Sight, sight}
 use Rattle.com_model.specs.Rules.{legal}
-use Rattle.com_model.specs.Safe.{Maker, BodyOrScript, ScriptAlone, ARule, maker, MadeOnTop}
-use Rattle.com_safety.proofs.Sources.{Source, by_body, by_script, by_end, by_final, by_own, by_answer, by_inbox, by_retry, by_again, by_rest, next-source}
-use Rattle.com_safety.proofs.OnTop.{made-on-top}
+use Rattle.com_model.specs.Safe.{maker, MadeOnTop}
+use Rattle.com_safety.proofs.Small.{and-both, or-left, or-right, same-number, some-number}
+use Rattle.com_safety.proofs.Sources.{Source, next-source}
 use Rattle.com_safety.proofs.Facts.{Fact, source-fact}
 use Rattle.com_safety.proofs.Threads.{is_homes, source-thread}
-
-pub or-right : (p q : Bool) → q ≡ true → (p || q) ≡ true
-or-right true q e = refl
-or-right false q e = e
-
-or-left : (p q : Bool) → p ≡ true → (p || q) ≡ true
-or-left true q e = refl
-or-left false q e = cc
-
-and-both : (p q : Bool) → p ≡ true → q ≡ true → (p && q) ≡ true
-and-both true q p e = e
-and-both false q p e = cc
-
-some-number : (x y : ℕ) → Some x ≡ Some y → x ≡ y
-some-number x y e = cc
-
-pub same-number : (c : ℕ) → (c == c) ≡ true
-same-number c = grind (arith, common_steps)
 
 -- ---- the STAs that are homes of threads were made there
 

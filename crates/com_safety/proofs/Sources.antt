@@ -1,6 +1,6 @@
 -- Which rule gives a lane's next deed, with what the rule looked at.
 use Rattle.std.proofs.Common.{subst}
-use Rattle.std.specs.Prelude.{◌≡◌, refl, ℕ, ℤ, zero, suc, Bool, true, false, cond, not, ◌==◌, ◌&&◌, nat_le, List, [], ◌∷◌, Option, Some, None, option_map, option_and_then}
+use Rattle.std.specs.Prelude.{◌≡◌, refl, ℕ, ℤ, Bool, true, false, cond, not, ◌==◌, ◌&&◌, nat_le, List, [], ◌∷◌, Option, Some, None, option_map, option_and_then}
 use Rattle.com_body.specs.declared.actions.Action.{Action}
 use Rattle.com_filter.specs.declared.Verdict.{Verdict}
 use Rattle.com_model.specs.declared.deeds.Deed.{Deed}

@@ -1,17 +1,17 @@
 -- The entries that initialise a lane's apartment, or take that back, are those of threads' lanes.
 use Rattle.std.proofs.Common.{subst, ap}
-use Rattle.std.specs.Prelude.{◌≡◌, refl, ℕ, Bool, true, false, List, Option}
-use Rattle.com_body.specs.declared.actions.Action.{Action}
+use Rattle.std.specs.Prelude.{◌≡◌, refl, ℕ, Bool, true, false, List}
 use Rattle.com_model.specs.declared.deeds.Deed.{Deed}
 use Rattle.com_model.specs.declared.deeds.Deed.TheVariants as deed
 use Rattle.com_model.specs.declared.deeds.Entry.{Entry}
 use Rattle.com_model.specs.declared.scenario.Scenario.{Scenario}
 use Rattle.com_model.specs.Tables.{Thread, lane_sort}
 use Rattle.com_model.specs.Formed.{Formed}
-use Rattle.com_model.specs.Sight.{Sight, sight}
+use Rattle.com_model.specs.Sight.{sight}
 use Rattle.com_model.specs.Rules.{packet_left}
+use Rattle.com_safety.proofs.Small.{not-both}
 use Rattle.com_safety.proofs.Sources.{Source, by_body, by_script, by_end, by_final, by_own, by_answer, by_inbox, by_retry, by_again, by_rest}
-use Rattle.com_safety.proofs.Acted.{ActionSort, Initial, Uninitial, action_sort, is_of_script, OfAction, deed-acted}
+use Rattle.com_safety.proofs.Acted.{ActionSort, action_sort, is_of_script, OfAction, deed-acted}
 use Rattle.com_safety.proofs.Bodies.{not-scripts}
 use Rattle.com_safety.proofs.Facts.{IsRuled, admission-ruled, answered-ruled, rest-ruled}
 
@@ -19,9 +19,6 @@ abbrev pub is_homes : Deed → Bool
 is_homes (deed.Init m a hr) = true
 is_homes (deed.Uninit a n) = true
 is_homes _ = false
-
-not-both : (b : Bool) → b ≡ true → b ≡ false → ⊥
-not-both b p q = cc
 
 ruled-homes : (d : Deed) → IsRuled d → is_homes d ≡ true → ⊥
 ruled-homes (deed.Init m a hr) p e = p

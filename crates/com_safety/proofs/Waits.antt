@@ -1,35 +1,20 @@
 -- What is known of a call that is admitted.
-use Rattle.std.specs.Prelude.{◌≡◌, refl, ℕ, Bool, true, false, cond, not, ◌==◌, ◌&&◌, List, [], ◌∷◌, Option, Some, None, is_none, option_map}
+use Rattle.std.specs.Prelude.{◌≡◌, refl, ℕ, Bool, true, false, cond, not, ◌==◌, ◌&&◌, List, [], ◌∷◌, Option, Some, None, is_none}
 use Rattle.std.proofs.Common.{eqb-true}
 use Rattle.com_model.specs.declared.deeds.Entry.{Entry}
 use Rattle.com_model.specs.declared.scenario.Scenario.{Scenario}
 use Rattle.com_model.specs.Lists.{first}
-use Rattle.com_model.specs.Tables.{LaneSort, Thread, Host, Pool, NoLane, lane_sort}
-use Rattle.com_model.specs.Openers.{Opener, Pumps, Waits, Enters, openers}
+use Rattle.com_model.specs.Tables.{LaneSort, Thread, Host, Pool, NoLane}
+use Rattle.com_model.specs.Openers.{Opener}
 use Rattle.com_model.specs.Apartments.{mta, is_sta}
 use Rattle.com_model.specs.Objects.{named}
 use Rattle.com_model.specs.Calls.{admitted, target, is_post, route_of}
-use Rattle.com_model.specs.Endings.{Ending, ending}
+use Rattle.com_model.specs.Endings.{ending}
 use Rattle.com_model.specs.Waiting.{is_queued, phase, postings, waits_in, inbox}
 use Rattle.com_model.specs.Sight.{Sight, sight}
 use Rattle.com_model.specs.Rules.{top, enters_itself, is_open_to_calls, admits_sta, admits_next}
 use Rattle.com_model.proofs.Comes.{first-filter}
-
-pub and-left : (p q : Bool) → (p && q) ≡ true → p ≡ true
-and-left true q e = refl
-and-left false q e = cc
-
-pub and-right : (p q : Bool) → (p && q) ≡ true → q ≡ true
-and-right true q e = e
-and-right false q e = cc
-
-pub not-true : (p : Bool) → not p ≡ true → p ≡ false
-not-true true e = cc
-not-true false e = refl
-
-pub none-of : {X : Type 0} (o : Option X) → is_none o ≡ true → o ≡ None
-none-of None e = refl
-none-of (Some x) e = cc
+use Rattle.com_safety.proofs.Small.{not-true, and-left, and-right, none-of}
 
 -- The first call of an inbox.
 pub record First (s : Scenario) (h : List Entry) (a c : ℕ) : Type 0 where

@@ -1,13 +1,10 @@
 //! Laws of every legal history, stated on functions that do nothing: what is safe, in the words of the model's definitions.
 #![tactic(auto)]
 
-ghost use Rattle.std.specs.Prelude.{◌≡◌, ℕ, ◌≤◌, true, List, Some};
+ghost use Rattle.std.specs.Prelude.{List};
 ghost use Rattle.com_model.specs.declared.deeds.Entry.{Entry};
 ghost use Rattle.com_model.specs.declared.scenario.Scenario.{Scenario};
-ghost use Rattle.com_model.specs.Apartments.{home, is_sta, serves};
-ghost use Rattle.com_model.specs.Calls.{target};
 ghost use Rattle.com_model.specs.Formed.{Formed};
-ghost use Rattle.com_model.specs.Objects.{agile, named, objects};
 ghost use Rattle.com_model.specs.Openers.{openers};
 ghost use Rattle.com_model.specs.Rules.{legal};
 ghost use Rattle.com_model.specs.Safe.{Apartment, Causes, EachEntry, OwnReply, Replies, maker, MadeOnTop, OneStack, Reentry};
@@ -21,7 +18,7 @@ pub fn causes()
 /// In every legal history replies are the call's own. An Enter has the values that were sent with its call, and no answer was due
 /// before it. A Leave is what the body's step gives. A Back has the call's answer. And each call has one Out, at most one Enter
 /// after it, at most one Leave after that, and at most one Back after its Out.
-pub fn replies()
+pub fn own_replies()
     ensures own { (s : Scenario) (h : List Entry) → legal s h → EachEntry (OwnReply s) h }
     ensures whole { (s : Scenario) (h : List Entry) → legal s h → Replies s h }
 {}
@@ -38,17 +35,6 @@ pub fn made_on_top()
 /// by a pool lane without opener. A direct or switched call is entered while its own Out is the innermost opener.
 pub fn reentry()
     ensures { (s : Scenario) (h : List Entry) → legal s h → Reentry s h }
-{}
-
-/// In every legal history of a formed scenario the target of each call is an object that was made.
-pub fn targets_are_made()
-    ensures { (s : Scenario) (h : List Entry) (c : ℕ) → Formed s → legal s h → target h c ≤ objects h }
-{}
-
-/// In every legal history of a formed scenario a lane serves the STA that is its home.
-pub fn homes_are_served()
-    ensures served { (s : Scenario) (h : List Entry) (l a : ℕ) → Formed s → legal s h → home s h l ≡ Some a → is_sta a ≡ true → serves s h l a ≡ true }
-    ensures agile { (s : Scenario) (h : List Entry) (o : ℕ) → legal s h → agile s h o ≡ true → named h o ≡ 0 }
 {}
 
 /// In every legal history of a formed scenario a body runs in an apartment that owns its object, and in that apartment's lane; a

@@ -1,5 +1,5 @@
 use Rattle.com_safety.proofs.Caused.{legal-own, legal-replies}
-use Rattle.com_safety.proofs.replies.Goals as goal
+use Rattle.com_safety.proofs.own_replies.Goals as goal
 
 pub returns-clause-own : goal.returns-clause-own
 returns-clause-own c = legal-own
