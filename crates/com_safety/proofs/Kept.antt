@@ -147,9 +147,6 @@ query-taken : (n m o i : ℕ) (hr : HResult) (t : Bool) → is_S_OK hr ≡ t →
 query-taken n m o i hr true e f = f e
 query-taken n m o i hr false e f = tt
 
-new-object : (k n o : ℕ) → o ≡ k + 1 → n ≡ k + 1 → o ≤ n
-new-object k n o e f = omega (arith, e, f)
-
 taken-good : (k n m y : ℕ) (d : Deed) → k ≤ n → NewWithin n d → FineBy k m y d → GoodHeld n m (taken_in d)
 taken-good k n m y (deed.Made (Some o) (Some b) c (asked.Number i) hr) p w f = (w, f.2)
 taken-good k n m y (deed.Made (Some o) (Some b) c (asked.Guid g) hr) p w f = tt
