@@ -1,0 +1,14 @@
+pub mod Small
+pub mod Sources
+pub mod Acted
+pub mod Waits
+pub mod Caused
+pub mod Bodies
+pub mod OnTop
+pub mod Posted
+pub mod Reentered
+pub mod Kept
+pub mod Facts
+pub mod Threads
+pub mod Served
+pub mod Ready
