@@ -43,16 +43,16 @@ use Rattle.com_model.proofs.Fines.{cond-is, GoodPacket, GoodCookie, GoodEnding, 
 use Rattle.com_model.proofs.Scenes.{faces, GoodScene, GoodActor, GoodOpeners, GoodOut, more-scene, Issued, Brings, scene-good, outcome-good, over-good, actor-good, new-cells-good}
 use Rattle.com_model.proofs.Holdings.{GoodBooks, GoodAct, NewWithin, more-books, values-good, closed-good}
 
-record Kept (s : Scenario) (h : List Entry) : Type 0 where
-  scene : GoodScene s (objects h) (calls h) (scene s h)
-  books : GoodBooks s (objects h) (calls h) (next_sta h) (books s h)
-  sent : (c : ℕ) → All (GoodValue (objects h) (faces s)) (sent s h c)
-  endings : (c : ℕ) → GoodEnding (objects h) (faces s) (ending s h c)
-  targets : (c : ℕ) → target h c ≤ objects h
-  named : (o : ℕ) → named h o < next_sta h
-  homes : (l : ℕ) → GoodHome (next_sta h) (thread_home h l)
-  stas : All (λ a. a < next_sta h) (stas h)
-  opens : (l : ℕ) → GoodOpeners (objects h) (calls h) (next_sta h) (openers h l)
+pub record Kept (s : Scenario) (h : List Entry) : Type 0 where
+  pub scene : GoodScene s (objects h) (calls h) (scene s h)
+  pub books : GoodBooks s (objects h) (calls h) (next_sta h) (books s h)
+  pub sent : (c : ℕ) → All (GoodValue (objects h) (faces s)) (sent s h c)
+  pub endings : (c : ℕ) → GoodEnding (objects h) (faces s) (ending s h c)
+  pub targets : (c : ℕ) → target h c ≤ objects h
+  pub named : (o : ℕ) → named h o < next_sta h
+  pub homes : (l : ℕ) → GoodHome (next_sta h) (thread_home h l)
+  pub stas : All (λ a. a < next_sta h) (stas h)
+  pub opens : (l : ℕ) → GoodOpeners (objects h) (calls h) (next_sta h) (openers h l)
 
 -- ---- what the rules look at
 
@@ -106,10 +106,10 @@ and-second false q e = cc
 at-most : (o n : ℕ) → nat_le o n ≡ true → o ≤ n
 at-most o n e = grind (arith, common_steps)
 
-running-low : (s : Scenario) (h : List Entry) → Kept s h → (l : ℕ) → number_or_zero (running s h l) < next_sta h
+pub running-low : (s : Scenario) (h : List Entry) → Kept s h → (l : ℕ) → number_or_zero (running s h l) < next_sta h
 running-low s h k l = number-low (next_sta h) (running s h l) (omega arith) (either-low (next_sta h) (entered_apartment (openers h l)) (home s h l) (entered-low (objects h) (calls h) (next_sta h) (openers h l) (k.opens l)) (sorted-low (next_sta h) (lane_sort s l) (thread_home h l) (omega arith) (k.homes l)))
 
-sight-good : (s : Scenario) (h : List Entry) → Formed s → Kept s h → GoodSight s (sight s h)
+pub sight-good : (s : Scenario) (h : List Entry) → Formed s → Kept s h → GoodSight s (sight s h)
 sight-good s h f k = record {
   acts = λ l a e. action-from (objects h) (faces s) _ a (outcome-good s f (objects h) (calls h) (class_of h) (issue h) (scene s h) (unless_over (actor_in s h l) (outcome s (class_of h) (issue h) (scene s h) (actor_in s h l))) k.scene) e;
   homes = λ l. sorted-low (next_sta h) (lane_sort s l) (thread_home h l) (omega arith) (k.homes l);
@@ -126,7 +126,7 @@ sight-good s h f k = record {
   dying = λ l o e. at-most o (objects h) (and-second (nat_le 1 o) (nat_le o (objects h)) (and-first (nat_le 1 o && nat_le o (objects h)) _ (and-first (is_dying s h o) (serves s h l (named h o)) (first-filter (λ o. is_dying s h o && serves s h l (named h o)) (fallen s h) o e).0)));
 }
 
-act-good : (s : Scenario) (v : Sight) (l : ℕ) (x : Option Action) → GoodSight s v → v.act l ≡ x → GoodAct v.objects (faces s) x
+pub act-good : (s : Scenario) (v : Sight) (l : ℕ) (x : Option Action) → GoodSight s v → v.act l ≡ x → GoodAct v.objects (faces s) x
 act-good s v l None g e = tt
 act-good s v l (Some a) g e = g.acts l a e
 
@@ -169,7 +169,7 @@ made-within h m y (deed.Made (Some o) None k i hr) f = tt
 made-within h m y (deed.Made None b k i hr) f = tt
 made-within h m y _ f = tt
 
-more-objects : (x : Option Making) (n : ℕ) → n ≤ one_more x n
+pub more-objects : (x : Option Making) (n : ℕ) → n ≤ one_more x n
 more-objects None n = omega arith
 more-objects (Some m) n = omega arith
 
@@ -397,7 +397,7 @@ kept-first s = record {
   opens = λ l. tt;
 }
 
-legal-kept : (s : Scenario) (h : List Entry) → Formed s → legal s h → Kept s h
+pub legal-kept : (s : Scenario) (h : List Entry) → Formed s → legal s h → Kept s h
 legal-kept s [] f q = kept-first s
 legal-kept s (e ∷ h) f q = kept-step s h e f q (legal-kept s h f q.0)
 

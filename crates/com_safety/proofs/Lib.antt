@@ -7,7 +7,6 @@ pub mod Bodies
 pub mod OnTop
 pub mod Posted
 pub mod Reentered
-pub mod Kept
 pub mod Facts
 pub mod Threads
 pub mod Served

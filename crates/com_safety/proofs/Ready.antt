@@ -32,7 +32,7 @@ use Rattle.com_safety.proofs.Waits.{First, first-in, Taken, in_pool, in_sta, nex
 use Rattle.com_safety.proofs.Caused.{each-next}
 use Rattle.com_safety.proofs.OnTop.{made-on-top, legal-on-top}
 use Rattle.com_safety.proofs.Posted.{NewOut, next-new, other-call, issue-kept}
-use Rattle.com_safety.proofs.Kept.{legal-kept}
+use Rattle.com_model.proofs.Kept.{legal-kept}
 use Rattle.com_safety.proofs.Facts.{near, RouteFact, Fact, source-fact}
 use Rattle.com_safety.proofs.Served.{named-of, class-in, home-served, home-stays, agile-neutral}
 
