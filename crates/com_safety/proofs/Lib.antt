@@ -7,6 +7,7 @@ pub mod Bodies
 pub mod OnTop
 pub mod Posted
 pub mod Reentered
+pub mod Released
 pub mod Facts
 pub mod Threads
 pub mod Served
