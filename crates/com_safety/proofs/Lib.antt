@@ -8,6 +8,7 @@ pub mod OnTop
 pub mod Posted
 pub mod Reentered
 pub mod Released
+pub mod Severed
 pub mod Facts
 pub mod Threads
 pub mod Served

@@ -122,7 +122,7 @@ admission-releases s h l c =
     (cond-of (ReleasesOnce s h l) (posted_to_sta v c && not (is_handled_in s v l c)) (deed.Verdict c (call_sort v l c) (verdict_on s v l c)) _ tt
     (cond-of (ReleasesOnce s h l) (arguments_gone v c) (deed.Refuse c RPC_E_SERVER_CANTUNMARSHAL_DATA) (deed.Enter c (object_of (v.issue c)) (v.owner (object_of (v.issue c)) l) (where_true (posted_to_sta v c) (call_sort v l c)) (v.sent c)) tt tt))
 
-releases : (s : Scenario) (h : List Entry) (l : ℕ) (d : Deed) → Source s (sight s h) l d → ReleasesOnce s h l d
+pub releases : (s : Scenario) (h : List Entry) (l : ℕ) (d : Deed) → Source s (sight s h) l d → ReleasesOnce s h l d
 releases s h l d (by_body c o a os x p q e) = acted-releases s h l (action_sort x) d (subst (OfAction (action_sort x)) e (deed-acted s (sight s h) l x))
 releases s h l d (by_script x p t q e) = acted-releases s h l (action_sort x) d (subst (OfAction (action_sort x)) e (deed-acted s (sight s h) l x))
 releases s h l d (by_end p t e) = subst (ReleasesOnce s h l) e (ended-releases s h l)
