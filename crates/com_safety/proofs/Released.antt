@@ -13,7 +13,7 @@ use Rattle.com_model.specs.Apartments.{running, ends_sta, serves}
 use Rattle.com_model.specs.Objects.{objects, makes, named, disconnects, finaled}
 use Rattle.com_model.specs.Calls.{object_of}
 use Rattle.com_model.specs.Frames.{scene, act}
-use Rattle.com_model.specs.Places.{ground, all_places}
+use Rattle.com_model.specs.Places.{ground, all_places, direct_places}
 use Rattle.com_model.specs.Endings.{Answer, ending, is_leave}
 use Rattle.com_model.specs.Books.{Packet, Cookie, Books, books, most, made_by, is_weak, packet_holds, cookie_holds, held_outside, cut_packet, cut_cookie, cut, holders}
 use Rattle.com_model.specs.Dying.{is_entered, is_dying, fallen}
@@ -23,7 +23,7 @@ use Rattle.com_model.specs.Rules.{posted_to_sta, call_sort, verdict_on, is_handl
 use Rattle.com_model.specs.Safe.{EachEntry}
 use Rattle.com_model.proofs.Given.{cond-of}
 use Rattle.com_model.proofs.Comes.{first-filter}
-use Rattle.com_safety.specs.Released.{ReleasesOnce}
+use Rattle.com_safety.specs.Released.{ReleasesOnce, ReleasesBare}
 use Rattle.com_safety.proofs.Small.{not-both, differ, not-true, and-left, and-right}
 use Rattle.com_safety.proofs.Sources.{IsRest, Source, by_body, by_script, by_end, by_final, by_own, by_answer, by_inbox, by_retry, by_again, by_rest}
 use Rattle.com_safety.proofs.Acted.{ActionSort, action_sort, OfAction, deed-acted}
@@ -136,3 +136,19 @@ releases s h l d (by_rest p) = rest-releases s h l d p
 
 pub legal-released : (s : Scenario) (h : List Entry) → legal s h → EachEntry (ReleasesOnce s) h
 legal-released s = each-next s (ReleasesOnce s) (λ h l d p z. releases s h l d z)
+
+-- ---- what a Final finds
+
+-- What is not connected has its direct places alone for holders.
+held-off : (live : Bool) (n d : ℕ) → live ≡ false → (cond live n d == 0) ≡ true → d ≡ 0
+held-off true n d e p = cc
+held-off false n d e p = eqb-true d 0 p
+
+bare : (s : Scenario) (h : List Entry) (l : ℕ) (d : Deed) → ReleasesOnce s h l d → ReleasesBare s h l d
+bare s h l (deed.Final o) p =
+    let q : ((holders s h o == 0) && not (is_entered s (openers h) o)) ≡ true = and-right (not (finaled h o)) _ (and-right (nat_le 1 o && nat_le o (objects h)) _ p.2) in
+    (held-off ((books s h).live o) _ (direct_places s (ground s h) (scene s h) o) p.3 (and-left (holders s h o == 0) _ q), not-true (is_entered s (openers h) o) (and-right (holders s h o == 0) _ q))
+bare s h l _ p = tt
+
+pub legal-bare : (s : Scenario) (h : List Entry) → legal s h → EachEntry (ReleasesBare s) h
+legal-bare s = each-next s (ReleasesBare s) (λ h l d p z. bare s h l d (releases s h l d z))

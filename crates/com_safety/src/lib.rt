@@ -8,7 +8,7 @@ ghost use Rattle.com_model.specs.Formed.{Formed};
 ghost use Rattle.com_model.specs.Openers.{openers};
 ghost use Rattle.com_model.specs.Rules.{legal};
 ghost use Rattle.com_model.specs.Safe.{Apartment, Causes, EachEntry, EachPrefix, OwnReply, Replies, maker, MadeOnTop, OneStack, Reentry};
-ghost use Rattle.com_safety.specs.Released.{ReleasesOnce, StaySevered};
+ghost use Rattle.com_safety.specs.Released.{ReleasesBare, ReleasesOnce, StaySevered};
 
 /// In every legal history each entry has its cause. A Back has the call's answer. Each Refuse and Verdict is what admission gives.
 /// Each other entry that is refused is the entry of the lane's own next action.
@@ -54,6 +54,11 @@ pub fn one_stack()
 /// object is dying and not connected.
 pub fn released_once()
     ensures { (s : Scenario) (h : List Entry) → legal s h → EachEntry (ReleasesOnce s) h }
+{}
+
+/// In every legal history, where an object has its Final, no apartment that owns it has a place of it, and no Enter of it is open.
+pub fn bare_at_final()
+    ensures { (s : Scenario) (h : List Entry) → legal s h → EachEntry (ReleasesBare s) h }
 {}
 
 /// After every prefix of a legal history each object that had its Final is not connected, no stub counts a public reference of it,
