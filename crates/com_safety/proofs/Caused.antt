@@ -15,7 +15,7 @@ use Rattle.com_model.specs.Frames.{act, answer_in}
 use Rattle.com_model.specs.Deeds.{deed_of, uninitialised}
 use Rattle.com_model.specs.Sight.{Sight, sight}
 use Rattle.com_model.specs.Rules.{posted_to_sta, call_sort, verdict_on, is_handled_in, arguments_gone, admission, due_of, back_answer, packet_left, answered, after_script, legal}
-use Rattle.com_model.specs.Safe.{EachEntry, OwnReply, Replies, is_refused_route, Refused, HasCause, Causes}
+use Rattle.com_model.specs.Safe.{EachEntry, EachPrefix, OwnReply, Replies, is_refused_route, Refused, HasCause, Causes}
 use Rattle.com_model.proofs.Given.{cond-of}
 use Rattle.com_model.proofs.Onces.{legal-once}
 use Rattle.com_safety.proofs.Sources.{IsRest, Source, by_body, by_script, by_end, by_final, by_own, by_answer, by_inbox, by_retry, by_again, by_rest, next-source}
@@ -27,6 +27,11 @@ use Rattle.com_safety.proofs.Waits.{taken-first, next-taken, own-enters}
 pub each-next : (s : Scenario) (P : List Entry → ℕ → Deed → Type 0) → ((h : List Entry) (l : ℕ) (d : Deed) → legal s h → Source s (sight s h) l d → P h l d) → (h : List Entry) → legal s h → EachEntry P h
 each-next s P f [] p = tt
 each-next s P f (e ∷ h) p = (each-next s P f h p.0, f h e.lane e.deed p.0 (next-source s h e.lane e.deed p.1))
+
+-- A law of each prefix.
+pub each-prefix : (s : Scenario) (P : List Entry → Type 0) → ((h : List Entry) → legal s h → P h) → (h : List Entry) → legal s h → EachPrefix P h
+each-prefix s P f [] p = f [] p
+each-prefix s P f (e ∷ h) p = (each-prefix s P f h p.0, f (e ∷ h) p)
 
 -- ---- causes
 

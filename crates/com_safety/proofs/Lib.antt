@@ -7,6 +7,8 @@ pub mod Bodies
 pub mod OnTop
 pub mod Posted
 pub mod Reentered
+pub mod Released
+pub mod Severed
 pub mod Facts
 pub mod Threads
 pub mod Served

@@ -21,7 +21,7 @@ use Rattle.com_model.specs.Deeds.{uninitialised}
 use Rattle.com_model.specs.Formed.{Formed}
 use Rattle.com_model.specs.Sight.{Sight, sight}
 use Rattle.com_model.specs.Rules.{posted_to_sta, call_sort, verdict_on, is_handled_in, arguments_gone, admission, packet_left, answered, after_script, legal}
-use Rattle.com_model.specs.Safe.{Either, InApartment, Apartment, InServing, Stacked, OneStack, EachPrefix}
+use Rattle.com_model.specs.Safe.{Either, InApartment, Apartment, InServing, Stacked, OneStack}
 use Rattle.com_model.proofs.Given.{cond-of}
 use Rattle.com_model.proofs.Comes.{Comes, sort_of, next-comes}
 use Rattle.com_model.proofs.Stacks.{legal-nested}
@@ -29,7 +29,7 @@ use Rattle.com_safety.proofs.Small.{not-both, differ, or-right, or-second, neith
 use Rattle.com_safety.proofs.Sources.{IsRest, Source, by_body, by_script, by_end, by_final, by_own, by_answer, by_inbox, by_retry, by_again, by_rest, next-source}
 use Rattle.com_safety.proofs.Acted.{ActionSort, action_sort, OfAction, deed-acted}
 use Rattle.com_safety.proofs.Waits.{First, first-in, Taken, in_pool, in_sta, next-taken, Own, own-enters}
-use Rattle.com_safety.proofs.Caused.{each-next}
+use Rattle.com_safety.proofs.Caused.{each-next, each-prefix}
 use Rattle.com_safety.proofs.OnTop.{made-on-top, legal-on-top}
 use Rattle.com_safety.proofs.Posted.{NewOut, next-new, other-call, issue-kept}
 use Rattle.com_model.proofs.Kept.{legal-kept}
@@ -300,10 +300,6 @@ serving s h home l (Enters c o a ∷ os) f p = (λ t. f a (home-of a home (not-n
 
 stacked : (s : Scenario) (h : List Entry) → Formed s → legal s h → Stacked s h
 stacked s h f p = λ l. (legal-nested s h l p, serving s h (home s h l) l (openers h l) (λ a e t. home-served s h l a f p e t) (legal-ready s h l f p))
-
-each-prefix : (s : Scenario) (P : List Entry → Type 0) → ((h : List Entry) → legal s h → P h) → (h : List Entry) → legal s h → EachPrefix P h
-each-prefix s P f [] p = f [] p
-each-prefix s P f (e ∷ h) p = (each-prefix s P f h p.0, f (e ∷ h) p)
 
 pub legal-one-stack : (s : Scenario) (h : List Entry) → Formed s → legal s h → OneStack s h
 legal-one-stack s h f p = (each-prefix s (Stacked s) (λ h p. stacked s h f p) h p, legal-on-top s h f p)

@@ -7,7 +7,8 @@ ghost use Rattle.com_model.specs.declared.scenario.Scenario.{Scenario};
 ghost use Rattle.com_model.specs.Formed.{Formed};
 ghost use Rattle.com_model.specs.Openers.{openers};
 ghost use Rattle.com_model.specs.Rules.{legal};
-ghost use Rattle.com_model.specs.Safe.{Apartment, Causes, EachEntry, OwnReply, Replies, maker, MadeOnTop, OneStack, Reentry};
+ghost use Rattle.com_model.specs.Safe.{Apartment, Causes, EachEntry, EachPrefix, OwnReply, Replies, maker, MadeOnTop, OneStack, Reentry};
+ghost use Rattle.com_safety.specs.Released.{ReleasesBare, ReleasesOnce, StaySevered};
 
 /// In every legal history each entry has its cause. A Back has the call's answer. Each Refuse and Verdict is what admission gives.
 /// Each other entry that is refused is the entry of the lane's own next action.
@@ -47,4 +48,21 @@ pub fn apartment()
 /// STA stands in the lane that serves it; and a body's action is made while its Enter is the innermost opener of the lane.
 pub fn one_stack()
     ensures { (s : Scenario) (h : List Entry) → Formed s → legal s h → OneStack s h }
+{}
+
+/// In every legal history each Final is the first of its object. It is made in a lane that serves the object's owner, while the
+/// object is dying and not connected.
+pub fn released_once()
+    ensures { (s : Scenario) (h : List Entry) → legal s h → EachEntry (ReleasesOnce s) h }
+{}
+
+/// In every legal history, where an object has its Final, no apartment that owns it has a place of it, and no Enter of it is open.
+pub fn bare_at_final()
+    ensures { (s : Scenario) (h : List Entry) → legal s h → EachEntry (ReleasesBare s) h }
+{}
+
+/// After every prefix of a legal history each object that had its Final is not connected, no stub counts a public reference of it,
+/// and no proxy holds one.
+pub fn stays_severed()
+    ensures { (s : Scenario) (h : List Entry) → legal s h → EachPrefix (StaySevered s) h }
 {}
