@@ -231,6 +231,8 @@ impl<T: Grows> Turnstile<T> {
         shared.fetch_add::<Publish>(&mut seat, ENTRIES, longer - count);
         let served = shared.fetch_add::<Advance>(&mut seat, SERVING, 1);
         self.bells.ring(served.wrapping_add(1));
+        // The pass after the next one wakes while the next one is inside, and so is awake when its own turn comes.
+        self.bells.ring(served.wrapping_add(2));
         Pass {
             seat,
             count: longer,
@@ -238,8 +240,9 @@ impl<T: Grows> Turnstile<T> {
     }
 }
 
-// Where the passes that wait sleep: a word for each ticket that is out, so that the pass that leaves wakes the next pass
-// alone. No clause rests on a bell: it says only how long a pass sleeps before it looks again.
+// Where the passes that wait sleep: a word for each ticket that is out, so that the pass that leaves wakes the next pass,
+// and the one after it a turn early, and no other. No clause rests on a bell: it says only how long a pass sleeps before it
+// looks again.
 #[derive(Drop)]
 struct Bells {
     words: [AtomicU64; TICKETS_OUT],
@@ -266,7 +269,8 @@ impl Bells {
         self.of(ticket).park(rt, SET as u32);
     }
 
-    // Wakes the pass with the ticket, if it sleeps. The ticket has to be served before the bell rings.
+    // Wakes the pass with the ticket, if it sleeps, and it looks again. The ticket that is served has to be advanced before
+    // the bell of the next one rings.
     fn ring(&self, ticket: u64) {
         let bell = self.of(ticket);
         if bell.load(SeqCst) == SET {
