@@ -6,3 +6,7 @@ pub mod Holds
 pub mod Carries
 pub mod Moves
 pub mod Counts
+pub mod Orders
+pub mod Keeps
+pub mod Stacks
+pub mod Secures
