@@ -10,3 +10,4 @@ pub mod Orders
 pub mod Keeps
 pub mod Stacks
 pub mod Secures
+pub mod Says
