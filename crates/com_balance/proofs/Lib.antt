@@ -11,3 +11,5 @@ pub mod Keeps
 pub mod Stacks
 pub mod Secures
 pub mod Says
+pub mod Makings
+pub mod Results

@@ -52,7 +52,7 @@ opens-one : (c k x y a b : ℕ) → Opens (Enters k y b) ≡ Opens (Enters c x a
 opens-one c k x y a b e = (cc, cc)
 
 -- The Enter that an effect opens is the deed's.
-opens-enter : (l k x a : ℕ) (e : Entry) → effect_on l e ≡ Opens (Enters k x a) → (e.lane ≡ l) × (effect e.deed ≡ Opens (Enters k x a))
+pub opens-enter : (l k x a : ℕ) (e : Entry) → effect_on l e ≡ Opens (Enters k x a) → (e.lane ≡ l) × (effect e.deed ≡ Opens (Enters k x a))
 opens-enter l k x a e p =
     elim (e.lane == l) as (λ t. (e.lane == l) ≡ t → cond t (effect e.deed) Keeps ≡ Opens (Enters k x a) → (e.lane ≡ l) × (effect e.deed ≡ Opens (Enters k x a))) [
       | true ↦ λ t q. (eqb-true e.lane l t, q)
