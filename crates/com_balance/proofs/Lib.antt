@@ -13,3 +13,4 @@ pub mod Secures
 pub mod Says
 pub mod Makings
 pub mod Results
+pub mod Packets
