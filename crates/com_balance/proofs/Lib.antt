@@ -14,3 +14,4 @@ pub mod Says
 pub mod Makings
 pub mod Results
 pub mod Packets
+pub mod Sendings

@@ -11,14 +11,14 @@ use Rattle.com_classes.specs.Lookups.{class_at, method_at}
 use Rattle.com_model.specs.declared.deeds.Route.{Route}
 use Rattle.com_model.specs.declared.deeds.Route.TheVariants as route
 use Rattle.com_model.specs.Lists.{where_true, first, first_that, one_to}
-use Rattle.com_model.specs.Tables.{class_number, interface_number, result_kind, LaneSort, Thread, Host, Pool, NoLane, lane_sort}
+use Rattle.com_model.specs.Tables.{parameters, class_number, interface_number, result_kind, LaneSort, Thread, Host, Pool, NoLane, lane_sort}
 use Rattle.com_model.specs.Openers.{Opener, Pumps, Waits, Enters, running_call}
 use Rattle.com_model.specs.Calls.{Issue, object_of, route_of, is_marshalled}
-use Rattle.com_model.specs.Values.{sent_result}
+use Rattle.com_model.specs.Values.{sent_values, sent_result}
 use Rattle.com_model.specs.Endings.{Ending, AtIssue, AtAdmission, ByVerdict, ByRetry, ByCancel, ByDisconnection, ByLeave, Answer, answer_of, without_value}
 use Rattle.com_model.specs.Books.{Cookie, packet, cookie}
 use Rattle.com_model.specs.Answers.{S_OK, E_INVALIDARG, CO_E_OBJNOTCONNECTED, RPC_E_OUT_OF_RESOURCES, RPC_E_SERVER_CANTUNMARSHAL_DATA, RPC_E_CLIENT_CANTUNMARSHAL_DATA, is_S_OK}
-use Rattle.com_model.specs.Deeds.{deed_of, initialised, uninitialised, creator, placing, made_as, created_of, created, owned_by, query_answer, queried, hold_refusal, marshalled, registered, is_named, named_packet, Named, NamesPacket, Refuses, named_or, named_in, named_by, gained_refs, unmarshalled, dropped, cookie_number, got_with, got, revoked, route_to, called, reply_for, left_as, left_by}
+use Rattle.com_model.specs.Deeds.{deed_of, initialised, uninitialised, creator, placing, made_as, created_of, created, owned_by, query_answer, queried, hold_refusal, marshalled, registered, is_named, named_packet, Named, NamesPacket, Refuses, named_or, named_in, named_by, gained_refs, unmarshalled, dropped, cookie_number, got_with, got, revoked, route_to, next_cause, out_bytes, called, reply_for, left_as, left_by}
 use Rattle.com_model.specs.Rules.{posted_to_sta, call_sort, verdict_on, is_handled_in, arguments_gone, admission, rule_final, rule_own, enters_itself, own_call, due_of, result_gone, back_with, packet_left, answered, rule_answer, rule_bound, admits_next, rule_inbox, retried, rule_retry, posted_again, rule_again, asked_on, rule_pending, takes_word, pumped, rule_word, scripted, is_script_turn, rule_script, ruled, stepped, top, tick_time, no_lane_can, next_by, next}
 use Rattle.com_model.proofs.Comes.{given-found}
 use Rattle.com_model.proofs.Fines.{cond-is}
@@ -63,13 +63,14 @@ pub record LeaveSays (s : Scenario) (v : Sight) (l c : ℕ) (hr : HResult) (x : 
   pub replied : (x ≡ None) ⊎ (is_some bytes ≡ (is_marshalled (route_of (v.issue c)) && not (v.returned c)))
 
 -- What is known of the issue of a call.
-pub record OutSays (s : Scenario) (v : Sight) (l i m : ℕ) (o : Option ℕ) (r : Route) : Type 0 where
+pub record OutSays (s : Scenario) (v : Sight) (l i m : ℕ) (o : Option ℕ) (r : Route) (bytes : Option (List ℕ)) : Type 0 where
   pub held : Option RefValue
   pub args : List Value
   pub to : Destination
   pub acts : v.act l ≡ Some (action.Call held i m args to)
   pub object : o ≡ option_map (λ (x : RefValue). x.object) held
   pub homed : (r ≡ route.Refused) ⊎ (Homed v l × (r ≡ route_to v l held))
+  pub marked : is_some bytes ≡ is_marshalled r
 
 abbrev pub Says : Scenario → Sight → ℕ → Deed → Type 0
 Says s v l (deed.Made (Some o) (Some a) k i hr) = Homed v l
@@ -78,7 +79,7 @@ Says s v l (deed.Query (Some o) i hr) = is_S_OK hr ≡ true → Homed v l
 Says s v l (deed.Unmarshal (Some p) held refs hr) = Homed v l × ((packet v.books p).outstanding ≡ true) × (held ≡ Some (reference (packet v.books p).object (packet v.books p).iface))
 Says s v l (deed.Unmarshal None held refs hr) = held ≡ None
 Says s v l (deed.Get g (Some r) refs hr) = Homed v l × (v.books.live r.object ≡ true)
-Says s v l (deed.Out c o i m r k bytes) = OutSays s v l i m o r
+Says s v l (deed.Out c o i m r k bytes) = OutSays s v l i m o r bytes
 Says s v l (deed.Enter c o y t vs) = (o ≡ object_of (v.issue c)) × (y ≡ v.owner o l) × (vs ≡ v.sent c) × (arguments_gone v c ≡ false)
 Says s v l (deed.Leave c hr x bytes) = LeaveSays s v l c hr x bytes
 Says s v l (deed.Back c hr x) = (x ≡ None) ⊎ ((v.ending c ≡ Some (ByLeave hr x)) × (result_gone v c (v.books.result c) ≡ false))
@@ -118,9 +119,15 @@ refusal-homed : (s : Scenario) (v : Sight) (l : ℕ) (home : Option ℕ) (held :
 refusal-homed s v l None held i x e p = cc
 refusal-homed s v l (Some a) held i x e p = homed-by v l a e
 
+out-marked : (s : Scenario) (v : Sight) (l : ℕ) (r : Route) (k : ℕ) (vs : List Value) → is_some (out_bytes s v l r k vs) ≡ is_marshalled r
+out-marked s v l route.Direct k vs = refl
+out-marked s v l route.Refused k vs = refl
+out-marked s v l route.Switch k vs = refl
+out-marked s v l route.Post k vs = refl
+
 called-says : (s : Scenario) (v : Sight) (l : ℕ) (held : Option RefValue) (i x : ℕ) (args : List Value) (to : Destination) (hr : Option HResult) → v.act l ≡ Some (action.Call held i x args to) → call_refusal s (v.home l) (v.running l) v.owns v.books.live held i x ≡ hr → Says s v l (called s v l held i x args hr)
-called-says s v l held i x args to (Some hr) e p = record { held = held; args = args; to = to; acts = e; object = refl; homed = inl refl }
-called-says s v l held i x args to None e p = record { held = held; args = args; to = to; acts = e; object = refl; homed = inr (refusal-homed s v l (v.home l) held i x refl p, refl) }
+called-says s v l held i x args to (Some hr) e p = record { held = held; args = args; to = to; acts = e; object = refl; homed = inl refl; marked = out-marked s v l route.Refused (next_cause v l) (sent_values true v.books.live (parameters (method_at s.classes i x)) args) }
+called-says s v l held i x args to None e p = record { held = held; args = args; to = to; acts = e; object = refl; homed = inr (refusal-homed s v l (v.home l) held i x refl p, refl); marked = out-marked s v l (route_to v l held) (next_cause v l) (sent_values true v.books.live (parameters (method_at s.classes i x)) args) }
 
 marshalled-says : (s : Scenario) (v : Sight) (l : ℕ) (x : MarshalMode) (held : Option RefValue) (hr : Option HResult) → Says s v l (marshalled s v l x held hr)
 marshalled-says s v l x held (Some hr) = tt
