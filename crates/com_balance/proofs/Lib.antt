@@ -15,3 +15,4 @@ pub mod Makings
 pub mod Results
 pub mod Packets
 pub mod Sendings
+pub mod Leavings

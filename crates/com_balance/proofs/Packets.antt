@@ -6,7 +6,7 @@ use Rattle.com_base.specs.declared.value.RefValue.{RefValue}
 use Rattle.com_base.specs.declared.value.MarshalMode.{MarshalMode}
 use Rattle.com_base.specs.declared.value.MarshalMode.TheVariants as marshal
 use Rattle.com_model.specs.Lists.{is_member, numbers_from}
-use Rattle.com_model.specs.Books.{Packet, Books, no_packet, packet, Change, ToProxy, ToPacket, Split, Join, Return, ToCookie, Withdraw, Same, new_packet, set_from_one, changed, Row, Marshals, marshal_change, change, marshal_all, entered_rows, made_since, cut_packet, cut}
+use Rattle.com_model.specs.Books.{Packet, Books, no_packet, packet, Change, ToProxy, ToPacket, Split, Join, Return, ToCookie, Withdraw, Same, new_packet, set_from_one, changed, Row, Marshals, marshal_change, change, marshal_all, entered_rows, made_since, first_of, cut_packet, cut}
 
 -- The packet is of the reference.
 pub record Of (k : Packet) (r : RefValue) : Type 0 where
@@ -228,3 +228,29 @@ marshals-make owned b a rs r p m =
   where
     together : (xs ys : List Packet) → length (xs ++ ys) ≡ length xs + length ys
     together xs ys = grind (arith, common_steps)
+
+first_number : (n k : ℕ) → k ≡ 1 → first_of (numbers_from n k) ≡ Some n
+first_number n k e = subst (λ (j : ℕ). first_of (numbers_from n j) ≡ Some n) (sym e) refl
+
+-- The one packet that was made since.
+pub record OneMade (b c : Books) (r : RefValue) : Type 0 where
+  pub first : first_of (made_since b c) ≡ Some (suc (length b.packets))
+  pub low : suc (length b.packets) ≤ length c.packets
+  pub is : Of (packet c (suc (length b.packets))) r
+
+pub marshals-one : (owned : ℕ → ℕ → Bool) (b : Books) (a : ℕ) (r : RefValue) → b.live r.object ≡ true → OneMade b (entered_rows owned b (marshal_all a (r ∷ []))) r
+marshals-one owned b a r p =
+    let c : Books = entered_rows owned b (marshal_all a (r ∷ [])) in
+    let u : Pushed b c r.object r.iface = row-pushed owned b a r.object r.iface p in
+    let n : length c.packets ≡ length b.packets + 1 = ap (λ (ps : List Packet). length ps) u.is ∙ one-more b.packets (new_packet marshal.Normal r.object r.iface u.refs) in
+    record {
+      first = subst (λ (k : ℕ). first_of (numbers_from (length b.packets + 1) (length c.packets - length b.packets)) ≡ Some k) (omega arith) (first_number (length b.packets + 1) (length c.packets - length b.packets) (omega (arith, n)));
+      low = omega (arith, n);
+      is = subst (λ (ps : List Packet). Of (slice_index_or ps (length b.packets) no_packet) r) (sym u.is) (subst (λ (k : Packet). Of k r) (sym (at-end b.packets (new_packet marshal.Normal r.object r.iface u.refs))) (record { object = refl; iface = refl }));
+    }
+  where
+    one-more : (xs : List Packet) (x : Packet) → length (xs ++ x ∷ []) ≡ length xs + 1
+    one-more xs x = grind (arith, common_steps)
+    at-end : (xs : List Packet) (x : Packet) → slice_index_or (xs ++ x ∷ []) (length xs) no_packet ≡ x
+    at-end [] x = refl
+    at-end (y ∷ xs) x = grind (arith, common_steps, at-end xs x)

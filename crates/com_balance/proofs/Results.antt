@@ -110,7 +110,7 @@ abbrev pub NotLeft : Option Ending → Type 0
 NotLeft (Some (ByLeave hr v)) = ⊥
 NotLeft _ = Unit {0}
 
-either-ending : (P : Option Ending → Type 0) (x y : Option Ending) → P x → P y → P (or_else x y)
+pub either-ending : (P : Option Ending → Type 0) (x y : Option Ending) → P x → P y → P (or_else x y)
 either-ending P None y p q = q
 either-ending P (Some e) y p q = p
 
@@ -119,7 +119,7 @@ where-ending P true x p q = q refl
 where-ending P false x p q = p
 
 -- What an entry's ending has to be: only a Leave ends by a Leave.
-ends-is : (P : ℕ → Option Ending → Type 0) (f : ℕ → Bool) (d : Deed) (c o a : ℕ) (b : Bool) → ((x : Option Ending) → NotLeft x → P c x) → ((k : ℕ) (hr : HResult) (v : Option Value) (bytes : Option (List ℕ)) → d ≡ deed.Leave k hr v bytes → k ≡ c → P c (Some (ByLeave hr v))) → P c (ends (end_effect f d) c o a b)
+pub ends-is : (P : ℕ → Option Ending → Type 0) (f : ℕ → Bool) (d : Deed) (c o a : ℕ) (b : Bool) → ((x : Option Ending) → NotLeft x → P c x) → ((k : ℕ) (hr : HResult) (v : Option Value) (bytes : Option (List ℕ)) → d ≡ deed.Leave k hr v bytes → k ≡ c → P c (Some (ByLeave hr v))) → P c (ends (end_effect f d) c o a b)
 ends-is P f (deed.Leave k hr v bytes) c o a b p q = where-ending (P c) (k == c) (ByLeave hr v) (p None tt) (λ e. q k hr v bytes refl (eqb-true k c e))
 ends-is P f (deed.Out k u i m route.Refused cause bytes) c o a b p q = where-ending (P c) (k == c) AtIssue (p None tt) (λ e. p (Some AtIssue) tt)
 ends-is P f (deed.Out k u i m route.Direct cause bytes) c o a b p q = p None tt
@@ -186,7 +186,7 @@ out-new s h l (deed.Out k o i m r cause bytes) c p q f =
     ] refl
 out-new s h l _ c p q f = p
 
-out-number : (s : Scenario) (h : List Entry) (l : ℕ) (d : Deed) → Comes s (sight s h) (postings h) (openers h l) (sort_of d) → (k : ℕ) (o : Option ℕ) (i m : ℕ) (r : Route) (cause : ℕ) (bytes : Option (List ℕ)) → d ≡ deed.Out k o i m r cause bytes → k ≡ calls h + 1
+pub out-number : (s : Scenario) (h : List Entry) (l : ℕ) (d : Deed) → Comes s (sight s h) (postings h) (openers h l) (sort_of d) → (k : ℕ) (o : Option ℕ) (i m : ℕ) (r : Route) (cause : ℕ) (bytes : Option (List ℕ)) → d ≡ deed.Out k o i m r cause bytes → k ≡ calls h + 1
 out-number s h l d z k o i m r cause bytes e = subst (λ (x : Deed). Comes s (sight s h) (postings h) (openers h l) (sort_of x)) e z
 
 leave-issue : (h : List Entry) (l c : ℕ) (d : Deed) (k : ℕ) (hr : HResult) (v : Option Value) (bytes : Option (List ℕ)) → d ≡ deed.Leave k hr v bytes → issue_or (issues l d) c (issue h c) ≡ issue h c

@@ -82,7 +82,7 @@ Says s v l (deed.Get g (Some r) refs hr) = Homed v l × (v.books.live r.object �
 Says s v l (deed.Out c o i m r k bytes) = OutSays s v l i m o r bytes
 Says s v l (deed.Enter c o y t vs) = (o ≡ object_of (v.issue c)) × (y ≡ v.owner o l) × (vs ≡ v.sent c) × (arguments_gone v c ≡ false)
 Says s v l (deed.Leave c hr x bytes) = LeaveSays s v l c hr x bytes
-Says s v l (deed.Back c hr x) = (x ≡ None) ⊎ ((v.ending c ≡ Some (ByLeave hr x)) × (result_gone v c (v.books.result c) ≡ false))
+Says s v l (deed.Back c hr x) = (is_some (v.ending c) ≡ true) × ((x ≡ None) ⊎ ((v.ending c ≡ Some (ByLeave hr x)) × (result_gone v c (v.books.result c) ≡ false)))
 Says s v l (deed.Init m a hr) = (v.home l ≡ None) ⊎ (v.home l ≡ Some a)
 Says s v l (deed.Uninit home n) = home ≡ v.home l
 Says s v l _ = Unit {0}
@@ -250,9 +250,9 @@ answer-says hr ByDisconnection = inl refl
 answer-says hr (ByLeave x v) = inr refl
 
 back-says : (s : Scenario) (v : Sight) (l c : ℕ) (e : Ending) (t : Bool) → v.ending c ≡ Some e → result_gone v c (v.books.result c) ≡ t → Says s v l (back_with c (cond t (without_value RPC_E_CLIENT_CANTUNMARSHAL_DATA) (answer_of (v.at_issue c) e)))
-back-says s v l c e true p q = inl refl
+back-says s v l c e true p q = (ap (λ (x : Option Ending). is_some x) p, inl refl)
 back-says s v l c e false p q =
-    elim (answer-says (v.at_issue c) e) as (λ _. Says s v l (back_with c (answer_of (v.at_issue c) e))) [ inl r ↦ inl r | inr r ↦ inr (p ∙ ap Some r, q) ]
+    elim (answer-says (v.at_issue c) e) as (λ _. Says s v l (back_with c (answer_of (v.at_issue c) e))) [ inl r ↦ (ap (λ (x : Option Ending). is_some x) p, inl r) | inr r ↦ (ap (λ (x : Option Ending). is_some x) p, inr (p ∙ ap Some r, q)) ]
 
 answered-says : (s : Scenario) (v : Sight) (l c : ℕ) (e : Ending) (p : Option ℕ) → v.ending c ≡ Some e → Says s v l (answered v c (answer_of (v.at_issue c) e) p)
 answered-says s v l c e (Some p) q = tt

@@ -69,7 +69,7 @@ kept-packets x b (deed.Out c u j m r cause bytes) = refl
 kept-packets x b (deed.Leave c hr v bytes) = refl
 kept-packets x b _ = refl
 
-end-grown : (s : Scenario) (g : Ground) (w : Scene) (x : Option Action) (left : ℕ → Bool) (a : ℕ) (d : Deed) (b : Books) → Grown (entered_rows g.owns b (rows s x left b a d)) (closed s g w d (most s g w x left a d b))
+pub end-grown : (s : Scenario) (g : Ground) (w : Scene) (x : Option Action) (left : ℕ → Bool) (a : ℕ) (d : Deed) (b : Books) → Grown (entered_rows g.owns b (rows s x left b a d)) (closed s g w d (most s g w x left a d b))
 end-grown s g w x left a d b =
     grown-then (entered_rows g.owns b (rows s x left b a d)) (most s g w x left a d b) (closed s g w d (most s g w x left a d b))
     (grown-same (entered_rows g.owns b (rows s x left b a d)) (most s g w x left a d b) (kept-packets b (entered_rows g.owns b (rows s x left b a d)) d))
