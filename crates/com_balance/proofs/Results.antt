@@ -160,7 +160,7 @@ not-left s (e ∷ h) c q p =
     (λ k hr v bytes d z. let r : InRange (calls (e ∷ h)) k = subst (λ (x : Deed). Names (InRange (calls (e ∷ h))) (call_named x)) d (named-in-range s h e q) in
       let u : k ≤ calls (e ∷ h) = r.1 in omega (arith, u, z, p)))
 
-same-issue : (s : Scenario) (h : List Entry) (l : ℕ) (d : Deed) (c : ℕ) → ((k : ℕ) (o : Option ℕ) (i m : ℕ) (r : Route) (cause : ℕ) (bytes : Option (List ℕ)) → d ≡ deed.Out k o i m r cause bytes → k ≡ c → ⊥) → issue_or (issues l d) c (issue h c) ≡ issue h c
+pub same-issue : (s : Scenario) (h : List Entry) (l : ℕ) (d : Deed) (c : ℕ) → ((k : ℕ) (o : Option ℕ) (i m : ℕ) (r : Route) (cause : ℕ) (bytes : Option (List ℕ)) → d ≡ deed.Out k o i m r cause bytes → k ≡ c → ⊥) → issue_or (issues l d) c (issue h c) ≡ issue h c
 same-issue s h l (deed.Out k o i m r cause bytes) c f = ap (λ (b : Bool). cond b (Some (record { call = k; lane = l; object = o; iface = i; method = m; route = r; cause = cause })) (issue h c)) (false_from_ne_true (k == c) (λ t. f k o i m r cause bytes refl (eqb-true k c t)))
 same-issue s h l _ c f = refl
 
@@ -189,7 +189,7 @@ out-new s h l _ c p q f = p
 pub out-number : (s : Scenario) (h : List Entry) (l : ℕ) (d : Deed) → Comes s (sight s h) (postings h) (openers h l) (sort_of d) → (k : ℕ) (o : Option ℕ) (i m : ℕ) (r : Route) (cause : ℕ) (bytes : Option (List ℕ)) → d ≡ deed.Out k o i m r cause bytes → k ≡ calls h + 1
 out-number s h l d z k o i m r cause bytes e = subst (λ (x : Deed). Comes s (sight s h) (postings h) (openers h l) (sort_of x)) e z
 
-leave-issue : (h : List Entry) (l c : ℕ) (d : Deed) (k : ℕ) (hr : HResult) (v : Option Value) (bytes : Option (List ℕ)) → d ≡ deed.Leave k hr v bytes → issue_or (issues l d) c (issue h c) ≡ issue h c
+pub leave-issue : (h : List Entry) (l c : ℕ) (d : Deed) (k : ℕ) (hr : HResult) (v : Option Value) (bytes : Option (List ℕ)) → d ≡ deed.Leave k hr v bytes → issue_or (issues l d) c (issue h c) ≡ issue h c
 leave-issue h l c d k hr v bytes e = subst (λ (x : Deed). issue_or (issues l x) c (issue h c) ≡ issue h c) (sym e) refl
 
 -- The value of each call that has left has the kind of its result.
