@@ -45,7 +45,7 @@ abbrev pub ResultBy : (RefValue → Type 0) → Option Value → Type 0
 ResultBy P None = Unit {0}
 ResultBy P (Some v) = ValueBy P v
 
--- Where links may be written, L holds.
+-- Where links may be written, L holds; where a home may begin and end, I.
 abbrev pub PlaceBy : Type 0 → Place → Type 0
 PlaceBy L (place.Slot k) = Unit {0}
 PlaceBy L (place.Link k) = L
@@ -59,29 +59,33 @@ abbrev pub FitsTo : Option Kind → Destination → Type 0
 FitsTo k (destination.Register n) = PlainKind k
 FitsTo k _ = Unit {0}
 
-abbrev pub Orderly : Scenario → Type 0 → Stmt → Type 0
-Orderly s L (stmt.Set to from) = CleanOp from
-Orderly s L (stmt.Copy to from) = PlaceBy L to
-Orderly s L (stmt.Call slot i m args to) = All CleanArg args × FitsTo (result_kind (method_at s.classes i m)) to
-Orderly s L (stmt.Leave code v) = CleanGiven v
-Orderly s L _ = Unit {0}
+abbrev pub Orderly : Scenario → Type 0 → Type 0 → Stmt → Type 0
+Orderly s I L (stmt.Set to from) = CleanOp from
+Orderly s I L (stmt.Copy to from) = PlaceBy L to
+Orderly s I L (stmt.Call slot i m args to) = All CleanArg args × FitsTo (result_kind (method_at s.classes i m)) to
+Orderly s I L (stmt.Leave code v) = CleanGiven v
+Orderly s I L (stmt.Init mode) = I
+Orderly s I L stmt.Uninit = I
+Orderly s I L _ = Unit {0}
 
-abbrev pub ActionBy : Scenario → Type 0 → (RefValue → Type 0) → Action → Type 0
-ActionBy s L P (action.Query to held i) = HeldBy P held
-ActionBy s L P (action.Copy to held) = HeldBy P held × PlaceBy L to
-ActionBy s L P (action.Call held i m args to) = All (ValueBy P) args × FitsTo (result_kind (method_at s.classes i m)) to
-ActionBy s L P (action.Leave hr v) = ResultBy P v
-ActionBy s L P _ = Unit {0}
+abbrev pub ActionBy : Scenario → Type 0 → Type 0 → (RefValue → Type 0) → Action → Type 0
+ActionBy s I L P (action.Query to held i) = HeldBy P held
+ActionBy s I L P (action.Copy to held) = HeldBy P held × PlaceBy L to
+ActionBy s I L P (action.Call held i m args to) = All (ValueBy P) args × FitsTo (result_kind (method_at s.classes i m)) to
+ActionBy s I L P (action.Leave hr v) = ResultBy P v
+ActionBy s I L P (action.Init mode) = I
+ActionBy s I L P action.Uninit = I
+ActionBy s I L P _ = Unit {0}
 
 pub record FrameBy (P : RefValue → Type 0) (f : FrameView) : Type 0 where
   pub registers : All IsPlain f.registers
   pub slots : All (HeldBy P) f.slots
 
-pub record OutcomeBy (s : Scenario) (L : Type 0) (P : RefValue → Type 0) (f : FrameView) (c : Cells) (r : Outcome) : Type 0 where
+pub record OutcomeBy (s : Scenario) (I L : Type 0) (P : RefValue → Type 0) (f : FrameView) (c : Cells) (r : Outcome) : Type 0 where
   pub registers : All IsPlain r.frame.registers
   pub slots : r.frame.slots ≡ f.slots
   pub links : r.cells.links ≡ c.links
-  pub action : ActionBy s L P r.action
+  pub action : ActionBy s I L P r.action
 
 -- ---- operands
 
@@ -116,43 +120,43 @@ given-by P f (given.Slot k) g p = slot-by P f k g
 
 -- ---- one statement
 
-abbrev EffectBy : Scenario → Type 0 → (RefValue → Type 0) → FrameView → Cells → Effect → Type 0
-EffectBy s L P f c (Goes g d k) = All IsPlain g.registers × (g.slots ≡ f.slots) × (d.links ≡ c.links)
-EffectBy s L P f c (Acts a) = ActionBy s L P a
+abbrev EffectBy : Scenario → Type 0 → Type 0 → (RefValue → Type 0) → FrameView → Cells → Effect → Type 0
+EffectBy s I L P f c (Goes g d k) = All IsPlain g.registers × (g.slots ≡ f.slots) × (d.links ≡ c.links)
+EffectBy s I L P f c (Acts a) = ActionBy s I L P a
 
 register-plain : (f : FrameView) (r : ℕ) (v : Value) → All IsPlain f.registers → IsPlain v → All IsPlain (with_register f r v).registers
 register-plain f r v g p = All-set IsPlain f.registers r v p g
 
-effect-by : (s : Scenario) (L : Type 0) (P : RefValue → Type 0) (f : FrameView) (c : Cells) (x : Stmt) → FrameBy P f → All (HeldBy P) c.links → Orderly s L x → EffectBy s L P f c (effect_of f c x)
-effect-by s L P f c (stmt.Set to from) g e p = (register-plain f to (value_of f from) g.registers (value-plain f from g.registers p), refl, refl)
-effect-by s L P f c (stmt.Add to from) g e p = (register-plain f to _ g.registers tt, refl, refl)
-effect-by s L P f c (stmt.Sub to from) g e p = (register-plain f to _ g.registers tt, refl, refl)
-effect-by s L P f c (stmt.Less to left right) g e p = (register-plain f to _ g.registers tt, refl, refl)
-effect-by s L P f c (stmt.Same to left right) g e p = (register-plain f to _ g.registers tt, refl, refl)
-effect-by s L P f c (stmt.Load to cell) g e p = (register-plain f to _ g.registers tt, refl, refl)
-effect-by s L P f c (stmt.Store cell from) g e p = (g.registers, refl, refl)
-effect-by s L P f c (stmt.Skip k) g e p = (g.registers, refl, refl)
-effect-by s L P f c (stmt.SkipZero r k) g e p = (g.registers, refl, refl)
-effect-by s L P f c (stmt.Create slot k i) g e p = tt
-effect-by s L P f c (stmt.Query to from i) g e p = slot-by P f from g
-effect-by s L P f c (stmt.Copy to from) g e p = (place-by P f c from g e, p)
-effect-by s L P f c (stmt.Release from) g e p = tt
-effect-by s L P f c (stmt.Call slot i method args to) g e p = (All-map (ValueBy P) (argument_of f) args (all-of CleanArg (λ a. ValueBy P (argument_of f a)) (λ a q. argument-by P f a g q) args p.0), p.1)
-effect-by s L P f c (stmt.Marshal b slot mode) g e p = tt
-effect-by s L P f c (stmt.Unmarshal slot b) g e p = tt
-effect-by s L P f c (stmt.Drop b) g e p = tt
-effect-by s L P f c (stmt.Raw b bytes) g e p = tt
-effect-by s L P f c (stmt.Register to slot) g e p = tt
-effect-by s L P f c (stmt.Get slot cookie) g e p = tt
-effect-by s L P f c (stmt.Revoke cookie) g e p = tt
-effect-by s L P f c (stmt.Disconnect slot) g e p = tt
-effect-by s L P f c (stmt.Post lane word) g e p = tt
-effect-by s L P f c (stmt.Quit lane) g e p = tt
-effect-by s L P f c (stmt.Leave code v) g e p = given-by P f v g p
-effect-by s L P f c (stmt.Init mode) g e p = tt
-effect-by s L P f c stmt.Uninit g e p = tt
-effect-by s L P f c (stmt.SetFilter x) g e p = tt
-effect-by s L P f c (stmt.Pump k) g e p = tt
+effect-by : (s : Scenario) (I L : Type 0) (P : RefValue → Type 0) (f : FrameView) (c : Cells) (x : Stmt) → FrameBy P f → All (HeldBy P) c.links → Orderly s I L x → EffectBy s I L P f c (effect_of f c x)
+effect-by s I L P f c (stmt.Set to from) g e p = (register-plain f to (value_of f from) g.registers (value-plain f from g.registers p), refl, refl)
+effect-by s I L P f c (stmt.Add to from) g e p = (register-plain f to _ g.registers tt, refl, refl)
+effect-by s I L P f c (stmt.Sub to from) g e p = (register-plain f to _ g.registers tt, refl, refl)
+effect-by s I L P f c (stmt.Less to left right) g e p = (register-plain f to _ g.registers tt, refl, refl)
+effect-by s I L P f c (stmt.Same to left right) g e p = (register-plain f to _ g.registers tt, refl, refl)
+effect-by s I L P f c (stmt.Load to cell) g e p = (register-plain f to _ g.registers tt, refl, refl)
+effect-by s I L P f c (stmt.Store cell from) g e p = (g.registers, refl, refl)
+effect-by s I L P f c (stmt.Skip k) g e p = (g.registers, refl, refl)
+effect-by s I L P f c (stmt.SkipZero r k) g e p = (g.registers, refl, refl)
+effect-by s I L P f c (stmt.Create slot k i) g e p = tt
+effect-by s I L P f c (stmt.Query to from i) g e p = slot-by P f from g
+effect-by s I L P f c (stmt.Copy to from) g e p = (place-by P f c from g e, p)
+effect-by s I L P f c (stmt.Release from) g e p = tt
+effect-by s I L P f c (stmt.Call slot i method args to) g e p = (All-map (ValueBy P) (argument_of f) args (all-of CleanArg (λ a. ValueBy P (argument_of f a)) (λ a q. argument-by P f a g q) args p.0), p.1)
+effect-by s I L P f c (stmt.Marshal b slot mode) g e p = tt
+effect-by s I L P f c (stmt.Unmarshal slot b) g e p = tt
+effect-by s I L P f c (stmt.Drop b) g e p = tt
+effect-by s I L P f c (stmt.Raw b bytes) g e p = tt
+effect-by s I L P f c (stmt.Register to slot) g e p = tt
+effect-by s I L P f c (stmt.Get slot cookie) g e p = tt
+effect-by s I L P f c (stmt.Revoke cookie) g e p = tt
+effect-by s I L P f c (stmt.Disconnect slot) g e p = tt
+effect-by s I L P f c (stmt.Post lane word) g e p = tt
+effect-by s I L P f c (stmt.Quit lane) g e p = tt
+effect-by s I L P f c (stmt.Leave code v) g e p = given-by P f v g p
+effect-by s I L P f c (stmt.Init mode) g e p = p
+effect-by s I L P f c stmt.Uninit g e p = p
+effect-by s I L P f c (stmt.SetFilter x) g e p = tt
+effect-by s I L P f c (stmt.Pump k) g e p = tt
 
 -- ---- a body step
 
@@ -165,22 +169,22 @@ all-tail P x xs p = λ k d h. p (suc k) d (grind (arith, common_steps, h))
 same-all : {X : Type 0} (P : X → Type 0) (xs ys : List X) → ys ≡ xs → All P xs → All P ys
 same-all P xs ys e p = subst (λ (zs : List _). All P zs) (sym e) p
 
-abbrev Walks : Scenario → Type 0 → (RefValue → Type 0) → FrameView → Cells → List Stmt → Type 0
-Walks s L P f c xs = (k : ℕ) (g : FrameView) (d : Cells) → All IsPlain g.registers → g.slots ≡ f.slots → d.links ≡ c.links → OutcomeBy s L P f c (walk xs k g d)
+abbrev Walks : Scenario → Type 0 → Type 0 → (RefValue → Type 0) → FrameView → Cells → List Stmt → Type 0
+Walks s I L P f c xs = (k : ℕ) (g : FrameView) (d : Cells) → All IsPlain g.registers → g.slots ≡ f.slots → d.links ≡ c.links → OutcomeBy s I L P f c (walk xs k g d)
 
-stepped-by : (s : Scenario) (L : Type 0) (P : RefValue → Type 0) (xs : List Stmt) (f g : FrameView) (c d : Cells) (e : Effect) → All IsPlain g.registers → g.slots ≡ f.slots → d.links ≡ c.links → Walks s L P f c xs → EffectBy s L P g d e → OutcomeBy s L P f c (elim e [ Goes u x k ↦ walk xs k (moved u (k + 1)) x | Acts a ↦ record { frame = moved g 1; cells = d; action = a } ])
-stepped-by s L P xs f g c d (Goes u x k) r m n w p = w k (moved u (k + 1)) x p.0 (p.1 ∙ m) (p.2 ∙ n)
-stepped-by s L P xs f g c d (Acts a) r m n w p = record { registers = r; slots = m; links = n; action = p }
+stepped-by : (s : Scenario) (I L : Type 0) (P : RefValue → Type 0) (xs : List Stmt) (f g : FrameView) (c d : Cells) (e : Effect) → All IsPlain g.registers → g.slots ≡ f.slots → d.links ≡ c.links → Walks s I L P f c xs → EffectBy s I L P g d e → OutcomeBy s I L P f c (elim e [ Goes u x k ↦ walk xs k (moved u (k + 1)) x | Acts a ↦ record { frame = moved g 1; cells = d; action = a } ])
+stepped-by s I L P xs f g c d (Goes u x k) r m n w p = w k (moved u (k + 1)) x p.0 (p.1 ∙ m) (p.2 ∙ n)
+stepped-by s I L P xs f g c d (Acts a) r m n w p = record { registers = r; slots = m; links = n; action = p }
 
-walk-by : (s : Scenario) (L : Type 0) (P : RefValue → Type 0) (f : FrameView) (c : Cells) (xs : List Stmt) → FrameBy P f → All (HeldBy P) c.links → All (Orderly s L) xs → Walks s L P f c xs
-walk-by s L P f c [] fb lb p k g d r m n = record { registers = r; slots = m; links = n; action = tt }
-walk-by s L P f c (x ∷ xs) fb lb p (suc k) g d r m n = walk-by s L P f c xs fb lb (all-tail (Orderly s L) x xs p) k g d r m n
-walk-by s L P f c (x ∷ xs) fb lb p zero g d r m n =
-    stepped-by s L P xs f g c d (effect_of g d x) r m n (walk-by s L P f c xs fb lb (all-tail (Orderly s L) x xs p))
-    (effect-by s L P g d x (record { registers = r; slots = same-all (HeldBy P) f.slots g.slots m fb.slots }) (same-all (HeldBy P) c.links d.links n lb) (all-head (Orderly s L) x xs p))
+walk-by : (s : Scenario) (I L : Type 0) (P : RefValue → Type 0) (f : FrameView) (c : Cells) (xs : List Stmt) → FrameBy P f → All (HeldBy P) c.links → All (Orderly s I L) xs → Walks s I L P f c xs
+walk-by s I L P f c [] fb lb p k g d r m n = record { registers = r; slots = m; links = n; action = tt }
+walk-by s I L P f c (x ∷ xs) fb lb p (suc k) g d r m n = walk-by s I L P f c xs fb lb (all-tail (Orderly s I L) x xs p) k g d r m n
+walk-by s I L P f c (x ∷ xs) fb lb p zero g d r m n =
+    stepped-by s I L P xs f g c d (effect_of g d x) r m n (walk-by s I L P f c xs fb lb (all-tail (Orderly s I L) x xs p))
+    (effect-by s I L P g d x (record { registers = r; slots = same-all (HeldBy P) f.slots g.slots m fb.slots }) (same-all (HeldBy P) c.links d.links n lb) (all-head (Orderly s I L) x xs p))
 
-pub step-by : (s : Scenario) (L : Type 0) (P : RefValue → Type 0) (xs : List Stmt) (f : FrameView) (c : Cells) → All (Orderly s L) xs → FrameBy P f → All (HeldBy P) c.links → OutcomeBy s L P f c (body_step xs f c)
-step-by s L P xs f c p g e = walk-by s L P f c (drop f.place xs) g e (All-drop (Orderly s L) f.place xs p) 0 f c g.registers refl refl
+pub step-by : (s : Scenario) (I L : Type 0) (P : RefValue → Type 0) (xs : List Stmt) (f : FrameView) (c : Cells) → All (Orderly s I L) xs → FrameBy P f → All (HeldBy P) c.links → OutcomeBy s I L P f c (body_step xs f c)
+step-by s I L P xs f c p g e = walk-by s I L P f c (drop f.place xs) g e (All-drop (Orderly s I L) f.place xs p) 0 f c g.registers refl refl
 
 -- ---- a frame at its beginning
 

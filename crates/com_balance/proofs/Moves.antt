@@ -109,19 +109,19 @@ marshalled-writes S B K a b (deed.Marshal p x held refs hr None) = tt
 marshalled-writes S B K a b _ = tt
 
 -- Whoever acts may read the links of the body's object, and may write them where L holds.
-abbrev pub Shares : (S B K : ℕ → RefValue → Type 0) → Type 0 → Actor → Type 0
-Shares S B K L (Body c o) = ((r : RefValue) → K o r → B c r) × (L → (r : RefValue) → B c r → K o r)
-Shares S B K L _ = Unit {0}
+abbrev pub Shares : (S B K : ℕ → RefValue → Type 0) → Type 0 → Type 0 → Actor → Type 0
+Shares S B K I L (Body c o) = ((r : RefValue) → K o r → B c r) × (L → (r : RefValue) → B c r → K o r)
+Shares S B K I L _ = Unit {0}
 
 held-more : (P Q : RefValue → Type 0) (held : Option RefValue) → ((r : RefValue) → P r → Q r) → HeldBy P held → HeldBy Q held
 held-more P Q None f p = tt
 held-more P Q (Some r) f p = f r p
 
-copied-writes : (S B K : ℕ → RefValue → Type 0) (L : Type 0) (a : Actor) (x : Place) (held : Option RefValue) → Shares S B K L a → HeldBy (TestOf S B a) held → PlaceBy L x → WriteBy S B K a (to_place x held)
-copied-writes S B K L a (place.Slot k) held h p q = p
-copied-writes S B K L (Body c o) (place.Link k) held h p q = held-more (B c) (K o) held (h.1 q) p
-copied-writes S B K L (Script l) (place.Link k) held h p q = tt
-copied-writes S B K L Nobody (place.Link k) held h p q = tt
+copied-writes : (S B K : ℕ → RefValue → Type 0) (I L : Type 0) (a : Actor) (x : Place) (held : Option RefValue) → Shares S B K I L a → HeldBy (TestOf S B a) held → PlaceBy L x → WriteBy S B K a (to_place x held)
+copied-writes S B K I L a (place.Slot k) held h p q = p
+copied-writes S B K I L (Body c o) (place.Link k) held h p q = held-more (B c) (K o) held (h.1 q) p
+copied-writes S B K I L (Script l) (place.Link k) held h p q = tt
+copied-writes S B K I L Nobody (place.Link k) held h p q = tt
 
 released-writes : (S B K : ℕ → RefValue → Type 0) (a : Actor) (x : Place) → WriteBy S B K a (to_place x None)
 released-writes S B K a (place.Slot k) = tt
@@ -129,67 +129,67 @@ released-writes S B K (Body c o) (place.Link k) = tt
 released-writes S B K (Script l) (place.Link k) = tt
 released-writes S B K Nobody (place.Link k) = tt
 
-action-writes : (s : Scenario) (S B K : ℕ → RefValue → Type 0) (L : Type 0) (a : Actor) (x : Action) (d : Deed) → Shares S B K L a → ActionBy s L (TestOf S B a) x → HeldBy (TestOf S B a) (taken_in d) → WritesBy S B K a (writes x d)
-action-writes s S B K L a (action.Create slot k i) d h p t = (tt, (t, tt))
-action-writes s S B K L a (action.Query to held i) d h p t = (tt, (t, tt))
-action-writes s S B K L a (action.Copy to held) d h p t = (tt, (copied-writes S B K L a to held h p.0 p.1, tt))
-action-writes s S B K L a (action.Release from held) d h p t = (tt, (released-writes S B K a from, tt))
-action-writes s S B K L a (action.Call held i x args to) d h p t = tt
-action-writes s S B K L a (action.Marshal b held x) d h p t = (tt, marshalled-writes S B K a b d)
-action-writes s S B K L a (action.Unmarshal slot b) d h p t = (tt, (t, tt))
-action-writes s S B K L a (action.Drop b) d h p t = (tt, tt)
-action-writes s S B K L a (action.Raw b bytes) d h p t = (tt, (tt, tt))
-action-writes s S B K L a (action.Register to held) d h p t = (tt, (tt, tt))
-action-writes s S B K L a (action.Get slot x) d h p t = (tt, (t, tt))
-action-writes s S B K L a (action.Revoke x) d h p t = (tt, tt)
-action-writes s S B K L a (action.Disconnect held) d h p t = (tt, tt)
-action-writes s S B K L a (action.Post l x) d h p t = (tt, tt)
-action-writes s S B K L a (action.Quit l) d h p t = (tt, tt)
-action-writes s S B K L a (action.Leave hr v) d h p t = tt
-action-writes s S B K L a (action.Init x) d h p t = (tt, tt)
-action-writes s S B K L a action.Uninit d h p t = (tt, tt)
-action-writes s S B K L a (action.SetFilter f) d h p t = (tt, tt)
-action-writes s S B K L a (action.Pump k) d h p t = tt
+action-writes : (s : Scenario) (S B K : ℕ → RefValue → Type 0) (I L : Type 0) (a : Actor) (x : Action) (d : Deed) → Shares S B K I L a → ActionBy s I L (TestOf S B a) x → HeldBy (TestOf S B a) (taken_in d) → WritesBy S B K a (writes x d)
+action-writes s S B K I L a (action.Create slot k i) d h p t = (tt, (t, tt))
+action-writes s S B K I L a (action.Query to held i) d h p t = (tt, (t, tt))
+action-writes s S B K I L a (action.Copy to held) d h p t = (tt, (copied-writes S B K I L a to held h p.0 p.1, tt))
+action-writes s S B K I L a (action.Release from held) d h p t = (tt, (released-writes S B K a from, tt))
+action-writes s S B K I L a (action.Call held i x args to) d h p t = tt
+action-writes s S B K I L a (action.Marshal b held x) d h p t = (tt, marshalled-writes S B K a b d)
+action-writes s S B K I L a (action.Unmarshal slot b) d h p t = (tt, (t, tt))
+action-writes s S B K I L a (action.Drop b) d h p t = (tt, tt)
+action-writes s S B K I L a (action.Raw b bytes) d h p t = (tt, (tt, tt))
+action-writes s S B K I L a (action.Register to held) d h p t = (tt, (tt, tt))
+action-writes s S B K I L a (action.Get slot x) d h p t = (tt, (t, tt))
+action-writes s S B K I L a (action.Revoke x) d h p t = (tt, tt)
+action-writes s S B K I L a (action.Disconnect held) d h p t = (tt, tt)
+action-writes s S B K I L a (action.Post l x) d h p t = (tt, tt)
+action-writes s S B K I L a (action.Quit l) d h p t = (tt, tt)
+action-writes s S B K I L a (action.Leave hr v) d h p t = tt
+action-writes s S B K I L a (action.Init x) d h p t = (tt, tt)
+action-writes s S B K I L a action.Uninit d h p t = (tt, tt)
+action-writes s S B K I L a (action.SetFilter f) d h p t = (tt, tt)
+action-writes s S B K I L a (action.Pump k) d h p t = tt
 
 -- ---- the step of whoever acts
 
 -- What a step leaves: the slots and links, no reference in a register, and an action with references that pass.
-abbrev OutBy : Scenario → (S B : ℕ → RefValue → Type 0) → Type 0 → Actor → Scene → Option Outcome → Type 0
-OutBy s S B L a w None = Unit {0}
-OutBy s S B L (Body c o) w (Some r) = OutcomeBy s L (B c) (w.bodies c) (w.cells o) r
-OutBy s S B L (Script l) w (Some r) = OutcomeBy s L (S l) (w.scripts l) new_cells r
-OutBy s S B L Nobody w (Some r) = ⊥
+abbrev pub OutBy : Scenario → (S B : ℕ → RefValue → Type 0) → Type 0 → Type 0 → Actor → Scene → Option Outcome → Type 0
+OutBy s S B I L a w None = Unit {0}
+OutBy s S B I L (Body c o) w (Some r) = OutcomeBy s I L (B c) (w.bodies c) (w.cells o) r
+OutBy s S B I L (Script l) w (Some r) = OutcomeBy s I L (S l) (w.scripts l) new_cells r
+OutBy s S B I L Nobody w (Some r) = ⊥
 
 same-frame : (P : RefValue → Type 0) (f g : FrameView) → All IsPlain g.registers → g.slots ≡ f.slots → FrameBy P f → FrameBy P g
 same-frame P f g r e p = record { registers = r; slots = subst (λ (xs : List (Option RefValue)). All (HeldBy P) xs) (sym e) p.slots }
 
-framed-by : (s : Scenario) (S B K : ℕ → RefValue → Type 0) (L : Type 0) (a : Actor) (r : Outcome) (w : Scene) → OutBy s S B L a w (Some r) → SceneBy S B K w → SceneBy S B K (with_frame a r w)
-framed-by s S B K L (Body c o) r w p g = record {
+framed-by : (s : Scenario) (S B K : ℕ → RefValue → Type 0) (I L : Type 0) (a : Actor) (r : Outcome) (w : Scene) → OutBy s S B I L a w (Some r) → SceneBy S B K w → SceneBy S B K (with_frame a r w)
+framed-by s S B K I L (Body c o) r w p g = record {
   scripts = g.scripts;
   bodies = put-each (λ j f. FrameBy (B j) f) c r.frame w.bodies (same-frame (B c) (w.bodies c) r.frame p.registers p.slots (g.bodies c)) g.bodies;
   links = put-each (λ j (x : Cells). All (HeldBy (K j)) x.links) o r.cells w.cells (subst (λ (xs : List (Option RefValue)). All (HeldBy (K o)) xs) (sym p.links) (g.links o)) g.links;
 }
-framed-by s S B K L (Script l) r w p g = record {
+framed-by s S B K I L (Script l) r w p g = record {
   scripts = put-each (λ j f. FrameBy (S j) f) l r.frame w.scripts (same-frame (S l) (w.scripts l) r.frame p.registers p.slots (g.scripts l)) g.scripts;
   bodies = g.bodies;
   links = g.links;
 }
-framed-by s S B K L Nobody r w p g = absurd p
+framed-by s S B K I L Nobody r w p g = absurd p
 
 wants-by : (S B K : ℕ → RefValue → Type 0) (a : Action) (d : Deed) (w : Scene) → SceneBy S B K w → SceneBy S B K (wants a d w)
 wants-by S B K (action.Call held i x args to) (deed.Out k o j y r b bytes) w g = record { scripts = g.scripts; bodies = g.bodies; links = g.links }
 wants-by S B K (action.Call held i x args to) _ w g = g
 wants-by S B K _ d w g = g
 
-out-action : (s : Scenario) (S B : ℕ → RefValue → Type 0) (L : Type 0) (a : Actor) (w : Scene) (r : Outcome) → OutBy s S B L a w (Some r) → ActionBy s L (TestOf S B a) r.action
-out-action s S B L (Body c o) w r p = p.action
-out-action s S B L (Script l) w r p = p.action
-out-action s S B L Nobody w r p = absurd p
+out-action : (s : Scenario) (S B : ℕ → RefValue → Type 0) (I L : Type 0) (a : Actor) (w : Scene) (r : Outcome) → OutBy s S B I L a w (Some r) → ActionBy s I L (TestOf S B a) r.action
+out-action s S B I L (Body c o) w r p = p.action
+out-action s S B I L (Script l) w r p = p.action
+out-action s S B I L Nobody w r p = absurd p
 
-acted-by : (s : Scenario) (S B K : ℕ → RefValue → Type 0) (L : Type 0) (a : Actor) (r : Option Outcome) (d : Deed) (w : Scene) → Shares S B K L a → OutBy s S B L a w r → HeldBy (TestOf S B a) (taken_in d) → SceneBy S B K w → SceneBy S B K (acted a r d w)
-acted-by s S B K L a None d w h q t g = g
-acted-by s S B K L a (Some r) d w h q t g =
-    wants-by S B K r.action d _ (all-written S B K a (with_frame a r w) (writes r.action d) (action-writes s S B K L a r.action d h (out-action s S B L a w r q) t) (framed-by s S B K L a r w q g))
+acted-by : (s : Scenario) (S B K : ℕ → RefValue → Type 0) (I L : Type 0) (a : Actor) (r : Option Outcome) (d : Deed) (w : Scene) → Shares S B K I L a → OutBy s S B I L a w r → HeldBy (TestOf S B a) (taken_in d) → SceneBy S B K w → SceneBy S B K (acted a r d w)
+acted-by s S B K I L a None d w h q t g = g
+acted-by s S B K I L a (Some r) d w h q t g =
+    wants-by S B K r.action d _ (all-written S B K a (with_frame a r w) (writes r.action d) (action-writes s S B K I L a r.action d h (out-action s S B I L a w r q) t) (framed-by s S B K I L a r w q g))
 
 framed-to : (a : Actor) (r : Outcome) (w : Scene) → (with_frame a r w).destinations ≡ w.destinations
 framed-to (Body c o) r w = refl
@@ -197,10 +197,10 @@ framed-to (Script l) r w = refl
 framed-to Nobody r w = refl
 
 -- The statements of whoever acts.
-abbrev pub OrderlyActor : Scenario → (class : ℕ → ℕ) → (issue : ℕ → Option Issue) → Type 0 → Actor → Type 0
-OrderlyActor s k i L (Body c o) = (j m : ℕ) → All (Orderly s L) (body_of s.classes (k o) j m)
-OrderlyActor s k i L (Script l) = All (Orderly s L) (script s l)
-OrderlyActor s k i L Nobody = Unit {0}
+abbrev pub OrderlyActor : Scenario → (class : ℕ → ℕ) → (issue : ℕ → Option Issue) → Type 0 → Type 0 → Actor → Type 0
+OrderlyActor s k i I L (Body c o) = (j m : ℕ) → All (Orderly s I L) (body_of s.classes (k o) j m)
+OrderlyActor s k i I L (Script l) = All (Orderly s I L) (script s l)
+OrderlyActor s k i I L Nobody = Unit {0}
 
 links-more : (P Q : RefValue → Type 0) (xs : List (Option RefValue)) → ((r : RefValue) → P r → Q r) → All (HeldBy P) xs → All (HeldBy Q) xs
 links-more P Q xs f p = λ k d h. held-more P Q _ f (p k d h)
@@ -208,14 +208,14 @@ links-more P Q xs f p = λ k d h. held-more P Q _ f (p k d h)
 new-links : (P : RefValue → Type 0) → All (HeldBy P) new_cells.links
 new-links P = All-replicate (HeldBy P) 4 None tt
 
-body-out : (s : Scenario) (L : Type 0) (P : RefValue → Type 0) (k : ℕ) (i : Option Issue) (f : FrameView) (c : Cells) → ((j m : ℕ) → All (Orderly s L) (body_of s.classes k j m)) → FrameBy P f → All (HeldBy P) c.links → OutcomeBy s L P f c (issued_body s k i f c)
-body-out s L P k None f c o g e = step-by s L P [] f c (All-nil (Orderly s L)) g e
-body-out s L P k (Some x) f c o g e = step-by s L P (body_of s.classes k x.iface x.method) f c (o x.iface x.method) g e
+body-out : (s : Scenario) (I L : Type 0) (P : RefValue → Type 0) (k : ℕ) (i : Option Issue) (f : FrameView) (c : Cells) → ((j m : ℕ) → All (Orderly s I L) (body_of s.classes k j m)) → FrameBy P f → All (HeldBy P) c.links → OutcomeBy s I L P f c (issued_body s k i f c)
+body-out s I L P k None f c o g e = step-by s I L P [] f c (All-nil (Orderly s I L)) g e
+body-out s I L P k (Some x) f c o g e = step-by s I L P (body_of s.classes k x.iface x.method) f c (o x.iface x.method) g e
 
-outcome-by : (s : Scenario) (S B K : ℕ → RefValue → Type 0) (L : Type 0) (k : ℕ → ℕ) (i : ℕ → Option Issue) (a : Actor) (w : Scene) → Shares S B K L a → OrderlyActor s k i L a → SceneBy S B K w → OutBy s S B L a w (outcome s k i w a)
-outcome-by s S B K L k i (Body c o) w h p g = body-out s L (B c) (k o) (i c) (w.bodies c) (w.cells o) p (g.bodies c) (links-more (K o) (B c) (w.cells o).links h.0 (g.links o))
-outcome-by s S B K L k i (Script l) w h p g = step-by s L (S l) (script s l) (w.scripts l) new_cells p (g.scripts l) (new-links (S l))
-outcome-by s S B K L k i Nobody w h p g = tt
+outcome-by : (s : Scenario) (S B K : ℕ → RefValue → Type 0) (I L : Type 0) (k : ℕ → ℕ) (i : ℕ → Option Issue) (a : Actor) (w : Scene) → Shares S B K I L a → OrderlyActor s k i I L a → SceneBy S B K w → OutBy s S B I L a w (outcome s k i w a)
+outcome-by s S B K I L k i (Body c o) w h p g = body-out s I L (B c) (k o) (i c) (w.bodies c) (w.cells o) p (g.bodies c) (links-more (K o) (B c) (w.cells o).links h.0 (g.links o))
+outcome-by s S B K I L k i (Script l) w h p g = step-by s I L (S l) (script s l) (w.scripts l) new_cells p (g.scripts l) (new-links (S l))
+outcome-by s S B K I L k i Nobody w h p g = tt
 
 -- ---- what arrives
 
@@ -265,6 +265,6 @@ final-is P _ a p q = p
 pub acting-is : (P : Actor → Type 0) (s : Scenario) (k : ℕ → ℕ) (i : ℕ → Option Issue) (w : Scene) (a : Actor) (d : Deed) → P a → P Nobody → P (acting s k i w a d)
 acting-is P s k i w a d p q = final-is P d (unless_over a (outcome s k i w a)) (over-is P a (outcome s k i w a) p q) q
 
-pub scene-by : (s : Scenario) (S B K : ℕ → RefValue → Type 0) (L : Type 0) (k n : ℕ → ℕ) (i : ℕ → Option Issue) (u b : Actor) (l : ℕ) (d : Deed) (w : Scene) → Shares S B K L u → OrderlyActor s k i L u → HeldBy (TestOf S B u) (taken_in d) → ArrivesBy S B (acted u (outcome s k i w u) d w).destinations b d → SceneBy S B K w → SceneBy S B K (cut_links n (ends_sta d) (arrived b l d (acted u (outcome s k i w u) d w)))
-scene-by s S B K L k n i u b l d w h o t q g =
-    cut-by S B K n (ends_sta d) _ (arrived-by S B K b l d _ q (acted-by s S B K L u (outcome s k i w u) d w h (outcome-by s S B K L k i u w h o g) t g))
+pub scene-by : (s : Scenario) (S B K : ℕ → RefValue → Type 0) (I L : Type 0) (k n : ℕ → ℕ) (i : ℕ → Option Issue) (u b : Actor) (l : ℕ) (d : Deed) (w : Scene) → Shares S B K I L u → OrderlyActor s k i I L u → HeldBy (TestOf S B u) (taken_in d) → ArrivesBy S B (acted u (outcome s k i w u) d w).destinations b d → SceneBy S B K w → SceneBy S B K (cut_links n (ends_sta d) (arrived b l d (acted u (outcome s k i w u) d w)))
+scene-by s S B K I L k n i u b l d w h o t q g =
+    cut-by S B K n (ends_sta d) _ (arrived-by S B K b l d _ q (acted-by s S B K I L u (outcome s k i w u) d w h (outcome-by s S B K I L k i u w h o g) t g))

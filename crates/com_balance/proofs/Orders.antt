@@ -30,20 +30,24 @@ use Rattle.com_model.proofs.Cleans.{script-clean, body-clean}
 use Rattle.com_balance.proofs.Carries.{PlaceBy, PlainKind, FitsTo, Orderly}
 
 -- What a statement does with links and with a call's result.
-abbrev Tidy : Scenario → Type 0 → Stmt → Type 0
-Tidy s L (stmt.Copy to from) = PlaceBy L to
-Tidy s L (stmt.Call slot i m args to) = FitsTo (result_kind (method_at s.classes i m)) to
-Tidy s L _ = Unit {0}
+abbrev Tidy : Scenario → Type 0 → Type 0 → Stmt → Type 0
+Tidy s I L (stmt.Copy to from) = PlaceBy L to
+Tidy s I L (stmt.Call slot i m args to) = FitsTo (result_kind (method_at s.classes i m)) to
+Tidy s I L (stmt.Init m) = I
+Tidy s I L stmt.Uninit = I
+Tidy s I L _ = Unit {0}
 
-clean-tidy : (s : Scenario) (L : Type 0) (t : Stmt) → Clean t → Tidy s L t → Orderly s L t
-clean-tidy s L (stmt.Set to from) p q = p
-clean-tidy s L (stmt.Copy to from) p q = q
-clean-tidy s L (stmt.Call slot i m args to) p q = (p, q)
-clean-tidy s L (stmt.Leave code v) p q = p
-clean-tidy s L _ p q = tt
+clean-tidy : (s : Scenario) (I L : Type 0) (t : Stmt) → Clean t → Tidy s I L t → Orderly s I L t
+clean-tidy s I L (stmt.Set to from) p q = p
+clean-tidy s I L (stmt.Copy to from) p q = q
+clean-tidy s I L (stmt.Call slot i m args to) p q = (p, q)
+clean-tidy s I L (stmt.Leave code v) p q = p
+clean-tidy s I L (stmt.Init m) p q = q
+clean-tidy s I L stmt.Uninit p q = q
+clean-tidy s I L _ p q = tt
 
-all-orderly : (s : Scenario) (L : Type 0) (ts : List Stmt) → All Clean ts → All (Tidy s L) ts → All (Orderly s L) ts
-all-orderly s L ts p q = λ k d h. clean-tidy s L (slice_index_or ts k d) (p k d h) (q k d h)
+all-orderly : (s : Scenario) (I L : Type 0) (ts : List Stmt) → All Clean ts → All (Tidy s I L) ts → All (Orderly s I L) ts
+all-orderly s I L ts p q = λ k d h. clean-tidy s I L (slice_index_or ts k d) (p k d h) (q k d h)
 
 place-tidy : (x : Context) (L : Type 0) → (x.links ≡ true → L) → (to : Place) → IsPlaceIn x to → PlaceBy L to
 place-tidy x L f (place.Slot k) p = tt
@@ -70,53 +74,55 @@ call-fits : (m : Option Method) (args : List Arg) (to : Destination) → ((args 
 call-fits m args to (inl p) = subst (FitsTo (result_kind m)) (sym p.1) tt
 call-fits m args to (inr p) = method-fits m args to p
 
-statement-tidy : (s : Scenario) (x : Context) (L : Type 0) → (x.links ≡ true → L) → (t : Stmt) → IsStatement s x t → Tidy s L t
-statement-tidy s x L f (stmt.Copy to from) p = place-tidy x L f to p.0
-statement-tidy s x L f (stmt.Call slot i m args to) p = call-fits (method_at s.classes i m) args to p.1
-statement-tidy s x L f _ p = tt
+statement-tidy : (s : Scenario) (x : Context) (I L : Type 0) → (x.body ≡ false → I) → (x.links ≡ true → L) → (t : Stmt) → IsStatement s x t → Tidy s I L t
+statement-tidy s x I L j f (stmt.Copy to from) p = place-tidy x L f to p.0
+statement-tidy s x I L j f (stmt.Call slot i m args to) p = call-fits (method_at s.classes i m) args to p.1
+statement-tidy s x I L j f (stmt.Init m) p = j p
+statement-tidy s x I L j f stmt.Uninit p = j p
+statement-tidy s x I L j f _ p = tt
 
-formed-tidy : (s : Scenario) (x : Context) (L : Type 0) → (x.links ≡ true → L) → (n : ℕ) (b : List Stmt) → FormedBody s x n b → All (Tidy s L) b
-formed-tidy s x L f n b p = λ k d h. statement-tidy s x L f (slice_index_or b k d) (p.statements k d h)
+formed-tidy : (s : Scenario) (x : Context) (I L : Type 0) → (x.body ≡ false → I) → (x.links ≡ true → L) → (n : ℕ) (b : List Stmt) → FormedBody s x n b → All (Tidy s I L) b
+formed-tidy s x I L j f n b p = λ k d h. statement-tidy s x I L j f (slice_index_or b k d) (p.statements k d h)
 
-script-tidy : (s : Scenario) → Formed s → (l : ℕ) → All (Tidy s ⊥) (script s l)
-script-tidy s f zero = All-nil (Tidy s ⊥)
-script-tidy s f (suc l) = all-or (All (Tidy s ⊥)) s.threads l [] (All-nil (Tidy s ⊥)) (all-of (FormedBody s (in_script s) 2000) (All (Tidy s ⊥)) (formed-tidy s (in_script s) ⊥ (λ e. cc) 2000) s.threads f.threads.0)
+script-tidy : (s : Scenario) → Formed s → (l : ℕ) → All (Tidy s (Unit {0}) ⊥) (script s l)
+script-tidy s f zero = All-nil (Tidy s (Unit {0}) ⊥)
+script-tidy s f (suc l) = all-or (All (Tidy s (Unit {0}) ⊥)) s.threads l [] (All-nil (Tidy s (Unit {0}) ⊥)) (all-of (FormedBody s (in_script s) 2000) (All (Tidy s (Unit {0}) ⊥)) (formed-tidy s (in_script s) (Unit {0}) ⊥ (λ e. tt) (λ e. cc) 2000) s.threads f.threads.0)
 
-pub script-orderly : (s : Scenario) → Formed s → (l : ℕ) → All (Orderly s ⊥) (script s l)
-script-orderly s f l = all-orderly s ⊥ (script s l) (script-clean s f l) (script-tidy s f l)
+pub script-orderly : (s : Scenario) → Formed s → (l : ℕ) → All (Orderly s (Unit {0}) ⊥) (script s l)
+script-orderly s f l = all-orderly s (Unit {0}) ⊥ (script s l) (script-clean s f l) (script-tidy s f l)
 
 -- ---- bodies
 
-abbrev TidyBody : Scenario → Type 0 → Option (List Stmt) → Type 0
-TidyBody s L None = Unit {0}
-TidyBody s L (Some b) = All (Tidy s L) b
+abbrev TidyBody : Scenario → Type 0 → Type 0 → Option (List Stmt) → Type 0
+TidyBody s I L None = Unit {0}
+TidyBody s I L (Some b) = All (Tidy s I L) b
 
-abbrev Each : Scenario → Type 0 → List Stmt → Type 0
-Each s L [] = Unit {0}
-Each s L (t ∷ ts) = Tidy s L t × Each s L ts
+abbrev Each : Scenario → Type 0 → Type 0 → List Stmt → Type 0
+Each s I L [] = Unit {0}
+Each s I L (t ∷ ts) = Tidy s I L t × Each s I L ts
 
-each-tidy : (s : Scenario) (L : Type 0) (ts : List Stmt) → Each s L ts → All (Tidy s L) ts
-each-tidy s L [] p = All-nil (Tidy s L)
-each-tidy s L (t ∷ ts) p = All-cons (Tidy s L) t ts p.0 (each-tidy s L ts p.1)
+each-tidy : (s : Scenario) (I L : Type 0) (ts : List Stmt) → Each s I L ts → All (Tidy s I L) ts
+each-tidy s I L [] p = All-nil (Tidy s I L)
+each-tidy s I L (t ∷ ts) p = All-cons (Tidy s I L) t ts p.0 (each-tidy s I L ts p.1)
 
-abbrev EachBody : Scenario → Type 0 → List (List Stmt) → Type 0
-EachBody s L [] = Unit {0}
-EachBody s L (b ∷ bs) = Each s L b × EachBody s L bs
+abbrev EachBody : Scenario → Type 0 → Type 0 → List (List Stmt) → Type 0
+EachBody s I L [] = Unit {0}
+EachBody s I L (b ∷ bs) = Each s I L b × EachBody s I L bs
 
-got-tidy : (s : Scenario) (L : Type 0) (bs : List (List Stmt)) (m : ℕ) → EachBody s L bs → TidyBody s L (slice_get bs m)
-got-tidy s L [] m p = tt
-got-tidy s L (b ∷ bs) zero p = each-tidy s L b p.0
-got-tidy s L (b ∷ bs) (suc m) p = got-tidy s L bs m p.1
+got-tidy : (s : Scenario) (I L : Type 0) (bs : List (List Stmt)) (m : ℕ) → EachBody s I L bs → TidyBody s I L (slice_get bs m)
+got-tidy s I L [] m p = tt
+got-tidy s I L (b ∷ bs) zero p = each-tidy s I L b p.0
+got-tidy s I L (b ∷ bs) (suc m) p = got-tidy s I L bs m p.1
 
-only-tidy : (s : Scenario) (L : Type 0) (t : Bool) (o : Option (List Stmt)) → TidyBody s L o → TidyBody s L (cond t o None)
-only-tidy s L true o p = p
-only-tidy s L false o p = tt
+only-tidy : (s : Scenario) (I L : Type 0) (t : Bool) (o : Option (List Stmt)) → TidyBody s I L o → TidyBody s I L (cond t o None)
+only-tidy s I L true o p = p
+only-tidy s I L false o p = tt
 
-found-tidy : (s : Scenario) (x : Context) (L : Type 0) → (x.links ≡ true → L) → (test : MethodBody → Bool) (bs : List MethodBody) → All (IsBody s x) bs → TidyBody s L (option_map (λ (b : MethodBody). b.body) (find test bs))
-found-tidy s x L f test [] p = tt
-found-tidy s x L f test (b ∷ bs) p = by-test (test b) (formed-tidy s x L f 200 b.body (p 0 b (grind (arith, common_steps))).0) (found-tidy s x L f test bs (λ k d h. p (suc k) d (grind (arith, common_steps, h))))
+found-tidy : (s : Scenario) (x : Context) (I L : Type 0) → (x.body ≡ false → I) → (x.links ≡ true → L) → (test : MethodBody → Bool) (bs : List MethodBody) → All (IsBody s x) bs → TidyBody s I L (option_map (λ (b : MethodBody). b.body) (find test bs))
+found-tidy s x I L j f test [] p = tt
+found-tidy s x I L j f test (b ∷ bs) p = by-test (test b) (formed-tidy s x I L j f 200 b.body (p 0 b (grind (arith, common_steps))).0) (found-tidy s x I L j f test bs (λ k d h. p (suc k) d (grind (arith, common_steps, h))))
   where
-    by-test : (t : Bool) → All (Tidy s L) b.body → TidyBody s L (option_map (λ (b : MethodBody). b.body) (find test bs)) → TidyBody s L (option_map (λ (b : MethodBody). b.body) (cond t (Some b) (find test bs)))
+    by-test : (t : Bool) → All (Tidy s I L) b.body → TidyBody s I L (option_map (λ (b : MethodBody). b.body) (find test bs)) → TidyBody s I L (option_map (λ (b : MethodBody). b.body) (cond t (Some b) (find test bs)))
     by-test true q r = q
     by-test false q r = r
 
@@ -131,13 +137,13 @@ counter-plain [] e = cc
 counter-plain (x ∷ []) e = cc
 counter-plain (x ∷ y ∷ ys) e = subst (λ (i : Interface). PlainKind (result_kind (slice_get i.methods 0))) (sym (ap second e)) tt
 
-native-tidy : (s : Scenario) (f : Formed s) (x : Context) (L : Type 0) → (x.links ≡ true → L) → (k : Class) (i m : ℕ) → IsNative k.native k → (n : Native) → k.native ≡ n → (is_agile k.model ≡ false → L) → (bs : List MethodBody) → All (IsBody s x) bs → TidyBody s L (kind_body n bs i m)
-native-tidy s f x L g k i m z native.Bodies e r bs p = found-tidy s x L g (λ b. b.iface == i && b.method == m) bs p
-native-tidy s f x L g k i m z native.Counter e r bs p = only-tidy s L (i == 1) (slice_get counter_bodies m) (got-tidy s L counter_bodies m ((tt, (tt, (tt, (tt, tt)))), ((tt, (tt, tt)), tt)))
-native-tidy s f x L g k i m z native.Relay e r bs p =
+native-tidy : (s : Scenario) (f : Formed s) (x : Context) (I L : Type 0) → (x.body ≡ false → I) → (x.links ≡ true → L) → (k : Class) (i m : ℕ) → IsNative k.native k → (n : Native) → k.native ≡ n → (is_agile k.model ≡ false → L) → (bs : List MethodBody) → All (IsBody s x) bs → TidyBody s I L (kind_body n bs i m)
+native-tidy s f x I L j g k i m z native.Bodies e r bs p = found-tidy s x I L j g (λ b. b.iface == i && b.method == m) bs p
+native-tidy s f x I L j g k i m z native.Counter e r bs p = only-tidy s I L (i == 1) (slice_get counter_bodies m) (got-tidy s I L counter_bodies m ((tt, (tt, (tt, (tt, tt)))), ((tt, (tt, tt)), tt)))
+native-tidy s f x I L j g k i m z native.Relay e r bs p =
     let y : IsNative native.Relay k = subst (λ (n : Native). IsNative n k) e z in
-    only-tidy s L (i == 2) (slice_get relay_bodies m) (got-tidy s L relay_bodies m ((r y.2, (tt, tt)), ((tt, (counter-plain s.classes.interfaces f.interfaces.built, (tt, tt))), tt)))
-native-tidy s f x L g k i m z native.Latch e r bs p = only-tidy s L (i == 3) (slice_get latch_bodies m) (got-tidy s L latch_bodies m ((tt, (tt, tt)), ((tt, (tt, (tt, (tt, (tt, tt))))), tt)))
+    only-tidy s I L (i == 2) (slice_get relay_bodies m) (got-tidy s I L relay_bodies m ((r y.2, (tt, tt)), ((tt, (counter-plain s.classes.interfaces f.interfaces.built, (tt, tt))), tt)))
+native-tidy s f x I L j g k i m z native.Latch e r bs p = only-tidy s I L (i == 3) (slice_get latch_bodies m) (got-tidy s I L latch_bodies m ((tt, (tt, tt)), ((tt, (tt, (tt, (tt, (tt, tt))))), tt)))
 
 abbrev KnownClass : Scenario → Option Class → Type 0
 KnownClass s None = Unit {0}
@@ -156,13 +162,13 @@ not-true : (b : Bool) → not b ≡ true → b ≡ false
 not-true true e = cc
 not-true false e = refl
 
-class-tidy : (s : Scenario) (f : Formed s) (o : Option Class) (i m : ℕ) → KnownClass s o → TidyBody s (has_agile_model o ≡ false) (option_and_then (λ c. class_body c i m) o)
+class-tidy : (s : Scenario) (f : Formed s) (o : Option Class) (i m : ℕ) → KnownClass s o → TidyBody s ⊥ (has_agile_model o ≡ false) (option_and_then (λ c. class_body c i m) o)
 class-tidy s f None i m p = tt
-class-tidy s f (Some k) i m p = native-tidy s f (in_class p.0 k) (is_agile k.model ≡ false) (not-true (is_agile k.model)) k i m p.1.1 k.native refl (λ e. e) k.bodies p.1.3
+class-tidy s f (Some k) i m p = native-tidy s f (in_class p.0 k) ⊥ (is_agile k.model ≡ false) (λ e. cc) (not-true (is_agile k.model)) k i m p.1.1 k.native refl (λ e. e) k.bodies p.1.3
 
-unwrap-tidy : (s : Scenario) (L : Type 0) (o : Option (List Stmt)) → TidyBody s L o → All (Tidy s L) (unwrap_or o no_body)
-unwrap-tidy s L None p = each-tidy s L no_body (tt, tt)
-unwrap-tidy s L (Some b) p = p
+unwrap-tidy : (s : Scenario) (I L : Type 0) (o : Option (List Stmt)) → TidyBody s I L o → All (Tidy s I L) (unwrap_or o no_body)
+unwrap-tidy s I L None p = each-tidy s I L no_body (tt, tt)
+unwrap-tidy s I L (Some b) p = p
 
-pub body-orderly : (s : Scenario) → Formed s → (k i m : ℕ) → All (Orderly s (is_agile_class s k ≡ false)) (body_of s.classes k i m)
-body-orderly s f k i m = all-orderly s (is_agile_class s k ≡ false) (body_of s.classes k i m) (body-clean s f k i m) (unwrap-tidy s (is_agile_class s k ≡ false) _ (class-tidy s f (class_at s.classes k) i m (class-known s f (k == 0) _)))
+pub body-orderly : (s : Scenario) → Formed s → (k i m : ℕ) → All (Orderly s ⊥ (is_agile_class s k ≡ false)) (body_of s.classes k i m)
+body-orderly s f k i m = all-orderly s ⊥ (is_agile_class s k ≡ false) (body_of s.classes k i m) (body-clean s f k i m) (unwrap-tidy s ⊥ (is_agile_class s k ≡ false) _ (class-tidy s f (class_at s.classes k) i m (class-known s f (k == 0) _)))
