@@ -16,3 +16,4 @@ pub mod Results
 pub mod Packets
 pub mod Sendings
 pub mod Leavings
+pub mod Tops
