@@ -2,29 +2,44 @@
 use Rattle.std.proofs.Common.{subst, sym, ap, ◌∙◌, ◌⊎◌, inl, inr, eqb-true, arith}
 use Rattle.std.proofs.lemmas.Bool.{and_parts, false_from_ne_true}
 use Rattle.std.proofs.lemmas.Grind.{common_steps}
-use Rattle.std.specs.Prelude.{◌≡◌, refl, ℕ, ℤ, zero, suc, ◌+◌, pos, negsuc, Bool, true, false, cond, not, ◌==◌, ◌&&◌, nat_le, nat_lt, List, [], ◌∷◌, length, Option, Some, None, is_none, filter, option_map, option_and_then}
+use Rattle.std.specs.Prelude.{◌≡◌, refl, ℕ, ℤ, zero, suc, ◌+◌, ◌≤◌, pos, negsuc, Bool, true, false, cond, not, ◌==◌, ◌&&◌, nat_le, nat_lt, List, [], ◌∷◌, length, Option, Some, None, is_none, filter, option_map, option_and_then, Result, Ok, Err}
+use Rattle.com_base.specs.declared.hresult.HResult.{HResult}
+use Rattle.com_base.specs.declared.value.RefValue.{RefValue}
+use Rattle.com_base.specs.declared.value.Value.{Value}
+use Rattle.com_base.specs.declared.value.Mode.{Mode}
+use Rattle.com_base.specs.declared.value.MarshalMode.{MarshalMode}
+use Rattle.com_base.specs.declared.value.MarshalMode.TheVariants as marshal
+use Rattle.com_body.specs.declared.operands.Asked.{Asked}
 use Rattle.com_body.specs.declared.actions.Action.{Action}
+use Rattle.com_body.specs.declared.actions.Action.TheVariants as action
+use Rattle.com_classes.specs.declared.factory.Placed.{Placed}
+use Rattle.com_classes.specs.Lookups.{class_at}
 use Rattle.com_model.specs.declared.deeds.Deed.{Deed}
 use Rattle.com_model.specs.declared.deeds.Deed.TheVariants as deed
 use Rattle.com_model.specs.declared.deeds.Entry.{Entry}
 use Rattle.com_model.specs.declared.deeds.Route.{Route}
 use Rattle.com_model.specs.declared.deeds.Route.TheVariants as route
 use Rattle.com_model.specs.declared.scenario.Scenario.{Scenario}
-use Rattle.com_model.specs.Answers.{RPC_E_OUT_OF_RESOURCES, RPC_E_SERVER_CANTUNMARSHAL_DATA}
+use Rattle.com_model.specs.Answers.{S_OK, E_INVALIDARG, CO_E_OBJNOTCONNECTED, RPC_E_OUT_OF_RESOURCES, RPC_E_SERVER_CANTUNMARSHAL_DATA}
 use Rattle.com_model.specs.Lists.{where_true, first, is_member}
-use Rattle.com_model.specs.Tables.{LaneSort, Thread, Host, Pool, NoLane, lane_sort}
-use Rattle.com_model.specs.Openers.{Opener, Pumps, Waits, Enters, openers}
+use Rattle.com_model.specs.Tables.{class_number, interface_number, LaneSort, Thread, Host, Pool, NoLane, lane_sort}
+use Rattle.com_model.specs.Openers.{Opener, Pumps, Waits, Enters, openers, running_call}
 use Rattle.com_model.specs.Apartments.{mta, is_sta}
 use Rattle.com_model.specs.Calls.{Issue, issues, issue_or, issue, calls, route_of, object_of, is_post}
 use Rattle.com_model.specs.Endings.{Answer, answer_of}
 use Rattle.com_model.specs.Waiting.{PostEffect, Posts, Judges, Delays, GivesUp, PostsNone, retries, post_effect, Phase, Unposted, Queued, Judged, Delayed, GivenUp, phase_after, phase, is_queued, waits_in, inbox, postings, Word, bound_reached, mark_of, not_asked}
+use Rattle.com_model.specs.Clock.{clock}
 use Rattle.com_model.specs.Sight.{Sight, sight}
-use Rattle.com_model.specs.Deeds.{deed_of, uninitialised}
+use Rattle.com_model.specs.Frames.{reference}
+use Rattle.com_model.specs.Books.{Cookie, cookie}
+use Rattle.com_model.specs.Issue.{call_refusal}
+use Rattle.com_model.specs.Deeds.{deed_of, initialised, uninitialised, creator, placing, made_as, created_of, created, owned_by, hold_refusal, marshalled, registered, Named, NamesPacket, Refuses, named_by, gained_refs, unmarshalled, dropped, cookie_number, got_with, got, revoked, called, left_as, left_by}
 use Rattle.com_model.specs.Rules.{waiting_call, posted_to_sta, call_sort, verdict_on, is_handled_in, arguments_gone, admission, rule_final, rule_own, enters_itself, own_call, due_of, packet_left, answered, rule_answer, rule_bound, is_open_to_calls, admits_sta, admits_next, rule_inbox, retried, rule_retry, posted_again, rule_again, asked_on, rule_pending, takes_word, pumped, rule_word, after_script, scripted, is_script_turn, rule_script, ruled, stepped, top, tick_time, no_lane_can, next_by, next, legal}
 use Rattle.com_model.proofs.Given.{Given, given-or, given-where, given-map, given-then}
 use Rattle.com_model.proofs.Comes.{given-found, first-filter, next-comes}
 use Rattle.com_model.proofs.Fines.{cond-is}
-use Rattle.com_balance.proofs.Results.{out-number}
+use Rattle.com_model.proofs.Onces.{call_named, Names, InRange, named-in-range}
+use Rattle.com_balance.proofs.Results.{out-number, same-issue}
 
 abbrev pub IsPosted : Phase → Type 0
 IsPosted Unposted = ⊥
@@ -52,9 +67,101 @@ RuleDeed v l (deed.Out c o i m r k bytes) = ⊥
 RuleDeed v l (deed.Pump n) = ⊥
 RuleDeed v l _ = Unit {0}
 
+-- A deed that an action makes.
+abbrev pub IsAct : Deed → Type 0
+IsAct (deed.Enter c o a t vs) = ⊥
+IsAct (deed.Verdict c t x) = ⊥
+IsAct (deed.Retry c n) = ⊥
+IsAct (deed.Again c) = ⊥
+IsAct _ = Unit {0}
+
 -- A deed of a body or a script, or of a rule.
 abbrev pub Tops : Sight → ℕ → Deed → Type 0
-Tops v l d = TopActs v l ⊎ RuleDeed v l d
+Tops v l d = (TopActs v l × IsAct d) ⊎ RuleDeed v l d
+
+-- ---- actions
+
+made-act : (s : Scenario) (v : Sight) (k i : Asked) (r : Result Placed HResult) → IsAct (made_as s v k i r)
+made-act s v k i (Ok p) = tt
+made-act s v k i (Err hr) = tt
+
+created_of-act : (s : Scenario) (v : Sight) (l a : ℕ) (k i : Asked) (c : Option ℕ) → IsAct (created_of s v l a k i c (interface_number s i))
+created_of-act s v l a k i None = tt
+created_of-act s v l a k i (Some c) = made-act s v k i (placing (creator v l a) c (interface_number s i) (class_at s.classes c))
+
+created-act : (s : Scenario) (v : Sight) (l : ℕ) (k i : Asked) (home : Option ℕ) → IsAct (created s v l k i home)
+created-act s v l k i None = tt
+created-act s v l k i (Some a) = created_of-act s v l a k i (class_number s k)
+
+called-act : (s : Scenario) (v : Sight) (l : ℕ) (held : Option RefValue) (i x : ℕ) (args : List Value) (hr : Option HResult) → IsAct (called s v l held i x args hr)
+called-act s v l held i x args (Some hr) = tt
+called-act s v l held i x args None = tt
+
+marshalled-act : (s : Scenario) (v : Sight) (l : ℕ) (x : MarshalMode) (held : Option RefValue) (hr : Option HResult) → IsAct (marshalled s v l x held hr)
+marshalled-act s v l x held (Some hr) = tt
+marshalled-act s v l x None None = tt
+marshalled-act s v l x (Some r) None = tt
+
+registered-act : (v : Sight) (held : Option RefValue) (hr : Option HResult) → IsAct (registered v held hr)
+registered-act v held (Some hr) = tt
+registered-act v held None = tt
+
+unmarshalled-act : (v : Sight) (l : ℕ) (n : Named) → IsAct (unmarshalled v l n)
+unmarshalled-act v l (NamesPacket p) = tt
+unmarshalled-act v l (Refuses hr) = tt
+
+dropped-act : (n : Named) → IsAct (dropped n)
+dropped-act (NamesPacket p) = tt
+dropped-act (Refuses hr) = tt
+
+got-act : (v : Sight) (l : ℕ) (x : ℤ) (home : Option ℕ) → IsAct (got v l x home)
+got-act v l x None = tt
+got-act v l x (Some b) =
+    let k : Cookie = cookie v.books (cookie_number x) in
+    cond-is IsAct k.revoked (deed.Get x None 0 E_INVALIDARG) (got_with v l x k) tt
+    (cond-is IsAct (v.books.live k.object) (deed.Get x (Some (reference k.object k.iface)) (gained_refs marshal.Strong (owned_by v l k.object) 0) S_OK) (deed.Get x None 0 CO_E_OBJNOTCONNECTED) tt tt)
+
+revoked-act : (v : Sight) (x : ℤ) (home : Option ℕ) → IsAct (revoked v x home)
+revoked-act v x None = tt
+revoked-act v x (Some b) = tt
+
+left-act : (s : Scenario) (v : Sight) (l c : ℕ) (i : Option Issue) (hr : HResult) (x : Option Value) → IsAct (left_as s v l c i hr x)
+left-act s v l c None hr x = tt
+left-act s v l c (Some i) hr x = tt
+
+left-by-act : (s : Scenario) (v : Sight) (l : ℕ) (hr : HResult) (x : Option Value) (c : Option ℕ) → IsAct (left_by s v l hr x c)
+left-by-act s v l hr x None = tt
+left-by-act s v l hr x (Some c) = left-act s v l c (v.issue c) hr x
+
+initialised-act : (v : Sight) (x : Mode) (home : Option ℕ) → IsAct (initialised v x home)
+initialised-act v x None = tt
+initialised-act v x (Some a) = tt
+
+deed-act : (s : Scenario) (v : Sight) (l : ℕ) (a : Action) → IsAct (deed_of s v l a)
+deed-act s v l (action.Create slot k i) = created-act s v l k i (v.home l)
+deed-act s v l (action.Query to held i) = tt
+deed-act s v l (action.Copy to held) = tt
+deed-act s v l (action.Release from held) = tt
+deed-act s v l (action.Call held i x args to) = called-act s v l held i x args (call_refusal s (v.home l) (v.running l) v.owns v.books.live held i x)
+deed-act s v l (action.Marshal b held x) = marshalled-act s v l x held (hold_refusal v (v.home l) held)
+deed-act s v l (action.Unmarshal slot b) = unmarshalled-act v l (named_by s v (v.home l) (v.buffers b))
+deed-act s v l (action.Drop b) = dropped-act (named_by s v (v.home l) (v.buffers b))
+deed-act s v l (action.Raw b bytes) = tt
+deed-act s v l (action.Register to held) = registered-act v held (hold_refusal v (v.home l) held)
+deed-act s v l (action.Get slot x) = got-act v l x (v.home l)
+deed-act s v l (action.Revoke x) = revoked-act v x (v.home l)
+deed-act s v l (action.Disconnect held) = tt
+deed-act s v l (action.Post m w) = tt
+deed-act s v l (action.Quit m) = tt
+deed-act s v l (action.Leave hr x) = left-by-act s v l hr x (running_call (v.openers l))
+deed-act s v l (action.Init x) = initialised-act v x (v.home l)
+deed-act s v l action.Uninit = tt
+deed-act s v l (action.SetFilter f) = tt
+deed-act s v l (action.Pump k) = tt
+
+scripted-act : (s : Scenario) (v : Sight) (l : ℕ) (x : Option Action) → IsAct (scripted s v l x)
+scripted-act s v l None = cond-is IsAct (v.count l == 0) deed.End (uninitialised v l) tt tt
+scripted-act s v l (Some a) = deed-act s v l a
 
 -- ---- rules with what they test
 
@@ -171,13 +278,13 @@ ruled-tops s v l f =
     (given-or P (rule_again v l) _ (given-then P (λ c. posted_again v c (v.phase c)) (own_call v l) (λ c. again-tops v l c (v.phase c) refl))
     (given-or P (rule_pending s v l) _ (given-then P (λ c. asked_on s v l c (not_asked (mark_of (v.mail l).marks c) (v.mail l).words)) (own_call v l) (λ c. asked-tops s v l c (not_asked (mark_of (v.mail l).marks c) (v.mail l).words)))
     (given-or P (rule_word v l) (rule_script s v l) (word-tops v l (top v l))
-    (where-given P (is_script_turn (lane_sort s l) (top v l) (v.over l)) (scripted s v l (v.act l)) (λ e. inl (script-top v l (lane_sort s l) (top v l) (v.over l) refl e)))))))))))
+    (where-given P (is_script_turn (lane_sort s l) (top v l) (v.over l)) (scripted s v l (v.act l)) (λ e. inl (script-top v l (lane_sort s l) (top v l) (v.over l) refl e, scripted-act s v l (v.act l))))))))))))
 
 stepped-tops : (s : Scenario) (v : Sight) (l : ℕ) (o : Option Opener) → top v l ≡ o → ((a c : ℕ) → first (v.inbox a) ≡ Some c → PostAt v c) → Given (Tops v l) (stepped s v l o)
 stepped-tops s v l None e f = ruled-tops s v l f
 stepped-tops s v l (Some (Pumps n)) e f = ruled-tops s v l f
 stepped-tops s v l (Some (Waits c)) e f = ruled-tops s v l f
-stepped-tops s v l (Some (Enters c o a)) e f = given-map (Tops v l) (deed_of s v l) (v.act l) (λ x. inl (by_body c o a e))
+stepped-tops s v l (Some (Enters c o a)) e f = given-map (Tops v l) (deed_of s v l) (v.act l) (λ x. inl (by_body c o a e, deed-act s v l x))
 
 ticks-tops : (v : Sight) (l : ℕ) (b d : Bool) (t : Option ℕ) → Given (Tops v l) (cond b (cond d (option_map (λ n. deed.Tick n) t) None) None)
 ticks-tops v l true true None = tt
@@ -211,3 +318,54 @@ tops-of s h l d f e = subst (λ (x : Option Deed). Given (Tops (sight s h) l) x)
 posted-if : (d c : ℕ) (x p : Phase) (r : Bool) → (d ≡ c → r ≡ true) → (IsPosted p → r ≡ true) → IsPosted (cond (d == c) x p) → r ≡ true
 posted-if d c x p r f g =
     elim (d == c) as (λ t. (d == c) ≡ t → IsPosted (cond t x p) → r ≡ true) [ true ↦ λ e q. f (eqb-true d c e) | false ↦ λ e q. g q ] refl
+
+not-unissued : (s : Scenario) (h : List Entry) (l : ℕ) (d : Deed) (c : ℕ) (p : Phase) → (IsPosted p → is_post (route_of (issue h c)) ≡ true) → (calls h + 1 ≤ c → IsPosted p → ⊥) → ((k : ℕ) (o : Option ℕ) (i m : ℕ) (r : Route) (cause : ℕ) (bytes : Option (List ℕ)) → d ≡ deed.Out k o i m r cause bytes → k ≡ calls h + 1) → IsPosted p → is_post (route_of (issue_or (issues l d) c (issue h c))) ≡ true
+not-unissued s h l (deed.Out k o i m r cause bytes) c p f g n q =
+    elim (k == c) as (λ t. (k == c) ≡ t → is_post (route_of (cond t (Some (record { call = k; lane = l; object = o; iface = i; method = m; route = r; cause = cause })) (issue h c))) ≡ true) [
+      | true ↦ λ e. absurd (g (let z : k ≡ calls h + 1 = n k o i m r cause bytes refl in let y : k ≡ c = eqb-true k c e in omega (arith, z, y)) q)
+      | false ↦ λ e. f q
+    ] refl
+not-unissued s h l d c p f g n q = f q
+
+-- A call that was not issued has no issue.
+pub issue-past : (s : Scenario) (h : List Entry) (c : ℕ) → legal s h → calls h + 1 ≤ c → issue h c ≡ None
+issue-past s [] c q p = refl
+issue-past s (e ∷ h) c q p =
+    let m : calls h ≤ calls (e ∷ h) = omega arith in
+    same-issue s h e.lane e.deed c (λ k o i y r cause bytes d z.
+      let r : InRange (calls (e ∷ h)) k = subst (λ (x : Deed). Names (InRange (calls (e ∷ h))) (call_named x)) d (named-in-range s h e q) in
+      let u : k ≤ calls (e ∷ h) = r.1 in omega (arith, u, z, p))
+    ∙ issue-past s h c q.0 (omega (arith, p, m))
+
+no-issue-post : (i : Option Issue) → i ≡ None → is_post (route_of i) ≡ true → ⊥
+no-issue-post None e p = cc
+no-issue-post (Some x) e p = cc
+
+phase-step : (s : Scenario) (h : List Entry) (l now : ℕ) (d : Deed) (c : ℕ) → Tops (sight s h) l d → ((j : ℕ) → IsPosted (phase h j) → is_post (route_of (issue h j)) ≡ true) → (calls h + 1 ≤ c → issue h c ≡ None) → ((k : ℕ) (o : Option ℕ) (i m : ℕ) (r : Route) (cause : ℕ) (bytes : Option (List ℕ)) → d ≡ deed.Out k o i m r cause bytes → k ≡ calls h + 1) → IsPosted (phase_after (post_effect d) now c (phase h c)) → is_post (route_of (issue_or (issues l d) c (issue h c))) ≡ true
+phase-step s h l now (deed.Out k o i m route.Post cause bytes) c t f g n q =
+    elim (k == c) as (λ b. (k == c) ≡ b → IsPosted (cond b Queued (phase h c)) → is_post (route_of (cond b (Some (record { call = k; lane = l; object = o; iface = i; method = m; route = route.Post; cause = cause })) (issue h c))) ≡ true) [ true ↦ λ e q. refl | false ↦ λ e q. f c q ] refl q
+phase-step s h l now (deed.Out k o i m route.Direct cause bytes) c t f g n q = not-unissued s h l (deed.Out k o i m route.Direct cause bytes) c (phase h c) (f c) (λ p r. no-issue-post (issue h c) (g p) (f c r)) n q
+phase-step s h l now (deed.Out k o i m route.Switch cause bytes) c t f g n q = not-unissued s h l (deed.Out k o i m route.Switch cause bytes) c (phase h c) (f c) (λ p r. no-issue-post (issue h c) (g p) (f c r)) n q
+phase-step s h l now (deed.Out k o i m route.Refused cause bytes) c t f g n q = not-unissued s h l (deed.Out k o i m route.Refused cause bytes) c (phase h c) (f c) (λ p r. no-issue-post (issue h c) (g p) (f c r)) n q
+phase-step s h l now (deed.Again k) c (inl t) f g n q = absurd t.1
+phase-step s h l now (deed.Again k) c (inr t) f g n q = posted-if k c Queued (phase h c) (is_post (route_of (issue h c))) (λ e. subst (λ (j : ℕ). is_post (route_of (issue h j)) ≡ true) e (f k t)) (f c) q
+phase-step s h l now (deed.Retry k x) c (inl t) f g n q = absurd t.1
+phase-step s h l now (deed.Retry k (negsuc x)) c (inr t) f g n q = posted-if k c GivenUp (phase h c) (is_post (route_of (issue h c))) (λ e. subst (λ (j : ℕ). is_post (route_of (issue h j)) ≡ true) e (f k t)) (f c) q
+phase-step s h l now (deed.Retry k (pos x)) c (inr t) f g n q = by-test (nat_lt x 100) q
+  where
+    own : k ≡ c → is_post (route_of (issue h c)) ≡ true
+    own e = subst (λ (j : ℕ). is_post (route_of (issue h j)) ≡ true) e (f k t)
+    by-test : (b : Bool) → IsPosted (phase_after (cond b (Posts k) (Delays k x)) now c (phase h c)) → is_post (route_of (issue h c)) ≡ true
+    by-test true q = posted-if k c Queued (phase h c) (is_post (route_of (issue h c))) own (f c) q
+    by-test false q = posted-if k c (Delayed (now + x)) (phase h c) (is_post (route_of (issue h c))) own (f c) q
+phase-step s h l now (deed.Verdict k y x) c (inl t) f g n q = absurd t.1
+phase-step s h l now (deed.Verdict k y x) c (inr t) f g n q = posted-if k c (Judged x) (phase h c) (is_post (route_of (issue h c))) (λ e. subst (λ (j : ℕ). is_post (route_of (issue h j)) ≡ true) e t) (f c) q
+phase-step s h l now _ c t f g n q = f c q
+
+pub phase-post : (s : Scenario) (h : List Entry) → legal s h → (c : ℕ) → IsPosted (phase h c) → is_post (route_of (issue h c)) ≡ true
+phase-post s [] q c p = absurd p
+phase-post s (e ∷ h) q c p =
+    phase-step s h e.lane (clock h) e.deed c (tops-of s h e.lane e.deed (phase-post s h q.0) q.1) (phase-post s h q.0) (issue-past s h c q.0) (out-number s h e.lane e.deed (next-comes s h e.lane e.deed q.1)) p
+
+pub next-tops : (s : Scenario) (h : List Entry) (e : Entry) → legal s (e ∷ h) → Tops (sight s h) e.lane e.deed
+next-tops s h e q = tops-of s h e.lane e.deed (phase-post s h q.0) q.1
