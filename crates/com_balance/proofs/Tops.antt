@@ -14,6 +14,7 @@ use Rattle.com_body.specs.declared.actions.Action.{Action}
 use Rattle.com_body.specs.declared.actions.Action.TheVariants as action
 use Rattle.com_classes.specs.declared.factory.Placed.{Placed}
 use Rattle.com_classes.specs.Lookups.{class_at}
+use Rattle.com_filter.specs.declared.Verdict.{Verdict}
 use Rattle.com_model.specs.declared.deeds.Deed.{Deed}
 use Rattle.com_model.specs.declared.deeds.Deed.TheVariants as deed
 use Rattle.com_model.specs.declared.deeds.Entry.{Entry}
@@ -52,10 +53,6 @@ PostAt v c = is_post (route_of (v.issue c)) ≡ true
 abbrev pub OpenTop : Sight → ℕ → Type 0
 OpenTop v l = (c : ℕ) → top v l ≡ Some (Waits c) → PostAt v c
 
-pub data TopActs (v : Sight) (l : ℕ) : Type 0 where
-  no_top : top v l ≡ None → TopActs v l
-  by_body : (c o a : ℕ) → top v l ≡ Some (Enters c o a) → TopActs v l
-
 abbrev pub RuleDeed : Sight → ℕ → Deed → Type 0
 RuleDeed v l (deed.Enter c o a t vs) = ((top v l ≡ Some (Waits c)) × (is_post (route_of (v.issue c)) ≡ false)) ⊎ (PostAt v c × OpenTop v l)
 RuleDeed v l (deed.Verdict c t x) = PostAt v c
@@ -67,101 +64,122 @@ RuleDeed v l (deed.Out c o i m r k bytes) = ⊥
 RuleDeed v l (deed.Pump n) = ⊥
 RuleDeed v l _ = Unit {0}
 
--- A deed that an action makes.
-abbrev pub IsAct : Deed → Type 0
-IsAct (deed.Enter c o a t vs) = ⊥
-IsAct (deed.Verdict c t x) = ⊥
-IsAct (deed.Retry c n) = ⊥
-IsAct (deed.Again c) = ⊥
-IsAct _ = Unit {0}
+-- A deed that an action makes; one that begins or ends a home where H holds.
+abbrev pub IsAct : Type 0 → Deed → Type 0
+IsAct H (deed.Enter c o a t vs) = ⊥
+IsAct H (deed.Verdict c t x) = ⊥
+IsAct H (deed.Retry c n) = ⊥
+IsAct H (deed.Again c) = ⊥
+IsAct H (deed.Init m a hr) = H
+IsAct H (deed.Uninit a n) = H
+IsAct H _ = Unit {0}
+
+abbrev pub HomeAct : Action → Type 0
+HomeAct (action.Init m) = Unit {0}
+HomeAct action.Uninit = Unit {0}
+HomeAct _ = ⊥
+
+-- A deed of a script, or of the body on top.
+pub data Acts (v : Sight) (l : ℕ) (d : Deed) : Type 0 where
+  no_top : top v l ≡ None → IsAct (Unit {0}) d → Acts v l d
+  by_body : (c o a : ℕ) → top v l ≡ Some (Enters c o a) → (x : Action) → v.act l ≡ Some x → IsAct (HomeAct x) d → Acts v l d
 
 -- A deed of a body or a script, or of a rule.
 abbrev pub Tops : Sight → ℕ → Deed → Type 0
-Tops v l d = (TopActs v l × IsAct d) ⊎ RuleDeed v l d
+Tops v l d = Acts v l d ⊎ RuleDeed v l d
 
 -- ---- actions
 
-made-act : (s : Scenario) (v : Sight) (k i : Asked) (r : Result Placed HResult) → IsAct (made_as s v k i r)
-made-act s v k i (Ok p) = tt
-made-act s v k i (Err hr) = tt
+made-act : (H : Type 0) (s : Scenario) (v : Sight) (k i : Asked) (r : Result Placed HResult) → IsAct H (made_as s v k i r)
+made-act H s v k i (Ok p) = tt
+made-act H s v k i (Err hr) = tt
 
-created_of-act : (s : Scenario) (v : Sight) (l a : ℕ) (k i : Asked) (c : Option ℕ) → IsAct (created_of s v l a k i c (interface_number s i))
-created_of-act s v l a k i None = tt
-created_of-act s v l a k i (Some c) = made-act s v k i (placing (creator v l a) c (interface_number s i) (class_at s.classes c))
+created_of-act : (H : Type 0) (s : Scenario) (v : Sight) (l a : ℕ) (k i : Asked) (c : Option ℕ) → IsAct H (created_of s v l a k i c (interface_number s i))
+created_of-act H s v l a k i None = tt
+created_of-act H s v l a k i (Some c) = made-act H s v k i (placing (creator v l a) c (interface_number s i) (class_at s.classes c))
 
-created-act : (s : Scenario) (v : Sight) (l : ℕ) (k i : Asked) (home : Option ℕ) → IsAct (created s v l k i home)
-created-act s v l k i None = tt
-created-act s v l k i (Some a) = created_of-act s v l a k i (class_number s k)
+created-act : (H : Type 0) (s : Scenario) (v : Sight) (l : ℕ) (k i : Asked) (home : Option ℕ) → IsAct H (created s v l k i home)
+created-act H s v l k i None = tt
+created-act H s v l k i (Some a) = created_of-act H s v l a k i (class_number s k)
 
-called-act : (s : Scenario) (v : Sight) (l : ℕ) (held : Option RefValue) (i x : ℕ) (args : List Value) (hr : Option HResult) → IsAct (called s v l held i x args hr)
-called-act s v l held i x args (Some hr) = tt
-called-act s v l held i x args None = tt
+called-act : (H : Type 0) (s : Scenario) (v : Sight) (l : ℕ) (held : Option RefValue) (i x : ℕ) (args : List Value) (hr : Option HResult) → IsAct H (called s v l held i x args hr)
+called-act H s v l held i x args (Some hr) = tt
+called-act H s v l held i x args None = tt
 
-marshalled-act : (s : Scenario) (v : Sight) (l : ℕ) (x : MarshalMode) (held : Option RefValue) (hr : Option HResult) → IsAct (marshalled s v l x held hr)
-marshalled-act s v l x held (Some hr) = tt
-marshalled-act s v l x None None = tt
-marshalled-act s v l x (Some r) None = tt
+marshalled-act : (H : Type 0) (s : Scenario) (v : Sight) (l : ℕ) (x : MarshalMode) (held : Option RefValue) (hr : Option HResult) → IsAct H (marshalled s v l x held hr)
+marshalled-act H s v l x held (Some hr) = tt
+marshalled-act H s v l x None None = tt
+marshalled-act H s v l x (Some r) None = tt
 
-registered-act : (v : Sight) (held : Option RefValue) (hr : Option HResult) → IsAct (registered v held hr)
-registered-act v held (Some hr) = tt
-registered-act v held None = tt
+registered-act : (H : Type 0) (v : Sight) (held : Option RefValue) (hr : Option HResult) → IsAct H (registered v held hr)
+registered-act H v held (Some hr) = tt
+registered-act H v held None = tt
 
-unmarshalled-act : (v : Sight) (l : ℕ) (n : Named) → IsAct (unmarshalled v l n)
-unmarshalled-act v l (NamesPacket p) = tt
-unmarshalled-act v l (Refuses hr) = tt
+unmarshalled-act : (H : Type 0) (v : Sight) (l : ℕ) (n : Named) → IsAct H (unmarshalled v l n)
+unmarshalled-act H v l (NamesPacket p) = tt
+unmarshalled-act H v l (Refuses hr) = tt
 
-dropped-act : (n : Named) → IsAct (dropped n)
-dropped-act (NamesPacket p) = tt
-dropped-act (Refuses hr) = tt
+dropped-act : (H : Type 0) (n : Named) → IsAct H (dropped n)
+dropped-act H (NamesPacket p) = tt
+dropped-act H (Refuses hr) = tt
 
-got-act : (v : Sight) (l : ℕ) (x : ℤ) (home : Option ℕ) → IsAct (got v l x home)
-got-act v l x None = tt
-got-act v l x (Some b) =
+got-act : (H : Type 0) (v : Sight) (l : ℕ) (x : ℤ) (home : Option ℕ) → IsAct H (got v l x home)
+got-act H v l x None = tt
+got-act H v l x (Some b) =
     let k : Cookie = cookie v.books (cookie_number x) in
-    cond-is IsAct k.revoked (deed.Get x None 0 E_INVALIDARG) (got_with v l x k) tt
-    (cond-is IsAct (v.books.live k.object) (deed.Get x (Some (reference k.object k.iface)) (gained_refs marshal.Strong (owned_by v l k.object) 0) S_OK) (deed.Get x None 0 CO_E_OBJNOTCONNECTED) tt tt)
+    cond-is (IsAct H) k.revoked (deed.Get x None 0 E_INVALIDARG) (got_with v l x k) tt
+    (cond-is (IsAct H) (v.books.live k.object) (deed.Get x (Some (reference k.object k.iface)) (gained_refs marshal.Strong (owned_by v l k.object) 0) S_OK) (deed.Get x None 0 CO_E_OBJNOTCONNECTED) tt tt)
 
-revoked-act : (v : Sight) (x : ℤ) (home : Option ℕ) → IsAct (revoked v x home)
-revoked-act v x None = tt
-revoked-act v x (Some b) = tt
+revoked-act : (H : Type 0) (v : Sight) (x : ℤ) (home : Option ℕ) → IsAct H (revoked v x home)
+revoked-act H v x None = tt
+revoked-act H v x (Some b) = tt
 
-left-act : (s : Scenario) (v : Sight) (l c : ℕ) (i : Option Issue) (hr : HResult) (x : Option Value) → IsAct (left_as s v l c i hr x)
-left-act s v l c None hr x = tt
-left-act s v l c (Some i) hr x = tt
+left-act : (H : Type 0) (s : Scenario) (v : Sight) (l c : ℕ) (i : Option Issue) (hr : HResult) (x : Option Value) → IsAct H (left_as s v l c i hr x)
+left-act H s v l c None hr x = tt
+left-act H s v l c (Some i) hr x = tt
 
-left-by-act : (s : Scenario) (v : Sight) (l : ℕ) (hr : HResult) (x : Option Value) (c : Option ℕ) → IsAct (left_by s v l hr x c)
-left-by-act s v l hr x None = tt
-left-by-act s v l hr x (Some c) = left-act s v l c (v.issue c) hr x
+left-by-act : (H : Type 0) (s : Scenario) (v : Sight) (l : ℕ) (hr : HResult) (x : Option Value) (c : Option ℕ) → IsAct H (left_by s v l hr x c)
+left-by-act H s v l hr x None = tt
+left-by-act H s v l hr x (Some c) = left-act H s v l c (v.issue c) hr x
 
-initialised-act : (v : Sight) (x : Mode) (home : Option ℕ) → IsAct (initialised v x home)
+initialised-act : (v : Sight) (x : Mode) (home : Option ℕ) → IsAct (Unit {0}) (initialised v x home)
 initialised-act v x None = tt
 initialised-act v x (Some a) = tt
 
-deed-act : (s : Scenario) (v : Sight) (l : ℕ) (a : Action) → IsAct (deed_of s v l a)
-deed-act s v l (action.Create slot k i) = created-act s v l k i (v.home l)
+deed-act : (s : Scenario) (v : Sight) (l : ℕ) (a : Action) → IsAct (HomeAct a) (deed_of s v l a)
+deed-act s v l (action.Create slot k i) = created-act ⊥ s v l k i (v.home l)
 deed-act s v l (action.Query to held i) = tt
 deed-act s v l (action.Copy to held) = tt
 deed-act s v l (action.Release from held) = tt
-deed-act s v l (action.Call held i x args to) = called-act s v l held i x args (call_refusal s (v.home l) (v.running l) v.owns v.books.live held i x)
-deed-act s v l (action.Marshal b held x) = marshalled-act s v l x held (hold_refusal v (v.home l) held)
-deed-act s v l (action.Unmarshal slot b) = unmarshalled-act v l (named_by s v (v.home l) (v.buffers b))
-deed-act s v l (action.Drop b) = dropped-act (named_by s v (v.home l) (v.buffers b))
+deed-act s v l (action.Call held i x args to) = called-act ⊥ s v l held i x args (call_refusal s (v.home l) (v.running l) v.owns v.books.live held i x)
+deed-act s v l (action.Marshal b held x) = marshalled-act ⊥ s v l x held (hold_refusal v (v.home l) held)
+deed-act s v l (action.Unmarshal slot b) = unmarshalled-act ⊥ v l (named_by s v (v.home l) (v.buffers b))
+deed-act s v l (action.Drop b) = dropped-act ⊥ (named_by s v (v.home l) (v.buffers b))
 deed-act s v l (action.Raw b bytes) = tt
-deed-act s v l (action.Register to held) = registered-act v held (hold_refusal v (v.home l) held)
-deed-act s v l (action.Get slot x) = got-act v l x (v.home l)
-deed-act s v l (action.Revoke x) = revoked-act v x (v.home l)
+deed-act s v l (action.Register to held) = registered-act ⊥ v held (hold_refusal v (v.home l) held)
+deed-act s v l (action.Get slot x) = got-act ⊥ v l x (v.home l)
+deed-act s v l (action.Revoke x) = revoked-act ⊥ v x (v.home l)
 deed-act s v l (action.Disconnect held) = tt
 deed-act s v l (action.Post m w) = tt
 deed-act s v l (action.Quit m) = tt
-deed-act s v l (action.Leave hr x) = left-by-act s v l hr x (running_call (v.openers l))
+deed-act s v l (action.Leave hr x) = left-by-act ⊥ s v l hr x (running_call (v.openers l))
 deed-act s v l (action.Init x) = initialised-act v x (v.home l)
 deed-act s v l action.Uninit = tt
 deed-act s v l (action.SetFilter f) = tt
 deed-act s v l (action.Pump k) = tt
 
-scripted-act : (s : Scenario) (v : Sight) (l : ℕ) (x : Option Action) → IsAct (scripted s v l x)
-scripted-act s v l None = cond-is IsAct (v.count l == 0) deed.End (uninitialised v l) tt tt
-scripted-act s v l (Some a) = deed-act s v l a
+scripted-act : (s : Scenario) (v : Sight) (l : ℕ) (x : Option Action) → IsAct (Unit {0}) (scripted s v l x)
+scripted-act s v l None = cond-is (IsAct (Unit {0})) (v.count l == 0) deed.End (uninitialised v l) tt tt
+scripted-act s v l (Some a) = act-any a (deed_of s v l a) (deed-act s v l a)
+  where
+    act-any : (a : Action) (d : Deed) → IsAct (HomeAct a) d → IsAct (Unit {0}) d
+    act-any a (deed.Init m x hr) p = tt
+    act-any a (deed.Uninit x n) p = tt
+    act-any a (deed.Enter c o y t vs) p = p
+    act-any a (deed.Verdict c y x) p = p
+    act-any a (deed.Retry c n) p = p
+    act-any a (deed.Again c) p = p
+    act-any a _ p = tt
 
 -- ---- rules with what they test
 
@@ -259,8 +277,8 @@ word-tops v l (Some (Pumps n)) = taken-tops v l (first (v.mail l).words) (v.quit
 word-tops v l (Some (Waits c)) = tt
 word-tops v l (Some (Enters c o b)) = tt
 
-script-top : (v : Sight) (l : ℕ) (sort : LaneSort) (o : Option Opener) (t : Bool) → top v l ≡ o → is_script_turn sort o t ≡ true → TopActs v l
-script-top v l Thread None t e p = no_top e
+script-top : (v : Sight) (l : ℕ) (sort : LaneSort) (o : Option Opener) (t : Bool) → top v l ≡ o → is_script_turn sort o t ≡ true → top v l ≡ None
+script-top v l Thread None t e p = e
 script-top v l Thread (Some x) t e p = cc
 script-top v l Host o t e p = cc
 script-top v l Pool o t e p = cc
@@ -278,13 +296,13 @@ ruled-tops s v l f =
     (given-or P (rule_again v l) _ (given-then P (λ c. posted_again v c (v.phase c)) (own_call v l) (λ c. again-tops v l c (v.phase c) refl))
     (given-or P (rule_pending s v l) _ (given-then P (λ c. asked_on s v l c (not_asked (mark_of (v.mail l).marks c) (v.mail l).words)) (own_call v l) (λ c. asked-tops s v l c (not_asked (mark_of (v.mail l).marks c) (v.mail l).words)))
     (given-or P (rule_word v l) (rule_script s v l) (word-tops v l (top v l))
-    (where-given P (is_script_turn (lane_sort s l) (top v l) (v.over l)) (scripted s v l (v.act l)) (λ e. inl (script-top v l (lane_sort s l) (top v l) (v.over l) refl e, scripted-act s v l (v.act l))))))))))))
+    (where-given P (is_script_turn (lane_sort s l) (top v l) (v.over l)) (scripted s v l (v.act l)) (λ e. inl (no_top (script-top v l (lane_sort s l) (top v l) (v.over l) refl e) (scripted-act s v l (v.act l)))))))))))))
 
 stepped-tops : (s : Scenario) (v : Sight) (l : ℕ) (o : Option Opener) → top v l ≡ o → ((a c : ℕ) → first (v.inbox a) ≡ Some c → PostAt v c) → Given (Tops v l) (stepped s v l o)
 stepped-tops s v l None e f = ruled-tops s v l f
 stepped-tops s v l (Some (Pumps n)) e f = ruled-tops s v l f
 stepped-tops s v l (Some (Waits c)) e f = ruled-tops s v l f
-stepped-tops s v l (Some (Enters c o a)) e f = given-map (Tops v l) (deed_of s v l) (v.act l) (λ x. inl (by_body c o a e, deed-act s v l x))
+stepped-tops s v l (Some (Enters c o a)) e f = given-found (Tops v l) (deed_of s v l) (v.act l) (λ x y. inl (by_body c o a e x y (deed-act s v l x)))
 
 ticks-tops : (v : Sight) (l : ℕ) (b d : Bool) (t : Option ℕ) → Given (Tops v l) (cond b (cond d (option_map (λ n. deed.Tick n) t) None) None)
 ticks-tops v l true true None = tt
@@ -341,15 +359,31 @@ no-issue-post : (i : Option Issue) → i ≡ None → is_post (route_of i) ≡ t
 no-issue-post None e p = cc
 no-issue-post (Some x) e p = cc
 
+not-again : (v : Sight) (l c : ℕ) → Acts v l (deed.Again c) → ⊥
+not-again v l c (no_top e p) = p
+not-again v l c (by_body k o a e x y p) = p
+
+not-retry : (v : Sight) (l c : ℕ) (n : ℤ) → Acts v l (deed.Retry c n) → ⊥
+not-retry v l c n (no_top e p) = p
+not-retry v l c n (by_body k o a e x y p) = p
+
+not-verdict : (v : Sight) (l c t : ℕ) (n : Verdict) → Acts v l (deed.Verdict c t n) → ⊥
+not-verdict v l c t n (no_top e p) = p
+not-verdict v l c t n (by_body k o a e x y p) = p
+
+pub not-enter : (v : Sight) (l c o a : ℕ) (t : Option ℕ) (vs : List Value) → Acts v l (deed.Enter c o a t vs) → ⊥
+not-enter v l c o a t vs (no_top e p) = p
+not-enter v l c o a t vs (by_body k u b e x y p) = p
+
 phase-step : (s : Scenario) (h : List Entry) (l now : ℕ) (d : Deed) (c : ℕ) → Tops (sight s h) l d → ((j : ℕ) → IsPosted (phase h j) → is_post (route_of (issue h j)) ≡ true) → (calls h + 1 ≤ c → issue h c ≡ None) → ((k : ℕ) (o : Option ℕ) (i m : ℕ) (r : Route) (cause : ℕ) (bytes : Option (List ℕ)) → d ≡ deed.Out k o i m r cause bytes → k ≡ calls h + 1) → IsPosted (phase_after (post_effect d) now c (phase h c)) → is_post (route_of (issue_or (issues l d) c (issue h c))) ≡ true
 phase-step s h l now (deed.Out k o i m route.Post cause bytes) c t f g n q =
     elim (k == c) as (λ b. (k == c) ≡ b → IsPosted (cond b Queued (phase h c)) → is_post (route_of (cond b (Some (record { call = k; lane = l; object = o; iface = i; method = m; route = route.Post; cause = cause })) (issue h c))) ≡ true) [ true ↦ λ e q. refl | false ↦ λ e q. f c q ] refl q
 phase-step s h l now (deed.Out k o i m route.Direct cause bytes) c t f g n q = not-unissued s h l (deed.Out k o i m route.Direct cause bytes) c (phase h c) (f c) (λ p r. no-issue-post (issue h c) (g p) (f c r)) n q
 phase-step s h l now (deed.Out k o i m route.Switch cause bytes) c t f g n q = not-unissued s h l (deed.Out k o i m route.Switch cause bytes) c (phase h c) (f c) (λ p r. no-issue-post (issue h c) (g p) (f c r)) n q
 phase-step s h l now (deed.Out k o i m route.Refused cause bytes) c t f g n q = not-unissued s h l (deed.Out k o i m route.Refused cause bytes) c (phase h c) (f c) (λ p r. no-issue-post (issue h c) (g p) (f c r)) n q
-phase-step s h l now (deed.Again k) c (inl t) f g n q = absurd t.1
+phase-step s h l now (deed.Again k) c (inl t) f g n q = absurd (not-again (sight s h) l k t)
 phase-step s h l now (deed.Again k) c (inr t) f g n q = posted-if k c Queued (phase h c) (is_post (route_of (issue h c))) (λ e. subst (λ (j : ℕ). is_post (route_of (issue h j)) ≡ true) e (f k t)) (f c) q
-phase-step s h l now (deed.Retry k x) c (inl t) f g n q = absurd t.1
+phase-step s h l now (deed.Retry k x) c (inl t) f g n q = absurd (not-retry (sight s h) l k x t)
 phase-step s h l now (deed.Retry k (negsuc x)) c (inr t) f g n q = posted-if k c GivenUp (phase h c) (is_post (route_of (issue h c))) (λ e. subst (λ (j : ℕ). is_post (route_of (issue h j)) ≡ true) e (f k t)) (f c) q
 phase-step s h l now (deed.Retry k (pos x)) c (inr t) f g n q = by-test (nat_lt x 100) q
   where
@@ -358,7 +392,7 @@ phase-step s h l now (deed.Retry k (pos x)) c (inr t) f g n q = by-test (nat_lt 
     by-test : (b : Bool) → IsPosted (phase_after (cond b (Posts k) (Delays k x)) now c (phase h c)) → is_post (route_of (issue h c)) ≡ true
     by-test true q = posted-if k c Queued (phase h c) (is_post (route_of (issue h c))) own (f c) q
     by-test false q = posted-if k c (Delayed (now + x)) (phase h c) (is_post (route_of (issue h c))) own (f c) q
-phase-step s h l now (deed.Verdict k y x) c (inl t) f g n q = absurd t.1
+phase-step s h l now (deed.Verdict k y x) c (inl t) f g n q = absurd (not-verdict (sight s h) l k y x t)
 phase-step s h l now (deed.Verdict k y x) c (inr t) f g n q = posted-if k c (Judged x) (phase h c) (is_post (route_of (issue h c))) (λ e. subst (λ (j : ℕ). is_post (route_of (issue h j)) ≡ true) e t) (f c) q
 phase-step s h l now _ c t f g n q = f c q
 
