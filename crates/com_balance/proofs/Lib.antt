@@ -17,3 +17,4 @@ pub mod Packets
 pub mod Sendings
 pub mod Leavings
 pub mod Tops
+pub mod Homes
