@@ -18,3 +18,4 @@ pub mod Sendings
 pub mod Leavings
 pub mod Tops
 pub mod Homes
+pub mod Bases

@@ -88,7 +88,7 @@ all-written : (S B K : ℕ → RefValue → Type 0) (a : Actor) (w : Scene) (xs 
 all-written S B K a w [] q g = g
 all-written S B K a w (x ∷ xs) q g = all-written S B K a (written a w x) xs q.1 (written-by S B K a w x q.0 g)
 
-written-to : (a : Actor) (w : Scene) (x : Write) → (written a w x).destinations ≡ w.destinations
+pub written-to : (a : Actor) (w : Scene) (x : Write) → (written a w x).destinations ≡ w.destinations
 written-to (Body c o) w (ToRegister r v) = refl
 written-to (Body c o) w (ToSlot k held) = refl
 written-to (Body c o) w (ToLink k held) = refl
@@ -99,7 +99,7 @@ written-to (Script l) w (ToLink k held) = refl
 written-to (Script l) w (ToBuffer b bytes) = refl
 written-to Nobody w x = refl
 
-all-written-to : (a : Actor) (w : Scene) (xs : List Write) → (fold (written a) w xs).destinations ≡ w.destinations
+pub all-written-to : (a : Actor) (w : Scene) (xs : List Write) → (fold (written a) w xs).destinations ≡ w.destinations
 all-written-to a w [] = refl
 all-written-to a w (x ∷ xs) = all-written-to a (written a w x) xs ∙ written-to a w x
 
@@ -191,7 +191,7 @@ acted-by s S B K I L a None d w h q t g = g
 acted-by s S B K I L a (Some r) d w h q t g =
     wants-by S B K r.action d _ (all-written S B K a (with_frame a r w) (writes r.action d) (action-writes s S B K I L a r.action d h (out-action s S B I L a w r q) t) (framed-by s S B K I L a r w q g))
 
-framed-to : (a : Actor) (r : Outcome) (w : Scene) → (with_frame a r w).destinations ≡ w.destinations
+pub framed-to : (a : Actor) (r : Outcome) (w : Scene) → (with_frame a r w).destinations ≡ w.destinations
 framed-to (Body c o) r w = refl
 framed-to (Script l) r w = refl
 framed-to Nobody r w = refl
@@ -212,7 +212,7 @@ body-out : (s : Scenario) (I L : Type 0) (P : RefValue → Type 0) (k : ℕ) (i 
 body-out s I L P k None f c o g e = step-by s I L P [] f c (All-nil (Orderly s I L)) g e
 body-out s I L P k (Some x) f c o g e = step-by s I L P (body_of s.classes k x.iface x.method) f c (o x.iface x.method) g e
 
-outcome-by : (s : Scenario) (S B K : ℕ → RefValue → Type 0) (I L : Type 0) (k : ℕ → ℕ) (i : ℕ → Option Issue) (a : Actor) (w : Scene) → Shares S B K I L a → OrderlyActor s k i I L a → SceneBy S B K w → OutBy s S B I L a w (outcome s k i w a)
+pub outcome-by : (s : Scenario) (S B K : ℕ → RefValue → Type 0) (I L : Type 0) (k : ℕ → ℕ) (i : ℕ → Option Issue) (a : Actor) (w : Scene) → Shares S B K I L a → OrderlyActor s k i I L a → SceneBy S B K w → OutBy s S B I L a w (outcome s k i w a)
 outcome-by s S B K I L k i (Body c o) w h p g = body-out s I L (B c) (k o) (i c) (w.bodies c) (w.cells o) p (g.bodies c) (links-more (K o) (B c) (w.cells o).links h.0 (g.links o))
 outcome-by s S B K I L k i (Script l) w h p g = step-by s I L (S l) (script s l) (w.scripts l) new_cells p (g.scripts l) (new-links (S l))
 outcome-by s S B K I L k i Nobody w h p g = tt
