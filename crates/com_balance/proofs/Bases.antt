@@ -1,56 +1,46 @@
 -- What is known of the scene of every legal history of a formed scenario, beside the numbers in `Keeps`: a script without home, a
 -- call that was not admitted and an agile object hold no references, registers hold none, and results fit their destinations.
 use Rattle.std.proofs.Common.{subst, sym, ap, ◌∙◌, ◌⊎◌, inl, inr, eqb-true, arith}
-use Rattle.std.proofs.lemmas.Bool.{false_from_ne_true, leb-true, leb-false}
-use Rattle.std.proofs.lemmas.List.Elements.{All-replicate, All-nil}
 use Rattle.std.proofs.lemmas.Grind.{common_steps}
-use Rattle.std.specs.Prelude.{◌≡◌, refl, ℕ, zero, suc, ◌+◌, ◌≤◌, ◌<◌, Bool, true, false, cond, ◌==◌, nat_le, List, [], ◌∷◌, Option, Some, None, is_some, All, fold, replicate, slice_index_or}
+use Rattle.std.specs.Prelude.{◌≡◌, refl, ℕ, zero, suc, ◌≤◌, Bool, true, false, cond, ◌==◌, List, [], ◌∷◌, Option, Some, None, is_some, slice_index_or}
 use Rattle.com_base.specs.declared.hresult.HResult.{HResult}
 use Rattle.com_base.specs.declared.value.RefValue.{RefValue}
+use Rattle.com_base.specs.declared.value.Kind.{Kind}
 use Rattle.com_base.specs.declared.value.Value.{Value}
 use Rattle.com_base.specs.declared.value.Value.TheVariants as value
 use Rattle.com_body.specs.declared.operands.Destination.{Destination}
 use Rattle.com_body.specs.declared.operands.Destination.TheVariants as destination
 use Rattle.com_body.specs.declared.actions.Action.{Action}
 use Rattle.com_body.specs.declared.actions.Action.TheVariants as action
-use Rattle.com_body.specs.declared.frame.Cells.{Cells}
 use Rattle.com_body.specs.declared.frame.Outcome.{Outcome}
-use Rattle.com_body.specs.Frames.{FrameView, entered}
-use Rattle.com_classes.specs.Lookups.{method_at}
 use Rattle.com_model.specs.declared.deeds.Deed.{Deed}
 use Rattle.com_model.specs.declared.deeds.Deed.TheVariants as deed
 use Rattle.com_model.specs.declared.deeds.Entry.{Entry}
-use Rattle.com_model.specs.declared.deeds.Route.{Route}
-use Rattle.com_model.specs.declared.deeds.Route.TheVariants as route
 use Rattle.com_model.specs.declared.scenario.Scenario.{Scenario}
 use Rattle.com_model.specs.Answers.{S_OK}
-use Rattle.com_model.specs.Lists.{first, put, or_else}
-use Rattle.com_model.specs.Tables.{LaneSort, Thread, Host, Pool, NoLane, lane_sort, result_kind}
-use Rattle.com_model.specs.Openers.{Opener, Pumps, Waits, Enters, Effect, Opens, Keeps, effect, effect_on, openers}
-use Rattle.com_model.specs.Apartments.{Remains, home_effect, home, ends_sta}
-use Rattle.com_model.specs.Objects.{objects, agile, class_of, named}
-use Rattle.com_model.specs.Calls.{Issue, Admission, issues, issue_or, issue, admitted, admission_or, admits, calls, target}
-use Rattle.com_model.specs.Frames.{Scene, new_cells, scene, Actor, Body, Script, Nobody, script_of, actor, actor_in, outcome, unless_over, taken_in, value_reference, to_answer, to_destination, written, with_frame, writes, wants, acted, arrived, cut_links, acting, act_by, act, action_of}
-use Rattle.com_model.specs.Endings.{Ending, ByLeave, AtIssue, ending, ends, end_effect, filtered, can_be_cut}
+use Rattle.com_model.specs.Lists.{first}
+use Rattle.com_model.specs.Tables.{LaneSort, Thread, Host, Pool, NoLane, lane_sort}
+use Rattle.com_model.specs.Openers.{Opener, Pumps, Waits, Enters, openers}
+use Rattle.com_model.specs.Apartments.{Remains, home_effect, home}
+use Rattle.com_model.specs.Objects.{objects, agile, class_of}
+use Rattle.com_model.specs.Calls.{Issue, issues, issue, admitted, admission_or, admits}
+use Rattle.com_model.specs.Frames.{Scene, scene, Actor, Body, Script, Nobody, actor, actor_in, taken_in, value_reference, to_answer, to_destination, with_frame, writes, wants, acted, arrived, cut_links, acting, act_by, act}
+use Rattle.com_model.specs.Endings.{Ending, ByLeave, ending}
 use Rattle.com_model.specs.Sight.{sight}
-use Rattle.com_model.specs.Rules.{top, legal}
+use Rattle.com_model.specs.Books.{books}
+use Rattle.com_model.specs.Rules.{result_gone, legal}
 use Rattle.com_model.specs.Formed.{Formed}
-use Rattle.com_model.specs.State.{Bounded}
-use Rattle.com_model.proofs.Goods.{IsPlain}
-use Rattle.com_model.proofs.Kept.{legal-bounded}
-use Rattle.com_model.proofs.Comes.{next-comes}
-use Rattle.com_model.proofs.Stacks.{back-own}
-use Rattle.com_balance.proofs.Carries.{HeldBy, ValueBy, PlaceBy, FitsTo, PlainKind, Orderly, ActionBy, FrameBy, OutcomeBy}
-use Rattle.com_balance.proofs.Moves.{SceneBy, TestOf, Shares, OrderlyActor, OutBy, ArrivesBy, PlainAt, acting-is, scene-by, outcome-by, written-to, all-written-to, framed-to}
+use Rattle.com_balance.proofs.Carries.{HeldBy, ValueBy, FitsTo, PlainKind, ActionBy}
+use Rattle.com_balance.proofs.Moves.{SceneBy, TestOf, Shares, OrderlyActor, ArrivesBy, PlainAt, acting-is, outcome-by, written-to, all-written-to, framed-to}
 use Rattle.com_balance.proofs.Counts.{Among}
 use Rattle.com_balance.proofs.Orders.{script-orderly, body-orderly}
-use Rattle.com_balance.proofs.Keeps.{Kept, legal-kept}
-use Rattle.com_balance.proofs.Stacks.{admission_in, open-admitted, still-admitted}
+use Rattle.com_balance.proofs.Keeps.{legal-kept}
+use Rattle.com_balance.proofs.Stacks.{admission_in, open-admitted}
 use Rattle.com_balance.proofs.Makings.{among-made, same-agile}
-use Rattle.com_balance.proofs.Results.{kind_of, PlainResult, NotLeft, EndBy, ends-plain, not-left, out-number, same-issue}
-use Rattle.com_balance.proofs.Says.{Says, OutSays, next-says, iface_of, method_of}
-use Rattle.com_balance.proofs.Tops.{Acts, no_top, by_body, HomeAct, IsAct, RuleDeed, Tops, next-tops}
-use Rattle.com_balance.proofs.Homes.{among-any, home-remains, home-other, home-own, EndsHome, home-ends, held-all, taken-homed, admitted-none}
+use Rattle.com_balance.proofs.Results.{kind_of, PlainResult, NotLeft, EndBy, ends-plain}
+use Rattle.com_balance.proofs.Says.{Says, next-says}
+use Rattle.com_balance.proofs.Tops.{no_top, by_body, HomeAct, Tops, next-tops}
+use Rattle.com_balance.proofs.Homes.{home-remains, home-other, held-all, taken-homed, admitted-none}
 
 abbrev S0 : Scenario → List Entry → ℕ → RefValue → Type 0
 S0 s h l r = home s h l ≡ None → ⊥
@@ -175,3 +165,95 @@ home-stays s h e f q b l o m =
       | true ↦ λ z. home-remains s h e l (remains-by s h f q.0 b e.lane e.deed (next-tops s h e q) (subst (λ (k : ℕ). first (openers h k) ≡ None → ⊥) (sym (eqb-true e.lane l z)) (not-empty o (openers h l) m)))
       | false ↦ λ z. home-other s h e l z
     ] refl
+
+-- ---- one entry: references
+
+value-any : (P : RefValue → Type 0) → ((r : RefValue) → P r) → (v : Value) → ValueBy P v
+value-any P f (value.Ref held) = held-all P held f
+value-any P f (value.Int x) = tt
+value-any P f (value.Bool x) = tt
+value-any P f (value.Text x) = tt
+value-any P f (value.Bytes x) = tt
+value-any P f (value.Guid x) = tt
+
+pub Acting : Scenario → List Entry → Entry → Actor → Type 0
+Acting s h e a = Shares (S0 s h) (B0 (e ∷ h)) (K0 s (e ∷ h)) (I_of a) (L_of s h a) a × OrderlyActor s (class_of h) (issue h) (I_of a) (L_of s h a) a × HeldBy (TestOf (S0 s h) (B0 (e ∷ h)) a) (taken_in e.deed)
+
+acting-base : (s : Scenario) (h : List Entry) (e : Entry) → Formed s → legal s (e ∷ h) → Acting s h e (acting s (class_of h) (issue h) (scene s h) (actor_in s h e.lane) e.deed)
+unfolding Acting
+acting-base s h e f q =
+    acting-is (Acting s h e) s (class_of h) (issue h) (scene s h) (actor_in s h e.lane) e.deed
+    (actor-is (Acting s h e) (lane_sort s e.lane) e.lane (openers h e.lane)
+    (λ c o a rest p. let m : Among (Enters c o a) (openers h e.lane) = top-among c o a (openers h e.lane) rest p in
+    let n : (r : RefValue) → B0 (e ∷ h) c r = λ r z. open-some s h q.0 e.lane c o a m (admitted-none (admits e.lane e.deed) c (admitted h c) z) in
+    ((λ r k. n r, λ p r b. same-agile s h e o f q (open-made s h f q.0 e.lane c o a m) ∙ p), actor-orderly s h f (Body c o), held-all (B0 (e ∷ h) c) (taken_in e.deed) n))
+    (λ p. (tt, actor-orderly s h f (Script e.lane), taken-homed s (sight s h) e.lane e.deed (next-says s h e.lane e.deed q.1)))
+    (tt, tt, held-all (λ r. Unit {0}) (taken_in e.deed) (λ r. tt)))
+    (tt, tt, held-all (λ r. Unit {0}) (taken_in e.deed) (λ r. tt))
+
+-- What an entry does to where results go.
+wants-same : (x : Action) (l : ℕ) (d : Deed) (w : Scene) → issues l d ≡ None → (wants x d w).destinations ≡ w.destinations
+wants-same (action.Call held i m args to) l (deed.Out c o j n r k bytes) w e = cc
+wants-same (action.Call held i m args to) l _ w e = refl
+wants-same _ l d w e = refl
+
+acted-same : (a : Actor) (r : Option Outcome) (l : ℕ) (d : Deed) (w : Scene) → issues l d ≡ None → (acted a r d w).destinations ≡ w.destinations
+acted-same a None l d w e = refl
+acted-same a (Some r) l d w e = wants-same r.action l d _ e ∙ all-written-to a (with_frame a r w) (writes r.action d) ∙ framed-to a r w
+
+cut-to : (n : ℕ → ℕ) (x : Option ℕ) (w : Scene) → (cut_links n x w).destinations ≡ w.destinations
+cut-to n None w = refl
+cut-to n (Some a) w = refl
+
+arrived-to : (b : Actor) (l : ℕ) (d : Deed) (w : Scene) → (arrived b l d w).destinations ≡ w.destinations
+arrived-to b l (deed.Back c hr v) w = all-written-to b w (to_answer hr ∷ to_destination (w.destinations c) v)
+arrived-to b l deed.EndPump w = written-to b w (to_answer S_OK)
+arrived-to b l (deed.Uninit a zero) w = refl
+arrived-to b l (deed.Uninit a (suc n)) w = refl
+arrived-to b l _ w = refl
+
+first-among : (os : List Opener) (o : Opener) → first os ≡ Some o → Among o os
+first-among [] o e = cc
+first-among (x ∷ os) o e = inl (same x o e)
+  where
+    same : (x o : Opener) → Some x ≡ Some o → x ≡ o
+    same x o e = cc
+
+plain-at : (k : Option Kind) (x : Destination) (v : Option Value) → FitsTo k x → (PlainKind k → PlainResult v) → PlainAt x v
+plain-at k (destination.Register r) (Some v) f p = p f
+plain-at k (destination.Register r) None f p = tt
+plain-at k (destination.Slot n) v f p = tt
+plain-at k destination.Nowhere v f p = tt
+
+none-plain : (x : Destination) (v : Option Value) → v ≡ None → PlainAt x v
+none-plain (destination.Register r) None e = tt
+none-plain (destination.Register r) (Some v) e = cc
+none-plain (destination.Slot n) v e = tt
+none-plain destination.Nowhere v e = tt
+
+none-held : (P : RefValue → Type 0) (v : Option Value) → v ≡ None → HeldBy P (value_reference v)
+none-held P v e = subst (λ (x : Option Value). HeldBy P (value_reference x)) (sym e) tt
+
+back-homed : (s : Scenario) (h : List Entry) (l c : ℕ) (hr : HResult) (v : Option Value) → (v ≡ None) ⊎ (ending s h c ≡ Some (ByLeave hr v)) → Ended (ending s h c) ⊎ (home s h l ≡ None → ⊥) → HeldBy (λ r. home s h l ≡ None → ⊥) (value_reference v)
+back-homed s h l c hr v (inl e) p = none-held (λ r. home s h l ≡ None → ⊥) v e
+back-homed s h l c hr v (inr e) (inl p) = absurd (subst NotLeft e p.1)
+back-homed s h l c hr v (inr e) (inr p) = held-all (λ r. home s h l ≡ None → ⊥) (value_reference v) (λ r. p)
+
+arrives-base : (s : Scenario) (h : List Entry) (e : Entry) (d : Deed) (x : ℕ → Destination) (b : Actor) → legal s h → Base s h → ((c : ℕ) → x c ≡ (scene s h).destinations c) → Says s (sight s h) e.lane d → e.deed ≡ d → ((c : ℕ) (hr : HResult) (v : Option Value) → d ≡ deed.Back c hr v → Among (Waits c) (openers h e.lane)) → ((v : Option Value) → HeldBy (λ r. home s h e.lane ≡ None → ⊥) (value_reference v) → HeldBy (TestOf (S0 s h) (B0 (e ∷ h)) b) (value_reference v)) → ArrivesBy (S0 s h) (B0 (e ∷ h)) x b d
+arrives-base s h e (deed.Enter c o a t vs) x b q g dest z p m f = λ k u y. value-any (B0 (e ∷ h) c) (λ r. entered-some) (slice_index_or vs k u)
+  where
+    entered-some : admitted (e ∷ h) c ≡ None → ⊥
+    entered-some w = some-none (admitted (e ∷ h) c) (admission_in c e.lane a) (subst (λ (y : Deed). admission_or (admits e.lane y) c (admitted h c) ≡ Some (admission_in c e.lane a)) (sym p) (ap (λ (t : Bool). cond t (Some (admission_in c e.lane a)) (admitted h c)) (same-number c))) w
+      where
+        same-number : (n : ℕ) → (n == n) ≡ true
+        same-number n = grind (arith, common_steps)
+arrives-base s h e (deed.Back c hr v) x b q g dest z p m f = (f v (back-homed s h e.lane c hr v (answer z.1) (g.homed e.lane c (m c hr v refl))), by-answer (answer z.1))
+  where
+    answer : (v ≡ None) ⊎ ((ending s h c ≡ Some (ByLeave hr v)) × (result_gone (sight s h) c ((books s h).result c) ≡ false)) → (v ≡ None) ⊎ (ending s h c ≡ Some (ByLeave hr v))
+    answer (inl y) = inl y
+    answer (inr y) = inr y.0
+
+    by-answer : (v ≡ None) ⊎ (ending s h c ≡ Some (ByLeave hr v)) → PlainAt (x c) v
+    by-answer (inl y) = none-plain (x c) v y
+    by-answer (inr y) = plain-at (kind_of s (issue h c)) (x c) v (subst (FitsTo (kind_of s (issue h c))) (sym (dest c)) (g.fits c)) (subst (EndBy (kind_of s (issue h c))) y (ends-plain s h c q))
+arrives-base s h e _ x b q g dest z p m f = tt

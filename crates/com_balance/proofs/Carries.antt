@@ -1,9 +1,9 @@
 -- References that pass a test, in frames, links and values. A body step keeps slots and links, and its action has but references
 -- of the slots and links, where registers hold none.
-use Rattle.std.proofs.Common.{subst, sym, ap, ◌∙◌, arith}
+use Rattle.std.proofs.Common.{subst, sym, ◌∙◌, arith}
 use Rattle.std.proofs.lemmas.List.Elements.{All-set, All-map, All-drop, All-append, All-replicate, All-cons, All-nil}
 use Rattle.std.proofs.lemmas.Grind.{common_steps}
-use Rattle.std.specs.Prelude.{◌≡◌, refl, ℕ, zero, suc, ◌+◌, ◌≤◌, ◌<◌, Bool, true, false, pos, List, [], ◌∷◌, ◌++◌, length, drop, Option, Some, None, All, slice_index_or}
+use Rattle.std.specs.Prelude.{◌≡◌, refl, ℕ, zero, suc, ◌+◌, pos, List, [], ◌∷◌, drop, Option, Some, None, All}
 use Rattle.com_base.specs.declared.value.RefValue.{RefValue}
 use Rattle.com_base.specs.declared.value.Kind.{Kind}
 use Rattle.com_base.specs.declared.value.Kind.TheVariants as kind
@@ -26,7 +26,7 @@ use Rattle.com_body.specs.declared.actions.Action.TheVariants as action
 use Rattle.com_body.specs.declared.frame.Cells.{Cells}
 use Rattle.com_body.specs.declared.frame.Outcome.{Outcome}
 use Rattle.com_body.specs.Frames.{FrameView, with_register, moved, entered, plain_values, references, no_number}
-use Rattle.com_body.specs.Operands.{register_of, slot_of, value_of, held_at, argument_of, arguments_of, given_value}
+use Rattle.com_body.specs.Operands.{slot_of, value_of, held_at, argument_of, given_value}
 use Rattle.com_body.specs.BodySteps.{Effect, Goes, Acts, effect_of, walk, body_step}
 use Rattle.com_classes.specs.Lookups.{method_at}
 use Rattle.com_model.specs.declared.scenario.Scenario.{Scenario}

@@ -1,5 +1,5 @@
 -- Where some place passes a test there is a reference that does, and each reference counts as a place.
-use Rattle.std.proofs.Common.{subst, sym, ap, ◌∙◌, ◌⊎◌, inl, inr, eqb-true, arith}
+use Rattle.std.proofs.Common.{subst, sym, ap, ◌⊎◌, inl, inr, eqb-true, arith}
 use Rattle.std.proofs.lemmas.List.Sums.{sum_by-cons}
 use Rattle.std.proofs.lemmas.Grind.{common_steps}
 use Rattle.std.specs.Prelude.{◌≡◌, refl, ℕ, zero, suc, ◌+◌, ◌≤◌, ◌<◌, Bool, true, false, cond, not, ◌==◌, ◌&&◌, List, [], ◌∷◌, Option, Some, None, slice_index_or, sum_by}
@@ -210,5 +210,5 @@ place-counts s g w a t r (of_link x k h n e) p =
     omega (arith, q)
 place-counts s g w a t r (of_result c h d m n e) p =
     let q : 1 ≤ in_results g a t = term-sum (g.calls + 1) c (in_result g a t) (omega (arith, h)) (one-cond (is_direct (route_of (g.issue c)) && (entered_in a (g.admitted c) && not (g.returned c))) (passes t (value_reference (left_value (g.left c)))) (both-true (is_direct (route_of (g.issue c))) (entered_in a (g.admitted c) && not (g.returned c)) d (both-true (entered_in a (g.admitted c)) (not (g.returned c)) m (true-not (g.returned c) n)))
-        (subst (λ (x : Option RefValue). 1 ≤ passes t x) (sym e) (one-count (t r) p))) in
+    (subst (λ (x : Option RefValue). 1 ≤ passes t x) (sym e) (one-count (t r) p))) in
     omega (arith, q)

@@ -1,6 +1,6 @@
 -- What an entry does to a lane's home.
-use Rattle.std.proofs.Common.{subst, sym, ap, ◌∙◌, ◌⊎◌, inl, inr, eqb-true, arith}
-use Rattle.std.specs.Prelude.{◌≡◌, refl, ℕ, zero, suc, Bool, true, false, cond, ◌==◌, List, [], ◌∷◌, Option, Some, None, is_none}
+use Rattle.std.proofs.Common.{subst, sym, ap, ◌∙◌, ◌⊎◌, inl, inr, eqb-true}
+use Rattle.std.specs.Prelude.{◌≡◌, refl, ℕ, zero, suc, Bool, true, false, cond, ◌==◌, List, [], ◌∷◌, Option, Some, None}
 use Rattle.com_base.specs.declared.value.RefValue.{RefValue}
 use Rattle.com_body.specs.declared.operands.Asked.TheVariants as asked
 use Rattle.com_model.specs.declared.deeds.Deed.{Deed}
@@ -10,7 +10,7 @@ use Rattle.com_model.specs.declared.scenario.Scenario.{Scenario}
 use Rattle.com_model.specs.Answers.{is_S_OK}
 use Rattle.com_model.specs.Tables.{LaneSort, Thread, Host, Pool, NoLane, lane_sort}
 use Rattle.com_model.specs.Openers.{Opener, Effect, Opens, Closes, Keeps, opened}
-use Rattle.com_model.specs.Apartments.{HomeEffect, Initialises, Uninitialises, Remains, home_effect, home_effect_on, home_after, thread_home, home_by_sort, home}
+use Rattle.com_model.specs.Apartments.{HomeEffect, Remains, home_effect, home_after, thread_home, home_by_sort, home}
 use Rattle.com_model.specs.Calls.{Admission, admission_or}
 use Rattle.com_model.specs.Frames.{taken_in, reference}
 use Rattle.com_model.specs.Sight.{Sight}

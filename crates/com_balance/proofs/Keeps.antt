@@ -1,10 +1,9 @@
 -- What is known of every legal history of a formed scenario: `Kept` of com_model's proofs, whose record and law are private there.
-use Rattle.std.proofs.Common.{subst, sym, ap, ◌∙◌, arith}
+use Rattle.std.proofs.Common.{subst, arith}
 use Rattle.std.proofs.lemmas.List.Elements.{All-append, All-cons, All-nil, All-filter}
 use Rattle.std.proofs.lemmas.Grind.{common_steps}
-use Rattle.std.specs.Prelude.{◌≡◌, refl, ℕ, zero, suc, ◌+◌, ◌≤◌, ◌<◌, negsuc, pos, Bool, true, false, cond, not, ◌==◌, ◌&&◌, ◌||◌, nat_le, List, [], ◌∷◌, ◌++◌, length, take, Option, Some, None, is_some, All, option_map, filter}
+use Rattle.std.specs.Prelude.{◌≡◌, refl, ℕ, zero, suc, ◌+◌, ◌≤◌, ◌<◌, negsuc, pos, Bool, true, false, cond, not, ◌==◌, ◌&&◌, nat_le, List, [], ◌∷◌, ◌++◌, length, take, Option, Some, None, is_some, All, option_map}
 use Rattle.com_base.specs.declared.hresult.HResult.{HResult}
-use Rattle.com_base.specs.declared.value.RefValue.{RefValue}
 use Rattle.com_base.specs.declared.value.Value.{Value}
 use Rattle.com_base.specs.declared.value.Mode.TheVariants as mode
 use Rattle.com_body.specs.declared.operands.Asked.TheVariants as asked
@@ -21,26 +20,25 @@ use Rattle.com_model.specs.declared.deeds.Route.TheVariants as route
 use Rattle.com_model.specs.declared.scenario.Scenario.{Scenario}
 use Rattle.com_model.specs.Answers.{is_S_OK}
 use Rattle.com_model.specs.Lists.{or_else, where_true, count_if, first, number_or_zero, without_first}
-use Rattle.com_model.specs.Tables.{LaneSort, Thread, Host, Pool, NoLane, lane_sort, threads}
+use Rattle.com_model.specs.Tables.{LaneSort, Thread, Host, Pool, NoLane, lane_sort}
 use Rattle.com_model.specs.Openers.{Opener, Pumps, Waits, Enters, Effect, Opens, Closes, Keeps, effect, effect_on, opened, openers, entered_apartment}
-use Rattle.com_model.specs.Apartments.{HomeEffect, Initialises, Uninitialises, Remains, home_effect, home_effect_on, home_after, thread_home, home_by_sort, home, running, makes_sta, ends_sta, with_last, stas, next_sta, ended, or_host, main_sta, serves}
-use Rattle.com_model.specs.Objects.{Making, makes, made_or, making, one_more, objects, named, class_of, agile, owner, disconnects}
+use Rattle.com_model.specs.Apartments.{HomeEffect, Initialises, Uninitialises, Remains, home_effect, home_effect_on, home_after, thread_home, home_by_sort, home, running, makes_sta, ends_sta, with_last, stas, next_sta, ended, or_host, serves}
+use Rattle.com_model.specs.Objects.{Making, makes, made_or, making, one_more, objects, named, class_of, agile, disconnects}
 use Rattle.com_model.specs.Calls.{Issue, issues, issue_or, issue, calls, object_of, target, admitted}
-use Rattle.com_model.specs.Frames.{scene, taken_in, outcome, action_of, unless_over, actor, actor_in, reference, act}
+use Rattle.com_model.specs.Frames.{scene, taken_in, outcome, action_of, unless_over, actor_in, reference, act}
 use Rattle.com_model.specs.Endings.{Ending, ByVerdict, ByLeave, EndEffect, EndsCall, CutsObject, CutsSta, EndsNone, cuts_object, cuts_sta, end_effect, ends, filtered, can_be_cut, ending, is_leave}
 use Rattle.com_model.specs.Places.{ground}
-use Rattle.com_model.specs.Books.{books, out_values}
-use Rattle.com_model.specs.Dying.{is_dying, dying, fallen}
+use Rattle.com_model.specs.Books.{books}
+use Rattle.com_model.specs.Dying.{is_dying, fallen}
 use Rattle.com_model.specs.Issue.{own_values, values_or, sent}
 use Rattle.com_model.specs.Sight.{Sight, sight}
-use Rattle.com_model.specs.Rules.{next, legal}
+use Rattle.com_model.specs.Rules.{legal}
 use Rattle.com_model.specs.Formed.{Formed}
-use Rattle.com_model.specs.State.{Bounded}
 use Rattle.com_model.proofs.Comes.{first-filter}
-use Rattle.com_model.proofs.Onces.{call_named, Names, InRange, names-all, named-in-range}
-use Rattle.com_model.proofs.Goods.{GoodHeld, GoodValue, GoodResult, GoodAction, GoodOutcome, more-held, more-value, more-result, all-of, entered-good}
-use Rattle.com_model.proofs.Fines.{cond-is, GoodPacket, GoodCookie, GoodEnding, GoodHome, GoodSight, FineBy, Fine, next-fine}
-use Rattle.com_model.proofs.Scenes.{faces, GoodScene, GoodActor, GoodOpeners, GoodOut, more-scene, Issued, Brings, scene-good, outcome-good, over-good, actor-good, new-cells-good}
+use Rattle.com_model.proofs.Onces.{call_named, Names, InRange, named-in-range}
+use Rattle.com_model.proofs.Goods.{GoodHeld, GoodValue, GoodAction, more-held, more-value, more-result, all-of, entered-good}
+use Rattle.com_model.proofs.Fines.{cond-is, GoodPacket, GoodCookie, GoodEnding, GoodHome, GoodSight, FineBy, next-fine}
+use Rattle.com_model.proofs.Scenes.{faces, GoodScene, GoodOpeners, GoodOut, more-scene, Issued, Brings, scene-good, outcome-good, actor-good, new-cells-good}
 use Rattle.com_model.proofs.Holdings.{GoodBooks, GoodAct, NewWithin, more-books, values-good, closed-good}
 
 pub record Kept (s : Scenario) (h : List Entry) : Type 0 where

@@ -1,8 +1,8 @@
 -- A result that returns by a packet has one.
-use Rattle.std.proofs.Common.{subst, sym, ap, ◌∙◌, ◌⊎◌, inl, inr, eqb-true, arith}
+use Rattle.std.proofs.Common.{subst, sym, ap, ◌∙◌, inl, inr, eqb-true, arith}
 use Rattle.std.proofs.lemmas.Bool.{false_from_ne_true}
 use Rattle.std.proofs.lemmas.Grind.{common_steps}
-use Rattle.std.specs.Prelude.{◌≡◌, refl, ℕ, zero, suc, ◌+◌, ◌≤◌, Bool, true, false, cond, not, ◌==◌, ◌||◌, ◌&&◌, List, [], ◌∷◌, length, Option, Some, None, is_some}
+use Rattle.std.specs.Prelude.{◌≡◌, refl, ℕ, suc, ◌+◌, ◌≤◌, Bool, true, false, cond, not, ◌==◌, ◌||◌, ◌&&◌, List, [], ◌∷◌, length, Option, Some, None, is_some}
 use Rattle.com_base.specs.declared.hresult.HResult.{HResult}
 use Rattle.com_base.specs.declared.value.RefValue.{RefValue}
 use Rattle.com_base.specs.declared.value.Kind.{Kind}
@@ -13,21 +13,20 @@ use Rattle.com_body.specs.declared.actions.Action.{Action}
 use Rattle.com_model.specs.declared.deeds.Deed.{Deed}
 use Rattle.com_model.specs.declared.deeds.Deed.TheVariants as deed
 use Rattle.com_model.specs.declared.deeds.Entry.{Entry}
-use Rattle.com_model.specs.declared.deeds.Route.{Route}
 use Rattle.com_model.specs.declared.scenario.Scenario.{Scenario}
 use Rattle.com_model.specs.Answers.{is_failure}
-use Rattle.com_model.specs.Lists.{or_else, put, is_number, number_or_zero}
+use Rattle.com_model.specs.Lists.{or_else, is_number, number_or_zero}
 use Rattle.com_model.specs.Apartments.{running}
 use Rattle.com_model.specs.Objects.{named}
-use Rattle.com_model.specs.Calls.{Issue, Leaving, issues, issue_or, issue, leaves, leaving_or, left, returns, returned, calls, route_of, is_marshalled, target, admitted}
+use Rattle.com_model.specs.Calls.{Issue, Leaving, issue, leaves, leaving_or, left, returns, returned, calls, route_of, is_marshalled, target, admitted}
 use Rattle.com_model.specs.Values.{if_live, sent_value, sent_result, given_or_default, carried, result_list}
 use Rattle.com_model.specs.Frames.{Scene, scene, act, value_reference}
 use Rattle.com_model.specs.Endings.{Ending, ByLeave, end_effect, ends, filtered, can_be_cut, ending, is_leave}
 use Rattle.com_model.specs.Places.{Ground, ground}
-use Rattle.com_model.specs.Books.{Packet, Books, packet, Change, ToProxy, ToPacket, Split, Join, Return, ToCookie, Withdraw, Same, changed, Row, change, rows, marshal_all, entered_rows, made_since, first_of, most, closed, books}
+use Rattle.com_model.specs.Books.{Books, packet, Change, ToProxy, ToPacket, Split, Join, Return, ToCookie, Withdraw, Same, changed, Row, change, rows, marshal_all, entered_rows, made_since, first_of, most, closed, books}
 use Rattle.com_model.specs.Sight.{sight}
 use Rattle.com_model.specs.Rules.{legal}
-use Rattle.com_model.specs.Safe.{event, IsOut, IsEnter, IsLeave, IsBack, IsOther, Stage, stage_after, stage, ComesOnce}
+use Rattle.com_model.specs.Safe.{event, Stage, stage_after, stage, ComesOnce}
 use Rattle.com_model.proofs.Onces.{legal-once}
 use Rattle.com_model.proofs.Comes.{next-comes}
 use Rattle.com_balance.proofs.Packets.{Of, Grown, grown-of, OneMade, marshals-one}
@@ -63,8 +62,10 @@ left-none (deed.Leave k hr v bytes) c x e =
   where
     not-both : (b : Bool) → b ≡ false → b ≡ true → ⊥
     not-both b p q = cc
+
     same-number : (n : ℕ) → (n == n) ≡ true
     same-number n = grind (arith, common_steps)
+
     call-of : (j : ℕ) (g : HResult) (w : Option Value) (y : Option (List ℕ)) → deed.Leave k hr v bytes ≡ deed.Leave j g w y → k ≡ j
     call-of j g w y p = cc
 left-none d c x e = (e, λ k hr v bytes p q. cc)
@@ -210,8 +211,8 @@ no-leave-again s h c d hr v o e k g w bytes p q =
 old-result : (s : Scenario) (h : List Entry) (e : Entry) (c : ℕ) (z : Ending) → legal s (e ∷ h) → ending s h c ≡ Some z → ResultBy (books s h) (issue h c) c (Some z) → ResultBy (books s (e ∷ h)) (issue (e ∷ h) c) c (Some z)
 old-result s h e c (ByLeave hr v) q w p =
     let same : issue (e ∷ h) c ≡ issue h c = same-issue s h e.lane e.deed c (λ k o i m t cause bytes d u.
-      let n : k ≡ calls h + 1 = out-number s h e.lane e.deed (next-comes s h e.lane e.deed q.1) k o i m t cause bytes d in
-      left-by-leave s h c hr v w (not-left s h c q.0 (omega (arith, n, u)))) in
+    let n : k ≡ calls h + 1 = out-number s h e.lane e.deed (next-comes s h e.lane e.deed q.1) k o i m t cause bytes d in
+    left-by-leave s h c hr v w (not-left s h c q.0 (omega (arith, n, u)))) in
     λ m r y. result-later (books s h) (books s (e ∷ h)) c r
     (entry-grown s (ground s (e ∷ h)) (scene s (e ∷ h)) (act s h e.lane) (λ j. is_leave (ending s h j)) (number_or_zero (running s h e.lane)) e.deed (books s h))
     (same-result s (ground s (e ∷ h)) (scene s (e ∷ h)) (act s h e.lane) (λ j. is_leave (ending s h j)) (number_or_zero (running s h e.lane)) e.deed (books s h) c (no-leave-again s h c e.deed hr v (legal-once s (e ∷ h) q).1 w))

@@ -2,7 +2,7 @@
 -- its object.
 use Rattle.std.proofs.Common.{subst, sym, ap, ◌∙◌, ◌⊎◌, inl, inr, eqb-true, arith}
 use Rattle.std.proofs.lemmas.Bool.{false_from_ne_true}
-use Rattle.std.specs.Prelude.{◌≡◌, refl, ℕ, ◌+◌, ◌≤◌, ◌<◌, Bool, true, false, cond, ◌==◌, ◌||◌, List, [], ◌∷◌, Option, Some, None, option_map}
+use Rattle.std.specs.Prelude.{◌≡◌, refl, ℕ, ◌+◌, ◌≤◌, Bool, true, false, cond, ◌==◌, ◌||◌, List, [], ◌∷◌, Option, Some, None, option_map}
 use Rattle.com_model.specs.declared.deeds.Deed.{Deed}
 use Rattle.com_model.specs.declared.deeds.Deed.TheVariants as deed
 use Rattle.com_model.specs.declared.deeds.Entry.{Entry}
@@ -14,11 +14,11 @@ use Rattle.com_model.specs.Apartments.{next_sta, running}
 use Rattle.com_model.specs.Objects.{Making, asked_number, makes, made_or, making, objects, named, class_of, agile, owns, owner}
 use Rattle.com_model.specs.Books.{made_by}
 use Rattle.com_model.specs.Sight.{sight}
-use Rattle.com_model.specs.Rules.{next, legal}
+use Rattle.com_model.specs.Rules.{legal}
 use Rattle.com_model.specs.Formed.{Formed}
 use Rattle.com_model.proofs.Fines.{FineBy, next-fine}
 use Rattle.com_model.proofs.Scenes.{faces, GoodOpeners}
-use Rattle.com_balance.proofs.Keeps.{Kept, legal-kept, sight-good}
+use Rattle.com_balance.proofs.Keeps.{legal-kept, sight-good}
 use Rattle.com_balance.proofs.Counts.{Among}
 use Rattle.com_balance.proofs.Stacks.{among-after, opens-enter}
 use Rattle.com_balance.proofs.Says.{Says, next-says}
@@ -94,8 +94,10 @@ enter-owned s h l c x a (deed.Enter k o y t vs) z f e =
   where
     object-of : Opens (Enters k o y) ≡ Opens (Enters c x a) → o ≡ x
     object-of e = cc
+
     apartment-of : Opens (Enters k o y) ≡ Opens (Enters c x a) → y ≡ a
     apartment-of e = cc
+
     by-owner : (agile s h o ≡ true) ⊎ (owner s h o l ≡ named h o) → OwnedAt s h o y
     by-owner (inl r) = inl r
     by-owner (inr r) = inr (z.1 ∙ r)

@@ -1,23 +1,18 @@
 -- What an entry does to the references in scripts, bodies and links: each is there still, or was taken, entered or returned.
-use Rattle.std.proofs.Common.{subst, sym, ap, ◌∙◌, eqb-true, arith}
+use Rattle.std.proofs.Common.{subst, sym, ◌∙◌, eqb-true}
 use Rattle.std.proofs.lemmas.List.Elements.{All-set, All-replicate, All-nil}
-use Rattle.std.proofs.lemmas.Grind.{common_steps}
-use Rattle.std.specs.Prelude.{◌≡◌, refl, ℕ, zero, suc, pos, Bool, true, false, cond, ◌==◌, List, [], ◌∷◌, Option, Some, None, All, fold, replicate}
-use Rattle.com_base.specs.declared.hresult.HResult.{HResult}
+use Rattle.std.specs.Prelude.{◌≡◌, refl, ℕ, zero, suc, true, false, cond, ◌==◌, List, [], ◌∷◌, Option, Some, None, All, fold}
 use Rattle.com_base.specs.declared.value.RefValue.{RefValue}
 use Rattle.com_base.specs.declared.value.Value.{Value}
-use Rattle.com_base.specs.declared.value.Value.TheVariants as value
 use Rattle.com_body.specs.declared.operands.Place.{Place}
 use Rattle.com_body.specs.declared.operands.Place.TheVariants as place
 use Rattle.com_body.specs.declared.operands.Destination.{Destination}
 use Rattle.com_body.specs.declared.operands.Destination.TheVariants as destination
-use Rattle.com_body.specs.declared.statements.Stmt.{Stmt}
 use Rattle.com_body.specs.declared.actions.Action.{Action}
 use Rattle.com_body.specs.declared.actions.Action.TheVariants as action
 use Rattle.com_body.specs.declared.frame.Cells.{Cells}
 use Rattle.com_body.specs.declared.frame.Outcome.{Outcome}
 use Rattle.com_body.specs.Frames.{FrameView, entered, with_register, with_slot}
-use Rattle.com_body.specs.BodySteps.{body_step}
 use Rattle.com_classes.specs.Lookups.{body_of}
 use Rattle.com_model.specs.declared.deeds.Deed.{Deed}
 use Rattle.com_model.specs.declared.deeds.Deed.TheVariants as deed
@@ -27,10 +22,10 @@ use Rattle.com_model.specs.Lists.{put}
 use Rattle.com_model.specs.Tables.{script}
 use Rattle.com_model.specs.Apartments.{ends_sta}
 use Rattle.com_model.specs.Calls.{Issue}
-use Rattle.com_model.specs.Frames.{Scene, new_cells, Actor, Body, Script, Nobody, issued_body, outcome, is_leave, unless_over, unless_final, taken_in, cookie_in, Write, ToRegister, ToSlot, ToLink, ToBuffer, to_place, to_answer, marshalled_in, writes, value_reference, to_register, to_destination, with_link, written, with_frame, wants, acted, arrived, cut_links, acting, scene_after}
+use Rattle.com_model.specs.Frames.{Scene, new_cells, Actor, Body, Script, Nobody, issued_body, outcome, is_leave, unless_over, unless_final, taken_in, Write, ToRegister, ToSlot, ToLink, ToBuffer, to_place, to_answer, marshalled_in, writes, value_reference, to_destination, written, with_frame, wants, acted, arrived, cut_links, acting}
 use Rattle.com_model.proofs.Goods.{IsPlain}
 use Rattle.com_model.proofs.Fines.{cond-is}
-use Rattle.com_balance.proofs.Carries.{HeldBy, ValueBy, ResultBy, PlaceBy, Orderly, ActionBy, FrameBy, OutcomeBy, step-by, entered-by}
+use Rattle.com_balance.proofs.Carries.{HeldBy, ValueBy, PlaceBy, Orderly, ActionBy, FrameBy, OutcomeBy, step-by, entered-by}
 
 -- Tests of the references in a script by its lane, in a body by its call, and in the links of an object.
 
@@ -218,7 +213,6 @@ outcome-by s S B K I L k i (Script l) w h p g = step-by s I L (S l) (script s l)
 outcome-by s S B K I L k i Nobody w h p g = tt
 
 -- ---- what arrives
-
 
 abbrev pub PlainAt : Destination → Option Value → Type 0
 PlainAt (destination.Register r) (Some v) = IsPlain v

@@ -1,8 +1,8 @@
 -- The statements of a formed scenario: none of an agile class writes a link, and no register takes a reference from a call.
-use Rattle.std.proofs.Common.{subst, sym, ap, ◌∙◌, inl, inr, arith}
+use Rattle.std.proofs.Common.{subst, sym, ap, inl, inr, arith}
 use Rattle.std.proofs.lemmas.List.Elements.{All-cons, All-nil}
 use Rattle.std.proofs.lemmas.Grind.{common_steps}
-use Rattle.std.specs.Prelude.{◌≡◌, refl, ℕ, zero, suc, ◌+◌, ◌<◌, Bool, true, false, cond, not, ◌&&◌, ◌==◌, List, [], ◌∷◌, Option, Some, None, All, ◌⊎◌, option_map, option_and_then, unwrap_or, find, slice_get, slice_index_or, take}
+use Rattle.std.specs.Prelude.{◌≡◌, refl, ℕ, zero, suc, ◌+◌, Bool, true, false, cond, not, ◌&&◌, ◌==◌, List, [], ◌∷◌, Option, Some, None, All, ◌⊎◌, option_map, option_and_then, unwrap_or, find, slice_get, slice_index_or, take}
 use Rattle.com_base.specs.declared.value.Kind.{Kind}
 use Rattle.com_base.specs.declared.value.Kind.TheVariants as kind
 use Rattle.com_body.specs.declared.operands.Place.{Place}

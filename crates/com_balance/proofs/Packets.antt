@@ -1,9 +1,8 @@
 -- Packets keep the reference that they were made of, and each reference that is marshalled has one.
-use Rattle.std.proofs.Common.{subst, sym, ap, ◌∙◌, ◌⊎◌, inl, inr, eqb-true, append_assoc, arith}
+use Rattle.std.proofs.Common.{subst, sym, ap, ◌∙◌, ◌⊎◌, inl, inr, append_assoc, arith}
 use Rattle.std.proofs.lemmas.Grind.{common_steps}
-use Rattle.std.specs.Prelude.{◌≡◌, refl, ℕ, zero, suc, ◌+◌, ◌-◌, ◌/◌, ◌≤◌, ◌<◌, Bool, true, false, cond, not, ◌==◌, ◌||◌, ◌&&◌, nat_le, List, [], ◌∷◌, ◌++◌, length, map, Option, Some, None, slice_set, slice_index_or}
+use Rattle.std.specs.Prelude.{◌≡◌, refl, ℕ, zero, suc, ◌+◌, ◌-◌, ◌/◌, ◌≤◌, ◌<◌, Bool, true, false, cond, ◌==◌, ◌||◌, nat_le, List, [], ◌∷◌, ◌++◌, length, map, Some, slice_set, slice_index_or}
 use Rattle.com_base.specs.declared.value.RefValue.{RefValue}
-use Rattle.com_base.specs.declared.value.MarshalMode.{MarshalMode}
 use Rattle.com_base.specs.declared.value.MarshalMode.TheVariants as marshal
 use Rattle.com_model.specs.Lists.{is_member, numbers_from}
 use Rattle.com_model.specs.Books.{Packet, Books, no_packet, packet, Change, ToProxy, ToPacket, Split, Join, Return, ToCookie, Withdraw, Same, new_packet, set_from_one, changed, Row, Marshals, marshal_change, change, marshal_all, entered_rows, made_since, first_of, cut_packet, cut}
@@ -41,6 +40,7 @@ grown-same b c e = record { more = subst (λ (ps : List Packet). length b.packet
     objects : (p : ℕ) → p ≤ length b.packets → (packet c p).object ≡ (packet b p).object
     objects zero h = refl
     objects (suc p) h = ap (λ (ps : List Packet). (slice_index_or ps p no_packet).object) e
+
     ifaces : (p : ℕ) → p ≤ length b.packets → (packet c p).iface ≡ (packet b p).iface
     ifaces zero h = refl
     ifaces (suc p) h = ap (λ (ps : List Packet). (slice_index_or ps p no_packet).iface) e
@@ -56,6 +56,7 @@ grown-push b c x e = record { more = subst (λ (ps : List Packet). length b.pack
     objects : (p : ℕ) → p ≤ length b.packets → (packet c p).object ≡ (packet b p).object
     objects zero h = refl
     objects (suc p) h = ap (λ (ps : List Packet). (slice_index_or ps p no_packet).object) e ∙ ap (λ (k : Packet). k.object) (before-end b.packets x p (omega (arith, h)))
+
     ifaces : (p : ℕ) → p ≤ length b.packets → (packet c p).iface ≡ (packet b p).iface
     ifaces zero h = refl
     ifaces (suc p) h = ap (λ (ps : List Packet). (slice_index_or ps p no_packet).iface) e ∙ ap (λ (k : Packet). k.iface) (before-end b.packets x p (omega (arith, h)))
@@ -85,6 +86,7 @@ grown-end b c (suc p) e = record { more = subst (λ (ps : List Packet). length b
     objects : (q : ℕ) → q ≤ length b.packets → (packet c q).object ≡ (packet b q).object
     objects zero h = refl
     objects (suc q) h = ap (λ (ps : List Packet). (slice_index_or ps q no_packet).object) e ∙ set-object b.packets p q
+
     ifaces : (q : ℕ) → q ≤ length b.packets → (packet c q).iface ≡ (packet b q).iface
     ifaces zero h = refl
     ifaces (suc q) h = ap (λ (ps : List Packet). (slice_index_or ps q no_packet).iface) e ∙ set-iface b.packets p q
@@ -119,6 +121,7 @@ cut-grown live b = record { more = grind (arith, common_steps); objects = object
     objects : (q : ℕ) → q ≤ length b.packets → (packet (cut live b) q).object ≡ (packet b q).object
     objects zero h = refl
     objects (suc q) h = map-object live b.packets q
+
     ifaces : (q : ℕ) → q ≤ length b.packets → (packet (cut live b) q).iface ≡ (packet b q).iface
     ifaces zero h = refl
     ifaces (suc q) h = map-iface live b.packets q
@@ -251,6 +254,7 @@ marshals-one owned b a r p =
   where
     one-more : (xs : List Packet) (x : Packet) → length (xs ++ x ∷ []) ≡ length xs + 1
     one-more xs x = grind (arith, common_steps)
+
     at-end : (xs : List Packet) (x : Packet) → slice_index_or (xs ++ x ∷ []) (length xs) no_packet ≡ x
     at-end [] x = refl
     at-end (y ∷ xs) x = grind (arith, common_steps, at-end xs x)

@@ -1,16 +1,14 @@
 -- The value of a call's Leave has the kind that its method declares.
-use Rattle.std.proofs.Common.{subst, sym, ap, ◌∙◌, ◌⊎◌, inl, inr, eqb-true, arith}
+use Rattle.std.proofs.Common.{subst, sym, ap, inl, inr, eqb-true, arith}
 use Rattle.std.proofs.lemmas.Bool.{false_from_ne_true}
-use Rattle.std.specs.Prelude.{◌≡◌, refl, ℕ, zero, suc, ◌+◌, ◌≤◌, pos, negsuc, Bool, true, false, cond, ◌==◌, ◌&&◌, List, [], ◌∷◌, Option, Some, None, is_some}
+use Rattle.std.specs.Prelude.{◌≡◌, refl, ℕ, zero, suc, ◌+◌, ◌≤◌, pos, negsuc, Bool, true, false, cond, ◌==◌, ◌&&◌, List, [], ◌∷◌, Option, Some, None}
 use Rattle.com_base.specs.declared.hresult.HResult.{HResult}
-use Rattle.com_base.specs.declared.value.RefValue.{RefValue}
 use Rattle.com_base.specs.declared.value.Kind.{Kind}
 use Rattle.com_base.specs.declared.value.Kind.TheVariants as kind
 use Rattle.com_base.specs.declared.value.Value.{Value}
 use Rattle.com_base.specs.declared.value.Value.TheVariants as value
-use Rattle.com_base.specs.Values.{as_kind, default_of, has_kind}
+use Rattle.com_base.specs.Values.{default_of, has_kind}
 use Rattle.com_classes.specs.Lookups.{method_at}
-use Rattle.com_filter.specs.declared.Verdict.{Verdict}
 use Rattle.com_model.specs.declared.deeds.Deed.{Deed}
 use Rattle.com_model.specs.declared.deeds.Deed.TheVariants as deed
 use Rattle.com_model.specs.declared.deeds.Entry.{Entry}
@@ -18,13 +16,13 @@ use Rattle.com_model.specs.declared.deeds.Route.{Route}
 use Rattle.com_model.specs.declared.deeds.Route.TheVariants as route
 use Rattle.com_model.specs.declared.scenario.Scenario.{Scenario}
 use Rattle.com_model.specs.Answers.{is_failure}
-use Rattle.com_model.specs.Lists.{or_else, where_true, count_if}
+use Rattle.com_model.specs.Lists.{or_else, where_true}
 use Rattle.com_model.specs.Tables.{result_kind}
 use Rattle.com_model.specs.Apartments.{ends_sta}
 use Rattle.com_model.specs.Objects.{named, disconnects}
 use Rattle.com_model.specs.Calls.{Issue, issues, issue_or, issue, calls, target, admitted}
 use Rattle.com_model.specs.Values.{if_live, sent_value, sent_result, given_or_default}
-use Rattle.com_model.specs.Endings.{Ending, ByVerdict, ByLeave, AtIssue, EndEffect, EndsCall, CutsObject, CutsSta, EndsNone, cuts_object, cuts_sta, end_effect, ends, filtered, can_be_cut, ending}
+use Rattle.com_model.specs.Endings.{Ending, ByVerdict, ByLeave, AtIssue, EndsCall, EndsNone, cuts_object, cuts_sta, end_effect, ends, filtered, can_be_cut, ending}
 use Rattle.com_model.specs.Sight.{sight}
 use Rattle.com_model.specs.Rules.{legal}
 use Rattle.com_model.proofs.Onces.{call_named, Names, InRange, named-in-range}
@@ -158,7 +156,7 @@ not-left s (e ∷ h) c q p =
     either-ending NotLeft (ending s h c) _ (not-left s h c q.0 (omega (arith, p, m)))
     (ends-is (λ _ x. NotLeft x) (filtered s h) e.deed c (target h c) (named h (target h c)) (can_be_cut (issue h c) (admitted h c)) (λ x z. z)
     (λ k hr v bytes d z. let r : InRange (calls (e ∷ h)) k = subst (λ (x : Deed). Names (InRange (calls (e ∷ h))) (call_named x)) d (named-in-range s h e q) in
-      let u : k ≤ calls (e ∷ h) = r.1 in omega (arith, u, z, p)))
+    let u : k ≤ calls (e ∷ h) = r.1 in omega (arith, u, z, p)))
 
 pub same-issue : (s : Scenario) (h : List Entry) (l : ℕ) (d : Deed) (c : ℕ) → ((k : ℕ) (o : Option ℕ) (i m : ℕ) (r : Route) (cause : ℕ) (bytes : Option (List ℕ)) → d ≡ deed.Out k o i m r cause bytes → k ≡ c → ⊥) → issue_or (issues l d) c (issue h c) ≡ issue h c
 same-issue s h l (deed.Out k o i m r cause bytes) c f = ap (λ (b : Bool). cond b (Some (record { call = k; lane = l; object = o; iface = i; method = m; route = r; cause = cause })) (issue h c)) (false_from_ne_true (k == c) (λ t. f k o i m r cause bytes refl (eqb-true k c t)))

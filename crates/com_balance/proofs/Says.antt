@@ -1,7 +1,7 @@
 -- What the rules say of the entry that they give: whether its lane has a home, and where its references come from.
-use Rattle.std.proofs.Common.{subst, sym, ap, ◌∙◌, ◌⊎◌, inl, inr, arith}
+use Rattle.std.proofs.Common.{subst, sym, ap, ◌∙◌, ◌⊎◌, inl, inr}
 use Rattle.std.proofs.lemmas.Bool.{and_parts}
-use Rattle.std.specs.Prelude.{◌≡◌, refl, ℕ, ℤ, zero, suc, ◌+◌, ◌≤◌, ◌<◌, Bool, true, false, cond, not, ◌==◌, ◌&&◌, nat_le, List, [], ◌∷◌, length, Option, Some, None, is_some, Result, Ok, Err, option_map}
+use Rattle.std.specs.Prelude.{◌≡◌, refl, ℕ, ℤ, Bool, true, false, cond, not, ◌==◌, ◌&&◌, nat_le, List, [], ◌∷◌, length, Option, Some, None, is_some, Result, Ok, Err, option_map}
 use Rattle.com_base.specs.declared.standard.StdFields.{StdFields}
 use Rattle.com_body.specs.declared.operands.Destination.{Destination}
 use Rattle.objref.specs.declared.decoding.RefFault.{RefFault}
@@ -15,7 +15,7 @@ use Rattle.com_model.specs.Tables.{parameters, class_number, interface_number, r
 use Rattle.com_model.specs.Openers.{Opener, Pumps, Waits, Enters, running_call}
 use Rattle.com_model.specs.Calls.{Issue, object_of, route_of, is_marshalled}
 use Rattle.com_model.specs.Values.{sent_values, sent_result}
-use Rattle.com_model.specs.Endings.{Ending, AtIssue, AtAdmission, ByVerdict, ByRetry, ByCancel, ByDisconnection, ByLeave, Answer, answer_of, without_value}
+use Rattle.com_model.specs.Endings.{Ending, AtIssue, AtAdmission, ByVerdict, ByRetry, ByCancel, ByDisconnection, ByLeave, answer_of, without_value}
 use Rattle.com_model.specs.Books.{Cookie, packet, cookie}
 use Rattle.com_model.specs.Answers.{S_OK, E_INVALIDARG, CO_E_OBJNOTCONNECTED, RPC_E_OUT_OF_RESOURCES, RPC_E_SERVER_CANTUNMARSHAL_DATA, RPC_E_CLIENT_CANTUNMARSHAL_DATA, is_S_OK}
 use Rattle.com_model.specs.Deeds.{deed_of, initialised, uninitialised, creator, placing, made_as, created_of, created, owned_by, query_answer, queried, hold_refusal, marshalled, registered, is_named, named_packet, Named, NamesPacket, Refuses, named_or, named_in, named_by, gained_refs, unmarshalled, dropped, cookie_number, got_with, got, revoked, route_to, next_cause, out_bytes, called, reply_for, left_as, left_by}

@@ -1,8 +1,8 @@
 -- A connected object's proxy place has a proxy: the end of an entry, once its rows brought a reference for each place.
-use Rattle.std.proofs.Common.{subst, sym, ap, ◌∙◌, eqb-true, arith}
+use Rattle.std.proofs.Common.{subst, sym, ◌∙◌, eqb-true, arith}
 use Rattle.std.proofs.lemmas.Bool.{and_parts, false_from_ne_true}
 use Rattle.std.proofs.lemmas.Grind.{common_steps}
-use Rattle.std.specs.Prelude.{◌≡◌, refl, ℕ, zero, suc, ◌+◌, ◌≤◌, ◌<◌, Bool, true, false, cond, not, ◌==◌, ◌&&◌, ◌||◌, map, List, [], ◌∷◌, Option, Some, None, slice_index_or}
+use Rattle.std.specs.Prelude.{◌≡◌, refl, ℕ, zero, suc, ◌≤◌, Bool, true, false, cond, ◌==◌, ◌&&◌, ◌||◌, map, List, [], ◌∷◌, Option, slice_index_or}
 use Rattle.com_base.specs.declared.value.RefValue.{RefValue}
 use Rattle.com_body.specs.declared.actions.Action.{Action}
 use Rattle.com_model.specs.declared.deeds.Deed.{Deed}
@@ -11,12 +11,11 @@ use Rattle.com_model.specs.declared.deeds.Entry.{Entry}
 use Rattle.com_model.specs.declared.scenario.Scenario.{Scenario}
 use Rattle.com_model.specs.Lists.{number_or_zero}
 use Rattle.com_model.specs.Apartments.{running}
-use Rattle.com_model.specs.Objects.{Making, makes, made_or, making, objects, owns, named}
+use Rattle.com_model.specs.Objects.{makes, owns}
 use Rattle.com_model.specs.Frames.{Scene, scene, act}
 use Rattle.com_model.specs.Endings.{ending, is_leave}
-use Rattle.com_model.specs.Places.{Ground, ground, places, places_that, to_object, to_interface}
-use Rattle.com_model.specs.Books.{Packet, Books, no_books, no_packet, packet, rows, entered_rows, kept, given_back, cut_packet, cut, made_by, live_after, most, closed, books}
-use Rattle.com_model.specs.Rules.{legal}
+use Rattle.com_model.specs.Places.{Ground, ground, places, to_object, to_interface}
+use Rattle.com_model.specs.Books.{Packet, Books, no_books, no_packet, packet, rows, entered_rows, kept, given_back, cut_packet, cut, made_by, most, closed, books}
 use Rattle.com_model.specs.Safe.{Secured}
 use Rattle.com_balance.proofs.Holds.{Filled, Full, rows-live, rows-full, cut-full}
 use Rattle.com_balance.proofs.Counts.{PlaceOf, Found, found-place, place-counts}

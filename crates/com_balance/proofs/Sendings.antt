@@ -1,8 +1,8 @@
 -- Each reference that a call sends by packets has one among the call's arguments.
-use Rattle.std.proofs.Common.{subst, sym, ap, ◌∙◌, ◌⊎◌, inl, inr, eqb-true, arith}
+use Rattle.std.proofs.Common.{subst, sym, ap, ◌∙◌, eqb-true, arith}
 use Rattle.std.proofs.lemmas.Bool.{false_from_ne_true}
 use Rattle.std.proofs.lemmas.Grind.{common_steps}
-use Rattle.std.specs.Prelude.{◌≡◌, refl, ℕ, zero, suc, ◌+◌, ◌≤◌, Bool, true, false, cond, ◌==◌, List, [], ◌∷◌, length, Option, Some, None, is_some}
+use Rattle.std.specs.Prelude.{◌≡◌, refl, ℕ, ◌≤◌, Bool, true, false, cond, ◌==◌, List, [], ◌∷◌, length, Option, Some, None, is_some}
 use Rattle.com_base.specs.declared.value.RefValue.{RefValue}
 use Rattle.com_base.specs.declared.value.Kind.{Kind}
 use Rattle.com_base.specs.declared.value.Kind.TheVariants as kind
@@ -17,20 +17,20 @@ use Rattle.com_model.specs.declared.deeds.Deed.TheVariants as deed
 use Rattle.com_model.specs.declared.deeds.Entry.{Entry}
 use Rattle.com_model.specs.declared.deeds.Route.{Route}
 use Rattle.com_model.specs.declared.scenario.Scenario.{Scenario}
-use Rattle.com_model.specs.Lists.{put, is_member, number_or_zero}
+use Rattle.com_model.specs.Lists.{is_member, number_or_zero}
 use Rattle.com_model.specs.Tables.{parameters}
 use Rattle.com_model.specs.Apartments.{running}
 use Rattle.com_model.specs.Calls.{Issue, issues, issue_or, issue, route_of, is_marshalled}
 use Rattle.com_model.specs.Values.{if_live, sent_values, carried}
 use Rattle.com_model.specs.Frames.{Scene, scene, act}
 use Rattle.com_model.specs.Endings.{ending, is_leave}
-use Rattle.com_model.specs.Places.{Ground, ground, places}
-use Rattle.com_model.specs.Books.{Packet, Books, packet, Change, ToProxy, ToPacket, Split, Join, Return, ToCookie, Withdraw, Same, changed, Row, change, out_values, rows, marshal_all, entered_rows, made_since, kept, given_back, live_after, cut, most, closed, books}
+use Rattle.com_model.specs.Places.{Ground, ground}
+use Rattle.com_model.specs.Books.{Books, packet, Change, ToProxy, ToPacket, Split, Join, Return, ToCookie, Withdraw, Same, changed, Row, change, out_values, rows, entered_rows, made_since, kept, most, closed, books}
 use Rattle.com_model.specs.Issue.{own_values, values_or, sent}
 use Rattle.com_model.specs.Sight.{sight}
 use Rattle.com_model.specs.Rules.{legal}
 use Rattle.com_balance.proofs.Packets.{Of, In, Grown, grown-of, grown-then, grown-same, rows-grown, cut-grown, AllLive, MadeOf, marshals-make}
-use Rattle.com_balance.proofs.Says.{Says, OutSays, next-says}
+use Rattle.com_balance.proofs.Says.{Says, next-says}
 
 -- ---- what travels by packets is connected
 
@@ -113,6 +113,7 @@ other-number c k e = false_from_ne_true (c == k) (λ t. not-both (k == c) e (sub
   where
     same-number : (n : ℕ) → (n == n) ≡ true
     same-number n = grind (arith, common_steps)
+
     not-both : (b : Bool) → b ≡ false → b ≡ true → ⊥
     not-both b p q = cc
 

@@ -1,14 +1,13 @@
 -- Open Enters: each is the one that the call's admission names, in an apartment that owns its object.
-use Rattle.std.proofs.Common.{subst, sym, ap, ◌∙◌, ◌⊎◌, inl, inr, eqb-true, arith}
+use Rattle.std.proofs.Common.{subst, ap, ◌∙◌, ◌⊎◌, inl, inr, eqb-true, arith}
 use Rattle.std.proofs.lemmas.Bool.{false_from_ne_true}
 use Rattle.std.proofs.lemmas.Grind.{common_steps}
-use Rattle.std.specs.Prelude.{◌≡◌, refl, ℕ, Bool, true, false, cond, ◌==◌, ◌||◌, List, [], ◌∷◌, Option, Some, None, is_none}
+use Rattle.std.specs.Prelude.{◌≡◌, refl, ℕ, Bool, true, false, cond, ◌==◌, List, [], ◌∷◌, Option, Some, None, is_none}
 use Rattle.com_model.specs.declared.deeds.Deed.{Deed}
 use Rattle.com_model.specs.declared.deeds.Deed.TheVariants as deed
 use Rattle.com_model.specs.declared.deeds.Entry.{Entry}
 use Rattle.com_model.specs.declared.scenario.Scenario.{Scenario}
-use Rattle.com_model.specs.Lists.{without_first}
-use Rattle.com_model.specs.Openers.{Opener, Pumps, Waits, Enters, Effect, Opens, Closes, Keeps, effect, effect_on, opened, openers}
+use Rattle.com_model.specs.Openers.{Opener, Enters, Effect, Opens, Closes, Keeps, effect, effect_on, opened, openers}
 use Rattle.com_model.specs.Calls.{Admission, admits, admission_or, admitted}
 use Rattle.com_model.specs.Waiting.{postings}
 use Rattle.com_model.specs.Sight.{sight}

@@ -1,8 +1,7 @@
 -- What stands on top of a lane at the entries that the rules give.
 use Rattle.std.proofs.Common.{subst, sym, ap, ◌∙◌, ◌⊎◌, inl, inr, eqb-true, arith}
-use Rattle.std.proofs.lemmas.Bool.{and_parts, false_from_ne_true}
-use Rattle.std.proofs.lemmas.Grind.{common_steps}
-use Rattle.std.specs.Prelude.{◌≡◌, refl, ℕ, ℤ, zero, suc, ◌+◌, ◌≤◌, pos, negsuc, Bool, true, false, cond, not, ◌==◌, ◌&&◌, nat_le, nat_lt, List, [], ◌∷◌, length, Option, Some, None, is_none, filter, option_map, option_and_then, Result, Ok, Err}
+use Rattle.std.proofs.lemmas.Bool.{and_parts}
+use Rattle.std.specs.Prelude.{◌≡◌, refl, ℕ, ℤ, ◌+◌, ◌≤◌, pos, negsuc, Bool, true, false, cond, not, ◌==◌, ◌&&◌, nat_le, nat_lt, List, [], ◌∷◌, length, Option, Some, None, is_none, option_map, option_and_then, Result, Ok, Err}
 use Rattle.com_base.specs.declared.hresult.HResult.{HResult}
 use Rattle.com_base.specs.declared.value.RefValue.{RefValue}
 use Rattle.com_base.specs.declared.value.Value.{Value}
@@ -22,20 +21,20 @@ use Rattle.com_model.specs.declared.deeds.Route.{Route}
 use Rattle.com_model.specs.declared.deeds.Route.TheVariants as route
 use Rattle.com_model.specs.declared.scenario.Scenario.{Scenario}
 use Rattle.com_model.specs.Answers.{S_OK, E_INVALIDARG, CO_E_OBJNOTCONNECTED, RPC_E_OUT_OF_RESOURCES, RPC_E_SERVER_CANTUNMARSHAL_DATA}
-use Rattle.com_model.specs.Lists.{where_true, first, is_member}
+use Rattle.com_model.specs.Lists.{where_true, first}
 use Rattle.com_model.specs.Tables.{class_number, interface_number, LaneSort, Thread, Host, Pool, NoLane, lane_sort}
-use Rattle.com_model.specs.Openers.{Opener, Pumps, Waits, Enters, openers, running_call}
+use Rattle.com_model.specs.Openers.{Opener, Pumps, Waits, Enters, running_call}
 use Rattle.com_model.specs.Apartments.{mta, is_sta}
 use Rattle.com_model.specs.Calls.{Issue, issues, issue_or, issue, calls, route_of, object_of, is_post}
-use Rattle.com_model.specs.Endings.{Answer, answer_of}
-use Rattle.com_model.specs.Waiting.{PostEffect, Posts, Judges, Delays, GivesUp, PostsNone, retries, post_effect, Phase, Unposted, Queued, Judged, Delayed, GivenUp, phase_after, phase, is_queued, waits_in, inbox, postings, Word, bound_reached, mark_of, not_asked}
+use Rattle.com_model.specs.Endings.{Answer}
+use Rattle.com_model.specs.Waiting.{Posts, Delays, post_effect, Phase, Unposted, Queued, Judged, Delayed, GivenUp, phase_after, phase, is_queued, waits_in, inbox, postings, Word, bound_reached, mark_of, not_asked}
 use Rattle.com_model.specs.Clock.{clock}
 use Rattle.com_model.specs.Sight.{Sight, sight}
 use Rattle.com_model.specs.Frames.{reference}
 use Rattle.com_model.specs.Books.{Cookie, cookie}
 use Rattle.com_model.specs.Issue.{call_refusal}
 use Rattle.com_model.specs.Deeds.{deed_of, initialised, uninitialised, creator, placing, made_as, created_of, created, owned_by, hold_refusal, marshalled, registered, Named, NamesPacket, Refuses, named_by, gained_refs, unmarshalled, dropped, cookie_number, got_with, got, revoked, called, left_as, left_by}
-use Rattle.com_model.specs.Rules.{waiting_call, posted_to_sta, call_sort, verdict_on, is_handled_in, arguments_gone, admission, rule_final, rule_own, enters_itself, own_call, due_of, packet_left, answered, rule_answer, rule_bound, is_open_to_calls, admits_sta, admits_next, rule_inbox, retried, rule_retry, posted_again, rule_again, asked_on, rule_pending, takes_word, pumped, rule_word, after_script, scripted, is_script_turn, rule_script, ruled, stepped, top, tick_time, no_lane_can, next_by, next, legal}
+use Rattle.com_model.specs.Rules.{waiting_call, posted_to_sta, call_sort, verdict_on, is_handled_in, arguments_gone, admission, rule_final, rule_own, enters_itself, own_call, due_of, packet_left, answered, rule_answer, rule_bound, is_open_to_calls, admits_sta, admits_next, rule_inbox, retried, rule_retry, posted_again, rule_again, asked_on, rule_pending, takes_word, pumped, rule_word, scripted, is_script_turn, rule_script, ruled, stepped, top, tick_time, no_lane_can, next_by, next, legal}
 use Rattle.com_model.proofs.Given.{Given, given-or, given-where, given-map, given-then}
 use Rattle.com_model.proofs.Comes.{given-found, first-filter, next-comes}
 use Rattle.com_model.proofs.Fines.{cond-is}
@@ -351,8 +350,8 @@ issue-past s [] c q p = refl
 issue-past s (e ∷ h) c q p =
     let m : calls h ≤ calls (e ∷ h) = omega arith in
     same-issue s h e.lane e.deed c (λ k o i y r cause bytes d z.
-      let r : InRange (calls (e ∷ h)) k = subst (λ (x : Deed). Names (InRange (calls (e ∷ h))) (call_named x)) d (named-in-range s h e q) in
-      let u : k ≤ calls (e ∷ h) = r.1 in omega (arith, u, z, p))
+    let r : InRange (calls (e ∷ h)) k = subst (λ (x : Deed). Names (InRange (calls (e ∷ h))) (call_named x)) d (named-in-range s h e q) in
+    let u : k ≤ calls (e ∷ h) = r.1 in omega (arith, u, z, p))
     ∙ issue-past s h c q.0 (omega (arith, p, m))
 
 no-issue-post : (i : Option Issue) → i ≡ None → is_post (route_of i) ≡ true → ⊥
@@ -389,6 +388,7 @@ phase-step s h l now (deed.Retry k (pos x)) c (inr t) f g n q = by-test (nat_lt 
   where
     own : k ≡ c → is_post (route_of (issue h c)) ≡ true
     own e = subst (λ (j : ℕ). is_post (route_of (issue h j)) ≡ true) e (f k t)
+
     by-test : (b : Bool) → IsPosted (phase_after (cond b (Posts k) (Delays k x)) now c (phase h c)) → is_post (route_of (issue h c)) ≡ true
     by-test true q = posted-if k c Queued (phase h c) (is_post (route_of (issue h c))) own (f c) q
     by-test false q = posted-if k c (Delayed (now + x)) (phase h c) (is_post (route_of (issue h c))) own (f c) q
