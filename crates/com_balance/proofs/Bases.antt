@@ -42,17 +42,17 @@ use Rattle.com_balance.proofs.Says.{Says, next-says}
 use Rattle.com_balance.proofs.Tops.{no_top, by_body, HomeAct, Tops, next-tops}
 use Rattle.com_balance.proofs.Homes.{home-remains, home-other, held-all, taken-homed, admitted-none}
 
-abbrev S0 : Scenario → List Entry → ℕ → RefValue → Type 0
+abbrev pub S0 : Scenario → List Entry → ℕ → RefValue → Type 0
 S0 s h l r = home s h l ≡ None → ⊥
 
-abbrev B0 : List Entry → ℕ → RefValue → Type 0
+abbrev pub B0 : List Entry → ℕ → RefValue → Type 0
 B0 h c r = admitted h c ≡ None → ⊥
 
-abbrev K0 : Scenario → List Entry → ℕ → RefValue → Type 0
+abbrev pub K0 : Scenario → List Entry → ℕ → RefValue → Type 0
 K0 s h o r = agile s h o ≡ false
 
 -- A call whose answer is fixed, and not by a Leave.
-abbrev Ended : Option Ending → Type 0
+abbrev pub Ended : Option Ending → Type 0
 Ended x = (is_some x ≡ true) × NotLeft x
 
 pub record Base (s : Scenario) (h : List Entry) : Type 0 where
@@ -87,12 +87,12 @@ actor-is Q sort l (Waits k ∷ os) f g n = n
 pub top-among : (c o a : ℕ) (os rest : List Opener) → os ≡ Enters c o a ∷ rest → Among (Enters c o a) os
 top-among c o a os rest e = subst (λ (x : List Opener). Among (Enters c o a) x) (sym e) (inl refl)
 
-some-none : {X : Type 0} (x : Option X) (y : X) → x ≡ Some y → x ≡ None → ⊥
+pub some-none : {X : Type 0} (x : Option X) (y : X) → x ≡ Some y → x ≡ None → ⊥
 some-none None y e p = cc
 some-none (Some z) y e p = cc
 
 -- The call of a body that acts was admitted, and its object made.
-open-some : (s : Scenario) (h : List Entry) → legal s h → (l c o a : ℕ) → Among (Enters c o a) (openers h l) → admitted h c ≡ None → ⊥
+pub open-some : (s : Scenario) (h : List Entry) → legal s h → (l c o a : ℕ) → Among (Enters c o a) (openers h l) → admitted h c ≡ None → ⊥
 open-some s h q l c o a m = some-none (admitted h c) (admission_in c l a) (open-admitted s h q l c o a m)
 
 pub open-made : (s : Scenario) (h : List Entry) → Formed s → legal s h → (l c o a : ℕ) → Among (Enters c o a) (openers h l) → o ≤ objects h
@@ -106,7 +106,7 @@ body-action s S B K L k i w c o x h p g e = subst (ActionBy s ⊥ L (B c)) (same
     same : (y x : Action) → Some y ≡ Some x → y ≡ x
     same y x e = cc
 
-first-is : (os : List Opener) (c o a : ℕ) → first os ≡ Some (Enters c o a) → (rest : List Opener) × (os ≡ Enters c o a ∷ rest)
+pub first-is : (os : List Opener) (c o a : ℕ) → first os ≡ Some (Enters c o a) → (rest : List Opener) × (os ≡ Enters c o a ∷ rest)
 first-is [] c o a e = cc
 first-is (x ∷ os) c o a e = (os, ap (λ (y : Opener). y ∷ os) (same x e))
   where
@@ -168,7 +168,7 @@ home-stays s h e f q b l o m =
 
 -- ---- one entry: references
 
-value-any : (P : RefValue → Type 0) → ((r : RefValue) → P r) → (v : Value) → ValueBy P v
+pub value-any : (P : RefValue → Type 0) → ((r : RefValue) → P r) → (v : Value) → ValueBy P v
 value-any P f (value.Ref held) = held-all P held f
 value-any P f (value.Int x) = tt
 value-any P f (value.Bool x) = tt
@@ -176,10 +176,10 @@ value-any P f (value.Text x) = tt
 value-any P f (value.Bytes x) = tt
 value-any P f (value.Guid x) = tt
 
-pub Acting : Scenario → List Entry → Entry → Actor → Type 0
+unfoldable pub Acting : Scenario → List Entry → Entry → Actor → Type 0
 Acting s h e a = Shares (S0 s h) (B0 (e ∷ h)) (K0 s (e ∷ h)) (I_of a) (L_of s h a) a × OrderlyActor s (class_of h) (issue h) (I_of a) (L_of s h a) a × HeldBy (TestOf (S0 s h) (B0 (e ∷ h)) a) (taken_in e.deed)
 
-acting-base : (s : Scenario) (h : List Entry) (e : Entry) → Formed s → legal s (e ∷ h) → Acting s h e (acting s (class_of h) (issue h) (scene s h) (actor_in s h e.lane) e.deed)
+pub acting-base : (s : Scenario) (h : List Entry) (e : Entry) → Formed s → legal s (e ∷ h) → Acting s h e (acting s (class_of h) (issue h) (scene s h) (actor_in s h e.lane) e.deed)
 unfolding Acting
 acting-base s h e f q =
     acting-is (Acting s h e) s (class_of h) (issue h) (scene s h) (actor_in s h e.lane) e.deed
@@ -197,22 +197,22 @@ wants-same (action.Call held i m args to) l (deed.Out c o j n r k bytes) w e = c
 wants-same (action.Call held i m args to) l _ w e = refl
 wants-same _ l d w e = refl
 
-acted-same : (a : Actor) (r : Option Outcome) (l : ℕ) (d : Deed) (w : Scene) → issues l d ≡ None → (acted a r d w).destinations ≡ w.destinations
+pub acted-same : (a : Actor) (r : Option Outcome) (l : ℕ) (d : Deed) (w : Scene) → issues l d ≡ None → (acted a r d w).destinations ≡ w.destinations
 acted-same a None l d w e = refl
 acted-same a (Some r) l d w e = wants-same r.action l d _ e ∙ all-written-to a (with_frame a r w) (writes r.action d) ∙ framed-to a r w
 
-cut-to : (n : ℕ → ℕ) (x : Option ℕ) (w : Scene) → (cut_links n x w).destinations ≡ w.destinations
+pub cut-to : (n : ℕ → ℕ) (x : Option ℕ) (w : Scene) → (cut_links n x w).destinations ≡ w.destinations
 cut-to n None w = refl
 cut-to n (Some a) w = refl
 
-arrived-to : (b : Actor) (l : ℕ) (d : Deed) (w : Scene) → (arrived b l d w).destinations ≡ w.destinations
+pub arrived-to : (b : Actor) (l : ℕ) (d : Deed) (w : Scene) → (arrived b l d w).destinations ≡ w.destinations
 arrived-to b l (deed.Back c hr v) w = all-written-to b w (to_answer hr ∷ to_destination (w.destinations c) v)
 arrived-to b l deed.EndPump w = written-to b w (to_answer S_OK)
 arrived-to b l (deed.Uninit a zero) w = refl
 arrived-to b l (deed.Uninit a (suc n)) w = refl
 arrived-to b l _ w = refl
 
-first-among : (os : List Opener) (o : Opener) → first os ≡ Some o → Among o os
+pub first-among : (os : List Opener) (o : Opener) → first os ≡ Some o → Among o os
 first-among [] o e = cc
 first-among (x ∷ os) o e = inl (same x o e)
   where
@@ -239,7 +239,7 @@ back-homed s h l c hr v (inl e) p = none-held (λ r. home s h l ≡ None → ⊥
 back-homed s h l c hr v (inr e) (inl p) = absurd (subst NotLeft e p.1)
 back-homed s h l c hr v (inr e) (inr p) = held-all (λ r. home s h l ≡ None → ⊥) (value_reference v) (λ r. p)
 
-arrives-base : (s : Scenario) (h : List Entry) (e : Entry) (d : Deed) (x : ℕ → Destination) (b : Actor) → legal s h → Base s h → ((c : ℕ) → x c ≡ (scene s h).destinations c) → Says s (sight s h) e.lane d → e.deed ≡ d → ((c : ℕ) (hr : HResult) (v : Option Value) → d ≡ deed.Back c hr v → Among (Waits c) (openers h e.lane)) → ((v : Option Value) → HeldBy (λ r. home s h e.lane ≡ None → ⊥) (value_reference v) → HeldBy (TestOf (S0 s h) (B0 (e ∷ h)) b) (value_reference v)) → ArrivesBy (S0 s h) (B0 (e ∷ h)) x b d
+pub arrives-base : (s : Scenario) (h : List Entry) (e : Entry) (d : Deed) (x : ℕ → Destination) (b : Actor) → legal s h → Base s h → ((c : ℕ) → x c ≡ (scene s h).destinations c) → Says s (sight s h) e.lane d → e.deed ≡ d → ((c : ℕ) (hr : HResult) (v : Option Value) → d ≡ deed.Back c hr v → Among (Waits c) (openers h e.lane)) → ((v : Option Value) → HeldBy (λ r. home s h e.lane ≡ None → ⊥) (value_reference v) → HeldBy (TestOf (S0 s h) (B0 (e ∷ h)) b) (value_reference v)) → ArrivesBy (S0 s h) (B0 (e ∷ h)) x b d
 arrives-base s h e (deed.Enter c o a t vs) x b q g dest z p m f = λ k u y. value-any (B0 (e ∷ h) c) (λ r. entered-some) (slice_index_or vs k u)
   where
     entered-some : admitted (e ∷ h) c ≡ None → ⊥

@@ -80,7 +80,7 @@ left-not-left s (e ∷ h) c p =
 
 -- ---- a call that returned has an answer
 
-or-some : (x y : Option Ending) → is_some x ≡ true → is_some (or_else x y) ≡ true
+pub or-some : (x y : Option Ending) → is_some x ≡ true → is_some (or_else x y) ≡ true
 or-some None y e = cc
 or-some (Some z) y e = refl
 

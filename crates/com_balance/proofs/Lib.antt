@@ -19,3 +19,4 @@ pub mod Leavings
 pub mod Tops
 pub mod Homes
 pub mod Bases
+pub mod Steps

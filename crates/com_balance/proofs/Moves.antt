@@ -108,7 +108,7 @@ abbrev pub Shares : (S B K : ℕ → RefValue → Type 0) → Type 0 → Type 0 
 Shares S B K I L (Body c o) = ((r : RefValue) → K o r → B c r) × (L → (r : RefValue) → B c r → K o r)
 Shares S B K I L _ = Unit {0}
 
-held-more : (P Q : RefValue → Type 0) (held : Option RefValue) → ((r : RefValue) → P r → Q r) → HeldBy P held → HeldBy Q held
+pub held-more : (P Q : RefValue → Type 0) (held : Option RefValue) → ((r : RefValue) → P r → Q r) → HeldBy P held → HeldBy Q held
 held-more P Q None f p = tt
 held-more P Q (Some r) f p = f r p
 
@@ -176,7 +176,7 @@ wants-by S B K (action.Call held i x args to) (deed.Out k o j y r b bytes) w g =
 wants-by S B K (action.Call held i x args to) _ w g = g
 wants-by S B K _ d w g = g
 
-out-action : (s : Scenario) (S B : ℕ → RefValue → Type 0) (I L : Type 0) (a : Actor) (w : Scene) (r : Outcome) → OutBy s S B I L a w (Some r) → ActionBy s I L (TestOf S B a) r.action
+pub out-action : (s : Scenario) (S B : ℕ → RefValue → Type 0) (I L : Type 0) (a : Actor) (w : Scene) (r : Outcome) → OutBy s S B I L a w (Some r) → ActionBy s I L (TestOf S B a) r.action
 out-action s S B I L (Body c o) w r p = p.action
 out-action s S B I L (Script l) w r p = p.action
 out-action s S B I L Nobody w r p = absurd p
@@ -197,10 +197,10 @@ OrderlyActor s k i I L (Body c o) = (j m : ℕ) → All (Orderly s I L) (body_of
 OrderlyActor s k i I L (Script l) = All (Orderly s I L) (script s l)
 OrderlyActor s k i I L Nobody = Unit {0}
 
-links-more : (P Q : RefValue → Type 0) (xs : List (Option RefValue)) → ((r : RefValue) → P r → Q r) → All (HeldBy P) xs → All (HeldBy Q) xs
+pub links-more : (P Q : RefValue → Type 0) (xs : List (Option RefValue)) → ((r : RefValue) → P r → Q r) → All (HeldBy P) xs → All (HeldBy Q) xs
 links-more P Q xs f p = λ k d h. held-more P Q _ f (p k d h)
 
-new-links : (P : RefValue → Type 0) → All (HeldBy P) new_cells.links
+pub new-links : (P : RefValue → Type 0) → All (HeldBy P) new_cells.links
 new-links P = All-replicate (HeldBy P) 4 None tt
 
 body-out : (s : Scenario) (I L : Type 0) (P : RefValue → Type 0) (k : ℕ) (i : Option Issue) (f : FrameView) (c : Cells) → ((j m : ℕ) → All (Orderly s I L) (body_of s.classes k j m)) → FrameBy P f → All (HeldBy P) c.links → OutcomeBy s I L P f c (issued_body s k i f c)

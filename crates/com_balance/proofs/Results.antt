@@ -145,7 +145,7 @@ ends-is P f (deed.Uninit u n) c o a b p q = by-sta (ends_sta (deed.Uninit u n))
     by-sta (Some n) = where-ending (P c) (b && n == a) _ (p None tt) (λ e. p _ tt)
 ends-is P f _ c o a b p q = p None tt
 
-more-calls : (s : Scenario) (h : List Entry) (e : Entry) → calls h ≤ calls (e ∷ h)
+pub more-calls : (s : Scenario) (h : List Entry) (e : Entry) → calls h ≤ calls (e ∷ h)
 more-calls s h e = omega arith
 
 -- A call that was not issued has not left.
