@@ -108,7 +108,7 @@ place-by : (P : RefValue → Type 0) (f : FrameView) (c : Cells) (x : Place) →
 place-by P f c (place.Slot k) g e = slot-by P f k g
 place-by P f c (place.Link k) g e = all-or (HeldBy P) c.links k None tt e
 
-argument-by : (P : RefValue → Type 0) (f : FrameView) (a : Arg) → FrameBy P f → CleanArg a → ValueBy P (argument_of f a)
+pub argument-by : (P : RefValue → Type 0) (f : FrameView) (a : Arg) → FrameBy P f → CleanArg a → ValueBy P (argument_of f a)
 argument-by P f (arg.Op o) g p = plain-by P (value_of f o) (value-plain f o g.registers p)
 argument-by P f (arg.Slot k) g p = slot-by P f k g
 argument-by P f arg.Null g p = tt
@@ -120,14 +120,14 @@ given-by P f (given.Slot k) g p = slot-by P f k g
 
 -- ---- one statement
 
-abbrev EffectBy : Scenario → Type 0 → Type 0 → (RefValue → Type 0) → FrameView → Cells → Effect → Type 0
+abbrev pub EffectBy : Scenario → Type 0 → Type 0 → (RefValue → Type 0) → FrameView → Cells → Effect → Type 0
 EffectBy s I L P f c (Goes g d k) = All IsPlain g.registers × (g.slots ≡ f.slots) × (d.links ≡ c.links)
 EffectBy s I L P f c (Acts a) = ActionBy s I L P a
 
 register-plain : (f : FrameView) (r : ℕ) (v : Value) → All IsPlain f.registers → IsPlain v → All IsPlain (with_register f r v).registers
 register-plain f r v g p = All-set IsPlain f.registers r v p g
 
-effect-by : (s : Scenario) (I L : Type 0) (P : RefValue → Type 0) (f : FrameView) (c : Cells) (x : Stmt) → FrameBy P f → All (HeldBy P) c.links → Orderly s I L x → EffectBy s I L P f c (effect_of f c x)
+pub effect-by : (s : Scenario) (I L : Type 0) (P : RefValue → Type 0) (f : FrameView) (c : Cells) (x : Stmt) → FrameBy P f → All (HeldBy P) c.links → Orderly s I L x → EffectBy s I L P f c (effect_of f c x)
 effect-by s I L P f c (stmt.Set to from) g e p = (register-plain f to (value_of f from) g.registers (value-plain f from g.registers p), refl, refl)
 effect-by s I L P f c (stmt.Add to from) g e p = (register-plain f to _ g.registers tt, refl, refl)
 effect-by s I L P f c (stmt.Sub to from) g e p = (register-plain f to _ g.registers tt, refl, refl)
@@ -160,10 +160,10 @@ effect-by s I L P f c (stmt.Pump k) g e p = tt
 
 -- ---- a body step
 
-all-head : {X : Type 0} (P : X → Type 0) (x : X) (xs : List X) → All P (x ∷ xs) → P x
+pub all-head : {X : Type 0} (P : X → Type 0) (x : X) (xs : List X) → All P (x ∷ xs) → P x
 all-head P x xs p = p 0 x (grind (arith, common_steps))
 
-all-tail : {X : Type 0} (P : X → Type 0) (x : X) (xs : List X) → All P (x ∷ xs) → All P xs
+pub all-tail : {X : Type 0} (P : X → Type 0) (x : X) (xs : List X) → All P (x ∷ xs) → All P xs
 all-tail P x xs p = λ k d h. p (suc k) d (grind (arith, common_steps, h))
 
 same-all : {X : Type 0} (P : X → Type 0) (xs ys : List X) → ys ≡ xs → All P xs → All P ys

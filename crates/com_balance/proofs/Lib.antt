@@ -20,3 +20,4 @@ pub mod Tops
 pub mod Homes
 pub mod Bases
 pub mod Steps
+pub mod Arguments

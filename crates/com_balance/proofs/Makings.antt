@@ -79,7 +79,7 @@ among-made n c a (Waits j ∷ os) k x b g (inr m) = among-made n c a os k x b g 
 abbrev pub OwnedAt : Scenario → List Entry → ℕ → ℕ → Type 0
 OwnedAt s h x a = (agile s h x ≡ true) ⊎ (a ≡ named h x)
 
-owned-later : (s : Scenario) (h : List Entry) (e : Entry) (x a : ℕ) → Formed s → legal s (e ∷ h) → x ≤ objects h → OwnedAt s h x a → OwnedAt s (e ∷ h) x a
+pub owned-later : (s : Scenario) (h : List Entry) (e : Entry) (x a : ℕ) → Formed s → legal s (e ∷ h) → x ≤ objects h → OwnedAt s h x a → OwnedAt s (e ∷ h) x a
 owned-later s h e x a f q p (inl r) = inl (same-agile s h e x f q p ∙ r)
 owned-later s h e x a f q p (inr r) = inr (r ∙ sym (same-named s h e x f q p))
 

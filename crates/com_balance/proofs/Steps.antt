@@ -60,7 +60,7 @@ made-or-new n o =
 pub cells-empty : (P : RefValue → Type 0) (c : Cells) → c ≡ new_cells → All (HeldBy P) c.links
 cells-empty P c e = subst (λ (x : Cells). All (HeldBy P) x.links) (sym e) (new-links P)
 
-base-before : (s : Scenario) (h : List Entry) (e : Entry) → Formed s → legal s (e ∷ h) → Base s h → SceneBy (S0 s h) (B0 (e ∷ h)) (K0 s (e ∷ h)) (scene s h)
+pub base-before : (s : Scenario) (h : List Entry) (e : Entry) → Formed s → legal s (e ∷ h) → Base s h → SceneBy (S0 s h) (B0 (e ∷ h)) (K0 s (e ∷ h)) (scene s h)
 base-before s h e f q b = record {
   scripts = b.frames.scripts;
   bodies = λ c. frame-more (B0 h c) (B0 (e ∷ h) c) ((scene s h).bodies c) (λ r n z. n (admitted-none (admits e.lane e.deed) c (admitted h c) z)) (b.frames.bodies c);
