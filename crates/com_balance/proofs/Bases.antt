@@ -145,11 +145,11 @@ body-no-home s h f q b l c o a e x y z =
     (body-action s (S0 s h) (B0 h) (K0 s h) (agile s h o ≡ false) (class_of h) (issue h) (scene s h) c o x (base-shares s h q l c o a (top-among c o a (openers h l) u.0 u.1)) (actor-orderly s h f (Body c o)) b.frames
     (subst (λ (os : List Opener). act_by s (class_of h) (issue h) (scene s h) (actor (lane_sort s l) l os) ≡ Some x) u.1 y)) z
 
-not-empty : (o : Opener) (os : List Opener) → Among o os → first os ≡ None → ⊥
+pub not-empty : (o : Opener) (os : List Opener) → Among o os → first os ≡ None → ⊥
 not-empty o [] m e = m
 not-empty o (x ∷ os) m e = cc
 
-remains-by : (s : Scenario) (h : List Entry) → Formed s → legal s h → Base s h → (l : ℕ) (d : Deed) → Tops (sight s h) l d → (first (openers h l) ≡ None → ⊥) → home_effect d ≡ Remains
+pub remains-by : (s : Scenario) (h : List Entry) → Formed s → legal s h → Base s h → (l : ℕ) (d : Deed) → Tops (sight s h) l d → (first (openers h l) ≡ None → ⊥) → home_effect d ≡ Remains
 remains-by s h f q b l (deed.Init m x hr) (inl (no_top e p)) n = absurd (n e)
 remains-by s h f q b l (deed.Init m x hr) (inl (by_body c o a e y z p)) n = absurd (body-no-home s h f q b l c o a e y z p)
 remains-by s h f q b l (deed.Init m x hr) (inr p) n = absurd p

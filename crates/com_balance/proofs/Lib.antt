@@ -21,3 +21,4 @@ pub mod Homes
 pub mod Bases
 pub mod Steps
 pub mod Arguments
+pub mod Directs

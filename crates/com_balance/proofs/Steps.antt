@@ -96,7 +96,7 @@ base-scene s h e f q b =
 
 -- ---- scripts without home
 
-same-number : (n : ℕ) → (n == n) ≡ true
+pub same-number : (n : ℕ) → (n == n) ≡ true
 same-number n = grind (arith, common_steps)
 
 cut-scripts : (n : ℕ → ℕ) (x : Option ℕ) (w : Scene) → (cut_links n x w).scripts ≡ w.scripts
