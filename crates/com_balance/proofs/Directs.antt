@@ -61,7 +61,7 @@ abbrev pub Over : ℕ → List Opener → List Opener → Type 0
 Over c os [] = ⊥
 Over c os (x ∷ xs) = ((x ≡ Waits c) × (xs ≡ os)) ⊎ Over c os xs
 
-over-after : (c : ℕ) (os : List Opener) (e : Effect) (xs : List Opener) → Over c os (opened e xs) → Over c os xs ⊎ ((e ≡ Opens (Waits c)) × (xs ≡ os))
+pub over-after : (c : ℕ) (os : List Opener) (e : Effect) (xs : List Opener) → Over c os (opened e xs) → Over c os xs ⊎ ((e ≡ Opens (Waits c)) × (xs ≡ os))
 over-after c os (Opens x) xs (inl p) = inr (ap Opens p.0, p.1)
 over-after c os (Opens x) xs (inr p) = inl p
 over-after c os (Closes k) [] p = inl p
@@ -73,7 +73,7 @@ over-among c os [] m = absurd m
 over-among c os (x ∷ xs) (inl p) = inl p.0
 over-among c os (x ∷ xs) (inr p) = inr (over-among c os xs p)
 
-over-below : (c : ℕ) (os xs : List Opener) (o : Opener) → Over c os xs → Among o os → Among o xs
+pub over-below : (c : ℕ) (os xs : List Opener) (o : Opener) → Over c os xs → Among o os → Among o xs
 over-below c os [] o m k = absurd m
 over-below c os (x ∷ xs) o (inl p) k = inr (subst (λ (ys : List Opener). Among o ys) (sym p.1) k)
 over-below c os (x ∷ xs) o (inr p) k = inr (over-below c os xs o p k)
@@ -81,7 +81,7 @@ over-below c os (x ∷ xs) o (inr p) k = inr (over-below c os xs o p k)
 longer : (x : Opener) (xs : List Opener) → length xs < length (x ∷ xs)
 longer x xs = grind (arith, common_steps)
 
-over-short : (c : ℕ) (os xs : List Opener) → Over c os xs → length os < length xs
+pub over-short : (c : ℕ) (os xs : List Opener) → Over c os xs → length os < length xs
 over-short c os [] m = absurd m
 over-short c os (x ∷ xs) (inl p) = subst (λ (ys : List Opener). length ys < length (x ∷ xs)) p.1 (longer x xs)
 over-short c os (x ∷ xs) (inr p) = let k : length os < length xs = over-short c os xs p in let m : length xs < length (x ∷ xs) = longer x xs in omega (arith, k, m)
@@ -106,7 +106,7 @@ pub sent-stays : (s : Scenario) (h : List Entry) (e : Entry) (c : ℕ) → legal
 sent-stays s h e c q p = sent-same s h e.lane c e.deed (λ k o i m t cause bytes d u.
     let n : k ≡ calls h + 1 = out-number s h e.lane e.deed (next-comes s h e.lane e.deed q.1) k o i m t cause bytes d in omega (arith, n, u, p))
 
-admission-past : (x : Option Admission) (l c : ℕ) (d : Deed) → ((k o a : ℕ) (t : Option ℕ) (vs : List Value) → d ≡ deed.Enter k o a t vs → k ≡ c → ⊥) → x ≡ None → admission_or (admits l d) c x ≡ None
+pub admission-past : (x : Option Admission) (l c : ℕ) (d : Deed) → ((k o a : ℕ) (t : Option ℕ) (vs : List Value) → d ≡ deed.Enter k o a t vs → k ≡ c → ⊥) → x ≡ None → admission_or (admits l d) c x ≡ None
 admission-past x l c (deed.Enter k o a t vs) f e = ap (λ (b : Bool). cond b (Some (admission_in k l a)) x) (false_from_ne_true (k == c) (λ z. f k o a t vs refl (eqb-true k c z))) ∙ e
 admission-past x l c _ f e = e
 
@@ -169,7 +169,7 @@ out-base s h e f q =
     let a : Acting s h e u = acting-base s h e f q in
     outcome-by s (S0 s h) (B0 (e ∷ h)) (K0 s (e ∷ h)) (I_of u) (L_of s h u) (class_of h) (issue h) u (scene s h) a.0 a.1 (base-before s h e f q (legal-base s h f q.0))
 
-still-slots : (s : Scenario) (h : List Entry) (e : Entry) (x : Actor) → Formed s → legal s (e ∷ h) → StillBy x (acting s (class_of h) (issue h) (scene s h) (actor_in s h e.lane) e.deed) (outcome s (class_of h) (issue h) (scene s h) (acting s (class_of h) (issue h) (scene s h) (actor_in s h e.lane) e.deed)) e.deed → OtherThan x (actor_in s (e ∷ h) e.lane) e.lane e.deed → slots_of x (scene s (e ∷ h)) ≡ slots_of x (scene s h)
+pub still-slots : (s : Scenario) (h : List Entry) (e : Entry) (x : Actor) → Formed s → legal s (e ∷ h) → StillBy x (acting s (class_of h) (issue h) (scene s h) (actor_in s h e.lane) e.deed) (outcome s (class_of h) (issue h) (scene s h) (acting s (class_of h) (issue h) (scene s h) (actor_in s h e.lane) e.deed)) e.deed → OtherThan x (actor_in s (e ∷ h) e.lane) e.lane e.deed → slots_of x (scene s (e ∷ h)) ≡ slots_of x (scene s h)
 still-slots s h e x f q n o =
     let u : Actor = acting s (class_of h) (issue h) (scene s h) (actor_in s h e.lane) e.deed in
     let r : Option Outcome = outcome s (class_of h) (issue h) (scene s h) u in
@@ -252,7 +252,7 @@ other-keeps x b l (deed.Uninit a n) e r = cc
 other-keeps x b l _ e r = tt
 
 -- An entry that keeps the openers of its lane, while a call waits on top, keeps the slots of who stands below.
-own-slots-stay : (s : Scenario) (h : List Entry) (e : Entry) (c : ℕ) (os : List Opener) → Formed s → legal s (e ∷ h) → openers h e.lane ≡ Waits c ∷ os → effect e.deed ≡ Keeps → (x : Actor) → slots_of x (scene s (e ∷ h)) ≡ slots_of x (scene s h)
+pub own-slots-stay : (s : Scenario) (h : List Entry) (e : Entry) (c : ℕ) (os : List Opener) → Formed s → legal s (e ∷ h) → openers h e.lane ≡ Waits c ∷ os → effect e.deed ≡ Keeps → (x : Actor) → slots_of x (scene s (e ∷ h)) ≡ slots_of x (scene s h)
 own-slots-stay s h e c os f q p k x =
     still-slots s h e x f q
     (still-apart x _ _ e.deed (subst (λ (ys : List Opener). Apart x (acting s (class_of h) (issue h) (scene s h) (actor (lane_sort s e.lane) e.lane ys) e.deed)) (sym p) (acting-is (λ a. Apart x a) s (class_of h) (issue h) (scene s h) Nobody e.deed (apart-nobody x) (apart-nobody x))))

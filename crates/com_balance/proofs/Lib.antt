@@ -22,3 +22,4 @@ pub mod Bases
 pub mod Steps
 pub mod Arguments
 pub mod Directs
+pub mod Pending
