@@ -100,7 +100,7 @@ open-made s h f q l c o a m = among-made _ _ _ (openers h l) c o a ((legal-kept 
 
 -- ---- a body begins and ends no home
 
-body-action : (s : Scenario) (S B K : ℕ → RefValue → Type 0) (L : Type 0) (k : ℕ → ℕ) (i : ℕ → Option Issue) (w : Scene) (c o : ℕ) (x : Action) → Shares S B K ⊥ L (Body c o) → OrderlyActor s k i ⊥ L (Body c o) → SceneBy S B K w → act_by s k i w (Body c o) ≡ Some x → ActionBy s ⊥ L (B c) x
+pub body-action : (s : Scenario) (S B K : ℕ → RefValue → Type 0) (L : Type 0) (k : ℕ → ℕ) (i : ℕ → Option Issue) (w : Scene) (c o : ℕ) (x : Action) → Shares S B K ⊥ L (Body c o) → OrderlyActor s k i ⊥ L (Body c o) → SceneBy S B K w → act_by s k i w (Body c o) ≡ Some x → ActionBy s ⊥ L (B c) x
 body-action s S B K L k i w c o x h p g e = subst (ActionBy s ⊥ L (B c)) (same _ x e) (outcome-by s S B K ⊥ L k i (Body c o) w h p g).action
   where
     same : (y x : Action) → Some y ≡ Some x → y ≡ x

@@ -203,7 +203,7 @@ leave-own-result s h g w to a l k hr v bytes r z n m p =
 left-by-leave : (s : Scenario) (h : List Entry) (c : ℕ) (hr : HResult) (v : Option Value) → ending s h c ≡ Some (ByLeave hr v) → NotLeft (ending s h c) → ⊥
 left-by-leave s h c hr v e p = subst NotLeft e p
 
-no-leave-again : (s : Scenario) (h : List Entry) (c : ℕ) (d : Deed) (hr : HResult) (v : Option Value) → ComesOnce (event d) (stage h) → ending s h c ≡ Some (ByLeave hr v) → (k : ℕ) (g : HResult) (w : Option Value) (bytes : Option (List ℕ)) → d ≡ deed.Leave k g w bytes → k ≡ c → ⊥
+pub no-leave-again : (s : Scenario) (h : List Entry) (c : ℕ) (d : Deed) (hr : HResult) (v : Option Value) → ComesOnce (event d) (stage h) → ending s h c ≡ Some (ByLeave hr v) → (k : ℕ) (g : HResult) (w : Option Value) (bytes : Option (List ℕ)) → d ≡ deed.Leave k g w bytes → k ≡ c → ⊥
 no-leave-again s h c d hr v o e k g w bytes p q =
     let z : ((stage h k).enter ≡ true) × ((stage h k).leave ≡ false) = subst (λ (x : Deed). ComesOnce (event x) (stage h)) p o in
     left-by-leave s h c hr v e (left-not-left s h c (stage-left h c (subst (λ (n : ℕ). (stage h n).leave ≡ false) q z.1)))

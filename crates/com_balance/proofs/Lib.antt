@@ -23,3 +23,4 @@ pub mod Steps
 pub mod Arguments
 pub mod Directs
 pub mod Pending
+pub mod Answered

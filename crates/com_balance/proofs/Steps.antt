@@ -78,7 +78,7 @@ after-test s h e q x p =
     (λ z. p)
     (held-more (λ r. home s h e.lane ≡ None → ⊥) (λ r. Unit {0}) x (λ r k. tt) p)
 
-arrives-at : (s : Scenario) (h : List Entry) (e : Entry) (d : Deed) (u : Actor) (r : Option Outcome) → legal s (e ∷ h) → Base s h → Says s (sight s h) e.lane d → e.deed ≡ d → ArrivesBy (S0 s h) (B0 (e ∷ h)) (acted u r d (scene s h)).destinations (actor_in s (e ∷ h) e.lane) d
+pub arrives-at : (s : Scenario) (h : List Entry) (e : Entry) (d : Deed) (u : Actor) (r : Option Outcome) → legal s (e ∷ h) → Base s h → Says s (sight s h) e.lane d → e.deed ≡ d → ArrivesBy (S0 s h) (B0 (e ∷ h)) (acted u r d (scene s h)).destinations (actor_in s (e ∷ h) e.lane) d
 arrives-at s h e (deed.Out k o i m t cause bytes) u r q b z p = tt
 arrives-at s h e d u r q b z p =
     arrives-base s h e d (acted u r d (scene s h)).destinations (actor_in s (e ∷ h) e.lane) q.0 b (λ c. ap (λ (y : ℕ → Destination). y c) (acted-same u r e.lane d (scene s h) refl)) z p

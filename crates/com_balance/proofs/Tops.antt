@@ -53,7 +53,7 @@ abbrev pub OpenTop : Sight → ℕ → Type 0
 OpenTop v l = (c : ℕ) → top v l ≡ Some (Waits c) → PostAt v c
 
 abbrev pub RuleDeed : Sight → ℕ → Deed → Type 0
-RuleDeed v l (deed.Enter c o a t vs) = ((top v l ≡ Some (Waits c)) × (is_post (route_of (v.issue c)) ≡ false)) ⊎ (PostAt v c × OpenTop v l)
+RuleDeed v l (deed.Enter c o a t vs) = ((top v l ≡ Some (Waits c)) × (is_post (route_of (v.issue c)) ≡ false) × (is_none (v.ending c) ≡ true)) ⊎ (PostAt v c × OpenTop v l)
 RuleDeed v l (deed.Verdict c t x) = PostAt v c
 RuleDeed v l (deed.Retry c n) = IsPosted (v.phase c)
 RuleDeed v l (deed.Again c) = IsPosted (v.phase c)
@@ -207,7 +207,7 @@ not-true : (b : Bool) → not b ≡ true → b ≡ false
 not-true true e = cc
 not-true false e = refl
 
-admission-tops : (s : Scenario) (v : Sight) (l c : ℕ) → ((top v l ≡ Some (Waits c)) × (is_post (route_of (v.issue c)) ≡ false)) ⊎ (PostAt v c × OpenTop v l) → Tops v l (admission s v l c)
+admission-tops : (s : Scenario) (v : Sight) (l c : ℕ) → ((top v l ≡ Some (Waits c)) × (is_post (route_of (v.issue c)) ≡ false) × (is_none (v.ending c) ≡ true)) ⊎ (PostAt v c × OpenTop v l) → Tops v l (admission s v l c)
 admission-tops s v l c p =
     cond-is (Tops v l) (nat_le 256 (length (v.openers l))) (deed.Refuse c RPC_E_OUT_OF_RESOURCES) _ (inr tt)
     (cond-test (Tops v l) (posted_to_sta v c && not (is_handled_in s v l c)) (deed.Verdict c (call_sort v l c) (verdict_on s v l c)) _ (λ e. inr ((and_parts _ _ (and_parts (posted_to_sta v c) _ e).0).0))
@@ -287,7 +287,7 @@ ruled-tops : (s : Scenario) (v : Sight) (l : ℕ) → ((a c : ℕ) → first (v.
 ruled-tops s v l f =
     let P : Deed → Type 0 = Tops v l in
     given-or P (rule_final v l) _ (given-map P (λ o. deed.Final o) (first (v.dying l)) (λ o. inr tt))
-    (given-or P (rule_own s v l) _ (then-given P (λ c. where_true (enters_itself v c) (admission s v l c)) (own_call v l) (λ c e. where-given P (enters_itself v c) (admission s v l c) (λ p. admission-tops s v l c (inl (waiting-top (top v l) c e, not-true _ (and_parts (not (is_post (route_of (v.issue c)))) _ p).0)))))
+    (given-or P (rule_own s v l) _ (then-given P (λ c. where_true (enters_itself v c) (admission s v l c)) (own_call v l) (λ c e. where-given P (enters_itself v c) (admission s v l c) (λ p. admission-tops s v l c (inl (waiting-top (top v l) c e, not-true _ (and_parts (not (is_post (route_of (v.issue c)))) _ p).0, (and_parts (is_none (v.admitted c)) _ (and_parts (not (is_post (route_of (v.issue c)))) _ p).1).1)))))
     (given-or P (rule_answer v l) _ (given-then P (λ c. option_map (λ x. answered v c x (packet_left v c)) (due_of v c)) (own_call v l) (λ c. given-map P (λ x. answered v c x (packet_left v c)) (due_of v c) (λ x. answered-tops v l c x (packet_left v c))))
     (given-or P (rule_bound v l) _ (given-where P (bound_reached (v.openers l) (v.served l)) deed.EndPump (inr tt))
     (given-or P (rule_inbox s v l) _ (given-found P (admission s v l) (admits_next v l (lane_sort s l)) (λ c e. admission-tops s v l c (inr (next-admits v l (lane_sort s l) c f e))))
