@@ -24,3 +24,4 @@ pub mod Arguments
 pub mod Directs
 pub mod Pending
 pub mod Answered
+pub mod Tests

@@ -119,13 +119,16 @@ owned-owner false r n a (inr p) e = sym p
 
 -- ---- one entry: a call that was issued before
 
+pub enter-apartment : (s : Scenario) (h : List Entry) (l c o y : ℕ) (t : Option ℕ) (vs : List Value) (os : List Opener) → Says s (sight s h) l (deed.Enter c o y t vs) → openers h l ≡ Waits c ∷ os → OwnedAt s h (target h c) (apartment_of os (home s h l)) → y ≡ apartment_of os (home s h l)
+enter-apartment s h l c o y t vs os z p w =
+    let run : number_or_zero (running s h l) ≡ apartment_of os (home s h l) = ap (λ (ys : List Opener). apartment_of ys (home s h l)) p in
+    z.1 ∙ ap (λ (k : ℕ). owner s h k l) z.0 ∙ owned-owner (agile s h (target h c)) (number_or_zero (running s h l)) (named h (target h c)) (apartment_of os (home s h l)) w run
+
 direct-enters : (s : Scenario) (h : List Entry) (e : Entry) (c o y : ℕ) (t : Option ℕ) (vs : List Value) (os : List Opener) → Formed s → legal s (e ∷ h) → openers h e.lane ≡ Waits c ∷ os → OwnedAt s h (target h c) (apartment_of os (home s h e.lane)) → home s (e ∷ h) e.lane ≡ home s h e.lane → e.deed ≡ deed.Enter c o y t vs → DirectAt s (e ∷ h) e.lane c os
 direct-enters s h e c o y t vs os f q p w n d =
-    let z : Says s (sight s h) e.lane (deed.Enter c o y t vs) = subst (Says s (sight s h) e.lane) d (next-says s h e.lane e.deed q.1) in
-    let run : number_or_zero (running s h e.lane) ≡ apartment_of os (home s h e.lane) = ap (λ (ys : List Opener). apartment_of ys (home s h e.lane)) p in
     entered (admission_in c e.lane y)
     (subst (λ (x : Deed). admission_or (admits e.lane x) c (admitted h c) ≡ Some (admission_in c e.lane y)) (sym d) (ap (λ (b : Bool). cond b (Some (admission_in c e.lane y)) (admitted h c)) (same-number c)))
-    (z.1 ∙ ap (λ (k : ℕ). owner s h k e.lane) z.0 ∙ owned-owner (agile s h (target h c)) (number_or_zero (running s h e.lane)) (named h (target h c)) (apartment_of os (home s h e.lane)) w run ∙ ap (apartment_of os) (sym n))
+    (enter-apartment s h e.lane c o y t vs os (subst (Says s (sight s h) e.lane) d (next-says s h e.lane e.deed q.1)) p w ∙ ap (apartment_of os) (sym n))
 
 direct-keeps : (s : Scenario) (h : List Entry) (e : Entry) (l c : ℕ) (os : List Opener) → Formed s → legal s (e ∷ h) → c ≤ calls h → OwnedAt s h (target h c) (apartment_of os (home s h l)) → home s (e ∷ h) l ≡ home s h l → admitted (e ∷ h) c ≡ None → openers (e ∷ h) l ≡ Waits c ∷ os → slots_of (actor (lane_sort s l) l os) (scene s (e ∷ h)) ≡ slots_of (actor (lane_sort s l) l os) (scene s h) → ((r : RefValue) → In r (carried (sent s h c)) → InSlots (slots_of (actor (lane_sort s l) l os) (scene s h)) r) → DirectAt s (e ∷ h) l c os
 direct-keeps s h e l c os f q low w n a p same g =
