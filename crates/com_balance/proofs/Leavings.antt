@@ -104,7 +104,7 @@ pub record ResultFor (b : Books) (c : ℕ) (r : RefValue) : Type 0 where
   pub low : number ≤ length b.packets
   pub is : Of (packet b number) r
 
-abbrev ResultBy : Books → Option Issue → ℕ → Option Ending → Type 0
+abbrev pub ResultBy : Books → Option Issue → ℕ → Option Ending → Type 0
 ResultBy b i c (Some (ByLeave hr v)) = is_marshalled (route_of i) ≡ true → (r : RefValue) → value_reference v ≡ Some r → ResultFor b c r
 ResultBy b i c _ = Unit {0}
 

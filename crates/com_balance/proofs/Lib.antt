@@ -25,3 +25,5 @@ pub mod Directs
 pub mod Pending
 pub mod Answered
 pub mod Tests
+pub mod Arrivals
+pub mod Laws
