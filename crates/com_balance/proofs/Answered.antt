@@ -1,8 +1,7 @@
 -- What a call leaves: the value of its Leave is that of its ending, of objects that were made; and a refused call never leaves.
-use Rattle.std.proofs.Common.{subst, sym, ap, ◌∙◌, ◌⊎◌, inl, inr, eqb-true, arith}
+use Rattle.std.proofs.Common.{subst, sym, ap, ◌∙◌, inl, inr, eqb-true, arith}
 use Rattle.std.proofs.lemmas.Bool.{false_from_ne_true}
-use Rattle.std.proofs.lemmas.Grind.{common_steps}
-use Rattle.std.specs.Prelude.{◌≡◌, refl, ℕ, zero, suc, ◌+◌, ◌≤◌, Bool, true, false, cond, ◌==◌, ◌||◌, List, [], ◌∷◌, Option, Some, None, is_some, is_none}
+use Rattle.std.specs.Prelude.{◌≡◌, refl, ℕ, ◌+◌, ◌≤◌, Bool, true, false, cond, ◌==◌, ◌||◌, List, [], ◌∷◌, Option, Some, None, is_some}
 use Rattle.com_base.specs.declared.hresult.HResult.{HResult}
 use Rattle.com_base.specs.declared.value.RefValue.{RefValue}
 use Rattle.com_base.specs.declared.value.Value.{Value}
@@ -16,12 +15,11 @@ use Rattle.com_model.specs.declared.scenario.Scenario.{Scenario}
 use Rattle.com_model.specs.Lists.{first, or_else, where_true, is_number}
 use Rattle.com_model.specs.Tables.{lanes}
 use Rattle.com_model.specs.Openers.{Opener, Pumps, Waits, Enters, effect_on, openers, top_call}
-use Rattle.com_model.specs.Objects.{makes, one_more, objects, named}
-use Rattle.com_model.specs.Calls.{Issue, Admission, Leaving, issues, issue_or, issue, calls, admits, admitted, leaves, leaving_or, left, returns, returned, route_of, target}
+use Rattle.com_model.specs.Objects.{makes, objects, named}
+use Rattle.com_model.specs.Calls.{Issue, Leaving, issues, issue_or, issue, calls, admits, admitted, leaves, leaving_or, left, returns, returned, route_of, target}
 use Rattle.com_model.specs.Frames.{value_reference}
 use Rattle.com_model.specs.Places.{left_value}
 use Rattle.com_model.specs.Endings.{Ending, ByLeave, AtIssue, end_effect, ends, filtered, can_be_cut, ending}
-use Rattle.com_model.specs.Waiting.{postings}
 use Rattle.com_model.specs.Safe.{event, Stage, stage_after, stage, ComesOnce}
 use Rattle.com_model.specs.Rules.{next, legal}
 use Rattle.com_model.specs.Formed.{Formed}
@@ -212,13 +210,14 @@ refused-new s h l c d a b t z w u = λ p. (either-ending NotLeft (ending s h c) 
 
 refused-old : (s : Scenario) (h : List Entry) (e : Entry) (c : ℕ) → legal s (e ∷ h) → c ≤ calls h → RefusedEnds (issue h c) (ending s h c) → RefusedEnds (issue h c) (ending s (e ∷ h) c)
 refused-old s h e c q low f = λ p.
-    let z : NotLeft (ending s h c) × (is_some (issue h c) ≡ true → is_some (ending s h c) ≡ true) = f p in
-    (elim (ending s h c) as (λ x. NotLeft x → (is_some (issue h c) ≡ true → is_some x ≡ true) → NotLeft (or_else x (ends (end_effect (filtered s h) e.deed) c (target h c) (named h (target h c)) (can_be_cut (issue h c) (admitted h c))))) [
-      | Some y ↦ λ n g. n
-      | None ↦ λ n g. ends-is (λ _ x. NotLeft x) (filtered s h) e.deed c (target h c) (named h (target h c)) (can_be_cut (issue h c) (admitted h c)) (λ x w. w)
-          (λ k hr v bytes d u. not-some (g (issued-some s h c q.0 (subst (λ (j : ℕ). 1 ≤ j) u (subst (λ (x : Deed). Names (InRange (calls (e ∷ h))) (call_named x)) d (named-in-range s h e q)).0) low)))
-    ] z.0 z.1,
-    λ w. or-some (ending s h c) _ (z.1 w))
+    let z : NotLeft (ending s h c) × (is_some (issue h c) ≡ true → is_some (ending s h c) ≡ true) = f p in (
+      elim (ending s h c) as (λ x. NotLeft x → (is_some (issue h c) ≡ true → is_some x ≡ true) → NotLeft (or_else x (ends (end_effect (filtered s h) e.deed) c (target h c) (named h (target h c)) (can_be_cut (issue h c) (admitted h c))))) [
+        | Some y ↦ λ n g. n
+        | None ↦ λ n g. ends-is (λ _ x. NotLeft x) (filtered s h) e.deed c (target h c) (named h (target h c)) (can_be_cut (issue h c) (admitted h c)) (λ x w. w)
+            (λ k hr v bytes d u. not-some (g (issued-some s h c q.0 (subst (λ (j : ℕ). 1 ≤ j) u (subst (λ (x : Deed). Names (InRange (calls (e ∷ h))) (call_named x)) d (named-in-range s h e q)).0) low)))
+      ] z.0 z.1,
+      λ w. or-some (ending s h c) _ (z.1 w),
+    )
   where
     not-some : false ≡ true → ⊥
     not-some e = cc

@@ -6,9 +6,6 @@ use Rattle.std.proofs.lemmas.List.Elements.{All-map, All-drop, All-nil}
 use Rattle.std.proofs.lemmas.Grind.{common_steps}
 use Rattle.std.specs.Prelude.{◌≡◌, refl, ℕ, zero, suc, ◌+◌, ◌<◌, Bool, true, false, cond, ◌==◌, List, [], ◌∷◌, length, drop, Option, Some, None, All, fold, slice_index_or}
 use Rattle.com_base.specs.declared.value.RefValue.{RefValue}
-use Rattle.com_base.specs.declared.value.Value.{Value}
-use Rattle.com_body.specs.declared.operands.Destination.{Destination}
-use Rattle.com_body.specs.declared.operands.Destination.TheVariants as destination
 use Rattle.com_body.specs.declared.statements.Stmt.{Stmt}
 use Rattle.com_body.specs.declared.statements.Stmt.TheVariants as stmt
 use Rattle.com_body.specs.declared.actions.Action.{Action}
@@ -25,11 +22,10 @@ use Rattle.com_model.specs.declared.scenario.Scenario.{Scenario}
 use Rattle.com_model.specs.Answers.{S_OK}
 use Rattle.com_model.specs.Lists.{put}
 use Rattle.com_model.specs.Tables.{script}
-use Rattle.com_model.specs.Apartments.{ends_sta}
 use Rattle.com_model.specs.Calls.{Issue}
 use Rattle.com_model.specs.Frames.{Scene, new_cells, Actor, Body, Script, Nobody, issued_body, outcome, is_leave, unless_over, Write, ToRegister, ToSlot, ToLink, ToBuffer, writes, written, with_frame, wants, acted, arrived, cut_links, to_answer, to_destination, action_of}
 use Rattle.com_model.proofs.Goods.{IsPlain, CleanArg, all-of}
-use Rattle.com_balance.proofs.Carries.{HeldBy, ValueBy, Orderly, FrameBy, OutcomeBy, EffectBy, effect-by, argument-by, all-tail, all-head}
+use Rattle.com_balance.proofs.Carries.{HeldBy, ValueBy, Orderly, FrameBy, EffectBy, effect-by, argument-by, all-tail, all-head}
 use Rattle.com_balance.proofs.Moves.{OutBy, OrderlyActor}
 
 -- A reference in one of the slots.

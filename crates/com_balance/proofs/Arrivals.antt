@@ -1,14 +1,11 @@
 -- What arrives by an entry is backed: the values of an Enter, and the result of a Back.
 use Rattle.std.proofs.Common.{subst, sym, ap, ◌∙◌, ◌⊎◌, inl, inr, eqb-true, arith}
-use Rattle.std.proofs.lemmas.Bool.{and_parts}
 use Rattle.std.proofs.lemmas.List.Elements.{All-cons, All-nil}
-use Rattle.std.proofs.lemmas.Grind.{common_steps}
-use Rattle.std.specs.Prelude.{◌≡◌, refl, ℕ, zero, suc, ◌+◌, ◌≤◌, Bool, true, false, cond, not, ◌==◌, ◌&&◌, ◌||◌, map, List, [], ◌∷◌, Option, Some, None, is_some, is_none, All}
+use Rattle.std.specs.Prelude.{◌≡◌, refl, ℕ, ◌+◌, ◌≤◌, Bool, true, false, not, ◌==◌, ◌&&◌, ◌||◌, map, List, [], ◌∷◌, Option, Some, None, is_some, is_none, All}
 use Rattle.com_base.specs.declared.hresult.HResult.{HResult}
 use Rattle.com_base.specs.declared.value.RefValue.{RefValue}
 use Rattle.com_base.specs.declared.value.Value.{Value}
 use Rattle.com_base.specs.declared.value.Value.TheVariants as value
-use Rattle.com_body.specs.declared.operands.Destination.{Destination}
 use Rattle.com_body.specs.declared.frame.Outcome.{Outcome}
 use Rattle.com_body.specs.Frames.{FrameView, entered as begun}
 use Rattle.com_model.specs.declared.deeds.Deed.{Deed}
@@ -18,38 +15,35 @@ use Rattle.com_model.specs.declared.deeds.Route.{Route}
 use Rattle.com_model.specs.declared.deeds.Route.TheVariants as route
 use Rattle.com_model.specs.declared.scenario.Scenario.{Scenario}
 use Rattle.com_model.specs.Lists.{first, without_first, number_or_zero, is_number, is_member, any_of}
-use Rattle.com_model.specs.Tables.{lane_sort, threads, lanes}
-use Rattle.com_model.specs.Openers.{Opener, Waits, Enters, Opens, effect, effect_on, openers}
+use Rattle.com_model.specs.Tables.{lane_sort, threads}
+use Rattle.com_model.specs.Openers.{Opener, Waits, Enters, Opens, effect_on, openers}
 use Rattle.com_model.specs.Apartments.{home, running}
-use Rattle.com_model.specs.Objects.{objects, owns, class_of}
-use Rattle.com_model.specs.Calls.{Issue, Admission, Leaving, issue, calls, admitted, left, returned, route_of, lane_of, is_direct, is_marshalled, is_post}
+use Rattle.com_model.specs.Objects.{objects, owns}
+use Rattle.com_model.specs.Calls.{Admission, Leaving, issue, calls, admitted, left, route_of, lane_of, is_direct, is_marshalled, is_post}
 use Rattle.com_model.specs.Values.{carried}
-use Rattle.com_model.specs.Frames.{Scene, scene, Actor, Body, Script, Nobody, actor, actor_in, outcome, acting, acted, act, value_reference}
-use Rattle.com_model.specs.Endings.{Ending, ByLeave, ending, is_leave}
+use Rattle.com_model.specs.Frames.{scene, Actor, actor, actor_in, acted, value_reference}
+use Rattle.com_model.specs.Endings.{ByLeave, ending, is_leave}
 use Rattle.com_model.specs.Places.{ground, entered_in, left_value}
-use Rattle.com_model.specs.Books.{Books, Packet, packet, Unmarshals, rows, entered_rows, back_rows, books}
+use Rattle.com_model.specs.Books.{Packet, packet, Unmarshals, entered_rows, back_rows, books}
 use Rattle.com_model.specs.Issue.{sent}
 use Rattle.com_model.specs.Safe.{Secured}
 use Rattle.com_model.specs.Sight.{sight}
-use Rattle.com_model.specs.Waiting.{postings}
-use Rattle.com_model.specs.Rules.{is_gone, arguments_gone, result_gone, next, legal}
+use Rattle.com_model.specs.Rules.{is_gone, arguments_gone, result_gone, legal}
 use Rattle.com_model.specs.Formed.{Formed}
-use Rattle.com_model.proofs.Comes.{next-comes}
-use Rattle.com_model.proofs.Goods.{GoodHeld, GoodValue}
+use Rattle.com_model.proofs.Goods.{GoodValue}
 use Rattle.com_model.proofs.Onces.{named-in-range}
 use Rattle.com_model.proofs.Scenes.{faces}
 use Rattle.com_model.proofs.Stacks.{back-own}
 use Rattle.com_balance.proofs.Holds.{unmarshals-bring, unmarshals-all}
-use Rattle.com_balance.proofs.Counts.{Among, PlaceOf, of_script, of_body, of_link, of_result}
+use Rattle.com_balance.proofs.Counts.{Among, PlaceOf, of_script, of_body, of_result}
 use Rattle.com_balance.proofs.Secures.{Backed, books-full}
-use Rattle.com_balance.proofs.Carries.{HeldBy, ValueBy, FrameBy, entered-by, all-head, all-tail}
+use Rattle.com_balance.proofs.Carries.{HeldBy, ValueBy, entered-by, all-head, all-tail}
 use Rattle.com_balance.proofs.Moves.{TestOf, ArrivesBy}
-use Rattle.com_balance.proofs.Packets.{Of, In}
+use Rattle.com_balance.proofs.Packets.{In}
 use Rattle.com_balance.proofs.Sendings.{ArgumentOf, sent-argument}
 use Rattle.com_balance.proofs.Leavings.{ResultFor, ResultBy, results-of}
 use Rattle.com_balance.proofs.Keeps.{legal-kept}
 use Rattle.com_balance.proofs.Stacks.{admission_in, among-after, opens-enter, open-admitted}
-use Rattle.com_balance.proofs.Makings.{fine-next}
 use Rattle.com_balance.proofs.Results.{NotLeft}
 use Rattle.com_balance.proofs.Says.{Says, next-says}
 use Rattle.com_balance.proofs.Tops.{Tops, not-enter, next-tops}
@@ -58,9 +52,9 @@ use Rattle.com_balance.proofs.Bases.{S0, actor-is, top-among, some-none}
 use Rattle.com_balance.proofs.Steps.{legal-base, made-or-new, same-number, arrives-at}
 use Rattle.com_balance.proofs.Arguments.{InSlots, slots_of}
 use Rattle.com_balance.proofs.Directs.{Over, openers-own, waits-issued}
-use Rattle.com_balance.proofs.Pending.{apartment_of, DirectAt, pending, entered, legal-direct, enter-apartment, direct-not-marshalled}
+use Rattle.com_balance.proofs.Pending.{apartment_of, DirectAt, pending, entered, legal-direct, enter-apartment}
 use Rattle.com_balance.proofs.Answered.{lane-low, Known, left-known, left-admitted, left-value-of, issued-some, refused-ends, back-not-back}
-use Rattle.com_balance.proofs.Tests.{S1, B1, EitherOpen, still-backed, in-slots-by, slot-known, is-home, enter-fresh, to-test}
+use Rattle.com_balance.proofs.Tests.{S1, B1, EitherOpen, still-backed, in-slots-by, enter-fresh, to-test}
 
 pub record WaitsTop (os : List Opener) (c : ℕ) : Type 0 where
   pub rest : List Opener

@@ -3,56 +3,35 @@
 use Rattle.std.proofs.Common.{subst, sym, ap, ◌∙◌, ◌⊎◌, inl, inr, eqb-true, arith}
 use Rattle.std.proofs.lemmas.Bool.{false_from_ne_true}
 use Rattle.std.proofs.lemmas.Grind.{common_steps}
-use Rattle.std.specs.Prelude.{◌≡◌, refl, ℕ, zero, suc, ◌+◌, ◌≤◌, ◌<◌, Bool, true, false, cond, ◌==◌, ◌||◌, List, [], ◌∷◌, length, Option, Some, None, is_none, All, option_map}
-use Rattle.com_base.specs.declared.hresult.HResult.{HResult}
-use Rattle.com_base.specs.declared.value.RefValue.{RefValue}
-use Rattle.com_base.specs.declared.value.Kind.{Kind}
-use Rattle.com_base.specs.declared.value.Kind.TheVariants as kind
+use Rattle.std.specs.Prelude.{◌≡◌, refl, ℕ, ◌+◌, ◌≤◌, ◌<◌, Bool, true, false, cond, ◌==◌, List, [], ◌∷◌, length, Option, Some, None, is_none}
 use Rattle.com_base.specs.declared.value.Value.{Value}
-use Rattle.com_base.specs.declared.value.Value.TheVariants as value
-use Rattle.com_base.specs.Values.{as_kind, default_of, has_kind}
-use Rattle.com_body.specs.declared.operands.Destination.{Destination}
-use Rattle.com_body.specs.declared.actions.Action.{Action}
-use Rattle.com_body.specs.declared.actions.Action.TheVariants as action
 use Rattle.com_body.specs.declared.frame.Outcome.{Outcome}
-use Rattle.com_classes.specs.Lookups.{method_at}
 use Rattle.com_model.specs.declared.deeds.Deed.{Deed}
 use Rattle.com_model.specs.declared.deeds.Deed.TheVariants as deed
 use Rattle.com_model.specs.declared.deeds.Entry.{Entry}
 use Rattle.com_model.specs.declared.deeds.Route.{Route}
-use Rattle.com_model.specs.declared.deeds.Route.TheVariants as route
 use Rattle.com_model.specs.declared.scenario.Scenario.{Scenario}
-use Rattle.com_model.specs.Lists.{first, or_else, number_or_zero, count_if}
-use Rattle.com_model.specs.Tables.{LaneSort, lane_sort, parameters}
-use Rattle.com_model.specs.Openers.{Opener, Pumps, Waits, Enters, Effect, Opens, Closes, Keeps, Closer, effect, effect_on, opened, openers, entered_apartment}
-use Rattle.com_model.specs.Apartments.{Remains, home_effect, home, running, ends_sta}
-use Rattle.com_model.specs.Objects.{objects, agile, named, owns, owner, class_of}
-use Rattle.com_model.specs.Calls.{Issue, Admission, issues, issue_or, issue, calls, admits, admission_or, admitted, target, object_of, lane_of, route_of, is_direct, is_post, is_marshalled, route_for}
-use Rattle.com_model.specs.Values.{sent_values, carried}
-use Rattle.com_model.specs.Frames.{Scene, scene, Actor, Body, Script, Nobody, actor, actor_in, outcome, action_of, unless_over, act, acting, acted, arrived, writes}
-use Rattle.com_model.specs.Books.{books, out_values}
+use Rattle.com_model.specs.Lists.{first, count_if}
+use Rattle.com_model.specs.Tables.{lane_sort}
+use Rattle.com_model.specs.Openers.{Opener, Waits, Enters, Effect, Opens, Closes, Keeps, effect, effect_on, opened, openers}
+use Rattle.com_model.specs.Apartments.{Remains, home_effect, ends_sta}
+use Rattle.com_model.specs.Objects.{named, class_of}
+use Rattle.com_model.specs.Calls.{Admission, issues, issue_or, issue, calls, admits, admission_or, admitted, lane_of}
+use Rattle.com_model.specs.Frames.{scene, Actor, Body, Script, Nobody, actor, actor_in, outcome, acting, acted, arrived}
 use Rattle.com_model.specs.Issue.{own_values, values_or, sent}
-use Rattle.com_model.specs.Waiting.{postings}
-use Rattle.com_model.specs.Deeds.{route_to}
-use Rattle.com_model.specs.Sight.{Sight, sight}
-use Rattle.com_model.specs.Rules.{top, next, legal}
+use Rattle.com_model.specs.Rules.{next, legal}
 use Rattle.com_model.specs.Formed.{Formed}
 use Rattle.com_model.proofs.Comes.{next-comes}
 use Rattle.com_model.proofs.Onces.{call_named, Names, InRange, named-in-range}
-use Rattle.com_balance.proofs.Carries.{HeldBy, ValueBy, all-head, all-tail}
-use Rattle.com_balance.proofs.Moves.{OutBy, Shares, acting-is, outcome-by}
+use Rattle.com_balance.proofs.Moves.{OutBy, acting-is, outcome-by}
 use Rattle.com_balance.proofs.Counts.{Among}
-use Rattle.com_balance.proofs.Packets.{In}
-use Rattle.com_balance.proofs.Keeps.{legal-kept}
-use Rattle.com_balance.proofs.Stacks.{admission_in, still-admitted, open-admitted}
-use Rattle.com_balance.proofs.Makings.{OwnedAt, owned-later, fine-next}
+use Rattle.com_balance.proofs.Stacks.{admission_in, open-admitted}
 use Rattle.com_balance.proofs.Results.{out-number, same-issue}
-use Rattle.com_balance.proofs.Says.{Says, OutSays, next-says}
-use Rattle.com_balance.proofs.Tops.{Tops, Acts, no_top, by_body, not-enter, next-tops}
-use Rattle.com_balance.proofs.Homes.{among-any, home-remains}
-use Rattle.com_balance.proofs.Bases.{S0, B0, K0, Base, I_of, L_of, actor-is, actor-orderly, some-none, Acting, acting-base, home-stays, remains-by, first-among, top-among}
-use Rattle.com_balance.proofs.Steps.{base-before, legal-base, ActionOf, action-from, opens-own, waits-number, same-number}
-use Rattle.com_balance.proofs.Arguments.{InSlots, CallBy, slots_of, CallOut, PlainScene, call-out, acts-own, Apart, StillBy, acted-slots, OtherThan, arrived-slots, cut-slots}
+use Rattle.com_balance.proofs.Tops.{next-tops}
+use Rattle.com_balance.proofs.Homes.{among-any}
+use Rattle.com_balance.proofs.Bases.{S0, B0, K0, I_of, L_of, actor-is, Acting, acting-base, remains-by, top-among}
+use Rattle.com_balance.proofs.Steps.{base-before, legal-base, opens-own, waits-number, same-number}
+use Rattle.com_balance.proofs.Arguments.{slots_of, Apart, StillBy, acted-slots, OtherThan, arrived-slots, cut-slots}
 
 -- ---- openers that wait
 

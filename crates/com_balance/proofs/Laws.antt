@@ -1,13 +1,12 @@
 -- The law of balance: the stub's count is what is held, and a connected object's proxy place has a proxy.
-use Rattle.std.proofs.Common.{subst, sym, ap, ◌∙◌, ◌⊎◌, inl, inr, eqb-true, arith}
-use Rattle.std.specs.Prelude.{◌≡◌, refl, ℕ, zero, suc, ◌≤◌, Bool, true, false, cond, ◌==◌, ◌||◌, List, [], ◌∷◌, Option, Some, None, is_some, is_none}
+use Rattle.std.proofs.Common.{subst, sym, ap, ◌∙◌, inl, inr, eqb-true}
+use Rattle.std.specs.Prelude.{◌≡◌, refl, ℕ, Bool, true, false, cond, ◌==◌, ◌||◌, List, [], ◌∷◌, Option, Some, None}
 use Rattle.com_base.specs.declared.hresult.HResult.{HResult}
 use Rattle.com_base.specs.declared.value.RefValue.{RefValue}
 use Rattle.com_base.specs.declared.value.Kind.{Kind}
 use Rattle.com_base.specs.declared.value.Value.{Value}
 use Rattle.com_base.specs.declared.value.Value.TheVariants as value
 use Rattle.com_base.specs.Values.{as_kind}
-use Rattle.com_body.specs.declared.actions.Action.{Action}
 use Rattle.com_body.specs.declared.actions.Action.TheVariants as action
 use Rattle.com_model.specs.declared.deeds.Deed.{Deed}
 use Rattle.com_model.specs.declared.deeds.Deed.TheVariants as deed
@@ -19,9 +18,9 @@ use Rattle.com_model.specs.Tables.{lane_sort}
 use Rattle.com_model.specs.Openers.{Opener, Enters, openers}
 use Rattle.com_model.specs.Apartments.{home}
 use Rattle.com_model.specs.Objects.{objects, agile, named, class_of}
-use Rattle.com_model.specs.Calls.{Issue, Admission, Leaving, issue, calls, admitted, left, returns, returned, route_of, is_direct, is_marshalled}
+use Rattle.com_model.specs.Calls.{Issue, Admission, Leaving, issue, calls, admitted, left, returns, returned, route_of, is_direct}
 use Rattle.com_model.specs.Values.{sent_value, sent_result, given_or_default}
-use Rattle.com_model.specs.Frames.{Scene, scene, Actor, Body, Script, Nobody, actor, actor_in, outcome, acting, act_by, act, value_reference}
+use Rattle.com_model.specs.Frames.{scene, Actor, Body, actor, actor_in, outcome, acting, act_by, act, value_reference}
 use Rattle.com_model.specs.Places.{ground, entered_in, left_value}
 use Rattle.com_model.specs.Books.{books}
 use Rattle.com_model.specs.Safe.{EachPrefix, Balanced, Secured, Balance}
@@ -31,14 +30,13 @@ use Rattle.com_model.specs.Formed.{Formed}
 use Rattle.com_balance.proofs.Counts.{Among, PlaceOf, of_script, of_body, of_link, of_result}
 use Rattle.com_balance.proofs.Secures.{Backed, secured-step}
 use Rattle.com_balance.proofs.Balances.{legal-balanced}
-use Rattle.com_balance.proofs.Carries.{HeldBy, ValueBy, ResultBy, ActionBy}
+use Rattle.com_balance.proofs.Carries.{HeldBy, ValueBy, ResultBy}
 use Rattle.com_balance.proofs.Moves.{SceneBy, acting-is, scene-by}
-use Rattle.com_balance.proofs.Stacks.{admission_in, open-admitted, still-admitted}
+use Rattle.com_balance.proofs.Stacks.{open-admitted, still-admitted}
 use Rattle.com_balance.proofs.Results.{kind_of}
-use Rattle.com_balance.proofs.Says.{Says, LeaveSays, next-says}
+use Rattle.com_balance.proofs.Says.{LeaveSays, next-says}
 use Rattle.com_balance.proofs.Bases.{I_of, L_of, actor-orderly, top-among, some-none, body-action}
 use Rattle.com_balance.proofs.Steps.{made-or-new}
-use Rattle.com_balance.proofs.Arguments.{InSlots}
 use Rattle.com_balance.proofs.Directs.{issue-stays, admitted-past}
 use Rattle.com_balance.proofs.Pending.{kind-by, default-by, direct-not-marshalled}
 use Rattle.com_balance.proofs.Answered.{TopEnter, leave-top, left-known, left-admitted}

@@ -1,10 +1,7 @@
 -- Each direct call that waits is on top and not admitted, with its references in slots of the frame below, or is admitted in the
 -- apartment of that frame.
 use Rattle.std.proofs.Common.{subst, sym, ap, ◌∙◌, ◌⊎◌, inl, inr, eqb-true, arith}
-use Rattle.std.proofs.lemmas.Bool.{false_from_ne_true}
-use Rattle.std.proofs.lemmas.Grind.{common_steps}
-use Rattle.std.specs.Prelude.{◌≡◌, refl, ℕ, zero, suc, ◌+◌, ◌≤◌, ◌<◌, Bool, true, false, cond, ◌==◌, ◌||◌, List, [], ◌∷◌, length, Option, Some, None, is_none, All, option_map}
-use Rattle.com_base.specs.declared.hresult.HResult.{HResult}
+use Rattle.std.specs.Prelude.{◌≡◌, refl, ℕ, ◌+◌, ◌≤◌, ◌<◌, Bool, true, false, cond, ◌==◌, ◌||◌, List, [], ◌∷◌, length, Option, Some, None, All, option_map}
 use Rattle.com_base.specs.declared.value.RefValue.{RefValue}
 use Rattle.com_base.specs.declared.value.Kind.{Kind}
 use Rattle.com_base.specs.declared.value.Kind.TheVariants as kind
@@ -22,38 +19,34 @@ use Rattle.com_model.specs.declared.deeds.Entry.{Entry}
 use Rattle.com_model.specs.declared.deeds.Route.{Route}
 use Rattle.com_model.specs.declared.deeds.Route.TheVariants as route
 use Rattle.com_model.specs.declared.scenario.Scenario.{Scenario}
-use Rattle.com_model.specs.Lists.{first, or_else, number_or_zero, count_if}
-use Rattle.com_model.specs.Tables.{LaneSort, lane_sort, parameters}
-use Rattle.com_model.specs.Openers.{Opener, Pumps, Waits, Enters, Effect, Opens, Closes, Keeps, Closer, effect, effect_on, opened, openers, entered_apartment}
-use Rattle.com_model.specs.Apartments.{Remains, home_effect, home, running, ends_sta}
+use Rattle.com_model.specs.Lists.{first, or_else, number_or_zero}
+use Rattle.com_model.specs.Tables.{lane_sort, parameters}
+use Rattle.com_model.specs.Openers.{Opener, Waits, Enters, Effect, Opens, Closes, Keeps, Closer, effect, effect_on, opened, openers, entered_apartment}
+use Rattle.com_model.specs.Apartments.{home, running}
 use Rattle.com_model.specs.Objects.{objects, agile, named, owns, owner, class_of}
-use Rattle.com_model.specs.Calls.{Issue, Admission, issues, issue_or, issue, calls, admits, admission_or, admitted, target, object_of, lane_of, route_of, is_direct, is_post, is_marshalled, route_for}
+use Rattle.com_model.specs.Calls.{Issue, Admission, issue, calls, admits, admission_or, admitted, target, object_of, lane_of, route_of, is_direct, is_post, is_marshalled, route_for}
 use Rattle.com_model.specs.Values.{sent_values, carried}
-use Rattle.com_model.specs.Frames.{Scene, scene, Actor, Body, Script, Nobody, actor, actor_in, outcome, action_of, unless_over, act, acting, acted, arrived, writes}
+use Rattle.com_model.specs.Frames.{Scene, scene, Actor, actor, actor_in, outcome, action_of, unless_over, act, writes}
 use Rattle.com_model.specs.Books.{books, out_values}
-use Rattle.com_model.specs.Issue.{own_values, values_or, sent}
-use Rattle.com_model.specs.Waiting.{postings}
+use Rattle.com_model.specs.Issue.{own_values, sent}
 use Rattle.com_model.specs.Deeds.{route_to}
 use Rattle.com_model.specs.Sight.{Sight, sight}
-use Rattle.com_model.specs.Rules.{top, next, legal}
+use Rattle.com_model.specs.Rules.{top, legal}
 use Rattle.com_model.specs.Formed.{Formed}
 use Rattle.com_model.proofs.Comes.{next-comes}
-use Rattle.com_model.proofs.Onces.{call_named, Names, InRange, named-in-range}
-use Rattle.com_balance.proofs.Carries.{HeldBy, ValueBy, all-head, all-tail}
-use Rattle.com_balance.proofs.Moves.{OutBy, Shares, acting-is, outcome-by}
-use Rattle.com_balance.proofs.Counts.{Among}
+use Rattle.com_balance.proofs.Carries.{ValueBy, all-head, all-tail}
 use Rattle.com_balance.proofs.Packets.{In}
 use Rattle.com_balance.proofs.Keeps.{legal-kept}
-use Rattle.com_balance.proofs.Stacks.{admission_in, still-admitted, open-admitted}
+use Rattle.com_balance.proofs.Stacks.{admission_in, still-admitted}
 use Rattle.com_balance.proofs.Makings.{OwnedAt, owned-later, fine-next}
-use Rattle.com_balance.proofs.Results.{out-number, same-issue}
+use Rattle.com_balance.proofs.Results.{out-number}
 use Rattle.com_balance.proofs.Says.{Says, OutSays, next-says}
 use Rattle.com_balance.proofs.Tops.{Tops, Acts, no_top, by_body, not-enter, next-tops}
-use Rattle.com_balance.proofs.Homes.{among-any, home-remains}
-use Rattle.com_balance.proofs.Bases.{S0, B0, K0, Base, I_of, L_of, actor-is, actor-orderly, some-none, Acting, acting-base, home-stays, remains-by, first-among, top-among}
-use Rattle.com_balance.proofs.Steps.{base-before, legal-base, ActionOf, action-from, opens-own, waits-number, same-number}
-use Rattle.com_balance.proofs.Arguments.{InSlots, CallBy, slots_of, CallOut, PlainScene, call-out, acts-own, Apart, StillBy, acted-slots, OtherThan, arrived-slots, cut-slots}
-use Rattle.com_balance.proofs.Directs.{Over, over-after, over-among, over-below, over-short, openers-own, openers-other, issue-stays, sent-stays, admission-past, admitted-past, waits-issued, out-base, still-slots, other-slots, own-slots-stay}
+use Rattle.com_balance.proofs.Homes.{home-remains}
+use Rattle.com_balance.proofs.Bases.{Base, I_of, L_of, actor-orderly, home-stays, first-among}
+use Rattle.com_balance.proofs.Steps.{legal-base, ActionOf, action-from, opens-own, same-number}
+use Rattle.com_balance.proofs.Arguments.{InSlots, CallBy, slots_of, CallOut, PlainScene, call-out, acts-own, StillBy}
+use Rattle.com_balance.proofs.Directs.{Over, over-after, over-among, over-below, over-short, openers-own, openers-other, issue-stays, sent-stays, admission-past, admitted-past, waits-issued, still-slots, other-slots, own-slots-stay}
 
 abbrev pub apartment_of : List Opener → Option ℕ → ℕ
 apartment_of os home = number_or_zero (or_else (entered_apartment os) home)

@@ -3,12 +3,10 @@ use Rattle.std.proofs.Common.{subst, sym, ap, ◌∙◌, ◌⊎◌, inl, inr, eq
 use Rattle.std.proofs.lemmas.Bool.{leb-true, false_from_ne_true}
 use Rattle.std.proofs.lemmas.List.Elements.{All-replicate, All-nil}
 use Rattle.std.proofs.lemmas.Grind.{common_steps}
-use Rattle.std.specs.Prelude.{◌≡◌, refl, ℕ, zero, suc, ◌+◌, ◌≤◌, Bool, true, false, cond, ◌==◌, nat_le, replicate, List, [], ◌∷◌, Option, Some, None, is_some, All, fold}
-use Rattle.com_base.specs.declared.hresult.HResult.{HResult}
+use Rattle.std.specs.Prelude.{◌≡◌, refl, ℕ, zero, suc, ◌+◌, ◌≤◌, Bool, true, false, cond, ◌==◌, nat_le, replicate, List, [], ◌∷◌, Option, Some, None, All, fold}
 use Rattle.com_base.specs.declared.value.RefValue.{RefValue}
 use Rattle.com_base.specs.declared.value.Value.{Value}
 use Rattle.com_body.specs.declared.operands.Destination.{Destination}
-use Rattle.com_body.specs.declared.operands.Destination.TheVariants as destination
 use Rattle.com_body.specs.declared.actions.Action.{Action}
 use Rattle.com_body.specs.declared.actions.Action.TheVariants as action
 use Rattle.com_body.specs.declared.frame.Cells.{Cells}
@@ -21,28 +19,27 @@ use Rattle.com_model.specs.declared.deeds.Entry.{Entry}
 use Rattle.com_model.specs.declared.deeds.Route.{Route}
 use Rattle.com_model.specs.declared.deeds.Route.TheVariants as route
 use Rattle.com_model.specs.declared.scenario.Scenario.{Scenario}
-use Rattle.com_model.specs.Lists.{put, first, or_else, where_true}
+use Rattle.com_model.specs.Lists.{or_else, where_true}
 use Rattle.com_model.specs.Tables.{lane_sort, result_kind}
-use Rattle.com_model.specs.Openers.{Opener, Waits, Enters, Opens, Keeps, effect, effect_on, openers}
+use Rattle.com_model.specs.Openers.{Opener, Waits, Opens, Keeps, effect, effect_on, openers}
 use Rattle.com_model.specs.Apartments.{Remains, home_effect, home, ends_sta}
-use Rattle.com_model.specs.Objects.{objects, agile, named, class_of}
+use Rattle.com_model.specs.Objects.{objects, named, class_of}
 use Rattle.com_model.specs.Calls.{Issue, issues, issue_or, issue, calls, admitted, admits, target}
-use Rattle.com_model.specs.Frames.{Scene, new_cells, scene, Actor, Body, Script, Nobody, actor, actor_in, outcome, action_of, act_by, act, value_reference, with_frame, writes, written, wants, acted, arrived, cut_links, acting}
+use Rattle.com_model.specs.Frames.{Scene, new_cells, scene, Actor, actor_in, outcome, action_of, act_by, value_reference, with_frame, writes, written, wants, acted, arrived, cut_links, acting}
 use Rattle.com_model.specs.Endings.{Ending, AtIssue, end_effect, ends, filtered, can_be_cut, ending}
-use Rattle.com_model.specs.Waiting.{postings}
 use Rattle.com_model.specs.Sight.{sight}
 use Rattle.com_model.specs.Rules.{next, legal}
 use Rattle.com_model.specs.Formed.{Formed}
 use Rattle.com_model.proofs.Comes.{next-comes}
 use Rattle.com_model.proofs.Stacks.{back-own}
 use Rattle.com_balance.proofs.Carries.{HeldBy, ValueBy, FrameBy, FitsTo, ActionBy, entered-by}
-use Rattle.com_balance.proofs.Moves.{SceneBy, TestOf, Shares, OrderlyActor, OutBy, ArrivesBy, held-more, links-more, new-links, out-action, outcome-by, written-to, all-written-to, framed-to, scene-by}
+use Rattle.com_balance.proofs.Moves.{SceneBy, TestOf, OutBy, ArrivesBy, held-more, links-more, new-links, out-action, outcome-by, all-written-to, framed-to, scene-by}
 use Rattle.com_balance.proofs.Counts.{Among}
 use Rattle.com_balance.proofs.Keeps.{legal-kept}
 use Rattle.com_balance.proofs.Stacks.{admission_in, open-admitted}
 use Rattle.com_balance.proofs.Makings.{same-agile}
 use Rattle.com_balance.proofs.Results.{kind_of, NotLeft, not-left, out-number}
-use Rattle.com_balance.proofs.Says.{Says, OutSays, next-says}
+use Rattle.com_balance.proofs.Says.{Says, next-says}
 use Rattle.com_balance.proofs.Homes.{among-any, home-remains, EndsHome, home-ends, admitted-none}
 use Rattle.com_balance.proofs.Bases.{S0, B0, K0, Ended, Base, I_of, L_of, actor-is, top-among, some-none, Acting, acting-base, arrives-base, home-stays, first-among, acted-same, cut-to, arrived-to}
 
@@ -107,7 +104,7 @@ uninit-slots : (b : Actor) (l k : ℕ) (d : Deed) (n : ℕ → ℕ) (w : Scene) 
 uninit-slots b l k (deed.Uninit a zero) n w e p =
     ap (λ (x : ℕ → FrameView). (x k).slots) (cut-scripts n (ends_sta (deed.Uninit a zero)) (arrived b l (deed.Uninit a zero) w))
     ∙ subst (λ (j : ℕ). ((arrived b l (deed.Uninit a zero) w).scripts j).slots ≡ replicate 8 None) e
-      (ap (λ (t : Bool). (cond t (record (w.scripts l) { slots = replicate 8 None }) (w.scripts l)).slots) (same-number l))
+    (ap (λ (t : Bool). (cond t (record (w.scripts l) { slots = replicate 8 None }) (w.scripts l)).slots) (same-number l))
 uninit-slots b l k (deed.Uninit a (suc m)) n w e p = absurd p
 uninit-slots b l k _ n w e p = absurd p
 

@@ -1,56 +1,45 @@
 -- The tests of the law: each reference at a place after an entry is backed after its rows.
 use Rattle.std.proofs.Common.{subst, sym, ap, ◌∙◌, ◌⊎◌, inl, inr, eqb-true, arith}
-use Rattle.std.proofs.lemmas.Bool.{and_parts}
-use Rattle.std.proofs.lemmas.List.Elements.{All-cons, All-nil}
-use Rattle.std.proofs.lemmas.Grind.{common_steps}
-use Rattle.std.specs.Prelude.{◌≡◌, refl, ℕ, zero, suc, ◌+◌, ◌≤◌, Bool, true, false, cond, not, ◌==◌, ◌&&◌, ◌||◌, List, [], ◌∷◌, Option, Some, None, is_some, is_none, All, slice_index_or}
-use Rattle.com_base.specs.declared.hresult.HResult.{HResult}
+use Rattle.std.specs.Prelude.{◌≡◌, refl, ℕ, zero, suc, ◌≤◌, Bool, true, false, cond, ◌==◌, List, [], ◌∷◌, Option, Some, None, is_none, All}
 use Rattle.com_base.specs.declared.value.RefValue.{RefValue}
-use Rattle.com_base.specs.declared.value.Value.{Value}
-use Rattle.com_base.specs.declared.value.Value.TheVariants as value
 use Rattle.com_body.specs.declared.operands.Asked.TheVariants as asked
 use Rattle.com_body.specs.declared.actions.Action.{Action}
-use Rattle.com_body.specs.declared.frame.Cells.{Cells}
-use Rattle.com_body.specs.Frames.{FrameView, entered}
 use Rattle.com_model.specs.declared.deeds.Deed.{Deed}
 use Rattle.com_model.specs.declared.deeds.Deed.TheVariants as deed
 use Rattle.com_model.specs.declared.deeds.Entry.{Entry}
 use Rattle.com_model.specs.declared.scenario.Scenario.{Scenario}
 use Rattle.com_model.specs.Answers.{is_S_OK}
 use Rattle.com_model.specs.Lists.{number_or_zero, is_number}
-use Rattle.com_model.specs.Tables.{LaneSort, Thread, Host, Pool, NoLane, lane_sort, threads, lanes}
-use Rattle.com_model.specs.Openers.{Opener, Pumps, Waits, Enters, Opens, effect, effect_on, openers}
+use Rattle.com_model.specs.Tables.{LaneSort, Thread, Host, Pool, NoLane, lane_sort, threads}
+use Rattle.com_model.specs.Openers.{Opener, Enters, Opens, effect, effect_on, openers}
 use Rattle.com_model.specs.Apartments.{Remains, home_effect, home_after, thread_home, home_by_sort, home, running}
 use Rattle.com_model.specs.Objects.{objects, agile, named, owns, makes}
 use Rattle.com_model.specs.Calls.{Admission, admitted}
-use Rattle.com_model.specs.Values.{carried}
-use Rattle.com_model.specs.Frames.{Scene, new_cells, scene, Actor, Body, Script, Nobody, actor, actor_in, taken_in, reference, act}
+use Rattle.com_model.specs.Frames.{scene, Actor, Body, Nobody, actor, actor_in, taken_in, reference, act}
 use Rattle.com_model.specs.Endings.{ending, is_leave}
 use Rattle.com_model.specs.Places.{ground}
-use Rattle.com_model.specs.Books.{Books, packet, Asks, rows, entered_rows, books}
+use Rattle.com_model.specs.Books.{Asks, rows, entered_rows, books}
 use Rattle.com_model.specs.Safe.{Secured}
 use Rattle.com_model.specs.Sight.{Sight, sight}
-use Rattle.com_model.specs.Waiting.{postings}
 use Rattle.com_model.specs.Rules.{next, legal}
 use Rattle.com_model.specs.Formed.{Formed}
 use Rattle.com_model.proofs.Comes.{next-comes}
-use Rattle.com_model.proofs.Goods.{GoodHeld, GoodValue, GoodRef, all-or}
+use Rattle.com_model.proofs.Goods.{GoodHeld, all-or}
 use Rattle.com_model.proofs.Fines.{FineBy}
 use Rattle.com_model.proofs.Scenes.{faces}
 use Rattle.com_balance.proofs.Holds.{rows-keep, makes-bring, takes-bring, asks-bring, unmarshals-bring}
-use Rattle.com_balance.proofs.Counts.{Among, PlaceOf, of_script, of_body, of_link, of_result}
-use Rattle.com_balance.proofs.Secures.{after_rows, Backed, place-backed, books-full, was-live}
-use Rattle.com_balance.proofs.Carries.{HeldBy, ValueBy, FrameBy, entered-by}
-use Rattle.com_balance.proofs.Moves.{SceneBy, TestOf, Shares, OrderlyActor, acting-is, held-more, links-more}
-use Rattle.com_balance.proofs.Packets.{In}
+use Rattle.com_balance.proofs.Counts.{Among, PlaceOf, of_script, of_body, of_link}
+use Rattle.com_balance.proofs.Secures.{Backed, place-backed, books-full, was-live}
+use Rattle.com_balance.proofs.Carries.{HeldBy}
+use Rattle.com_balance.proofs.Moves.{SceneBy, TestOf, Shares, held-more, links-more}
 use Rattle.com_balance.proofs.Keeps.{legal-kept, more-objects}
 use Rattle.com_balance.proofs.Stacks.{admission_in, among-after, opens-enter, open-admitted, still-admitted}
 use Rattle.com_balance.proofs.Makings.{OwnedAt, open-owned, fine-next, not-made-by, same-named, same-agile, same-owns}
 use Rattle.com_balance.proofs.Says.{Says, next-says}
 use Rattle.com_balance.proofs.Homes.{home-remains, home-other, home-own, held-all, taken-remains}
-use Rattle.com_balance.proofs.Bases.{S0, B0, K0, Base, I_of, L_of, actor-is, actor-orderly, top-among, some-none, open-made}
+use Rattle.com_balance.proofs.Bases.{S0, B0, K0, I_of, L_of, actor-is, top-among, open-made}
 use Rattle.com_balance.proofs.Steps.{base-before, cells-empty, legal-base, made-or-new, same-number}
-use Rattle.com_balance.proofs.Arguments.{InSlots, own-slots, slots_of}
+use Rattle.com_balance.proofs.Arguments.{InSlots, own-slots}
 use Rattle.com_balance.proofs.Pending.{apartment_of}
 use Rattle.com_balance.proofs.Answered.{lane-low}
 
@@ -157,10 +146,11 @@ body-backed s h e c r f q w i = λ l x b m.
     still-backed s h e b r f q w (slot-known (objects h) (faces s) ((scene s h).bodies c).slots r ((legal-kept s h f q.0).scene.bodies c).slots i) (of_body l c x i.index (lane-low s h l (Enters c x b) q.0 p) p i.is)
 
 link-backed : (s : Scenario) (h : List Entry) (e : Entry) (x : ℕ) (r : RefValue) → Formed s → legal s (e ∷ h) → Secured s h → x ≤ objects h → InSlots ((scene s h).cells x).links r → K1 s h e x r
-link-backed s h e x r f q w low i =
-    (in-slots-by (K0 s (e ∷ h) x) ((scene s h).cells x).links r ((base-before s h e f q (legal-base s h f q.0)).links x) i,
-    λ _. subst (λ (a : ℕ). Backed s h e a r) (sym (same-named s h e x f q low))
-    (still-backed s h e (named h x) r f q w (slot-known (objects h) (faces s) ((scene s h).cells x).links r ((legal-kept s h f q.0).scene.cells x) i) (of_link x i.index low refl i.is)))
+link-backed s h e x r f q w low i = (
+  in-slots-by (K0 s (e ∷ h) x) ((scene s h).cells x).links r ((base-before s h e f q (legal-base s h f q.0)).links x) i,
+  λ _. subst (λ (a : ℕ). Backed s h e a r) (sym (same-named s h e x f q low))
+      (still-backed s h e (named h x) r f q w (slot-known (objects h) (faces s) ((scene s h).cells x).links r ((legal-kept s h f q.0).scene.cells x) i) (of_link x i.index low refl i.is)),
+)
 
 pub before-law : (s : Scenario) (h : List Entry) (e : Entry) → Formed s → legal s (e ∷ h) → Secured s h → SceneBy (S1 s h e) (B1 s h e) (K1 s h e) (scene s h)
 before-law s h e f q w = record {
@@ -241,9 +231,10 @@ not-agile s h o a (inr p) e = p
 pub shares-law : (s : Scenario) (h : List Entry) (e : Entry) (l c o a : ℕ) → Formed s → legal s (e ∷ h) → Among (Enters c o a) (openers h l) → Shares (S1 s h e) (B1 s h e) (K1 s h e) ⊥ (agile s h o ≡ false) (Body c o)
 shares-law s h e l c o a f q m =
     let low : o ≤ objects h = open-made s h f q.0 l c o a m in
-    let own : (agile s h o ≡ false → a ≡ named (e ∷ h) o) = λ p. not-agile s h o a (open-owned s h f q.0 l c o a m) p ∙ sym (same-named s h e o f q low) in
-    (λ r k j u b z. subst (λ (y : ℕ). Backed s h e y r) (sym (own (sym (same-agile s h e o f q low) ∙ k.0)) ∙ sym (same-apartment s h e l c o a j u b q m z)) (k.1 (made-still o low)),
-    λ p r b. (same-agile s h e o f q low ∙ p, λ _. subst (λ (y : ℕ). Backed s h e y r) (own p) (b l o a (inl m))))
+    let own : (agile s h o ≡ false → a ≡ named (e ∷ h) o) = λ p. not-agile s h o a (open-owned s h f q.0 l c o a m) p ∙ sym (same-named s h e o f q low) in (
+      λ r k j u b z. subst (λ (y : ℕ). Backed s h e y r) (sym (own (sym (same-agile s h e o f q low) ∙ k.0)) ∙ sym (same-apartment s h e l c o a j u b q m z)) (k.1 (made-still o low)),
+      λ p r b. (same-agile s h e o f q low ∙ p, λ _. subst (λ (y : ℕ). Backed s h e y r) (own p) (b l o a (inl m))),
+    )
   where
     made-still : (o : ℕ) → o ≤ objects h → o ≤ objects (e ∷ h)
     made-still o low = let k : objects h ≤ objects (e ∷ h) = more-objects (makes e.deed) (objects h) in omega (arith, low, k)
