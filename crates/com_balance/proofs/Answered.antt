@@ -14,12 +14,18 @@ use Rattle.com_model.specs.declared.deeds.Route.TheVariants as route
 use Rattle.com_model.specs.declared.scenario.Scenario.{Scenario}
 use Rattle.com_model.specs.Lists.{first, or_else, where_true, is_number}
 use Rattle.com_model.specs.Tables.{lanes}
-use Rattle.com_model.specs.Openers.{Opener, Pumps, Waits, Enters, effect_on, openers, top_call}
+use Rattle.com_model.specs.Openers.{effect_on, openers, top_call}
+use Rattle.com_model.specs.declared.keeps.Opener.{Opener}
+use Rattle.com_model.specs.declared.keeps.Opener.TheVariants.{Pumps, Waits, Enters}
 use Rattle.com_model.specs.Objects.{makes, objects, named}
-use Rattle.com_model.specs.Calls.{Issue, Leaving, issues, issue_or, issue, calls, admits, admitted, leaves, leaving_or, left, returns, returned, route_of, target}
+use Rattle.com_model.specs.Calls.{issues, issue_or, issue, calls, admits, admitted, leaves, leaving_or, left, returns, returned, route_of, target}
+use Rattle.com_model.specs.declared.keeps.Issue.{Issue}
+use Rattle.com_model.specs.declared.keeps.Leaving.{Leaving}
 use Rattle.com_model.specs.Frames.{value_reference}
 use Rattle.com_model.specs.Places.{left_value}
-use Rattle.com_model.specs.Endings.{Ending, ByLeave, AtIssue, end_effect, ends, filtered, can_be_cut, ending}
+use Rattle.com_model.specs.Endings.{end_effect, ends, filtered, can_be_cut, ending}
+use Rattle.com_model.specs.declared.keeps.Ending.{Ending}
+use Rattle.com_model.specs.declared.keeps.Ending.TheVariants.{ByLeave, AtIssue}
 use Rattle.com_model.specs.Safe.{event, Stage, stage_after, stage, ComesOnce}
 use Rattle.com_model.specs.Rules.{next, legal}
 use Rattle.com_model.specs.Formed.{Formed}

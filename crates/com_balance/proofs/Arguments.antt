@@ -22,7 +22,7 @@ use Rattle.com_model.specs.declared.scenario.Scenario.{Scenario}
 use Rattle.com_model.specs.Answers.{S_OK}
 use Rattle.com_model.specs.Lists.{put}
 use Rattle.com_model.specs.Tables.{script}
-use Rattle.com_model.specs.Calls.{Issue}
+use Rattle.com_model.specs.declared.keeps.Issue.{Issue}
 use Rattle.com_model.specs.Frames.{Scene, new_cells, Actor, Body, Script, Nobody, issued_body, outcome, is_leave, unless_over, Write, ToRegister, ToSlot, ToLink, ToBuffer, writes, written, with_frame, wants, acted, arrived, cut_links, to_answer, to_destination, action_of}
 use Rattle.com_model.proofs.Goods.{IsPlain, CleanArg, all-of}
 use Rattle.com_balance.proofs.Carries.{HeldBy, ValueBy, Orderly, FrameBy, EffectBy, effect-by, argument-by, all-tail, all-head}
@@ -191,6 +191,7 @@ acted-slots s S B I L x a (Some r) d w p n =
 -- What arrives is for another.
 abbrev pub OtherThan : Actor → Actor → ℕ → Deed → Type 0
 OtherThan x b l (deed.Enter c o a t vs) = Apart x (Body c o)
+OtherThan x b l (deed.Leave c hr v bytes) = Apart x (Body c 0)
 OtherThan x b l (deed.Back c hr v) = Apart x b
 OtherThan x b l deed.EndPump = Apart x b
 OtherThan x b l (deed.Uninit a n) = Apart x (Script l)
@@ -213,6 +214,7 @@ cells-slots Nobody f w = refl
 
 pub arrived-slots : (x b : Actor) (l : ℕ) (d : Deed) (w : Scene) → OtherThan x b l d → slots_of x (arrived b l d w) ≡ slots_of x w
 arrived-slots x b l (deed.Enter c o a t vs) w n = entered-slots x c o (entered vs) w n
+arrived-slots x b l (deed.Leave c hr v bytes) w n = entered-slots x c 0 (entered []) w n
 arrived-slots x b l (deed.Back c hr v) w n = all-written-slots x b w (to_answer hr ∷ to_destination (w.destinations c) v) (inl n)
 arrived-slots x b l deed.EndPump w n = written-slots x b w (to_answer S_OK) n
 arrived-slots x b l (deed.Uninit a zero) w n = script-slots x l _ w n

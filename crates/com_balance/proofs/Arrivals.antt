@@ -16,16 +16,24 @@ use Rattle.com_model.specs.declared.deeds.Route.TheVariants as route
 use Rattle.com_model.specs.declared.scenario.Scenario.{Scenario}
 use Rattle.com_model.specs.Lists.{first, without_first, number_or_zero, is_number, is_member, any_of}
 use Rattle.com_model.specs.Tables.{lane_sort, threads}
-use Rattle.com_model.specs.Openers.{Opener, Waits, Enters, Opens, effect_on, openers}
+use Rattle.com_model.specs.Openers.{Opens, effect_on, openers}
+use Rattle.com_model.specs.declared.keeps.Opener.{Opener}
+use Rattle.com_model.specs.declared.keeps.Opener.TheVariants.{Waits, Enters}
 use Rattle.com_model.specs.Apartments.{home, running}
 use Rattle.com_model.specs.Objects.{objects, owns}
-use Rattle.com_model.specs.Calls.{Admission, Leaving, issue, calls, admitted, left, route_of, lane_of, is_direct, is_marshalled, is_post}
+use Rattle.com_model.specs.Calls.{issue, calls, admitted, left, route_of, lane_of, is_direct, is_marshalled, is_post}
+use Rattle.com_model.specs.declared.keeps.Admission.{Admission}
+use Rattle.com_model.specs.declared.keeps.Leaving.{Leaving}
 use Rattle.com_model.specs.Values.{carried}
 use Rattle.com_model.specs.Frames.{scene, Actor, actor, actor_in, acted, value_reference}
-use Rattle.com_model.specs.Endings.{ByLeave, ending, is_leave}
+use Rattle.com_model.specs.Endings.{ending, is_leave}
+use Rattle.com_model.specs.declared.keeps.Ending.{Ending}
+use Rattle.com_model.specs.declared.keeps.Ending.TheVariants.{ByLeave}
 use Rattle.com_model.specs.Places.{ground, entered_in, left_value}
-use Rattle.com_model.specs.Books.{Packet, packet, Unmarshals, entered_rows, back_rows, books}
-use Rattle.com_model.specs.Issue.{sent}
+use Rattle.com_books.specs.Changes.{packet, Unmarshals, entered_rows}
+use Rattle.com_model.specs.Books.{back_rows, books}
+use Rattle.com_books.specs.declared.keeps.Packet.{Packet}
+use Rattle.com_model.specs.Issue.{sent, unread_values}
 use Rattle.com_model.specs.Safe.{Secured}
 use Rattle.com_model.specs.Sight.{sight}
 use Rattle.com_model.specs.Rules.{is_gone, arguments_gone, result_gone, legal}
@@ -39,7 +47,7 @@ use Rattle.com_balance.proofs.Counts.{Among, PlaceOf, of_script, of_body, of_res
 use Rattle.com_balance.proofs.Secures.{Backed, books-full}
 use Rattle.com_balance.proofs.Carries.{HeldBy, ValueBy, entered-by, all-head, all-tail}
 use Rattle.com_balance.proofs.Moves.{TestOf, ArrivesBy}
-use Rattle.com_balance.proofs.Packets.{In}
+use Rattle.com_balance.proofs.Packets.{In, Of}
 use Rattle.com_balance.proofs.Sendings.{ArgumentOf, sent-argument}
 use Rattle.com_balance.proofs.Leavings.{ResultFor, ResultBy, results-of}
 use Rattle.com_model.proofs.Kept.{legal-kept}
@@ -183,11 +191,17 @@ enter-packet s h l c o y t vs r q m z g =
     let p : ArgumentOf (books s h) c r = sent-argument s h c r q.0 z m in
     let k : Packet = packet (books s h) p.number in
     let there : k.outstanding ≡ true = not-gone k.outstanding (gone-none (is_gone (sight s h)) p.number ((books s h).arguments c) (and-false (is_marshalled (route_of (issue h c))) _ z g) p.member) in
+    let of : Of k r = p.is there in
     λ live other.
-    subst (λ (j : ℕ). 1 ≤ (entered_rows (owns s (e ∷ h)) (books s h) (map (λ p. Unmarshals y p) ((books s h).arguments c))).proxy y r.object j) p.is.iface
-    (subst (λ (j : ℕ). 1 ≤ (entered_rows (owns s (e ∷ h)) (books s h) (map (λ p. Unmarshals y p) ((books s h).arguments c))).proxy y j k.iface) p.is.object
+    subst (λ (j : ℕ). 1 ≤ (entered_rows (owns s (e ∷ h)) (books s h) (map (λ p. Unmarshals y p) ((books s h).arguments c))).proxy y r.object j) of.iface
+    (subst (λ (j : ℕ). 1 ≤ (entered_rows (owns s (e ∷ h)) (books s h) (map (λ p. Unmarshals y p) ((books s h).arguments c))).proxy y j k.iface) of.object
     (unmarshals-all (owns s (e ∷ h)) (books s h) y p.number k ((books s h).arguments c) refl p.member there (books-full s h)
-    (subst (λ (j : ℕ). owns s (e ∷ h) j y ≡ false) (sym p.is.object) other)))
+    (subst (λ (j : ℕ). owns s (e ∷ h) j y ≡ false) (sym of.object) other)))
+
+unread-sent : (a : Option Admission) (x : Option Ending) (vs : List Value) (r : RefValue) → In r (carried (unread_values a x vs)) → In r (carried vs)
+unread-sent None None vs r m = m
+unread-sent None (Some y) vs r m = absurd m
+unread-sent (Some y) x vs r m = absurd m
 
 no-more : (n c : ℕ) → c ≤ 0 + n → c ≤ n
 no-more n c p = omega (arith, p)
@@ -196,7 +210,7 @@ enter-backed : (s : Scenario) (h : List Entry) (l c o y : ℕ) (t : Option ℕ) 
 enter-backed s h l c o y t vs f q w r m =
     let e : Entry = record { lane = l; deed = deed.Enter c o y t vs } in
     let z : Says s (sight s h) l (deed.Enter c o y t vs) = next-says s h l (deed.Enter c o y t vs) q.1 in
-    let n : In r (carried (sent s h c)) = subst (λ (us : List Value). In r (carried us)) z.2 m in
+    let n : In r (carried (sent s h c)) = unread-sent (admitted h c) (ending s h c) (sent s h c) r (subst (λ (us : List Value). In r (carried us)) z.2 m) in
     let low : r.object ≤ objects h = carried-known (objects h) (faces s) (sent s h c) r ((legal-kept s h f q.0).sent c) n in
     by-route (next-tops s h e q) z.3 n low (route-is (route_of (issue h c)))
   where
@@ -259,13 +273,14 @@ back-packet s h l c hr v r q n m z g =
     let k : Packet = packet (books s h) u.number in
     let by : is_leave (ending s h c) ≡ true = ap is_leave n in
     let there : k.outstanding ≡ true = not-gone k.outstanding (and-false (is_leave (ending s h c)) _ by (subst (λ (x : Option ℕ). result_gone (sight s h) c x ≡ false) u.given g)) in
+    let of : Of k r = u.is there in
     λ live other.
     subst (λ (b : Bool). 1 ≤ (entered_rows (owns s (e ∷ h)) (books s h) (back_rows a b ((books s h).result c))).proxy a r.object r.iface) (sym by)
     (subst (λ (x : Option ℕ). 1 ≤ (entered_rows (owns s (e ∷ h)) (books s h) (back_rows a true x)).proxy a r.object r.iface) (sym u.given)
-    (subst (λ (j : ℕ). 1 ≤ (entered_rows (owns s (e ∷ h)) (books s h) (back_rows a true (Some u.number))).proxy a r.object j) u.is.iface
-    (subst (λ (j : ℕ). 1 ≤ (entered_rows (owns s (e ∷ h)) (books s h) (back_rows a true (Some u.number))).proxy a j k.iface) u.is.object
+    (subst (λ (j : ℕ). 1 ≤ (entered_rows (owns s (e ∷ h)) (books s h) (back_rows a true (Some u.number))).proxy a r.object j) of.iface
+    (subst (λ (j : ℕ). 1 ≤ (entered_rows (owns s (e ∷ h)) (books s h) (back_rows a true (Some u.number))).proxy a j k.iface) of.object
     (unmarshals-bring (owns s (e ∷ h)) (books s h) a u.number there (books-full s h)
-    (subst (λ (j : ℕ). owns s (e ∷ h) j a ≡ false) (sym u.is.object) other)))))
+    (subst (λ (j : ℕ). owns s (e ∷ h) j a ≡ false) (sym of.object) other)))))
 
 back-backed : (s : Scenario) (h : List Entry) (l c : ℕ) (hr : HResult) (v : Option Value) (os : List Opener) (r : RefValue) → Formed s → legal s (record { lane = l; deed = deed.Back c hr v } ∷ h) → Secured s h → openers h l ≡ Waits c ∷ os → value_reference v ≡ Some r → Backed s h (record { lane = l; deed = deed.Back c hr v }) (apartment_of os (home s h l)) r
 back-backed s h l c hr v os r f q w p m = by-answer (next-says s h l (deed.Back c hr v) q.1).1 (route-is (route_of (issue h c)))

@@ -18,11 +18,13 @@ use Rattle.com_model.specs.Values.{carried, result_list}
 use Rattle.com_model.specs.Frames.{Scene, scene, act}
 use Rattle.com_model.specs.Endings.{ending, is_leave}
 use Rattle.com_model.specs.Places.{Ground, ground}
-use Rattle.com_model.specs.Books.{Books, packet, Change, ToProxy, ToPacket, Split, Join, Return, ToCookie, Same, changed, Row, Makes, Takes, Asks, Marshals, Unmarshals, Drops, Registers, Revokes, marshal_change, unmarshal_change, change, marshal_all, out_values, rows, reply_rows, back_rows, entered_rows, kept, most, closed, books}
+use Rattle.com_books.specs.Changes.{Books, packet, Change, ToProxy, ToPacket, Split, Join, Return, ToCookie, Same, changed, Row, Makes, Takes, Asks, Marshals, Unmarshals, Drops, Registers, Revokes, marshal_change, unmarshal_change, change, marshal_all, entered_rows}
+use Rattle.com_model.specs.Books.{out_values, rows, reply_rows, back_rows, kept, most, closed, books}
 use Rattle.com_model.specs.Rules.{legal}
 use Rattle.com_model.specs.Safe.{EachPrefix, Balanced}
 use Rattle.com_model.proofs.Fines.{cond-is}
-use Rattle.com_balance.proofs.Evens.{Even, Fits, changed-even, given-back-even, cut-even, more-even}
+use Rattle.com_books.specs.Evens.{Even, Fits}
+use Rattle.com_books.proofs.Evens.{changed-even, given-back-even, cut-even, more-even}
 use Rattle.com_balance.proofs.Lows.{LowBy, Low, running-low, next-low, more-stas, legal-low}
 
 -- ---- rows

@@ -20,12 +20,17 @@ use Rattle.com_model.specs.declared.scenario.Scenario.{Scenario}
 use Rattle.com_model.specs.Answers.{S_OK}
 use Rattle.com_model.specs.Lists.{first}
 use Rattle.com_model.specs.Tables.{LaneSort, Thread, Host, Pool, NoLane, lane_sort}
-use Rattle.com_model.specs.Openers.{Opener, Pumps, Waits, Enters, openers}
+use Rattle.com_model.specs.Openers.{openers}
+use Rattle.com_model.specs.declared.keeps.Opener.{Opener}
+use Rattle.com_model.specs.declared.keeps.Opener.TheVariants.{Pumps, Waits, Enters}
 use Rattle.com_model.specs.Apartments.{Remains, home_effect, home}
 use Rattle.com_model.specs.Objects.{objects, agile, class_of}
-use Rattle.com_model.specs.Calls.{Issue, issues, issue, admitted, admission_or, admits}
+use Rattle.com_model.specs.Calls.{issues, issue, admitted, admission_or, admits}
+use Rattle.com_model.specs.declared.keeps.Issue.{Issue}
 use Rattle.com_model.specs.Frames.{Scene, scene, Actor, Body, Script, Nobody, actor, actor_in, taken_in, value_reference, to_answer, to_destination, with_frame, writes, wants, acted, arrived, cut_links, acting, act_by, act}
-use Rattle.com_model.specs.Endings.{Ending, ByLeave, ending}
+use Rattle.com_model.specs.Endings.{ending}
+use Rattle.com_model.specs.declared.keeps.Ending.{Ending}
+use Rattle.com_model.specs.declared.keeps.Ending.TheVariants.{ByLeave}
 use Rattle.com_model.specs.Sight.{sight}
 use Rattle.com_model.specs.Books.{books}
 use Rattle.com_model.specs.Rules.{result_gone, legal}

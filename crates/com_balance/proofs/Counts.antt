@@ -5,9 +5,11 @@ use Rattle.std.proofs.lemmas.Grind.{common_steps}
 use Rattle.std.specs.Prelude.{◌≡◌, refl, ℕ, zero, suc, ◌+◌, ◌≤◌, ◌<◌, Bool, true, false, cond, not, ◌==◌, ◌&&◌, List, [], ◌∷◌, Option, Some, None, slice_index_or, sum_by}
 use Rattle.com_base.specs.declared.value.RefValue.{RefValue}
 use Rattle.com_model.specs.declared.scenario.Scenario.{Scenario}
-use Rattle.com_model.specs.Lists.{sum_below, count_if, is_number}
+use Rattle.com_books.specs.Counting.{sum_below, count_if}
+use Rattle.com_model.specs.Lists.{is_number}
 use Rattle.com_model.specs.Tables.{threads, lanes}
-use Rattle.com_model.specs.Openers.{Opener, Pumps, Waits, Enters}
+use Rattle.com_model.specs.declared.keeps.Opener.{Opener}
+use Rattle.com_model.specs.declared.keeps.Opener.TheVariants.{Pumps, Waits, Enters}
 use Rattle.com_model.specs.Calls.{is_direct, route_of}
 use Rattle.com_model.specs.Frames.{Scene, value_reference}
 use Rattle.com_model.specs.Places.{Ground, Test, passes, in_slots, in_scripts, in_frame, in_bodies, in_links, entered_in, left_value, in_result, in_results, places_that}

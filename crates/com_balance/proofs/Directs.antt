@@ -11,18 +11,23 @@ use Rattle.com_model.specs.declared.deeds.Deed.TheVariants as deed
 use Rattle.com_model.specs.declared.deeds.Entry.{Entry}
 use Rattle.com_model.specs.declared.deeds.Route.{Route}
 use Rattle.com_model.specs.declared.scenario.Scenario.{Scenario}
-use Rattle.com_model.specs.Lists.{first, count_if}
+use Rattle.com_books.specs.Counting.{count_if}
+use Rattle.com_model.specs.Lists.{first}
 use Rattle.com_model.specs.Tables.{lane_sort}
-use Rattle.com_model.specs.Openers.{Opener, Waits, Enters, Effect, Opens, Closes, Keeps, effect, effect_on, opened, openers}
+use Rattle.com_model.specs.Openers.{Effect, Opens, Closes, Keeps, effect, effect_on, opened, openers, top_call}
+use Rattle.com_model.specs.declared.keeps.Opener.{Opener}
+use Rattle.com_model.specs.declared.keeps.Opener.TheVariants.{Pumps, Waits, Enters}
 use Rattle.com_model.specs.Apartments.{Remains, home_effect, ends_sta}
 use Rattle.com_model.specs.Objects.{named, class_of}
-use Rattle.com_model.specs.Calls.{Admission, issues, issue_or, issue, calls, admits, admission_or, admitted, lane_of}
+use Rattle.com_model.specs.Calls.{issues, issue_or, issue, calls, admits, admission_or, admitted, lane_of}
+use Rattle.com_model.specs.declared.keeps.Admission.{Admission}
 use Rattle.com_model.specs.Frames.{scene, Actor, Body, Script, Nobody, actor, actor_in, outcome, acting, acted, arrived}
 use Rattle.com_model.specs.Issue.{own_values, values_or, sent}
 use Rattle.com_model.specs.Rules.{next, legal}
 use Rattle.com_model.specs.Formed.{Formed}
 use Rattle.com_model.proofs.Comes.{next-comes}
 use Rattle.com_model.proofs.Onces.{call_named, Names, InRange, named-in-range}
+use Rattle.com_model.proofs.Stacks.{leave-own}
 use Rattle.com_balance.proofs.Moves.{OutBy, acting-is, outcome-by}
 use Rattle.com_balance.proofs.Counts.{Among}
 use Rattle.com_balance.proofs.Stacks.{admission_in, open-admitted}
@@ -199,15 +204,38 @@ apart-entered s h l k v os q f n =
     (λ c o a rest p e. some-not-none (admitted h k) (admission_in c l a) (ap (admitted h) (sym e) ∙ open-admitted s h q l c o a (f (Enters c o a) (top-among c o a os rest p))) n)
     (λ p. tt) tt
 
+-- A call that leaves is the top of its lane.
+record TopOpen (os : List Opener) (k : ℕ) : Type 0 where
+  object : ℕ
+  apartment : ℕ
+  among : Among (Enters k object apartment) os
+
+top-open : (os : List Opener) (k : ℕ) → top_call (first os) ≡ Some k → TopOpen os k
+top-open [] k e = cc
+top-open (Pumps n ∷ os) k e = cc
+top-open (Waits c ∷ os) k e = cc
+top-open (Enters c o a ∷ os) k e = record { object = o; apartment = a; among = inl (ap (λ (j : ℕ). Enters j o a) (same e)) }
+  where
+    same : Some c ≡ Some k → c ≡ k
+    same e = cc
+
+-- Who stands in a lane is not who leaves in another.
+apart-left : (s : Scenario) (h : List Entry) (l j k v : ℕ) (os : List Opener) → legal s h → (l ≡ j → ⊥) → ((o : Opener) → Among o os → Among o (openers h l)) → TopOpen (openers h j) k → Apart (actor (lane_sort s l) l os) (Body k v)
+apart-left s h l j k v os q n f t =
+    actor-is (λ x. Apart x (Body k v)) (lane_sort s l) l os
+    (λ c o a rest p. other-call h c k l j a t.apartment (open-admitted s h q l c o a (f (Enters c o a) (top-among c o a os rest p))) (open-admitted s h q j k t.object t.apartment t.among) n)
+    (λ p. tt) tt
+
 apart-script : (s : Scenario) (l j : ℕ) (os : List Opener) → (l ≡ j → ⊥) → Apart (actor (lane_sort s l) l os) (Script j)
 apart-script s l j os n = actor-is (λ x. Apart x (Script j)) (lane_sort s l) l os (λ c o a rest p. tt) (λ p. n) tt
 
-other-than : (s : Scenario) (h : List Entry) (e : Entry) (x b : Actor) (d : Deed) → legal s (e ∷ h) → e.deed ≡ d → ((k v : ℕ) → is_none (admitted h k) ≡ true → Apart x (Body k v)) → Apart x b → Apart x (Script e.lane) → OtherThan x b e.lane d
-other-than s h e x b (deed.Enter c o a t vs) q z f p r = f c o (next-comes s h e.lane (deed.Enter c o a t vs) (subst (λ (y : Deed). next s h e.lane ≡ Some y) z q.1)).0
-other-than s h e x b (deed.Back c hr v) q z f p r = p
-other-than s h e x b deed.EndPump q z f p r = p
-other-than s h e x b (deed.Uninit a n) q z f p r = r
-other-than s h e x b _ q z f p r = tt
+other-than : (s : Scenario) (h : List Entry) (e : Entry) (x b : Actor) (d : Deed) → legal s (e ∷ h) → e.deed ≡ d → ((k v : ℕ) → is_none (admitted h k) ≡ true → Apart x (Body k v)) → ((k v : ℕ) → TopOpen (openers h e.lane) k → Apart x (Body k v)) → Apart x b → Apart x (Script e.lane) → OtherThan x b e.lane d
+other-than s h e x b (deed.Leave c hr v bytes) q z f g p r = g c 0 (top-open (openers h e.lane) c (leave-own s h e.lane c hr v bytes (subst (λ (y : Deed). next s h e.lane ≡ Some y) z q.1)))
+other-than s h e x b (deed.Enter c o a t vs) q z f g p r = f c o (next-comes s h e.lane (deed.Enter c o a t vs) (subst (λ (y : Deed). next s h e.lane ≡ Some y) z q.1)).0
+other-than s h e x b (deed.Back c hr v) q z f g p r = p
+other-than s h e x b deed.EndPump q z f g p r = p
+other-than s h e x b (deed.Uninit a n) q z f g p r = r
+other-than s h e x b _ q z f g p r = tt
 
 -- An entry of one lane keeps the slots of who stands in another.
 pub other-slots : (s : Scenario) (h : List Entry) (e : Entry) (l : ℕ) (os : List Opener) → Formed s → legal s (e ∷ h) → (e.lane == l) ≡ false → ((o : Opener) → Among o os → Among o (openers h l)) → slots_of (actor (lane_sort s l) l os) (scene s (e ∷ h)) ≡ slots_of (actor (lane_sort s l) l os) (scene s h)
@@ -216,7 +244,7 @@ other-slots s h e l os f q z g =
     let n : (l ≡ e.lane → ⊥) = λ p. not-both (e.lane == l) z (subst (λ (k : ℕ). (e.lane == k) ≡ true) (sym p) (same-number e.lane)) in
     still-slots s h e x f q
     (still-apart x _ _ e.deed (acting-is (λ a. Apart x a) s (class_of h) (issue h) (scene s h) (actor_in s h e.lane) e.deed (apart-lanes s h l e.lane os (openers h e.lane) q.0 n g (λ o m. m)) (apart-nobody x)))
-    (other-than s h e x (actor_in s (e ∷ h) e.lane) e.deed q refl (λ k v. apart-entered s h l k v os q.0 g)
+    (other-than s h e x (actor_in s (e ∷ h) e.lane) e.deed q refl (λ k v. apart-entered s h l k v os q.0 g) (λ k v. apart-left s h l e.lane k v os q.0 n g)
     (apart-lanes s (e ∷ h) l e.lane os (openers (e ∷ h) e.lane) q n (λ o m. subst (λ (ys : List Opener). Among o ys) (sym (openers-other h e l z)) (g o m)) (λ o m. m))
     (apart-script s l e.lane os n))
   where
@@ -225,6 +253,7 @@ other-slots s h e l os f q z g =
 
 other-keeps : (x b : Actor) (l : ℕ) (d : Deed) → effect d ≡ Keeps → home_effect d ≡ Remains → OtherThan x b l d
 other-keeps x b l (deed.Enter c o a t vs) e r = cc
+other-keeps x b l (deed.Leave c hr v bytes) e r = cc
 other-keeps x b l (deed.Back c hr v) e r = cc
 other-keeps x b l deed.EndPump e r = cc
 other-keeps x b l (deed.Uninit a n) e r = cc

@@ -1,12 +1,13 @@
 -- What rows leave to proxies, and bring them.
 use Rattle.std.proofs.Common.{◌≡◌, ℕ, zero, suc, Bool, true, false, eqb, cond, not, ◌&&◌, ◌||◌, ◌/◌, ◌<◌, ◌≤◌, List, [], ◌∷◌, ◌++◌, refl, subst, sym, ap, ◌∙◌, ◌⊎◌, inl, inr, arith, eqb-true}
-use Rattle.std.proofs.lemmas.Bool.{leb-true, eqb-false, and_parts}
+use Rattle.std.proofs.lemmas.Bool.{leb-true, eqb-false}
 use Rattle.std.proofs.lemmas.Grind.{common_steps}
 use Rattle.std.specs.Prelude.{slice_set, slice_index_or, map, nat_le}
 use Rattle.com_base.specs.declared.value.MarshalMode.{MarshalMode}
 use Rattle.com_base.specs.declared.value.MarshalMode.TheVariants as marshal
 use Rattle.com_model.specs.Lists.{is_member}
-use Rattle.com_model.specs.Books.{Packet, Books, no_packet, packet, Change, ToProxy, ToPacket, Split, Join, Return, ToCookie, Withdraw, Same, new_packet, set_from_one, changed, Row, Makes, Takes, Asks, Marshals, Unmarshals, Drops, Registers, Revokes, marshal_change, unmarshal_change, change, entered_rows, cut_packet, cut}
+use Rattle.com_books.specs.Changes.{Books, no_packet, packet, Change, ToProxy, ToPacket, Split, Join, Return, ToCookie, Withdraw, Same, new_packet, set_from_one, changed, Row, Makes, Takes, Asks, Marshals, Unmarshals, Drops, Registers, Revokes, marshal_change, unmarshal_change, change, entered_rows, cut_packet, cut}
+use Rattle.com_books.specs.declared.keeps.Packet.{Packet}
 
 -- ---- no row takes the last reference of a proxy
 
@@ -163,8 +164,8 @@ changed-full : (b : Books) (c : Change) → Brims b c → Full b → Full (chang
 changed-full b (ToProxy x y z m) p f = full-of (changed b (ToProxy x y z m)) (fills-in b f)
 changed-full b (ToPacket m x y r) p f = full-of (changed b (ToPacket m x y r)) (fills-pushed x y r m b.packets p (fills-in b f))
 changed-full b (Split x y z m) p f = full-of (changed b (Split x y z m)) (fills-pushed y z m marshal.Normal b.packets (inr p) (fills-in b f))
-changed-full b (Join x q) p f = full-of (changed b (Join x q)) (fills-set q (record (packet b q) { outstanding = false }) b.packets refl (fills-in b f))
-changed-full b (Return q) p f = full-of (changed b (Return q)) (fills-set q (record (packet b q) { outstanding = false }) b.packets refl (fills-in b f))
+changed-full b (Join x q) p f = full-of (changed b (Join x q)) (fills-set q no_packet b.packets refl (fills-in b f))
+changed-full b (Return q) p f = full-of (changed b (Return q)) (fills-set q no_packet b.packets refl (fills-in b f))
 changed-full b (ToCookie x y m) p f = full-of (changed b (ToCookie x y m)) (fills-in b f)
 changed-full b (Withdraw g) p f = full-of (changed b (Withdraw g)) (fills-in b f)
 changed-full b Same p f = f
@@ -197,10 +198,17 @@ pub rows-full : (owned : ℕ → ℕ → Bool) (b : Books) (rs : List Row) → F
 rows-full owned b [] f = f
 rows-full owned b (r ∷ rs) f = rows-full owned (changed b (change owned b r)) rs (changed-full b (change owned b r) (change-brims owned b r) f)
 
+cut-filled : (live : ℕ → Bool) (p : Packet) → Filled p → Filled (cut_packet live p)
+cut-filled live p g = by-test (live p.object)
+  where
+    by-test : (t : Bool) → Filled (cond t p no_packet)
+    by-test true = g
+    by-test false = λ e f. cc
+
 cut-fills : (live : ℕ → Bool) (q : ℕ) (ps : List Packet) → Fills ps → Filled (slice_index_or (map (cut_packet live) ps) q no_packet)
 unfolding Fills
 cut-fills live q [] g = λ e f. cc
-cut-fills live zero (p ∷ ps) g = λ e f. g 0 (and_parts p.outstanding (live p.object) e).0 f
+cut-fills live zero (p ∷ ps) g = cut-filled live p (g 0)
 cut-fills live (suc q) (p ∷ ps) g = cut-fills live q ps (λ j. g (suc j))
 
 fills-cut : (live : ℕ → Bool) (ps : List Packet) → Fills ps → Fills (map (cut_packet live) ps)

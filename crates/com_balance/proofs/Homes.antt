@@ -9,9 +9,11 @@ use Rattle.com_model.specs.declared.deeds.Entry.{Entry}
 use Rattle.com_model.specs.declared.scenario.Scenario.{Scenario}
 use Rattle.com_model.specs.Answers.{is_S_OK}
 use Rattle.com_model.specs.Tables.{LaneSort, Thread, Host, Pool, NoLane, lane_sort}
-use Rattle.com_model.specs.Openers.{Opener, Effect, Opens, Closes, Keeps, opened}
+use Rattle.com_model.specs.Openers.{Effect, Opens, Closes, Keeps, opened}
+use Rattle.com_model.specs.declared.keeps.Opener.{Opener}
 use Rattle.com_model.specs.Apartments.{HomeEffect, Remains, home_effect, home_after, thread_home, home_by_sort, home}
-use Rattle.com_model.specs.Calls.{Admission, admission_or}
+use Rattle.com_model.specs.Calls.{admission_or}
+use Rattle.com_model.specs.declared.keeps.Admission.{Admission}
 use Rattle.com_model.specs.Frames.{taken_in, reference}
 use Rattle.com_model.specs.Sight.{Sight}
 use Rattle.com_balance.proofs.Carries.{HeldBy}

@@ -15,10 +15,15 @@ use Rattle.com_model.specs.declared.scenario.Scenario.{Scenario}
 use Rattle.com_model.specs.Answers.{is_failure}
 use Rattle.com_model.specs.Lists.{is_number}
 use Rattle.com_model.specs.Tables.{lane_sort}
-use Rattle.com_model.specs.Openers.{Opener, Enters, openers}
+use Rattle.com_model.specs.Openers.{openers}
+use Rattle.com_model.specs.declared.keeps.Opener.{Opener}
+use Rattle.com_model.specs.declared.keeps.Opener.TheVariants.{Enters}
 use Rattle.com_model.specs.Apartments.{home}
 use Rattle.com_model.specs.Objects.{objects, agile, named, class_of}
-use Rattle.com_model.specs.Calls.{Issue, Admission, Leaving, issue, calls, admitted, left, returns, returned, route_of, is_direct}
+use Rattle.com_model.specs.Calls.{issue, calls, admitted, left, returns, returned, route_of, is_direct}
+use Rattle.com_model.specs.declared.keeps.Issue.{Issue}
+use Rattle.com_model.specs.declared.keeps.Admission.{Admission}
+use Rattle.com_model.specs.declared.keeps.Leaving.{Leaving}
 use Rattle.com_model.specs.Values.{sent_value, sent_result, given_or_default}
 use Rattle.com_model.specs.Frames.{scene, Actor, Body, actor, actor_in, outcome, acting, act_by, act, value_reference}
 use Rattle.com_model.specs.Places.{ground, entered_in, left_value}

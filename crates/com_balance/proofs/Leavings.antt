@@ -18,12 +18,17 @@ use Rattle.com_model.specs.Answers.{is_failure}
 use Rattle.com_model.specs.Lists.{or_else, is_number, number_or_zero}
 use Rattle.com_model.specs.Apartments.{running}
 use Rattle.com_model.specs.Objects.{named}
-use Rattle.com_model.specs.Calls.{Issue, Leaving, issue, leaves, leaving_or, left, returns, returned, calls, route_of, is_marshalled, target, admitted}
+use Rattle.com_model.specs.Calls.{issue, leaves, leaving_or, left, returns, returned, calls, route_of, is_marshalled, target, admitted}
+use Rattle.com_model.specs.declared.keeps.Issue.{Issue}
+use Rattle.com_model.specs.declared.keeps.Leaving.{Leaving}
 use Rattle.com_model.specs.Values.{if_live, sent_value, sent_result, given_or_default, carried, result_list}
 use Rattle.com_model.specs.Frames.{Scene, scene, act, value_reference}
-use Rattle.com_model.specs.Endings.{Ending, ByLeave, end_effect, ends, filtered, can_be_cut, ending, is_leave}
+use Rattle.com_model.specs.Endings.{end_effect, ends, filtered, can_be_cut, ending, is_leave}
+use Rattle.com_model.specs.declared.keeps.Ending.{Ending}
+use Rattle.com_model.specs.declared.keeps.Ending.TheVariants.{ByLeave}
 use Rattle.com_model.specs.Places.{Ground, ground}
-use Rattle.com_model.specs.Books.{Books, packet, Change, ToProxy, ToPacket, Split, Join, Return, ToCookie, Withdraw, Same, changed, Row, change, rows, marshal_all, entered_rows, made_since, first_of, most, closed, books}
+use Rattle.com_books.specs.Changes.{Books, packet, Change, ToProxy, ToPacket, Split, Join, Return, ToCookie, Withdraw, Same, changed, Row, change, marshal_all, entered_rows, made_since, first_of}
+use Rattle.com_model.specs.Books.{rows, most, closed, books}
 use Rattle.com_model.specs.Sight.{sight}
 use Rattle.com_model.specs.Rules.{legal}
 use Rattle.com_model.specs.Safe.{event, Stage, stage_after, stage, ComesOnce}
@@ -102,7 +107,7 @@ pub record ResultFor (b : Books) (c : ℕ) (r : RefValue) : Type 0 where
   pub number : ℕ
   pub given : b.result c ≡ Some number
   pub low : number ≤ length b.packets
-  pub is : Of (packet b number) r
+  pub is : (packet b number).outstanding ≡ true → Of (packet b number) r
 
 abbrev pub ResultBy : Books → Option Issue → ℕ → Option Ending → Type 0
 ResultBy b i c (Some (ByLeave hr v)) = is_marshalled (route_of i) ≡ true → (r : RefValue) → value_reference v ≡ Some r → ResultFor b c r
@@ -184,7 +189,7 @@ leave-result s g w x to a b k hr v (Some bytes) r e p q =
       number = suc (length b.packets);
       given = ap (λ (t : Bool). cond t (first_of (made_since b u)) (u.result k)) (same-number k) ∙ m.first;
       low = omega (arith, m.low, z.more);
-      is = grown-of u (closed s g w d (most s g w x to a d b)) (suc (length b.packets)) r z m.low m.is;
+      is = grown-of u (closed s g w d (most s g w x to a d b)) (suc (length b.packets)) r z m.low (λ o. m.is);
     }
   where
     same-number : (n : ℕ) → (n == n) ≡ true

@@ -1,5 +1,3 @@
-pub mod Sums
-pub mod Evens
 pub mod Lows
 pub mod Balances
 pub mod Holds

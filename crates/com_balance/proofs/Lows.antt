@@ -25,16 +25,25 @@ use Rattle.com_model.specs.declared.deeds.Deed.TheVariants as deed
 use Rattle.com_model.specs.declared.deeds.Entry.{Entry}
 use Rattle.com_model.specs.declared.scenario.Scenario.{Scenario}
 use Rattle.com_model.specs.Answers.{S_OK, E_INVALIDARG, CO_E_OBJNOTCONNECTED, RPC_E_OUT_OF_RESOURCES, RPC_E_SERVER_CANTUNMARSHAL_DATA, is_S_OK}
-use Rattle.com_model.specs.Lists.{or_else, where_true, count_if, first, number_or_zero, without_first}
+use Rattle.com_model.specs.Lists.{or_else, where_true, first, number_or_zero, without_first}
+use Rattle.com_books.specs.Counting.{count_if}
 use Rattle.com_model.specs.Tables.{class_number, interface_number, LaneSort, Thread, Host, Pool, NoLane, lane_sort}
-use Rattle.com_model.specs.Openers.{Opener, Pumps, Waits, Enters, Effect, Opens, Closes, Keeps, effect, effect_on, opened, openers, entered_apartment, running_call}
+use Rattle.com_model.specs.Openers.{Effect, Opens, Closes, Keeps, effect, effect_on, opened, openers, entered_apartment, running_call}
+use Rattle.com_model.specs.declared.keeps.Opener.{Opener}
+use Rattle.com_model.specs.declared.keeps.Opener.TheVariants.{Pumps, Waits, Enters}
 use Rattle.com_model.specs.Apartments.{HomeEffect, Initialises, Uninitialises, Remains, home_effect, home_effect_on, home_after, thread_home, home_by_sort, home, running, makes_sta, with_last, stas, next_sta, ended, or_host}
-use Rattle.com_model.specs.Objects.{Making, makes, made_or, making, named, agile}
-use Rattle.com_model.specs.Calls.{Issue, object_of}
+use Rattle.com_model.specs.Objects.{makes, made_or, making, named, agile}
+use Rattle.com_model.specs.declared.keeps.Making.{Making}
+use Rattle.com_model.specs.Calls.{object_of}
+use Rattle.com_model.specs.declared.keeps.Issue.{Issue}
 use Rattle.com_model.specs.Frames.{reference}
 use Rattle.com_model.specs.Endings.{Answer}
-use Rattle.com_model.specs.Books.{Cookie, cookie}
-use Rattle.com_model.specs.Waiting.{Phase, Unposted, Queued, Judged, Delayed, GivenUp, Word, bound_reached, mark_of, not_asked}
+use Rattle.com_books.specs.Changes.{cookie}
+use Rattle.com_books.specs.declared.keeps.Cookie.{Cookie}
+use Rattle.com_model.specs.Waiting.{bound_reached, mark_of, not_asked}
+use Rattle.com_model.specs.declared.keeps.Phase.{Phase}
+use Rattle.com_model.specs.declared.keeps.Word.{Word}
+use Rattle.com_model.specs.declared.keeps.Phase.TheVariants.{Unposted, Queued, Judged, Delayed, GivenUp}
 use Rattle.com_model.specs.Issue.{call_refusal}
 use Rattle.com_model.specs.Sight.{Sight, sight}
 use Rattle.com_model.specs.Deeds.{deed_of, initialised, uninitialised, creator, placing, made_as, created_of, created, owned_by, hold_refusal, marshalled, registered, Named, NamesPacket, Refuses, named_by, gained_refs, unmarshalled, dropped, cookie_number, got_with, got, revoked, called, left_as, left_by}
@@ -166,7 +175,7 @@ admission-low : (s : Scenario) (v : Sight) (l c : ℕ) → LowSight v → LowBy 
 admission-low s v l c g =
     cond-is (LowBy v.next_sta) (nat_le 256 (length (v.openers l))) (deed.Refuse c RPC_E_OUT_OF_RESOURCES) _ tt
     (cond-is (LowBy v.next_sta) (posted_to_sta v c && not (is_handled_in s v l c)) (deed.Verdict c (call_sort v l c) (verdict_on s v l c)) _ tt
-    (cond-is (LowBy v.next_sta) (arguments_gone v c) (deed.Refuse c RPC_E_SERVER_CANTUNMARSHAL_DATA) (deed.Enter c (object_of (v.issue c)) (v.owner (object_of (v.issue c)) l) (where_true (posted_to_sta v c) (call_sort v l c)) (v.sent c)) tt (g.owners (object_of (v.issue c)) l)))
+    (cond-is (LowBy v.next_sta) (arguments_gone v c) (deed.Refuse c RPC_E_SERVER_CANTUNMARSHAL_DATA) (deed.Enter c (object_of (v.issue c)) (v.owner (object_of (v.issue c)) l) (where_true (posted_to_sta v c) (call_sort v l c)) (v.unread c)) tt (g.owners (object_of (v.issue c)) l)))
 
 answered-low : (v : Sight) (a c : ℕ) (x : Answer) (p : Option ℕ) → LowBy a (answered v c x p)
 answered-low v a c x (Some p) = tt

@@ -9,9 +9,12 @@ use Rattle.com_model.specs.declared.deeds.Entry.{Entry}
 use Rattle.com_model.specs.declared.scenario.Scenario.{Scenario}
 use Rattle.com_model.specs.Lists.{number_or_zero}
 use Rattle.com_model.specs.Tables.{is_agile_class}
-use Rattle.com_model.specs.Openers.{Opener, Pumps, Waits, Enters, Opens, effect, effect_on, openers}
+use Rattle.com_model.specs.Openers.{Opens, effect, effect_on, openers}
+use Rattle.com_model.specs.declared.keeps.Opener.{Opener}
+use Rattle.com_model.specs.declared.keeps.Opener.TheVariants.{Pumps, Waits, Enters}
 use Rattle.com_model.specs.Apartments.{next_sta, running}
-use Rattle.com_model.specs.Objects.{Making, asked_number, makes, made_or, making, objects, named, class_of, agile, owns, owner}
+use Rattle.com_model.specs.Objects.{asked_number, makes, made_or, making, objects, named, class_of, agile, owns, owner}
+use Rattle.com_model.specs.declared.keeps.Making.{Making}
 use Rattle.com_model.specs.Books.{made_by}
 use Rattle.com_model.specs.Sight.{sight}
 use Rattle.com_model.specs.Rules.{legal}

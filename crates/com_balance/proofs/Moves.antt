@@ -21,7 +21,7 @@ use Rattle.com_model.specs.Answers.{S_OK}
 use Rattle.com_model.specs.Lists.{put}
 use Rattle.com_model.specs.Tables.{script}
 use Rattle.com_model.specs.Apartments.{ends_sta}
-use Rattle.com_model.specs.Calls.{Issue}
+use Rattle.com_model.specs.declared.keeps.Issue.{Issue}
 use Rattle.com_model.specs.Frames.{Scene, new_cells, Actor, Body, Script, Nobody, issued_body, outcome, is_leave, unless_over, unless_final, taken_in, Write, ToRegister, ToSlot, ToLink, ToBuffer, to_place, to_answer, marshalled_in, writes, value_reference, to_destination, written, with_frame, wants, acted, arrived, cut_links, acting}
 use Rattle.com_model.proofs.Goods.{IsPlain}
 use Rattle.com_model.proofs.Fines.{cond-is}
@@ -233,6 +233,7 @@ destination-writes S B K a (destination.Slot k) v p q = (p, tt)
 
 arrived-by : (S B K : ℕ → RefValue → Type 0) (b : Actor) (l : ℕ) (d : Deed) (w : Scene) → ArrivesBy S B w.destinations b d → SceneBy S B K w → SceneBy S B K (arrived b l d w)
 arrived-by S B K b l (deed.Enter c o a t vs) w q g = record { scripts = g.scripts; bodies = put-each (λ j f. FrameBy (B j) f) c (entered vs) w.bodies (entered-by (B c) vs q) g.bodies; links = g.links }
+arrived-by S B K b l (deed.Leave c hr v bytes) w q g = record { scripts = g.scripts; bodies = put-each (λ j f. FrameBy (B j) f) c (entered []) w.bodies (entered-by (B c) [] (All-nil (ValueBy (B c)))) g.bodies; links = g.links }
 arrived-by S B K b l (deed.Back c hr v) w q g = all-written S B K b w (to_answer hr ∷ to_destination (w.destinations c) v) (tt, destination-writes S B K b (w.destinations c) v q.0 q.1) g
 arrived-by S B K b l deed.EndPump w q g = written-by S B K b w (to_answer S_OK) tt g
 arrived-by S B K b l (deed.Uninit a zero) w q g = record { scripts = put-each (λ j f. FrameBy (S j) f) l _ w.scripts (record { registers = (g.scripts l).registers; slots = All-replicate (HeldBy (S l)) 8 None tt }) g.scripts; bodies = g.bodies; links = g.links }

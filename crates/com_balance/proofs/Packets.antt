@@ -4,8 +4,10 @@ use Rattle.std.proofs.lemmas.Grind.{common_steps}
 use Rattle.std.specs.Prelude.{◌≡◌, refl, ℕ, zero, suc, ◌+◌, ◌-◌, ◌/◌, ◌≤◌, ◌<◌, Bool, true, false, cond, ◌==◌, ◌||◌, nat_le, List, [], ◌∷◌, ◌++◌, length, map, Some, slice_set, slice_index_or}
 use Rattle.com_base.specs.declared.value.RefValue.{RefValue}
 use Rattle.com_base.specs.declared.value.MarshalMode.TheVariants as marshal
-use Rattle.com_model.specs.Lists.{is_member, numbers_from}
-use Rattle.com_model.specs.Books.{Packet, Books, no_packet, packet, Change, ToProxy, ToPacket, Split, Join, Return, ToCookie, Withdraw, Same, new_packet, set_from_one, changed, Row, Marshals, marshal_change, change, marshal_all, entered_rows, made_since, first_of, cut_packet, cut}
+use Rattle.com_model.specs.Lists.{is_member}
+use Rattle.com_books.specs.Counting.{numbers_from}
+use Rattle.com_books.specs.Changes.{Books, no_packet, packet, Change, ToProxy, ToPacket, Split, Join, Return, ToCookie, Withdraw, Same, new_packet, set_from_one, changed, Row, Marshals, marshal_change, change, marshal_all, entered_rows, made_since, first_of, cut_packet, cut}
+use Rattle.com_books.specs.declared.keeps.Packet.{Packet}
 
 -- The packet is of the reference.
 pub record Of (k : Packet) (r : RefValue) : Type 0 where
@@ -18,32 +20,30 @@ In r (x ∷ xs) = (x ≡ r) ⊎ In r xs
 
 -- ---- packets are named as before
 
--- A packet that was made is of the same reference.
+-- A packet that was made and is outstanding is the same.
 pub record Grown (b c : Books) : Type 0 where
   pub more : length b.packets ≤ length c.packets
-  pub objects : (p : ℕ) → p ≤ length b.packets → (packet c p).object ≡ (packet b p).object
-  pub ifaces : (p : ℕ) → p ≤ length b.packets → (packet c p).iface ≡ (packet b p).iface
+  pub same : (p : ℕ) → p ≤ length b.packets → (packet c p).outstanding ≡ true → packet c p ≡ packet b p
 
-pub grown-of : (b c : Books) (p : ℕ) (r : RefValue) → Grown b c → p ≤ length b.packets → Of (packet b p) r → Of (packet c p) r
-grown-of b c p r g h k = record { object = g.objects p h ∙ k.object; iface = g.ifaces p h ∙ k.iface }
+pub grown-of : (b c : Books) (p : ℕ) (r : RefValue) → Grown b c → p ≤ length b.packets → ((packet b p).outstanding ≡ true → Of (packet b p) r) → (packet c p).outstanding ≡ true → Of (packet c p) r
+grown-of b c p r g h f e =
+    let z : packet c p ≡ packet b p = g.same p h e in
+    subst (λ (k : Packet). Of k r) (sym z) (f (subst (λ (k : Packet). k.outstanding ≡ true) z e))
 
 pub grown-then : (b c d : Books) → Grown b c → Grown c d → Grown b d
 grown-then b c d g k = record {
   more = omega (arith, g.more, k.more);
-  objects = λ p h. k.objects p (omega (arith, h, g.more)) ∙ g.objects p h;
-  ifaces = λ p h. k.ifaces p (omega (arith, h, g.more)) ∙ g.ifaces p h;
+  same = λ p h e.
+      let z : packet d p ≡ packet c p = k.same p (omega (arith, h, g.more)) e in
+      z ∙ g.same p h (subst (λ (x : Packet). x.outstanding ≡ true) z e);
 }
 
 pub grown-same : (b c : Books) → c.packets ≡ b.packets → Grown b c
-grown-same b c e = record { more = subst (λ (ps : List Packet). length b.packets ≤ length ps) (sym e) (omega arith); objects = objects; ifaces = ifaces }
+grown-same b c e = record { more = subst (λ (ps : List Packet). length b.packets ≤ length ps) (sym e) (omega arith); same = same }
   where
-    objects : (p : ℕ) → p ≤ length b.packets → (packet c p).object ≡ (packet b p).object
-    objects zero h = refl
-    objects (suc p) h = ap (λ (ps : List Packet). (slice_index_or ps p no_packet).object) e
-
-    ifaces : (p : ℕ) → p ≤ length b.packets → (packet c p).iface ≡ (packet b p).iface
-    ifaces zero h = refl
-    ifaces (suc p) h = ap (λ (ps : List Packet). (slice_index_or ps p no_packet).iface) e
+    same : (p : ℕ) → p ≤ length b.packets → (packet c p).outstanding ≡ true → packet c p ≡ packet b p
+    same zero h o = refl
+    same (suc p) h o = ap (λ (ps : List Packet). slice_index_or ps p no_packet) e
 
 before-end : (ps : List Packet) (x : Packet) (p : ℕ) → p < length ps → slice_index_or (ps ++ x ∷ []) p no_packet ≡ slice_index_or ps p no_packet
 before-end [] x p h = absurd (omega (arith, h))
@@ -51,45 +51,32 @@ before-end (y ∷ ps) x zero h = refl
 before-end (y ∷ ps) x (suc p) h = before-end ps x p (grind (arith, common_steps, h))
 
 grown-push : (b c : Books) (x : Packet) → c.packets ≡ b.packets ++ x ∷ [] → Grown b c
-grown-push b c x e = record { more = subst (λ (ps : List Packet). length b.packets ≤ length ps) (sym e) (grind (arith, common_steps)); objects = objects; ifaces = ifaces }
+grown-push b c x e = record { more = subst (λ (ps : List Packet). length b.packets ≤ length ps) (sym e) (grind (arith, common_steps)); same = same }
   where
-    objects : (p : ℕ) → p ≤ length b.packets → (packet c p).object ≡ (packet b p).object
-    objects zero h = refl
-    objects (suc p) h = ap (λ (ps : List Packet). (slice_index_or ps p no_packet).object) e ∙ ap (λ (k : Packet). k.object) (before-end b.packets x p (omega (arith, h)))
-
-    ifaces : (p : ℕ) → p ≤ length b.packets → (packet c p).iface ≡ (packet b p).iface
-    ifaces zero h = refl
-    ifaces (suc p) h = ap (λ (ps : List Packet). (slice_index_or ps p no_packet).iface) e ∙ ap (λ (k : Packet). k.iface) (before-end b.packets x p (omega (arith, h)))
+    same : (p : ℕ) → p ≤ length b.packets → (packet c p).outstanding ≡ true → packet c p ≡ packet b p
+    same zero h o = refl
+    same (suc p) h o = ap (λ (ps : List Packet). slice_index_or ps p no_packet) e ∙ before-end b.packets x p (omega (arith, h))
 
 set-length : (ps : List Packet) (p : ℕ) (x : Packet) → length (set_from_one ps p x) ≡ length ps
 set-length ps zero x = refl
 set-length ps (suc p) x = grind (arith, common_steps)
 
-set-object : (ps : List Packet) (p q : ℕ) → (slice_index_or (slice_set ps p (record (slice_index_or ps p no_packet) { outstanding = false })) q no_packet).object ≡ (slice_index_or ps q no_packet).object
-set-object [] p q = refl
-set-object (x ∷ ps) zero zero = refl
-set-object (x ∷ ps) zero (suc q) = refl
-set-object (x ∷ ps) (suc p) zero = refl
-set-object (x ∷ ps) (suc p) (suc q) = set-object ps p q
+set-same : (ps : List Packet) (p q : ℕ) → (slice_index_or (slice_set ps p no_packet) q no_packet).outstanding ≡ true → slice_index_or (slice_set ps p no_packet) q no_packet ≡ slice_index_or ps q no_packet
+set-same [] p q e = refl
+set-same (x ∷ ps) zero zero e = cc
+set-same (x ∷ ps) zero (suc q) e = refl
+set-same (x ∷ ps) (suc p) zero e = refl
+set-same (x ∷ ps) (suc p) (suc q) e = set-same ps p q e
 
-set-iface : (ps : List Packet) (p q : ℕ) → (slice_index_or (slice_set ps p (record (slice_index_or ps p no_packet) { outstanding = false })) q no_packet).iface ≡ (slice_index_or ps q no_packet).iface
-set-iface [] p q = refl
-set-iface (x ∷ ps) zero zero = refl
-set-iface (x ∷ ps) zero (suc q) = refl
-set-iface (x ∷ ps) (suc p) zero = refl
-set-iface (x ∷ ps) (suc p) (suc q) = set-iface ps p q
-
-grown-end : (b c : Books) (p : ℕ) → c.packets ≡ set_from_one b.packets p (record (packet b p) { outstanding = false }) → Grown b c
+grown-end : (b c : Books) (p : ℕ) → c.packets ≡ set_from_one b.packets p no_packet → Grown b c
 grown-end b c zero e = grown-same b c e
-grown-end b c (suc p) e = record { more = subst (λ (ps : List Packet). length b.packets ≤ length ps) (sym e) (subst (λ (n : ℕ). length b.packets ≤ n) (sym (set-length b.packets (suc p) _)) (omega arith)); objects = objects; ifaces = ifaces }
+grown-end b c (suc p) e = record { more = subst (λ (ps : List Packet). length b.packets ≤ length ps) (sym e) (subst (λ (n : ℕ). length b.packets ≤ n) (sym (set-length b.packets (suc p) _)) (omega arith)); same = same }
   where
-    objects : (q : ℕ) → q ≤ length b.packets → (packet c q).object ≡ (packet b q).object
-    objects zero h = refl
-    objects (suc q) h = ap (λ (ps : List Packet). (slice_index_or ps q no_packet).object) e ∙ set-object b.packets p q
-
-    ifaces : (q : ℕ) → q ≤ length b.packets → (packet c q).iface ≡ (packet b q).iface
-    ifaces zero h = refl
-    ifaces (suc q) h = ap (λ (ps : List Packet). (slice_index_or ps q no_packet).iface) e ∙ set-iface b.packets p q
+    same : (q : ℕ) → q ≤ length b.packets → (packet c q).outstanding ≡ true → packet c q ≡ packet b q
+    same zero h o = refl
+    same (suc q) h o =
+        let z : slice_index_or c.packets q no_packet ≡ slice_index_or (slice_set b.packets p no_packet) q no_packet = ap (λ (ps : List Packet). slice_index_or ps q no_packet) e in
+        z ∙ set-same b.packets p q (subst (λ (k : Packet). k.outstanding ≡ true) z o)
 
 changed-grown : (b : Books) (c : Change) → Grown b (changed b c)
 changed-grown b (ToProxy a o i n) = grown-same b (changed b (ToProxy a o i n)) refl
@@ -105,26 +92,24 @@ pub rows-grown : (owned : ℕ → ℕ → Bool) (b : Books) (rs : List Row) → 
 rows-grown owned b [] = grown-same b b refl
 rows-grown owned b (r ∷ rs) = grown-then b (changed b (change owned b r)) (entered_rows owned (changed b (change owned b r)) rs) (changed-grown b (change owned b r)) (rows-grown owned (changed b (change owned b r)) rs)
 
-map-object : (live : ℕ → Bool) (ps : List Packet) (q : ℕ) → (slice_index_or (map (cut_packet live) ps) q no_packet).object ≡ (slice_index_or ps q no_packet).object
-map-object live [] q = refl
-map-object live (x ∷ ps) zero = refl
-map-object live (x ∷ ps) (suc q) = map-object live ps q
+cut-same : (live : ℕ → Bool) (x : Packet) → (cut_packet live x).outstanding ≡ true → cut_packet live x ≡ x
+cut-same live x e = by-test (live x.object) e
+  where
+    by-test : (t : Bool) → (cond t x no_packet).outstanding ≡ true → cond t x no_packet ≡ x
+    by-test true o = refl
+    by-test false o = cc
 
-map-iface : (live : ℕ → Bool) (ps : List Packet) (q : ℕ) → (slice_index_or (map (cut_packet live) ps) q no_packet).iface ≡ (slice_index_or ps q no_packet).iface
-map-iface live [] q = refl
-map-iface live (x ∷ ps) zero = refl
-map-iface live (x ∷ ps) (suc q) = map-iface live ps q
+map-same : (live : ℕ → Bool) (ps : List Packet) (q : ℕ) → (slice_index_or (map (cut_packet live) ps) q no_packet).outstanding ≡ true → slice_index_or (map (cut_packet live) ps) q no_packet ≡ slice_index_or ps q no_packet
+map-same live [] q e = refl
+map-same live (x ∷ ps) zero e = cut-same live x e
+map-same live (x ∷ ps) (suc q) e = map-same live ps q e
 
 pub cut-grown : (live : ℕ → Bool) (b : Books) → Grown b (cut live b)
-cut-grown live b = record { more = grind (arith, common_steps); objects = objects; ifaces = ifaces }
+cut-grown live b = record { more = grind (arith, common_steps); same = same }
   where
-    objects : (q : ℕ) → q ≤ length b.packets → (packet (cut live b) q).object ≡ (packet b q).object
-    objects zero h = refl
-    objects (suc q) h = map-object live b.packets q
-
-    ifaces : (q : ℕ) → q ≤ length b.packets → (packet (cut live b) q).iface ≡ (packet b q).iface
-    ifaces zero h = refl
-    ifaces (suc q) h = map-iface live b.packets q
+    same : (q : ℕ) → q ≤ length b.packets → (packet (cut live b) q).outstanding ≡ true → packet (cut live b) q ≡ packet b q
+    same zero h o = refl
+    same (suc q) h o = map-same live b.packets q o
 
 -- ---- marshalled references
 

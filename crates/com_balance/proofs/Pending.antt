@@ -21,10 +21,14 @@ use Rattle.com_model.specs.declared.deeds.Route.TheVariants as route
 use Rattle.com_model.specs.declared.scenario.Scenario.{Scenario}
 use Rattle.com_model.specs.Lists.{first, or_else, number_or_zero}
 use Rattle.com_model.specs.Tables.{lane_sort, parameters}
-use Rattle.com_model.specs.Openers.{Opener, Waits, Enters, Effect, Opens, Closes, Keeps, Closer, effect, effect_on, opened, openers, entered_apartment}
+use Rattle.com_model.specs.Openers.{Effect, Opens, Closes, Keeps, Closer, effect, effect_on, opened, openers, entered_apartment}
+use Rattle.com_model.specs.declared.keeps.Opener.{Opener}
+use Rattle.com_model.specs.declared.keeps.Opener.TheVariants.{Waits, Enters}
 use Rattle.com_model.specs.Apartments.{home, running}
 use Rattle.com_model.specs.Objects.{objects, agile, named, owns, owner, class_of}
-use Rattle.com_model.specs.Calls.{Issue, Admission, issue, calls, admits, admission_or, admitted, target, object_of, lane_of, route_of, is_direct, is_post, is_marshalled, route_for}
+use Rattle.com_model.specs.Calls.{issue, calls, admits, admission_or, admitted, target, object_of, lane_of, route_of, is_direct, is_post, is_marshalled, route_for}
+use Rattle.com_model.specs.declared.keeps.Issue.{Issue}
+use Rattle.com_model.specs.declared.keeps.Admission.{Admission}
 use Rattle.com_model.specs.Values.{sent_values, carried}
 use Rattle.com_model.specs.Frames.{Scene, scene, Actor, actor, actor_in, outcome, action_of, unless_over, act, writes}
 use Rattle.com_model.specs.Books.{books, out_values}

@@ -20,9 +20,12 @@ use Rattle.com_model.specs.Lists.{or_else, where_true}
 use Rattle.com_model.specs.Tables.{result_kind}
 use Rattle.com_model.specs.Apartments.{ends_sta}
 use Rattle.com_model.specs.Objects.{named, disconnects}
-use Rattle.com_model.specs.Calls.{Issue, issues, issue_or, issue, calls, target, admitted}
+use Rattle.com_model.specs.Calls.{issues, issue_or, issue, calls, target, admitted}
+use Rattle.com_model.specs.declared.keeps.Issue.{Issue}
 use Rattle.com_model.specs.Values.{if_live, sent_value, sent_result, given_or_default}
-use Rattle.com_model.specs.Endings.{Ending, ByVerdict, ByLeave, AtIssue, EndsCall, EndsNone, cuts_object, cuts_sta, end_effect, ends, filtered, can_be_cut, ending}
+use Rattle.com_model.specs.Endings.{EndsCall, EndsNone, cuts_object, cuts_sta, end_effect, ends, filtered, can_be_cut, ending}
+use Rattle.com_model.specs.declared.keeps.Ending.{Ending}
+use Rattle.com_model.specs.declared.keeps.Ending.TheVariants.{ByVerdict, ByLeave, AtIssue}
 use Rattle.com_model.specs.Sight.{sight}
 use Rattle.com_model.specs.Rules.{legal}
 use Rattle.com_model.proofs.Onces.{call_named, Names, InRange, named-in-range}

@@ -12,11 +12,17 @@ use Rattle.com_model.specs.declared.deeds.Route.{Route}
 use Rattle.com_model.specs.declared.deeds.Route.TheVariants as route
 use Rattle.com_model.specs.Lists.{where_true, first, first_that, one_to}
 use Rattle.com_model.specs.Tables.{parameters, class_number, interface_number, result_kind, LaneSort, Thread, Host, Pool, NoLane, lane_sort}
-use Rattle.com_model.specs.Openers.{Opener, Pumps, Waits, Enters, running_call}
-use Rattle.com_model.specs.Calls.{Issue, object_of, route_of, is_marshalled}
+use Rattle.com_model.specs.Openers.{running_call}
+use Rattle.com_model.specs.declared.keeps.Opener.{Opener}
+use Rattle.com_model.specs.declared.keeps.Opener.TheVariants.{Pumps, Waits, Enters}
+use Rattle.com_model.specs.Calls.{object_of, route_of, is_marshalled}
+use Rattle.com_model.specs.declared.keeps.Issue.{Issue}
 use Rattle.com_model.specs.Values.{sent_values, sent_result}
-use Rattle.com_model.specs.Endings.{Ending, AtIssue, AtAdmission, ByVerdict, ByRetry, ByCancel, ByDisconnection, ByLeave, answer_of, without_value}
-use Rattle.com_model.specs.Books.{Cookie, packet, cookie}
+use Rattle.com_model.specs.Endings.{answer_of, without_value}
+use Rattle.com_model.specs.declared.keeps.Ending.{Ending}
+use Rattle.com_model.specs.declared.keeps.Ending.TheVariants.{AtIssue, AtAdmission, ByVerdict, ByRetry, ByCancel, ByDisconnection, ByLeave}
+use Rattle.com_books.specs.Changes.{packet, cookie}
+use Rattle.com_books.specs.declared.keeps.Cookie.{Cookie}
 use Rattle.com_model.specs.Answers.{S_OK, E_INVALIDARG, CO_E_OBJNOTCONNECTED, RPC_E_OUT_OF_RESOURCES, RPC_E_SERVER_CANTUNMARSHAL_DATA, RPC_E_CLIENT_CANTUNMARSHAL_DATA, is_S_OK}
 use Rattle.com_model.specs.Deeds.{deed_of, initialised, uninitialised, creator, placing, made_as, created_of, created, owned_by, query_answer, queried, hold_refusal, marshalled, registered, is_named, named_packet, Named, NamesPacket, Refuses, named_or, named_in, named_by, gained_refs, unmarshalled, dropped, cookie_number, got_with, got, revoked, route_to, next_cause, out_bytes, called, reply_for, left_as, left_by}
 use Rattle.com_model.specs.Rules.{posted_to_sta, call_sort, verdict_on, is_handled_in, arguments_gone, admission, rule_final, rule_own, enters_itself, own_call, due_of, result_gone, back_with, packet_left, answered, rule_answer, rule_bound, admits_next, rule_inbox, retried, rule_retry, posted_again, rule_again, asked_on, rule_pending, takes_word, pumped, rule_word, scripted, is_script_turn, rule_script, ruled, stepped, top, tick_time, no_lane_can, next_by, next}
@@ -37,7 +43,10 @@ use Rattle.com_model.specs.declared.deeds.Deed.TheVariants as deed
 use Rattle.com_model.specs.declared.deeds.Entry.{Entry}
 use Rattle.com_model.specs.declared.scenario.Scenario.{Scenario}
 use Rattle.com_model.specs.Frames.{reference}
-use Rattle.com_model.specs.Waiting.{Phase, Unposted, Queued, Judged, Delayed, GivenUp, Word, bound_reached, mark_of, not_asked}
+use Rattle.com_model.specs.Waiting.{bound_reached, mark_of, not_asked}
+use Rattle.com_model.specs.declared.keeps.Phase.{Phase}
+use Rattle.com_model.specs.declared.keeps.Word.{Word}
+use Rattle.com_model.specs.declared.keeps.Phase.TheVariants.{Unposted, Queued, Judged, Delayed, GivenUp}
 use Rattle.com_model.specs.Issue.{call_refusal}
 use Rattle.com_model.specs.Sight.{Sight, sight}
 use Rattle.com_model.proofs.Given.{Given, given-or, given-where, given-map, given-then}
@@ -80,7 +89,7 @@ Says s v l (deed.Unmarshal (Some p) held refs hr) = Homed v l × ((packet v.book
 Says s v l (deed.Unmarshal None held refs hr) = held ≡ None
 Says s v l (deed.Get g (Some r) refs hr) = Homed v l × (v.books.live r.object ≡ true)
 Says s v l (deed.Out c o i m r k bytes) = OutSays s v l i m o r bytes
-Says s v l (deed.Enter c o y t vs) = (o ≡ object_of (v.issue c)) × (y ≡ v.owner o l) × (vs ≡ v.sent c) × (arguments_gone v c ≡ false)
+Says s v l (deed.Enter c o y t vs) = (o ≡ object_of (v.issue c)) × (y ≡ v.owner o l) × (vs ≡ v.unread c) × (arguments_gone v c ≡ false)
 Says s v l (deed.Leave c hr x bytes) = LeaveSays s v l c hr x bytes
 Says s v l (deed.Back c hr x) = (is_some (v.ending c) ≡ true) × ((x ≡ None) ⊎ ((v.ending c ≡ Some (ByLeave hr x)) × (result_gone v c (v.books.result c) ≡ false)))
 Says s v l (deed.Init m a hr) = (v.home l ≡ None) ⊎ (v.home l ≡ Some a)
@@ -231,7 +240,7 @@ deed-says s v l (action.Pump k) e = tt
 
 -- ---- the rules
 
-entered-says : (s : Scenario) (v : Sight) (l c : ℕ) (t : Bool) → arguments_gone v c ≡ t → Says s v l (cond t (deed.Refuse c RPC_E_SERVER_CANTUNMARSHAL_DATA) (deed.Enter c (object_of (v.issue c)) (v.owner (object_of (v.issue c)) l) (where_true (posted_to_sta v c) (call_sort v l c)) (v.sent c)))
+entered-says : (s : Scenario) (v : Sight) (l c : ℕ) (t : Bool) → arguments_gone v c ≡ t → Says s v l (cond t (deed.Refuse c RPC_E_SERVER_CANTUNMARSHAL_DATA) (deed.Enter c (object_of (v.issue c)) (v.owner (object_of (v.issue c)) l) (where_true (posted_to_sta v c) (call_sort v l c)) (v.unread c)))
 entered-says s v l c true e = tt
 entered-says s v l c false e = (refl, refl, refl, e)
 

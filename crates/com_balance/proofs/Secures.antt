@@ -15,7 +15,9 @@ use Rattle.com_model.specs.Objects.{makes, owns}
 use Rattle.com_model.specs.Frames.{Scene, scene, act}
 use Rattle.com_model.specs.Endings.{ending, is_leave}
 use Rattle.com_model.specs.Places.{Ground, ground, places, to_object, to_interface}
-use Rattle.com_model.specs.Books.{Packet, Books, no_books, no_packet, packet, rows, entered_rows, kept, given_back, cut_packet, cut, made_by, most, closed, books}
+use Rattle.com_books.specs.Changes.{Books, no_books, no_packet, packet, entered_rows, given_back, cut_packet, cut}
+use Rattle.com_model.specs.Books.{rows, kept, made_by, most, closed, books}
+use Rattle.com_books.specs.declared.keeps.Packet.{Packet}
 use Rattle.com_model.specs.Safe.{Secured}
 use Rattle.com_balance.proofs.Holds.{Filled, Full, rows-live, rows-full, cut-full}
 use Rattle.com_balance.proofs.Counts.{PlaceOf, Found, found-place, place-counts}
@@ -108,9 +110,12 @@ books-full s [] = no-packets-full
 books-full s (e ∷ h) =
     cut-full (books s (e ∷ h)).live _ (most-full s (ground s (e ∷ h)) (scene s (e ∷ h)) (act s h e.lane) (λ c. is_leave (ending s h c)) (number_or_zero (running s h e.lane)) e.deed (books s h) (books-full s h))
 
+one-live : (live : ℕ → Bool) (x : Packet) → (cut_packet live x).outstanding ≡ true → live (cut_packet live x).object ≡ true
+one-live live x p = elim (live x.object) as (λ t. live x.object ≡ t → (cond t x no_packet).outstanding ≡ true → live (cond t x no_packet).object ≡ true) [ true ↦ λ e p. e | false ↦ λ e p. cc ] refl p
+
 cut-live : (live : ℕ → Bool) (q : ℕ) (ps : List Packet) → (slice_index_or (map (cut_packet live) ps) q no_packet).outstanding ≡ true → live (slice_index_or (map (cut_packet live) ps) q no_packet).object ≡ true
 cut-live live q [] p = cc
-cut-live live zero (x ∷ ps) p = (and_parts x.outstanding (live x.object) p).1
+cut-live live zero (x ∷ ps) p = one-live live x p
 cut-live live (suc q) (x ∷ ps) p = cut-live live q ps p
 
 cut-books-live : (live : ℕ → Bool) (b : Books) (q : ℕ) → (packet (cut live b) q).outstanding ≡ true → live (packet (cut live b) q).object ≡ true

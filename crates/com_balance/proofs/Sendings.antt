@@ -20,12 +20,14 @@ use Rattle.com_model.specs.declared.scenario.Scenario.{Scenario}
 use Rattle.com_model.specs.Lists.{is_member, number_or_zero}
 use Rattle.com_model.specs.Tables.{parameters}
 use Rattle.com_model.specs.Apartments.{running}
-use Rattle.com_model.specs.Calls.{Issue, issues, issue_or, issue, route_of, is_marshalled}
+use Rattle.com_model.specs.Calls.{issues, issue_or, issue, route_of, is_marshalled}
+use Rattle.com_model.specs.declared.keeps.Issue.{Issue}
 use Rattle.com_model.specs.Values.{if_live, sent_values, carried}
 use Rattle.com_model.specs.Frames.{Scene, scene, act}
 use Rattle.com_model.specs.Endings.{ending, is_leave}
 use Rattle.com_model.specs.Places.{Ground, ground}
-use Rattle.com_model.specs.Books.{Books, packet, Change, ToProxy, ToPacket, Split, Join, Return, ToCookie, Withdraw, Same, changed, Row, change, out_values, rows, entered_rows, made_since, kept, most, closed, books}
+use Rattle.com_books.specs.Changes.{Books, packet, Change, ToProxy, ToPacket, Split, Join, Return, ToCookie, Withdraw, Same, changed, Row, change, entered_rows, made_since}
+use Rattle.com_model.specs.Books.{out_values, rows, kept, most, closed, books}
 use Rattle.com_model.specs.Issue.{own_values, values_or, sent}
 use Rattle.com_model.specs.Sight.{sight}
 use Rattle.com_model.specs.Rules.{legal}
@@ -84,7 +86,7 @@ pub record ArgumentOf (b : Books) (c : ℕ) (r : RefValue) : Type 0 where
   pub number : ℕ
   pub member : is_member number (b.arguments c) ≡ true
   pub low : number ≤ length b.packets
-  pub is : Of (packet b number) r
+  pub is : (packet b number).outstanding ≡ true → Of (packet b number) r
 
 argument-later : (b d : Books) (c : ℕ) (r : RefValue) → Grown b d → d.arguments c ≡ b.arguments c → ArgumentOf b c r → ArgumentOf d c r
 argument-later b d c r g e p = record {
@@ -134,7 +136,7 @@ own-arguments s g w x left a b k o i m t cause (Some bytes) c r e q p =
       number = v.number;
       member = subst (λ (y : Bool). is_member v.number (cond y (made_since b u) (u.arguments c)) ≡ true) (sym e) v.made;
       low = omega (arith, v.low, z.more);
-      is = grown-of u (closed s g w d (most s g w x left a d b)) v.number r z v.low v.is;
+      is = grown-of u (closed s g w d (most s g w x left a d b)) v.number r z v.low (λ o. v.is);
     }
 
 arguments-step : (s : Scenario) (h : List Entry) (g : Ground) (w : Scene) (left : ℕ → Bool) (a l : ℕ) (d : Deed) (c : ℕ) (r : RefValue) → Says s (sight s h) l d → (is_marshalled (route_of (issue h c)) ≡ true → In r (carried (sent s h c)) → ArgumentOf (books s h) c r) → is_marshalled (route_of (issue_or (issues l d) c (issue h c))) ≡ true → In r (carried (values_or s h (issues l d) c (sent s h c))) → ArgumentOf (closed s g w d (most s g w (act s h l) left a d (books s h))) c r

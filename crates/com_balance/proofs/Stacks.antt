@@ -7,8 +7,11 @@ use Rattle.com_model.specs.declared.deeds.Deed.{Deed}
 use Rattle.com_model.specs.declared.deeds.Deed.TheVariants as deed
 use Rattle.com_model.specs.declared.deeds.Entry.{Entry}
 use Rattle.com_model.specs.declared.scenario.Scenario.{Scenario}
-use Rattle.com_model.specs.Openers.{Opener, Enters, Effect, Opens, Closes, Keeps, effect, effect_on, opened, openers}
-use Rattle.com_model.specs.Calls.{Admission, admits, admission_or, admitted}
+use Rattle.com_model.specs.Openers.{Effect, Opens, Closes, Keeps, effect, effect_on, opened, openers}
+use Rattle.com_model.specs.declared.keeps.Opener.{Opener}
+use Rattle.com_model.specs.declared.keeps.Opener.TheVariants.{Enters}
+use Rattle.com_model.specs.Calls.{admits, admission_or, admitted}
+use Rattle.com_model.specs.declared.keeps.Admission.{Admission}
 use Rattle.com_model.specs.Waiting.{postings}
 use Rattle.com_model.specs.Sight.{sight}
 use Rattle.com_model.specs.Rules.{next, legal}

@@ -21,12 +21,17 @@ use Rattle.com_model.specs.declared.deeds.Route.TheVariants as route
 use Rattle.com_model.specs.declared.scenario.Scenario.{Scenario}
 use Rattle.com_model.specs.Lists.{or_else, where_true}
 use Rattle.com_model.specs.Tables.{lane_sort, result_kind}
-use Rattle.com_model.specs.Openers.{Opener, Waits, Opens, Keeps, effect, effect_on, openers}
+use Rattle.com_model.specs.Openers.{Opens, Keeps, effect, effect_on, openers}
+use Rattle.com_model.specs.declared.keeps.Opener.{Opener}
+use Rattle.com_model.specs.declared.keeps.Opener.TheVariants.{Waits}
 use Rattle.com_model.specs.Apartments.{Remains, home_effect, home, ends_sta}
 use Rattle.com_model.specs.Objects.{objects, named, class_of}
-use Rattle.com_model.specs.Calls.{Issue, issues, issue_or, issue, calls, admitted, admits, target}
+use Rattle.com_model.specs.Calls.{issues, issue_or, issue, calls, admitted, admits, target}
+use Rattle.com_model.specs.declared.keeps.Issue.{Issue}
 use Rattle.com_model.specs.Frames.{Scene, new_cells, scene, Actor, actor_in, outcome, action_of, act_by, value_reference, with_frame, writes, written, wants, acted, arrived, cut_links, acting}
-use Rattle.com_model.specs.Endings.{Ending, AtIssue, end_effect, ends, filtered, can_be_cut, ending}
+use Rattle.com_model.specs.Endings.{end_effect, ends, filtered, can_be_cut, ending}
+use Rattle.com_model.specs.declared.keeps.Ending.{Ending}
+use Rattle.com_model.specs.declared.keeps.Ending.TheVariants.{AtIssue}
 use Rattle.com_model.specs.Sight.{sight}
 use Rattle.com_model.specs.Rules.{next, legal}
 use Rattle.com_model.specs.Formed.{Formed}

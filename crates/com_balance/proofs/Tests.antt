@@ -11,14 +11,18 @@ use Rattle.com_model.specs.declared.scenario.Scenario.{Scenario}
 use Rattle.com_model.specs.Answers.{is_S_OK}
 use Rattle.com_model.specs.Lists.{number_or_zero, is_number}
 use Rattle.com_model.specs.Tables.{LaneSort, Thread, Host, Pool, NoLane, lane_sort, threads}
-use Rattle.com_model.specs.Openers.{Opener, Enters, Opens, effect, effect_on, openers}
+use Rattle.com_model.specs.Openers.{Opens, effect, effect_on, openers}
+use Rattle.com_model.specs.declared.keeps.Opener.{Opener}
+use Rattle.com_model.specs.declared.keeps.Opener.TheVariants.{Enters}
 use Rattle.com_model.specs.Apartments.{Remains, home_effect, home_after, thread_home, home_by_sort, home, running}
 use Rattle.com_model.specs.Objects.{objects, agile, named, owns, makes}
-use Rattle.com_model.specs.Calls.{Admission, admitted}
+use Rattle.com_model.specs.Calls.{admitted}
+use Rattle.com_model.specs.declared.keeps.Admission.{Admission}
 use Rattle.com_model.specs.Frames.{scene, Actor, Body, Nobody, actor, actor_in, taken_in, reference, act}
 use Rattle.com_model.specs.Endings.{ending, is_leave}
 use Rattle.com_model.specs.Places.{ground}
-use Rattle.com_model.specs.Books.{Asks, rows, entered_rows, books}
+use Rattle.com_books.specs.Changes.{Asks, entered_rows}
+use Rattle.com_model.specs.Books.{rows, books}
 use Rattle.com_model.specs.Safe.{Secured}
 use Rattle.com_model.specs.Sight.{Sight, sight}
 use Rattle.com_model.specs.Rules.{next, legal}

@@ -23,15 +23,22 @@ use Rattle.com_model.specs.declared.scenario.Scenario.{Scenario}
 use Rattle.com_model.specs.Answers.{S_OK, E_INVALIDARG, CO_E_OBJNOTCONNECTED, RPC_E_OUT_OF_RESOURCES, RPC_E_SERVER_CANTUNMARSHAL_DATA}
 use Rattle.com_model.specs.Lists.{where_true, first}
 use Rattle.com_model.specs.Tables.{class_number, interface_number, LaneSort, Thread, Host, Pool, NoLane, lane_sort}
-use Rattle.com_model.specs.Openers.{Opener, Pumps, Waits, Enters, running_call}
+use Rattle.com_model.specs.Openers.{running_call}
+use Rattle.com_model.specs.declared.keeps.Opener.{Opener}
+use Rattle.com_model.specs.declared.keeps.Opener.TheVariants.{Pumps, Waits, Enters}
 use Rattle.com_model.specs.Apartments.{mta, is_sta}
-use Rattle.com_model.specs.Calls.{Issue, issues, issue_or, issue, calls, route_of, object_of, is_post}
+use Rattle.com_model.specs.Calls.{issues, issue_or, issue, calls, route_of, object_of, is_post}
+use Rattle.com_model.specs.declared.keeps.Issue.{Issue}
 use Rattle.com_model.specs.Endings.{Answer}
-use Rattle.com_model.specs.Waiting.{Posts, Delays, post_effect, Phase, Unposted, Queued, Judged, Delayed, GivenUp, phase_after, phase, is_queued, waits_in, inbox, postings, Word, bound_reached, mark_of, not_asked}
+use Rattle.com_model.specs.Waiting.{Posts, Delays, post_effect, phase_after, phase, is_queued, waits_in, inbox, postings, bound_reached, mark_of, not_asked}
+use Rattle.com_model.specs.declared.keeps.Phase.{Phase}
+use Rattle.com_model.specs.declared.keeps.Word.{Word}
+use Rattle.com_model.specs.declared.keeps.Phase.TheVariants.{Unposted, Queued, Judged, Delayed, GivenUp}
 use Rattle.com_model.specs.Clock.{clock}
 use Rattle.com_model.specs.Sight.{Sight, sight}
 use Rattle.com_model.specs.Frames.{reference}
-use Rattle.com_model.specs.Books.{Cookie, cookie}
+use Rattle.com_books.specs.Changes.{cookie}
+use Rattle.com_books.specs.declared.keeps.Cookie.{Cookie}
 use Rattle.com_model.specs.Issue.{call_refusal}
 use Rattle.com_model.specs.Deeds.{deed_of, initialised, uninitialised, creator, placing, made_as, created_of, created, owned_by, hold_refusal, marshalled, registered, Named, NamesPacket, Refuses, named_by, gained_refs, unmarshalled, dropped, cookie_number, got_with, got, revoked, called, left_as, left_by}
 use Rattle.com_model.specs.Rules.{waiting_call, posted_to_sta, call_sort, verdict_on, is_handled_in, arguments_gone, admission, rule_final, rule_own, enters_itself, own_call, due_of, packet_left, answered, rule_answer, rule_bound, is_open_to_calls, admits_sta, admits_next, rule_inbox, retried, rule_retry, posted_again, rule_again, asked_on, rule_pending, takes_word, pumped, rule_word, scripted, is_script_turn, rule_script, ruled, stepped, top, tick_time, no_lane_can, next_by, next, legal}
@@ -211,7 +218,7 @@ admission-tops : (s : Scenario) (v : Sight) (l c : ℕ) → ((top v l ≡ Some (
 admission-tops s v l c p =
     cond-is (Tops v l) (nat_le 256 (length (v.openers l))) (deed.Refuse c RPC_E_OUT_OF_RESOURCES) _ (inr tt)
     (cond-test (Tops v l) (posted_to_sta v c && not (is_handled_in s v l c)) (deed.Verdict c (call_sort v l c) (verdict_on s v l c)) _ (λ e. inr ((and_parts _ _ (and_parts (posted_to_sta v c) _ e).0).0))
-    (cond-is (Tops v l) (arguments_gone v c) (deed.Refuse c RPC_E_SERVER_CANTUNMARSHAL_DATA) (deed.Enter c (object_of (v.issue c)) (v.owner (object_of (v.issue c)) l) (where_true (posted_to_sta v c) (call_sort v l c)) (v.sent c)) (inr tt) (inr p)))
+    (cond-is (Tops v l) (arguments_gone v c) (deed.Refuse c RPC_E_SERVER_CANTUNMARSHAL_DATA) (deed.Enter c (object_of (v.issue c)) (v.owner (object_of (v.issue c)) l) (where_true (posted_to_sta v c) (call_sort v l c)) (v.unread c)) (inr tt) (inr p)))
 
 answered-tops : (v : Sight) (l c : ℕ) (x : Answer) (p : Option ℕ) → Tops v l (answered v c x p)
 answered-tops v l c x (Some p) = inr tt

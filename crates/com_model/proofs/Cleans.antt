@@ -2,7 +2,7 @@
 use Rattle.std.proofs.Common.{subst, sym, inl, inr, arith}
 use Rattle.std.proofs.lemmas.List.Elements.{All-cons, All-nil}
 use Rattle.std.proofs.lemmas.Grind.{common_steps}
-use Rattle.std.specs.Prelude.{◌≡◌, refl, ℕ, zero, suc, ◌+◌, ◌<◌, Bool, true, false, cond, ◌&&◌, ◌==◌, List, [], ◌∷◌, Option, Some, None, All, ◌⊎◌, option_map, option_and_then, unwrap_or, find, slice_get, slice_index_or}
+use Rattle.std.specs.Prelude.{◌≡◌, ℕ, zero, suc, ◌+◌, Bool, true, false, cond, ◌&&◌, ◌==◌, List, [], ◌∷◌, Option, Some, None, All, ◌⊎◌, option_map, option_and_then, unwrap_or, find, slice_get, slice_index_or}
 use Rattle.com_base.specs.declared.value.Kind.{Kind}
 use Rattle.com_base.specs.declared.value.Kind.TheVariants as kind
 use Rattle.com_base.specs.declared.value.Value.{Value}
@@ -24,7 +24,7 @@ use Rattle.com_classes.specs.declared.interfaces.Method.{Method}
 use Rattle.com_classes.specs.declared.classes.Class.{Class}
 use Rattle.com_classes.specs.declared.classes.MethodBody.{MethodBody}
 use Rattle.com_classes.specs.BuiltIns.{counter_bodies, relay_bodies, latch_bodies}
-use Rattle.com_classes.specs.Lookups.{class_at, method_at, class_body, kind_body, given_in, body_of}
+use Rattle.com_classes.specs.Lookups.{class_at, method_at, class_body, kind_body, body_of}
 use Rattle.com_model.specs.declared.scenario.Scenario.{Scenario}
 use Rattle.com_model.specs.Tables.{script}
 use Rattle.com_model.specs.Formed.{IsLiteral, IsOperand, IsGivenValue, FitsKind, FitKinds, FitsMethod, IsStatement, Context, FormedBody, in_script, in_class, IsBody, IsClass, EachFrom, Formed}

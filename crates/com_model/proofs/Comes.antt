@@ -1,7 +1,7 @@
 -- Where the numbers of calls in the entries of a legal history come from.
 use Rattle.std.proofs.Common.{subst, sym, arith}
 use Rattle.std.proofs.lemmas.Grind.{common_steps}
-use Rattle.std.specs.Prelude.{◌≡◌, refl, ℕ, ℤ, Bool, true, false, cond, ◌==◌, ◌&&◌, not, nat_le, length, ◌||◌, ◌+◌, List, [], ◌∷◌, Option, Some, None, option_map, Result, Ok, Err}
+use Rattle.std.specs.Prelude.{◌≡◌, refl, ℕ, ℤ, Bool, true, false, cond, ◌==◌, ◌&&◌, not, nat_le, length, ◌||◌, ◌+◌, List, [], ◌∷◌, Option, Some, None, option_map, Result, Ok, Err, filter, is_none}
 use Rattle.com_base.specs.declared.hresult.HResult.{HResult}
 use Rattle.com_base.specs.declared.value.RefValue.{RefValue}
 use Rattle.com_base.specs.declared.value.Value.{Value}
@@ -18,27 +18,22 @@ use Rattle.com_model.specs.declared.deeds.Deed.{Deed}
 use Rattle.com_model.specs.declared.deeds.Deed.TheVariants as deed
 use Rattle.com_model.specs.declared.deeds.Entry.{Entry}
 use Rattle.com_model.specs.declared.scenario.Scenario.{Scenario}
-use Rattle.com_model.specs.Lists.{where_true, first}
+use Rattle.com_model.specs.Lists.{where_true, first, is_member}
 use Rattle.com_model.specs.Issue.{call_refusal}
 use Rattle.com_model.specs.Tables.{class_number, interface_number, LaneSort, Thread, Host, Pool, NoLane, lane_sort}
 use Rattle.com_model.specs.Openers.{Opener, Pumps, Waits, Enters, openers, running_call}
-use Rattle.com_model.specs.Calls.{Issue, object_of, is_post, route_of}
+use Rattle.com_model.specs.Calls.{Issue, object_of, is_post, route_of, admitted, target}
 use Rattle.com_model.specs.Frames.{reference}
-use Rattle.com_model.specs.Endings.{Answer}
-use Rattle.com_model.specs.Waiting.{Phase, Unposted, Queued, Judged, Delayed, GivenUp, Word, mark_of, not_asked, bound_reached}
-use Rattle.com_model.specs.Books.{Cookie, cookie}
+use Rattle.com_model.specs.Endings.{Answer, ending}
+use Rattle.com_model.specs.Waiting.{Phase, Unposted, Queued, Judged, Delayed, GivenUp, Word, mark_of, not_asked, bound_reached, is_queued, phase, postings, waits_in}
+use Rattle.com_books.specs.declared.keeps.Cookie.{Cookie}
+use Rattle.com_books.specs.Changes.{cookie}
 use Rattle.com_model.specs.Sight.{Sight, sight}
 use Rattle.com_model.specs.Deeds.{hold_refusal, named_by, deed_of, created, created_of, initialised, marshalled, registered, Named, NamesPacket, Refuses, unmarshalled, dropped, got, got_by, got_with, cookie_number, gained_refs, owned_by, made_as, creator, placing, revoked, uninitialised, in_sta, called, left_by, left_as, word_answer}
-use Rattle.com_model.specs.Rules.{posted_to_sta, is_handled_in, call_sort, verdict_on, arguments_gone, enters_itself, packet_left, due_of, admits_next, no_lane_can, tick_time, next, next_by, stepped, ruled, admission, rule_final, rule_own, rule_answer, rule_bound, rule_inbox, rule_retry, rule_again, rule_pending, rule_word, rule_script, answered, retried, posted_again, asked_on, pumped, takes_word, scripted, is_script_turn}
+use Rattle.com_model.specs.Rules.{posted_to_sta, is_handled_in, call_sort, verdict_on, arguments_gone, enters_itself, packet_left, due_of, admits_next, no_lane_can, tick_time, next, next_by, stepped, ruled, admission, rule_final, rule_own, rule_answer, rule_bound, rule_inbox, rule_retry, rule_again, rule_pending, rule_word, rule_script, answered, retried, posted_again, asked_on, pumped, takes_word, scripted, is_script_turn, admits_sta, is_open_to_calls, top}
 use Rattle.com_model.proofs.Given.{Given, given-or, given-where, given-map, cond-of, own-given}
 use Rattle.com_model.specs.Apartments.{mta, is_sta}
-use Rattle.com_model.specs.Calls.{admitted, target}
-use Rattle.com_model.specs.Endings.{ending}
 use Rattle.com_model.specs.Objects.{named}
-use Rattle.com_model.specs.Lists.{is_member}
-use Rattle.com_model.specs.Waiting.{is_queued, phase, postings, waits_in}
-use Rattle.com_model.specs.Rules.{admits_sta, is_open_to_calls, top}
-use Rattle.std.specs.Prelude.{filter, is_none}
 
 -- The deeds that issue a call, enter it, ask or post its waiting caller, or refuse it at its admission; those that make an
 -- object; and those that send a word or a quit.
@@ -178,7 +173,7 @@ admission-comes : (s : Scenario) (v : Sight) (ps : List ℕ) (os : List Opener) 
 admission-comes s v ps os l c n r =
     cond-of (Comes_of s v ps os) (nat_le 256 (length (v.openers l))) (deed.Refuse c RPC_E_OUT_OF_RESOURCES) _ r
     (cond-of (Comes_of s v ps os) (posted_to_sta v c && not (is_handled_in s v l c)) (deed.Verdict c (call_sort v l c) (verdict_on s v l c)) _ r
-    (cond-of (Comes_of s v ps os) (arguments_gone v c) (deed.Refuse c RPC_E_SERVER_CANTUNMARSHAL_DATA) (deed.Enter c (object_of (v.issue c)) (v.owner (object_of (v.issue c)) l) (where_true (posted_to_sta v c) (call_sort v l c)) (v.sent c)) r (n, r)))
+    (cond-of (Comes_of s v ps os) (arguments_gone v c) (deed.Refuse c RPC_E_SERVER_CANTUNMARSHAL_DATA) (deed.Enter c (object_of (v.issue c)) (v.owner (object_of (v.issue c)) l) (where_true (posted_to_sta v c) (call_sort v l c)) (v.unread c)) r (n, r)))
 
 given-when : (P : Deed → Type 0) (b : Bool) (d : Deed) → (b ≡ true → P d) → Given P (where_true b d)
 given-when P true d p = p refl

@@ -1,12 +1,11 @@
 -- What the next entry of a lane names is there: made objects, declared interfaces and apartments, where what the rules look at
 -- names only such.
-use Rattle.std.proofs.Common.{subst, sym, ap, arith}
+use Rattle.std.proofs.Common.{subst, arith}
 use Rattle.std.proofs.lemmas.List.Elements.{All-cons, All-nil}
 use Rattle.std.proofs.lemmas.List.Quantifiers.{position-Some}
 use Rattle.std.proofs.lemmas.Option.{slice_get_within}
 use Rattle.std.proofs.lemmas.Grind.{common_steps}
-use Rattle.std.specs.Prelude.{◌≡◌, refl, ℕ, ℤ, zero, suc, ◌+◌, ◌≤◌, ◌<◌, Bool, true, false, cond, not, ◌||◌, ◌&&◌, ◌==◌, nat_le, List, [], ◌∷◌, length, Option, Some, None, is_some, All, Result, Ok, Err, option_map, position, slice_get, slice_index_or}
-use Rattle.com_base.specs.declared.guid.Guid.{Guid}
+use Rattle.std.specs.Prelude.{◌≡◌, refl, ℕ, ℤ, zero, suc, ◌+◌, ◌≤◌, ◌<◌, Bool, true, false, cond, not, ◌&&◌, ◌==◌, nat_le, List, [], ◌∷◌, length, Option, Some, None, is_some, All, Result, Ok, Err, option_map, position, slice_get}
 use Rattle.com_base.specs.declared.hresult.HResult.{HResult}
 use Rattle.com_base.specs.declared.value.RefValue.{RefValue}
 use Rattle.com_base.specs.declared.value.Value.{Value}
@@ -29,13 +28,14 @@ use Rattle.com_classes.specs.declared.classes.ThreadingModel.TheVariants as mode
 use Rattle.com_classes.specs.declared.factory.Creator.{Creator}
 use Rattle.com_classes.specs.declared.factory.Placed.{Placed}
 use Rattle.com_classes.specs.Activation.{apartment_of, owner_for, is_agile, placed_in}
-use Rattle.com_classes.specs.Lookups.{class_at, class_has, find_interface, same_guid}
+use Rattle.com_classes.specs.Lookups.{class_at, class_has, find_interface}
 use Rattle.com_model.specs.declared.deeds.Deed.{Deed}
 use Rattle.com_model.specs.declared.deeds.Deed.TheVariants as deed
 use Rattle.com_model.specs.declared.deeds.Entry.{Entry}
 use Rattle.com_model.specs.declared.scenario.Scenario.{Scenario}
 use Rattle.com_model.specs.Answers.{S_OK, E_INVALIDARG, E_NOINTERFACE, CO_E_OBJNOTCONNECTED, RPC_E_DISCONNECTED, RPC_E_OUT_OF_RESOURCES, RPC_E_SERVER_CANTUNMARSHAL_DATA, RPC_E_CLIENT_CANTUNMARSHAL_DATA, is_S_OK, is_failure}
-use Rattle.com_model.specs.Lists.{count_if, first, number_or_zero, where_true}
+use Rattle.com_books.specs.Counting.{count_if}
+use Rattle.com_model.specs.Lists.{first, number_or_zero, where_true}
 use Rattle.com_model.specs.Tables.{class_number, interface_number, shown, LaneSort, Thread, Host, Pool, NoLane, lane_sort}
 use Rattle.com_model.specs.Openers.{Opener, Pumps, Waits, Enters, running_call}
 use Rattle.com_model.specs.Apartments.{makes_sta}
@@ -43,15 +43,17 @@ use Rattle.com_model.specs.Calls.{Issue, object_of}
 use Rattle.com_model.specs.Values.{if_live, sent_value, sent_values, sent_result, given_or_default}
 use Rattle.com_model.specs.Frames.{reference}
 use Rattle.com_model.specs.Endings.{Ending, AtIssue, AtAdmission, ByVerdict, ByRetry, ByCancel, ByDisconnection, ByLeave, Answer, answer_of, without_value}
-use Rattle.com_model.specs.Books.{Books, Packet, Cookie, no_packet, no_cookie, packet, cookie}
+use Rattle.com_books.specs.Changes.{Books, no_packet, no_cookie, packet, cookie}
+use Rattle.com_books.specs.declared.keeps.Packet.{Packet}
+use Rattle.com_books.specs.declared.keeps.Cookie.{Cookie}
 use Rattle.com_model.specs.Waiting.{Phase, Unposted, Queued, Judged, Delayed, GivenUp, Word, bound_reached, mark_of, not_asked}
 use Rattle.com_model.specs.Issue.{call_refusal}
 use Rattle.com_model.specs.Sight.{Sight, sight}
-use Rattle.com_model.specs.Deeds.{deed_of, initialised, uninitialised, not_made, creator, placing, made_as, created_of, created, owned_by, offers, query_answer, object_in, queried, hold_refusal, marshalled, registered, Named, NamesPacket, Refuses, named_by, gained_refs, unmarshalled, dropped, cookie_number, got_with, got_by, got, revoked, called, left_with, left_as, left_by, in_sta}
-use Rattle.com_model.specs.Rules.{posted_to_sta, call_sort, verdict_on, is_handled_in, arguments_gone, admission, rule_final, rule_own, enters_itself, own_call, due_of, result_gone, back_answer, back_with, packet_left, answered, rule_answer, rule_bound, admits_next, rule_inbox, retried, rule_retry, posted_again, rule_again, asked_on, rule_pending, takes_word, pumped, rule_word, after_script, scripted, is_script_turn, rule_script, ruled, stepped, top, ticks, tick_time, no_lane_can, next_by, next}
-use Rattle.com_model.proofs.Given.{Given, given-or, given-where, given-map, given-then, cond-of}
+use Rattle.com_model.specs.Deeds.{deed_of, initialised, uninitialised, creator, placing, made_as, created_of, created, owned_by, query_answer, object_in, queried, hold_refusal, marshalled, registered, Named, NamesPacket, Refuses, named_by, gained_refs, unmarshalled, dropped, cookie_number, got_with, got, revoked, called, left_as, left_by}
+use Rattle.com_model.specs.Rules.{posted_to_sta, call_sort, verdict_on, is_handled_in, arguments_gone, admission, rule_final, rule_own, enters_itself, own_call, due_of, result_gone, packet_left, answered, rule_answer, rule_bound, admits_next, rule_inbox, retried, rule_retry, posted_again, rule_again, asked_on, rule_pending, takes_word, pumped, rule_word, scripted, is_script_turn, rule_script, ruled, stepped, top, tick_time, no_lane_can, next_by, next}
+use Rattle.com_model.proofs.Given.{Given, given-or, given-where, given-map, given-then}
 use Rattle.com_model.proofs.Comes.{given-found}
-use Rattle.com_model.proofs.Goods.{GoodRef, GoodHeld, GoodValue, GoodResult, GoodAction, all-or}
+use Rattle.com_model.proofs.Goods.{GoodHeld, GoodValue, GoodResult, GoodAction, all-or}
 
 abbrev pub GoodPacket : (n m : ℕ) → Packet → Type 0
 GoodPacket n m k = (k.object ≤ n) × (k.iface < m)
@@ -81,7 +83,7 @@ pub record GoodSight (s : Scenario) (v : Sight) : Type 0 where
   pub some : 0 < length s.classes.interfaces
   pub owners : (o l : ℕ) → v.owner o l < v.next_sta
   pub targets : (c : ℕ) → object_of (v.issue c) ≤ v.objects
-  pub sent : (c : ℕ) → All (GoodValue v.objects (length s.classes.interfaces)) (v.sent c)
+  pub unread : (c : ℕ) → All (GoodValue v.objects (length s.classes.interfaces)) (v.unread c)
   pub endings : (c : ℕ) → GoodEnding v.objects (length s.classes.interfaces) (v.ending c)
   pub packets : All (GoodPacket v.objects (length s.classes.interfaces)) v.books.packets
   pub cookies : All (GoodCookie v.objects (length s.classes.interfaces)) v.books.cookies
@@ -302,7 +304,7 @@ admission-fine : (s : Scenario) (v : Sight) (l c : ℕ) → GoodSight s v → Fi
 admission-fine s v l c g =
     cond-is (Fine s v) (nat_le 256 (length (v.openers l))) (deed.Refuse c RPC_E_OUT_OF_RESOURCES) _ tt
     (cond-is (Fine s v) (posted_to_sta v c && not (is_handled_in s v l c)) (deed.Verdict c (call_sort v l c) (verdict_on s v l c)) _ tt
-    (cond-is (Fine s v) (arguments_gone v c) (deed.Refuse c RPC_E_SERVER_CANTUNMARSHAL_DATA) (deed.Enter c (object_of (v.issue c)) (v.owner (object_of (v.issue c)) l) (where_true (posted_to_sta v c) (call_sort v l c)) (v.sent c)) tt (g.targets c, g.owners (object_of (v.issue c)) l, g.sent c)))
+    (cond-is (Fine s v) (arguments_gone v c) (deed.Refuse c RPC_E_SERVER_CANTUNMARSHAL_DATA) (deed.Enter c (object_of (v.issue c)) (v.owner (object_of (v.issue c)) l) (where_true (posted_to_sta v c) (call_sort v l c)) (v.unread c)) tt (g.targets c, g.owners (object_of (v.issue c)) l, g.unread c)))
 
 answer-good : (n m : ℕ) (hr : HResult) (e : Ending) → GoodEnding n m (Some e) → GoodResult n m (answer_of hr e).value
 answer-good n m hr AtIssue p = tt

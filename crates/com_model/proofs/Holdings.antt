@@ -1,11 +1,10 @@
 -- The books of public references stay within the numbers that were given.
-use Rattle.std.proofs.Common.{sym, ap, ◌∙◌, eqb-true, arith}
+use Rattle.std.proofs.Common.{ap, ◌∙◌, eqb-true, arith}
 use Rattle.std.proofs.lemmas.Bool.{false_from_ne_true}
-use Rattle.std.proofs.lemmas.List.Elements.{All-set, All-map, All-append, All-cons, All-nil}
+use Rattle.std.proofs.lemmas.List.Elements.{All-set, All-map, All-append, All-cons, All-nil, All-weaker}
 use Rattle.std.proofs.lemmas.Grind.{common_steps}
-use Rattle.std.specs.Prelude.{◌≡◌, refl, ℕ, zero, suc, ◌+◌, ◌-◌, ◌/◌, ◌≤◌, ◌<◌, pos, negsuc, Bool, true, false, cond, not, ◌==◌, ◌&&◌, ◌||◌, nat_le, List, [], ◌∷◌, ◌++◌, length, map, Option, Some, None, All, fold}
+use Rattle.std.specs.Prelude.{◌≡◌, refl, ℕ, zero, suc, ◌+◌, ◌-◌, ◌/◌, ◌≤◌, ◌<◌, pos, negsuc, Bool, true, false, cond, not, ◌==◌, ◌&&◌, ◌||◌, nat_le, List, [], ◌∷◌, ◌++◌, map, Option, Some, None, All}
 use Rattle.com_base.specs.declared.hresult.HResult.{HResult}
-use Rattle.com_base.specs.declared.value.RefValue.{RefValue}
 use Rattle.com_base.specs.declared.value.Value.{Value}
 use Rattle.com_base.specs.declared.value.Value.TheVariants as value
 use Rattle.com_base.specs.declared.value.MarshalMode.{MarshalMode}
@@ -17,13 +16,14 @@ use Rattle.com_model.specs.declared.deeds.Deed.{Deed}
 use Rattle.com_model.specs.declared.deeds.Deed.TheVariants as deed
 use Rattle.com_model.specs.declared.scenario.Scenario.{Scenario}
 use Rattle.com_model.specs.Answers.{is_S_OK}
-use Rattle.com_model.specs.Lists.{sum_below}
-use Rattle.com_model.specs.Objects.{Making, makes}
+use Rattle.com_model.specs.Objects.{makes}
 use Rattle.com_model.specs.Values.{carried, result_list}
 use Rattle.com_model.specs.Frames.{Scene}
-use Rattle.com_model.specs.Places.{Ground, places}
-use Rattle.com_model.specs.Books.{Packet, Cookie, Books, packet, cookie, Change, ToProxy, ToPacket, Split, Join, Return, ToCookie, Withdraw, Same, at2, at3, set_from_one, changed, Row, Makes, Takes, Asks, Marshals, Unmarshals, Drops, Registers, Revokes, marshal_change, unmarshal_change, change, marshal_all, out_values, query_row, revoke_row, reply_rows, back_rows, rows, entered_rows, made_since, kept, given_back, made_by, live_after, cut, most, closed}
-use Rattle.com_model.proofs.Goods.{GoodRef, GoodHeld, GoodValue, GoodResult, GoodAction, all-of, more-result}
+use Rattle.com_model.specs.Places.{Ground}
+use Rattle.com_books.specs.declared.keeps.Packet.{Packet}
+use Rattle.com_books.specs.Changes.{Books, packet, cookie, Change, ToProxy, ToPacket, Split, Join, Return, ToCookie, Withdraw, Same, at2, at3, set_from_one, changed, Row, Makes, Takes, Asks, Marshals, Unmarshals, Drops, Registers, Revokes, marshal_change, unmarshal_change, change, marshal_all, entered_rows, given_back, cut, cut_packet, no_packet}
+use Rattle.com_model.specs.Books.{out_values, reply_rows, back_rows, rows, kept, made_by, live_after, most, closed}
+use Rattle.com_model.proofs.Goods.{GoodValue, GoodResult, GoodAction, all-of, more-result}
 use Rattle.com_model.proofs.Fines.{cond-is, GoodPacket, GoodCookie, FineBy, packet-good, cookie-good, all-sent-good}
 use Rattle.com_model.proofs.Scenes.{faces, Issued, put-past}
 
@@ -142,7 +142,7 @@ changed-good s n c a b (Split y o i k) h p g = record {
 changed-good s n c a b (Join y p) h q g =
     let k : GoodPacket n (faces s) (packet b p) = packet-good n (faces s) b p h g.packets in
     record {
-      packets = set-all (GoodPacket n (faces s)) b.packets p _ k g.packets;
+      packets = set-all (GoodPacket n (faces s)) b.packets p _ (omega arith, h) g.packets;
       cookies = g.cookies;
       stub_o = g.stub_o;
       stub_i = g.stub_i;
@@ -156,7 +156,7 @@ changed-good s n c a b (Join y p) h q g =
 changed-good s n c a b (Return p) h q g =
     let k : GoodPacket n (faces s) (packet b p) = packet-good n (faces s) b p h g.packets in
     record {
-      packets = set-all (GoodPacket n (faces s)) b.packets p _ k g.packets;
+      packets = set-all (GoodPacket n (faces s)) b.packets p _ (omega arith, h) g.packets;
       cookies = g.cookies;
       stub_o = λ u v z. at2-left (packet b p).object (packet b p).iface _ b.stub u v (apart-o n u _ k.0 z) (g.stub_o u v z);
       stub_i = λ u v z. at2-right (packet b p).object (packet b p).iface _ b.stub u v (apart-i (faces s) v _ k.1 z) (g.stub_i u v z);
@@ -183,7 +183,7 @@ changed-good s n c a b (Withdraw x) h p g =
     let k : GoodCookie n (faces s) (cookie b x) = cookie-good n (faces s) b x h g.cookies in
     record {
       packets = g.packets;
-      cookies = set-all (GoodCookie n (faces s)) b.cookies x _ k g.cookies;
+      cookies = set-all (GoodCookie n (faces s)) b.cookies x _ (omega arith, h) g.cookies;
       stub_o = λ u v z. at2-left (cookie b x).object (cookie b x).iface _ b.stub u v (apart-o n u _ k.0 z) (g.stub_o u v z);
       stub_i = λ u v z. at2-right (cookie b x).object (cookie b x).iface _ b.stub u v (apart-i (faces s) v _ k.1 z) (g.stub_i u v z);
       proxy_a = g.proxy_a;
@@ -344,9 +344,12 @@ given-good s n c a k f b g = record {
   result = g.result;
 }
 
-cut-books : (s : Scenario) (n c a : ℕ) (live : ℕ → Bool) (b : Books) → ((o : ℕ) → n + 1 ≤ o → live o ≡ false) → GoodBooks s n c a b → GoodBooks s n c a (cut live b)
-cut-books s n c a live b p g = record {
-  packets = All-map (GoodPacket n (faces s)) _ b.packets g.packets;
+cut-one : (n m : ℕ) (live : ℕ → Bool) (p : Packet) → 0 < m → GoodPacket n m p → GoodPacket n m (cut_packet live p)
+cut-one n m live p h g = cond-is (GoodPacket n m) (live p.object) p no_packet g (omega arith, h)
+
+cut-books : (s : Scenario) (n c a : ℕ) (live : ℕ → Bool) (b : Books) → 0 < faces s → ((o : ℕ) → n + 1 ≤ o → live o ≡ false) → GoodBooks s n c a b → GoodBooks s n c a (cut live b)
+cut-books s n c a live b f p g = record {
+  packets = All-map (GoodPacket n (faces s)) _ b.packets (All-weaker (GoodPacket n (faces s)) (λ q. GoodPacket n (faces s) (cut_packet live q)) (λ q x. cut-one n (faces s) live q f x) b.packets g.packets);
   cookies = All-map (GoodCookie n (faces s)) _ b.cookies g.cookies;
   stub_o = λ o i h. none-cut (live o) (b.stub o i) (g.stub_o o i h);
   stub_i = λ o i h. none-cut (live o) (b.stub o i) (g.stub_i o i h);
@@ -375,4 +378,4 @@ live-after-good n d named holders live p q o h =
 pub closed-good : (s : Scenario) (n c a k y : ℕ) (g : Ground) (w : Scene) (x : Option Action) (left : ℕ → Bool) (z : ℕ) (d : Deed) (b : Books) → 0 < faces s → k ≤ n → z < a → y ≤ a → GoodAct n (faces s) x → FineBy k (faces s) y d → NewWithin n d → Issued c d → GoodBooks s n c a b → GoodBooks s n c a (closed s g w d (most s g w x left z d b))
 closed-good s n c a k y g w x left z d b h p q r u f m j t =
     let v : GoodBooks s n c a (most s g w x left z d b) = given-good s n c a _ _ _ (kept-good s n c a b d _ j (rows-entered s n c a g.owns b _ h (rows-good s n k y a x left b z d p q r u f m) t)) in
-    cut-books s n c a _ _ (live-after-good n d g.named _ _ m v.live) v
+    cut-books s n c a _ _ h (live-after-good n d g.named _ _ m v.live) v

@@ -1,10 +1,9 @@
 -- Every legal history of a formed scenario stays within the numbers that were given.
-use Rattle.std.proofs.Common.{subst, sym, ap, ◌∙◌, arith}
+use Rattle.std.proofs.Common.{subst, arith}
 use Rattle.std.proofs.lemmas.List.Elements.{All-append, All-cons, All-nil, All-filter}
 use Rattle.std.proofs.lemmas.Grind.{common_steps}
-use Rattle.std.specs.Prelude.{◌≡◌, refl, ℕ, zero, suc, ◌+◌, ◌≤◌, ◌<◌, negsuc, pos, Bool, true, false, cond, not, ◌==◌, ◌&&◌, ◌||◌, nat_le, List, [], ◌∷◌, ◌++◌, length, take, Option, Some, None, is_some, All, option_map, filter}
+use Rattle.std.specs.Prelude.{◌≡◌, refl, ℕ, zero, suc, ◌+◌, ◌≤◌, ◌<◌, negsuc, pos, Bool, true, false, cond, not, ◌==◌, ◌&&◌, nat_le, List, [], ◌∷◌, ◌++◌, length, take, Option, Some, None, is_some, All, option_map}
 use Rattle.com_base.specs.declared.hresult.HResult.{HResult}
-use Rattle.com_base.specs.declared.value.RefValue.{RefValue}
 use Rattle.com_base.specs.declared.value.Value.{Value}
 use Rattle.com_base.specs.declared.value.Mode.TheVariants as mode
 use Rattle.com_body.specs.declared.operands.Asked.TheVariants as asked
@@ -20,27 +19,28 @@ use Rattle.com_model.specs.declared.deeds.Entry.{Entry}
 use Rattle.com_model.specs.declared.deeds.Route.TheVariants as route
 use Rattle.com_model.specs.declared.scenario.Scenario.{Scenario}
 use Rattle.com_model.specs.Answers.{is_S_OK}
-use Rattle.com_model.specs.Lists.{or_else, where_true, count_if, first, number_or_zero, without_first}
-use Rattle.com_model.specs.Tables.{LaneSort, Thread, Host, Pool, NoLane, lane_sort, threads}
+use Rattle.com_model.specs.Lists.{or_else, where_true, first, number_or_zero, without_first}
+use Rattle.com_books.specs.Counting.{count_if}
+use Rattle.com_model.specs.Tables.{LaneSort, Thread, Host, Pool, NoLane, lane_sort}
 use Rattle.com_model.specs.Openers.{Opener, Pumps, Waits, Enters, Effect, Opens, Closes, Keeps, effect, effect_on, opened, openers, entered_apartment}
-use Rattle.com_model.specs.Apartments.{HomeEffect, Initialises, Uninitialises, Remains, home_effect, home_effect_on, home_after, thread_home, home_by_sort, home, running, makes_sta, ends_sta, with_last, stas, next_sta, ended, or_host, main_sta, serves}
-use Rattle.com_model.specs.Objects.{Making, makes, made_or, making, one_more, objects, named, class_of, agile, owner, disconnects}
-use Rattle.com_model.specs.Calls.{Issue, issues, issue_or, issue, calls, object_of, target, admitted}
-use Rattle.com_model.specs.Frames.{scene, taken_in, outcome, action_of, unless_over, actor, actor_in, reference, act}
+use Rattle.com_model.specs.Apartments.{HomeEffect, Initialises, Uninitialises, Remains, home_effect, home_effect_on, home_after, thread_home, home_by_sort, home, running, makes_sta, ends_sta, with_last, stas, next_sta, ended, or_host, serves}
+use Rattle.com_model.specs.Objects.{Making, makes, made_or, making, one_more, objects, named, class_of, agile, disconnects}
+use Rattle.com_model.specs.Calls.{Issue, Admission, issues, issue_or, issue, calls, object_of, target, admitted}
+use Rattle.com_model.specs.Frames.{scene, taken_in, outcome, action_of, unless_over, actor_in, reference, act}
 use Rattle.com_model.specs.Endings.{Ending, ByVerdict, ByLeave, EndEffect, EndsCall, CutsObject, CutsSta, EndsNone, cuts_object, cuts_sta, end_effect, ends, filtered, can_be_cut, ending, is_leave}
 use Rattle.com_model.specs.Places.{ground}
-use Rattle.com_model.specs.Books.{books, out_values}
-use Rattle.com_model.specs.Dying.{is_dying, dying, fallen}
-use Rattle.com_model.specs.Issue.{own_values, values_or, sent}
+use Rattle.com_model.specs.Books.{books}
+use Rattle.com_model.specs.Dying.{is_dying, fallen}
+use Rattle.com_model.specs.Issue.{own_values, values_or, sent, unread_values}
 use Rattle.com_model.specs.Sight.{Sight, sight}
-use Rattle.com_model.specs.Rules.{next, legal}
+use Rattle.com_model.specs.Rules.{legal}
 use Rattle.com_model.specs.Formed.{Formed}
 use Rattle.com_model.specs.State.{Bounded}
 use Rattle.com_model.proofs.Comes.{first-filter}
-use Rattle.com_model.proofs.Onces.{call_named, Names, InRange, names-all, named-in-range}
-use Rattle.com_model.proofs.Goods.{GoodHeld, GoodValue, GoodResult, GoodAction, GoodOutcome, more-held, more-value, more-result, all-of, entered-good}
-use Rattle.com_model.proofs.Fines.{cond-is, GoodPacket, GoodCookie, GoodEnding, GoodHome, GoodSight, FineBy, Fine, next-fine}
-use Rattle.com_model.proofs.Scenes.{faces, GoodScene, GoodActor, GoodOpeners, GoodOut, more-scene, Issued, Brings, scene-good, outcome-good, over-good, actor-good, new-cells-good}
+use Rattle.com_model.proofs.Onces.{call_named, Names, InRange, named-in-range}
+use Rattle.com_model.proofs.Goods.{GoodHeld, GoodValue, GoodAction, more-held, more-value, more-result, all-of, entered-good}
+use Rattle.com_model.proofs.Fines.{cond-is, GoodPacket, GoodCookie, GoodEnding, GoodHome, GoodSight, FineBy, next-fine}
+use Rattle.com_model.proofs.Scenes.{faces, GoodScene, GoodOpeners, GoodOut, more-scene, Issued, Brings, scene-good, outcome-good, actor-good, new-cells-good}
 use Rattle.com_model.proofs.Holdings.{GoodBooks, GoodAct, NewWithin, more-books, values-good, closed-good}
 
 pub record Kept (s : Scenario) (h : List Entry) : Type 0 where
@@ -109,6 +109,11 @@ at-most o n e = grind (arith, common_steps)
 pub running-low : (s : Scenario) (h : List Entry) → Kept s h → (l : ℕ) → number_or_zero (running s h l) < next_sta h
 running-low s h k l = number-low (next_sta h) (running s h l) (omega arith) (either-low (next_sta h) (entered_apartment (openers h l)) (home s h l) (entered-low (objects h) (calls h) (next_sta h) (openers h l) (k.opens l)) (sorted-low (next_sta h) (lane_sort s l) (thread_home h l) (omega arith) (k.homes l)))
 
+unread-good : (P : Value → Type 0) (a : Option Admission) (x : Option Ending) (vs : List Value) → All P vs → All P (unread_values a x vs)
+unread-good P None None vs p = p
+unread-good P (Some a) x vs p = All-nil P
+unread-good P None (Some x) vs p = All-nil P
+
 pub sight-good : (s : Scenario) (h : List Entry) → Formed s → Kept s h → GoodSight s (sight s h)
 sight-good s h f k = record {
   acts = λ l a e. action-from (objects h) (faces s) _ a (outcome-good s f (objects h) (calls h) (class_of h) (issue h) (scene s h) (unless_over (actor_in s h l) (outcome s (class_of h) (issue h) (scene s h) (actor_in s h l))) k.scene) e;
@@ -119,7 +124,7 @@ sight-good s h f k = record {
   some = declared-some s.classes.interfaces f.interfaces.built;
   owners = λ o l. cond-is (λ a. a < next_sta h) (agile s h o) (number_or_zero (running s h l)) (named h o) (running-low s h k l) (k.named o);
   targets = k.targets;
-  sent = k.sent;
+  unread = λ c. unread-good (GoodValue (objects h) (faces s)) (admitted h c) (ending s h c) (sent s h c) (k.sent c);
   endings = k.endings;
   packets = k.books.packets;
   cookies = k.books.cookies;

@@ -20,9 +20,10 @@ use Rattle.com_model.specs.Waiting.{no_mail, Brings, Leaves, mail_effect, mail_a
 use Rattle.com_model.specs.Deeds.{word_answer}
 use Rattle.com_model.specs.Rules.{next, next_by, ticks}
 use Rattle.com_model.specs.Sight.{Sight, sight}
-use Rattle.com_model.specs.State.{State, LanesStand, after, openers_in, served_in}
+use Rattle.com_model.specs.State.{State, LanesStand, openers_in, served_in}
 use Rattle.com_model.proofs.Comes.{Comes, sort_of, next-comes}
 use Rattle.com_model.proofs.Stands.{row-of, rows-from, made-row}
+use Rattle.com_model.proofs.Rowed.{after_rowed}
 
 -- A lane that has a next entry is one of the scenario's.
 no-sort : (a b c e : Bool) → a ≡ false → b ≡ false → c ≡ false → e ≡ false → cond a NoLane (cond b Thread (cond c Host (cond e Pool NoLane))) ≡ NoLane
@@ -84,7 +85,7 @@ row-all f xs n d p q k y e = by-size (nat_lt n k) refl
         let m : length (each_from f 0 xs) ≡ n + 1 = rows-from f 0 xs (n + 1) p in
         get_or_past (each_from f 0 xs) k d (omega (arith, z, m)) ∙ sym (q k z) ∙ ap (f k) (sym (get_or_past xs k d (omega (arith, z, p))) ∙ e)
 
-pub lanes-after : (s : Scenario) (st : State) (h : List Entry) (l : ℕ) (d : Deed) → next s h l ≡ Some d → LanesStand s st h → LanesStand s (after s st l d) (record { lane = l; deed = d } ∷ h)
+pub lanes-after : (s : Scenario) (st : State) (h : List Entry) (l : ℕ) (d : Deed) → next s h l ≡ Some d → LanesStand s st h → LanesStand s (after_rowed s st l d) (record { lane = l; deed = d } ∷ h)
 lanes-after s st h l d nx p =
     let e : Entry = record { lane = l; deed = d } in
     let z : Comes s (sight s h) (postings h) (openers h l) (sort_of d) = next-comes s h l d nx in

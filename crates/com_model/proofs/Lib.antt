@@ -1,5 +1,6 @@
 pub mod Given
 pub mod Stacks
+pub mod Rowed
 pub mod Stands
 pub mod Comes
 pub mod Onces
@@ -16,3 +17,4 @@ pub mod Fines
 pub mod Scenes
 pub mod Holdings
 pub mod Kept
+pub mod BookReads

@@ -7,7 +7,8 @@ use Rattle.com_model.specs.declared.deeds.Deed.TheVariants as deed
 use Rattle.com_model.specs.declared.deeds.Entry.{Entry}
 use Rattle.com_model.specs.declared.deeds.Route.TheVariants as route
 use Rattle.com_model.specs.declared.scenario.Scenario.{Scenario}
-use Rattle.com_model.specs.Lists.{count_if, from_one, is_number}
+use Rattle.com_books.specs.Counting.{count_if}
+use Rattle.com_model.specs.Lists.{from_one, is_number}
 use Rattle.com_model.specs.Openers.{Opener, openers, running_call}
 use Rattle.com_model.specs.Objects.{Making, makes, made_or, one_more, objects, finals}
 use Rattle.com_model.specs.Calls.{Issue, issues, admits, leaves, returns, issue_or, admission_or, leaving_or, admitted, left, returned, calls}
@@ -15,11 +16,12 @@ use Rattle.com_model.specs.Clock.{clock, time_or}
 use Rattle.com_model.specs.Waiting.{Unposted, Posts, Delays, post_effect, phase_after, phase, posted_last, postings}
 use Rattle.com_model.specs.Rules.{legal}
 use Rattle.com_model.specs.Sight.{Sight, sight}
-use Rattle.com_model.specs.State.{State, LanesStand, ObjectsStand, CallsStand, after, grown}
+use Rattle.com_model.specs.State.{State, LanesStand, ObjectsStand, CallsStand, grown}
 use Rattle.com_model.proofs.Comes.{Comes, sort_of, next-comes}
 use Rattle.com_model.proofs.Onces.{call_named, Names, InRange, names-all, named-in-range}
 use Rattle.com_model.proofs.Stands.{member-last}
 use Rattle.com_model.proofs.Tabled.{Outside, at_zero, above, length-grown, length-each, table-after, last-row}
+use Rattle.com_model.proofs.Rowed.{after_rowed}
 
 -- ---- a call that an entry names is none of the numbers outside
 
@@ -85,7 +87,7 @@ one-more (Some m) n = omega arith
 
 -- ---- the parts
 
-pub objects-after : (s : Scenario) (st : State) (h : List Entry) (l : ℕ) (d : Deed) → legal s (record { lane = l; deed = d } ∷ h) → ObjectsStand st h → ObjectsStand (after s st l d) (record { lane = l; deed = d } ∷ h)
+pub objects-after : (s : Scenario) (st : State) (h : List Entry) (l : ℕ) (d : Deed) → legal s (record { lane = l; deed = d } ∷ h) → ObjectsStand st h → ObjectsStand (after_rowed s st l d) (record { lane = l; deed = d } ∷ h)
 objects-after s st h l d q p =
     record {
       number = length-grown (is_some (makes d)) (makes d) st.makings ∙ ap (λ (n : ℕ). count_if (is_some (makes d)) + n) p.number ∙ one-more (makes d) (objects h);
@@ -93,7 +95,7 @@ objects-after s st h l d q p =
       finaled = λ o. member-last o st.finaled (finals d) ∙ ap (λ (b : Bool). is_number o (finals d) || b) (p.finaled o);
     }
 
-pub calls-after : (s : Scenario) (st : State) (h : List Entry) (l : ℕ) (d : Deed) → legal s (record { lane = l; deed = d } ∷ h) → LanesStand s st h → st.clock ≡ clock h → CallsStand st h → CallsStand (after s st l d) (record { lane = l; deed = d } ∷ h)
+pub calls-after : (s : Scenario) (st : State) (h : List Entry) (l : ℕ) (d : Deed) → legal s (record { lane = l; deed = d } ∷ h) → LanesStand s st h → st.clock ≡ clock h → CallsStand st h → CallsStand (after_rowed s st l d) (record { lane = l; deed = d } ∷ h)
 calls-after s st h l d q stand time p =
     let e : Entry = record { lane = l; deed = d } in
     let b : Bool = is_some (issues l d) in
@@ -118,5 +120,5 @@ calls-after s st h l d q stand time p =
       causes = ap₂ (λ (os : List Opener) (n : ℕ). count_if (b && is_none (running_call os)) + n) (stand.openers l) p.causes;
     }
 
-pub entries-after : (s : Scenario) (st : State) (h : List Entry) (l : ℕ) (d : Deed) → st.entries ≡ length h → (after s st l d).entries ≡ length (record { lane = l; deed = d } ∷ h)
+pub entries-after : (s : Scenario) (st : State) (h : List Entry) (l : ℕ) (d : Deed) → st.entries ≡ length h → (after_rowed s st l d).entries ≡ length (record { lane = l; deed = d } ∷ h)
 entries-after s st h l d p = let e : st.entries + 1 ≡ suc (length h) = omega (arith, p) in e

@@ -1,10 +1,9 @@
 -- Frames, cells, buffers and destinations stay within the numbers that were given, and their references name what is there.
-use Rattle.std.proofs.Common.{subst, sym, ap, ◌∙◌, eqb-true, arith}
+use Rattle.std.proofs.Common.{subst, ap, ◌∙◌, eqb-true, arith}
 use Rattle.std.proofs.lemmas.Bool.{false_from_ne_true}
 use Rattle.std.proofs.lemmas.List.Elements.{All-set, All-replicate, All-nil}
 use Rattle.std.proofs.lemmas.Grind.{common_steps}
-use Rattle.std.specs.Prelude.{◌≡◌, refl, ℕ, zero, suc, ◌+◌, ◌≤◌, ◌<◌, pos, Bool, true, false, cond, ◌==◌, nat_le, List, [], ◌∷◌, Option, Some, None, All, fold, replicate, length}
-use Rattle.com_base.specs.declared.hresult.HResult.{HResult}
+use Rattle.std.specs.Prelude.{◌≡◌, refl, ℕ, zero, suc, ◌+◌, ◌≤◌, ◌<◌, Bool, true, false, cond, ◌==◌, nat_le, List, [], ◌∷◌, Option, Some, None, All, fold, replicate, length}
 use Rattle.com_base.specs.declared.value.RefValue.{RefValue}
 use Rattle.com_base.specs.declared.value.Value.{Value}
 use Rattle.com_base.specs.declared.value.Value.TheVariants as value
@@ -16,8 +15,7 @@ use Rattle.com_body.specs.declared.actions.Action.{Action}
 use Rattle.com_body.specs.declared.actions.Action.TheVariants as action
 use Rattle.com_body.specs.declared.frame.Cells.{Cells}
 use Rattle.com_body.specs.declared.frame.Outcome.{Outcome}
-use Rattle.com_body.specs.Frames.{FrameView, entered, with_register, with_slot}
-use Rattle.com_body.specs.BodySteps.{body_step}
+use Rattle.com_body.specs.Frames.{FrameView, entered, with_slot}
 use Rattle.com_classes.specs.Lookups.{body_of}
 use Rattle.com_model.specs.declared.deeds.Deed.{Deed}
 use Rattle.com_model.specs.declared.deeds.Deed.TheVariants as deed
@@ -28,7 +26,7 @@ use Rattle.com_model.specs.Tables.{threads, script, LaneSort, Thread, Host, Pool
 use Rattle.com_model.specs.Openers.{Opener, Pumps, Waits, Enters}
 use Rattle.com_model.specs.Apartments.{ends_sta}
 use Rattle.com_model.specs.Calls.{Issue}
-use Rattle.com_model.specs.Frames.{Scene, new_cells, Actor, Body, Script, Nobody, actor, issued_body, outcome, is_leave, unless_over, unless_final, taken_in, cookie_in, Write, ToRegister, ToSlot, ToLink, ToBuffer, to_place, to_answer, marshalled_in, writes, value_reference, to_register, to_destination, with_link, written, with_frame, wants, acted, arrived, cut_links, acting, scene_after}
+use Rattle.com_model.specs.Frames.{Scene, new_cells, Actor, Body, Script, Nobody, actor, issued_body, outcome, is_leave, unless_over, unless_final, taken_in, Write, ToRegister, ToSlot, ToLink, ToBuffer, to_place, to_answer, marshalled_in, writes, value_reference, to_destination, written, with_frame, wants, acted, arrived, cut_links, acting, scene_after}
 use Rattle.com_model.specs.Formed.{Formed}
 use Rattle.com_model.proofs.Goods.{GoodHeld, GoodValue, GoodResult, GoodFrame, GoodCells, GoodAction, GoodOutcome, Clean, more-frame, more-cells, register-good, step-good, entered-good}
 use Rattle.com_model.proofs.Cleans.{script-clean, body-clean}
@@ -191,8 +189,15 @@ emptied : (s : Scenario) (l j : ℕ) (w : Scene) (t : Bool) → (j == l) ≡ t �
 emptied s l j w true e q h = let z : j ≡ l = eqb-true j l e in ap (λ (f : FrameView). record f { slots = replicate 8 None }) (q l (subst (λ (k : ℕ). threads s + 1 ≤ k) z h))
 emptied s l j w false e q h = q j h
 
+put-default : {X : Type 0} (k j : ℕ) (d : X) (f : ℕ → X) → f j ≡ d → put k d f j ≡ d
+put-default k j d f e = elim (j == k) as (λ t. cond t d (f j) ≡ d) [
+  | true ↦ refl
+  | false ↦ e
+]
+
 arrived-good : (s : Scenario) (n c : ℕ) (b : Actor) (l : ℕ) (d : Deed) (w : Scene) → GoodActor s n c b → Issued c d → Brings n (faces s) d → GoodScene s n c w → GoodScene s n c (arrived b l d w)
 arrived-good s n c b l (deed.Enter k o a t vs) w p i q g = record { scripts = g.scripts; bodies = put-all (GoodFrame n (faces s)) k (entered vs) w.bodies (entered-good n (faces s) vs q) g.bodies; cells = g.cells; no_script = g.no_script; no_body = put-past c k _ _ w.bodies i g.no_body; no_cells = g.no_cells; no_buffer = g.no_buffer; no_destination = g.no_destination }
+arrived-good s n c b l (deed.Leave k hr v bytes) w p i q g = record { scripts = g.scripts; bodies = put-all (GoodFrame n (faces s)) k (entered []) w.bodies (entered-good n (faces s) [] (All-nil (GoodValue n (faces s)))) g.bodies; cells = g.cells; no_script = g.no_script; no_body = λ j h. put-default k j (entered []) w.bodies (g.no_body j h); no_cells = g.no_cells; no_buffer = g.no_buffer; no_destination = g.no_destination }
 arrived-good s n c b l (deed.Back k hr v) w p i q g = all-written s n c b w (to_answer hr ∷ to_destination (w.destinations k) v) p (tt, destination-writes n (faces s) (w.destinations k) v q) g
 arrived-good s n c b l deed.EndPump w p i q g = written-good s n c b w (to_answer S_OK) p tt g
 arrived-good s n c b l (deed.Uninit a zero) w p i q g = record { scripts = put-all (GoodFrame n (faces s)) l (record (w.scripts l) { slots = replicate 8 None }) w.scripts (record { registers = (g.scripts l).registers; slots = All-replicate (GoodHeld n (faces s)) 8 None tt }) g.scripts; bodies = g.bodies; cells = g.cells; no_script = λ j h. emptied s l j w (j == l) refl g.no_script h; no_body = g.no_body; no_cells = g.no_cells; no_buffer = g.no_buffer; no_destination = g.no_destination }

@@ -12,7 +12,8 @@ use Rattle.com_model.specs.Calls.{object_of}
 use Rattle.com_model.specs.Clock.{in_made_sta}
 use Rattle.com_model.specs.Frames.{Scene, scene, actor, act_by}
 use Rattle.com_model.specs.Places.{ground}
-use Rattle.com_model.specs.Books.{Books, books, holders_in}
+use Rattle.com_books.specs.Changes.{Books}
+use Rattle.com_model.specs.Books.{books, holders_in}
 use Rattle.com_model.specs.Waiting.{is_queued}
 use Rattle.com_model.specs.Dying.{is_dying_by, is_entered}
 use Rattle.com_model.specs.Sight.{Sight, sight}
@@ -95,7 +96,7 @@ same-sight s st h p =
       returned = λ c. p.calls.returned c i;
       ending = λ c. p.answers.endings c i;
       at_issue = λ c. p.answers.refusals c i;
-      sent = λ c. p.answers.sent c i;
+      unread = λ c. p.answers.unread c i;
       phase = λ c. p.calls.phases c i;
       issued_at = λ c. p.calls.times c i;
       clock = p.clock i;

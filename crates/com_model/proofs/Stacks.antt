@@ -28,7 +28,8 @@ use Rattle.com_model.specs.Calls.{Issue, issue, object_of, is_post, route_of}
 use Rattle.com_model.specs.Frames.{Scene, Actor, Body, Script, Nobody, scene, outcome, action_of, act_by, new_cells, actor, actor_in, is_leave, reference}
 use Rattle.com_model.specs.Endings.{Answer}
 use Rattle.com_model.specs.Waiting.{Phase, Unposted, Queued, Judged, Delayed, GivenUp, Word, mark_of, not_asked, bound_reached}
-use Rattle.com_model.specs.Books.{Cookie, cookie}
+use Rattle.com_books.specs.declared.keeps.Cookie.{Cookie}
+use Rattle.com_books.specs.Changes.{cookie}
 use Rattle.com_model.specs.Sight.{Sight, sight}
 use Rattle.com_model.specs.Deeds.{hold_refusal, named_by, deed_of, created, created_of, initialised, marshalled, registered, Named, NamesPacket, Refuses, unmarshalled, dropped, got, got_by, got_with, cookie_number, gained_refs, owned_by, made_as, creator, placing, revoked, uninitialised, in_sta, called, left_by, left_as}
 use Rattle.com_model.specs.Rules.{posted_to_sta, is_handled_in, call_sort, verdict_on, arguments_gone, enters_itself, packet_left, due_of, admits_next, no_lane_can, tick_time, legal, next, next_by, stepped, ruled, admission, rule_final, rule_own, rule_answer, rule_bound, rule_inbox, rule_retry, rule_again, rule_pending, rule_word, rule_script, answered, retried, posted_again, asked_on, pumped, takes_word, scripted, is_script_turn, ticks}
@@ -140,7 +141,7 @@ quiet-admission : (s : Scenario) (v : Sight) (l c : ℕ) → Quiet (admission s 
 quiet-admission s v l c =
     quiet-if (nat_le 256 (length (v.openers l))) (deed.Refuse c RPC_E_OUT_OF_RESOURCES) _ (λ os. tt)
     (quiet-if (posted_to_sta v c && not (is_handled_in s v l c)) (deed.Verdict c (call_sort v l c) (verdict_on s v l c)) _ (λ os. tt)
-    (quiet-if (arguments_gone v c) (deed.Refuse c RPC_E_SERVER_CANTUNMARSHAL_DATA) (deed.Enter c (object_of (v.issue c)) (v.owner (object_of (v.issue c)) l) (where_true (posted_to_sta v c) (call_sort v l c)) (v.sent c)) (λ os. tt) (λ os. tt)))
+    (quiet-if (arguments_gone v c) (deed.Refuse c RPC_E_SERVER_CANTUNMARSHAL_DATA) (deed.Enter c (object_of (v.issue c)) (v.owner (object_of (v.issue c)) l) (where_true (posted_to_sta v c) (call_sort v l c)) (v.unread c)) (λ os. tt) (λ os. tt)))
 
 final-fits : (v : Sight) (l : ℕ) (os : List Opener) → Given (Fits os) (rule_final v l)
 final-fits v l os = given-map (Fits os) (λ o. deed.Final o) (first (v.dying l)) (λ o. tt)

@@ -8,7 +8,8 @@ use Rattle.com_model.specs.declared.scenario.Scenario.{Scenario}
 use Rattle.com_model.specs.Lists.{each_from, is_member, is_number}
 use Rattle.com_model.specs.Apartments.{with_last, makes_sta, ends_sta}
 use Rattle.com_model.specs.Clock.{ticked, clock}
-use Rattle.com_model.specs.State.{State, ApartmentsStand, after}
+use Rattle.com_model.specs.State.{State, ApartmentsStand}
+use Rattle.com_model.proofs.Rowed.{after_rowed}
 
 pub row-from : {X : Type 0} (f : ℕ → X → X) (n : ℕ) (xs : List X) (k : ℕ) (d : X) → k < length xs → slice_index_or (each_from f n xs) k d ≡ f (n + k) (slice_index_or xs k d)
 row-from f n [] k d h = grind (arith, common_steps)
@@ -37,12 +38,12 @@ pub made-row : (a : ℕ) (b : Bool) (xs : List ℕ) (o : Option ℕ) (m : Bool) 
 made-row a true xs o m e = member-last a xs o ∙ ap (λ (x : Bool). is_number a o || x) e
 made-row a false xs o m e = e
 
-pub apartments-after : (s : Scenario) (st : State) (h : List Entry) (l : ℕ) (d : Deed) → ApartmentsStand st h → ApartmentsStand (after s st l d) (record { lane = l; deed = d } ∷ h)
+pub apartments-after : (s : Scenario) (st : State) (h : List Entry) (l : ℕ) (d : Deed) → ApartmentsStand st h → ApartmentsStand (after_rowed s st l d) (record { lane = l; deed = d } ∷ h)
 apartments-after s st h l d p =
     record {
       stas = ap (λ (x : List ℕ). with_last x (makes_sta d)) p.stas;
       ended = λ a. member-last a st.ended (ends_sta d) ∙ ap (λ (x : Bool). is_number a (ends_sta d) || x) (p.ended a);
     }
 
-pub clock-after : (s : Scenario) (st : State) (h : List Entry) (l : ℕ) (d : Deed) → st.clock ≡ clock h → (after s st l d).clock ≡ clock (record { lane = l; deed = d } ∷ h)
+pub clock-after : (s : Scenario) (st : State) (h : List Entry) (l : ℕ) (d : Deed) → st.clock ≡ clock h → (after_rowed s st l d).clock ≡ clock (record { lane = l; deed = d } ∷ h)
 clock-after s st h l d p = ap (ticked d) p

@@ -5,7 +5,8 @@ use Rattle.std.proofs.lemmas.List.{get_or_past, get_or_append_left}
 use Rattle.std.proofs.Math.Seq.{get_or-append_seam}
 use Rattle.std.proofs.lemmas.Grind.{common_steps}
 use Rattle.std.specs.Prelude.{◌≡◌, refl, ℕ, zero, suc, ◌+◌, ◌≤◌, ◌<◌, Bool, true, false, cond, ◌==◌, List, [], ◌∷◌, ◌++◌, length, slice_index_or, nat_lt}
-use Rattle.com_model.specs.Lists.{each_from, count_if, from_one, tabulated}
+use Rattle.com_books.specs.Counting.{count_if}
+use Rattle.com_model.specs.Lists.{each_from, from_one, tabulated}
 use Rattle.com_model.specs.State.{grown}
 use Rattle.com_model.proofs.Stands.{row-from}
 
@@ -50,6 +51,10 @@ table-after step xs b x f n e p q (suc k) = by-size (nat_lt k (length (grown b x
         get_or_past (each_from step 1 (grown b x xs)) k x (subst (λ (y : ℕ). y ≤ k) (sym (length-each step 1 (grown b x xs))) z)
         ∙ sym (q (suc k) (above (omega (arith, z, m, e))))
         ∙ ap (step (suc k)) (sym (get_or_past xs k x (omega (arith, z, m))) ∙ p (suc k))
+
+-- A row after a step that leaves the default.
+pub each-row : {X : Type 0} (step : ℕ → X → X) (xs : List X) (c : ℕ) (x : X) → ((k : ℕ) → step k x ≡ x) → from_one (each_from step 1 xs) c x ≡ step c (from_one xs c x)
+each-row step xs c x p = table-after step xs false x (λ k. from_one xs k x) (length xs) refl (λ k. refl) (λ k o. p k) c
 
 no-test : (a b : ℕ) → (a == b) ≡ false → a ≡ b → ⊥
 no-test a b e q = let same : (a == a) ≡ true = grind (arith, common_steps) in let other : (a == a) ≡ false = subst (λ (k : ℕ). (a == k) ≡ false) (sym q) e in cc
@@ -148,3 +153,17 @@ rows-deep a a' n n' m f g x d e p q r t c o k =
 pub no-row : {X : Type 0} (c : ℕ) (x : X) → from_one [] c x ≡ x
 no-row zero x = refl
 no-row (suc c) x = get_or_past [] c x (omega arith)
+
+-- A table written again from its own rows.
+pub tabulated-same : {X : Type 0} (n : ℕ) (f g : ℕ → X) → ((k : ℕ) → k < n → f k ≡ g k) → tabulated n f ≡ tabulated n g
+tabulated-same zero f g p = refl
+tabulated-same (suc n) f g p = ap₂ (λ (xs : List _) (x : _). xs ++ x ∷ []) (tabulated-same n f g (λ k h. p k (omega (arith, h)))) (p n (omega arith))
+
+pub again : {X : Type 0} (n : ℕ) (f : ℕ → X) (x : X) → tabulated n (λ k. slice_index_or (tabulated n f) k x) ≡ tabulated n f
+again n f x = tabulated-same n (λ k. slice_index_or (tabulated n f) k x) f (λ k h. within-tabulated n f k x h)
+
+pub again-rows : {X : Type 0} (n m : ℕ) (f : ℕ → ℕ → X) (x : X) → tabulated n (λ o. tabulated m (λ k. slice_index_or (slice_index_or (tabulated n (λ j. tabulated m (f j))) o []) k x)) ≡ tabulated n (λ o. tabulated m (f o))
+again-rows n m f x = tabulated-same n _ (λ o. tabulated m (f o)) (λ o h. ap (λ (r : List _). tabulated m (λ k. slice_index_or r k x)) (within-tabulated n (λ j. tabulated m (f j)) o [] h) ∙ again m (f o) x)
+
+pub again-deep : {X : Type 0} (a n m : ℕ) (f : ℕ → ℕ → ℕ → X) (x : X) → tabulated a (λ c. tabulated n (λ o. tabulated m (λ k. slice_index_or (slice_index_or (slice_index_or (tabulated a (λ i. tabulated n (λ j. tabulated m (f i j)))) c []) o []) k x))) ≡ tabulated a (λ c. tabulated n (λ o. tabulated m (f c o)))
+again-deep a n m f x = tabulated-same a _ (λ c. tabulated n (λ o. tabulated m (f c o))) (λ c h. ap (λ (r : List (List _)). tabulated n (λ o. tabulated m (λ k. slice_index_or (slice_index_or r o []) k x))) (within-tabulated a (λ i. tabulated n (λ j. tabulated m (f i j))) c [] h) ∙ again-rows n m (f c) x)

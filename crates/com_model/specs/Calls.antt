@@ -1,37 +1,17 @@
 -- Calls: what the entries of a call say, its route and its causality.
 use Rattle.std.specs.Prelude.{ℕ, ◌+◌, Bool, true, false, ◌==◌, ◌||◌, ◌&&◌, if◌then◌else◌, List, [], ◌∷◌, Option, Some, None, is_some, is_none}
-use Rattle.com_base.specs.declared.hresult.HResult.{HResult}
-use Rattle.com_base.specs.declared.value.Value.{Value}
 use Rattle.com_model.specs.declared.deeds.Deed.{Deed}
 use Rattle.com_model.specs.declared.deeds.Deed.TheVariants as deed
 use Rattle.com_model.specs.declared.deeds.Entry.{Entry}
 use Rattle.com_model.specs.declared.deeds.Route.{Route}
 use Rattle.com_model.specs.declared.deeds.Route.TheVariants as route
-use Rattle.com_model.specs.Lists.{count_if, is_number, number_or_zero}
+use Rattle.com_books.specs.Counting.{count_if}
+use Rattle.com_model.specs.Lists.{is_number, number_or_zero}
 use Rattle.com_model.specs.Apartments.{neutral}
 use Rattle.com_model.specs.Openers.{openers, running_call}
-
--- What the Out entry of a call says.
-pub record Issue : Type 0 where
-  pub call : ℕ
-  pub lane : ℕ
-  pub object : Option ℕ
-  pub iface : ℕ
-  pub method : ℕ
-  pub route : Route
-  pub cause : ℕ
-
--- What its Enter entry says.
-pub record Admission : Type 0 where
-  pub call : ℕ
-  pub lane : ℕ
-  pub apartment : ℕ
-
--- What its Leave entry says.
-pub record Leaving : Type 0 where
-  pub call : ℕ
-  pub hr : HResult
-  pub value : Option Value
+pub use Rattle.com_model.specs.declared.keeps.Leaving.{Leaving}
+pub use Rattle.com_model.specs.declared.keeps.Admission.{Admission}
+pub use Rattle.com_model.specs.declared.keeps.Issue.{Issue}
 
 abbrev pub issues : ℕ → Deed → Option Issue
 issues l (deed.Out c o i m r k bytes) = Some (record { call = c; lane = l; object = o; iface = i; method = m; route = r; cause = k })

@@ -21,9 +21,9 @@ is_dying_by n finaled holders entered o = (nat_le 1 o && nat_le o n) && (not (fi
 abbrev pub is_dying : Scenario → List Entry → ℕ → Bool
 is_dying s h o = is_dying_by (objects h) (finaled h) (holders s h) (is_entered s (openers h)) o
 
--- The objects in the order of the entries after which each first was dying, and by number where one entry made several so.
+-- The dying objects in the order of the entries after which each was dying, and by number where one entry made several so.
 abbrev pub fallen_more : (ℕ → Bool) → ℕ → List ℕ → List ℕ
-fallen_more dying n before = before ++ filter (λ o. dying o && not (is_member o before)) (one_to n)
+fallen_more dying n before = filter dying before ++ filter (λ o. dying o && not (is_member o before)) (one_to n)
 
 abbrev pub fallen : Scenario → List Entry → List ℕ
 fallen s [] = []

@@ -15,16 +15,8 @@ use Rattle.com_model.specs.Apartments.{ends_sta}
 use Rattle.com_model.specs.Objects.{named, disconnects}
 use Rattle.com_model.specs.Calls.{Issue, Admission, issue, admitted, target, lane_of, is_marshalled, route_of}
 use Rattle.com_model.specs.Clock.{filter_of}
-
--- What fixed a call's answer.
-pub data Ending : Type 0 where
-  AtIssue : Ending
-  AtAdmission : HResult → Ending
-  ByVerdict : Verdict → Ending
-  ByRetry : Ending
-  ByCancel : Ending
-  ByDisconnection : Ending
-  ByLeave : HResult → Option Value → Ending
+pub use Rattle.com_model.specs.declared.keeps.Ending.{Ending}
+pub use Rattle.com_model.specs.declared.keeps.Ending.TheVariants.{AtIssue, AtAdmission, ByVerdict, ByRetry, ByCancel, ByDisconnection, ByLeave}
 
 -- What a deed does to the answers of calls: it ends one call, or all that wait for an object or for an STA's objects.
 pub data EndEffect : Type 0 where

@@ -10,7 +10,8 @@ use Rattle.com_model.specs.declared.counts.Ended.{Ended}
 use Rattle.com_model.specs.declared.counts.Ended.TheVariants as ended
 use Rattle.com_base.specs.declared.value.MarshalMode.{MarshalMode}
 use Rattle.com_base.specs.declared.value.MarshalMode.TheVariants as marshal
-use Rattle.com_model.specs.Lists.{sum_below, one_to, numbers_from, each_of, first_that, is_empty, or_else}
+use Rattle.com_books.specs.Counting.{sum_below, numbers_from}
+use Rattle.com_model.specs.Lists.{one_to, each_of, first_that, is_empty, or_else}
 use Rattle.com_model.specs.Tables.{threads, lanes}
 use Rattle.com_model.specs.Apartments.{apartments}
 use Rattle.com_model.specs.Objects.{objects, named, class_of, finaled}
@@ -18,7 +19,10 @@ use Rattle.com_model.specs.Clock.{clock}
 use Rattle.com_model.specs.Text.{history_text, report_text}
 use Rattle.com_model.specs.Frames.{scene}
 use Rattle.com_model.specs.Places.{ground, direct_places}
-use Rattle.com_model.specs.Books.{Books, Packet, Cookie, books}
+use Rattle.com_books.specs.Changes.{Books}
+use Rattle.com_books.specs.declared.keeps.Packet.{Packet}
+use Rattle.com_books.specs.declared.keeps.Cookie.{Cookie}
+use Rattle.com_model.specs.Books.{books}
 use Rattle.com_model.specs.Sight.{Sight, sight}
 use Rattle.com_model.specs.Rules.{can_step, no_lane_can, tick_time, next}
 

@@ -212,6 +212,7 @@ acted a (Some r) d w = wants r.action d (fold (written a) (with_frame a r w) (wr
 -- An Enter begins a frame. A Back and an EndPump write for whoever acts after them. An Uninit to count 0 makes the script's
 -- slots null. Final makes the object's links null.
 abbrev pub arrived : (after : Actor) → (lane : ℕ) → Deed → Scene → Scene
+arrived b l (deed.Leave c hr v bytes) w = record w { bodies = put c (entered []) w.bodies }
 arrived b l (deed.Enter c o a t vs) w = record w { bodies = put c (entered vs) w.bodies }
 arrived b l (deed.Back c hr v) w = fold (written b) w (to_answer hr ∷ to_destination (w.destinations c) v)
 arrived b l deed.EndPump w = written b w (to_answer S_OK)

@@ -12,10 +12,10 @@ use Rattle.com_model.specs.Answers.{S_OK, CO_E_NOTINITIALIZED, E_POINTER, E_NOIN
 use Rattle.com_model.specs.Lists.{number_or_zero}
 use Rattle.com_model.specs.Apartments.{home, running}
 use Rattle.com_model.specs.Objects.{owns}
-use Rattle.com_model.specs.Calls.{Issue, issues, is_marshalled}
+use Rattle.com_model.specs.Calls.{Issue, Admission, issues, admitted, is_marshalled}
 use Rattle.com_model.specs.Frames.{act}
 use Rattle.com_model.specs.Books.{books, out_values}
-use Rattle.com_model.specs.Endings.{Answer, ending, answer_of}
+use Rattle.com_model.specs.Endings.{Ending, Answer, ending, answer_of}
 
 -- The refusals of a call at its issue, the first that applies.
 abbrev pub call_refusal : Scenario → (home running : Option ℕ) → (owns : ℕ → ℕ → Bool) → (live : ℕ → Bool) → Option RefValue → (iface method : ℕ) → Option HResult
@@ -64,6 +64,15 @@ values_or s h (Some i) c before = own_values s h i (i.call == c) before
 abbrev pub sent : Scenario → List Entry → ℕ → List Value
 sent s [] c = []
 sent s (e ∷ h) c = values_or s h (issues e.lane e.deed) c (sent s h c)
+
+-- What is still to be read of the values that a call sent: all, until an Enter takes them or an answer comes without one.
+abbrev pub unread_values : Option Admission → Option Ending → List Value → List Value
+unread_values None None vs = vs
+unread_values (Some a) x vs = []
+unread_values None (Some x) vs = []
+
+abbrev pub unread : Scenario → List Entry → ℕ → List Value
+unread s h c = unread_values (admitted h c) (ending s h c) (sent s h c)
 
 -- A call's due answer.
 abbrev pub due : Scenario → List Entry → ℕ → Option Answer

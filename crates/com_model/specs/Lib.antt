@@ -23,3 +23,6 @@ pub mod Safe
 pub mod Formed
 pub mod State
 pub mod Cases
+pub mod BooksTie
+pub use Rattle.com_books.specs.Changes
+pub use Rattle.com_books.specs.Counting

@@ -11,12 +11,7 @@ use Rattle.com_model.specs.Answers.{is_S_OK}
 use Rattle.com_model.specs.Lists.{number_or_zero, is_number}
 use Rattle.com_model.specs.Tables.{is_agile_class}
 use Rattle.com_model.specs.Apartments.{running}
-
--- The making of an object: the apartment and the class that its Made entry names.
-pub record Making : Type 0 where
-  pub object : ℕ
-  pub apartment : ℕ
-  pub class : ℕ
+pub use Rattle.com_model.specs.declared.keeps.Making.{Making}
 
 abbrev pub asked_number : Asked → ℕ
 asked_number (asked.Number n) = n

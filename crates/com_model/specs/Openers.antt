@@ -7,12 +7,8 @@ use Rattle.com_model.specs.declared.deeds.Deed.{Deed}
 use Rattle.com_model.specs.declared.deeds.Deed.TheVariants as deed
 use Rattle.com_model.specs.declared.deeds.Entry.{Entry}
 use Rattle.com_model.specs.Lists.{without_first}
-
--- An opener is a pump, an outgoing call or an incoming call that has not ended in its lane.
-pub data Opener : Type 0 where
-  Pumps : (bound : ℕ) → Opener
-  Waits : (call : ℕ) → Opener
-  Enters : (call object apartment : ℕ) → Opener
+pub use Rattle.com_model.specs.declared.keeps.Opener.{Opener}
+pub use Rattle.com_model.specs.declared.keeps.Opener.TheVariants.{Pumps, Waits, Enters}
 
 pub data Closer : Type 0 where
   EndsPump : Closer

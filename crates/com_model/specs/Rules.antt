@@ -16,7 +16,7 @@ use Rattle.com_filter.specs.Answers.{incoming_answer, retry_answer, pending_answ
 use Rattle.com_cause.specs.CallType.{call_type}
 use Rattle.com_model.specs.Clock.{waited, rules_of, is_handled}
 use Rattle.com_model.specs.Endings.{Answer, answer_of, without_value, is_leave}
-use Rattle.com_model.specs.Books.{packet}
+use Rattle.com_books.specs.Changes.{packet}
 use Rattle.com_model.specs.Waiting.{Phase, Judged, Delayed, Word, mark_of, not_asked, bound_reached}
 use Rattle.com_model.specs.Deeds.{deed_of, uninitialised, in_sta}
 use Rattle.com_model.specs.Sight.{Sight, sight}
@@ -64,7 +64,7 @@ admission s v l c =
     if nat_le 256 (length (v.openers l)) then deed.Refuse c RPC_E_OUT_OF_RESOURCES
     else if posted_to_sta v c && not (is_handled_in s v l c) then deed.Verdict c (call_sort v l c) (verdict_on s v l c)
     else if arguments_gone v c then deed.Refuse c RPC_E_SERVER_CANTUNMARSHAL_DATA
-    else deed.Enter c (object_of (v.issue c)) (v.owner (object_of (v.issue c)) l) (where_true (posted_to_sta v c) (call_sort v l c)) (v.sent c)
+    else deed.Enter c (object_of (v.issue c)) (v.owner (object_of (v.issue c)) l) (where_true (posted_to_sta v c) (call_sort v l c)) (v.unread c)
 
 -- 1. The Final of the first dying object that the lane serves.
 abbrev pub rule_final : Sight → ℕ → Option Deed

@@ -12,10 +12,11 @@ use Rattle.com_model.specs.Calls.{Issue, Admission, issue, admitted, returned, c
 use Rattle.com_model.specs.Clock.{clock, issued_at, filter_of}
 use Rattle.com_model.specs.Frames.{scene, act}
 use Rattle.com_model.specs.Endings.{Ending, ending}
-use Rattle.com_model.specs.Books.{Books, books}
+use Rattle.com_books.specs.Changes.{Books}
+use Rattle.com_model.specs.Books.{books}
 use Rattle.com_model.specs.Waiting.{Phase, Mail, phase, inbox, mail, quit_stands}
 use Rattle.com_model.specs.Dying.{dying}
-use Rattle.com_model.specs.Issue.{at_issue, sent}
+use Rattle.com_model.specs.Issue.{at_issue, unread}
 
 pub record Sight : Type 0 where
   -- of a lane
@@ -48,7 +49,7 @@ pub record Sight : Type 0 where
   pub returned : ℕ → Bool
   pub ending : ℕ → Option Ending
   pub at_issue : ℕ → HResult
-  pub sent : ℕ → List Value
+  pub unread : ℕ → List Value
   pub phase : ℕ → Phase
   pub issued_at : ℕ → ℕ
   -- of all
@@ -84,7 +85,7 @@ sight s h = record {
   returned = returned h;
   ending = ending s h;
   at_issue = at_issue s h;
-  sent = sent s h;
+  unread = unread s h;
   phase = phase h;
   issued_at = issued_at h;
   clock = clock h;

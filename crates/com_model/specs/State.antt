@@ -1,6 +1,6 @@
 -- What a core keeps, as tables: a field for each definition, one row for each lane, call or object. No field is a function;
 -- functions are readings of the tables. Every step here is the step of the definition.
-use Rattle.std.specs.Prelude.{◌≡◌, ℕ, ◌+◌, ◌≤◌, Bool, true, false, not, ◌==◌, ◌&&◌, ◌||◌, if◌then◌else◌, List, [], ◌∷◌, ◌++◌, length, filter, Option, Some, None, is_some, is_none, option_map, slice_index_or}
+use Rattle.std.specs.Prelude.{◌≡◌, ℕ, zero, suc, ◌+◌, ◌≤◌, Bool, true, false, not, ◌==◌, ◌&&◌, ◌||◌, if◌then◌else◌, List, [], ◌∷◌, ◌++◌, length, filter, Option, Some, None, is_some, is_none, option_map, slice_index_or, slice_set, pos}
 use Rattle.com_base.specs.declared.hresult.HResult.{HResult}
 use Rattle.com_base.specs.declared.value.Value.{Value}
 use Rattle.com_body.specs.declared.operands.Destination.{Destination}
@@ -8,23 +8,28 @@ use Rattle.com_body.specs.declared.operands.Destination.TheVariants as destinati
 use Rattle.com_body.specs.declared.frame.Cells.{Cells}
 use Rattle.com_body.specs.Frames.{FrameView, entered}
 use Rattle.com_model.specs.declared.deeds.Deed.{Deed}
+use Rattle.com_model.specs.declared.deeds.Deed.TheVariants as deed
 use Rattle.com_model.specs.declared.deeds.Entry.{Entry}
 use Rattle.com_model.specs.declared.scenario.Scenario.{Scenario}
-use Rattle.com_model.specs.Answers.{S_OK}
-use Rattle.com_model.specs.Lists.{or_else, first, is_number, is_member, count_if, number_or_zero, each_from, tabulated, from_one}
+use Rattle.com_model.specs.Answers.{S_OK, is_S_OK}
+use Rattle.com_model.specs.Lists.{or_else, where_true, without_first, first, is_member, number_or_zero, each_from, tabulated, from_one}
+use Rattle.com_books.specs.Counting.{count_if}
 use Rattle.com_model.specs.Tables.{lanes, threads, lane_sort, is_agile_class}
-use Rattle.com_model.specs.Openers.{Opener, effect_on, opened, left_on, running_call, entered_apartment, openers, served}
-use Rattle.com_model.specs.Apartments.{home_effect_on, home_after, home_by_sort, count_after, makes_sta, ends_sta, with_last, or_host, serves_by_sort, is_end, thread_home, init_count, stas, ended, made_in, over, next_sta}
+use Rattle.com_model.specs.Openers.{Opener, Pumps, Effect, Opens, Closes, Keeps, Leaves, effect, opened, left_on, running_call, entered_apartment, openers, served}
+use Rattle.com_model.specs.Apartments.{HomeEffect, Initialises, Uninitialises, Remains, home_effect, home_after, home_by_sort, count_after, makes_sta, ends_sta, with_last, or_host, serves_by_sort, is_end, thread_home, init_count, stas, ended, made_in, over, next_sta}
 use Rattle.com_model.specs.Objects.{Making, makes, finals, making, objects, finaled}
-use Rattle.com_model.specs.Calls.{Issue, Admission, Leaving, issues, admits, leaves, returns, admission_or, leaving_or, object_of, lane_of, is_marshalled, issue, admitted, left, returned, calls, causes}
-use Rattle.com_model.specs.Clock.{ticked, filter_effect_on, filter_after, in_made_sta, clock, issued_at, last_filter}
+use Rattle.com_model.specs.Calls.{Issue, Admission, Leaving, issues, admits, leaves, returns, object_of, lane_of, is_marshalled, issue, admitted, left, returned, calls, causes}
+use Rattle.com_model.specs.Clock.{FilterEffect, Names, Keeps as KeepsFilter, ticked, filter_effect, in_made_sta, clock, issued_at, last_filter}
 use Rattle.com_model.specs.Frames.{Scene, Actor, actor, scene_after, act_by, new_cells, scene}
-use Rattle.com_model.specs.Endings.{Ending, end_effect, ends, can_be_cut, is_leave, ending}
+use Rattle.com_model.specs.Endings.{Ending, EndEffect, EndsCall, CutsObject, CutsSta, EndsNone, end_effect, ends, can_be_cut, is_leave, ending}
 use Rattle.com_model.specs.Places.{Ground}
-use Rattle.com_model.specs.Books.{Books, Packet, Cookie, most, closed, out_values, holders_in, books}
-use Rattle.com_model.specs.Waiting.{Phase, Unposted, Mail, no_mail, post_effect, phase_after, is_queued, posted_last, mail_effect, mail_after, bound_reached, quit_effect, quit_after, phase, postings, mail, quit_stands}
+use Rattle.com_books.specs.Changes.{Books}
+use Rattle.com_books.specs.declared.keeps.Packet.{Packet}
+use Rattle.com_books.specs.declared.keeps.Cookie.{Cookie}
+use Rattle.com_model.specs.Books.{most, closed, out_values, holders_in, books}
+use Rattle.com_model.specs.Waiting.{Phase, Queued, Judged, Delayed, GivenUp, PostEffect, Posts, Judges, Delays, GivesUp, PostsNone, Brings, Takes, Asks, Unposted, Mail, no_mail, post_effect, is_queued, posted_last, mail_after, bound_reached, phase, postings, mail, quit_stands}
 use Rattle.com_model.specs.Dying.{is_entered, is_dying_by, fallen_more, fallen}
-use Rattle.com_model.specs.Issue.{action_refusal, or_ok, at_issue, sent}
+use Rattle.com_model.specs.Issue.{action_refusal, or_ok, at_issue, unread}
 use Rattle.com_model.specs.Sight.{Sight}
 use Rattle.com_model.specs.Rules.{next_by, legal}
 
@@ -69,7 +74,7 @@ pub record State : Type 0 where
   pub returned : List Bool
   pub endings : List (Option Ending)
   pub refusals : List HResult
-  pub sent : List (List Value)
+  pub unread : List (List Value)
   pub phases : List Phase
   pub times : List ℕ
   pub postings : List ℕ
@@ -150,25 +155,31 @@ waits_for st a c =
 abbrev pub inbox_in : State → ℕ → List ℕ
 inbox_in st a = filter (waits_for st a) st.postings
 
+abbrev pub scene_read : SceneTables → Scene
+scene_read t = record {
+  scripts = λ l. slice_index_or t.scripts l (entered []);
+  bodies = λ c. slice_index_or t.bodies c (entered []);
+  cells = λ o. slice_index_or t.cells o new_cells;
+  buffers = λ p. slice_index_or t.buffers p [];
+  destinations = λ c. slice_index_or t.destinations c destination.Nowhere;
+}
+
 abbrev pub scene_in : State → Scene
-scene_in st = record {
-  scripts = λ l. slice_index_or st.scene.scripts l (entered []);
-  bodies = λ c. slice_index_or st.scene.bodies c (entered []);
-  cells = λ o. slice_index_or st.scene.cells o new_cells;
-  buffers = λ p. slice_index_or st.scene.buffers p [];
-  destinations = λ c. slice_index_or st.scene.destinations c destination.Nowhere;
+scene_in st = scene_read st.scene
+
+abbrev pub books_read : BookTables → Books
+books_read t = record {
+  stub = λ o i. slice_index_or (slice_index_or t.stub o []) i 0;
+  proxy = λ a o i. slice_index_or (slice_index_or (slice_index_or t.proxy a []) o []) i 0;
+  packets = t.packets;
+  cookies = t.cookies;
+  live = λ o. slice_index_or t.live o false;
+  arguments = λ c. slice_index_or t.arguments c [];
+  result = λ c. slice_index_or t.result c None;
 }
 
 abbrev pub books_in : State → Books
-books_in st = record {
-  stub = λ o i. slice_index_or (slice_index_or st.books.stub o []) i 0;
-  proxy = λ a o i. slice_index_or (slice_index_or (slice_index_or st.books.proxy a []) o []) i 0;
-  packets = st.books.packets;
-  cookies = st.books.cookies;
-  live = λ o. slice_index_or st.books.live o false;
-  arguments = λ c. slice_index_or st.books.arguments c [];
-  result = λ c. slice_index_or st.books.result c None;
-}
+books_in st = books_read st.books
 
 abbrev pub ground_in : Scenario → State → Ground
 ground_in s st = record {
@@ -227,7 +238,7 @@ sight_of s st = record {
   returned = returned_in st;
   ending = ending_in st;
   at_issue = λ c. from_one st.refusals c S_OK;
-  sent = λ c. from_one st.sent c [];
+  unread = λ c. from_one st.unread c [];
   phase = phase_in st;
   issued_at = λ c. from_one st.times c 0;
   clock = st.clock;
@@ -249,35 +260,132 @@ grown true x xs = xs ++ x ∷ []
 abbrev pub issued_by : Entry → Bool
 issued_by e = is_some (issues e.lane e.deed)
 
-abbrev pub endings_after : Scenario → State → Entry → List (Option Ending)
-endings_after s st e =
-    each_from (λ c x. or_else x (ends (end_effect (λ d. is_some (filter_in s st (lane_of (issue_in st d)))) e.deed) c
-    (object_of (issue_in st c)) (named_in st (object_of (issue_in st c))) (can_be_cut (issue_in st c) (admitted_in st c))))
-    1 (grown (issued_by e) None st.endings)
+-- ---- what an entry changes in a table: one row, or none
 
--- The tables of lanes, apartments, objects and calls.
+abbrev pub changed : {X : Type 0} → Option (X → X) → X → X
+changed None x = x
+changed (Some f) x = f x
+
+-- The table where the row of a number changes.
+abbrev pub changed_at : {X : Type 0} → Option (X → X) → ℕ → X → List X → List X
+changed_at None k d t = t
+changed_at (Some f) k d t = slice_set t k (f (slice_index_or t k d))
+
+-- The same where the first row is that of number 1.
+abbrev pub changed_from_one : {X : Type 0} → Option (X → X) → ℕ → X → List X → List X
+changed_from_one None k d t = t
+changed_from_one (Some f) zero d t = t
+changed_from_one (Some f) (suc k) d t = slice_set t k (f (slice_index_or t k d))
+
+abbrev pub opens : Effect → Option (List Opener → List Opener)
+opens (Opens o) = Some (λ os. o ∷ os)
+opens (Closes c) = Some without_first
+opens Keeps = None
+
+-- With the openers after it.
+abbrev pub serves_more : Effect → List Opener → Option (ℕ → ℕ)
+serves_more (Opens (Pumps n)) os = Some (λ k. 0)
+serves_more (Closes (Leaves c)) os = Some (left_on (Closes (Leaves c)) os)
+serves_more _ os = None
+
+abbrev pub homes_change : HomeEffect → Option (Option ℕ → Option ℕ)
+homes_change (Initialises a hr) = Some (home_after (Initialises a hr))
+homes_change (Uninitialises a n) = Some (home_after (Uninitialises a n))
+homes_change Remains = None
+
+abbrev pub counts_change : HomeEffect → Option (ℕ → ℕ)
+counts_change (Initialises a hr) = Some (count_after (Initialises a hr))
+counts_change (Uninitialises a n) = Some (count_after (Uninitialises a n))
+counts_change Remains = None
+
+abbrev pub made_change : Option ℕ → Option (List ℕ → List ℕ)
+made_change None = None
+made_change (Some a) = Some (λ as'. as' ++ a ∷ [])
+
+abbrev pub over_change : Bool → Option (Bool → Bool)
+over_change true = Some (λ b. true)
+over_change false = None
+
+abbrev pub filters_change : FilterEffect → Option (Option ℕ → Option ℕ)
+filters_change (Names f) = Some (λ g. f)
+filters_change KeepsFilter = None
+
+-- A Post changes the words of the lane that it names.
+abbrev pub mail_lane : ℕ → Deed → ℕ
+mail_lane l (deed.Post (pos m) w hr) = m
+mail_lane l _ = l
+
+abbrev pub mail_change : Deed → Option (Mail → Mail)
+mail_change (deed.Post (pos m) w hr) = where_true (is_S_OK hr) (mail_after (Brings w))
+mail_change (deed.Word w) = Some (mail_after Takes)
+mail_change (deed.Pending c w n) = Some (mail_after (Asks c n))
+mail_change _ = None
+
+abbrev pub quit_lane : ℕ → Deed → ℕ
+quit_lane l (deed.Quit (pos m) hr) = m
+quit_lane l _ = l
+
+abbrev pub quit_change : (by_quit : Bool) → Deed → Option (Bool → Bool)
+quit_change own (deed.Quit (pos m) hr) = where_true (is_S_OK hr) (λ b. true)
+quit_change own deed.EndPump = where_true own (λ b. false)
+quit_change own _ = None
+
+abbrev pub admissions_by : Option Admission → List (Option Admission) → List (Option Admission)
+admissions_by None t = t
+admissions_by (Some a) t = changed_from_one (Some (λ x. Some a)) a.call None t
+
+abbrev pub leavings_by : Option Leaving → List (Option Leaving) → List (Option Leaving)
+leavings_by None t = t
+leavings_by (Some a) t = changed_from_one (Some (λ x. Some a)) a.call None t
+
+abbrev pub returned_by : Option ℕ → List Bool → List Bool
+returned_by None t = t
+returned_by (Some c) t = changed_from_one (Some (λ b. true)) c false t
+
+abbrev pub phases_by : PostEffect → (now : ℕ) → List Phase → List Phase
+phases_by (Posts c) n t = changed_from_one (Some (λ p. Queued)) c Unposted t
+phases_by (Judges c v) n t = changed_from_one (Some (λ p. Judged v)) c Unposted t
+phases_by (Delays c ms) n t = changed_from_one (Some (λ p. Delayed (n + ms))) c Unposted t
+phases_by (GivesUp c) n t = changed_from_one (Some (λ p. GivenUp)) c Unposted t
+phases_by PostsNone n t = t
+
+-- What the entry does to the answers of calls, and the ending that it gives to one.
+abbrev pub end_effect_in : Scenario → State → Entry → EndEffect
+end_effect_in s st e = end_effect (λ d. is_some (filter_in s st (lane_of (issue_in st d)))) e.deed
+
+abbrev pub ends_in : State → EndEffect → ℕ → Option Ending
+ends_in st x c = ends x c (object_of (issue_in st c)) (named_in st (object_of (issue_in st c))) (can_be_cut (issue_in st c) (admitted_in st c))
+
+abbrev pub endings_by : State → EndEffect → List (Option Ending) → List (Option Ending)
+endings_by st EndsNone t = t
+endings_by st (EndsCall c x) t = changed_from_one (Some (λ y. or_else y (Some x))) c None t
+endings_by st (CutsObject o) t = each_from (λ c y. or_else y (ends_in st (CutsObject o) c)) 1 t
+endings_by st (CutsSta a) t = each_from (λ c y. or_else y (ends_in st (CutsSta a) c)) 1 t
+
+-- The tables of lanes, apartments, objects and calls. What the entry changes in a table is looked at first: a table that it keeps
+-- is the same.
 abbrev pub tables_after : Scenario → State → Entry → State
 tables_after s st e =
     record st {
-      openers = each_from (λ l os. opened (effect_on l e) os) 0 st.openers;
-      served = each_from (λ l n. left_on (effect_on l e) (opened (effect_on l e) (openers_in st l)) n) 0 st.served;
-      homes = each_from (λ l a. home_after (home_effect_on l e) a) 0 st.homes;
-      counts = each_from (λ l n. count_after (home_effect_on l e) n) 0 st.counts;
-      made = each_from (λ l as'. if e.lane == l then with_last as' (makes_sta e.deed) else as') 0 st.made;
-      over = each_from (λ l b. (e.lane == l && is_end e.deed) || b) 0 st.over;
-      filters = each_from (λ l f. filter_after (filter_effect_on l e) f) 0 st.filters;
-      mail = each_from (λ l m. mail_after (mail_effect l (e.lane == l) e.deed) m) 0 st.mail;
-      quits = each_from (λ l b. quit_after (quit_effect l (e.lane == l && not (bound_reached (openers_in st l) (served_in st l))) e.deed) b) 0 st.quits;
+      openers = changed_at (opens (effect e.deed)) e.lane [] st.openers;
+      served = changed_at (serves_more (effect e.deed) (opened (effect e.deed) (openers_in st e.lane))) e.lane 0 st.served;
+      homes = changed_at (homes_change (home_effect e.deed)) e.lane None st.homes;
+      counts = changed_at (counts_change (home_effect e.deed)) e.lane 0 st.counts;
+      made = changed_at (made_change (makes_sta e.deed)) e.lane [] st.made;
+      over = changed_at (over_change (is_end e.deed)) e.lane false st.over;
+      filters = changed_at (filters_change (filter_effect e.deed)) e.lane None st.filters;
+      mail = changed_at (mail_change e.deed) (mail_lane e.lane e.deed) no_mail st.mail;
+      quits = changed_at (quit_change (not (bound_reached (openers_in st e.lane) (served_in st e.lane))) e.deed) (quit_lane e.lane e.deed) false st.quits;
       stas = with_last st.stas (makes_sta e.deed);
       ended = with_last st.ended (ends_sta e.deed);
       makings = grown (is_some (makes e.deed)) (makes e.deed) st.makings;
       finaled = with_last st.finaled (finals e.deed);
       issues = grown (issued_by e) (issues e.lane e.deed) st.issues;
-      admissions = each_from (λ c x. admission_or (admits e.lane e.deed) c x) 1 (grown (issued_by e) None st.admissions);
-      leavings = each_from (λ c x. leaving_or (leaves e.deed) c x) 1 (grown (issued_by e) None st.leavings);
-      returned = each_from (λ c b. is_number c (returns e.deed) || b) 1 (grown (issued_by e) false st.returned);
-      endings = endings_after s st e;
-      phases = each_from (λ c p. phase_after (post_effect e.deed) st.clock c p) 1 (grown (issued_by e) Unposted st.phases);
+      admissions = admissions_by (admits e.lane e.deed) (grown (issued_by e) None st.admissions);
+      leavings = leavings_by (leaves e.deed) (grown (issued_by e) None st.leavings);
+      returned = returned_by (returns e.deed) (grown (issued_by e) false st.returned);
+      endings = endings_by st (end_effect_in s st e) (grown (issued_by e) None st.endings);
+      phases = phases_by (post_effect e.deed) st.clock (grown (issued_by e) Unposted st.phases);
       times = grown (issued_by e) st.clock st.times;
       postings = posted_last (post_effect e.deed) st.postings;
       causes = count_if (issued_by e && is_none (running_call (openers_in st e.lane))) + st.causes;
@@ -296,9 +404,25 @@ abbrev pub is_marshalled_by : Option Issue → Bool
 is_marshalled_by None = false
 is_marshalled_by (Some i) = is_marshalled i.route
 
-abbrev pub sent_after : Scenario → State → Entry → List (List Value)
-sent_after s st e =
-    grown (issued_by e) (out_values s (books_in st) (is_marshalled_by (issues e.lane e.deed)) ((sight_of s st).act e.lane)) st.sent
+-- The values of a call are let go where it is entered or gets its answer: nothing reads them after that.
+abbrev pub enters : Option Admission → ℕ → Bool
+enters None c = false
+enters (Some a) c = a.call == c
+
+abbrev pub let_go : Bool → List Value → List Value
+let_go true vs = []
+let_go false vs = vs
+
+abbrev pub unread_by : State → Option Admission → EndEffect → List (List Value) → List (List Value)
+unread_by st None EndsNone t = t
+unread_by st None (EndsCall c x) t = changed_from_one (Some (λ vs. [])) c [] t
+unread_by st (Some a) EndsNone t = changed_from_one (Some (λ vs. [])) a.call [] t
+unread_by st m x t = each_from (λ c vs. let_go (enters m c || is_some (ends_in st x c)) vs) 1 t
+
+abbrev pub unread_after : Scenario → State → Entry → List (List Value)
+unread_after s st e =
+    unread_by st (admits e.lane e.deed) (end_effect_in s st e)
+    (grown (issued_by e) (out_values s (books_in st) (is_marshalled_by (issues e.lane e.deed)) ((sight_of s st).act e.lane)) st.unread)
 
 -- The scene and the books, written as tables that have a row for each lane, call, object and buffer.
 abbrev pub scene_tables : Scenario → State → Scene → SceneTables
@@ -337,16 +461,19 @@ with_fallen s st = record st { fallen = fallen_more (dies_in s st) (objects_in s
 abbrev pub with_books : Scenario → State → Scene → Books → State
 with_books s st w b = with_fallen s (record st { scene = scene_tables s st w; books = book_tables s st b })
 
-abbrev pub completed : Scenario → (before after : State) → Scene → Entry → State
-completed s st su w e =
-    with_books s (record su { refusals = refusals_after s st e; sent = sent_after s st e }) w (books_next s st su w e)
+abbrev pub completed : Scenario → (before after : State) → List (List Value) → Scene → Entry → State
+completed s st su vs w e =
+    with_books s (record su { refusals = refusals_after s st e; unread = vs }) w (books_next s st su w e)
 
-abbrev pub after_by : Scenario → (before after : State) → Entry → State
-after_by s st su e = completed s st su (scene_next s st su e) e
+abbrev pub after_by : Scenario → (before after : State) → List (List Value) → Entry → State
+after_by s st su vs e = completed s st su vs (scene_next s st su e) e
 
 -- The state after a deed of a lane.
+abbrev pub after_entry : Scenario → State → Entry → State
+after_entry s st e = after_by s st (tables_after s st e) (unread_after s st e) e
+
 abbrev pub after : Scenario → State → (lane : ℕ) → Deed → State
-after s st l d = after_by s st (tables_after s st (record { lane = l; deed = d })) (record { lane = l; deed = d })
+after s st l d = after_entry s st (record { lane = l; deed = d })
 
 -- The state before the first entry: a row for each lane and each buffer, and none of a call or an object but the unused one of
 -- number 0.
@@ -371,15 +498,29 @@ first_tables s = record {
   returned = [];
   endings = [];
   refusals = [];
-  sent = [];
+  unread = [];
   phases = [];
   times = [];
   postings = [];
   causes = 0;
   clock = 0;
   entries = 0;
-  scene = record { scripts = tabulated (threads s + 1) (λ l. entered []); bodies = []; cells = []; buffers = tabulated 64 (λ b. []); destinations = [] };
-  books = record { stub = []; proxy = []; packets = []; cookies = []; live = []; arguments = []; result = [] };
+  scene = record {
+    scripts = tabulated (threads s + 1) (λ l. entered []);
+    bodies = tabulated 1 (λ c. entered []);
+    cells = tabulated 1 (λ o. new_cells);
+    buffers = tabulated 64 (λ b. []);
+    destinations = tabulated 1 (λ c. destination.Nowhere);
+  };
+  books = record {
+    stub = tabulated 1 (λ o. tabulated (length s.classes.interfaces) (λ i. 0));
+    proxy = tabulated 3 (λ a. tabulated 1 (λ o. tabulated (length s.classes.interfaces) (λ i. 0)));
+    packets = [];
+    cookies = [];
+    live = tabulated 1 (λ o. false);
+    arguments = tabulated 1 (λ c. []);
+    result = tabulated 1 (λ c. None);
+  };
   fallen = [];
 }
 
@@ -436,10 +577,10 @@ pub record CallsStand (st : State) (h : List Entry) : Type 0 where
   pub causes : st.causes ≡ causes h
 
 pub record AnswersStand (s : Scenario) (st : State) (h : List Entry) : Type 0 where
-  pub rows : (length st.endings ≡ calls h) × (length st.refusals ≡ calls h) × (length st.sent ≡ calls h)
+  pub rows : (length st.endings ≡ calls h) × (length st.refusals ≡ calls h) × (length st.unread ≡ calls h)
   pub endings : (c : ℕ) → ending_in st c ≡ ending s h c
   pub refusals : (c : ℕ) → from_one st.refusals c S_OK ≡ at_issue s h c
-  pub sent : (c : ℕ) → from_one st.sent c [] ≡ sent s h c
+  pub unread : (c : ℕ) → from_one st.unread c [] ≡ unread s h c
 
 -- The state stands for a legal history.
 pub record StandsFor (s : Scenario) (st : State) (h : List Entry) : Type 0 where
@@ -451,6 +592,7 @@ pub record StandsFor (s : Scenario) (st : State) (h : List Entry) : Type 0 where
   pub answers : AnswersStand s st h
   pub scene : SameScene (scene_in st) (scene s h)
   pub books : SameBooks (books_in st) (books s h)
+  pub rows : (scene_tables s st (scene_in st) ≡ st.scene) × (book_tables s st (books_in st) ≡ st.books)
   pub fallen : st.fallen ≡ fallen s h
   pub clock : st.clock ≡ clock h
   pub entries : st.entries ≡ length h

@@ -14,6 +14,10 @@ use Rattle.com_model.specs.Objects.{named}
 use Rattle.com_model.specs.Calls.{admitted, target}
 use Rattle.com_model.specs.Clock.{clock}
 use Rattle.com_model.specs.Endings.{ending}
+pub use Rattle.com_model.specs.declared.keeps.Mark.{Mark}
+pub use Rattle.com_model.specs.declared.keeps.Word.{Word}
+pub use Rattle.com_model.specs.declared.keeps.Phase.{Phase}
+pub use Rattle.com_model.specs.declared.keeps.Phase.TheVariants.{Unposted, Queued, Judged, Delayed, GivenUp}
 
 -- What a deed does to a posted call: an Out by post, an Again, and a Retry of 0 to 99 post it at the inbox's end; a Verdict
 -- judges it; a Retry of 100 and more lets it wait until the clock has grown by that number; one below 0 gives it up.
@@ -34,14 +38,6 @@ post_effect (deed.Again c) = Posts c
 post_effect (deed.Retry c n) = retries c n
 post_effect (deed.Verdict c t v) = Judges c v
 post_effect _ = PostsNone
-
--- Where a call stands since its last posting.
-pub data Phase : Type 0 where
-  Unposted : Phase
-  Queued : Phase
-  Judged : Verdict → Phase
-  Delayed : (until : ℕ) → Phase
-  GivenUp : Phase
 
 abbrev pub phase_after : PostEffect → (now call : ℕ) → Phase → Phase
 phase_after (Posts d) t c p = if d == c then Queued else p
@@ -78,14 +74,6 @@ inbox s h a = filter (waits_in s h a) (postings h)
 
 -- A lane's words, each with its number among all that were posted to the lane, from 1; and for each Out of the lane the number
 -- of the word that it was last asked about, 0 at first.
-pub record Word : Type 0 where
-  pub number : ℕ
-  pub word : ℤ
-
-pub record Mark : Type 0 where
-  pub call : ℕ
-  pub number : ℕ
-
 pub record Mail : Type 0 where
   pub posted : ℕ
   pub words : List Word

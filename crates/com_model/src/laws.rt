@@ -1,5 +1,6 @@
 //! Laws of every legal history, stated on functions that do nothing.
 
+ghost use Rattle.com_model.specs.BooksTie.{BooksTie};
 ghost use Rattle.std.specs.Prelude.{◌≡◌, ℕ, List, [], ◌∷◌, length, Option, Some, None};
 ghost use Rattle.com_base.specs.declared.hresult.HResult.{HResult};
 ghost use Rattle.com_base.specs.declared.value.Value.{Value};
@@ -79,4 +80,9 @@ pub fn worked_cases()
     ensures direct_call_report { report direct_call direct_call_10 ≡ direct_call_report }
     ensures halved_report { report halved halved_8 ≡ halved_report }
     ensures foreign_closers { (nested foreign_back 1 → ⊥) × (nested foreign_leave 1 → ⊥) }
+{}
+
+/// Tables that are written of bounded books read as these, and a change leaves what calls keep of packets.
+pub fn books_tie()
+    ensures { BooksTie }
 {}

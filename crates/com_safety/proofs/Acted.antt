@@ -17,9 +17,10 @@ use Rattle.com_model.specs.declared.scenario.Scenario.{Scenario}
 use Rattle.com_model.specs.Answers.{S_OK, E_INVALIDARG, CO_E_OBJNOTCONNECTED}
 use Rattle.com_model.specs.Tables.{class_number, interface_number}
 use Rattle.com_model.specs.Openers.{running_call}
-use Rattle.com_model.specs.Calls.{Issue}
+use Rattle.com_model.specs.declared.keeps.Issue.{Issue}
 use Rattle.com_model.specs.Frames.{reference}
-use Rattle.com_model.specs.Books.{Cookie, cookie}
+use Rattle.com_books.specs.Changes.{cookie}
+use Rattle.com_books.specs.declared.keeps.Cookie.{Cookie}
 use Rattle.com_model.specs.Issue.{call_refusal}
 use Rattle.com_model.specs.Sight.{Sight}
 use Rattle.com_model.specs.Deeds.{hold_refusal, named_by, deed_of, created, created_of, initialised, marshalled, registered, Named, NamesPacket, Refuses, unmarshalled, dropped, got, got_by, got_with, cookie_number, gained_refs, owned_by, made_as, creator, placing, revoked, called, left_by, left_as}

@@ -19,9 +19,12 @@ use Rattle.com_classes.specs.Lookups.{class_at, class_body, kind_body, body_of}
 use Rattle.com_model.specs.declared.deeds.Entry.{Entry}
 use Rattle.com_model.specs.declared.scenario.Scenario.{Scenario}
 use Rattle.com_model.specs.Tables.{lane_sort}
-use Rattle.com_model.specs.Openers.{Opener, Enters, openers}
+use Rattle.com_model.specs.Openers.{openers}
+use Rattle.com_model.specs.declared.keeps.Opener.{Opener}
+use Rattle.com_model.specs.declared.keeps.Opener.TheVariants.{Enters}
 use Rattle.com_model.specs.Objects.{class_of}
-use Rattle.com_model.specs.Calls.{Issue, issue}
+use Rattle.com_model.specs.Calls.{issue}
+use Rattle.com_model.specs.declared.keeps.Issue.{Issue}
 use Rattle.com_model.specs.Frames.{Scene, Body, issued_body, scene, actor, act_by, act}
 use Rattle.com_model.specs.Formed.{IsStatement, Context, FormedBody, in_class, IsBody, IsClass, EachFrom, Formed}
 use Rattle.com_safety.proofs.Small.{not-both}

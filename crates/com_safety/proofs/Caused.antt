@@ -1,6 +1,7 @@
 -- Each entry of a legal history has its cause, and its values and answers are the call's own.
 use Rattle.std.proofs.Common.{subst, ap}
 use Rattle.std.specs.Prelude.{◌≡◌, refl, ℕ, Bool, true, false, not, ◌==◌, ◌&&◌, nat_le, length, List, [], ◌∷◌, Option, Some, None, option_map}
+use Rattle.com_base.specs.declared.value.Value.{Value}
 use Rattle.com_body.specs.declared.actions.Action.{Action}
 use Rattle.com_model.specs.declared.deeds.Deed.{Deed}
 use Rattle.com_model.specs.declared.deeds.Deed.TheVariants as deed
@@ -9,8 +10,11 @@ use Rattle.com_model.specs.declared.scenario.Scenario.{Scenario}
 use Rattle.com_model.specs.Answers.{RPC_E_OUT_OF_RESOURCES, RPC_E_SERVER_CANTUNMARSHAL_DATA, is_S_OK}
 use Rattle.com_model.specs.Lists.{where_true}
 use Rattle.com_model.specs.Tables.{lane_sort}
-use Rattle.com_model.specs.Calls.{object_of}
+use Rattle.com_model.specs.Calls.{admitted, object_of}
 use Rattle.com_model.specs.Endings.{Answer, ending}
+use Rattle.com_model.specs.declared.keeps.Admission.{Admission}
+use Rattle.com_model.specs.declared.keeps.Ending.{Ending}
+use Rattle.com_model.specs.Issue.{sent, unread_values}
 use Rattle.com_model.specs.Frames.{act, answer_in}
 use Rattle.com_model.specs.Deeds.{deed_of, uninitialised}
 use Rattle.com_model.specs.Sight.{Sight, sight}
@@ -20,7 +24,7 @@ use Rattle.com_model.proofs.Given.{cond-of}
 use Rattle.com_model.proofs.Onces.{legal-once}
 use Rattle.com_safety.proofs.Sources.{IsRest, Source, by_body, by_script, by_end, by_final, by_own, by_answer, by_inbox, by_retry, by_again, by_rest, next-source}
 use Rattle.com_safety.proofs.Acted.{ActionSort, action_sort, OfAction, deed-acted}
-use Rattle.com_safety.proofs.Waits.{taken-first, next-taken, own-enters}
+use Rattle.com_safety.proofs.Waits.{First, taken-first, next-taken, own-enters}
 
 -- ---- a law of each entry from a law of each next deed
 
@@ -63,7 +67,7 @@ admission-cause s h l c =
     let P : Deed → Type 0 = λ d. admission s v l c ≡ d → HasCause s h l d in
     cond-of P (nat_le 256 (length (v.openers l))) (deed.Refuse c RPC_E_OUT_OF_RESOURCES) _ (λ e. e)
     (cond-of P (posted_to_sta v c && not (is_handled_in s v l c)) (deed.Verdict c (call_sort v l c) (verdict_on s v l c)) _ (λ e. e)
-    (cond-of P (arguments_gone v c) (deed.Refuse c RPC_E_SERVER_CANTUNMARSHAL_DATA) (deed.Enter c (object_of (v.issue c)) (v.owner (object_of (v.issue c)) l) (where_true (posted_to_sta v c) (call_sort v l c)) (v.sent c)) (λ e. e) (λ e. tt)))
+    (cond-of P (arguments_gone v c) (deed.Refuse c RPC_E_SERVER_CANTUNMARSHAL_DATA) (deed.Enter c (object_of (v.issue c)) (v.owner (object_of (v.issue c)) l) (where_true (posted_to_sta v c) (call_sort v l c)) (v.unread c)) (λ e. e) (λ e. tt)))
     refl
 
 ended-cause : (s : Scenario) (h : List Entry) (l : ℕ) → HasCause s h l (after_script (sight s h) l)
@@ -106,12 +110,17 @@ answered-reply : (s : Scenario) (h : List Entry) (l c : ℕ) (x : Answer) (p : O
 answered-reply s h l c x (Some p) e = tt
 answered-reply s h l c x None e = ap (option_map (back_answer (sight s h) c)) e
 
-admission-reply : (s : Scenario) (h : List Entry) (l c : ℕ) → ending s h c ≡ None → OwnReply s h l (admission s (sight s h) l c)
-admission-reply s h l c n =
+unread-all : (a : Option Admission) (x : Option Ending) (vs : List Value) → a ≡ None → x ≡ None → unread_values a x vs ≡ vs
+unread-all None None vs p q = refl
+unread-all None (Some y) vs p q = cc
+unread-all (Some y) x vs p q = cc
+
+admission-reply : (s : Scenario) (h : List Entry) (l c : ℕ) → admitted h c ≡ None → ending s h c ≡ None → OwnReply s h l (admission s (sight s h) l c)
+admission-reply s h l c a n =
     let v : Sight = sight s h in
     cond-of (OwnReply s h l) (nat_le 256 (length (v.openers l))) (deed.Refuse c RPC_E_OUT_OF_RESOURCES) _ tt
     (cond-of (OwnReply s h l) (posted_to_sta v c && not (is_handled_in s v l c)) (deed.Verdict c (call_sort v l c) (verdict_on s v l c)) _ tt
-    (cond-of (OwnReply s h l) (arguments_gone v c) (deed.Refuse c RPC_E_SERVER_CANTUNMARSHAL_DATA) (deed.Enter c (object_of (v.issue c)) (v.owner (object_of (v.issue c)) l) (where_true (posted_to_sta v c) (call_sort v l c)) (v.sent c)) tt (refl, n)))
+    (cond-of (OwnReply s h l) (arguments_gone v c) (deed.Refuse c RPC_E_SERVER_CANTUNMARSHAL_DATA) (deed.Enter c (object_of (v.issue c)) (v.owner (object_of (v.issue c)) l) (where_true (posted_to_sta v c) (call_sort v l c)) (v.unread c)) tt (unread-all (admitted h c) (ending s h c) (sent s h c) a n, n)))
 
 ended-reply : (s : Scenario) (h : List Entry) (l : ℕ) → OwnReply s h l (after_script (sight s h) l)
 ended-reply s h l = cond-of (OwnReply s h l) ((sight s h).count l == 0) deed.End (uninitialised (sight s h) l) tt tt
@@ -121,9 +130,9 @@ own-reply s h l d (by_body c o a os x p q e) = acted-reply s h l (action_sort x)
 own-reply s h l d (by_script x p t q e) = acted-reply s h l (action_sort x) d (subst (OfAction (action_sort x)) e (deed-acted s (sight s h) l x)) (acted-by s (sight s h) l x d q e)
 own-reply s h l d (by_end p t e) = subst (OwnReply s h l) e (ended-reply s h l)
 own-reply s h l d (by_final o p e) = subst (OwnReply s h l) e tt
-own-reply s h l d (by_own c p q e) = subst (OwnReply s h l) e (admission-reply s h l c (own-enters (sight s h) c q).not_answered)
+own-reply s h l d (by_own c p q e) = subst (OwnReply s h l) e (admission-reply s h l c (own-enters (sight s h) c q).not_entered (own-enters (sight s h) c q).not_answered)
 own-reply s h l d (by_answer c x p q e) = subst (OwnReply s h l) e (answered-reply s h l c x (packet_left (sight s h) c) q)
-own-reply s h l d (by_inbox c p q e) = subst (OwnReply s h l) e (admission-reply s h l c (taken-first s h l (lane_sort s l) c (next-taken (sight s h) l (lane_sort s l) c q)).1.not_answered)
+own-reply s h l d (by_inbox c p q e) = subst (OwnReply s h l) e (let f : (a : ℕ) × First s h a c = taken-first s h l (lane_sort s l) c (next-taken (sight s h) l (lane_sort s l) c q) in admission-reply s h l c f.1.not_entered f.1.not_answered)
 own-reply s h l d (by_retry c n x q e) = subst (OwnReply s h l) e tt
 own-reply s h l d (by_again c t q e) = subst (OwnReply s h l) e tt
 own-reply s h l d (by_rest p) = rest-reply s h l d p

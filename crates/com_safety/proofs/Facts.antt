@@ -134,7 +134,7 @@ pub admission-ruled : (s : Scenario) (v : Sight) (l c : ℕ) → IsRuled (admiss
 admission-ruled s v l c =
     cond-of IsRuled (nat_le 256 (length (v.openers l))) (deed.Refuse c RPC_E_OUT_OF_RESOURCES) _ tt
     (cond-of IsRuled (posted_to_sta v c && not (is_handled_in s v l c)) (deed.Verdict c (call_sort v l c) (verdict_on s v l c)) _ tt
-    (cond-of IsRuled (arguments_gone v c) (deed.Refuse c RPC_E_SERVER_CANTUNMARSHAL_DATA) (deed.Enter c (object_of (v.issue c)) (v.owner (object_of (v.issue c)) l) (where_true (posted_to_sta v c) (call_sort v l c)) (v.sent c)) tt tt))
+    (cond-of IsRuled (arguments_gone v c) (deed.Refuse c RPC_E_SERVER_CANTUNMARSHAL_DATA) (deed.Enter c (object_of (v.issue c)) (v.owner (object_of (v.issue c)) l) (where_true (posted_to_sta v c) (call_sort v l c)) (v.unread c)) tt tt))
 
 pub answered-ruled : (v : Sight) (c : ℕ) (x : Answer) (p : Option ℕ) → IsRuled (answered v c x p)
 answered-ruled v c x (Some p) = tt

@@ -7,7 +7,9 @@ use Rattle.com_model.specs.declared.deeds.Entry.{Entry}
 use Rattle.com_model.specs.declared.scenario.Scenario.{Scenario}
 use Rattle.com_model.specs.Answers.{RPC_E_OUT_OF_RESOURCES, RPC_E_SERVER_CANTUNMARSHAL_DATA}
 use Rattle.com_model.specs.Lists.{where_true}
-use Rattle.com_model.specs.Openers.{Opener, Enters, openers}
+use Rattle.com_model.specs.Openers.{openers}
+use Rattle.com_model.specs.declared.keeps.Opener.{Opener}
+use Rattle.com_model.specs.declared.keeps.Opener.TheVariants.{Enters}
 use Rattle.com_model.specs.Calls.{object_of}
 use Rattle.com_model.specs.Endings.{Answer}
 use Rattle.com_model.specs.Sight.{Sight, sight}
@@ -56,7 +58,7 @@ admission-on-top : (s : Scenario) (v : Sight) (os : List Opener) (l c : ℕ) →
 admission-on-top s v os l c =
     cond-of (OnTop os) (nat_le 256 (length (v.openers l))) (deed.Refuse c RPC_E_OUT_OF_RESOURCES) _ tt
     (cond-of (OnTop os) (posted_to_sta v c && not (is_handled_in s v l c)) (deed.Verdict c (call_sort v l c) (verdict_on s v l c)) _ tt
-    (cond-of (OnTop os) (arguments_gone v c) (deed.Refuse c RPC_E_SERVER_CANTUNMARSHAL_DATA) (deed.Enter c (object_of (v.issue c)) (v.owner (object_of (v.issue c)) l) (where_true (posted_to_sta v c) (call_sort v l c)) (v.sent c)) tt tt))
+    (cond-of (OnTop os) (arguments_gone v c) (deed.Refuse c RPC_E_SERVER_CANTUNMARSHAL_DATA) (deed.Enter c (object_of (v.issue c)) (v.owner (object_of (v.issue c)) l) (where_true (posted_to_sta v c) (call_sort v l c)) (v.unread c)) tt tt))
 
 pub made-on-top : (s : Scenario) → Formed s → (h : List Entry) (l : ℕ) (d : Deed) → Source s (sight s h) l d → MadeOnTop (maker d) (openers h l)
 made-on-top s f h l d (by_body c o a os x p q e) =

@@ -10,10 +10,13 @@ use Rattle.com_model.specs.Answers.{RPC_E_OUT_OF_RESOURCES, RPC_E_SERVER_CANTUNM
 use Rattle.com_model.specs.Lists.{where_true}
 use Rattle.com_model.specs.Tables.{lane_sort}
 use Rattle.com_model.specs.Openers.{openers}
-use Rattle.com_model.specs.Calls.{Issue, issues, issue_or, issue, calls, object_of, route_of, is_post}
+use Rattle.com_model.specs.Calls.{issues, issue_or, issue, calls, object_of, route_of, is_post}
+use Rattle.com_model.specs.declared.keeps.Issue.{Issue}
 use Rattle.com_model.specs.Clock.{clock}
 use Rattle.com_model.specs.Endings.{Answer}
-use Rattle.com_model.specs.Waiting.{PostEffect, Posts, Judges, Delays, GivesUp, PostsNone, retries, post_effect, Phase, Unposted, Queued, Judged, Delayed, GivenUp, phase_after, phase, is_queued, postings}
+use Rattle.com_model.specs.Waiting.{PostEffect, Posts, Judges, Delays, GivesUp, PostsNone, retries, post_effect, phase_after, phase, is_queued, postings}
+use Rattle.com_model.specs.declared.keeps.Phase.{Phase}
+use Rattle.com_model.specs.declared.keeps.Phase.TheVariants.{Unposted, Queued, Judged, Delayed, GivenUp}
 use Rattle.com_model.specs.Deeds.{uninitialised}
 use Rattle.com_model.specs.Sight.{Sight, sight}
 use Rattle.com_model.specs.Rules.{posted_to_sta, call_sort, verdict_on, is_handled_in, arguments_gone, admission, packet_left, answered, after_script, next, legal}
@@ -142,7 +145,7 @@ admission-post P s v l c f =
     let Q : Deed → Type 0 = λ d. Post P (post_effect d) in
     cond-of Q (nat_le 256 (length (v.openers l))) (deed.Refuse c RPC_E_OUT_OF_RESOURCES) _ tt
     (cond-when Q (posted_to_sta v c && not (is_handled_in s v l c)) (deed.Verdict c (call_sort v l c) (verdict_on s v l c)) _ (λ e. f (and-left (is_post (route_of (v.issue c))) _ (and-left (posted_to_sta v c) _ e)))
-    (λ e. cond-of Q (arguments_gone v c) (deed.Refuse c RPC_E_SERVER_CANTUNMARSHAL_DATA) (deed.Enter c (object_of (v.issue c)) (v.owner (object_of (v.issue c)) l) (where_true (posted_to_sta v c) (call_sort v l c)) (v.sent c)) tt tt))
+    (λ e. cond-of Q (arguments_gone v c) (deed.Refuse c RPC_E_SERVER_CANTUNMARSHAL_DATA) (deed.Enter c (object_of (v.issue c)) (v.owner (object_of (v.issue c)) l) (where_true (posted_to_sta v c) (call_sort v l c)) (v.unread c)) tt tt))
 
 ended-post : (P : ℕ → Type 0) (v : Sight) (l : ℕ) → Post P (post_effect (after_script v l))
 ended-post P v l = cond-of (λ d. Post P (post_effect d)) (v.count l == 0) deed.End (uninitialised v l) tt tt

@@ -11,11 +11,17 @@ use Rattle.com_model.specs.declared.scenario.Scenario.{Scenario}
 use Rattle.com_model.specs.Answers.{RPC_E_OUT_OF_RESOURCES, RPC_E_SERVER_CANTUNMARSHAL_DATA}
 use Rattle.com_model.specs.Lists.{or_else, first, without_first, number_or_zero, is_number, where_true}
 use Rattle.com_model.specs.Tables.{LaneSort, lane_sort, is_agile_class}
-use Rattle.com_model.specs.Openers.{Opener, Pumps, Waits, Enters, Keeps, effect, opened, openers, entered_apartment}
+use Rattle.com_model.specs.Openers.{Keeps, effect, opened, openers, entered_apartment}
+use Rattle.com_model.specs.declared.keeps.Opener.{Opener}
+use Rattle.com_model.specs.declared.keeps.Opener.TheVariants.{Pumps, Waits, Enters}
 use Rattle.com_model.specs.Apartments.{neutral, mta, is_sta, thread_home, home_by_sort, home, running, serves}
-use Rattle.com_model.specs.Objects.{Making, asked_number, makes, made_or, making, objects, named, agile, owner}
-use Rattle.com_model.specs.Calls.{Issue, issue, calls, target, object_of, lane_of, route_of, is_post}
-use Rattle.com_model.specs.Endings.{Ending, AtIssue, Answer, ending}
+use Rattle.com_model.specs.Objects.{asked_number, makes, made_or, making, objects, named, agile, owner}
+use Rattle.com_model.specs.declared.keeps.Making.{Making}
+use Rattle.com_model.specs.Calls.{issue, calls, target, object_of, lane_of, route_of, is_post}
+use Rattle.com_model.specs.declared.keeps.Issue.{Issue}
+use Rattle.com_model.specs.Endings.{Answer, ending}
+use Rattle.com_model.specs.declared.keeps.Ending.{Ending}
+use Rattle.com_model.specs.declared.keeps.Ending.TheVariants.{AtIssue}
 use Rattle.com_model.specs.Waiting.{postings}
 use Rattle.com_model.specs.Deeds.{uninitialised}
 use Rattle.com_model.specs.Formed.{Formed}
@@ -178,7 +184,7 @@ admission-in-place s h l c p =
     let v : Sight = sight s h in
     cond-of (InPlace s h l) (nat_le 256 (length (v.openers l))) (deed.Refuse c RPC_E_OUT_OF_RESOURCES) _ tt
     (cond-of (InPlace s h l) (posted_to_sta v c && not (is_handled_in s v l c)) (deed.Verdict c (call_sort v l c) (verdict_on s v l c)) _ tt
-    (cond-of (InPlace s h l) (arguments_gone v c) (deed.Refuse c RPC_E_SERVER_CANTUNMARSHAL_DATA) (deed.Enter c (object_of (v.issue c)) (v.owner (object_of (v.issue c)) l) (where_true (posted_to_sta v c) (call_sort v l c)) (v.sent c)) tt ((refl, p.0), p.1)))
+    (cond-of (InPlace s h l) (arguments_gone v c) (deed.Refuse c RPC_E_SERVER_CANTUNMARSHAL_DATA) (deed.Enter c (object_of (v.issue c)) (v.owner (object_of (v.issue c)) l) (where_true (posted_to_sta v c) (call_sort v l c)) (v.unread c)) tt ((refl, p.0), p.1)))
 
 top-waits : (c : ℕ) (os : List Opener) → first os ≡ Some (Waits c) → os ≡ Waits c ∷ without_first os
 top-waits c [] e = cc

@@ -10,7 +10,9 @@ use Rattle.com_model.specs.declared.scenario.Scenario.{Scenario}
 use Rattle.com_model.specs.Answers.{RPC_E_OUT_OF_RESOURCES, RPC_E_SERVER_CANTUNMARSHAL_DATA}
 use Rattle.com_model.specs.Lists.{first, where_true}
 use Rattle.com_model.specs.Tables.{LaneSort, Thread, Host, Pool, NoLane, lane_sort}
-use Rattle.com_model.specs.Openers.{Opener, Pumps, Waits, Enters, openers}
+use Rattle.com_model.specs.Openers.{openers}
+use Rattle.com_model.specs.declared.keeps.Opener.{Opener}
+use Rattle.com_model.specs.declared.keeps.Opener.TheVariants.{Pumps, Waits, Enters}
 use Rattle.com_model.specs.Apartments.{mta, is_sta}
 use Rattle.com_model.specs.Objects.{named}
 use Rattle.com_model.specs.Calls.{issue, target, object_of, route_of, is_post}
@@ -95,7 +97,7 @@ admission-reenters s h l c f g =
     cond-of (Reenters s h l) (nat_le 256 (length (v.openers l))) (deed.Refuse c RPC_E_OUT_OF_RESOURCES) _ tt
     (cond-when (Reenters s h l) (posted_to_sta v c && not (is_handled_in s v l c)) (deed.Verdict c (call_sort v l c) (verdict_on s v l c)) _
     (λ e. f (and-left (posted_to_sta v c) _ e) (not-true (is_handled_in s v l c) (and-right (posted_to_sta v c) _ e)))
-    (λ e. cond-of (Reenters s h l) (arguments_gone v c) (deed.Refuse c RPC_E_SERVER_CANTUNMARSHAL_DATA) (deed.Enter c (object_of (v.issue c)) (v.owner (object_of (v.issue c)) l) (where_true (posted_to_sta v c) (call_sort v l c)) (v.sent c)) tt (g e)))
+    (λ e. cond-of (Reenters s h l) (arguments_gone v c) (deed.Refuse c RPC_E_SERVER_CANTUNMARSHAL_DATA) (deed.Enter c (object_of (v.issue c)) (v.owner (object_of (v.issue c)) l) (where_true (posted_to_sta v c) (call_sort v l c)) (v.unread c)) tt (g e)))
 
 both-off : (p q : Bool) (n : ℕ) → p ≡ false → where_true (p && q) n ≡ None
 both-off true q n e = cc

@@ -7,7 +7,8 @@ use Rattle.com_model.specs.declared.deeds.Deed.TheVariants as deed
 use Rattle.com_model.specs.declared.deeds.Entry.{Entry}
 use Rattle.com_model.specs.declared.scenario.Scenario.{Scenario}
 use Rattle.com_model.specs.Answers.{RPC_E_OUT_OF_RESOURCES, RPC_E_SERVER_CANTUNMARSHAL_DATA}
-use Rattle.com_model.specs.Lists.{first, number_or_zero, is_number, count_if, where_true}
+use Rattle.com_model.specs.Lists.{first, number_or_zero, is_number, where_true}
+use Rattle.com_books.specs.Counting.{count_if}
 use Rattle.com_model.specs.Openers.{openers}
 use Rattle.com_model.specs.Apartments.{running, ends_sta, serves}
 use Rattle.com_model.specs.Objects.{objects, makes, named, disconnects, finaled}
@@ -15,7 +16,10 @@ use Rattle.com_model.specs.Calls.{object_of}
 use Rattle.com_model.specs.Frames.{scene, act}
 use Rattle.com_model.specs.Places.{ground, all_places, direct_places}
 use Rattle.com_model.specs.Endings.{Answer, ending, is_leave}
-use Rattle.com_model.specs.Books.{Packet, Cookie, Books, books, most, made_by, is_weak, packet_holds, cookie_holds, held_outside, cut_packet, cut_cookie, cut, holders}
+use Rattle.com_books.specs.Changes.{Books, is_weak, packet_holds, cookie_holds, held_outside, cut_packet, cut_cookie, cut, no_packet}
+use Rattle.com_model.specs.Books.{books, most, made_by, holders}
+use Rattle.com_books.specs.declared.keeps.Packet.{Packet}
+use Rattle.com_books.specs.declared.keeps.Cookie.{Cookie}
 use Rattle.com_model.specs.Dying.{is_entered, is_dying, fallen}
 use Rattle.com_model.specs.Deeds.{uninitialised}
 use Rattle.com_model.specs.Sight.{Sight, sight}
@@ -31,17 +35,18 @@ use Rattle.com_safety.proofs.Caused.{each-next}
 
 -- ---- the cut leaves what holds a connected object
 
-same-count : (w x y l : Bool) → (y ≡ true → l ≡ true) → count_if ((w && l) && (x && y)) ≡ count_if (w && (x && y))
-same-count true x y true f = refl
-same-count false x y l f = refl
-same-count true false y false f = refl
-same-count true true false false f = refl
-same-count true true true false f = absurd (not-both false (f refl) refl)
+no-count : (w x y : Bool) → y ≡ false → 0 ≡ count_if (w && (x && y))
+no-count false x y f = refl
+no-count true false y f = refl
+no-count true true true f = absurd (not-both true refl f)
+no-count true true false f = refl
 
 cut-packet-holds : (live : ℕ → Bool) (o : ℕ) (p : Packet) → live o ≡ true → packet_holds o (cut_packet live p) ≡ packet_holds o p
 cut-packet-holds live o p e =
-    same-count p.outstanding (not (is_weak p.mode)) (p.object == o) (live p.object)
-    (λ q. subst (λ (x : ℕ). live x ≡ true) (sym (eqb-true p.object o q)) e)
+    elim (live p.object) as (λ t. live p.object ≡ t → packet_holds o (cond t p no_packet) ≡ packet_holds o p) [
+      | true ↦ λ z. refl
+      | false ↦ λ z. no-count p.outstanding (not (is_weak p.mode)) (p.object == o) (differ (p.object == o) (λ q. not-both (live p.object) (subst (λ (x : ℕ). live x ≡ true) (sym (eqb-true p.object o q)) e) z))
+    ] refl
 
 cut-packets-hold : (live : ℕ → Bool) (o : ℕ) (ps : List Packet) → live o ≡ true → sum_by (packet_holds o) (map (cut_packet live) ps) ≡ sum_by (packet_holds o) ps
 cut-packets-hold live o [] e = refl
@@ -120,7 +125,7 @@ admission-releases s h l c =
     let v : Sight = sight s h in
     cond-of (ReleasesOnce s h l) (nat_le 256 (length (v.openers l))) (deed.Refuse c RPC_E_OUT_OF_RESOURCES) _ tt
     (cond-of (ReleasesOnce s h l) (posted_to_sta v c && not (is_handled_in s v l c)) (deed.Verdict c (call_sort v l c) (verdict_on s v l c)) _ tt
-    (cond-of (ReleasesOnce s h l) (arguments_gone v c) (deed.Refuse c RPC_E_SERVER_CANTUNMARSHAL_DATA) (deed.Enter c (object_of (v.issue c)) (v.owner (object_of (v.issue c)) l) (where_true (posted_to_sta v c) (call_sort v l c)) (v.sent c)) tt tt))
+    (cond-of (ReleasesOnce s h l) (arguments_gone v c) (deed.Refuse c RPC_E_SERVER_CANTUNMARSHAL_DATA) (deed.Enter c (object_of (v.issue c)) (v.owner (object_of (v.issue c)) l) (where_true (posted_to_sta v c) (call_sort v l c)) (v.unread c)) tt tt))
 
 pub releases : (s : Scenario) (h : List Entry) (l : ℕ) (d : Deed) → Source s (sight s h) l d → ReleasesOnce s h l d
 releases s h l d (by_body c o a os x p q e) = acted-releases s h l (action_sort x) d (subst (OfAction (action_sort x)) e (deed-acted s (sight s h) l x))

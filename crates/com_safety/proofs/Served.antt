@@ -12,9 +12,11 @@ use Rattle.com_model.specs.declared.scenario.Scenario.{Scenario}
 use Rattle.com_model.specs.Answers.{S_OK, is_S_OK}
 use Rattle.com_model.specs.Lists.{where_true, is_number, number_or_zero}
 use Rattle.com_model.specs.Tables.{LaneSort, Thread, Host, Pool, NoLane, lane_sort, is_agile_class}
-use Rattle.com_model.specs.Openers.{Opener, Keeps, effect, opened, openers}
+use Rattle.com_model.specs.Openers.{Keeps, effect, opened, openers}
+use Rattle.com_model.specs.declared.keeps.Opener.{Opener}
 use Rattle.com_model.specs.Apartments.{is_sta, host_sta, HomeEffect, Uninitialises, Remains, home_effect, home_after, thread_home, home_by_sort, home, makes_sta, made_in, serves_by_sort, serves}
-use Rattle.com_model.specs.Objects.{Making, makes, made_or, making, asked_number, agile, named}
+use Rattle.com_model.specs.Objects.{makes, made_or, making, asked_number, agile, named}
+use Rattle.com_model.specs.declared.keeps.Making.{Making}
 use Rattle.com_model.specs.Formed.{Formed}
 use Rattle.com_model.specs.Deeds.{initialised, new_home}
 use Rattle.com_model.specs.Sight.{Sight, sight}

@@ -8,13 +8,16 @@ use Rattle.com_model.specs.declared.deeds.Deed.TheVariants as deed
 use Rattle.com_model.specs.declared.deeds.Entry.{Entry}
 use Rattle.com_model.specs.declared.scenario.Scenario.{Scenario}
 use Rattle.com_model.specs.Lists.{number_or_zero, is_number}
-use Rattle.com_model.specs.Openers.{Opener, openers}
+use Rattle.com_model.specs.Openers.{openers}
+use Rattle.com_model.specs.declared.keeps.Opener.{Opener}
 use Rattle.com_model.specs.Apartments.{running}
-use Rattle.com_model.specs.Objects.{Making, makes, one_more, objects, finals, finaled}
+use Rattle.com_model.specs.Objects.{makes, one_more, objects, finals, finaled}
+use Rattle.com_model.specs.declared.keeps.Making.{Making}
 use Rattle.com_model.specs.Frames.{Scene, scene, act}
 use Rattle.com_model.specs.Endings.{ending, is_leave}
 use Rattle.com_model.specs.Places.{Ground, ground}
-use Rattle.com_model.specs.Books.{Books, Change, ToProxy, ToPacket, Split, Join, Return, ToCookie, Withdraw, Same, changed, change, Row, rows, entered_rows, kept, made_by, most, books}
+use Rattle.com_books.specs.Changes.{Books, Change, ToProxy, ToPacket, Split, Join, Return, ToCookie, Withdraw, Same, changed, change, Row, entered_rows}
+use Rattle.com_model.specs.Books.{rows, kept, made_by, most, books}
 use Rattle.com_model.specs.Waiting.{postings}
 use Rattle.com_model.specs.Dying.{is_dying}
 use Rattle.com_model.specs.Sight.{Sight, sight}

@@ -5,7 +5,7 @@ use Rattle.com_model.specs.declared.deeds.Entry.{Entry}
 use Rattle.com_model.specs.declared.scenario.Scenario.{Scenario}
 use Rattle.com_model.specs.Lists.{first}
 use Rattle.com_model.specs.Tables.{LaneSort, Thread, Host, Pool, NoLane}
-use Rattle.com_model.specs.Openers.{Opener}
+use Rattle.com_model.specs.declared.keeps.Opener.{Opener}
 use Rattle.com_model.specs.Apartments.{mta, is_sta}
 use Rattle.com_model.specs.Objects.{named}
 use Rattle.com_model.specs.Calls.{admitted, target, is_post, route_of}

@@ -9,7 +9,8 @@ use Rattle.com_model.specs.Apartments.{serves}
 use Rattle.com_model.specs.Objects.{named, finaled}
 use Rattle.com_model.specs.Frames.{scene}
 use Rattle.com_model.specs.Places.{ground, direct_places}
-use Rattle.com_model.specs.Books.{Books, books}
+use Rattle.com_books.specs.Changes.{Books}
+use Rattle.com_model.specs.Books.{books}
 use Rattle.com_model.specs.Dying.{is_entered, is_dying}
 
 -- A Final is the first of its object, made in a lane that serves its owner while it is dying and not connected.

@@ -5,24 +5,14 @@ use Rattle.std.proofs.lemmas.Grind.{common_steps}
 use Rattle.std.specs.Prelude.{slice_set, slice_index_or, map, sum_by}
 use Rattle.com_base.specs.declared.value.MarshalMode.{MarshalMode}
 use Rattle.com_base.specs.declared.value.MarshalMode.TheVariants as marshal
-use Rattle.com_model.specs.Lists.{sum_below}
-use Rattle.com_model.specs.Books.{Packet, Cookie, Books, no_packet, no_cookie, packet, Change, ToProxy, ToPacket, Split, Join, Return, ToCookie, Withdraw, Same, at3, new_packet, changed, given_back, cut_packet, cut_cookie, cut, packet_holds_of, cookie_holds_of, held}
-use Rattle.com_balance.proofs.Sums.{sum-changed, sum-split, sum-cut, sum-more}
-
--- Apartments are numbered below n.
-pub record Even (n : ℕ) (b : Books) : Type 0 where
-  pub equal : (o i : ℕ) → b.stub o i ≡ held n b o i
-  pub past : (a o i : ℕ) → n ≤ a → b.proxy a o i ≡ 0
+use Rattle.com_books.specs.Counting.{sum_below}
+use Rattle.com_books.specs.Changes.{Books, no_packet, no_cookie, packet, Change, ToProxy, ToPacket, Split, Join, Return, ToCookie, Withdraw, Same, at3, new_packet, changed, given_back, cut_packet, cut_cookie, cut, packet_holds_of, cookie_holds_of}
+use Rattle.com_books.specs.declared.keeps.Packet.{Packet}
+use Rattle.com_books.specs.declared.keeps.Cookie.{Cookie}
+use Rattle.com_books.proofs.Sums.{sum-changed, sum-split, sum-cut, sum-more}
+use Rattle.com_books.specs.Evens.{Even, Fits, StaysEven}
 
 -- ---- one change
-
--- What a change needs.
-abbrev pub Fits : ℕ → Books → Change → Type 0
-Fits n b (ToProxy a o i m) = a < n
-Fits n b (Split a o i m) = (a < n) × (m ≤ b.proxy a o i)
-Fits n b (Join a p) = (a < n) × ((packet b p).outstanding ≡ true)
-Fits n b (Return p) = (packet b p).outstanding ≡ true
-Fits n b _ = Unit {0}
 
 -- The proxies' sum after a change at one of them.
 proxy-sum : (n a o i x : ℕ) (f : ℕ → ℕ → ℕ → ℕ) (k j : ℕ) → a < n → sum_below n (λ c. at3 a o i x f c k j) + cond (eqb k o && eqb j i) (f a k j) 0 ≡ sum_below n (λ c. f c k j) + cond (eqb k o && eqb j i) x 0
@@ -42,10 +32,10 @@ cookie-sum-new o i k j n gs = grind (arith, common_steps)
 inside : (ps : List Packet) (p : ℕ) → (slice_index_or ps p no_packet).outstanding ≡ true → p < length ps
 inside ps p h = grind (arith, common_steps)
 
-packet-sum-end : (k j p : ℕ) (ps : List Packet) → (slice_index_or ps p no_packet).outstanding ≡ true → sum_by (packet_holds_of k j) (slice_set ps p (record (slice_index_or ps p no_packet) { outstanding = false })) + cond (eqb k (slice_index_or ps p no_packet).object && eqb j (slice_index_or ps p no_packet).iface) (slice_index_or ps p no_packet).refs 0 ≡ sum_by (packet_holds_of k j) ps
+packet-sum-end : (k j p : ℕ) (ps : List Packet) → (slice_index_or ps p no_packet).outstanding ≡ true → sum_by (packet_holds_of k j) (slice_set ps p no_packet) + cond (eqb k (slice_index_or ps p no_packet).object && eqb j (slice_index_or ps p no_packet).iface) (slice_index_or ps p no_packet).refs 0 ≡ sum_by (packet_holds_of k j) ps
 packet-sum-end k j p ps h = grind (arith, common_steps, inside ps p h, h)
 
-cookie-sum-end : (k j g : ℕ) (gs : List Cookie) → sum_by (cookie_holds_of k j) (slice_set gs g (record (slice_index_or gs g no_cookie) { revoked = true; refs = 0 })) + cond (eqb k (slice_index_or gs g no_cookie).object && eqb j (slice_index_or gs g no_cookie).iface) (slice_index_or gs g no_cookie).refs 0 ≡ sum_by (cookie_holds_of k j) gs
+cookie-sum-end : (k j g : ℕ) (gs : List Cookie) → sum_by (cookie_holds_of k j) (slice_set gs g no_cookie) + cond (eqb k (slice_index_or gs g no_cookie).object && eqb j (slice_index_or gs g no_cookie).iface) (slice_index_or gs g no_cookie).refs 0 ≡ sum_by (cookie_holds_of k j) gs
 cookie-sum-end k j g [] = grind (arith, common_steps)
 cookie-sum-end k j zero (x ∷ gs) = grind (arith, common_steps)
 cookie-sum-end k j (suc g) (x ∷ gs) = grind (arith, common_steps, cookie-sum-end k j g gs)
@@ -126,3 +116,6 @@ more-even n m b h p = record {
   where
     add-sub : n ≤ m → n + (m - n) ≡ m
     add-sub h = omega arith
+
+pub stays-even : StaysEven
+stays-even = record { changed = changed-even; given_back = given-back-even; cut = cut-even; more = more-even }

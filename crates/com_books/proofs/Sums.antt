@@ -1,7 +1,7 @@
 -- Sums of tables of numbers.
 use Rattle.std.proofs.Common.{◌≡◌, ℕ, Bool, true, false, eqb, cond, ◌+◌, ◌<◌, ◌≤◌, zero, suc, refl, subst, arith, eqb-true, add-zero, add-suc}
 use Rattle.std.proofs.lemmas.Bool.{eqb-false}
-use Rattle.com_model.specs.Lists.{sum_below}
+use Rattle.com_books.specs.Counting.{sum_below}
 
 -- Tables that agree have one sum.
 pub sum-same : (n : ℕ) (f g : ℕ → ℕ) → ((k : ℕ) → k < n → f k ≡ g k) → sum_below n f ≡ sum_below n g
