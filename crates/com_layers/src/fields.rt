@@ -2,7 +2,9 @@
 
 use com_base::{HResult, Value};
 use com_body::{Code, Given, Op};
-use com_fields::{ScenarioError, buffer, code, given, hresult_of, op, register, signed_of, slot};
+use com_read_operands::{
+    ScenarioError, buffer, code, given, hresult_of, op, register, signed_of, slot,
+};
 use com_text::{Word, line_at};
 use std::alloc::Global;
 use std::test::*;

@@ -1,8 +1,8 @@
 //! What the sections of a text declare, and where a skip past the end is refused.
 
 use com_base::Rows;
-use com_fields::ScenarioError;
-use com_sections::outline_of;
+use com_read_operands::ScenarioError;
+use com_read_sections::outline_of;
 use std::test::*;
 
 #[test]

@@ -6,7 +6,7 @@ use Rattle.hex.specs.Hex.{encode_lower}
 use Rattle.com_base.specs.declared.guid.Guid.{Guid}
 use Rattle.com_base.specs.declared.standard.StdFields.{StdFields}
 use Rattle.com_base.specs.Guids.{text_of}
-use Rattle.com_fields.specs.Literals.{unhexed}
+use Rattle.com_read_operands.specs.Literals.{unhexed}
 use Rattle.objref.specs.declared.decoding.RefFault.{RefFault}
 use Rattle.objref.specs.Grammar.{Reference, standard, handler, custom}
 use Rattle.objref.specs.Reading.{objref_of, fault}

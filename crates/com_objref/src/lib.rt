@@ -10,7 +10,7 @@ ghost use Rattle.com_objref.specs.Shown.{hex32, hex64, fields_text, strings_text
 
 pub use com_base::Memory;
 use com_base::{ByteList, Guid, StdFields};
-use com_fields::unhex;
+use com_read_operands::unhex;
 use itoa::Buffer;
 use objref::{ObjRef, RefFault, decode};
 use std::alloc::Global;

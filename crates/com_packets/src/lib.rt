@@ -12,7 +12,7 @@ ghost use Rattle.com_packets.specs.Written.{written_fields, IsNamed, cut_entries
 ghost use Rattle.com_packets.specs.Table.{entry_at};
 
 use com_base::{Guid, MarshalMode, StdFields};
-use com_chains::Chains;
+use com_keyed::Chains;
 use com_slots::Slots;
 use std::alloc::Global;
 use std::marker::Model;

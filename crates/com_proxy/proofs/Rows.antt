@@ -6,7 +6,7 @@ use Rattle.std.proofs.lemmas.Grind.{common_steps}
 use Rattle.std.specs.Prelude.{map, slice_set, slice_index_or, slice_index}
 use Rattle.com_proxy.specs.declared.ProxyRow.{ProxyRow}
 use Rattle.com_proxy.specs.Rows.{is_for, no_row, row_of, row_at, local_of, public_of, place_of, changed_row, proxy_key_of, key_of, proxies_of, objects_of, EachFirst, IsFree, IsLowest, no_public, cut_row, cut_rows}
-use Rattle.com_chains.specs.Places.{Places}
+use Rattle.com_keyed.specs.Places.{Places}
 use Rattle.com_proxy.specs.Table.{IsTable}
 
 -- a row that is there

@@ -1,6 +1,6 @@
 -- What a contract sees of a `Proxies`.
 use Rattle.std.specs.Prelude.{ℕ, ◌≡◌, List}
-use Rattle.com_chains.specs.Places.{Places}
+use Rattle.com_keyed.specs.Places.{Places}
 use Rattle.com_proxy.specs.declared.ProxyRow.{ProxyRow}
 use Rattle.com_proxy.specs.Rows.{EachFirst, proxies_of, objects_of}
 

@@ -9,7 +9,7 @@
 ghost use Rattle.std.specs.Prelude.{◌≡◌, ◌+◌, ◌<◌, ◌≤◌, ◌^◌, ◌↔◌, ℕ, [], OnOk, OnErr, IsOk, IsTrue, IfNone, IfSome, length};
 ghost use Rattle.com_proxy.specs.Rows.{local_of, public_of, changed_row, gaining, one_local_more, one_local_less, no_public, split_of, split_rows, cut_rows, place_of, row_at, proxy_key_of, proxies_of, objects_of, EachFirst, HasNoPublic, IsFree, IsLowest};
 
-use com_chains::Chains;
+use com_keyed::Chains;
 use std::alloc::Global;
 use std::marker::Model;
 

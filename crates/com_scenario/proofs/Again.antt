@@ -4,14 +4,14 @@ use Rattle.com_classes.specs.declared.interfaces.Interface.{Interface}
 use Rattle.com_model.specs.declared.scenario.Scenario.{Scenario}
 use Rattle.com_model.specs.Formed.{Formed}
 use Rattle.com_text.specs.Scanning.{lines_of}
-use Rattle.com_fields.specs.declared.faults.Fault.{Fault}
-use Rattle.com_fields.specs.Reading.{◌>>=◌}
-use Rattle.com_sections.specs.declared.outline.Outline.{Outline}
-use Rattle.com_spelling.proofs.Scanned.{lines_again}
-use Rattle.com_printing.specs.Printed.{scenario_lines, printed}
-use Rattle.com_printing.specs.Ranges.{FitsTypes}
-use Rattle.com_printing.proofs.Goods.{scenario_good}
-use Rattle.com_printing.proofs.Whole.{scenario_read, built_first}
+use Rattle.com_read_operands.specs.declared.faults.Fault.{Fault}
+use Rattle.com_read_operands.specs.Reading.{◌>>=◌}
+use Rattle.com_read_sections.specs.declared.outline.Outline.{Outline}
+use Rattle.com_print_words.proofs.Scanned.{lines_again}
+use Rattle.com_print_scenario.specs.Printed.{scenario_lines, printed}
+use Rattle.com_print_scenario.specs.Ranges.{FitsTypes}
+use Rattle.com_print_scenario.proofs.Goods.{scenario_good}
+use Rattle.com_print_scenario.proofs.Whole.{scenario_read, built_first}
 use Rattle.com_scenario.specs.Scenarios.{scenario_of, reading}
 
 pub law : (s : Scenario) → Formed s → FitsTypes s → reading (printed s) ≡ Ok s

@@ -11,19 +11,19 @@ use Rattle.com_classes.specs.BuiltIns.{iunknown, icounter, irelay, ilatch, built
 use Rattle.com_filter.specs.declared.Rule.{Rule}
 use Rattle.com_text.specs.Words.{LineAt}
 use Rattle.com_text.specs.Scanning.{lines_of}
-use Rattle.com_sections.specs.declared.state.State.{State}
-use Rattle.com_sections.specs.declared.state.Section.{Section}
-use Rattle.com_sections.specs.declared.state.Section.TheVariants as sections
-use Rattle.com_sections.specs.declared.outline.Outline.{Outline}
-use Rattle.com_sections.specs.Opened.{interface_closed, step}
-use Rattle.com_sections.specs.Outlines.{outlined, finished, finish, begun, read}
+use Rattle.com_read_sections.specs.declared.state.State.{State}
+use Rattle.com_read_sections.specs.declared.state.Section.{Section}
+use Rattle.com_read_sections.specs.declared.state.Section.TheVariants as sections
+use Rattle.com_read_sections.specs.declared.outline.Outline.{Outline}
+use Rattle.com_read_sections.specs.Opened.{interface_closed, step}
+use Rattle.com_read_sections.specs.Outlines.{outlined, finished, finish, begun, read}
 use Rattle.com_model.specs.declared.scenario.Scenario.{Scenario}
 use Rattle.com_model.specs.Formed.{Distinct, IsKindBy, IsMethod, IsInterface, IsAllowed, same_interface, same_method, FormedInterfaces, FormedBody, in_script, IsFilter, Formed}
 use Rattle.com_scenario.specs.Scenarios.{scenario_of, reading}
-use Rattle.com_forming.specs.Words.{IsLine}
-use Rattle.com_forming.specs.Holds.{Holds}
-use Rattle.com_forming.proofs.Holds.{done, fails, bind, either}
-use Rattle.com_forming.proofs.Words.{lines_formed}
+use Rattle.com_scenario_laws.specs.Words.{IsLine}
+use Rattle.com_scenario_laws.specs.Holds.{Holds}
+use Rattle.com_scenario_laws.proofs.Holds.{done, fails, bind, either}
+use Rattle.com_scenario_laws.proofs.Words.{lines_formed}
 use Rattle.com_scenario.proofs.Alike.{name_good}
 use Rattle.com_scenario.proofs.Growing.{Grows, body_grows, classes_stay}
 use Rattle.com_scenario.proofs.Standing.{so_far, IsPool, AtHeader, AtTop, Stands, StandsAt}

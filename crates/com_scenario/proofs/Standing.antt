@@ -17,29 +17,29 @@ use Rattle.com_classes.specs.declared.classes.ThreadingModel.TheVariants as mode
 use Rattle.com_classes.specs.BuiltIns.{built_in_interfaces}
 use Rattle.com_filter.specs.declared.Rule.{Rule}
 use Rattle.com_text.specs.Words.{WordAt}
-use Rattle.com_fields.specs.declared.faults.Fault.{Fault}
-use Rattle.com_statements.specs.declared.calls.MethodNumber.{MethodNumber}
-use Rattle.com_statements.specs.declared.keywords.Program.{Program}
-use Rattle.com_statements.specs.declared.keywords.Program.TheVariants as programs
-use Rattle.com_statements.specs.declared.keywords.Keyword.{Keyword}
-use Rattle.com_statements.specs.declared.names.Names.{Names}
-use Rattle.com_statements.specs.Keywords.{has_cells, has_links, keyword_of, takes}
-use Rattle.com_statements.specs.Statements.{stmt_of}
-use Rattle.com_sections.specs.declared.state.State.{State}
-use Rattle.com_sections.specs.declared.state.Section.{Section}
-use Rattle.com_sections.specs.declared.state.Section.TheVariants as sections
-use Rattle.com_sections.specs.Codes.{CodeAt, code_more, spotted, checked_by, checked}
-use Rattle.com_sections.specs.Programs.{spot_at, stated, allowed, program_line}
-use Rattle.com_sections.specs.Opened.{program_of, has_body}
-use Rattle.com_sections.specs.Outlines.{taken_iids}
+use Rattle.com_read_operands.specs.declared.faults.Fault.{Fault}
+use Rattle.com_read_statements.specs.declared.calls.MethodNumber.{MethodNumber}
+use Rattle.com_read_statements.specs.declared.keywords.Program.{Program}
+use Rattle.com_read_statements.specs.declared.keywords.Program.TheVariants as programs
+use Rattle.com_read_statements.specs.declared.keywords.Keyword.{Keyword}
+use Rattle.com_read_statements.specs.declared.names.Names.{Names}
+use Rattle.com_read_statements.specs.Keywords.{has_cells, has_links, keyword_of, takes}
+use Rattle.com_read_statements.specs.Statements.{stmt_of}
+use Rattle.com_read_sections.specs.declared.state.State.{State}
+use Rattle.com_read_sections.specs.declared.state.Section.{Section}
+use Rattle.com_read_sections.specs.declared.state.Section.TheVariants as sections
+use Rattle.com_read_sections.specs.Codes.{CodeAt, code_more, spotted, checked_by, checked}
+use Rattle.com_read_sections.specs.Programs.{spot_at, stated, allowed, program_line}
+use Rattle.com_read_sections.specs.Opened.{program_of, has_body}
+use Rattle.com_read_sections.specs.Outlines.{taken_iids}
 use Rattle.com_model.specs.declared.scenario.Scenario.{Scenario}
 use Rattle.com_classes.specs.Activation.{is_agile}
 use Rattle.com_model.specs.Formed.{EachFrom, Distinct, FormedInterfaces, FormedBody, IsInterface, IsAllowed, same_interface, same_class, Context, in_script, in_class, IsClass, IsFilter, methods_of}
-use Rattle.com_forming.specs.Words.{IsWord}
-use Rattle.com_forming.specs.Holds.{Holds}
-use Rattle.com_forming.specs.Declared.{Declares, Fits}
-use Rattle.com_forming.proofs.Holds.{done, fails, bind, either}
-use Rattle.com_forming.proofs.Statements.{stmt_formed}
+use Rattle.com_scenario_laws.specs.Words.{IsWord}
+use Rattle.com_scenario_laws.specs.Holds.{Holds}
+use Rattle.com_scenario_laws.specs.Declared.{Declares, Fits}
+use Rattle.com_scenario_laws.proofs.Holds.{done, fails, bind, either}
+use Rattle.com_scenario_laws.proofs.Statements.{stmt_formed}
 use Rattle.com_scenario.proofs.Growing.{Grows, each_push, distinct_push, get_push, body_grows, class_stays, classes_stay}
 
 -- the scenario of what is closed

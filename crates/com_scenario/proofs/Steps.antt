@@ -15,36 +15,36 @@ use Rattle.com_classes.specs.BuiltIns.{built_in_interfaces}
 use Rattle.com_text.specs.declared.word.Sort.{Sort}
 use Rattle.com_text.specs.declared.word.Sort.TheVariants as sorts
 use Rattle.com_text.specs.Words.{WordAt}
-use Rattle.com_fields.specs.declared.faults.Fault.{Fault}
-use Rattle.com_fields.specs.Reading.{character_at, word_at, first_at, end_at, number_at}
-use Rattle.com_fields.specs.Naming.{position_of}
-use Rattle.com_statements.specs.declared.calls.MethodNumber.{MethodNumber}
-use Rattle.com_statements.specs.declared.keywords.Program.TheVariants as programs
-use Rattle.com_statements.specs.Calls.{method_at}
-use Rattle.com_sections.specs.declared.begin.SectionWord.{SectionWord}
-use Rattle.com_sections.specs.declared.begin.SectionWord.TheVariants as begins
-use Rattle.com_sections.specs.declared.rules.RuleWord.{RuleWord}
-use Rattle.com_sections.specs.declared.state.State.{State}
-use Rattle.com_sections.specs.declared.state.Section.{Section}
-use Rattle.com_sections.specs.declared.state.Section.TheVariants as sections
-use Rattle.com_sections.specs.Tables.{has_guid, guid_eq}
-use Rattle.com_sections.specs.Codes.{checked}
-use Rattle.com_sections.specs.Header.{version_of, ended, compared, version_by, version_at, earlier, lone, header_line}
-use Rattle.com_sections.specs.Declaring.{free_guid_at, free_name_at, interface_name_at, filter_name_at, model_at, native_at, natives_of, native_interface, listed_at, picks_on}
-use Rattle.com_sections.specs.Beginning.{section_word_of, pool_line, interface_line, class_line, native_line, filter_line, thread_line, picks_line, top_by, top_line}
-use Rattle.com_sections.specs.Rules.{rule_word_of, rule_of}
-use Rattle.com_sections.specs.Methods.{method_of, type_word_of}
-use Rattle.com_sections.specs.Programs.{program_line}
-use Rattle.com_sections.specs.Opened.{interface_closed, method_line, inner_interface, has_body, body_head, class_ended, inner_class, program_of, body_ended, inner_body, thread_ended, inner_thread, filter_ended, ruled, inner_filter, by_section, step}
-use Rattle.com_sections.specs.Outlines.{taken_iids, microsoft}
+use Rattle.com_read_operands.specs.declared.faults.Fault.{Fault}
+use Rattle.com_read_operands.specs.Reading.{character_at, word_at, first_at, end_at, number_at}
+use Rattle.com_read_operands.specs.Naming.{position_of}
+use Rattle.com_read_statements.specs.declared.calls.MethodNumber.{MethodNumber}
+use Rattle.com_read_statements.specs.declared.keywords.Program.TheVariants as programs
+use Rattle.com_read_statements.specs.Calls.{method_at}
+use Rattle.com_read_sections.specs.declared.begin.SectionWord.{SectionWord}
+use Rattle.com_read_sections.specs.declared.begin.SectionWord.TheVariants as begins
+use Rattle.com_read_sections.specs.declared.rules.RuleWord.{RuleWord}
+use Rattle.com_read_sections.specs.declared.state.State.{State}
+use Rattle.com_read_sections.specs.declared.state.Section.{Section}
+use Rattle.com_read_sections.specs.declared.state.Section.TheVariants as sections
+use Rattle.com_read_sections.specs.Tables.{has_guid, guid_eq}
+use Rattle.com_read_sections.specs.Codes.{checked}
+use Rattle.com_read_sections.specs.Header.{version_of, ended, compared, version_by, version_at, earlier, lone, header_line}
+use Rattle.com_read_sections.specs.Declaring.{free_guid_at, free_name_at, interface_name_at, filter_name_at, model_at, native_at, natives_of, native_interface, listed_at, picks_on}
+use Rattle.com_read_sections.specs.Beginning.{section_word_of, pool_line, interface_line, class_line, native_line, filter_line, thread_line, picks_line, top_by, top_line}
+use Rattle.com_read_sections.specs.Rules.{rule_word_of, rule_of}
+use Rattle.com_read_sections.specs.Methods.{method_of, type_word_of}
+use Rattle.com_read_sections.specs.Programs.{program_line}
+use Rattle.com_read_sections.specs.Opened.{interface_closed, method_line, inner_interface, has_body, body_head, class_ended, inner_class, program_of, body_ended, inner_body, thread_ended, inner_thread, filter_ended, ruled, inner_filter, by_section, step}
+use Rattle.com_read_sections.specs.Outlines.{taken_iids, microsoft}
 use Rattle.com_model.specs.declared.scenario.Scenario.{Scenario}
 use Rattle.com_model.specs.Formed.{Distinct, IsName, IsMethod, same_interface, same_method, same_class, same_body, IsNative, IsBody, IsClass, IsRule, in_class, in_script}
-use Rattle.com_forming.specs.Words.{IsWord}
-use Rattle.com_forming.specs.Holds.{Holds}
-use Rattle.com_forming.specs.Declared.{Fits}
-use Rattle.com_forming.proofs.Holds.{done, fails, anything, bind, either}
-use Rattle.com_forming.proofs.Fields.{number_formed}
-use Rattle.com_forming.proofs.Calls.{head_formed}
+use Rattle.com_scenario_laws.specs.Words.{IsWord}
+use Rattle.com_scenario_laws.specs.Holds.{Holds}
+use Rattle.com_scenario_laws.specs.Declared.{Fits}
+use Rattle.com_scenario_laws.proofs.Holds.{done, fails, anything, bind, either}
+use Rattle.com_scenario_laws.proofs.Fields.{number_formed}
+use Rattle.com_scenario_laws.proofs.Calls.{head_formed}
 use Rattle.com_scenario.proofs.Alike.{unlisted, not_first, unnamed, unmet, untyped, unreserved}
 use Rattle.com_scenario.proofs.Growing.{distinct_push}
 use Rattle.com_scenario.proofs.Declaring.{free_guid_new, IsNew, free_name_new, interface_name_new, method_new, IsNativeOf, native_new, list_new, picks_new, rule_new}

@@ -6,10 +6,10 @@ use Rattle.com_classes.specs.declared.interfaces.Interface.{Interface}
 use Rattle.com_classes.specs.declared.classes.Class.{Class}
 use Rattle.com_model.specs.declared.scenario.Scenario.{Scenario}
 use Rattle.com_text.specs.Scanning.{lines_of}
-use Rattle.com_fields.specs.declared.faults.Fault.{Fault}
-use Rattle.com_fields.specs.Reading.{◌>>=◌}
-use Rattle.com_sections.specs.declared.outline.Outline.{Outline}
-use Rattle.com_sections.specs.Outlines.{begun, read}
+use Rattle.com_read_operands.specs.declared.faults.Fault.{Fault}
+use Rattle.com_read_operands.specs.Reading.{◌>>=◌}
+use Rattle.com_read_sections.specs.declared.outline.Outline.{Outline}
+use Rattle.com_read_sections.specs.Outlines.{begun, read}
 
 -- the tables of interfaces and classes: the built-in interfaces come first in both lists
 abbrev pub tables_of : List Interface → List Class → Tables

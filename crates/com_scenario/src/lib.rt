@@ -8,7 +8,7 @@ mod reading;
 mod sizes;
 
 pub use com_base::Memory;
-pub use com_fields::ScenarioError;
+pub use com_read_operands::ScenarioError;
 pub use laws::scenarios_are_formed;
 pub use printing::{print, printed_is_read};
 pub use reading::parse;

@@ -3,13 +3,13 @@
 ghost use Rattle.std.specs.Prelude.{◌≡◌, Ok, IfOk};
 ghost use Rattle.com_model.specs.declared.scenario.Scenario.{Scenario as ScenarioValue};
 ghost use Rattle.com_model.specs.Formed.{Formed};
-ghost use Rattle.com_printing.specs.Printed.{printed};
-ghost use Rattle.com_printing.specs.Ranges.{FitsTypes};
+ghost use Rattle.com_print_scenario.specs.Printed.{printed};
+ghost use Rattle.com_print_scenario.specs.Ranges.{FitsTypes};
 ghost use Rattle.com_scenario.specs.Scenarios.{reading};
 
 use com_base::{ByteList, Memory};
 use com_model::Scenario;
-use com_printing::scenario_text;
+use com_print_scenario::scenario_text;
 use std::alloc::Global;
 
 /// The text of a formed scenario, which reading gives back as the same scenario. The only error is

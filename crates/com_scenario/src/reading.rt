@@ -1,16 +1,16 @@
 //! A scenario from its text.
 
 ghost use Rattle.std.specs.Prelude.{◌≡◌, ◌++◌, ◌∷◌, [], drop, Ok, OnOk, IfOk};
-ghost use Rattle.com_fields.specs.Reading.{Gives};
+ghost use Rattle.com_read_operands.specs.Reading.{Gives};
 ghost use Rattle.com_model.specs.Formed.{Formed};
 ghost use Rattle.com_scenario.specs.Scenarios.{tables_of, scenario_of, reading};
 
 use crate::built_in::built_in;
 use com_base::{Memory, Rows};
 use com_classes::{Class, Classes, Interface};
-use com_fields::ScenarioError;
 use com_model::Scenario;
-use com_sections::{Outline, outline_of};
+use com_read_operands::ScenarioError;
+use com_read_sections::{Outline, outline_of};
 use std::alloc::{AllocError, Global};
 
 /// How many interfaces are built in.

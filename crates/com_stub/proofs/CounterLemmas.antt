@@ -4,7 +4,7 @@ use Rattle.std.proofs.lemmas.Bool.{cases_eq, cases_lt}
 use Rattle.std.proofs.lemmas.List.{length-map, length-set, length-append, map-append, get_or-set_same, get_or-set_other, get_or_append_left, get_or_at, get_or_read}
 use Rattle.std.proofs.lemmas.Grind.{common_steps}
 use Rattle.std.specs.Prelude.{slice_set, slice_index_or, slice_index}
-use Rattle.com_chains.specs.Places.{Places}
+use Rattle.com_keyed.specs.Places.{Places}
 use Rattle.com_stub.specs.declared.counters.CounterRow.{CounterRow}
 use Rattle.com_stub.specs.CounterRows.{is_for, no_counter, has_counter, counter_of, row_at, place_of, changed_counter, objects_of, sum_of}
 use Rattle.com_stub.specs.Tables.{IsCounterTable}

@@ -4,7 +4,7 @@ use Rattle.std.proofs.lemmas.Bool.{cases_eq, cases_lt}
 use Rattle.std.proofs.lemmas.List.{length-map, length-append, map-append, ext_get_or, get_or_append_left, get_or_at, get_or-set_same, get_or-set_other, length-set}
 use Rattle.std.proofs.lemmas.Grind.{common_steps}
 use Rattle.std.specs.Prelude.{slice_set, slice_index_or, slice_index, Option, None, Some}
-use Rattle.com_chains.specs.Places.{Places, IsLatest, reach}
+use Rattle.com_keyed.specs.Places.{Places, IsLatest, reach}
 use Rattle.com_stub.specs.declared.StubRow.{StubRow}
 use Rattle.com_stub.specs.StubRows.{no_stub, has_stub, stub_of, is_connected, stub_place, ended_row, ended_rows, stub_objects, stub_at, EachStubFirst}
 use Rattle.com_stub.specs.Tables.{IsStubTable}

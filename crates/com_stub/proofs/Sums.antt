@@ -5,7 +5,7 @@ use Rattle.std.proofs.lemmas.Bool.{cases_lt, cases_eq}
 use Rattle.std.proofs.lemmas.Grind.{common_steps}
 use Rattle.std.proofs.lemmas.List.{drop_all, length-map, get_or_read}
 use Rattle.std.proofs.lemmas.List.Sums.{sum_by-append, sum_by-set, sum_by-drop_more, sum_by-take-drop}
-use Rattle.com_chains.specs.Places.{Places, IsLatest, reach}
+use Rattle.com_keyed.specs.Places.{Places, IsLatest, reach}
 use Rattle.com_stub.specs.declared.counters.CounterRow.{CounterRow}
 use Rattle.com_stub.specs.CounterRows.{no_counter, row_at, counter_of, place_of, count_for, sum_of, objects_of, more, less}
 use Rattle.com_stub.specs.Tables.{IsCounterTable}

@@ -1,6 +1,6 @@
 -- What a contract sees of the counters and of a `Stubs`.
 use Rattle.std.specs.Prelude.{ℕ, ◌≡◌, ◌<◌, ◌^◌, List, if◌then◌else◌}
-use Rattle.com_chains.specs.Places.{Places}
+use Rattle.com_keyed.specs.Places.{Places}
 use Rattle.com_stub.specs.declared.counters.CounterRow.{CounterRow}
 use Rattle.com_stub.specs.declared.StubRow.{StubRow}
 use Rattle.com_stub.specs.CounterRows.{EachFirst, objects_of, sum_of, counter_of}

@@ -3,7 +3,7 @@
 ghost use Rattle.std.specs.Prelude.{◌≡◌, ◌+◌, ◌<◌, ◌≤◌, ◌^◌, ◌↔◌, true, [], length, OnOk, IsOk, IsTrue};
 ghost use Rattle.com_stub.specs.CounterRows.{has_counter, counter_of, place_of, changed_counter, more, less, opened, opened_all, sum_of, objects_of, EachFirst};
 
-use com_chains::Chains;
+use com_keyed::Chains;
 use std::alloc::{AllocError, Global};
 use std::marker::Model;
 

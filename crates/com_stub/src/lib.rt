@@ -10,7 +10,7 @@ ghost use Rattle.com_stub.specs.CounterRows.{has_counter, changed_counter, more,
 ghost use Rattle.com_stub.specs.StubRows.{has_stub, is_connected, ended_rows, stub_objects, EachStubFirst};
 ghost use Rattle.com_stub.specs.Tables.{count_of, total_of};
 
-use com_chains::Chains;
+use com_keyed::Chains;
 pub use counters::CounterRow;
 use counters::Counters;
 use std::alloc::Global;

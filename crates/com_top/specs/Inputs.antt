@@ -1,6 +1,6 @@
 -- What an input of `replay` is, and what is answered for it.
 use Rattle.std.specs.Prelude.{List, ◌++◌, ℕ, Option, Some, None, Result, Ok, Err, if◌then◌else◌, codes, decimal}
-use Rattle.com_fields.specs.declared.faults.Fault.{Fault}
+use Rattle.com_read_operands.specs.declared.faults.Fault.{Fault}
 use Rattle.com_model.specs.declared.scenario.Scenario.{Scenario}
 use Rattle.com_replay.specs.declared.plan.Plan.{Plan}
 use Rattle.com_replay.specs.Plans.{plan_of}

@@ -3,7 +3,7 @@ ghost use Rattle.std.specs.Prelude.{◌≡◌, ◌++◌, IfOk, OnOk, decimal};
 ghost use Rattle.com_top.specs.Inputs.{input_of, refused_line};
 
 use com_base::{ByteList, Memory};
-use com_fields::{Fault, ScenarioError};
+use com_read_operands::{Fault, ScenarioError};
 use com_replay::{Plan, plan_of};
 use com_scenario::{is_too_long, parse};
 use itoa::Buffer;

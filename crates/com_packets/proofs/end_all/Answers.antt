@@ -1,4 +1,4 @@
-use Rattle.com_chains.proofs.Walking.{walk_ends}
+use Rattle.com_keyed.proofs.Walking.{walk_ends}
 use Rattle.com_packets.proofs.Ending.{cut_is}
 use Rattle.com_packets.proofs.end_all.Goals as goal
 

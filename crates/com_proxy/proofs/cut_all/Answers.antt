@@ -1,4 +1,4 @@
-use Rattle.com_chains.proofs.Walking.{walk_ends}
+use Rattle.com_keyed.proofs.Walking.{walk_ends}
 use Rattle.com_proxy.proofs.Rows.{cut_is}
 use Rattle.com_proxy.proofs.cut_all.Goals as goal
 

@@ -1,4 +1,4 @@
-use Rattle.com_chains.proofs.Walking.{walk_ends}
+use Rattle.com_keyed.proofs.Walking.{walk_ends}
 use Rattle.com_proxy.proofs.Rows.{place_past}
 use Rattle.com_proxy.specs.Rows.{proxy_key_of}
 use Rattle.com_proxy.proofs.find.Goals as goal

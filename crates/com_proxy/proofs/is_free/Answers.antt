@@ -1,5 +1,5 @@
 use Rattle.std.proofs.Common.{refl}
-use Rattle.com_chains.proofs.Walking.{walk_ends, walk_inside}
+use Rattle.com_keyed.proofs.Walking.{walk_ends, walk_inside}
 use Rattle.com_proxy.specs.Rows.{proxy_key_of}
 use Rattle.com_proxy.proofs.Rows.{walk_free, not_free}
 use Rattle.com_proxy.proofs.is_free.Goals as goal

@@ -1,6 +1,6 @@
 use Rattle.std.proofs.Common.{◌≡◌}
-use Rattle.com_chains.specs.Places.{reach}
-use Rattle.com_chains.proofs.Walking.{Walks}
+use Rattle.com_keyed.specs.Places.{reach}
+use Rattle.com_keyed.proofs.Walking.{Walks}
 use Rattle.com_proxy.specs.Rows.{row_at, proxy_key_of}
 use Rattle.com_proxy.proofs.is_free.Given as goal
 

@@ -1,6 +1,6 @@
 use Rattle.std.proofs.Common.{◌≡◌, arith, true}
 use Rattle.std.specs.Prelude.{Some}
-use Rattle.com_chains.proofs.Walking.{walk_goes_on, walk_weaker, walk_inside}
+use Rattle.com_keyed.proofs.Walking.{walk_goes_on, walk_weaker, walk_inside}
 use Rattle.com_proxy.specs.Rows.{proxy_key_of, key_of}
 use Rattle.com_proxy.proofs.Rows.{row_inside}
 use Rattle.com_proxy.proofs.Candidates.{Bounds, bounds_lower, bounds_here}

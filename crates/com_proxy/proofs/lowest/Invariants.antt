@@ -1,6 +1,6 @@
 use Rattle.std.specs.Prelude.{IfSome}
-use Rattle.com_chains.specs.Places.{reach}
-use Rattle.com_chains.proofs.Walking.{Walks}
+use Rattle.com_keyed.specs.Places.{reach}
+use Rattle.com_keyed.proofs.Walking.{Walks}
 use Rattle.com_proxy.proofs.Candidates.{IsCandidate, Bounds}
 use Rattle.com_proxy.specs.Rows.{proxy_key_of}
 use Rattle.com_proxy.proofs.lowest.Given as goal

@@ -1,4 +1,4 @@
-use Rattle.com_chains.proofs.Walking.{walk_ends}
+use Rattle.com_keyed.proofs.Walking.{walk_ends}
 use Rattle.com_stub.proofs.CounterLemmas.{place_past}
 use Rattle.com_stub.proofs.counters.find.Goals as goal
 

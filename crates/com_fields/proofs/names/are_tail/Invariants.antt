@@ -1,6 +1,0 @@
-use Rattle.std.proofs.Common.{◌≡◌, drop}
-use Rattle.com_fields.specs.Naming.{are_tail}
-use Rattle.com_fields.proofs.names.are_tail.Given as goal
-
-abbrev pub invariant-loop-byte : goal.invariant-loop-byte
-invariant-loop-byte l = are_tail (drop l.byte-index l.bytes) ≡ are_tail l.bytes

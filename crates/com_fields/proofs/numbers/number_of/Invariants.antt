@@ -1,6 +1,0 @@
-use Rattle.std.proofs.Common.{◌≡◌, drop}
-use Rattle.com_fields.specs.Numbers.{digits_on}
-use Rattle.com_fields.proofs.numbers.number_of.Given as goal
-
-abbrev pub invariant-loop-byte : goal.invariant-loop-byte
-invariant-loop-byte l = digits_on l.number (drop l.byte-index l.bytes) ≡ digits_on 0 l.bytes

@@ -1,0 +1,232 @@
+//! Places in order, each under a key, and the places of one key from the latest to the earliest.
+//!
+//! A table of rows keeps a `Chains` beside it, with the rows' keys: then the rows of one key are found
+//! without a walk over the others.
+#![tactic(auto)]
+
+ghost use Rattle.std.specs.Prelude.{◌≡◌, ◌+◌, ◌-◌, ◌%◌, ◌<◌, ◌≤◌, ◌≢◌, ℕ, [], ◌∷◌, ◌++◌, length, slice_index, slice_set, OnOk, OnErr, IsOk, IsTrue, ◌↔◌};
+ghost use Rattle.com_keyed.specs.Places.{IsLatest, reach};
+ghost use Rattle.com_keyed.specs.Linked.{IsLinked, LeadsOn};
+
+use std::alloc::Global;
+use std::marker::Model;
+
+/// Want of memory.
+pub use std::alloc::AllocError as Memory;
+
+/// Places 0, 1, 2 and on, each under a key that it keeps, seen as the list of their keys and the number
+/// of places that are sure to find memory.
+///
+/// The places are linked by index in buckets of their keys, of which there is one for each place that
+/// the table has room for.
+#[derive(Debug, Drop)]
+pub struct Chains {
+    keys: Vec<u32>,
+    links: Vec<usize>,
+    heads: Vec<usize>,
+}
+
+impl Model for Chains {
+    ghost use Rattle.std.specs.Prelude.{◌-◌, length, vec_capacity};
+    ghost use Rattle.com_keyed.specs.Places.{Places};
+    ghost use Rattle.com_keyed.specs.Linked.{IsTable};
+
+    ghost Value = { Places };
+
+    ghost view = { λ c. record {
+      keys = c.keys.items;
+      spare = length c.heads.items - length c.keys.items;
+    } };
+
+    ghost invariant = { λ c. IsTable c.keys.items c.links.items c.heads.items (vec_capacity c.keys) (vec_capacity c.links) };
+}
+
+// Links one place, which is the next after those that are linked.
+fn link(keys: &[u32], links: &mut [usize], heads: &mut [usize], place: usize)
+    requires known { place < length keys.now }
+    requires room { place < length links.old }
+    requires buckets { 0 < length heads.old }
+    requires linked { IsLinked keys.now links.old heads.old (length heads.old) place }
+    ensures linked { IsLinked keys.now links.new heads.new (length heads.new) (place + 1) }
+{
+    let bucket = keys[place] as usize % heads.len();
+    links[place] = heads[bucket];
+    heads[bucket] = place + 1;
+}
+
+// Links all places afresh.
+fn link_all(keys: &[u32], links: &mut [usize], heads: &mut [usize])
+    requires room { length keys.now ≤ length links.old }
+    requires buckets { 0 < length heads.old }
+    requires empty { (bucket : ℕ) → slice_index heads.old bucket ≡ 0 }
+    ensures linked { IsLinked keys.now links.new heads.new (length heads.new) (length keys.now) }
+{
+    for place in 0..keys.len() {
+        link(keys, links, heads, place);
+    }
+}
+
+// The link that leads to the latest place below `end` in the bucket of the key, where `end` is a place of
+// that key, or the end of the table.
+fn first_link(keys: &[u32], links: &[usize], heads: &[usize], key: u32, end: usize) -> usize
+    requires linked { IsLinked keys.now links.now heads.now (length heads.now) (length keys.now) }
+    requires as_many { length links.now ≡ length keys.now }
+    requires buckets { length keys.now ≤ length heads.now }
+    requires end { end ≤ length keys.now }
+    requires keyed { end < length keys.now → slice_index keys.now end ≡ key }
+    ensures { LeadsOn keys.now (length heads.now) key end result }
+{
+    if end < keys.len() {
+        return links[end];
+    }
+    if heads.is_empty() {
+        return 0;
+    }
+    heads[key as usize % heads.len()]
+}
+
+// One more than the latest place below `end` that has the key, or 0, where `end` is a place of that key,
+// or the end of the table.
+fn latest(keys: &[u32], links: &[usize], heads: &[usize], key: u32, end: usize) -> usize
+    requires linked { IsLinked keys.now links.now heads.now (length heads.now) (length keys.now) }
+    requires as_many { length links.now ≡ length keys.now }
+    requires buckets { length keys.now ≤ length heads.now }
+    requires end { end ≤ length keys.now }
+    requires keyed { end < length keys.now → slice_index keys.now end ≡ key }
+    ensures within { result ≤ end }
+    ensures keyed { 0 < result → slice_index keys.now (result - 1) ≡ key }
+    ensures covers { (place : ℕ) → place < end → slice_index keys.now place ≡ key → place < result }
+{
+    let mut link = first_link(keys, links, heads, key, end);
+    while link > 0 {
+        let place = link - 1;
+        if keys[place] == key {
+            return link;
+        }
+        link = links[place];
+    }
+    0
+}
+
+// The place that a link leads to.
+fn place_of(link: usize) -> Option<usize>
+    ensures { reach result ≡ link }
+{
+    link.checked_sub(1)
+}
+
+impl Chains {
+    /// No places. It takes no memory.
+    pub fn new(alloc: Global) -> Self
+        ensures { result.keys ≡ [] }
+    {
+        Chains {
+            keys: Vec::new(alloc),
+            links: Vec::new(alloc),
+            heads: Vec::new(alloc),
+        }
+    }
+
+    /// How many places were given.
+    pub fn len(&self) -> usize
+        ensures { result ≡ length self.now.keys }
+    {
+        self.keys.len()
+    }
+
+    /// True exactly where no place was given.
+    pub fn is_empty(&self) -> bool
+        ensures { IsTrue result ↔ (self.now.keys ≡ []) }
+    {
+        self.keys.is_empty()
+    }
+
+    /// The latest place of a key. `None` exactly where no place has it.
+    pub fn last(&self, key: u32) -> Option<usize>
+        ensures { IsLatest self.now.keys key (length self.now.keys) result }
+    {
+        place_of(latest(&self.keys, &self.links, &self.heads, key, self.keys.len()))
+    }
+
+    /// The latest place before this one that has the same key. `None` exactly where there is none.
+    pub fn earlier(&self, place: usize) -> Option<usize>
+        requires { place < length self.now.keys }
+        ensures { IsLatest self.now.keys (slice_index self.now.keys place) place result }
+    {
+        let keys = self.keys.as_slice();
+        place_of(latest(keys, &self.links, &self.heads, keys[place], place))
+    }
+
+    /// Makes room for `n` more places.
+    pub fn reserve(&mut self, n: u32) -> Result<(), Memory>
+        ensures room { OnOk result (n ≤ self.new.spare) }
+        ensures keys { self.new.keys ≡ self.old.keys }
+        ensures spare { self.old.spare ≤ self.new.spare }
+        ensures err { OnErr result (self.new ≡ self.old) }
+        ensures succeeds { n ≤ self.old.spare → IsOk result }
+    {
+        let more = n as usize;
+        if more <= self.heads.len() - self.keys.len() {
+            return Ok(());
+        }
+        let buckets = self
+            .keys
+            .len()
+            .saturating_add(more)
+            .max(self.heads.len().saturating_mul(2));
+        self.grow(buckets)
+    }
+
+    // Makes a table of more buckets, and room for as many places.
+    fn grow(&mut self, buckets: usize) -> Result<(), Memory>
+        requires more { length self.old.keys + self.old.spare < buckets }
+        ensures ok { OnOk result (length self.old.keys + self.new.spare ≡ buckets) }
+        ensures keys { self.new.keys ≡ self.old.keys }
+        ensures err { OnErr result (self.new ≡ self.old) }
+    {
+        let more = buckets - self.keys.len();
+        self.keys.reserve(more)?;
+        self.links.reserve(more)?;
+        let mut heads = vec![in *self.keys.allocator(); 0usize; buckets]?;
+        link_all(&self.keys, &mut self.links, &mut heads);
+        self.heads = heads;
+        Ok(())
+    }
+
+    /// Gives the next place, which is the number of places so far, and puts it under the key.
+    pub fn append(&mut self, key: u32)
+        requires { 0 < self.old.spare }
+        ensures keys { self.new.keys ≡ self.old.keys ++ key ∷ [] }
+        ensures spare { self.new.spare + 1 ≡ self.old.spare }
+    {
+        let place = self.keys.len();
+        self.keys.push_reserved(key);
+        self.links.push_reserved(0);
+        link(&self.keys, &mut self.links, &mut self.heads, place);
+    }
+}
+
+#[cfg(test)]
+mod tests {
+    use super::*;
+    use std::test::Fail;
+
+    #[test]
+    fn the_places_of_a_key_come_from_the_latest_to_the_earliest(
+        rt: HostRuntime,
+    ) -> Result<(), Fail> {
+        let mut chains = Chains::new(rt.alloc());
+        assert!(rt; chains.is_empty());
+        for key in [5, 6, 5, 7, 6, 5] {
+            chains.reserve(1)?;
+            chains.append(key);
+        }
+        assert_eq!(rt; chains.len(), 6);
+        assert_eq!(rt; chains.last(5), Some(5));
+        assert_eq!(rt; chains.earlier(5), Some(2));
+        assert_eq!(rt; chains.earlier(2), Some(0));
+        assert_eq!(rt; chains.earlier(0), None);
+        assert_eq!(rt; chains.last(8), None);
+        Ok(())
+    }
+}

@@ -1,0 +1,105 @@
+-- Reading a line, word by word from the left, with the first fault that is met.
+use Rattle.std.specs.Prelude.{◌≡◌, ℕ, ◌-◌, List, Option, Some, None, Result, Ok, Err, Bool, true, false, ◌&&◌, nat_le, if◌then◌else◌, slice_get}
+use Rattle.com_text.specs.declared.word.Sort.{Sort}
+use Rattle.com_text.specs.declared.word.Sort.TheVariants as sorts
+use Rattle.com_text.specs.Words.{WordAt}
+use Rattle.com_read_operands.specs.declared.faults.Fault.{Fault}
+use Rattle.com_read_operands.specs.declared.faults.ScenarioError.{ScenarioError}
+use Rattle.com_read_operands.specs.declared.faults.ScenarioError.TheVariants as errors
+use Rattle.com_read_operands.specs.Numbers.{number_of}
+
+-- one step after another: the first fault ends the reading
+infixl 10 ◌>>=◌
+abbrev pub ◌>>=◌ : {A B : Type 0} → Result A Fault → (A → Result B Fault) → Result B Fault
+(Ok x) >>= f = f x
+(Err e) >>= f = Err e
+
+abbrev pub error_of : Fault → ScenarioError
+error_of f = errors.Fault f.number f.line f.column
+
+-- What a function returned, seen by view, is what reading gives, unless memory ran out.
+abbrev pub Fails : {Y : Type 0} → ScenarioError → Result Y Fault → Type 0
+Fails errors.Memory read = Unit {0}
+Fails (errors.Fault n l c) read = read ≡ Err (record { number = n; line = l; column = c })
+
+abbrev pub Gives : {X Y : Type 0} → (X → Y) → Result X ScenarioError → Result Y Fault → Type 0
+Gives view (Ok x) read = read ≡ Ok (view x)
+Gives view (Err e) read = Fails e read
+
+-- a fault at a word
+abbrev pub fault_at : ℕ → WordAt → Fault
+fault_at n w = record { number = n; line = w.line; column = w.column }
+
+-- a byte outside the characters
+abbrev pub character_at : WordAt → ℕ → Fault
+character_at w c = record { number = 2; line = w.line; column = c }
+
+-- the line ends where a word is needed: behind the word before
+abbrev pub missing_at : Option WordAt → Fault
+missing_at None = record { number = 4; line = 1; column = 1 }
+missing_at (Some w) = record { number = 4; line = w.line; column = w.after }
+
+-- a word as such: one with a byte outside the characters, or a literal that is not closed, is not judged otherwise
+abbrev pub judged : List WordAt → ℕ → WordAt → Sort → Result WordAt Fault
+judged line k w (sorts.Stray c) = Err (character_at w c)
+judged line k w (sorts.Remark c) = Err (missing_at (slice_get line (k - 1)))
+judged line k w sorts.Unclosed = Err (fault_at 3 w)
+judged line k w _ = Ok w
+
+abbrev pub needed : List WordAt → ℕ → Option WordAt → Result WordAt Fault
+needed line k None = Err (missing_at (slice_get line (k - 1)))
+needed line k (Some w) = judged line k w w.sort
+
+-- the word at a place of the line
+unfoldable pub word_at : List WordAt → ℕ → Result WordAt Fault
+word_at line k = needed line k (slice_get line k)
+
+abbrev pub is_word : WordAt → Sort → Result Bool Fault
+is_word w (sorts.Remark c) = Err (character_at w c)
+is_word w _ = Ok true
+
+abbrev pub is_there : Option WordAt → Result Bool Fault
+is_there None = Ok false
+is_there (Some w) = is_word w w.sort
+
+-- whether a word stands at a place where the line may end
+unfoldable pub stands_at : List WordAt → ℕ → Result Bool Fault
+stands_at line k = is_there (slice_get line k)
+
+abbrev pub left_over : WordAt → Sort → Result (Unit {0}) Fault
+left_over w (sorts.Stray c) = Err (character_at w c)
+left_over w (sorts.Remark c) = Err (character_at w c)
+left_over w sorts.Unclosed = Err (fault_at 3 w)
+left_over w _ = Err (fault_at 5 w)
+
+abbrev pub nothing : Option WordAt → Result (Unit {0}) Fault
+nothing None = Ok tt
+nothing (Some w) = left_over w w.sort
+
+-- no word stands from this place on
+unfoldable pub end_at : List WordAt → ℕ → Result (Unit {0}) Fault
+end_at line k = nothing (slice_get line k)
+
+abbrev pub opening : WordAt → Sort → Result WordAt Fault
+opening w (sorts.Stray c) = Err (character_at w c)
+opening w (sorts.Remark c) = Err (character_at w c)
+opening w sorts.Unclosed = Err (fault_at 3 w)
+opening w _ = Ok w
+
+abbrev pub opened : List WordAt → Option WordAt → Result WordAt Fault
+opened line None = Err (missing_at (slice_get line 0))
+opened line (Some w) = opening w w.sort
+
+-- the first word of a line
+unfoldable pub first_at : List WordAt → Result WordAt Fault
+first_at line = opened line (slice_get line 0)
+
+abbrev pub within : ℕ → ℕ → WordAt → Option ℕ → Result ℕ Fault
+within low high w None = Err (fault_at 6 w)
+within low high w (Some n) = if nat_le low n && nat_le n high then Ok n else Err (fault_at 6 w)
+
+-- a place for a number: every other word is fault 6
+unfoldable pub number_at : ℕ → ℕ → List WordAt → ℕ → Result ℕ Fault
+number_at low high line k = do
+  w ← word_at line k
+  within low high w (number_of w.bytes)

@@ -1,0 +1,124 @@
+//! The words of a line by their places.
+
+ghost use Rattle.std.specs.Prelude.{◌≡◌, ◌-◌, ◌≤◌, slice_get, IfOk};
+ghost use Rattle.com_read_operands.specs.Reading.{Gives, error_of, fault_at, missing_at, word_at, end_at, first_at, number_at, stands_at};
+
+use crate::faults::{Fault, ScenarioError};
+use crate::numbers::number_of;
+use com_text::{Sort, Word};
+
+/// A fault at a word.
+pub fn fault(number: u8, word: &Word) -> ScenarioError
+    ensures { result ≡ error_of (fault_at number word.now) }
+{
+    ScenarioError::Fault {
+        number,
+        line: word.line,
+        column: word.column,
+    }
+}
+
+/// A byte outside the characters.
+fn character(word: &Word, column: u32) -> ScenarioError
+    ensures { result ≡ error_of (record { number = 2; line = word.now.line; column = column }) }
+{
+    ScenarioError::Fault {
+        number: 2,
+        line: word.line,
+        column,
+    }
+}
+
+/// The line ends where a word is needed: behind the word before.
+fn missing(line: &[Word], place: usize) -> ScenarioError
+    ensures { result ≡ error_of (missing_at (slice_get line.now (place - 1))) }
+{
+    match line.get(place.saturating_sub(1)) {
+        None => ScenarioError::Fault {
+            number: 4,
+            line: 1,
+            column: 1,
+        },
+        Some(word) => ScenarioError::Fault {
+            number: 4,
+            line: word.line,
+            column: word.after,
+        },
+    }
+}
+
+/// The word at a place of the line. A word with a byte outside the characters is fault 2 at that
+/// byte, and a literal that is not closed is fault 3; neither is judged otherwise. Where the line
+/// ends, fault 4 stands behind its last word.
+#[tactic(auto, unfolding(crate::specs::Reading::word_at))]
+pub fn word<'l, 'a>(line: &'l [Word<'a>], place: usize) -> Result<&'l Word<'a>, ScenarioError>
+    ensures { Gives (λ w. w.now) result (word_at line.now place) }
+{
+    match line.get(place) {
+        None => Err(missing(line, place)),
+        Some(word) => match word.sort {
+            Sort::Stray(column) => Err(character(word, column)),
+            Sort::Remark(_) => Err(missing(line, place)),
+            Sort::Unclosed => Err(fault(3, word)),
+            _ => Ok(word),
+        },
+    }
+}
+
+/// Whether a word stands at a place. A comment is none.
+#[tactic(auto, unfolding(crate::specs::Reading::stands_at))]
+pub fn stands(line: &[Word], place: usize) -> Result<bool, ScenarioError>
+    ensures { Gives (λ b. b) result (stands_at line.now place) }
+{
+    match line.get(place) {
+        None => Ok(false),
+        Some(word) => match word.sort {
+            Sort::Remark(column) => Err(character(word, column)),
+            _ => Ok(true),
+        },
+    }
+}
+
+/// No word stands from this place on: one that does is fault 5.
+#[tactic(auto, unfolding(crate::specs::Reading::end_at))]
+pub fn end(line: &[Word], place: usize) -> Result<(), ScenarioError>
+    ensures { Gives (λ u. u) result (end_at line.now place) }
+{
+    match line.get(place) {
+        None => Ok(()),
+        Some(word) => match word.sort {
+            Sort::Stray(column) | Sort::Remark(column) => Err(character(word, column)),
+            Sort::Unclosed => Err(fault(3, word)),
+            _ => Err(fault(5, word)),
+        },
+    }
+}
+
+/// The first word of a line that has one.
+#[tactic(auto, unfolding(crate::specs::Reading::first_at))]
+pub fn first<'l, 'a>(line: &'l [Word<'a>]) -> Result<&'l Word<'a>, ScenarioError>
+    ensures { Gives (λ w. w.now) result (first_at line.now) }
+{
+    match line.get(0) {
+        None => Err(missing(line, 0)),
+        Some(word) => match word.sort {
+            Sort::Stray(column) | Sort::Remark(column) => Err(character(word, column)),
+            Sort::Unclosed => Err(fault(3, word)),
+            _ => Ok(word),
+        },
+    }
+}
+
+/// A number in a range. Every other word is fault 6.
+#[tactic(auto, unfolding(crate::specs::Reading::number_at))]
+pub fn number(line: &[Word], place: usize, low: u64, high: u64) -> Result<u64, ScenarioError>
+    ensures value { Gives (λ n. n) result (number_at low high line.now place) }
+    ensures within { IfOk result (λ n. n ≤ high) }
+    ensures above { IfOk result (λ n. low ≤ n) }
+{
+    let word = word(line, place)?;
+    match number_of(word.bytes) {
+        Some(number) if low <= number && number <= high => Ok(number),
+        _ => Err(fault(6, word)),
+    }
+}

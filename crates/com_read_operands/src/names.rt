@@ -1,0 +1,116 @@
+//! Declared names.
+
+ghost use Rattle.std.specs.Prelude.{◌≡◌, ◌<◌, ◌^◌, Ok, IfOk, IfSome, length};
+ghost use Rattle.com_read_operands.specs.Reading.{Gives};
+ghost use Rattle.com_read_operands.specs.Naming.{is_tail, are_tail, is_name, position_of, number_of_name, name_at, declared_at, asked_at};
+
+use crate::faults::ScenarioError;
+use crate::fields::{fault, word};
+use crate::literals::guid_of;
+use com_base::ByteList;
+use com_body::Asked;
+use com_text::Word;
+
+/// A letter, digit or `_`.
+fn is_tail(byte: u8) -> bool
+    ensures { result ≡ is_tail byte }
+{
+    byte.is_ascii_alphanumeric() || byte == b'_'
+}
+
+fn are_tail(bytes: &[u8]) -> bool
+    ensures { result ≡ are_tail bytes.now }
+{
+    for byte in bytes {
+        if !is_tail(*byte) {
+            return false;
+        }
+    }
+    true
+}
+
+/// Whether bytes are a letter and up to 31 letters, digits or `_`.
+pub fn is_name(bytes: &[u8]) -> bool
+    ensures { result ≡ is_name bytes.now }
+{
+    match bytes {
+        [] => false,
+        [first, rest @ ..] => { first.is_ascii_alphabetic() && rest.len() <= 31 && are_tail(rest) }
+    }
+}
+
+/// The place of a name among those that were declared. A table of names has at most 64, so the
+/// search has a bound.
+pub fn position_of(names: &[ByteList], name: &[u8]) -> Option<usize>
+    ensures value { result ≡ position_of names.now name.now }
+    ensures within { IfSome result (λ n. n < length names.now) }
+{
+    for (i, declared) in names.iter().enumerate() {
+        if declared.as_slice() == name {
+            return Some(i);
+        }
+    }
+    None
+}
+
+/// The number of a declared name: its place, where that is a number of 16 bits.
+#[tactic(auto, unfolding(crate::specs::Naming::number_of_name))]
+pub fn number_of_name(names: &[ByteList], name: &[u8]) -> Option<u16>
+    ensures value { result ≡ number_of_name names.now name.now }
+    ensures within { IfSome result (λ n. n < length names.now) }
+{
+    match position_of(names, name) {
+        Some(place) if place < 0x1_0000 => Some(place as u16),
+        _ => None,
+    }
+}
+
+/// A word of a name's form. Every other word is fault 3.
+#[tactic(auto, unfolding(crate::specs::Naming::name_at))]
+pub fn name<'l, 'a>(line: &'l [Word<'a>], place: usize) -> Result<&'l Word<'a>, ScenarioError>
+    ensures { Gives (λ w. w.now) result (name_at line.now place) }
+{
+    let word = word(line, place)?;
+    if is_name(word.bytes) {
+        Ok(word)
+    } else {
+        Err(fault(3, word))
+    }
+}
+
+/// A name that was declared above, as its place: fault 3 for a word that is no name, 8 for a name
+/// that was not declared.
+#[tactic(auto, unfolding(crate::specs::Naming::declared_at))]
+pub fn declared(names: &[ByteList], line: &[Word], place: usize) -> Result<u16, ScenarioError>
+    ensures value { Gives (λ n. n) result (declared_at names.now line.now place) }
+    ensures within { IfOk result (λ n. n < length names.now) }
+{
+    let word = name(line, place)?;
+    match number_of_name(names, word.bytes) {
+        Some(number) => Ok(number),
+        None => Err(fault(8, word)),
+    }
+}
+
+/// A class or interface as it is asked for: a declared name, as its place counted from `first`, or
+/// a GUID. A word that begins with `{` and is no GUID is fault 7.
+#[tactic(auto, unfolding(crate::specs::Naming::asked_at))]
+pub fn asked(
+    names: &[ByteList],
+    first: u32,
+    line: &[Word],
+    place: usize,
+) -> Result<Asked, ScenarioError>
+    requires { first < 2 ^ 16 }
+    ensures { Gives (λ a. a) result (asked_at names.now first line.now place) }
+{
+    let found = word(line, place)?;
+    if found.bytes.first() == Some(&b'{') {
+        return match guid_of(found.bytes) {
+            Some(guid) => Ok(Asked::Guid(guid)),
+            None => Err(fault(7, found)),
+        };
+    }
+    let number = declared(names, line, place)?;
+    Ok(Asked::Number(u32::from(number) + first))
+}

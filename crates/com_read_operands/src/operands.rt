@@ -1,0 +1,407 @@
+//! Operands.
+
+ghost use Rattle.std.specs.Prelude.{◌≡◌, ◌<◌, IfOk, IfSome, Ok};
+ghost use Rattle.hex.specs.Hex.{hex_digit_value};
+ghost use Rattle.com_body.specs.Bodies.{IsOp, IsPlace, IsCode, IsGiven};
+ghost use Rattle.com_read_operands.specs.Reading.{Gives};
+ghost use Rattle.com_read_operands.specs.Operands.{IsOperand, small_of, lettered, numeric_of, plain_of, inner, operand_of, unfit, text_literal, bytes_literal, hex_word_of, hex_on, register_at, slot_at, cell_at, buffer_at, place_at, literal_of, op_at, hresult_of, code_at, given_at, mode_at, marshal_mode_at};
+
+use crate::faults::ScenarioError;
+use crate::fields::{fault, stands, word};
+use crate::literals::{are_pairs, guid_of, text_of, unhex};
+use crate::numbers::signed_of;
+use com_base::{ByteList, Guid, HResult, MarshalMode, Mode, Value};
+use com_body::{Code, Given, Op, Place};
+use com_text::{Sort, Word};
+use std::alloc::Global;
+
+/// What an operand's word says by its form alone.
+#[derive(Clone, Copy, Debug, PartialEq, Eq)]
+pub enum Operand {
+    /// `r0` to `r15`.
+    Register(u8),
+    /// `s0` to `s7`.
+    Slot(u8),
+    /// `c0` to `c7`.
+    Cell(u8),
+    /// `k0` to `k3`.
+    Link(u8),
+    /// `p0` to `p63`.
+    Buffer(u8),
+    /// A whole number of 64 bits.
+    Number(i64),
+    /// `true` or `false`.
+    Bool(bool),
+    /// A text literal.
+    Text,
+    /// A bytes literal of pairs of hexadecimal digits.
+    Bytes,
+    /// A GUID in braces.
+    Guid(Guid),
+    /// `null`.
+    Null,
+    /// No operand: the fault's number.
+    Wrong(u8),
+}
+
+/// A number below 100 in one or two digits, without a needless zero.
+#[tactic(auto, unfolding(crate::specs::Operands::small_of))]
+fn small_of(bytes: &[u8]) -> Option<u8>
+    ensures { result ≡ small_of bytes.now }
+{
+    match bytes {
+        [a] if a.is_ascii_digit() => Some(*a - b'0'),
+        [a, b] if a.is_ascii_digit() && *a != b'0' && b.is_ascii_digit() => {
+            Some(10 * (*a - b'0') + (*b - b'0'))
+        }
+        _ => None,
+    }
+}
+
+/// A register, slot, cell, link or buffer by its letter and number.
+#[tactic(auto, unfolding(crate::specs::Operands::lettered))]
+fn lettered(letter: u8, number: Option<u8>) -> Operand
+    ensures value { result ≡ lettered letter number }
+    ensures range { IsOperand result }
+{
+    match number {
+        None => Operand::Wrong(3),
+        Some(number) => {
+            if letter == b'r' && number < 16 {
+                Operand::Register(number)
+            } else if letter == b's' && number < 8 {
+                Operand::Slot(number)
+            } else if letter == b'c' && number < 8 {
+                Operand::Cell(number)
+            } else if letter == b'k' && number < 4 {
+                Operand::Link(number)
+            } else if letter == b'p' && number < 64 {
+                Operand::Buffer(number)
+            } else {
+                Operand::Wrong(3)
+            }
+        }
+    }
+}
+
+/// A word that begins as a number does.
+#[tactic(auto, unfolding(crate::specs::Operands::numeric_of))]
+fn numeric_of(bytes: &[u8]) -> Operand
+    ensures value { result ≡ numeric_of bytes.now }
+    ensures range { IsOperand result }
+{
+    match signed_of(bytes) {
+        None => Operand::Wrong(6),
+        Some(number) => Operand::Number(number),
+    }
+}
+
+/// A word that is no literal in quotation marks.
+#[tactic(auto, unfolding(crate::specs::Operands::plain_of))]
+fn plain_of(bytes: &[u8]) -> Operand
+    ensures value { result ≡ plain_of bytes.now }
+    ensures range { IsOperand result }
+{
+    if bytes == b"true".as_slice() {
+        return Operand::Bool(true);
+    }
+    if bytes == b"false".as_slice() {
+        return Operand::Bool(false);
+    }
+    if bytes == b"null".as_slice() {
+        return Operand::Null;
+    }
+    match bytes {
+        [] => Operand::Wrong(3),
+        [b'{', ..] => match guid_of(bytes) {
+            None => Operand::Wrong(7),
+            Some(guid) => Operand::Guid(guid),
+        },
+        [b'-', second, ..] if second.is_ascii_digit() => numeric_of(bytes),
+        [first, rest @ ..] => {
+            if first.is_ascii_digit() {
+                numeric_of(bytes)
+            } else {
+                lettered(*first, small_of(rest))
+            }
+        }
+    }
+}
+
+/// What stands between the marks of a bytes literal.
+fn inner(bytes: &[u8]) -> &[u8]
+    ensures { result.now ≡ inner bytes.now }
+{
+    if bytes.len() < 3 {
+        &[]
+    } else {
+        &bytes[2..bytes.len() - 1]
+    }
+}
+
+/// An operand's word by its form alone.
+#[tactic(auto, unfolding(crate::specs::Operands::operand_of))]
+pub fn operand_of(word: &Word) -> Operand
+    ensures value { result ≡ operand_of word.now }
+    ensures range { IsOperand result }
+{
+    match word.sort {
+        Sort::Plain => plain_of(word.bytes),
+        Sort::Text => Operand::Text,
+        Sort::Bytes => {
+            if are_pairs(inner(word.bytes)) {
+                Operand::Bytes
+            } else {
+                Operand::Wrong(3)
+            }
+        }
+        _ => Operand::Wrong(3),
+    }
+}
+
+/// The fault of an operand that a place does not take.
+pub fn unfit(operand: Operand) -> u8
+    ensures { result ≡ unfit operand }
+{
+    match operand {
+        Operand::Wrong(number) => number,
+        Operand::Null => 3,
+        _ => 10,
+    }
+}
+
+/// A register.
+#[tactic(auto, unfolding(crate::specs::Operands::register_at))]
+pub fn register(line: &[Word], place: usize) -> Result<u8, ScenarioError>
+    ensures value { Gives (λ n. n) result (register_at line.now place) }
+    ensures range { IfOk result (λ n. n < 16) }
+{
+    let word = word(line, place)?;
+    match operand_of(word) {
+        Operand::Register(number) => Ok(number),
+        other => Err(fault(unfit(other), word)),
+    }
+}
+
+/// A slot.
+#[tactic(auto, unfolding(crate::specs::Operands::slot_at))]
+pub fn slot(line: &[Word], place: usize) -> Result<u8, ScenarioError>
+    ensures value { Gives (λ n. n) result (slot_at line.now place) }
+    ensures range { IfOk result (λ n. n < 8) }
+{
+    let word = word(line, place)?;
+    match operand_of(word) {
+        Operand::Slot(number) => Ok(number),
+        other => Err(fault(unfit(other), word)),
+    }
+}
+
+/// A cell, where `cells` allows one.
+#[tactic(auto, unfolding(crate::specs::Operands::cell_at))]
+pub fn cell(cells: bool, line: &[Word], place: usize) -> Result<u8, ScenarioError>
+    ensures value { Gives (λ n. n) result (cell_at cells line.now place) }
+    ensures range { IfOk result (λ n. n < 8) }
+{
+    let word = word(line, place)?;
+    match operand_of(word) {
+        Operand::Cell(number) if cells => Ok(number),
+        other => Err(fault(unfit(other), word)),
+    }
+}
+
+/// A packet buffer.
+#[tactic(auto, unfolding(crate::specs::Operands::buffer_at))]
+pub fn buffer(line: &[Word], place: usize) -> Result<u8, ScenarioError>
+    ensures value { Gives (λ n. n) result (buffer_at line.now place) }
+    ensures range { IfOk result (λ n. n < 64) }
+{
+    let word = word(line, place)?;
+    match operand_of(word) {
+        Operand::Buffer(number) => Ok(number),
+        other => Err(fault(unfit(other), word)),
+    }
+}
+
+/// A slot, or where `links` allows it a link.
+#[tactic(auto, unfolding(crate::specs::Operands::place_at))]
+pub fn place(links: bool, line: &[Word], at: usize) -> Result<Place, ScenarioError>
+    ensures value { Gives (λ n. n) result (place_at links line.now at) }
+    ensures range { IfOk result IsPlace }
+{
+    let word = word(line, at)?;
+    match operand_of(word) {
+        Operand::Slot(number) => Ok(Place::Slot(number)),
+        Operand::Link(number) if links => Ok(Place::Link(number)),
+        other => Err(fault(unfit(other), word)),
+    }
+}
+
+/// A literal in quotation marks has at most this many bytes between them.
+const LITERAL_LIMIT: usize = 256;
+
+/// A text literal's value: at most 256 bytes, or fault 12.
+#[tactic(auto, unfolding(crate::specs::Operands::text_literal))]
+fn text_literal(alloc: Global, word: &Word) -> Result<Value, ScenarioError>
+    ensures { Gives (λ v. v) result (text_literal word.now) }
+{
+    let length = word.bytes.len();
+    if length < 2 || length > LITERAL_LIMIT + 2 {
+        return Err(fault(12, word));
+    }
+    let text = &word.bytes[1..length - 1];
+    Ok(Value::Text(ByteList::from_slice(alloc, text)?))
+}
+
+/// A bytes literal's value: at most 256 bytes, or fault 12.
+#[tactic(auto, unfolding(crate::specs::Operands::bytes_literal))]
+fn bytes_literal(alloc: Global, word: &Word) -> Result<Value, ScenarioError>
+    ensures { Gives (λ v. v) result (bytes_literal word.now) }
+{
+    let digits = inner(word.bytes);
+    if digits.len() > 2 * LITERAL_LIMIT {
+        return Err(fault(12, word));
+    }
+    match unhex(alloc, digits)? {
+        Some(bytes) => Ok(Value::Bytes(bytes)),
+        None => Err(fault(3, word)),
+    }
+}
+
+/// The operand of a word as a register or a literal.
+#[tactic(auto, unfolding(crate::specs::Operands::literal_of))]
+pub fn literal(alloc: Global, word: &Word, operand: Operand) -> Result<Op, ScenarioError>
+    requires { IsOperand operand }
+    ensures value { Gives (λ o. o) result (literal_of word.now operand) }
+    ensures range { IfOk result IsOp }
+{
+    match operand {
+        Operand::Register(number) => Ok(Op::Register(number)),
+        Operand::Number(number) => Ok(Op::Literal(Value::Int(number))),
+        Operand::Bool(yes) => Ok(Op::Literal(Value::Bool(yes))),
+        Operand::Guid(guid) => Ok(Op::Literal(Value::Guid(guid))),
+        Operand::Text => Ok(Op::Literal(text_literal(alloc, word)?)),
+        Operand::Bytes => Ok(Op::Literal(bytes_literal(alloc, word)?)),
+        other => Err(fault(unfit(other), word)),
+    }
+}
+
+/// A register or a literal.
+#[tactic(auto, unfolding(crate::specs::Operands::op_at))]
+pub fn op(alloc: Global, line: &[Word], place: usize) -> Result<Op, ScenarioError>
+    ensures value { Gives (λ o. o) result (op_at line.now place) }
+    ensures range { IfOk result IsOp }
+{
+    let word = word(line, place)?;
+    literal(alloc, word, operand_of(word))
+}
+
+/// The number that eight hexadecimal digits behind `0x` spell.
+#[tactic(auto, unfolding(crate::specs::Operands::hex_word_of))]
+fn hex_word_of(bytes: &[u8]) -> Option<u32>
+    ensures { result ≡ hex_word_of bytes.now }
+{
+    match bytes {
+        [b'0', b'x', digits @ ..] if digits.len() == 8 => eight_of(digits),
+        _ => None,
+    }
+}
+
+/// The number of 32 bits that hexadecimal digits spell.
+fn eight_of(digits: &[u8]) -> Option<u32>
+    ensures { result ≡ hex_on (Some 0) digits.now }
+{
+    let mut number: u32 = 0;
+    for digit in digits {
+        let value = hex_digit(*digit)?;
+        number = number.checked_mul(16)?.checked_add(value)?;
+    }
+    Some(number)
+}
+
+/// The value of a hexadecimal digit of either case.
+fn hex_digit(byte: u8) -> Option<u32>
+    ensures value { result ≡ hex_digit_value byte }
+    ensures small { IfSome result (λ n. n < 16) }
+{
+    match byte {
+        b'0'..=b'9' => Some(u32::from(byte - b'0')),
+        b'a'..=b'f' => Some(u32::from(byte - b'a') + 10),
+        b'A'..=b'F' => Some(u32::from(byte - b'A') + 10),
+        _ => None,
+    }
+}
+
+/// The HRESULT that a word spells: `0x` and eight digits, or a name of the table.
+#[tactic(auto, unfolding(crate::specs::Operands::hresult_of))]
+pub fn hresult_of(bytes: &[u8]) -> Option<HResult>
+    ensures { result ≡ hresult_of bytes.now }
+{
+    match hex_word_of(bytes) {
+        Some(number) => Some(HResult(number)),
+        None => HResult::from_name(text_of(bytes)?),
+    }
+}
+
+/// The HRESULT of `leave`: `0x` and eight digits, a name, or a register.
+#[tactic(auto, unfolding(crate::specs::Operands::code_at))]
+pub fn code(line: &[Word], place: usize) -> Result<Code, ScenarioError>
+    ensures value { Gives (λ c. c) result (code_at line.now place) }
+    ensures range { IfOk result IsCode }
+{
+    let word = word(line, place)?;
+    match hresult_of(word.bytes) {
+        Some(answer) => Ok(Code::Literal(answer)),
+        None => match operand_of(word) {
+            Operand::Register(number) => Ok(Code::Register(number)),
+            other => Err(fault(unfit(other), word)),
+        },
+    }
+}
+
+/// The result of `leave`: none, a register, a literal or a slot.
+#[tactic(auto, unfolding(crate::specs::Operands::given_at))]
+pub fn given(alloc: Global, line: &[Word], place: usize) -> Result<Given, ScenarioError>
+    ensures value { Gives (λ g. g) result (given_at line.now place) }
+    ensures range { IfOk result IsGiven }
+{
+    if !stands(line, place)? {
+        return Ok(Given::Nothing);
+    }
+    let word = word(line, place)?;
+    match operand_of(word) {
+        Operand::Slot(number) => Ok(Given::Slot(number)),
+        other => Ok(Given::Op(literal(alloc, word, other)?)),
+    }
+}
+
+/// `sta` or `mta`.
+#[tactic(auto, unfolding(crate::specs::Operands::mode_at))]
+pub fn mode(line: &[Word], place: usize) -> Result<Mode, ScenarioError>
+    ensures { Gives (λ m. m) result (mode_at line.now place) }
+{
+    let word = word(line, place)?;
+    if word.bytes == b"sta".as_slice() {
+        Ok(Mode::Sta)
+    } else if word.bytes == b"mta".as_slice() {
+        Ok(Mode::Mta)
+    } else {
+        Err(fault(3, word))
+    }
+}
+
+/// `normal`, `strong` or `weak`.
+#[tactic(auto, unfolding(crate::specs::Operands::marshal_mode_at))]
+pub fn marshal_mode(line: &[Word], place: usize) -> Result<MarshalMode, ScenarioError>
+    ensures { Gives (λ m. m) result (marshal_mode_at line.now place) }
+{
+    let word = word(line, place)?;
+    if word.bytes == b"normal".as_slice() {
+        Ok(MarshalMode::Normal)
+    } else if word.bytes == b"strong".as_slice() {
+        Ok(MarshalMode::Strong)
+    } else if word.bytes == b"weak".as_slice() {
+        Ok(MarshalMode::Weak)
+    } else {
+        Err(fault(3, word))
+    }
+}

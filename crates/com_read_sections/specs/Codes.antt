@@ -1,0 +1,36 @@
+-- The statements of a body or a script so far.
+use Rattle.std.specs.Prelude.{ℕ, List, [], ◌∷◌, ◌++◌, Option, Some, None, Result, Ok, Err, slice_get}
+use Rattle.com_body.specs.declared.statements.Stmt.{Stmt}
+use Rattle.com_body.specs.declared.body.BodyFault.{BodyFault}
+use Rattle.com_body.specs.declared.body.BodyFault.TheVariants as faults
+use Rattle.com_body.specs.Bodies.{fault_of}
+use Rattle.com_read_operands.specs.declared.faults.Fault.{Fault}
+
+-- the statements, and for each the fault that it is where its skip passes the end
+pub record CodeAt : Type 0 where
+  pub statements : List Stmt
+  pub spots : List Fault
+
+abbrev pub blank_code : CodeAt
+blank_code = record { statements = []; spots = [] }
+
+abbrev pub code_more : CodeAt → Stmt → Fault → CodeAt
+code_more code s f = record { statements = code.statements ++ s ∷ []; spots = code.spots ++ f ∷ [] }
+
+-- the fault of a text without a header of two words
+abbrev pub first_place : Fault
+first_place = record { number = 1; line = 1; column = 1 }
+
+-- each statement has its fault, so there is one for each number
+abbrev pub spotted : Option Fault → Result (List Stmt) Fault
+spotted None = Err first_place
+spotted (Some f) = Err f
+
+abbrev pub checked_by : CodeAt → Option BodyFault → Result (List Stmt) Fault
+checked_by code None = Ok code.statements
+checked_by code (Some (faults.Jump k)) = spotted (slice_get code.spots k)
+checked_by code (Some faults.TooLong) = Err first_place
+
+-- the statements at their end, or the first skip that passes it
+abbrev pub checked : CodeAt → ℕ → Result (List Stmt) Fault
+checked code limit = checked_by code (fault_of code.statements limit)

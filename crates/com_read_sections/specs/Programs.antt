@@ -1,0 +1,39 @@
+-- The statements of bodies and scripts.
+use Rattle.std.specs.Prelude.{ℕ, List, length, Option, Some, None, Result, Ok, Err, nat_le, if◌then◌else◌, slice_get}
+use Rattle.com_text.specs.Words.{WordAt}
+use Rattle.com_read_operands.specs.declared.faults.Fault.{Fault}
+use Rattle.com_read_operands.specs.Reading.{◌>>=◌, fault_at}
+use Rattle.com_read_statements.specs.declared.keywords.Program.{Program}
+use Rattle.com_read_statements.specs.declared.keywords.LocalWord.TheVariants as locals
+use Rattle.com_read_statements.specs.declared.keywords.Keyword.{Keyword}
+use Rattle.com_read_statements.specs.declared.keywords.Keyword.TheVariants as keywords
+use Rattle.com_read_statements.specs.declared.names.Names.{Names}
+use Rattle.com_read_statements.specs.Keywords.{keyword_of, takes}
+use Rattle.com_read_statements.specs.Statements.{stmt_of}
+use Rattle.com_read_sections.specs.Codes.{CodeAt, code_more, first_place}
+
+abbrev pub number_place : Keyword → ℕ
+number_place (keywords.Local locals.Skip) = 1
+number_place (keywords.Local locals.SkipZero) = 2
+number_place _ = 0
+
+abbrev pub skip_fault : Option WordAt → Fault
+skip_fault None = first_place
+skip_fault (Some w) = fault_at 11 w
+
+-- the fault that a statement is where its skip passes the end
+abbrev pub spot_at : Keyword → List WordAt → Fault
+spot_at k line = skip_fault (slice_get line (number_place k))
+
+abbrev pub stated : Program → ℕ → Names → CodeAt → WordAt → List WordAt → Keyword → Result CodeAt Fault
+stated p limit names code w line k = if nat_le limit (length code.statements) then Err (fault_at 12 w) else (do
+  s ← stmt_of p names k line
+  Ok (code_more code s (spot_at k line)))
+
+abbrev pub allowed : Program → ℕ → Names → CodeAt → WordAt → List WordAt → Option Keyword → Result CodeAt Fault
+allowed p limit names code w line None = Err (fault_at 3 w)
+allowed p limit names code w line (Some k) = if takes p k then stated p limit names code w line k else Err (fault_at 3 w)
+
+-- a line of a body or a script that does not end it
+unfoldable pub program_line : Program → ℕ → Names → CodeAt → WordAt → List WordAt → Result CodeAt Fault
+program_line p limit names code w line = allowed p limit names code w line (keyword_of w.bytes)

@@ -1,0 +1,230 @@
+//! Lines outside of sections: declarations, and the lines that open a section.
+
+ghost use Rattle.std.specs.Prelude.{◌≡◌, Ok};
+ghost use Rattle.com_read_operands.specs.Reading.{Gives};
+ghost use Rattle.com_read_sections.specs.Beginning.{section_word_of, pool_line, interface_line, class_line, native_line, filter_line, thread_line, picks_line, top_line};
+
+use crate::declare::{
+    filter_name, free_guid, free_name, interface_name, listed, model, native, natives, picks,
+};
+use crate::state::{Code, Section, State};
+use crate::tables::push;
+use com_base::{ByteList, Rows};
+use com_body::Native;
+use com_classes::{Class, Interface};
+use com_read_operands::{ScenarioError, end, fault, first, number};
+use com_text::Word;
+use std::alloc::Global;
+use std::mem;
+
+/// The word that begins a line outside of sections.
+#[derive(Clone, Copy, Debug, PartialEq, Eq)]
+pub enum SectionWord {
+    Pool,
+    Interface,
+    Class,
+    Native,
+    Filter,
+    Thread,
+    Picks,
+}
+
+fn section_word_of(bytes: &[u8]) -> Option<SectionWord>
+    ensures { result ≡ section_word_of bytes.now }
+{
+    if bytes == b"pool".as_slice() {
+        Some(SectionWord::Pool)
+    } else if bytes == b"interface".as_slice() {
+        Some(SectionWord::Interface)
+    } else if bytes == b"class".as_slice() {
+        Some(SectionWord::Class)
+    } else if bytes == b"native".as_slice() {
+        Some(SectionWord::Native)
+    } else if bytes == b"filter".as_slice() {
+        Some(SectionWord::Filter)
+    } else if bytes == b"thread".as_slice() {
+        Some(SectionWord::Thread)
+    } else if bytes == b"picks".as_slice() {
+        Some(SectionWord::Picks)
+    } else {
+        None
+    }
+}
+
+/// The interfaces are at most this many, with the four that are built in.
+const INTERFACE_LIMIT: usize = 64;
+/// The classes and natives are at most this many.
+const CLASS_LIMIT: usize = 64;
+/// The filters are at most this many, and so are the threads.
+const THREAD_LIMIT: usize = 16;
+
+#[tactic(auto, unfolding(crate::specs::Beginning::pool_line))]
+fn pool_line(st: &mut State, word: &Word, line: &[Word]) -> Result<(), ScenarioError>
+    ensures { Gives (λ u. st.new) result (pool_line st.old word.now line.now) }
+{
+    if st.pool.is_some() {
+        return Err(fault(9, word));
+    }
+    let lanes = number(line, 1, 1, 8)? as u32;
+    end(line, 2)?;
+    st.pool = Some(lanes);
+    Ok(())
+}
+
+#[tactic(auto, unfolding(crate::specs::Beginning::interface_line))]
+fn interface_line(
+    alloc: Global,
+    st: &mut State,
+    word: &Word,
+    line: &[Word],
+) -> Result<(), ScenarioError>
+    ensures { Gives (λ u. st.new) result (interface_line st.old word.now line.now) }
+{
+    if st.names.interfaces.len() >= INTERFACE_LIMIT {
+        return Err(fault(12, word));
+    }
+    let name = interface_name(st.names.interfaces.as_slice(), line)?;
+    let iid = free_guid(st.iids.as_slice(), line, 2)?;
+    end(line, 3)?;
+    let own = ByteList::from_slice(alloc, name.bytes)?;
+    push(alloc, &mut st.names.interfaces, own)?;
+    push(alloc, &mut st.iids, iid)?;
+    st.interface = Interface {
+        name: ByteList::from_slice(alloc, name.bytes)?,
+        iid,
+        methods: Rows::new(alloc),
+    };
+    st.section = Section::Interface;
+    Ok(())
+}
+
+#[tactic(auto, unfolding(crate::specs::Beginning::class_line))]
+fn class_line(
+    alloc: Global,
+    st: &mut State,
+    word: &Word,
+    line: &[Word],
+) -> Result<(), ScenarioError>
+    ensures { Gives (λ u. st.new) result (class_line st.old word.now line.now) }
+{
+    if st.names.classes.len() >= CLASS_LIMIT {
+        return Err(fault(12, word));
+    }
+    let name = free_name(st.names.classes.as_slice(), line, 1)?;
+    let clsid = free_guid(st.clsids.as_slice(), line, 2)?;
+    let model = model(line, 3)?;
+    let interfaces = listed(alloc, st.names.interfaces.as_slice(), line)?;
+    let own = ByteList::from_slice(alloc, name.bytes)?;
+    push(alloc, &mut st.names.classes, own)?;
+    push(alloc, &mut st.clsids, clsid)?;
+    st.class = Class {
+        name: ByteList::from_slice(alloc, name.bytes)?,
+        clsid,
+        model,
+        native: Native::Bodies,
+        interfaces,
+        bodies: Rows::new(alloc),
+    };
+    st.section = Section::Class;
+    Ok(())
+}
+
+#[tactic(auto, unfolding(crate::specs::Beginning::native_line))]
+fn native_line(
+    alloc: Global,
+    st: &mut State,
+    word: &Word,
+    line: &[Word],
+) -> Result<(), ScenarioError>
+    ensures { Gives (λ u. st.new) result (native_line st.old word.now line.now) }
+{
+    if st.names.classes.len() >= CLASS_LIMIT {
+        return Err(fault(12, word));
+    }
+    let name = free_name(st.names.classes.as_slice(), line, 1)?;
+    let clsid = free_guid(st.clsids.as_slice(), line, 2)?;
+    let model = model(line, 3)?;
+    let native = native(model, line, 4)?;
+    end(line, 5)?;
+    let own = ByteList::from_slice(alloc, name.bytes)?;
+    push(alloc, &mut st.names.classes, own)?;
+    push(alloc, &mut st.clsids, clsid)?;
+    let class = Class {
+        name: ByteList::from_slice(alloc, name.bytes)?,
+        clsid,
+        model,
+        native,
+        interfaces: natives(alloc, native)?,
+        bodies: Rows::new(alloc),
+    };
+    push(alloc, &mut st.classes, class)?;
+    Ok(())
+}
+
+#[tactic(auto, unfolding(crate::specs::Beginning::filter_line))]
+fn filter_line(
+    alloc: Global,
+    st: &mut State,
+    word: &Word,
+    line: &[Word],
+) -> Result<(), ScenarioError>
+    ensures { Gives (λ u. st.new) result (filter_line st.old word.now line.now) }
+{
+    if st.names.filters.len() >= THREAD_LIMIT {
+        return Err(fault(12, word));
+    }
+    let name = filter_name(st.names.filters.as_slice(), line)?;
+    end(line, 2)?;
+    let own = ByteList::from_slice(alloc, name.bytes)?;
+    push(alloc, &mut st.names.filters, own)?;
+    st.rules = Rows::new(alloc);
+    st.section = Section::Filter;
+    Ok(())
+}
+
+#[tactic(auto, unfolding(crate::specs::Beginning::thread_line))]
+fn thread_line(
+    alloc: Global,
+    st: &mut State,
+    word: &Word,
+    line: &[Word],
+) -> Result<(), ScenarioError>
+    ensures { Gives (λ u. st.new) result (thread_line st.old word.now line.now) }
+{
+    if st.threads.len() >= THREAD_LIMIT {
+        return Err(fault(12, word));
+    }
+    end(line, 1)?;
+    st.code = Code::new(alloc);
+    st.section = Section::Thread;
+    Ok(())
+}
+
+#[tactic(auto, unfolding(crate::specs::Beginning::picks_line))]
+fn picks_line(alloc: Global, st: &mut State, line: &[Word]) -> Result<(), ScenarioError>
+    ensures { Gives (λ u. st.new) result (picks_line st.old line.now) }
+{
+    let more = picks(alloc, line)?;
+    let mut all = mem::replace(&mut st.picks, Rows::new(alloc)).into_vec();
+    all.extend_from_slice(&more)?;
+    st.picks = Rows::from_vec(all);
+    Ok(())
+}
+
+/// A line outside of sections.
+#[tactic(auto, unfolding(crate::specs::Beginning::top_line))]
+pub(crate) fn top_line(alloc: Global, st: &mut State, line: &[Word]) -> Result<(), ScenarioError>
+    ensures { Gives (λ u. st.new) result (top_line st.old line.now) }
+{
+    let word = first(line)?;
+    match section_word_of(word.bytes) {
+        None => Err(fault(3, word)),
+        Some(SectionWord::Pool) => pool_line(st, word, line),
+        Some(SectionWord::Interface) => interface_line(alloc, st, word, line),
+        Some(SectionWord::Class) => class_line(alloc, st, word, line),
+        Some(SectionWord::Native) => native_line(alloc, st, word, line),
+        Some(SectionWord::Filter) => filter_line(alloc, st, word, line),
+        Some(SectionWord::Thread) => thread_line(alloc, st, word, line),
+        Some(SectionWord::Picks) => picks_line(alloc, st, line),
+    }
+}

@@ -1,0 +1,212 @@
+//! What a declaration's words say.
+
+ghost use Rattle.std.specs.Prelude.{◌≡◌, [], drop, Ok, IfOk};
+ghost use Rattle.com_read_operands.specs.Reading.{Gives};
+ghost use Rattle.com_read_sections.specs.Declaring.{free_guid_at, free_name_at, interface_name_at, filter_name_at, model_at, native_at, listed_item, listed_on, listed_at, pick_at, picks_on, native_interface, natives_of};
+
+use crate::methods::type_word_of;
+use crate::tables::has_guid;
+use com_base::{ByteList, Guid, Rows};
+use com_body::Native;
+use com_classes::ThreadingModel;
+use com_read_operands::{
+    ScenarioError, declared, fault, guid, name, number, position_of, stands, word,
+};
+use com_text::Word;
+use std::alloc::{AllocError, Global};
+
+/// A class has at most this many interfaces.
+const LISTED_LIMIT: usize = 16;
+
+/// A GUID that is not declared above: one that is, is fault 9.
+#[tactic(auto, unfolding(crate::specs::Declaring::free_guid_at))]
+pub(crate) fn free_guid(guids: &[Guid], line: &[Word], place: usize) -> Result<Guid, ScenarioError>
+    ensures { Gives (λ g. g) result (free_guid_at guids.now line.now place) }
+{
+    let guid = guid(line, place)?;
+    if has_guid(guids, &guid) {
+        return Err(fault(9, word(line, place)?));
+    }
+    Ok(guid)
+}
+
+/// A name that is not declared above: one that is, is fault 9.
+#[tactic(auto, unfolding(crate::specs::Declaring::free_name_at))]
+pub(crate) fn free_name<'l, 'a>(
+    names: &[ByteList],
+    line: &'l [Word<'a>],
+    place: usize,
+) -> Result<&'l Word<'a>, ScenarioError>
+    ensures { Gives (λ w. w.now) result (free_name_at names.now line.now place) }
+{
+    let word = name(line, place)?;
+    if position_of(names, word.bytes).is_some() {
+        return Err(fault(9, word));
+    }
+    Ok(word)
+}
+
+/// An interface's name, which is no type of the language.
+#[tactic(auto, unfolding(crate::specs::Declaring::interface_name_at))]
+pub(crate) fn interface_name<'l, 'a>(
+    names: &[ByteList],
+    line: &'l [Word<'a>],
+) -> Result<&'l Word<'a>, ScenarioError>
+    ensures { Gives (λ w. w.now) result (interface_name_at names.now line.now) }
+{
+    let word = name(line, 1)?;
+    if type_word_of(word.bytes).is_some() {
+        return Err(fault(3, word));
+    }
+    free_name(names, line, 1)
+}
+
+/// A filter's name, which is not `none`.
+#[tactic(auto, unfolding(crate::specs::Declaring::filter_name_at))]
+pub(crate) fn filter_name<'l, 'a>(
+    names: &[ByteList],
+    line: &'l [Word<'a>],
+) -> Result<&'l Word<'a>, ScenarioError>
+    ensures { Gives (λ w. w.now) result (filter_name_at names.now line.now) }
+{
+    let word = name(line, 1)?;
+    if word.bytes == b"none".as_slice() {
+        return Err(fault(3, word));
+    }
+    free_name(names, line, 1)
+}
+
+/// A threading model.
+#[tactic(auto, unfolding(crate::specs::Declaring::model_at))]
+pub(crate) fn model(line: &[Word], place: usize) -> Result<ThreadingModel, ScenarioError>
+    ensures { Gives (λ m. m) result (model_at line.now place) }
+{
+    let word = word(line, place)?;
+    if word.bytes == b"none".as_slice() {
+        Ok(ThreadingModel::Nothing)
+    } else if word.bytes == b"Apartment".as_slice() {
+        Ok(ThreadingModel::Apartment)
+    } else if word.bytes == b"Free".as_slice() {
+        Ok(ThreadingModel::Free)
+    } else if word.bytes == b"Both".as_slice() {
+        Ok(ThreadingModel::Both)
+    } else if word.bytes == b"Neutral".as_slice() {
+        Ok(ThreadingModel::Neutral)
+    } else if word.bytes == b"Agile".as_slice() {
+        Ok(ThreadingModel::Agile)
+    } else {
+        Err(fault(3, word))
+    }
+}
+
+/// The kind of a native class. An agile class has no links, so an agile relay is fault 10.
+#[tactic(auto, unfolding(crate::specs::Declaring::native_at))]
+pub(crate) fn native(
+    model: ThreadingModel,
+    line: &[Word],
+    place: usize,
+) -> Result<Native, ScenarioError>
+    ensures { Gives (λ n. n) result (native_at model line.now place) }
+{
+    let word = word(line, place)?;
+    if word.bytes == b"counter".as_slice() {
+        Ok(Native::Counter)
+    } else if word.bytes == b"relay".as_slice() {
+        match model {
+            ThreadingModel::Agile => Err(fault(10, word)),
+            _ => Ok(Native::Relay),
+        }
+    } else if word.bytes == b"latch".as_slice() {
+        Ok(Native::Latch)
+    } else {
+        Err(fault(3, word))
+    }
+}
+
+/// The number of the interface that a native class has.
+fn native_interface(native: Native) -> u16
+    ensures { result ≡ native_interface native }
+{
+    match native {
+        Native::Bodies => 0,
+        Native::Counter => 1,
+        Native::Relay => 2,
+        Native::Latch => 3,
+    }
+}
+
+/// The interfaces of a native class: the one of its kind.
+pub(crate) fn natives(alloc: Global, native: Native) -> Result<Rows<u16>, AllocError>
+    ensures { IfOk result (λ r. r ≡ natives_of native) }
+{
+    let mut list = Vec::new(alloc);
+    list.push(native_interface(native))?;
+    Ok(Rows::from_vec(list))
+}
+
+/// The interfaces of a class: one name or more from the fifth word on.
+#[tactic(auto, unfolding(crate::specs::Declaring::listed_at))]
+pub(crate) fn listed(
+    alloc: Global,
+    names: &[ByteList],
+    line: &[Word],
+) -> Result<Rows<u16>, ScenarioError>
+    ensures { Gives (λ l. l) result (listed_at names.now line.now) }
+{
+    word(line, 4)?;
+    listed_words(alloc, names, line)
+}
+
+/// One more interface of a class that has `count` already.
+#[tactic(auto, unfolding(crate::specs::Declaring::listed_item))]
+fn listed_item(
+    names: &[ByteList],
+    count: usize,
+    line: &[Word],
+    place: usize,
+) -> Result<u16, ScenarioError>
+    ensures { Gives (λ n. n) result (listed_item names.now count line.now place) }
+{
+    stands(line, place)?;
+    let number = declared(names, line, place)?;
+    if count >= LISTED_LIMIT {
+        return Err(fault(12, word(line, place)?));
+    }
+    Ok(number)
+}
+
+#[tactic(auto, using(crate::proofs::Lines::listed_more))]
+fn listed_words(
+    alloc: Global,
+    names: &[ByteList],
+    line: &[Word],
+) -> Result<Rows<u16>, ScenarioError>
+    ensures { Gives (λ l. l) result (listed_on names.now [] line.now 4 (drop 4 line.now)) }
+{
+    let mut listed = Vec::new(alloc);
+    for i in 4..line.len() {
+        listed.push(listed_item(names, listed.len(), line, i)?)?;
+    }
+    Ok(Rows::from_vec(listed))
+}
+
+/// One number of a line of picks.
+#[tactic(auto, unfolding(crate::specs::Declaring::pick_at))]
+fn pick(line: &[Word], place: usize) -> Result<u32, ScenarioError>
+    ensures { Gives (λ n. n) result (pick_at line.now place) }
+{
+    stands(line, place)?;
+    Ok(number(line, place, 0, 4294967295)? as u32)
+}
+
+/// The numbers of a line of picks.
+#[tactic(auto, using(crate::proofs::Lines::picks_more))]
+pub(crate) fn picks(alloc: Global, line: &[Word]) -> Result<Vec<u32>, ScenarioError>
+    ensures { Gives (λ l. l.items) result (picks_on [] line.now 1 (drop 1 line.now)) }
+{
+    let mut picks = Vec::new(alloc);
+    for i in 1..line.len() {
+        picks.push(pick(line, i)?)?;
+    }
+    Ok(picks)
+}

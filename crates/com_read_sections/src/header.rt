@@ -1,0 +1,88 @@
+//! The header.
+
+ghost use Rattle.std.specs.Prelude.{◌≡◌, Ok};
+ghost use Rattle.com_read_operands.specs.Reading.{Gives};
+ghost use Rattle.com_read_sections.specs.Header.{version_of, version_at, header_line};
+
+use crate::state::{Section, State};
+use com_read_operands::{Fault, ScenarioError, end, fault};
+use com_text::{Sort, Word};
+
+/// The fault of a text without a header of two words.
+pub(crate) const FIRST: Fault = Fault {
+    number: 1,
+    line: 1,
+    column: 1,
+};
+
+/// The version that the header's second word names.
+fn version_of(bytes: &[u8]) -> Option<u8>
+    ensures { result ≡ version_of bytes.now }
+{
+    if bytes == b"1".as_slice() {
+        Some(1)
+    } else if bytes == b"2".as_slice() {
+        Some(2)
+    } else {
+        None
+    }
+}
+
+/// The version of a header's line of two words or more. An earlier fault, in a comment above, comes
+/// first. The two words are compared as they stand, whatever their bytes.
+#[tactic(auto, unfolding(crate::specs::Header::version_at))]
+fn version(
+    pending: Option<Fault>,
+    line: &[Word],
+    one: &Word,
+    two: &Word,
+) -> Result<u8, ScenarioError>
+    ensures { Gives (λ v. v) result (version_at pending line.now one.now two.now) }
+{
+    if let Sort::Remark(_) = two.sort {
+        return Err(FIRST.error());
+    }
+    if let Some(earlier) = pending {
+        return Err(earlier.error());
+    }
+    if one.bytes != b"scenario".as_slice() {
+        return Err(fault(1, one));
+    }
+    match version_of(two.bytes) {
+        None => Err(fault(1, two)),
+        Some(version) => {
+            end(line, 2)?;
+            Ok(version)
+        }
+    }
+}
+
+/// A line above the header or the header itself. What a comment above the header has at fault is
+/// reported only where the header's line has two words, since a header without them is fault 1 at
+/// the text's first place.
+#[tactic(auto, unfolding(crate::specs::Header::header_line))]
+pub(crate) fn header_line(st: &mut State, line: &[Word]) -> Result<(), ScenarioError>
+    ensures { Gives (λ u. st.new) result (header_line st.old line.now) }
+{
+    match line {
+        [] => Ok(()),
+        [only] => match only.sort {
+            Sort::Remark(column) => {
+                if st.pending.is_none() {
+                    st.pending = Some(Fault {
+                        number: 2,
+                        line: only.line,
+                        column,
+                    });
+                }
+                Ok(())
+            }
+            _ => Err(FIRST.error()),
+        },
+        [one, two, ..] => {
+            st.version = version(st.pending, line, one, two)?;
+            st.section = Section::Top;
+            Ok(())
+        }
+    }
+}

@@ -1,0 +1,62 @@
+//! The statements of bodies and scripts.
+
+ghost use Rattle.std.specs.Prelude.{◌≡◌, Ok};
+ghost use Rattle.com_read_operands.specs.Reading.{Gives};
+ghost use Rattle.com_read_sections.specs.Programs.{number_place, spot_at, program_line};
+
+use crate::header::FIRST;
+use crate::state::Code;
+use com_read_operands::{Fault, ScenarioError, fault};
+use com_read_statements::{Keyword, LocalWord, Names, Program, keyword_of, statement, takes};
+use com_text::Word;
+use std::alloc::Global;
+
+/// The place of a skip's number in its line.
+fn number_place(keyword: Keyword) -> usize
+    ensures { result ≡ number_place keyword }
+{
+    match keyword {
+        Keyword::Local(LocalWord::Skip) => 1,
+        Keyword::Local(LocalWord::SkipZero) => 2,
+        _ => 0,
+    }
+}
+
+/// The fault that a statement is where its skip passes the end: at the skip's number.
+fn spot(keyword: Keyword, line: &[Word]) -> Fault
+    ensures { result ≡ spot_at keyword line.now }
+{
+    match line.get(number_place(keyword)) {
+        None => FIRST,
+        Some(word) => Fault {
+            number: 11,
+            line: word.line,
+            column: word.column,
+        },
+    }
+}
+
+/// The statement of a line that does not end its program. The statements are at most `limit`.
+#[tactic(auto, unfolding(crate::specs::Programs::program_line))]
+pub(crate) fn program_line(
+    alloc: Global,
+    program: Program,
+    limit: usize,
+    names: &Names,
+    code: &mut Code,
+    word: &Word,
+    line: &[Word],
+) -> Result<(), ScenarioError>
+    ensures { Gives (λ u. code.new) result (program_line program limit names.now code.old word.now line.now) }
+{
+    let keyword = match keyword_of(word.bytes) {
+        Some(keyword) if takes(program, keyword) => keyword,
+        _ => return Err(fault(3, word)),
+    };
+    if code.len() >= limit {
+        return Err(fault(12, word));
+    }
+    let statement = statement(alloc, program, names, keyword, line)?;
+    code.push(statement, spot(keyword, line))?;
+    Ok(())
+}

@@ -1,0 +1,282 @@
+//! The statement `call`: its method, its arguments and where its result goes.
+
+ghost use Rattle.std.specs.Prelude.{◌≡◌, ◌<◌, ◌^◌, [], Ok, IfOk, IfSome, All, length};
+ghost use Rattle.std.specs.Option.{option_copied};
+ghost use Rattle.com_body.specs.Bodies.{IsArg, IsDestination, IsInRange};
+ghost use Rattle.com_read_operands.specs.Operands.{IsOperand};
+ghost use Rattle.com_read_operands.specs.Reading.{Gives};
+ghost use Rattle.com_read_statements.specs.Calls.{dot_of, target_at, numbered_of, named_of, method_at, argument_at, arguments_on, landing_of, destination_at, call_of, call_at, method_number, method_of};
+
+use crate::names::{Names, method_position};
+use com_base::{Kind, Rows};
+use com_body::{Arg, Destination, Stmt};
+use com_classes::{Interface, Method};
+use com_read_operands::{
+    Operand, ScenarioError, end, fault, is_name, literal, number_of, number_of_name, operand_of,
+    slot, stands, unfit, word,
+};
+use com_text::Word;
+use std::alloc::Global;
+
+/// A method by its interface's number and its own.
+#[derive(Clone, Copy, Debug, PartialEq, Eq)]
+pub struct MethodNumber {
+    pub iface: u16,
+    pub method: u16,
+}
+
+/// The method of a call.
+#[derive(Clone, Copy, Debug, PartialEq, Eq)]
+pub enum Target {
+    /// A method of the interface's table, by its name.
+    Named(MethodNumber),
+    /// A method by its number, in the table or not.
+    Numbered(MethodNumber),
+}
+
+/// The place of the first dot.
+fn dot_of(bytes: &[u8]) -> Option<usize>
+    ensures value { result ≡ dot_of bytes.now }
+    ensures within { IfSome result (λ n. n < length bytes.now) }
+{
+    for (i, byte) in bytes.iter().enumerate() {
+        if *byte == b'.' {
+            return Some(i);
+        }
+    }
+    None
+}
+
+/// The number of the method that an interface's table has by a name.
+fn method_number(tables: &[Interface], iface: u16, name: &[u8]) -> Option<u16>
+    ensures { result ≡ method_number tables.now iface name.now }
+{
+    let table = tables.get(iface as usize)?;
+    let number = method_position(table.methods.as_slice(), name)?;
+    u16::try_from(number).ok()
+}
+
+/// The method of a call: an interface's name, a dot, and a method's name or `#` and a number of 16
+/// bits. A word of another form is fault 3, a wrong number 6, and a name that is not declared 8.
+#[tactic(auto, unfolding(crate::specs::Calls::target_at))]
+pub fn target_at(names: &Names, line: &[Word], place: usize) -> Result<Target, ScenarioError>
+    ensures { Gives (λ t. t) result (target_at names.now line.now place) }
+{
+    let word = word(line, place)?;
+    let Some(dot) = dot_of(word.bytes) else {
+        return Err(fault(3, word));
+    };
+    let front = &word.bytes[..dot];
+    let back = &word.bytes[dot + 1..];
+    if !is_name(front) {
+        return Err(fault(3, word));
+    }
+    if let [b'#', digits @ ..] = back {
+        return numbered(names, word, front, digits);
+    }
+    Ok(Target::Named(named(names, word, front, back)?))
+}
+
+/// A method by its name.
+#[tactic(auto, unfolding(crate::specs::Calls::named_of))]
+fn named(
+    names: &Names,
+    word: &Word,
+    front: &[u8],
+    back: &[u8],
+) -> Result<MethodNumber, ScenarioError>
+    ensures { Gives (λ m. m) result (named_of names.now word.now front.now back.now) }
+{
+    if !is_name(back) {
+        return Err(fault(3, word));
+    }
+    let Some(iface) = number_of_name(names.interfaces.as_slice(), front) else {
+        return Err(fault(8, word));
+    };
+    match method_number(names.tables.as_slice(), iface, back) {
+        Some(method) => Ok(MethodNumber { iface, method }),
+        None => Err(fault(8, word)),
+    }
+}
+
+/// The method that a body is for: an interface's name, a dot and a method's name. A word of another
+/// form is fault 3, and a name that is not declared is fault 8.
+#[tactic(auto, unfolding(crate::specs::Calls::method_at))]
+pub fn method_at(names: &Names, line: &[Word], place: usize) -> Result<MethodNumber, ScenarioError>
+    ensures { Gives (λ m. m) result (method_at names.now line.now place) }
+{
+    let word = word(line, place)?;
+    let Some(dot) = dot_of(word.bytes) else {
+        return Err(fault(3, word));
+    };
+    let front = &word.bytes[..dot];
+    if !is_name(front) {
+        return Err(fault(3, word));
+    }
+    named(names, word, front, &word.bytes[dot + 1..])
+}
+
+/// A method by its number.
+#[tactic(auto, unfolding(crate::specs::Calls::numbered_of))]
+fn numbered(
+    names: &Names,
+    word: &Word,
+    front: &[u8],
+    digits: &[u8],
+) -> Result<Target, ScenarioError>
+    ensures { Gives (λ t. t) result (numbered_of names.now word.now front.now digits.now) }
+{
+    let method = match number_of(digits) {
+        Some(number) if number <= 0xffff => number as u16,
+        _ => return Err(fault(6, word)),
+    };
+    match number_of_name(names.interfaces.as_slice(), front) {
+        Some(iface) => Ok(Target::Numbered(MethodNumber { iface, method })),
+        None => Err(fault(8, word)),
+    }
+}
+
+/// An argument for a parameter: a slot or `null` for an interface, else a register or a literal.
+#[tactic(auto, unfolding(crate::specs::Calls::argument_at))]
+pub fn argument(
+    alloc: Global,
+    kind: Kind,
+    line: &[Word],
+    place: usize,
+) -> Result<Arg, ScenarioError>
+    ensures value { Gives (λ a. a) result (argument_at kind line.now place) }
+    ensures range { IfOk result IsArg }
+{
+    let word = word(line, place)?;
+    let operand = operand_of(word);
+    match kind {
+        Kind::Ref(_) => match operand {
+            Operand::Slot(number) => Ok(Arg::Slot(number)),
+            Operand::Null => Ok(Arg::Null),
+            Operand::Wrong(number) => Err(fault(number, word)),
+            _ => Err(fault(10, word)),
+        },
+        _ => match operand {
+            Operand::Null => Err(fault(10, word)),
+            _ => Ok(Arg::Op(literal(alloc, word, operand)?)),
+        },
+    }
+}
+
+/// The arguments for a method's parameters, from a place on.
+pub fn arguments(alloc: Global, params: &[Kind], line: &[Word]) -> Result<Rows<Arg>, ScenarioError>
+    ensures value { Gives (λ a. a) result (arguments_on [] params.now line.now 3) }
+    ensures range { IfOk result (λ r. All IsArg r) }
+{
+    let mut arguments = Vec::new(alloc);
+    for (i, kind) in params.iter().enumerate() {
+        arguments.push(argument(alloc, *kind, line, 3 + i)?)?;
+    }
+    Ok(Rows::from_vec(arguments))
+}
+
+/// A call's result at a destination's word.
+#[tactic(auto, unfolding(crate::specs::Calls::landing_of))]
+fn landing(kind: Option<Kind>, word: &Word, operand: Operand) -> Result<Destination, ScenarioError>
+    requires { IsOperand operand }
+    ensures value { Gives (λ d. d) result (landing_of kind word.now operand) }
+    ensures range { IfOk result IsDestination }
+{
+    match kind {
+        Some(Kind::Ref(_)) => match operand {
+            Operand::Slot(number) => Ok(Destination::Slot(number)),
+            _ => Err(fault(unfit(operand), word)),
+        },
+        Some(_) => match operand {
+            Operand::Register(number) => Ok(Destination::Register(number)),
+            _ => Err(fault(unfit(operand), word)),
+        },
+        None => Err(fault(unfit(operand), word)),
+    }
+}
+
+/// Where a call's result of a kind goes: nowhere, or behind `->` a slot for an interface and a
+/// register for another kind. A destination for a method without result is fault 10.
+#[tactic(auto, unfolding(crate::specs::Calls::destination_at))]
+pub fn destination(
+    kind: Option<Kind>,
+    line: &[Word],
+    place: usize,
+) -> Result<Destination, ScenarioError>
+    requires { place < 2 ^ 63 }
+    ensures value { Gives (λ d. d) result (destination_at kind line.now place) }
+    ensures range { IfOk result IsDestination }
+{
+    if !stands(line, place)? {
+        return Ok(Destination::Nowhere);
+    }
+    let arrow = word(line, place)?;
+    if arrow.bytes != b"->".as_slice() {
+        return Err(fault(3, arrow));
+    }
+    let word = word(line, place + 1)?;
+    let destination = landing(kind, word, operand_of(word))?;
+    end(line, place + 2)?;
+    Ok(destination)
+}
+
+/// The call of a method by name, with its arguments and destination.
+#[tactic(auto, unfolding(crate::specs::Calls::call_of))]
+fn call_of(
+    alloc: Global,
+    slot: u8,
+    number: MethodNumber,
+    method: &Method,
+    line: &[Word],
+) -> Result<Stmt, ScenarioError>
+    requires { slot < 8 }
+    ensures value { Gives (λ s. s) result (call_of slot number method.now line.now) }
+    ensures range { IfOk result IsInRange }
+{
+    let params = method.params.as_slice();
+    let args = arguments(alloc, params, line)?;
+    let destination = destination(method.result, line, 3 + params.len())?;
+    Ok(Stmt::Call {
+        slot,
+        iface: number.iface,
+        method: number.method,
+        args,
+        destination,
+    })
+}
+
+/// The method with a number, where the interface's table has it.
+fn signature(tables: &[Interface], number: MethodNumber) -> Option<&Method>
+    ensures { option_copied result ≡ method_of tables.now number.iface number.method }
+{
+    tables
+        .get(number.iface as usize)?
+        .methods
+        .as_slice()
+        .get(number.method as usize)
+}
+
+/// The call that a line spells.
+#[tactic(auto, unfolding(crate::specs::Calls::call_at))]
+pub fn call(alloc: Global, names: &Names, line: &[Word]) -> Result<Stmt, ScenarioError>
+    ensures value { Gives (λ s. s) result (call_at names.now line.now) }
+    ensures range { IfOk result IsInRange }
+{
+    let slot = slot(line, 1)?;
+    match target_at(names, line, 2)? {
+        Target::Numbered(number) => {
+            end(line, 3)?;
+            Ok(Stmt::Call {
+                slot,
+                iface: number.iface,
+                method: number.method,
+                args: Rows::new(alloc),
+                destination: Destination::Nowhere,
+            })
+        }
+        Target::Named(number) => match signature(names.tables.as_slice(), number) {
+            Some(method) => call_of(alloc, slot, number, method, line),
+            None => Err(fault(8, word(line, 2)?)),
+        },
+    }
+}
