@@ -4,6 +4,7 @@ pub mod Rowed
 pub mod Stands
 pub mod Comes
 pub mod Onces
+pub mod Marks
 pub mod Cases
 pub mod Tabled
 pub mod Rows

@@ -385,6 +385,20 @@ pub legal-once : (s : Scenario) (h : List Entry) → legal s h → once h
 legal-once s [] p = tt
 legal-once s (e ∷ h) p = (legal-once s h p.0, comes-once s h e.lane e.deed (legal-inv s h p.0) (next-comes s h e.lane e.deed p.1) (next-fits s h e.lane e.deed p.1))
 
+-- A call whose Out is open had no Back.
+open-out : (t : ℕ → Stage) (i : ℕ → Option Issue) (x : ℕ → Option Admission) (l c : ℕ) (os : List Opener) → Stacked t i x l os → is_member c (open_calls os) ≡ true → (t c).back ≡ false
+open-out t i x l c [] p e = cc
+open-out t i x l c (Pumps n ∷ os) p e = open-out t i x l c os p.2 e
+open-out t i x l c (Enters d o a ∷ os) p e = open-out t i x l c os p.2 e
+open-out t i x l c (Waits d ∷ os) p e =
+    elim (c == d) as (λ b. (c == d) ≡ b → (b || is_member c (open_calls os)) ≡ true → (t c).back ≡ false) [
+      | true ↦ λ q z. subst (λ (k : ℕ). (t k).back ≡ false) (sym (eqb-true c d q)) p.0.1
+      | false ↦ λ q z. open-out t i x l c os p.2 z
+    ] refl e
+
+pub legal-open : (s : Scenario) (h : List Entry) (l c : ℕ) → legal s h → is_member c (open_calls (openers h l)) ≡ true → (stage h c).back ≡ false
+legal-open s h l c p e = open-out (stage h) (issue h) (admitted h) l c (openers h l) ((legal-inv s h p).stacks l) e
+
 -- ---- the calls that entries name
 
 -- The call that a deed names.

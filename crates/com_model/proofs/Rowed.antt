@@ -16,7 +16,7 @@ use Rattle.com_model.specs.Apartments.{HomeEffect, Initialises, Uninitialises, R
 use Rattle.com_model.specs.Objects.{makes, finals}
 use Rattle.com_model.specs.Calls.{Admission, Leaving, object_of, lane_of, issues, admits, leaves, returns, admission_or, leaving_or}
 use Rattle.com_model.specs.Clock.{FilterEffect, Names, Keeps as KeepsFilter, ticked, filter_effect, filter_effect_on, filter_after}
-use Rattle.com_model.specs.Waiting.{Phase, Unposted, Mail, Posts, Judges, Delays, GivesUp, PostsNone, PostEffect, Brings, Takes, Asks, Leaves as LeavesMail, post_effect, phase_after, posted_last, mail_effect, mail_after, bound_reached, Stands, Ends, LeavesQuit, quit_effect, quit_after, no_mail}
+use Rattle.com_model.specs.Waiting.{Phase, Unposted, Mail, Posts, Judges, Delays, GivesUp, PostsNone, PostEffect, Brings, Takes, Asks, Forgets, Leaves as LeavesMail, post_effect, phase_after, posted_last, mail_effect, mail_after, bound_reached, Stands, Ends, LeavesQuit, quit_effect, quit_after, no_mail}
 use Rattle.com_model.specs.Endings.{Ending, EndEffect, EndsCall, CutsObject, CutsSta, EndsNone, end_effect, ends, can_be_cut}
 use Rattle.com_model.specs.Books.{out_values}
 use Rattle.com_model.specs.State.{State, openers_in, served_in, grown, issued_by, issue_in, named_in, admitted_in, filter_in, books_in, sight_of, is_marshalled_by, enters, let_go, end_effect_in, ends_in, endings_by, unread_by, after_entry, changed, changed_at, changed_from_one, opens, serves_more, homes_change, counts_change, made_change, over_change, filters_change, mail_lane, mail_change, quit_lane, quit_change, admissions_by, leavings_by, returned_by, phases_by, tables_after, after_by, after}
@@ -173,6 +173,7 @@ mail-row l k (deed.Post (pos j) w hr) m = brings-row (j == k) (is_S_OK hr) w m
 mail-row l k (deed.Post (negsuc j) w hr) m = sym (same-both (l == k) m)
 mail-row l k (deed.Word w) m = mail-if (l == k) Takes m
 mail-row l k (deed.Pending c w n) m = mail-if (l == k) (Asks c n) m
+mail-row l k (deed.Back c hr v) m = mail-if (l == k) (Forgets c) m
 mail-row l k _ m = sym (same-both (l == k) m)
 
 sends-row : (c ok b : Bool) → quit_after (cond (c && ok) Stands LeavesQuit) b ≡ cond c (changed (where_true ok (λ x. true)) b) b

@@ -13,6 +13,7 @@ pub mod Endings
 pub mod Places
 pub mod Books
 pub mod Waiting
+pub mod LastAsked
 pub mod Dying
 pub mod Issue
 pub mod Sight

@@ -27,7 +27,7 @@ use Rattle.com_books.specs.Changes.{Books}
 use Rattle.com_books.specs.declared.keeps.Packet.{Packet}
 use Rattle.com_books.specs.declared.keeps.Cookie.{Cookie}
 use Rattle.com_model.specs.Books.{most, closed, out_values, holders_in, books}
-use Rattle.com_model.specs.Waiting.{Phase, Queued, Judged, Delayed, GivenUp, PostEffect, Posts, Judges, Delays, GivesUp, PostsNone, Brings, Takes, Asks, Unposted, Mail, no_mail, post_effect, is_queued, posted_last, mail_after, bound_reached, phase, postings, mail, quit_stands}
+use Rattle.com_model.specs.Waiting.{Phase, Queued, Judged, Delayed, GivenUp, PostEffect, Posts, Judges, Delays, GivesUp, PostsNone, Brings, Takes, Asks, Forgets, Unposted, Mail, no_mail, post_effect, is_queued, posted_last, mail_after, bound_reached, phase, postings, mail, quit_stands}
 use Rattle.com_model.specs.Dying.{is_entered, is_dying_by, fallen_more, fallen}
 use Rattle.com_model.specs.Issue.{action_refusal, or_ok, at_issue, unread}
 use Rattle.com_model.specs.Sight.{Sight}
@@ -319,6 +319,7 @@ abbrev pub mail_change : Deed → Option (Mail → Mail)
 mail_change (deed.Post (pos m) w hr) = where_true (is_S_OK hr) (mail_after (Brings w))
 mail_change (deed.Word w) = Some (mail_after Takes)
 mail_change (deed.Pending c w n) = Some (mail_after (Asks c n))
+mail_change (deed.Back c hr v) = Some (mail_after (Forgets c))
 mail_change _ = None
 
 abbrev pub quit_lane : ℕ → Deed → ℕ

@@ -72,8 +72,8 @@ waits_in s h a c =
 abbrev pub inbox : Scenario → List Entry → ℕ → List ℕ
 inbox s h a = filter (waits_in s h a) (postings h)
 
--- A lane's words, each with its number among all that were posted to the lane, from 1; and for each Out of the lane the number
--- of the word that it was last asked about, 0 at first.
+-- A lane's words, each with its number among all that were posted to the lane, from 1; and for each open Out of the lane the
+-- number of the word that it was last asked about, 0 at first: one mark at most for each.
 pub record Mail : Type 0 where
   pub posted : ℕ
   pub words : List Word
@@ -82,17 +82,21 @@ pub record Mail : Type 0 where
 abbrev pub no_mail : Mail
 no_mail = record { posted = 0; words = []; marks = [] }
 
--- The last mark of an Out, and 0 where it has none.
+-- The mark of an Out, and 0 where it has none.
 abbrev pub mark_of : List Mark → ℕ → ℕ
 mark_of [] c = 0
 mark_of (m ∷ ms) c = if m.call == c then m.number else mark_of ms c
 
+abbrev pub without_mark : ℕ → List Mark → List Mark
+without_mark c ms = filter (λ (m : Mark). not (m.call == c)) ms
+
 -- A Post with S_OK brings a word; a Word takes the first; a Pending asks about the first that its Out was not asked about yet,
--- and takes that word where its answer is 2, PENDINGMSG_WAITDEFPROCESS.
+-- and takes that word where its answer is 2, PENDINGMSG_WAITDEFPROCESS; a Back forgets the mark of its call.
 pub data MailEffect : Type 0 where
   Brings : ℤ → MailEffect
   Takes : MailEffect
   Asks : (call answer : ℕ) → MailEffect
+  Forgets : (call : ℕ) → MailEffect
   Leaves : MailEffect
 
 abbrev pub brings : ℕ → ℤ → ℤ → HResult → MailEffect
@@ -103,6 +107,7 @@ abbrev pub mail_effect : ℕ → (own : Bool) → Deed → MailEffect
 mail_effect l own (deed.Post m w hr) = brings l m w hr
 mail_effect l own (deed.Word w) = if own then Takes else Leaves
 mail_effect l own (deed.Pending c w n) = if own then Asks c n else Leaves
+mail_effect l own (deed.Back c hr v) = if own then Forgets c else Leaves
 mail_effect l own _ = Leaves
 
 abbrev pub not_asked : ℕ → List Word → Option Word
@@ -114,12 +119,14 @@ taken_if n k ws = if n == 2 then filter (λ (w : Word). not (w.number == k)) ws 
 
 abbrev pub asked_about : ℕ → ℕ → Option Word → Mail → Mail
 asked_about c n None m = m
-asked_about c n (Some w) m = record m { words = taken_if n w.number m.words; marks = record { call = c; number = w.number } ∷ m.marks }
+asked_about c n (Some w) m =
+    record m { words = taken_if n w.number m.words; marks = record { call = c; number = w.number } ∷ without_mark c m.marks }
 
 abbrev pub mail_after : MailEffect → Mail → Mail
 mail_after (Brings w) m = record m { posted = m.posted + 1; words = m.words ++ record { number = m.posted + 1; word = w } ∷ [] }
 mail_after Takes m = record m { words = without_first m.words }
 mail_after (Asks c n) m = asked_about c n (not_asked (mark_of m.marks c) m.words) m
+mail_after (Forgets c) m = record m { marks = without_mark c m.marks }
 mail_after Leaves m = m
 
 abbrev pub mail : List Entry → ℕ → Mail

@@ -1,15 +1,17 @@
 //! Laws of every legal history, stated on functions that do nothing.
 
 ghost use Rattle.com_model.specs.BooksTie.{BooksTie};
-ghost use Rattle.std.specs.Prelude.{◌≡◌, ℕ, List, [], ◌∷◌, length, Option, Some, None};
+ghost use Rattle.std.specs.Prelude.{◌≡◌, ℕ, Bool, true, List, [], ◌∷◌, length, Option, Some, None};
 ghost use Rattle.com_base.specs.declared.hresult.HResult.{HResult};
 ghost use Rattle.com_base.specs.declared.value.Value.{Value};
 ghost use Rattle.com_model.specs.declared.deeds.Deed.{Deed};
 ghost use Rattle.com_model.specs.declared.deeds.Deed.TheVariants as deed;
 ghost use Rattle.com_model.specs.declared.deeds.Entry.{Entry};
 ghost use Rattle.com_model.specs.declared.scenario.Scenario.{Scenario};
-ghost use Rattle.com_model.specs.Lists.{first};
-ghost use Rattle.com_model.specs.Openers.{nested, openers, Waits, top_call};
+ghost use Rattle.com_model.specs.Lists.{first, is_member};
+ghost use Rattle.com_model.specs.Openers.{nested, open_calls, openers, Waits, top_call};
+ghost use Rattle.com_model.specs.Waiting.{mark_of, mail};
+ghost use Rattle.com_model.specs.LastAsked.{last_asked};
 ghost use Rattle.com_model.specs.Rules.{legal, next};
 ghost use Rattle.com_model.specs.Safe.{once};
 ghost use Rattle.com_model.specs.Ends.{scheduled, ended_as, text, report};
@@ -59,6 +61,12 @@ pub fn state_stands()
 /// Where a state stands for a history, the next entry of each lane by the state's tables is the next one after the history.
 pub fn next_stands()
     ensures { (s : Scenario) (st : State) (h : List Entry) (l : ℕ) → StandsFor s st h → next_of s st l ≡ next s h l }
+{}
+
+/// A lane keeps one mark for each of its open Outs. In each legal history the mark of an open Out is the number of the word
+/// that a Pending asked about last for this call, and 0 where none did.
+pub fn marks_kept()
+    ensures { (s : Scenario) (h : List Entry) (l c : ℕ) → legal s h → is_member c (open_calls (openers h l)) ≡ true → mark_of (mail h l).marks c ≡ last_asked h l c }
 {}
 
 /// The scheduled histories of small worked cases are those that stand in the definitions, and each is legal and ends well. While

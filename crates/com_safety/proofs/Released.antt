@@ -82,7 +82,7 @@ held-in : (live : ℕ → Bool) (o : ℕ) (b : Books) (n d : ℕ) → live o ≡
 held-in live o b n d e = ap (λ t. cond t (n + held_outside (cut live b) o) d) e ∙ ap (λ k. n + k) (cut-holds live o b e)
 
 -- What is connected has a holder.
-live-held : (s : Scenario) (h : List Entry) (o : ℕ) → (books s h).live o ≡ true → (holders s h o == 0) ≡ false
+pub live-held : (s : Scenario) (h : List Entry) (o : ℕ) → (books s h).live o ≡ true → (holders s h o == 0) ≡ false
 live-held s [] o e = cc
 live-held s (e ∷ h) o q =
     let b : Books = most s (ground s (e ∷ h)) (scene s (e ∷ h)) (act s h e.lane) (λ c. is_leave (ending s h c)) (number_or_zero (running s h e.lane)) e.deed (books s h) in

@@ -1,0 +1,12 @@
+pub mod Asked
+pub mod Clears
+pub mod Arrived
+pub mod Placed
+pub mod Calling
+pub mod Below
+pub mod Targets
+pub mod Lives
+pub mod Stays
+pub mod Dyings
+pub mod Orders
+pub mod Laws
