@@ -1,5 +1,7 @@
 -- What the command `objref` makes of a text.
-use Rattle.std.specs.Prelude.{ℕ, ◌-◌, ◌==◌, List, ◌++◌, true, false, Option, Some, None, Result, Ok, Err, length, not, position, unwrap_or, slice_index, take, codes, decimal, if◌then◌else◌}
+use Rattle.std.specs.Prelude.{ℕ, ◌-◌, ◌==◌, List, ◌++◌, true, false, Option, Some, None, Result, Ok, Err}
+use Rattle.std.specs.Prelude.{length, not, position, unwrap_or, slice_index, take, codes, decimal}
+use Rattle.std.specs.Prelude.{if◌then◌else◌}
 use Rattle.std.specs.Int.{to_be_bytes, w32, w64}
 use Rattle.std.specs.Char.{is_ascii_hexdigit}
 use Rattle.hex.specs.Hex.{encode_lower}
@@ -22,22 +24,28 @@ hex64 n = encode_lower (to_be_bytes w64 n)
 -- The lines of the fields that a standard and a handler reference share.
 unfoldable pub fields_text : List ℕ → StdFields → ℕ → List ℕ
 fields_text front fields flags =
-    front ++ codes "iid " ++ text_of fields.iid ++ codes "\nflags " ++ hex32 flags ++ codes "\nrefs " ++ decimal fields.refs
-    ++ codes "\noxid " ++ hex64 fields.oxid ++ codes "\noid " ++ hex64 fields.oid ++ codes "\nipid " ++ text_of fields.ipid ++ codes "\n"
+    front ++ codes "iid " ++ text_of fields.iid ++ codes "\nflags " ++ hex32 flags ++ codes "\nrefs "
+    ++ decimal fields.refs
+    ++ codes "\noxid " ++ hex64 fields.oxid ++ codes "\noid " ++ hex64 fields.oid ++ codes "\nipid "
+    ++ text_of fields.ipid ++ codes "\n"
 
 unfoldable pub strings_text : List ℕ → ℕ → ℕ → List ℕ
-strings_text front entries security = front ++ codes "entries " ++ decimal entries ++ codes " security " ++ decimal security ++ codes "\n"
+strings_text front entries security =
+    front ++ codes "entries " ++ decimal entries ++ codes " security " ++ decimal security ++ codes "\n"
 
 unfoldable pub custom_text : Guid → Guid → ℕ → ℕ → List ℕ
 custom_text iid clsid extension data_length =
-    codes "kind custom\niid " ++ text_of iid ++ codes "\nclsid " ++ text_of clsid ++ codes "\nextension " ++ decimal extension
+    codes "kind custom\niid " ++ text_of iid ++ codes "\nclsid " ++ text_of clsid ++ codes "\nextension "
+    ++ decimal extension
     ++ codes "\ndata " ++ decimal data_length ++ codes "\n"
 
 -- The lines of what an OBJREF says.
 abbrev pub described : Reference → List ℕ
-described (standard fields flags s) = strings_text (fields_text (codes "kind standard\n") fields flags) s.entries s.security
+described (standard fields flags s) =
+    strings_text (fields_text (codes "kind standard\n") fields flags) s.entries s.security
 described (handler fields flags clsid s) =
-    strings_text (fields_text (codes "kind handler\n") fields flags ++ codes "clsid " ++ text_of clsid ++ codes "\n") s.entries s.security
+    strings_text (fields_text (codes "kind handler\n") fields flags ++ codes "clsid " ++ text_of clsid
+    ++ codes "\n") s.entries s.security
 described (custom iid clsid extension unread payload) = custom_text iid clsid extension (length payload)
 
 -- The line of a fault.

@@ -6,7 +6,8 @@ ghost use Rattle.std.specs.Prelude.{◌≡◌, ◌++◌, IfOk, OnOk, codes, leng
 ghost use Rattle.std.specs.Char.{is_ascii_hexdigit};
 ghost use Rattle.objref.specs.Grammar.{reference_of};
 ghost use Rattle.objref.specs.Reading.{objref_of};
-ghost use Rattle.com_objref.specs.Shown.{hex32, hex64, fields_text, strings_text, custom_text, described, fault_text, without_newline, wrong_place, shown_as, shown_of};
+ghost use Rattle.com_objref.specs.Shown.{hex32, hex64, fields_text, strings_text, custom_text, described};
+ghost use Rattle.com_objref.specs.Shown.{fault_text, without_newline, wrong_place, shown_as, shown_of};
 
 pub use com_base::Memory;
 use com_base::{ByteList, Guid, StdFields};

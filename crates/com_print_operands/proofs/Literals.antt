@@ -26,7 +26,7 @@ use Rattle.com_read_operands.specs.declared.operands.Operand.TheVariants as oper
 use Rattle.com_read_operands.specs.Numbers.{is_digit}
 use Rattle.com_read_operands.specs.Literals.{guid_of, are_pairs, unhexed}
 use Rattle.com_read_operands.specs.Reading.{◌>>=◌, word_at, fault_at}
-use Rattle.com_read_operands.specs.Operands.{plain_of, begins_number, numeric_of, numbered, braced, inner, operand_by, operand_of, text_literal, bytes_literal, as_bytes, written, literal_of, op_at, hex_word_of, or_named, hresult_of, as_code, as_code_register, code_at, as_given, given_at}
+use Rattle.com_read_operands.specs.Operands.{plain_of, begins_number, numeric_of, numbered, braced, inner, operand_by, operand_of, text_literal, bytes_literal, as_bytes, written, literal_of, op_at, hex_word_of, or_named, hresult_of, begins_hex, as_code, as_code_register, code_at, as_given, given_at}
 use Rattle.com_print_words.specs.Spelled.{Spelled}
 use Rattle.com_print_operands.specs.Words.{register_word, slot_word, value_word, op_word, code_word, eight_digits}
 use Rattle.com_print_operands.specs.Ranges.{IsLiteral, TakesOp, TakesGiven, FitsValue, FitsOp, FitsCode, FitsGiven, AreBytes, IsWhole, IsGuid}
@@ -226,6 +226,10 @@ unfolding hex_word_of
 no_hex [] = refl
 no_hex (b ∷ bs) = refl
 
+no_hex_begins : (bs : List ℕ) → begins_hex (114 ∷ bs) ≡ false
+no_hex_begins [] = refl
+no_hex_begins (b ∷ bs) = refl
+
 no_name : (bs : List ℕ) (b : Bool) → option_and_then hresult_named (if b then Some (114 ∷ bs) else None) ≡ None
 no_name bs true = refl
 no_name bs false = refl
@@ -250,4 +254,6 @@ code_again line k (answers.Register n) h lt fits =
     ap (λ (r : Result WordAt Fault). r >>= λ w. as_code w (hresult_of w.bytes)) (word_again line k _ s tt)
     ∙ ap (λ (bs : List ℕ). as_code s.word (hresult_of bs)) s.bytes
     ∙ ap (as_code s.word) (register_code (decimal n))
+    ∙ ap (λ (bs : List ℕ). if begins_hex bs then Err (fault_at 3 s.word) else as_code_register s.word (operand_of s.word)) s.bytes
+    ∙ ap (λ (b : Bool). if b then Err (fault_at 3 s.word) else as_code_register s.word (operand_of s.word)) (no_hex_begins (decimal n))
     ∙ ap (as_code_register s.word) (operand_again line k (register_word n) s ∙ register_operand n lt)

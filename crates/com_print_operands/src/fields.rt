@@ -2,7 +2,9 @@
 
 ghost use Rattle.std.specs.Prelude.{◌≡◌, ◌++◌, ◌∷◌, [], OnOk};
 ghost use Rattle.com_print_words.specs.Spelled.{plain, more_text};
-ghost use Rattle.com_print_operands.specs.Words.{place_word, op_word, arg_word, code_word, given_words, destination_words, mode_word, marshal_mode_word, name_at, asked_word};
+ghost use Rattle.com_print_operands.specs.Words.{place_word, op_word, arg_word, code_word, given_words};
+ghost use Rattle.com_print_operands.specs.Words.{destination_words, mode_word, marshal_mode_word, name_at};
+ghost use Rattle.com_print_operands.specs.Words.{asked_word};
 ghost use Rattle.com_print_operands.specs.Ranges.{FitsOp, FitsArg, FitsAsked, FitsCode, FitsGiven};
 
 use crate::numbers::{push_link, push_register, push_slot, push_word};
@@ -121,7 +123,8 @@ pub fn push_name(out: &mut ByteList, names: &[ByteList], number: usize) -> Resul
     push_word(out, name_at(names, number))
 }
 
-/// Appends a class or an interface that a statement asks for: its name, where the names count from `low`, or its GUID.
+/// Appends a class or an interface that a statement asks for: its name, where the names count from `low`, or
+/// its GUID.
 pub fn push_asked(
     out: &mut ByteList,
     names: &[ByteList],

@@ -104,8 +104,8 @@ pub fn push_hresult(out: &mut ByteList, answer: HResult) -> Result<(), Memory>
     )
 }
 
-/// Appends a literal: a number, `true` or `false`, a text or bytes in quotation marks, or a GUID. No literal is a
-/// reference: one is written as `null`.
+/// Appends a literal: a number, `true` or `false`, a text or bytes in quotation marks, or a GUID. No literal
+/// is a reference: one is written as `null`.
 pub fn push_value(out: &mut ByteList, value: &Value) -> Result<(), Memory>
     ensures ok { OnOk result (out.new ≡ out.old ++ more_text (value_word value.now ∷ [])) }
     ensures fits { FitsValue value.now }

@@ -1,6 +1,7 @@
--- A scenario as lines of words: the header, the pool, the interfaces beside the built-in ones, the classes and natives, the
--- filters, the threads and the picks.
-use Rattle.std.specs.Prelude.{ℕ, zero, suc, ◌+◌, List, [], ◌∷◌, ◌++◌, map, drop, Option, Some, None, codes, decimal}
+-- A scenario as lines of words: the header, the pool, the interfaces beside the built-in ones, the classes
+-- and natives, the filters, the threads and the picks.
+use Rattle.std.specs.Prelude.{ℕ, zero, suc, ◌+◌, List, [], ◌∷◌, ◌++◌, map, drop, Option, Some, None, codes}
+use Rattle.std.specs.Prelude.{decimal}
 use Rattle.std.specs.Fmt.{signed_decimal}
 use Rattle.com_base.specs.declared.value.Kind.{Kind}
 use Rattle.com_base.specs.declared.value.Kind.TheVariants as kinds
@@ -71,14 +72,16 @@ result_words names None = []
 result_words names (Some k) = plain (codes "->") ∷ kind_word names k ∷ []
 
 abbrev pub method_words : List (List ℕ) → Method → List Spelled
-method_words names m = plain (codes "method") ∷ plain m.name ∷ (map (kind_word names) m.params ++ result_words names m.result)
+method_words names m =
+    plain (codes "method") ∷ plain m.name ∷ (map (kind_word names) m.params ++ result_words names m.result)
 
 abbrev pub interface_words : Interface → List Spelled
 interface_words i = plain (codes "interface") ∷ plain i.name ∷ plain (text_of_guid i.iid) ∷ []
 
 abbrev pub interface_lines : List (List ℕ) → List Interface → List (List Spelled)
 interface_lines names [] = []
-interface_lines names (i ∷ is) = interface_words i ∷ (map (method_words names) i.methods ++ interface_lines names is)
+interface_lines names (i ∷ is) =
+    interface_words i ∷ (map (method_words names) i.methods ++ interface_lines names is)
 
 -- ---- classes
 
@@ -98,7 +101,9 @@ abbrev pub interface_name : Names → ℕ → Spelled
 interface_name names i = plain (name_at names.interfaces i)
 
 abbrev pub body_words : Names → MethodBody → List Spelled
-body_words names b = plain (codes "body") ∷ plain (name_at names.interfaces b.iface ++ 46 ∷ name_of (method_of names.tables b.iface b.method)) ∷ []
+body_words names b =
+    plain (codes "body") ∷ plain (name_at names.interfaces b.iface ++ 46
+    ∷ name_of (method_of names.tables b.iface b.method)) ∷ []
 
 -- statements, and the line that ends them
 abbrev pub program_lines : Names → List Stmt → List (List Spelled)
@@ -112,7 +117,8 @@ bodies_lines names (b ∷ bs) = body_words names b ∷ (program_lines names b.bo
 
 -- a native has no bodies
 abbrev pub class_lines : Names → Class → Native → List (List Spelled)
-class_lines names c natives.Bodies = class_head (codes "class") c (map (interface_name names) c.interfaces) ∷ bodies_lines names c.bodies
+class_lines names c natives.Bodies =
+    class_head (codes "class") c (map (interface_name names) c.interfaces) ∷ bodies_lines names c.bodies
 class_lines names c natives.Counter = class_head (codes "native") c (plain (codes "counter") ∷ []) ∷ []
 class_lines names c natives.Relay = class_head (codes "native") c (plain (codes "relay") ∷ []) ∷ []
 class_lines names c natives.Latch = class_head (codes "native") c (plain (codes "latch") ∷ []) ∷ []
@@ -145,8 +151,10 @@ kept_word (suc zero) = plain (codes "wait")
 kept_word (suc (suc n)) = plain (codes "discard")
 
 abbrev pub rule_words : Rule → List Spelled
-rule_words (rules.Incoming t ms v) = plain (codes "incoming") ∷ type_word t ∷ number_word ms ∷ verdict_word v ∷ []
-rule_words (rules.Retry v ms answer) = plain (codes "retry") ∷ refusal_word v ∷ number_word ms ∷ plain (signed_decimal answer) ∷ []
+rule_words (rules.Incoming t ms v) =
+    plain (codes "incoming") ∷ type_word t ∷ number_word ms ∷ verdict_word v ∷ []
+rule_words (rules.Retry v ms answer) =
+    plain (codes "retry") ∷ refusal_word v ∷ number_word ms ∷ plain (signed_decimal answer) ∷ []
 rule_words (rules.Pending ms answer) = plain (codes "pending") ∷ number_word ms ∷ kept_word answer ∷ []
 
 -- rules, and the line that ends them
@@ -181,7 +189,8 @@ picks_lines (p ∷ ps) = (plain (codes "picks") ∷ map number_word (p ∷ ps)) 
 abbrev pub sections_lines : Names → Scenario → List (List Spelled)
 sections_lines names s =
     interface_lines names.interfaces (drop 4 s.classes.interfaces)
-    ++ (classes_lines names s.classes.classes ++ (filters_lines 1 s.filters ++ (threads_lines names s.threads ++ picks_lines s.picks)))
+    ++ (classes_lines names s.classes.classes
+    ++ (filters_lines 1 s.filters ++ (threads_lines names s.threads ++ picks_lines s.picks)))
 
 unfoldable pub scenario_lines : Scenario → List (List Spelled)
 scenario_lines s = header_words s.version ∷ pool_words s.pool ∷ sections_lines (names_in s) s

@@ -4,7 +4,8 @@ ghost use Rattle.std.specs.Prelude.{◌≡◌, ◌≤◌, ◌++◌, ◌∷◌, [
 ghost use Rattle.com_body.specs.declared.frame.Native.TheVariants as natives;
 ghost use Rattle.com_print_operands.specs.Ranges.{Fits, IsGuid};
 ghost use Rattle.com_print_words.specs.Spelled.{plain, words_text, more_text, line_text, text_of};
-ghost use Rattle.com_print_scenario.specs.Printed.{program_lines, body_words, bodies_lines, class_head, interface_name, class_lines, classes_lines, model_word};
+ghost use Rattle.com_print_scenario.specs.Printed.{program_lines, body_words, bodies_lines, class_head};
+ghost use Rattle.com_print_scenario.specs.Printed.{interface_name, class_lines, classes_lines, model_word};
 ghost use Rattle.com_print_scenario.specs.Ranges.{FitsProgram, FitsBodies, FitsClass};
 
 use com_base::{ByteList, Memory};
@@ -97,7 +98,9 @@ fn push_listed(out: &mut ByteList, names: &Names, interfaces: &[u16]) -> Result<
 
 /// Appends a class's first line.
 fn push_class_line(out: &mut ByteList, names: &Names, class: &Class) -> Result<(), Memory>
-    ensures ok { OnOk result (out.new ≡ out.old ++ line_text (class_head (codes "class") class.now (map (interface_name names.now) class.now.interfaces))) }
+    ensures ok { OnOk result (out.new ≡ out.old
+        ++ line_text (class_head (codes "class") class.now
+        (map (interface_name names.now) class.now.interfaces))) }
     ensures fits { OnOk result (IsGuid class.now.clsid) }
 {
     push_class_head(out, b"class", class)?;
@@ -107,7 +110,8 @@ fn push_class_line(out: &mut ByteList, names: &Names, class: &Class) -> Result<(
 
 /// Appends a native's line.
 fn push_native(out: &mut ByteList, class: &Class, kind: &[u8]) -> Result<(), Memory>
-    ensures ok { OnOk result (out.new ≡ out.old ++ line_text (class_head (codes "native") class.now (plain kind.now ∷ []))) }
+    ensures ok { OnOk result (out.new ≡ out.old
+        ++ line_text (class_head (codes "native") class.now (plain kind.now ∷ []))) }
     ensures fits { OnOk result (IsGuid class.now.clsid) }
 {
     push_class_head(out, b"native", class)?;
@@ -126,7 +130,8 @@ fn push_bodied(out: &mut ByteList, names: &Names, class: &Class) -> Result<(), M
 
 /// Appends a class or a native. A native has no bodies of its own.
 fn push_class(out: &mut ByteList, names: &Names, class: &Class) -> Result<(), Memory>
-    ensures ok { OnOk result (out.new ≡ out.old ++ text_of (class_lines names.now class.now class.now.native)) }
+    ensures ok { OnOk result (out.new ≡ out.old
+        ++ text_of (class_lines names.now class.now class.now.native)) }
     ensures fits { OnOk result (FitsClass class.now) }
 {
     match class.native {

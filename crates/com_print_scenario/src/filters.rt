@@ -3,7 +3,9 @@
 ghost use Rattle.std.specs.Prelude.{◌≡◌, ◌+◌, ◌++◌, ◌∷◌, [], OnOk, All, map, codes};
 ghost use Rattle.std.specs.Fmt.{signed_decimal};
 ghost use Rattle.com_print_words.specs.Spelled.{plain, more_text, words_text, line_text, text_of};
-ghost use Rattle.com_print_scenario.specs.Printed.{number_word, type_word, verdict_word, refusal_word, kept_word, rule_words, rules_lines, filter_words, filters_lines, threads_lines, picks_lines};
+ghost use Rattle.com_print_scenario.specs.Printed.{number_word, type_word, verdict_word, refusal_word};
+ghost use Rattle.com_print_scenario.specs.Printed.{kept_word, rule_words, rules_lines, filter_words};
+ghost use Rattle.com_print_scenario.specs.Printed.{filters_lines, threads_lines, picks_lines};
 ghost use Rattle.com_print_scenario.specs.Ranges.{FitsProgram};
 
 use crate::classes::push_program;
@@ -60,7 +62,8 @@ fn push_incoming(
     ms: u32,
     verdict: Verdict,
 ) -> Result<(), Memory>
-    ensures { OnOk result (out.new ≡ out.old ++ words_text (plain (codes "incoming") ∷ type_word call_type ∷ number_word ms ∷ verdict_word verdict ∷ [])) }
+    ensures { OnOk result (out.new ≡ out.old ++ words_text (plain (codes "incoming") ∷ type_word call_type
+        ∷ number_word ms ∷ verdict_word verdict ∷ [])) }
 {
     out.push_all(b"incoming")?;
     push_type(out, call_type)?;
@@ -74,7 +77,8 @@ fn push_retry(
     ms: u32,
     answer: i64,
 ) -> Result<(), Memory>
-    ensures { OnOk result (out.new ≡ out.old ++ words_text (plain (codes "retry") ∷ refusal_word verdict ∷ number_word ms ∷ plain (signed_decimal answer) ∷ [])) }
+    ensures { OnOk result (out.new ≡ out.old ++ words_text (plain (codes "retry") ∷ refusal_word verdict
+        ∷ number_word ms ∷ plain (signed_decimal answer) ∷ [])) }
 {
     out.push_all(b"retry")?;
     push_refusal(out, verdict)?;
@@ -83,7 +87,8 @@ fn push_retry(
 }
 
 fn push_pending(out: &mut ByteList, ms: u32, answer: u8) -> Result<(), Memory>
-    ensures { OnOk result (out.new ≡ out.old ++ words_text (plain (codes "pending") ∷ number_word ms ∷ kept_word answer ∷ [])) }
+    ensures { OnOk result (out.new ≡ out.old
+        ++ words_text (plain (codes "pending") ∷ number_word ms ∷ kept_word answer ∷ [])) }
 {
     out.push_all(b"pending")?;
     push_decimal(out, u64::from(ms))?;

@@ -3,7 +3,8 @@
 ghost use Rattle.std.specs.Prelude.{◌≡◌, ◌≤◌, ◌++◌, ◌∷◌, [], OnOk, All, codes, length, map};
 ghost use Rattle.com_print_operands.specs.Ranges.{IsGuid};
 ghost use Rattle.com_print_words.specs.Spelled.{plain, words_text, more_text, line_text, text_of};
-ghost use Rattle.com_print_scenario.specs.Printed.{kind_word, result_words, method_words, interface_words, interface_lines};
+ghost use Rattle.com_print_scenario.specs.Printed.{kind_word, result_words, method_words, interface_words};
+ghost use Rattle.com_print_scenario.specs.Printed.{interface_lines};
 ghost use Rattle.com_print_scenario.specs.Ranges.{FitsInterface};
 
 use com_base::{ByteList, Kind, Memory};
@@ -95,7 +96,8 @@ fn push_interface(
     interface: &Interface,
 ) -> Result<(), Memory>
     ensures ok { OnOk result (out.new ≡
-        out.old ++ (line_text (interface_words interface.now) ++ text_of (map (method_words names.now) interface.now.methods))) }
+        out.old ++ (line_text (interface_words interface.now)
+        ++ text_of (map (method_words names.now) interface.now.methods))) }
     ensures fits { OnOk result (IsGuid interface.now.iid) }
 {
     push_interface_head(out, interface)?;

@@ -14,5 +14,6 @@ ghost use Rattle.com_print_scenario.specs.Ranges.{FitsTypes};
 /// alone, and its text is read as what the scenario declares.
 pub fn printed_is_read()
     ensures words { (s : Scenario) → Formed s → FitsTypes s → AreLines (scenario_lines s) }
-    ensures again { (s : Scenario) → Formed s → FitsTypes s → read (begun built_in_interfaces) (lines_of (printed s)) ≡ Ok (outline_of s) }
+    ensures again { (s : Scenario) → Formed s → FitsTypes s
+        → read (begun built_in_interfaces) (lines_of (printed s)) ≡ Ok (outline_of s) }
 {}

@@ -1,5 +1,6 @@
 -- Statements that can be written: what stands where, and what must be declared.
-use Rattle.std.specs.Prelude.{◌≡◌, ℕ, ◌≤◌, ◌<◌, ◌⊎◌, true, false, List, [], ◌∷◌, Option, Some, None, length, take, All, codes}
+use Rattle.std.specs.Prelude.{◌≡◌, ℕ, ◌≤◌, ◌<◌, ◌⊎◌, true, false, List, [], ◌∷◌, Option, Some, None, length}
+use Rattle.std.specs.Prelude.{take, All, codes}
 use Rattle.std.specs.Str.{bytes_eq}
 use Rattle.com_base.specs.declared.value.Kind.{Kind}
 use Rattle.com_base.specs.declared.value.Kind.TheVariants as kinds
@@ -74,7 +75,8 @@ TakesMethod (Some m) given to = TakesArgs m.params given × TakesResult m.result
 abbrev pub IsCall : Names → ℕ → ℕ → List Arg → Destination → Type 0
 IsCall names iface method given to =
     (iface < length names.interfaces)
-    × (((given ≡ []) × (to ≡ destinations.Nowhere)) ⊎ TakesMethod (method_of names.tables iface method) given to)
+    × (((given ≡ []) × (to ≡ destinations.Nowhere))
+    ⊎ TakesMethod (method_of names.tables iface method) given to)
 
 -- Whether a statement can stand in a script or a body among these names.
 abbrev pub Stands : Program → Names → Stmt → Type 0

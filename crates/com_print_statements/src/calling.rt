@@ -65,7 +65,8 @@ fn push_target(
     args: &[Arg],
     destination: Destination,
 ) -> Result<(), Memory>
-    ensures { OnOk result (out.new ≡ out.old ++ more_text (target_word names.now iface method args.now destination ∷ [])) }
+    ensures { OnOk result (out.new ≡ out.old
+        ++ more_text (target_word names.now iface method args.now destination ∷ [])) }
 {
     out.push(b' ')?;
     out.push_all(name_at(names.interfaces.as_slice(), iface as usize))?;
@@ -87,7 +88,8 @@ pub(crate) fn call(
     destination: Destination,
 ) -> Result<(), Memory>
     ensures ok { OnOk result (out.new ≡ out.old ++ words_text (plain (codes "call") ∷ slot_word slot
-        ∷ target_word names.now iface method args.now destination ∷ (map arg_word args.now ++ destination_words destination))) }
+        ∷ target_word names.now iface method args.now destination
+        ∷ (map arg_word args.now ++ destination_words destination))) }
     ensures fits { OnOk result ((method < 2 ^ 16) × All FitsArg args.now) }
 {
     one_slot(out, b"call", slot)?;

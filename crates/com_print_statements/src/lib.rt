@@ -1,4 +1,5 @@
-//! Statements of bodies and scripts as they are written: each as the words of its line, which reading gives back.
+//! Statements of bodies and scripts as they are written: each as the words of its line, which reading gives
+//! back.
 #![tactic(auto)]
 
 mod calling;

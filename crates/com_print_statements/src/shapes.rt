@@ -3,7 +3,9 @@
 ghost use Rattle.std.specs.Prelude.{◌≡◌, ◌++◌, ◌∷◌, [], OnOk, decimal};
 ghost use Rattle.hex.specs.Hex.{encode_lower};
 ghost use Rattle.com_print_words.specs.Spelled.{plain, words_text};
-ghost use Rattle.com_print_operands.specs.Words.{register_word, slot_word, cell_word, buffer_word, place_word, op_word, code_word, given_words, asked_word, marshal_mode_word};
+ghost use Rattle.com_print_operands.specs.Words.{register_word, slot_word, cell_word, buffer_word};
+ghost use Rattle.com_print_operands.specs.Words.{place_word, op_word, code_word, given_words, asked_word};
+ghost use Rattle.com_print_operands.specs.Words.{marshal_mode_word};
 ghost use Rattle.com_print_operands.specs.Ranges.{AreBytes, FitsOp, FitsAsked, FitsCode, FitsGiven};
 
 use com_base::{ByteList, MarshalMode, Memory};
@@ -20,7 +22,8 @@ pub(crate) fn register_op(
     register: u8,
     op: &Op,
 ) -> Result<(), Memory>
-    ensures ok { OnOk result (out.new ≡ out.old ++ words_text (plain keyword.now ∷ register_word register ∷ op_word op.now ∷ [])) }
+    ensures ok { OnOk result (out.new ≡ out.old
+        ++ words_text (plain keyword.now ∷ register_word register ∷ op_word op.now ∷ [])) }
     ensures fits { OnOk result (FitsOp op.now) }
 {
     out.push_all(keyword)?;
@@ -37,7 +40,8 @@ pub(crate) fn register_ops(
     right: &Op,
 ) -> Result<(), Memory>
     ensures ok { OnOk result (out.new ≡
-        out.old ++ words_text (plain keyword.now ∷ register_word register ∷ op_word left.now ∷ op_word right.now ∷ [])) }
+        out.old ++ words_text (plain keyword.now ∷ register_word register ∷ op_word left.now
+        ∷ op_word right.now ∷ [])) }
     ensures fits { OnOk result (FitsOp left.now × FitsOp right.now) }
 {
     register_op(out, keyword, register, left)?;
@@ -53,7 +57,8 @@ pub(crate) fn register_slots(
     right: u8,
 ) -> Result<(), Memory>
     ensures { OnOk result (out.new ≡
-        out.old ++ words_text (plain keyword.now ∷ register_word register ∷ slot_word left ∷ slot_word right ∷ [])) }
+        out.old ++ words_text (plain keyword.now ∷ register_word register ∷ slot_word left ∷ slot_word right
+        ∷ [])) }
 {
     register_slot(out, keyword, register, left)?;
     push_slot(out, right)
@@ -66,7 +71,8 @@ pub(crate) fn register_slot(
     register: u8,
     slot: u8,
 ) -> Result<(), Memory>
-    ensures { OnOk result (out.new ≡ out.old ++ words_text (plain keyword.now ∷ register_word register ∷ slot_word slot ∷ [])) }
+    ensures { OnOk result (out.new ≡ out.old
+        ++ words_text (plain keyword.now ∷ register_word register ∷ slot_word slot ∷ [])) }
 {
     out.push_all(keyword)?;
     push_register(out, register)?;
@@ -80,7 +86,8 @@ pub(crate) fn register_cell(
     register: u8,
     cell: u8,
 ) -> Result<(), Memory>
-    ensures { OnOk result (out.new ≡ out.old ++ words_text (plain keyword.now ∷ register_word register ∷ cell_word cell ∷ [])) }
+    ensures { OnOk result (out.new ≡ out.old
+        ++ words_text (plain keyword.now ∷ register_word register ∷ cell_word cell ∷ [])) }
 {
     out.push_all(keyword)?;
     push_register(out, register)?;
@@ -89,7 +96,8 @@ pub(crate) fn register_cell(
 
 /// A cell and an operand.
 pub(crate) fn cell_op(out: &mut ByteList, keyword: &[u8], cell: u8, op: &Op) -> Result<(), Memory>
-    ensures ok { OnOk result (out.new ≡ out.old ++ words_text (plain keyword.now ∷ cell_word cell ∷ op_word op.now ∷ [])) }
+    ensures ok { OnOk result (out.new ≡ out.old
+        ++ words_text (plain keyword.now ∷ cell_word cell ∷ op_word op.now ∷ [])) }
     ensures fits { OnOk result (FitsOp op.now) }
 {
     out.push_all(keyword)?;
@@ -99,7 +107,8 @@ pub(crate) fn cell_op(out: &mut ByteList, keyword: &[u8], cell: u8, op: &Op) -> 
 
 /// A number.
 pub(crate) fn number(out: &mut ByteList, keyword: &[u8], number: u32) -> Result<(), Memory>
-    ensures { OnOk result (out.new ≡ out.old ++ words_text (plain keyword.now ∷ plain (decimal number) ∷ [])) }
+    ensures { OnOk result (out.new ≡ out.old
+        ++ words_text (plain keyword.now ∷ plain (decimal number) ∷ [])) }
 {
     out.push_all(keyword)?;
     push_decimal(out, number as u64)
@@ -112,7 +121,8 @@ pub(crate) fn register_number(
     register: u8,
     number: u32,
 ) -> Result<(), Memory>
-    ensures { OnOk result (out.new ≡ out.old ++ words_text (plain keyword.now ∷ register_word register ∷ plain (decimal number) ∷ [])) }
+    ensures { OnOk result (out.new ≡ out.old
+        ++ words_text (plain keyword.now ∷ register_word register ∷ plain (decimal number) ∷ [])) }
 {
     out.push_all(keyword)?;
     push_register(out, register)?;
@@ -155,7 +165,8 @@ pub(crate) fn slots_interface(
     from: u8,
     iface: Asked,
 ) -> Result<(), Memory>
-    ensures ok { OnOk result (out.new ≡ out.old ++ words_text (plain keyword.now ∷ slot_word to ∷ slot_word from
+    ensures ok { OnOk result (out.new ≡ out.old
+        ++ words_text (plain keyword.now ∷ slot_word to ∷ slot_word from
         ∷ asked_word interfaces.now 0 iface ∷ [])) }
     ensures fits { OnOk result (FitsAsked iface) }
 {
@@ -179,7 +190,8 @@ pub(crate) fn two_places(
     to: Place,
     from: Place,
 ) -> Result<(), Memory>
-    ensures { OnOk result (out.new ≡ out.old ++ words_text (plain keyword.now ∷ place_word to ∷ place_word from ∷ [])) }
+    ensures { OnOk result (out.new ≡ out.old
+        ++ words_text (plain keyword.now ∷ place_word to ∷ place_word from ∷ [])) }
 {
     one_place(out, keyword, to)?;
     push_place(out, from)
@@ -202,7 +214,8 @@ pub(crate) fn buffer_slot_mode(
     mode: MarshalMode,
 ) -> Result<(), Memory>
     ensures { OnOk result (out.new ≡
-        out.old ++ words_text (plain keyword.now ∷ buffer_word buffer ∷ slot_word slot ∷ marshal_mode_word mode ∷ [])) }
+        out.old ++ words_text (plain keyword.now ∷ buffer_word buffer ∷ slot_word slot
+        ∷ marshal_mode_word mode ∷ [])) }
 {
     one_buffer(out, keyword, buffer)?;
     push_slot(out, slot)?;
@@ -216,7 +229,8 @@ pub(crate) fn slot_buffer(
     slot: u8,
     buffer: u8,
 ) -> Result<(), Memory>
-    ensures { OnOk result (out.new ≡ out.old ++ words_text (plain keyword.now ∷ slot_word slot ∷ buffer_word buffer ∷ [])) }
+    ensures { OnOk result (out.new ≡ out.old
+        ++ words_text (plain keyword.now ∷ slot_word slot ∷ buffer_word buffer ∷ [])) }
 {
     one_slot(out, keyword, slot)?;
     push_buffer(out, buffer)
@@ -230,7 +244,8 @@ pub(crate) fn buffer_bytes(
     bytes: &ByteList,
 ) -> Result<(), Memory>
     ensures ok { OnOk result (out.new ≡
-        out.old ++ words_text (plain keyword.now ∷ buffer_word buffer ∷ plain (encode_lower bytes.now) ∷ [])) }
+        out.old ++ words_text (plain keyword.now ∷ buffer_word buffer ∷ plain (encode_lower bytes.now)
+        ∷ [])) }
     ensures fits { OnOk result (AreBytes bytes.now) }
 {
     one_buffer(out, keyword, buffer)?;
@@ -239,7 +254,8 @@ pub(crate) fn buffer_bytes(
 
 /// A slot and an operand.
 pub(crate) fn slot_op(out: &mut ByteList, keyword: &[u8], slot: u8, op: &Op) -> Result<(), Memory>
-    ensures ok { OnOk result (out.new ≡ out.old ++ words_text (plain keyword.now ∷ slot_word slot ∷ op_word op.now ∷ [])) }
+    ensures ok { OnOk result (out.new ≡ out.old
+        ++ words_text (plain keyword.now ∷ slot_word slot ∷ op_word op.now ∷ [])) }
     ensures fits { OnOk result (FitsOp op.now) }
 {
     one_slot(out, keyword, slot)?;
@@ -262,7 +278,8 @@ pub(crate) fn two_ops(
     left: &Op,
     right: &Op,
 ) -> Result<(), Memory>
-    ensures ok { OnOk result (out.new ≡ out.old ++ words_text (plain keyword.now ∷ op_word left.now ∷ op_word right.now ∷ [])) }
+    ensures ok { OnOk result (out.new ≡ out.old
+        ++ words_text (plain keyword.now ∷ op_word left.now ∷ op_word right.now ∷ [])) }
     ensures fits { OnOk result (FitsOp left.now × FitsOp right.now) }
 {
     one_op(out, keyword, left)?;
@@ -276,7 +293,8 @@ pub(crate) fn code_given(
     answer: Code,
     given: &Given,
 ) -> Result<(), Memory>
-    ensures ok { OnOk result (out.new ≡ out.old ++ words_text (plain keyword.now ∷ code_word answer ∷ given_words given.now)) }
+    ensures ok { OnOk result (out.new ≡ out.old
+        ++ words_text (plain keyword.now ∷ code_word answer ∷ given_words given.now)) }
     ensures fits { OnOk result (FitsCode answer × FitsGiven given.now) }
 {
     out.push_all(keyword)?;

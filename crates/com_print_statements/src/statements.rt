@@ -19,9 +19,10 @@ use com_print_operands::{push_mode, push_name, push_word};
 use com_print_words::push_end;
 use com_read_statements::Names;
 
-/// Appends the line of a statement: its words with single spaces between them, and the line's end. Classes, interfaces,
-/// methods and filters are written by their names, and nothing stands for one that is not declared. The only error is
-/// want of memory. Where the line was written, each number of the statement is one that its type has.
+/// Appends the line of a statement: its words with single spaces between them, and the line's end. Classes,
+/// interfaces, methods and filters are written by their names, and nothing stands for one that is not
+/// declared. The only error is want of memory. Where the line was written, each number of the statement is
+/// one that its type has.
 pub fn write_statement(names: &Names, statement: &Stmt, out: &mut ByteList) -> Result<(), Memory>
     ensures ok { OnOk result (out.new ≡ out.old ++ line_text (statement_words names.now statement.now)) }
     ensures fits { OnOk result (Fits statement.now) }
@@ -100,7 +101,8 @@ fn init(out: &mut ByteList, mode: Mode) -> Result<(), Memory>
 
 // Filters count from 1.
 fn set_filter(out: &mut ByteList, names: &Names, filter: Option<u32>) -> Result<(), Memory>
-    ensures { OnOk result (out.new ≡ out.old ++ words_text (plain (codes "setfilter") ∷ filter_word names.now filter ∷ [])) }
+    ensures { OnOk result (out.new ≡ out.old
+        ++ words_text (plain (codes "setfilter") ∷ filter_word names.now filter ∷ [])) }
 {
     out.push_all(b"setfilter")?;
     match filter {

@@ -1,5 +1,6 @@
 -- Words as they are written.
-use Rattle.std.specs.Prelude.{◌≡◌, ℕ, ◌≤◌, ◌%◌, List, [], ◌∷◌, ◌++◌, Bool, true, false, not, ◌&&◌, ◌||◌, ◌==◌, nat_le, length, map}
+use Rattle.std.specs.Prelude.{◌≡◌, ℕ, ◌≤◌, ◌%◌, List, [], ◌∷◌, ◌++◌, Bool, true, false, not, ◌&&◌, ◌||◌, ◌==◌}
+use Rattle.std.specs.Prelude.{nat_le, length, map}
 use Rattle.std.specs.List.{list_all}
 use Rattle.std.specs.Char.{is_ascii_hexdigit}
 use Rattle.com_text.specs.declared.word.Sort.{Sort}
@@ -44,7 +45,9 @@ IsTextWord bytes = (inner : List ℕ) × (bytes ≡ 34 ∷ (inner ++ 34 ∷ []))
 
 -- a bytes literal has pairs of hexadecimal digits between x" and a quotation mark
 abbrev pub IsBytesWord : List ℕ → Type 0
-IsBytesWord bytes = (digits : List ℕ) × (bytes ≡ 120 ∷ 34 ∷ (digits ++ 34 ∷ [])) × (list_all is_ascii_hexdigit digits ≡ true) × (length digits % 2 ≡ 0)
+IsBytesWord bytes =
+    (digits : List ℕ) × (bytes ≡ 120 ∷ 34 ∷ (digits ++ 34 ∷ [])) × (list_all is_ascii_hexdigit digits ≡ true)
+    × (length digits % 2 ≡ 0)
 
 abbrev pub IsSpelledAs : Sort → List ℕ → Type 0
 IsSpelledAs sorts.Plain bytes = IsPlainWord bytes

@@ -7,6 +7,7 @@ ghost use Rattle.com_print_words.specs.Spelled.{Spelled, AreLines, Shown, shown,
 /// The text of lines of good words is read as these lines of the very words, and one empty line
 /// behind the last line end, with which the text ends.
 pub fn written_is_read()
-    ensures words { (lines : List (List Spelled)) → AreLines lines → map shown (lines_of (text_of lines)) ≡ lines ++ [] ∷ [] }
+    ensures words { (lines : List (List Spelled)) → AreLines lines → map shown (lines_of (text_of lines))
+        ≡ lines ++ [] ∷ [] }
     ensures whole { (lines : List (List Spelled)) → AreLines lines → Shown lines (lines_of (text_of lines)) }
 {}

@@ -1,5 +1,6 @@
 -- GUIDs, and bytes in hexadecimal digits.
-use Rattle.std.specs.Prelude.{ℕ, ◌%◌, List, length, Option, Some, None, Result, Ok, Err, Bool, ◌&&◌, ◌==◌, if◌then◌else◌, option_and_then}
+use Rattle.std.specs.Prelude.{ℕ, ◌%◌, List, length, Option, Some, None, Result, Ok, Err, Bool, ◌&&◌, ◌==◌}
+use Rattle.std.specs.Prelude.{if◌then◌else◌, option_and_then}
 use Rattle.std.specs.List.{list_all}
 use Rattle.std.specs.Char.{is_ascii, is_ascii_hexdigit}
 use Rattle.hex.specs.Hex.{decode_of}

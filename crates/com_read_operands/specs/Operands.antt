@@ -1,5 +1,7 @@
 -- Operands: what a word says by its form alone, and what a place takes.
-use Rattle.std.specs.Prelude.{ℕ, ◌+◌, ◌-◌, ◌*◌, ◌<◌, List, [], ◌∷◌, length, Option, Some, None, Result, Ok, Err, Bool, true, false, not, ◌&&◌, ◌||◌, nat_lt, ◌==◌, if◌then◌else◌, option_and_then, slice_range, codes, ℤ}
+use Rattle.std.specs.Prelude.{ℕ, ◌+◌, ◌-◌, ◌*◌, ◌<◌, List, [], ◌∷◌, length, Option, Some, None, Result, Ok}
+use Rattle.std.specs.Prelude.{Err, Bool, true, false, not, ◌&&◌, ◌||◌, nat_lt, ◌==◌, if◌then◌else◌}
+use Rattle.std.specs.Prelude.{option_and_then, slice_range, codes, ℤ}
 use Rattle.std.specs.Str.{bytes_eq}
 use Rattle.hex.specs.Hex.{hex_digit_value}
 use Rattle.com_base.specs.declared.guid.Guid.{Guid}
@@ -33,7 +35,8 @@ use Rattle.com_read_operands.specs.Literals.{ascii_of, guid_of, are_pairs, unhex
 unfoldable pub small_of : List ℕ → Option ℕ
 small_of [] = None
 small_of (a ∷ []) = if is_digit a then Some (a - 48) else None
-small_of (a ∷ b ∷ []) = if is_digit a && not (a == 48) && is_digit b then Some (10 * (a - 48) + (b - 48)) else None
+small_of (a ∷ b ∷ []) =
+    if is_digit a && not (a == 48) && is_digit b then Some (10 * (a - 48) + (b - 48)) else None
 small_of (a ∷ b ∷ c ∷ bs) = None
 
 abbrev pub lettered_by : ℕ → ℕ → Operand
@@ -160,7 +163,9 @@ place_at links line k = do
 
 -- what stands between the marks, at most 256 bytes
 unfoldable pub text_literal : WordAt → Result Value Fault
-text_literal w = if nat_lt (length w.bytes) 2 || nat_lt 258 (length w.bytes) then Err (fault_at 12 w) else Ok (values.Text (slice_range w.bytes 1 (length w.bytes - 1)))
+text_literal w =
+    if nat_lt (length w.bytes) 2 || nat_lt 258 (length w.bytes) then Err (fault_at 12 w)
+    else Ok (values.Text (slice_range w.bytes 1 (length w.bytes - 1)))
 
 abbrev pub as_bytes : WordAt → Option (List ℕ) → Result Value Fault
 as_bytes w None = Err (fault_at 3 w)
@@ -168,7 +173,8 @@ as_bytes w (Some bytes) = Ok (values.Bytes bytes)
 
 -- the bytes of the digits between the marks, at most 256
 unfoldable pub bytes_literal : WordAt → Result Value Fault
-bytes_literal w = if nat_lt 512 (length (inner w.bytes)) then Err (fault_at 12 w) else as_bytes w (unhexed (inner w.bytes))
+bytes_literal w =
+    if nat_lt 512 (length (inner w.bytes)) then Err (fault_at 12 w) else as_bytes w (unhexed (inner w.bytes))
 
 abbrev pub written : Result Value Fault → Result Op Fault
 written r = r >>= λ v. Ok (ops.Literal v)
@@ -224,11 +230,17 @@ abbrev pub as_code_register : WordAt → Operand → Result Code Fault
 as_code_register w (operands.Register n) = Ok (answers.Register n)
 as_code_register w o = Err (fault_at (unfit o) w)
 
+abbrev pub begins_hex : List ℕ → Bool
+begins_hex [] = false
+begins_hex (a ∷ []) = false
+begins_hex (a ∷ b ∷ bs) = a == 48 && b == 120
+
 abbrev pub as_code : WordAt → Option HResult → Result Code Fault
 as_code w (Some hr) = Ok (answers.Literal hr)
-as_code w None = as_code_register w (operand_of w)
+as_code w None = if begins_hex w.bytes then Err (fault_at 3 w) else as_code_register w (operand_of w)
 
--- an HRESULT, or a register
+-- an HRESULT, or a register; another word that begins with `0x` is no bad number here, but a word that cannot
+-- stand
 unfoldable pub code_at : List WordAt → ℕ → Result Code Fault
 code_at line k = do
   w ← word_at line k
@@ -249,7 +261,8 @@ given_at line k = do
 unfoldable pub mode_at : List WordAt → ℕ → Result Mode Fault
 mode_at line k = do
   w ← word_at line k
-  if bytes_eq w.bytes (codes "sta") then Ok modes.Sta else (if bytes_eq w.bytes (codes "mta") then Ok modes.Mta else Err (fault_at 3 w))
+  if bytes_eq w.bytes (codes "sta") then Ok modes.Sta
+      else (if bytes_eq w.bytes (codes "mta") then Ok modes.Mta else Err (fault_at 3 w))
 
 unfoldable pub marshal_mode_at : List WordAt → ℕ → Result MarshalMode Fault
 marshal_mode_at line k = do

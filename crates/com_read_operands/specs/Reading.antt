@@ -1,5 +1,6 @@
 -- Reading a line, word by word from the left, with the first fault that is met.
-use Rattle.std.specs.Prelude.{◌≡◌, ℕ, ◌-◌, List, Option, Some, None, Result, Ok, Err, Bool, true, false, ◌&&◌, nat_le, if◌then◌else◌, slice_get}
+use Rattle.std.specs.Prelude.{◌≡◌, ℕ, ◌-◌, List, Option, Some, None, Result, Ok, Err, Bool, true, false, ◌&&◌}
+use Rattle.std.specs.Prelude.{nat_le, if◌then◌else◌, slice_get}
 use Rattle.com_text.specs.declared.word.Sort.{Sort}
 use Rattle.com_text.specs.declared.word.Sort.TheVariants as sorts
 use Rattle.com_text.specs.Words.{WordAt}
@@ -39,7 +40,8 @@ abbrev pub missing_at : Option WordAt → Fault
 missing_at None = record { number = 4; line = 1; column = 1 }
 missing_at (Some w) = record { number = 4; line = w.line; column = w.after }
 
--- a word as such: one with a byte outside the characters, or a literal that is not closed, is not judged otherwise
+-- a word as such: one with a byte outside the characters, or a literal that is not closed, is not judged
+-- otherwise
 abbrev pub judged : List WordAt → ℕ → WordAt → Sort → Result WordAt Fault
 judged line k w (sorts.Stray c) = Err (character_at w c)
 judged line k w (sorts.Remark c) = Err (missing_at (slice_get line (k - 1)))

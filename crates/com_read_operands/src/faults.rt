@@ -8,10 +8,7 @@ use std::alloc::{AllocError, AllocFailed};
 
 /// A fault of a text, and where it stands. Lines and columns count from 1, a column counts bytes.
 ///
-/// The numbers are: 1 header, 2 a byte outside the characters, 3 a word that cannot stand here,
-/// 4 a missing word, 5 a word too many, 6 number, 7 GUID, 8 a name that is not declared above,
-/// 9 a repeated declaration, 10 an operand of another sort, 11 an open section or a skip past the
-/// end, 12 a limit.
+/// The constants name the numbers, 1 to 12.
 #[derive(Clone, Copy, Debug, PartialEq, Eq)]
 pub struct Fault {
     /// What is wrong.
@@ -23,6 +20,31 @@ pub struct Fault {
 }
 
 impl Fault {
+    /// The first two words are not the header.
+    pub const HEADER: u8 = 1;
+    /// A byte outside the characters.
+    pub const CHARACTER: u8 = 2;
+    /// A word that cannot stand here.
+    pub const UNEXPECTED: u8 = 3;
+    /// The line ends where a word is needed.
+    pub const MISSING: u8 = 4;
+    /// A word where no further word can stand.
+    pub const EXTRA: u8 = 5;
+    /// A word that is no number, or none of the place's range.
+    pub const NUMBER: u8 = 6;
+    /// A word that is no GUID.
+    pub const GUID: u8 = 7;
+    /// A name that is not declared above.
+    pub const UNDECLARED: u8 = 8;
+    /// A declaration that repeats one above.
+    pub const REPEATED: u8 = 9;
+    /// An operand of another sort than the place takes.
+    pub const UNFIT: u8 = 10;
+    /// A section that is open at the text's end, or a skip past the end of its body or script.
+    pub const UNENDED: u8 = 11;
+    /// One more than a limit allows.
+    pub const LIMIT: u8 = 12;
+
     /// The fault as a reader's answer.
     pub fn error(self) -> ScenarioError
         ensures { result ≡ error_of self }

@@ -1,7 +1,8 @@
 //! The words of a line by their places.
 
 ghost use Rattle.std.specs.Prelude.{◌≡◌, ◌-◌, ◌≤◌, slice_get, IfOk};
-ghost use Rattle.com_read_operands.specs.Reading.{Gives, error_of, fault_at, missing_at, word_at, end_at, first_at, number_at, stands_at};
+ghost use Rattle.com_read_operands.specs.Reading.{Gives, error_of, fault_at, missing_at, word_at, end_at};
+ghost use Rattle.com_read_operands.specs.Reading.{first_at, number_at, stands_at};
 
 use crate::faults::{Fault, ScenarioError};
 use crate::numbers::number_of;
@@ -23,7 +24,7 @@ fn character(word: &Word, column: u32) -> ScenarioError
     ensures { result ≡ error_of (record { number = 2; line = word.now.line; column = column }) }
 {
     ScenarioError::Fault {
-        number: 2,
+        number: Fault::CHARACTER,
         line: word.line,
         column,
     }
@@ -35,12 +36,12 @@ fn missing(line: &[Word], place: usize) -> ScenarioError
 {
     match line.get(place.saturating_sub(1)) {
         None => ScenarioError::Fault {
-            number: 4,
+            number: Fault::MISSING,
             line: 1,
             column: 1,
         },
         Some(word) => ScenarioError::Fault {
-            number: 4,
+            number: Fault::MISSING,
             line: word.line,
             column: word.after,
         },
@@ -59,7 +60,7 @@ pub fn word<'l, 'a>(line: &'l [Word<'a>], place: usize) -> Result<&'l Word<'a>, 
         Some(word) => match word.sort {
             Sort::Stray(column) => Err(character(word, column)),
             Sort::Remark(_) => Err(missing(line, place)),
-            Sort::Unclosed => Err(fault(3, word)),
+            Sort::Unclosed => Err(fault(Fault::UNEXPECTED, word)),
             _ => Ok(word),
         },
     }
@@ -88,8 +89,8 @@ pub fn end(line: &[Word], place: usize) -> Result<(), ScenarioError>
         None => Ok(()),
         Some(word) => match word.sort {
             Sort::Stray(column) | Sort::Remark(column) => Err(character(word, column)),
-            Sort::Unclosed => Err(fault(3, word)),
-            _ => Err(fault(5, word)),
+            Sort::Unclosed => Err(fault(Fault::UNEXPECTED, word)),
+            _ => Err(fault(Fault::EXTRA, word)),
         },
     }
 }
@@ -103,7 +104,7 @@ pub fn first<'l, 'a>(line: &'l [Word<'a>]) -> Result<&'l Word<'a>, ScenarioError
         None => Err(missing(line, 0)),
         Some(word) => match word.sort {
             Sort::Stray(column) | Sort::Remark(column) => Err(character(word, column)),
-            Sort::Unclosed => Err(fault(3, word)),
+            Sort::Unclosed => Err(fault(Fault::UNEXPECTED, word)),
             _ => Ok(word),
         },
     }
@@ -119,6 +120,6 @@ pub fn number(line: &[Word], place: usize, low: u64, high: u64) -> Result<u64, S
     let word = word(line, place)?;
     match number_of(word.bytes) {
         Some(number) if low <= number && number <= high => Ok(number),
-        _ => Err(fault(6, word)),
+        _ => Err(fault(Fault::NUMBER, word)),
     }
 }

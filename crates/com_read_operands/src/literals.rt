@@ -7,7 +7,7 @@ ghost use Rattle.std.specs.Char.{is_ascii, is_ascii_hexdigit};
 ghost use Rattle.com_read_operands.specs.Reading.{Gives};
 ghost use Rattle.com_read_operands.specs.Literals.{ascii_of, guid_of, guid_at, are_pairs, unhexed};
 
-use crate::faults::ScenarioError;
+use crate::faults::{Fault, ScenarioError};
 use crate::fields::{fault, word};
 use com_base::{ByteList, Guid};
 use com_text::Word;
@@ -50,7 +50,7 @@ pub fn guid(line: &[Word], place: usize) -> Result<Guid, ScenarioError>
     let word = word(line, place)?;
     match guid_of(word.bytes) {
         Some(guid) => Ok(guid),
-        None => Err(fault(7, word)),
+        None => Err(fault(Fault::GUID, word)),
     }
 }
 

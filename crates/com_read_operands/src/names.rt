@@ -2,9 +2,10 @@
 
 ghost use Rattle.std.specs.Prelude.{◌≡◌, ◌<◌, ◌^◌, Ok, IfOk, IfSome, length};
 ghost use Rattle.com_read_operands.specs.Reading.{Gives};
-ghost use Rattle.com_read_operands.specs.Naming.{is_tail, are_tail, is_name, position_of, number_of_name, name_at, declared_at, asked_at};
+ghost use Rattle.com_read_operands.specs.Naming.{is_tail, are_tail, is_name, position_of, number_of_name};
+ghost use Rattle.com_read_operands.specs.Naming.{name_at, declared_at, asked_at};
 
-use crate::faults::ScenarioError;
+use crate::faults::{Fault, ScenarioError};
 use crate::fields::{fault, word};
 use crate::literals::guid_of;
 use com_base::ByteList;
@@ -74,7 +75,7 @@ pub fn name<'l, 'a>(line: &'l [Word<'a>], place: usize) -> Result<&'l Word<'a>, 
     if is_name(word.bytes) {
         Ok(word)
     } else {
-        Err(fault(3, word))
+        Err(fault(Fault::UNEXPECTED, word))
     }
 }
 
@@ -88,7 +89,7 @@ pub fn declared(names: &[ByteList], line: &[Word], place: usize) -> Result<u16, 
     let word = name(line, place)?;
     match number_of_name(names, word.bytes) {
         Some(number) => Ok(number),
-        None => Err(fault(8, word)),
+        None => Err(fault(Fault::UNDECLARED, word)),
     }
 }
 
@@ -108,7 +109,7 @@ pub fn asked(
     if found.bytes.first() == Some(&b'{') {
         return match guid_of(found.bytes) {
             Some(guid) => Ok(Asked::Guid(guid)),
-            None => Err(fault(7, found)),
+            None => Err(fault(Fault::GUID, found)),
         };
     }
     let number = declared(names, line, place)?;

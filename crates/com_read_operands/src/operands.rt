@@ -4,9 +4,13 @@ ghost use Rattle.std.specs.Prelude.{◌≡◌, ◌<◌, IfOk, IfSome, Ok};
 ghost use Rattle.hex.specs.Hex.{hex_digit_value};
 ghost use Rattle.com_body.specs.Bodies.{IsOp, IsPlace, IsCode, IsGiven};
 ghost use Rattle.com_read_operands.specs.Reading.{Gives};
-ghost use Rattle.com_read_operands.specs.Operands.{IsOperand, small_of, lettered, numeric_of, plain_of, inner, operand_of, unfit, text_literal, bytes_literal, hex_word_of, hex_on, register_at, slot_at, cell_at, buffer_at, place_at, literal_of, op_at, hresult_of, code_at, given_at, mode_at, marshal_mode_at};
+ghost use Rattle.com_read_operands.specs.Operands.{IsOperand, small_of, lettered, numeric_of, plain_of};
+ghost use Rattle.com_read_operands.specs.Operands.{inner, operand_of, unfit, text_literal, bytes_literal};
+ghost use Rattle.com_read_operands.specs.Operands.{hex_word_of, hex_on, register_at, slot_at, cell_at};
+ghost use Rattle.com_read_operands.specs.Operands.{buffer_at, place_at, literal_of, op_at, hresult_of};
+ghost use Rattle.com_read_operands.specs.Operands.{begins_hex, code_at, given_at, mode_at, marshal_mode_at};
 
-use crate::faults::ScenarioError;
+use crate::faults::{Fault, ScenarioError};
 use crate::fields::{fault, stands, word};
 use crate::literals::{are_pairs, guid_of, text_of, unhex};
 use crate::numbers::signed_of;
@@ -65,7 +69,7 @@ fn lettered(letter: u8, number: Option<u8>) -> Operand
     ensures range { IsOperand result }
 {
     match number {
-        None => Operand::Wrong(3),
+        None => Operand::Wrong(Fault::UNEXPECTED),
         Some(number) => {
             if letter == b'r' && number < 16 {
                 Operand::Register(number)
@@ -78,7 +82,7 @@ fn lettered(letter: u8, number: Option<u8>) -> Operand
             } else if letter == b'p' && number < 64 {
                 Operand::Buffer(number)
             } else {
-                Operand::Wrong(3)
+                Operand::Wrong(Fault::UNEXPECTED)
             }
         }
     }
@@ -91,7 +95,7 @@ fn numeric_of(bytes: &[u8]) -> Operand
     ensures range { IsOperand result }
 {
     match signed_of(bytes) {
-        None => Operand::Wrong(6),
+        None => Operand::Wrong(Fault::NUMBER),
         Some(number) => Operand::Number(number),
     }
 }
@@ -112,9 +116,9 @@ fn plain_of(bytes: &[u8]) -> Operand
         return Operand::Null;
     }
     match bytes {
-        [] => Operand::Wrong(3),
+        [] => Operand::Wrong(Fault::UNEXPECTED),
         [b'{', ..] => match guid_of(bytes) {
-            None => Operand::Wrong(7),
+            None => Operand::Wrong(Fault::GUID),
             Some(guid) => Operand::Guid(guid),
         },
         [b'-', second, ..] if second.is_ascii_digit() => numeric_of(bytes),
@@ -152,10 +156,10 @@ pub fn operand_of(word: &Word) -> Operand
             if are_pairs(inner(word.bytes)) {
                 Operand::Bytes
             } else {
-                Operand::Wrong(3)
+                Operand::Wrong(Fault::UNEXPECTED)
             }
         }
-        _ => Operand::Wrong(3),
+        _ => Operand::Wrong(Fault::UNEXPECTED),
     }
 }
 
@@ -165,8 +169,8 @@ pub fn unfit(operand: Operand) -> u8
 {
     match operand {
         Operand::Wrong(number) => number,
-        Operand::Null => 3,
-        _ => 10,
+        Operand::Null => Fault::UNEXPECTED,
+        _ => Fault::UNFIT,
     }
 }
 
@@ -246,7 +250,7 @@ fn text_literal(alloc: Global, word: &Word) -> Result<Value, ScenarioError>
 {
     let length = word.bytes.len();
     if length < 2 || length > LITERAL_LIMIT + 2 {
-        return Err(fault(12, word));
+        return Err(fault(Fault::LIMIT, word));
     }
     let text = &word.bytes[1..length - 1];
     Ok(Value::Text(ByteList::from_slice(alloc, text)?))
@@ -259,11 +263,11 @@ fn bytes_literal(alloc: Global, word: &Word) -> Result<Value, ScenarioError>
 {
     let digits = inner(word.bytes);
     if digits.len() > 2 * LITERAL_LIMIT {
-        return Err(fault(12, word));
+        return Err(fault(Fault::LIMIT, word));
     }
     match unhex(alloc, digits)? {
         Some(bytes) => Ok(Value::Bytes(bytes)),
-        None => Err(fault(3, word)),
+        None => Err(fault(Fault::UNEXPECTED, word)),
     }
 }
 
@@ -342,19 +346,30 @@ pub fn hresult_of(bytes: &[u8]) -> Option<HResult>
     }
 }
 
-/// The HRESULT of `leave`: `0x` and eight digits, a name, or a register.
+/// Whether a word begins with `0x`.
+fn begins_hex(bytes: &[u8]) -> bool
+    ensures { result ≡ begins_hex bytes.now }
+{
+    matches!(bytes, [b'0', b'x', ..])
+}
+
+/// The HRESULT of `leave`: `0x` and eight digits, a name, or a register. Another word that begins with `0x`
+/// is fault 3, though it would be a bad number, 6, in a place for an operand.
 #[tactic(auto, unfolding(crate::specs::Operands::code_at))]
 pub fn code(line: &[Word], place: usize) -> Result<Code, ScenarioError>
     ensures value { Gives (λ c. c) result (code_at line.now place) }
     ensures range { IfOk result IsCode }
 {
     let word = word(line, place)?;
-    match hresult_of(word.bytes) {
-        Some(answer) => Ok(Code::Literal(answer)),
-        None => match operand_of(word) {
-            Operand::Register(number) => Ok(Code::Register(number)),
-            other => Err(fault(unfit(other), word)),
-        },
+    if let Some(answer) = hresult_of(word.bytes) {
+        return Ok(Code::Literal(answer));
+    }
+    if begins_hex(word.bytes) {
+        return Err(fault(Fault::UNEXPECTED, word));
+    }
+    match operand_of(word) {
+        Operand::Register(number) => Ok(Code::Register(number)),
+        other => Err(fault(unfit(other), word)),
     }
 }
 
@@ -385,7 +400,7 @@ pub fn mode(line: &[Word], place: usize) -> Result<Mode, ScenarioError>
     } else if word.bytes == b"mta".as_slice() {
         Ok(Mode::Mta)
     } else {
-        Err(fault(3, word))
+        Err(fault(Fault::UNEXPECTED, word))
     }
 }
 
@@ -402,6 +417,6 @@ pub fn marshal_mode(line: &[Word], place: usize) -> Result<MarshalMode, Scenario
     } else if word.bytes == b"weak".as_slice() {
         Ok(MarshalMode::Weak)
     } else {
-        Err(fault(3, word))
+        Err(fault(Fault::UNEXPECTED, word))
     }
 }

@@ -1,5 +1,6 @@
 -- Lines outside of sections.
-use Rattle.std.specs.Prelude.{ℕ, List, [], ◌∷◌, ◌++◌, length, drop, Option, Some, None, is_some, Result, Ok, Err, nat_le, if◌then◌else◌, codes}
+use Rattle.std.specs.Prelude.{ℕ, List, [], ◌∷◌, ◌++◌, length, drop, Option, Some, None, is_some, Result, Ok}
+use Rattle.std.specs.Prelude.{Err, nat_le, if◌then◌else◌, codes}
 use Rattle.std.specs.Str.{bytes_eq}
 use Rattle.com_body.specs.declared.frame.Native.TheVariants as natives
 use Rattle.com_classes.specs.declared.classes.Class.{Class}
@@ -11,7 +12,8 @@ use Rattle.com_read_sections.specs.declared.begin.SectionWord.TheVariants as wor
 use Rattle.com_read_sections.specs.declared.state.State.{State}
 use Rattle.com_read_sections.specs.declared.state.Section.TheVariants as sections
 use Rattle.com_read_sections.specs.Codes.{blank_code}
-use Rattle.com_read_sections.specs.Declaring.{free_guid_at, free_name_at, interface_name_at, filter_name_at, model_at, native_at, natives_of, listed_at, picks_on}
+use Rattle.com_read_sections.specs.Declaring.{free_guid_at, free_name_at, interface_name_at, filter_name_at}
+use Rattle.com_read_sections.specs.Declaring.{model_at, native_at, natives_of, listed_at, picks_on}
 
 abbrev pub section_word_of : List ℕ → Option SectionWord
 section_word_of bytes =
@@ -54,7 +56,14 @@ class_line st w line = if nat_le 64 (length st.names.classes) then Err (fault_at
   Ok (record st {
     names = record (st.names) { classes = st.names.classes ++ name.bytes ∷ [] };
     clsids = st.clsids ++ clsid ∷ [];
-    class = record { name = name.bytes; clsid = clsid; model = model; native = natives.Bodies; interfaces = interfaces; bodies = [] };
+    class = record {
+      name = name.bytes;
+      clsid = clsid;
+      model = model;
+      native = natives.Bodies;
+      interfaces = interfaces;
+      bodies = [];
+    };
     section = sections.Class;
   }))
 
@@ -69,7 +78,14 @@ native_line st w line = if nat_le 64 (length st.names.classes) then Err (fault_a
   Ok (record st {
     names = record (st.names) { classes = st.names.classes ++ name.bytes ∷ [] };
     clsids = st.clsids ++ clsid ∷ [];
-    classes = st.classes ++ record { name = name.bytes; clsid = clsid; model = model; native = native; interfaces = natives_of native; bodies = [] } ∷ [];
+    classes = st.classes ++ record {
+      name = name.bytes;
+      clsid = clsid;
+      model = model;
+      native = native;
+      interfaces = natives_of native;
+      bodies = [];
+    } ∷ [];
   }))
 
 -- a filter's name: at most 16 filters

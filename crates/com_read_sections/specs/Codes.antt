@@ -17,7 +17,7 @@ blank_code = record { statements = []; spots = [] }
 abbrev pub code_more : CodeAt → Stmt → Fault → CodeAt
 code_more code s f = record { statements = code.statements ++ s ∷ []; spots = code.spots ++ f ∷ [] }
 
--- the fault of a text without a header of two words
+-- the fault of a text without words, or with a lone `scenario` for its header
 abbrev pub first_place : Fault
 first_place = record { number = 1; line = 1; column = 1 }
 

@@ -1,5 +1,6 @@
 -- What a declaration's words say.
-use Rattle.std.specs.Prelude.{ℕ, ◌+◌, List, [], ◌∷◌, ◌++◌, length, drop, is_some, Result, Ok, Err, nat_le, if◌then◌else◌, codes}
+use Rattle.std.specs.Prelude.{ℕ, ◌+◌, List, [], ◌∷◌, ◌++◌, length, drop, is_some, Result, Ok, Err, nat_le}
+use Rattle.std.specs.Prelude.{if◌then◌else◌, codes}
 use Rattle.std.specs.Str.{bytes_eq}
 use Rattle.com_base.specs.declared.guid.Guid.{Guid}
 use Rattle.com_body.specs.declared.frame.Native.{Native}
@@ -82,7 +83,8 @@ listed_item names count line k = do
 -- the interfaces so far, and what is left of the line, from a place on
 abbrev pub listed_on : List (List ℕ) → List ℕ → List WordAt → ℕ → List WordAt → Result (List ℕ) Fault
 listed_on names done line k [] = Ok done
-listed_on names done line k (v ∷ vs) = listed_item names (length done) line k >>= λ n. listed_on names (done ++ n ∷ []) line (k + 1) vs
+listed_on names done line k (v ∷ vs) =
+    listed_item names (length done) line k >>= λ n. listed_on names (done ++ n ∷ []) line (k + 1) vs
 
 -- the interfaces of a class: one name or more, from the fifth word on
 unfoldable pub listed_at : List (List ℕ) → List WordAt → Result (List ℕ) Fault

@@ -1,5 +1,6 @@
 -- The header.
-use Rattle.std.specs.Prelude.{ℕ, List, [], ◌∷◌, Option, Some, None, Result, Ok, Err, not, if◌then◌else◌, codes}
+use Rattle.std.specs.Prelude.{ℕ, List, [], ◌∷◌, Option, Some, None, Result, Ok, Err, not, if◌then◌else◌}
+use Rattle.std.specs.Prelude.{codes, unwrap_or}
 use Rattle.std.specs.Str.{bytes_eq}
 use Rattle.com_text.specs.declared.word.Sort.{Sort}
 use Rattle.com_text.specs.declared.word.Sort.TheVariants as sorts
@@ -11,7 +12,14 @@ use Rattle.com_read_sections.specs.declared.state.State.{State}
 use Rattle.com_read_sections.specs.declared.state.Section.TheVariants as sections
 
 abbrev pub version_of : List ℕ → Option ℕ
-version_of bytes = if bytes_eq bytes (codes "1") then Some 1 else (if bytes_eq bytes (codes "2") then Some 2 else None)
+version_of bytes =
+    if bytes_eq bytes (codes "1") then Some 1 else (if bytes_eq bytes (codes "2") then Some 2 else None)
+
+-- One word alone: `scenario` lacks its version, which is the fault at the text's first place; another word is
+-- at fault itself, and an earlier fault comes first.
+abbrev pub lone_fault : Option Fault → WordAt → Fault
+lone_fault pending w =
+    if bytes_eq w.bytes (codes "scenario") then first_place else unwrap_or pending (fault_at 1 w)
 
 abbrev pub ended : List WordAt → WordAt → Option ℕ → Result ℕ Fault
 ended line two None = Err (fault_at 1 two)
@@ -19,10 +27,12 @@ ended line two (Some v) = end_at line 2 >>= λ done. Ok v
 
 abbrev pub compared : List WordAt → WordAt → WordAt → Option Fault → Result ℕ Fault
 compared line one two (Some f) = Err f
-compared line one two None = if not (bytes_eq one.bytes (codes "scenario")) then Err (fault_at 1 one) else ended line two (version_of two.bytes)
+compared line one two None =
+    if not (bytes_eq one.bytes (codes "scenario")) then Err (fault_at 1 one)
+    else ended line two (version_of two.bytes)
 
 abbrev pub version_by : Option Fault → List WordAt → WordAt → WordAt → Sort → Result ℕ Fault
-version_by pending line one two (sorts.Remark c) = Err first_place
+version_by pending line one two (sorts.Remark c) = Err (lone_fault pending one)
 version_by pending line one two _ = compared line one two pending
 
 -- the version that the first two words name; an earlier fault comes first
@@ -35,9 +45,10 @@ earlier (Some e) f = Some e
 
 abbrev pub lone : State → WordAt → Sort → Result State Fault
 lone st w (sorts.Remark c) = Ok (record st { pending = earlier st.pending (character_at w c) })
-lone st w _ = Err first_place
+lone st w _ = Err (lone_fault st.pending w)
 
--- A line where the header is awaited. What a comment above it has at fault counts only where the header has two words.
+-- A line where the header is awaited. What a comment above it has at fault does not count before a lone
+-- `scenario`.
 unfoldable pub header_line : State → List WordAt → Result State Fault
 header_line st [] = Ok st
 header_line st (w ∷ []) = lone st w w.sort

@@ -1,5 +1,6 @@
 -- A method's line in an interface.
-use Rattle.std.specs.Prelude.{ℕ, ◌+◌, List, [], ◌∷◌, ◌++◌, length, drop, Option, Some, None, is_some, Result, Ok, Err, true, false, nat_le, if◌then◌else◌, codes}
+use Rattle.std.specs.Prelude.{ℕ, ◌+◌, List, [], ◌∷◌, ◌++◌, length, drop, Option, Some, None, is_some, Result}
+use Rattle.std.specs.Prelude.{Ok, Err, true, false, nat_le, if◌then◌else◌, codes}
 use Rattle.std.specs.Str.{bytes_eq}
 use Rattle.com_base.specs.declared.value.Kind.{Kind}
 use Rattle.com_base.specs.declared.value.Kind.TheVariants as kinds
@@ -50,7 +51,8 @@ item_at names count line k = do
 abbrev pub signature_on : List (List ℕ) → List Kind → List WordAt → ℕ → List WordAt → Result Signature Fault
 signature_on names done line k [] = Ok (record { params = done; result = None })
 signature_on names done line k (v ∷ vs) = item_at names (length done) line k >>= λ item.
-    (if item.last then Ok (record { params = done; result = Some item.kind }) else signature_on names (done ++ item.kind ∷ []) line (k + 1) vs)
+    (if item.last then Ok (record { params = done; result = Some item.kind })
+    else signature_on names (done ++ item.kind ∷ []) line (k + 1) vs)
 
 -- the method that a line spells, with a name that no method above has
 unfoldable pub method_of : List (List ℕ) → List Method → List WordAt → Result Method Fault

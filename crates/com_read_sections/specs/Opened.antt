@@ -1,5 +1,6 @@
 -- Lines inside of sections, and what each line makes of what was read so far.
-use Rattle.std.specs.Prelude.{List, [], ◌∷◌, ◌++◌, length, Option, Some, None, Result, Ok, Err, Bool, true, false, ◌&&◌, ◌==◌, nat_le, if◌then◌else◌, codes}
+use Rattle.std.specs.Prelude.{List, [], ◌∷◌, ◌++◌, length, Option, Some, None, Result, Ok, Err, Bool, true}
+use Rattle.std.specs.Prelude.{false, ◌&&◌, ◌==◌, nat_le, if◌then◌else◌, codes}
 use Rattle.std.specs.Str.{bytes_eq}
 use Rattle.com_classes.specs.declared.classes.MethodBody.{MethodBody}
 use Rattle.com_classes.specs.declared.classes.ThreadingModel.{ThreadingModel}
@@ -46,7 +47,8 @@ inner_interface st line = do
 
 abbrev pub has_body : List MethodBody → MethodNumber → Bool
 has_body [] head = false
-has_body (b ∷ bs) head = if (b.iface == head.iface) && (b.method == head.method) then true else has_body bs head
+has_body (b ∷ bs) head =
+    if (b.iface == head.iface) && (b.method == head.method) then true else has_body bs head
 
 -- a body is given at most once
 unfoldable pub body_head : State → List WordAt → Result State Fault
@@ -79,7 +81,10 @@ body_ended st line = do
   done ← end_at line 1
   Ok (record st {
     code = blank_code;
-    class = record (st.class) { bodies = st.class.bodies ++ record { iface = st.head.iface; method = st.head.method; body = body } ∷ [] };
+    class = record (st.class) {
+      bodies = st.class.bodies
+          ++ record { iface = st.head.iface; method = st.head.method; body = body } ∷ [];
+    };
     section = sections.Class;
   })
 

@@ -46,7 +46,8 @@ iids_of tables = map (λ t. t.iid) tables
 abbrev pub microsoft : ℕ → Guid
 microsoft n = record { data1 = n; data2 = 0; data3 = 0; data4 = 0xc0 ∷ 0 ∷ 0 ∷ 0 ∷ 0 ∷ 0 ∷ 0 ∷ 0x46 ∷ [] }
 
--- the IIDs that no text may declare: those of the built-in interfaces, IClassFactory, IMessageFilter and IGlobalInterfaceTable
+-- the IIDs that no text may declare: those of the built-in interfaces, IClassFactory, IMessageFilter and
+-- IGlobalInterfaceTable
 abbrev pub taken_iids : List Interface → List Guid
 taken_iids tables = iids_of tables ++ microsoft 1 ∷ [] ++ microsoft 0x16 ∷ [] ++ microsoft 0x146 ∷ []
 

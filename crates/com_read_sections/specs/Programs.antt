@@ -1,5 +1,6 @@
 -- The statements of bodies and scripts.
-use Rattle.std.specs.Prelude.{ℕ, List, length, Option, Some, None, Result, Ok, Err, nat_le, if◌then◌else◌, slice_get}
+use Rattle.std.specs.Prelude.{ℕ, List, length, Option, Some, None, Result, Ok, Err, nat_le, if◌then◌else◌}
+use Rattle.std.specs.Prelude.{slice_get}
 use Rattle.com_text.specs.Words.{WordAt}
 use Rattle.com_read_operands.specs.declared.faults.Fault.{Fault}
 use Rattle.com_read_operands.specs.Reading.{◌>>=◌, fault_at}
@@ -26,13 +27,16 @@ abbrev pub spot_at : Keyword → List WordAt → Fault
 spot_at k line = skip_fault (slice_get line (number_place k))
 
 abbrev pub stated : Program → ℕ → Names → CodeAt → WordAt → List WordAt → Keyword → Result CodeAt Fault
-stated p limit names code w line k = if nat_le limit (length code.statements) then Err (fault_at 12 w) else (do
-  s ← stmt_of p names k line
-  Ok (code_more code s (spot_at k line)))
+stated p limit names code w line k =
+    if nat_le limit (length code.statements) then Err (fault_at 12 w) else (do
+      s ← stmt_of p names k line
+      Ok (code_more code s (spot_at k line)))
 
-abbrev pub allowed : Program → ℕ → Names → CodeAt → WordAt → List WordAt → Option Keyword → Result CodeAt Fault
+abbrev pub allowed : Program → ℕ → Names → CodeAt → WordAt → List WordAt → Option Keyword
+    → Result CodeAt Fault
 allowed p limit names code w line None = Err (fault_at 3 w)
-allowed p limit names code w line (Some k) = if takes p k then stated p limit names code w line k else Err (fault_at 3 w)
+allowed p limit names code w line (Some k) =
+    if takes p k then stated p limit names code w line k else Err (fault_at 3 w)
 
 -- a line of a body or a script that does not end it
 unfoldable pub program_line : Program → ℕ → Names → CodeAt → WordAt → List WordAt → Result CodeAt Fault

@@ -1,5 +1,6 @@
 -- The rules of a filter.
-use Rattle.std.specs.Prelude.{ℕ, List, Option, Some, None, Result, Ok, Err, Bool, nat_le, if◌then◌else◌, codes, ℤ, pos, negsuc, ◌==◌}
+use Rattle.std.specs.Prelude.{ℕ, List, Option, Some, None, Result, Ok, Err, Bool, nat_le, if◌then◌else◌}
+use Rattle.std.specs.Prelude.{codes, ℤ, pos, negsuc, ◌==◌}
 use Rattle.std.specs.Str.{bytes_eq}
 use Rattle.com_filter.specs.declared.Rule.{Rule}
 use Rattle.com_filter.specs.declared.Rule.TheVariants as rules

@@ -20,4 +20,12 @@ abbrev pub blank_interface : Interface
 blank_interface = record { name = []; iid = zero_guid; methods = [] }
 
 abbrev pub blank_class : Class
-blank_class = record { name = []; clsid = zero_guid; model = models.Nothing; native = natives.Bodies; interfaces = []; bodies = [] }
+blank_class =
+    record {
+      name = [];
+      clsid = zero_guid;
+      model = models.Nothing;
+      native = natives.Bodies;
+      interfaces = [];
+      bodies = [];
+    }

@@ -2,7 +2,9 @@
 
 ghost use Rattle.std.specs.Prelude.{◌≡◌, Ok};
 ghost use Rattle.com_read_operands.specs.Reading.{Gives};
-ghost use Rattle.com_read_sections.specs.Beginning.{section_word_of, pool_line, interface_line, class_line, native_line, filter_line, thread_line, picks_line, top_line};
+ghost use Rattle.com_read_sections.specs.Beginning.{section_word_of, pool_line, interface_line, class_line};
+ghost use Rattle.com_read_sections.specs.Beginning.{native_line, filter_line, thread_line, picks_line};
+ghost use Rattle.com_read_sections.specs.Beginning.{top_line};
 
 use crate::declare::{
     filter_name, free_guid, free_name, interface_name, listed, model, native, natives, picks,
@@ -12,7 +14,7 @@ use crate::tables::push;
 use com_base::{ByteList, Rows};
 use com_body::Native;
 use com_classes::{Class, Interface};
-use com_read_operands::{ScenarioError, end, fault, first, number};
+use com_read_operands::{Fault, ScenarioError, end, fault, first, number};
 use com_text::Word;
 use std::alloc::Global;
 use std::mem;
@@ -63,7 +65,7 @@ fn pool_line(st: &mut State, word: &Word, line: &[Word]) -> Result<(), ScenarioE
     ensures { Gives (λ u. st.new) result (pool_line st.old word.now line.now) }
 {
     if st.pool.is_some() {
-        return Err(fault(9, word));
+        return Err(fault(Fault::REPEATED, word));
     }
     let lanes = number(line, 1, 1, 8)? as u32;
     end(line, 2)?;
@@ -81,7 +83,7 @@ fn interface_line(
     ensures { Gives (λ u. st.new) result (interface_line st.old word.now line.now) }
 {
     if st.names.interfaces.len() >= INTERFACE_LIMIT {
-        return Err(fault(12, word));
+        return Err(fault(Fault::LIMIT, word));
     }
     let name = interface_name(st.names.interfaces.as_slice(), line)?;
     let iid = free_guid(st.iids.as_slice(), line, 2)?;
@@ -108,7 +110,7 @@ fn class_line(
     ensures { Gives (λ u. st.new) result (class_line st.old word.now line.now) }
 {
     if st.names.classes.len() >= CLASS_LIMIT {
-        return Err(fault(12, word));
+        return Err(fault(Fault::LIMIT, word));
     }
     let name = free_name(st.names.classes.as_slice(), line, 1)?;
     let clsid = free_guid(st.clsids.as_slice(), line, 2)?;
@@ -139,7 +141,7 @@ fn native_line(
     ensures { Gives (λ u. st.new) result (native_line st.old word.now line.now) }
 {
     if st.names.classes.len() >= CLASS_LIMIT {
-        return Err(fault(12, word));
+        return Err(fault(Fault::LIMIT, word));
     }
     let name = free_name(st.names.classes.as_slice(), line, 1)?;
     let clsid = free_guid(st.clsids.as_slice(), line, 2)?;
@@ -171,7 +173,7 @@ fn filter_line(
     ensures { Gives (λ u. st.new) result (filter_line st.old word.now line.now) }
 {
     if st.names.filters.len() >= THREAD_LIMIT {
-        return Err(fault(12, word));
+        return Err(fault(Fault::LIMIT, word));
     }
     let name = filter_name(st.names.filters.as_slice(), line)?;
     end(line, 2)?;
@@ -192,7 +194,7 @@ fn thread_line(
     ensures { Gives (λ u. st.new) result (thread_line st.old word.now line.now) }
 {
     if st.threads.len() >= THREAD_LIMIT {
-        return Err(fault(12, word));
+        return Err(fault(Fault::LIMIT, word));
     }
     end(line, 1)?;
     st.code = Code::new(alloc);
@@ -218,7 +220,7 @@ pub(crate) fn top_line(alloc: Global, st: &mut State, line: &[Word]) -> Result<(
 {
     let word = first(line)?;
     match section_word_of(word.bytes) {
-        None => Err(fault(3, word)),
+        None => Err(fault(Fault::UNEXPECTED, word)),
         Some(SectionWord::Pool) => pool_line(st, word, line),
         Some(SectionWord::Interface) => interface_line(alloc, st, word, line),
         Some(SectionWord::Class) => class_line(alloc, st, word, line),

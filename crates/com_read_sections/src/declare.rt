@@ -2,7 +2,10 @@
 
 ghost use Rattle.std.specs.Prelude.{◌≡◌, [], drop, Ok, IfOk};
 ghost use Rattle.com_read_operands.specs.Reading.{Gives};
-ghost use Rattle.com_read_sections.specs.Declaring.{free_guid_at, free_name_at, interface_name_at, filter_name_at, model_at, native_at, listed_item, listed_on, listed_at, pick_at, picks_on, native_interface, natives_of};
+ghost use Rattle.com_read_sections.specs.Declaring.{free_guid_at, free_name_at, interface_name_at};
+ghost use Rattle.com_read_sections.specs.Declaring.{filter_name_at, model_at, native_at, listed_item};
+ghost use Rattle.com_read_sections.specs.Declaring.{listed_on, listed_at, pick_at, picks_on};
+ghost use Rattle.com_read_sections.specs.Declaring.{native_interface, natives_of};
 
 use crate::methods::type_word_of;
 use crate::tables::has_guid;
@@ -10,7 +13,7 @@ use com_base::{ByteList, Guid, Rows};
 use com_body::Native;
 use com_classes::ThreadingModel;
 use com_read_operands::{
-    ScenarioError, declared, fault, guid, name, number, position_of, stands, word,
+    Fault, ScenarioError, declared, fault, guid, name, number, position_of, stands, word,
 };
 use com_text::Word;
 use std::alloc::{AllocError, Global};
@@ -25,7 +28,7 @@ pub(crate) fn free_guid(guids: &[Guid], line: &[Word], place: usize) -> Result<G
 {
     let guid = guid(line, place)?;
     if has_guid(guids, &guid) {
-        return Err(fault(9, word(line, place)?));
+        return Err(fault(Fault::REPEATED, word(line, place)?));
     }
     Ok(guid)
 }
@@ -41,7 +44,7 @@ pub(crate) fn free_name<'l, 'a>(
 {
     let word = name(line, place)?;
     if position_of(names, word.bytes).is_some() {
-        return Err(fault(9, word));
+        return Err(fault(Fault::REPEATED, word));
     }
     Ok(word)
 }
@@ -56,7 +59,7 @@ pub(crate) fn interface_name<'l, 'a>(
 {
     let word = name(line, 1)?;
     if type_word_of(word.bytes).is_some() {
-        return Err(fault(3, word));
+        return Err(fault(Fault::UNEXPECTED, word));
     }
     free_name(names, line, 1)
 }
@@ -71,7 +74,7 @@ pub(crate) fn filter_name<'l, 'a>(
 {
     let word = name(line, 1)?;
     if word.bytes == b"none".as_slice() {
-        return Err(fault(3, word));
+        return Err(fault(Fault::UNEXPECTED, word));
     }
     free_name(names, line, 1)
 }
@@ -95,7 +98,7 @@ pub(crate) fn model(line: &[Word], place: usize) -> Result<ThreadingModel, Scena
     } else if word.bytes == b"Agile".as_slice() {
         Ok(ThreadingModel::Agile)
     } else {
-        Err(fault(3, word))
+        Err(fault(Fault::UNEXPECTED, word))
     }
 }
 
@@ -113,13 +116,13 @@ pub(crate) fn native(
         Ok(Native::Counter)
     } else if word.bytes == b"relay".as_slice() {
         match model {
-            ThreadingModel::Agile => Err(fault(10, word)),
+            ThreadingModel::Agile => Err(fault(Fault::UNFIT, word)),
             _ => Ok(Native::Relay),
         }
     } else if word.bytes == b"latch".as_slice() {
         Ok(Native::Latch)
     } else {
-        Err(fault(3, word))
+        Err(fault(Fault::UNEXPECTED, word))
     }
 }
 
@@ -170,7 +173,7 @@ fn listed_item(
     stands(line, place)?;
     let number = declared(names, line, place)?;
     if count >= LISTED_LIMIT {
-        return Err(fault(12, word(line, place)?));
+        return Err(fault(Fault::LIMIT, word(line, place)?));
     }
     Ok(number)
 }

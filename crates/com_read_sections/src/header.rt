@@ -1,16 +1,16 @@
 //! The header.
 
 ghost use Rattle.std.specs.Prelude.{◌≡◌, Ok};
-ghost use Rattle.com_read_operands.specs.Reading.{Gives};
-ghost use Rattle.com_read_sections.specs.Header.{version_of, version_at, header_line};
+ghost use Rattle.com_read_operands.specs.Reading.{Gives, error_of};
+ghost use Rattle.com_read_sections.specs.Header.{lone_fault, version_of, version_at, header_line};
 
 use crate::state::{Section, State};
 use com_read_operands::{Fault, ScenarioError, end, fault};
 use com_text::{Sort, Word};
 
-/// The fault of a text without a header of two words.
+/// The fault of a text without words, or whose first line with words is `scenario` alone.
 pub(crate) const FIRST: Fault = Fault {
-    number: 1,
+    number: Fault::HEADER,
     line: 1,
     column: 1,
 };
@@ -28,6 +28,20 @@ fn version_of(bytes: &[u8]) -> Option<u8>
     }
 }
 
+/// The fault of a header's line of one word: at the text's first place where the version alone is missing,
+/// and else at that word. An earlier fault, in a comment above, comes before the latter.
+fn lone(pending: Option<Fault>, word: &Word) -> ScenarioError
+    ensures { result ≡ error_of (lone_fault pending word.now) }
+{
+    if word.bytes == b"scenario".as_slice() {
+        return FIRST.error();
+    }
+    match pending {
+        Some(earlier) => earlier.error(),
+        None => fault(Fault::HEADER, word),
+    }
+}
+
 /// The version of a header's line of two words or more. An earlier fault, in a comment above, comes
 /// first. The two words are compared as they stand, whatever their bytes.
 #[tactic(auto, unfolding(crate::specs::Header::version_at))]
@@ -40,16 +54,16 @@ fn version(
     ensures { Gives (λ v. v) result (version_at pending line.now one.now two.now) }
 {
     if let Sort::Remark(_) = two.sort {
-        return Err(FIRST.error());
+        return Err(lone(pending, one));
     }
     if let Some(earlier) = pending {
         return Err(earlier.error());
     }
     if one.bytes != b"scenario".as_slice() {
-        return Err(fault(1, one));
+        return Err(fault(Fault::HEADER, one));
     }
     match version_of(two.bytes) {
-        None => Err(fault(1, two)),
+        None => Err(fault(Fault::HEADER, two)),
         Some(version) => {
             end(line, 2)?;
             Ok(version)
@@ -57,9 +71,8 @@ fn version(
     }
 }
 
-/// A line above the header or the header itself. What a comment above the header has at fault is
-/// reported only where the header's line has two words, since a header without them is fault 1 at
-/// the text's first place.
+/// A line above the header or the header itself. What a comment above the header has at fault is not reported
+/// where the header's line is `scenario` alone or missing, since that is fault 1 at the text's first place.
 #[tactic(auto, unfolding(crate::specs::Header::header_line))]
 pub(crate) fn header_line(st: &mut State, line: &[Word]) -> Result<(), ScenarioError>
     ensures { Gives (λ u. st.new) result (header_line st.old line.now) }
@@ -70,14 +83,14 @@ pub(crate) fn header_line(st: &mut State, line: &[Word]) -> Result<(), ScenarioE
             Sort::Remark(column) => {
                 if st.pending.is_none() {
                     st.pending = Some(Fault {
-                        number: 2,
+                        number: Fault::CHARACTER,
                         line: only.line,
                         column,
                     });
                 }
                 Ok(())
             }
-            _ => Err(FIRST.error()),
+            _ => Err(lone(st.pending, only)),
         },
         [one, two, ..] => {
             st.version = version(st.pending, line, one, two)?;

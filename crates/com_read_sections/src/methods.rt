@@ -6,7 +6,7 @@ ghost use Rattle.com_read_sections.specs.Methods.{type_word_of, type_at, item_at
 
 use com_base::{ByteList, Kind, Rows};
 use com_classes::Method;
-use com_read_operands::{ScenarioError, declared, end, fault, name, stands, word};
+use com_read_operands::{Fault, ScenarioError, declared, end, fault, name, stands, word};
 use com_read_statements::method_position;
 use com_text::Word;
 use std::alloc::Global;
@@ -79,7 +79,7 @@ fn item(
     }
     let kind = kind(interfaces, line, place)?;
     if count >= PARAMETER_LIMIT {
-        return Err(fault(12, word));
+        return Err(fault(Fault::LIMIT, word));
     }
     Ok(TypeWord { kind, last: false })
 }
@@ -122,7 +122,7 @@ pub(crate) fn method(
 {
     let word = name(line, 1)?;
     if method_position(methods, word.bytes).is_some() {
-        return Err(fault(9, word));
+        return Err(fault(Fault::REPEATED, word));
     }
     let signature = signature_of(alloc, interfaces, line)?;
     Ok(Method {

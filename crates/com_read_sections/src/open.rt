@@ -2,7 +2,9 @@
 
 ghost use Rattle.std.specs.Prelude.{◌≡◌, Ok, OnOk};
 ghost use Rattle.com_read_operands.specs.Reading.{Gives};
-ghost use Rattle.com_read_sections.specs.Opened.{interface_closed, method_line, inner_interface, has_body, body_head, inner_class, program_of, inner_body, inner_filter, inner_thread, step};
+ghost use Rattle.com_read_sections.specs.Opened.{interface_closed, method_line, inner_interface, has_body};
+ghost use Rattle.com_read_sections.specs.Opened.{body_head, inner_class, program_of, inner_body};
+ghost use Rattle.com_read_sections.specs.Opened.{inner_filter, inner_thread, step};
 
 use crate::begin::top_line;
 use crate::header::header_line;
@@ -14,7 +16,7 @@ use crate::tables::{blank_class, blank_interface, push};
 use com_base::Rows;
 use com_classes::{MethodBody, ThreadingModel};
 use com_filter::Filter;
-use com_read_operands::{ScenarioError, end, fault, first, word};
+use com_read_operands::{Fault, ScenarioError, end, fault, first, word};
 use com_read_statements::{MethodNumber, Program, method_at};
 use com_text::Word;
 use std::alloc::{AllocError, Global};
@@ -48,7 +50,7 @@ fn method_line(
     ensures { Gives (λ u. st.new) result (method_line st.old word.now line.now) }
 {
     if st.interface.methods.len() >= METHOD_LIMIT {
-        return Err(fault(12, word));
+        return Err(fault(Fault::LIMIT, word));
     }
     let method = method(
         alloc,
@@ -92,7 +94,7 @@ fn body_head(alloc: Global, st: &mut State, line: &[Word]) -> Result<(), Scenari
 {
     let head = method_at(&st.names, line, 1)?;
     if has_body(st.class.bodies.as_slice(), head) {
-        return Err(fault(9, word(line, 1)?));
+        return Err(fault(Fault::REPEATED, word(line, 1)?));
     }
     end(line, 2)?;
     st.head = head;
@@ -111,7 +113,7 @@ fn inner_class(alloc: Global, st: &mut State, line: &[Word]) -> Result<(), Scena
         return body_head(alloc, st, line);
     }
     if word.bytes != b"end".as_slice() {
-        return Err(fault(3, word));
+        return Err(fault(Fault::UNEXPECTED, word));
     }
     end(line, 1)?;
     let class = mem::replace(&mut st.class, blank_class(alloc));
@@ -200,10 +202,10 @@ fn inner_filter(alloc: Global, st: &mut State, line: &[Word]) -> Result<(), Scen
         return Ok(());
     }
     match rule_word_of(word.bytes) {
-        None => Err(fault(3, word)),
+        None => Err(fault(Fault::UNEXPECTED, word)),
         Some(keyword) => {
             if st.rules.len() >= METHOD_LIMIT {
-                return Err(fault(12, word));
+                return Err(fault(Fault::LIMIT, word));
             }
             let rule = rule(keyword, line)?;
             push(alloc, &mut st.rules, rule)?;

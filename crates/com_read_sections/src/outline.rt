@@ -3,7 +3,8 @@
 ghost use Rattle.std.specs.Prelude.{◌≡◌, Ok, IfOk};
 ghost use Rattle.com_text.specs.Scanning.{lines_of};
 ghost use Rattle.com_read_operands.specs.Reading.{Gives};
-ghost use Rattle.com_read_sections.specs.Outlines.{finish, outlined, names_of, iids_of, taken_iids, begun, read};
+ghost use Rattle.com_read_sections.specs.Outlines.{finish, outlined, names_of, iids_of, taken_iids, begun};
+ghost use Rattle.com_read_sections.specs.Outlines.{read};
 
 use crate::header::FIRST;
 use crate::open::{close_interface, step};
@@ -15,7 +16,7 @@ use com_base::{
 use com_body::Body;
 use com_classes::{Class, Interface};
 use com_filter::Filter;
-use com_read_operands::ScenarioError;
+use com_read_operands::{Fault, ScenarioError};
 use com_read_statements::{MethodNumber, Names};
 use com_text::{TEXT_LIMIT, line_at};
 use std::alloc::{AllocError, Global};
@@ -52,7 +53,7 @@ fn finish(alloc: Global, mut st: State, line: u32, column: u32) -> Result<Outlin
             Ok(outlined(st))
         }
         _ => Err(ScenarioError::Fault {
-            number: 11,
+            number: Fault::UNENDED,
             line,
             column,
         }),

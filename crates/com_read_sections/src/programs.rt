@@ -29,7 +29,7 @@ fn spot(keyword: Keyword, line: &[Word]) -> Fault
     match line.get(number_place(keyword)) {
         None => FIRST,
         Some(word) => Fault {
-            number: 11,
+            number: Fault::UNENDED,
             line: word.line,
             column: word.column,
         },
@@ -51,10 +51,10 @@ pub(crate) fn program_line(
 {
     let keyword = match keyword_of(word.bytes) {
         Some(keyword) if takes(program, keyword) => keyword,
-        _ => return Err(fault(3, word)),
+        _ => return Err(fault(Fault::UNEXPECTED, word)),
     };
     if code.len() >= limit {
-        return Err(fault(12, word));
+        return Err(fault(Fault::LIMIT, word));
     }
     let statement = statement(alloc, program, names, keyword, line)?;
     code.push(statement, spot(keyword, line))?;

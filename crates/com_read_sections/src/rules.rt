@@ -2,10 +2,11 @@
 
 ghost use Rattle.std.specs.Prelude.{◌≡◌, Ok};
 ghost use Rattle.com_read_operands.specs.Reading.{Gives};
-ghost use Rattle.com_read_sections.specs.Rules.{call_type_at, verdict_at, refusal_at, answer_at, kept_at, rule_word_of, rule_of};
+ghost use Rattle.com_read_sections.specs.Rules.{call_type_at, verdict_at, refusal_at, answer_at, kept_at};
+ghost use Rattle.com_read_sections.specs.Rules.{rule_word_of, rule_of};
 
 use com_filter::{Rule, Verdict};
-use com_read_operands::{ScenarioError, end, fault, number, signed_of, word};
+use com_read_operands::{Fault, ScenarioError, end, fault, number, signed_of, word};
 use com_text::Word;
 
 /// The word that begins a rule.
@@ -46,7 +47,7 @@ fn call_type(line: &[Word], place: usize) -> Result<Option<u8>, ScenarioError>
     } else if word.bytes == b"*".as_slice() {
         Ok(None)
     } else {
-        Err(fault(3, word))
+        Err(fault(Fault::UNEXPECTED, word))
     }
 }
 
@@ -63,7 +64,7 @@ fn verdict(line: &[Word], place: usize) -> Result<Verdict, ScenarioError>
     } else if word.bytes == b"later".as_slice() {
         Ok(Verdict::Later)
     } else {
-        Err(fault(3, word))
+        Err(fault(Fault::UNEXPECTED, word))
     }
 }
 
@@ -80,7 +81,7 @@ fn refusal(line: &[Word], place: usize) -> Result<Option<Verdict>, ScenarioError
     } else if word.bytes == b"*".as_slice() {
         Ok(None)
     } else {
-        Err(fault(3, word))
+        Err(fault(Fault::UNEXPECTED, word))
     }
 }
 
@@ -92,7 +93,7 @@ fn answer(line: &[Word], place: usize) -> Result<i64, ScenarioError>
     let word = word(line, place)?;
     match signed_of(word.bytes) {
         Some(number) if -1 <= number && number <= 2147483647 => Ok(number),
-        _ => Err(fault(6, word)),
+        _ => Err(fault(Fault::NUMBER, word)),
     }
 }
 
@@ -109,7 +110,7 @@ fn kept(line: &[Word], place: usize) -> Result<u8, ScenarioError>
     } else if word.bytes == b"discard".as_slice() {
         Ok(2)
     } else {
-        Err(fault(3, word))
+        Err(fault(Fault::UNEXPECTED, word))
     }
 }
 

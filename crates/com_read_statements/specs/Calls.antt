@@ -1,5 +1,6 @@
 -- The statement `call`: its method, its arguments and where its result goes.
-use Rattle.std.specs.Prelude.{ℕ, ◌+◌, List, [], ◌∷◌, ◌++◌, length, take, drop, Option, Some, None, Result, Ok, Err, ◌==◌, if◌then◌else◌, option_map, slice_get, codes}
+use Rattle.std.specs.Prelude.{ℕ, ◌+◌, List, [], ◌∷◌, ◌++◌, length, take, drop, Option, Some, None, Result, Ok}
+use Rattle.std.specs.Prelude.{Err, ◌==◌, if◌then◌else◌, option_map, slice_get, codes}
 use Rattle.std.specs.Str.{bytes_eq}
 use Rattle.com_base.specs.declared.value.Kind.{Kind}
 use Rattle.com_base.specs.declared.value.Kind.TheVariants as kinds
@@ -32,7 +33,8 @@ dot_of (b ∷ bs) = if b == 46 then Some 0 else option_map (λ k. k + 1) (dot_of
 -- the first method of a name
 abbrev pub method_position : List Method → List ℕ → Option ℕ
 method_position [] name = None
-method_position (m ∷ ms) name = if bytes_eq m.name name then Some 0 else option_map (λ k. k + 1) (method_position ms name)
+method_position (m ∷ ms) name =
+    if bytes_eq m.name name then Some 0 else option_map (λ k. k + 1) (method_position ms name)
 
 abbrev pub in_table : List ℕ → Option Interface → Option ℕ
 in_table name None = None
@@ -70,18 +72,22 @@ named_by names w back (Some iface) = named_in w iface (method_number names.table
 
 -- a method by its name
 unfoldable pub named_of : Names → WordAt → List ℕ → List ℕ → Result MethodNumber Fault
-named_of names w front back = if is_name back then named_by names w back (number_of_name names.interfaces front) else Err (fault_at 3 w)
+named_of names w front back =
+    if is_name back then named_by names w back (number_of_name names.interfaces front) else Err (fault_at 3 w)
 
 abbrev pub as_target : Result MethodNumber Fault → Result Target Fault
 as_target r = r >>= λ m. Ok (targets.Named m)
 
 abbrev pub behind_dot : Names → WordAt → List ℕ → List ℕ → Result Target Fault
 behind_dot names w front [] = as_target (named_of names w front [])
-behind_dot names w front (b ∷ bs) = if b == 35 then numbered_of names w front bs else as_target (named_of names w front (b ∷ bs))
+behind_dot names w front (b ∷ bs) =
+    if b == 35 then numbered_of names w front bs else as_target (named_of names w front (b ∷ bs))
 
 abbrev pub dotted : Names → WordAt → Option ℕ → Result Target Fault
 dotted names w None = Err (fault_at 3 w)
-dotted names w (Some dot) = if is_name (take dot w.bytes) then behind_dot names w (take dot w.bytes) (drop (dot + 1) w.bytes) else Err (fault_at 3 w)
+dotted names w (Some dot) =
+    if is_name (take dot w.bytes) then behind_dot names w (take dot w.bytes) (drop (dot + 1) w.bytes)
+    else Err (fault_at 3 w)
 
 -- an interface's name, a dot, and a method's name or # and its number
 unfoldable pub target_at : Names → List WordAt → ℕ → Result Target Fault
@@ -91,7 +97,9 @@ target_at names line k = do
 
 abbrev pub headed : Names → WordAt → Option ℕ → Result MethodNumber Fault
 headed names w None = Err (fault_at 3 w)
-headed names w (Some dot) = if is_name (take dot w.bytes) then named_of names w (take dot w.bytes) (drop (dot + 1) w.bytes) else Err (fault_at 3 w)
+headed names w (Some dot) =
+    if is_name (take dot w.bytes) then named_of names w (take dot w.bytes) (drop (dot + 1) w.bytes)
+    else Err (fault_at 3 w)
 
 -- the method that a body is for: an interface's name, a dot and a method's name
 unfoldable pub method_at : Names → List WordAt → ℕ → Result MethodNumber Fault
@@ -122,7 +130,8 @@ argument_at kind line k = do
 -- the arguments so far, and those for the parameters that are left, from a place on
 abbrev pub arguments_on : List Arg → List Kind → List WordAt → ℕ → Result (List Arg) Fault
 arguments_on done [] line k = Ok done
-arguments_on done (p ∷ ps) line k = argument_at p line k >>= λ a. arguments_on (done ++ a ∷ []) ps line (k + 1)
+arguments_on done (p ∷ ps) line k =
+    argument_at p line k >>= λ a. arguments_on (done ++ a ∷ []) ps line (k + 1)
 
 abbrev pub in_slot : WordAt → Operand → Result Destination Fault
 in_slot w (operands.Slot n) = Ok (destinations.Slot n)

@@ -1,5 +1,6 @@
 -- The statements, each with its operands in order.
-use Rattle.std.specs.Prelude.{ℕ, ◌+◌, List, length, Option, Some, None, Result, Ok, Err, not, nat_lt, if◌then◌else◌, codes}
+use Rattle.std.specs.Prelude.{ℕ, ◌+◌, List, length, Option, Some, None, Result, Ok, Err, not, nat_lt}
+use Rattle.std.specs.Prelude.{if◌then◌else◌, codes}
 use Rattle.std.specs.Str.{bytes_eq}
 use Rattle.com_body.specs.declared.statements.Stmt.{Stmt}
 use Rattle.com_body.specs.declared.statements.Stmt.TheVariants as stmts
@@ -8,7 +9,8 @@ use Rattle.com_read_operands.specs.declared.faults.Fault.{Fault}
 use Rattle.com_read_operands.specs.Reading.{◌>>=◌, fault_at, word_at, end_at, number_at}
 use Rattle.com_read_operands.specs.Literals.{are_pairs, unhexed}
 use Rattle.com_read_operands.specs.Naming.{name_at, declared_at, asked_at}
-use Rattle.com_read_operands.specs.Operands.{register_at, slot_at, cell_at, buffer_at, place_at, op_at, code_at, given_at, mode_at, marshal_mode_at}
+use Rattle.com_read_operands.specs.Operands.{register_at, slot_at, cell_at, buffer_at, place_at, op_at}
+use Rattle.com_read_operands.specs.Operands.{code_at, given_at, mode_at, marshal_mode_at}
 use Rattle.com_read_statements.specs.declared.keywords.Program.{Program}
 use Rattle.com_read_statements.specs.declared.keywords.LocalWord.{LocalWord}
 use Rattle.com_read_statements.specs.declared.keywords.LocalWord.TheVariants as locals

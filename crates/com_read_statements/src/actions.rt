@@ -11,7 +11,8 @@ use crate::names::Names;
 use com_base::ByteList;
 use com_body::Stmt;
 use com_read_operands::{
-    ScenarioError, are_pairs, asked, buffer, end, fault, marshal_mode, place, slot, unhex, word,
+    Fault, ScenarioError, are_pairs, asked, buffer, end, fault, marshal_mode, place, slot, unhex,
+    word,
 };
 use com_text::Word;
 use std::alloc::Global;
@@ -27,14 +28,14 @@ fn raw_bytes(alloc: Global, line: &[Word], place: usize) -> Result<ByteList, Sce
 {
     let word = word(line, place)?;
     if !are_pairs(word.bytes) {
-        return Err(fault(3, word));
+        return Err(fault(Fault::UNEXPECTED, word));
     }
     if word.bytes.len() > 2 * RAW_LIMIT {
-        return Err(fault(12, word));
+        return Err(fault(Fault::LIMIT, word));
     }
     match unhex(alloc, word.bytes)? {
         Some(bytes) => Ok(bytes),
-        None => Err(fault(3, word)),
+        None => Err(fault(Fault::UNEXPECTED, word)),
     }
 }
 

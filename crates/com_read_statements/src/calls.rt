@@ -5,15 +5,17 @@ ghost use Rattle.std.specs.Option.{option_copied};
 ghost use Rattle.com_body.specs.Bodies.{IsArg, IsDestination, IsInRange};
 ghost use Rattle.com_read_operands.specs.Operands.{IsOperand};
 ghost use Rattle.com_read_operands.specs.Reading.{Gives};
-ghost use Rattle.com_read_statements.specs.Calls.{dot_of, target_at, numbered_of, named_of, method_at, argument_at, arguments_on, landing_of, destination_at, call_of, call_at, method_number, method_of};
+ghost use Rattle.com_read_statements.specs.Calls.{dot_of, target_at, numbered_of, named_of, method_at};
+ghost use Rattle.com_read_statements.specs.Calls.{argument_at, arguments_on, landing_of, destination_at};
+ghost use Rattle.com_read_statements.specs.Calls.{call_of, call_at, method_number, method_of};
 
 use crate::names::{Names, method_position};
 use com_base::{Kind, Rows};
 use com_body::{Arg, Destination, Stmt};
 use com_classes::{Interface, Method};
 use com_read_operands::{
-    Operand, ScenarioError, end, fault, is_name, literal, number_of, number_of_name, operand_of,
-    slot, stands, unfit, word,
+    Fault, Operand, ScenarioError, end, fault, is_name, literal, number_of, number_of_name,
+    operand_of, slot, stands, unfit, word,
 };
 use com_text::Word;
 use std::alloc::Global;
@@ -64,12 +66,12 @@ pub fn target_at(names: &Names, line: &[Word], place: usize) -> Result<Target, S
 {
     let word = word(line, place)?;
     let Some(dot) = dot_of(word.bytes) else {
-        return Err(fault(3, word));
+        return Err(fault(Fault::UNEXPECTED, word));
     };
     let front = &word.bytes[..dot];
     let back = &word.bytes[dot + 1..];
     if !is_name(front) {
-        return Err(fault(3, word));
+        return Err(fault(Fault::UNEXPECTED, word));
     }
     if let [b'#', digits @ ..] = back {
         return numbered(names, word, front, digits);
@@ -88,14 +90,14 @@ fn named(
     ensures { Gives (λ m. m) result (named_of names.now word.now front.now back.now) }
 {
     if !is_name(back) {
-        return Err(fault(3, word));
+        return Err(fault(Fault::UNEXPECTED, word));
     }
     let Some(iface) = number_of_name(names.interfaces.as_slice(), front) else {
-        return Err(fault(8, word));
+        return Err(fault(Fault::UNDECLARED, word));
     };
     match method_number(names.tables.as_slice(), iface, back) {
         Some(method) => Ok(MethodNumber { iface, method }),
-        None => Err(fault(8, word)),
+        None => Err(fault(Fault::UNDECLARED, word)),
     }
 }
 
@@ -107,11 +109,11 @@ pub fn method_at(names: &Names, line: &[Word], place: usize) -> Result<MethodNum
 {
     let word = word(line, place)?;
     let Some(dot) = dot_of(word.bytes) else {
-        return Err(fault(3, word));
+        return Err(fault(Fault::UNEXPECTED, word));
     };
     let front = &word.bytes[..dot];
     if !is_name(front) {
-        return Err(fault(3, word));
+        return Err(fault(Fault::UNEXPECTED, word));
     }
     named(names, word, front, &word.bytes[dot + 1..])
 }
@@ -128,11 +130,11 @@ fn numbered(
 {
     let method = match number_of(digits) {
         Some(number) if number <= 0xffff => number as u16,
-        _ => return Err(fault(6, word)),
+        _ => return Err(fault(Fault::NUMBER, word)),
     };
     match number_of_name(names.interfaces.as_slice(), front) {
         Some(iface) => Ok(Target::Numbered(MethodNumber { iface, method })),
-        None => Err(fault(8, word)),
+        None => Err(fault(Fault::UNDECLARED, word)),
     }
 }
 
@@ -154,10 +156,10 @@ pub fn argument(
             Operand::Slot(number) => Ok(Arg::Slot(number)),
             Operand::Null => Ok(Arg::Null),
             Operand::Wrong(number) => Err(fault(number, word)),
-            _ => Err(fault(10, word)),
+            _ => Err(fault(Fault::UNFIT, word)),
         },
         _ => match operand {
-            Operand::Null => Err(fault(10, word)),
+            Operand::Null => Err(fault(Fault::UNFIT, word)),
             _ => Ok(Arg::Op(literal(alloc, word, operand)?)),
         },
     }
@@ -212,7 +214,7 @@ pub fn destination(
     }
     let arrow = word(line, place)?;
     if arrow.bytes != b"->".as_slice() {
-        return Err(fault(3, arrow));
+        return Err(fault(Fault::UNEXPECTED, arrow));
     }
     let word = word(line, place + 1)?;
     let destination = landing(kind, word, operand_of(word))?;
@@ -276,7 +278,7 @@ pub fn call(alloc: Global, names: &Names, line: &[Word]) -> Result<Stmt, Scenari
         }
         Target::Named(number) => match signature(names.tables.as_slice(), number) {
             Some(method) => call_of(alloc, slot, number, method, line),
-            None => Err(fault(8, word(line, 2)?)),
+            None => Err(fault(Fault::UNDECLARED, word(line, 2)?)),
         },
     }
 }

@@ -1,7 +1,8 @@
 //! The words that begin statements.
 
 ghost use Rattle.std.specs.Prelude.{◌≡◌};
-ghost use Rattle.com_read_statements.specs.Keywords.{has_cells, has_links, local_word_of, object_word_of, lane_word_of, keyword_of};
+ghost use Rattle.com_read_statements.specs.Keywords.{has_cells, has_links, local_word_of, object_word_of};
+ghost use Rattle.com_read_statements.specs.Keywords.{lane_word_of, keyword_of};
 
 /// What a statement stands in.
 #[derive(Clone, Copy, Debug, PartialEq, Eq)]

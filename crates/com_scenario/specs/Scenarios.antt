@@ -13,7 +13,8 @@ use Rattle.com_read_sections.specs.Outlines.{begun, read}
 
 -- the tables of interfaces and classes: the built-in interfaces come first in both lists
 abbrev pub tables_of : List Interface → List Class → Tables
-tables_of interfaces classes = record { interfaces = built_in_interfaces ++ drop 4 interfaces; classes = classes }
+tables_of interfaces classes =
+    record { interfaces = built_in_interfaces ++ drop 4 interfaces; classes = classes }
 
 abbrev pub scenario_of : Outline → Scenario
 scenario_of o = record {
@@ -25,7 +26,7 @@ scenario_of o = record {
   picks = o.picks;
 }
 
--- The scenario that a text spells, or its first fault: the lines are read one after another, and a line's words from left
--- to right, so the first fault that is met is the first by place.
+-- The scenario that a text spells, or its first fault: the lines are read one after another, and a line's
+-- words from left to right, so the first fault that is met is the first by place.
 unfoldable pub reading : List ℕ → Result Scenario Fault
 reading text = read (begun built_in_interfaces) (lines_of text) >>= λ o. Ok (scenario_of o)

@@ -1,5 +1,6 @@
 -- How long a text may be.
-use Rattle.std.specs.Prelude.{ℕ, List, [], ◌∷◌, Bool, true, false, Option, Some, None, ◌&&◌, not, nat_lt, if◌then◌else◌, length, codes}
+use Rattle.std.specs.Prelude.{ℕ, List, [], ◌∷◌, Bool, true, false, Option, Some, None, ◌&&◌, not, nat_lt}
+use Rattle.std.specs.Prelude.{if◌then◌else◌, length, codes}
 use Rattle.std.specs.Str.{bytes_eq}
 use Rattle.com_text.specs.declared.word.Sort.{Sort}
 use Rattle.com_text.specs.declared.word.Sort.TheVariants as sorts
@@ -22,7 +23,8 @@ is_last word (w ∷ ws) = not (is_remark w.sort) && bytes_eq w.bytes word && is_
 -- Whether a line's words are `scenario` and `2`, as they stand; nothing for a line without words.
 abbrev pub says_version_2 : List WordAt → Option Bool
 says_version_2 [] = None
-says_version_2 (w ∷ ws) = if is_remark w.sort then None else Some (bytes_eq w.bytes (codes "scenario") && is_last (codes "2") ws)
+says_version_2 (w ∷ ws) =
+    if is_remark w.sort then None else Some (bytes_eq w.bytes (codes "scenario") && is_last (codes "2") ws)
 
 abbrev pub or_later : Option Bool → Bool → Bool
 or_later None later = later

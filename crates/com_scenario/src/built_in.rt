@@ -9,7 +9,8 @@ use std::alloc::Global;
 
 /// The IID of a built-in interface, by its first field.
 fn iid(data1: u32) -> Guid
-    ensures { result ≡ record { data1 = data1; data2 = 0; data3 = 0x4000; data4 = 0x80 ∷ 0 ∷ 0 ∷ 0 ∷ 0 ∷ 0 ∷ 0 ∷ 1 ∷ [] } }
+    ensures { result
+        ≡ record { data1 = data1; data2 = 0; data3 = 0x4000; data4 = 0x80 ∷ 0 ∷ 0 ∷ 0 ∷ 0 ∷ 0 ∷ 0 ∷ 1 ∷ [] } }
 {
     Guid {
         data1,

@@ -26,7 +26,8 @@ fn declared(mut interfaces: Vec<Interface>) -> Result<Vec<Interface>, Memory>
 
 /// Adds an interface. One whose IID is there, and one too many, are refused where they are declared.
 fn add_interface(classes: &mut Classes, interface: Interface) -> Result<(), Memory>
-    ensures { OnOk result (classes.new ≡ record classes.old { interfaces = classes.old.interfaces ++ interface ∷ [] }) }
+    ensures { OnOk result (classes.new
+        ≡ record classes.old { interfaces = classes.old.interfaces ++ interface ∷ [] }) }
 {
     match classes.add_interface(interface) {
         Ok(_) => Ok(()),

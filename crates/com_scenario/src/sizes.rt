@@ -2,7 +2,8 @@
 
 ghost use Rattle.std.specs.Prelude.{◌≡◌, ◌<◌, ◌-◌, ◌^◌, IfOk, length};
 ghost use Rattle.com_text.specs.Scanning.{lines_of};
-ghost use Rattle.com_scenario.specs.Sizes.{is_remark, is_over, is_last, says_version_2, begins_version_2, is_too_long};
+ghost use Rattle.com_scenario.specs.Sizes.{is_remark, is_over, is_last, says_version_2, begins_version_2};
+ghost use Rattle.com_scenario.specs.Sizes.{is_too_long};
 
 use com_base::Memory;
 use com_text::{Sort, Word, line_at};

@@ -31,7 +31,7 @@ use Rattle.com_read_operands.specs.Numbers.{number_of, signed_of}
 use Rattle.com_read_operands.specs.Reading.{◌>>=◌, judged, needed, word_at, stands_at, first_at, opened, opening, within, number_at}
 use Rattle.com_read_operands.specs.Literals.{guid_of, are_pairs, decoded, unhexed}
 use Rattle.com_read_operands.specs.Naming.{is_name, position_of, of_16_bits, number_of_name, name_at, known, declared_at, opens_brace, as_asked, asked_at}
-use Rattle.com_read_operands.specs.Operands.{small_of, lettered_by, lettered, numbered, numeric_of, braced, begins_number, by_first, plain_of, inner, operand_by, operand_of, as_register, register_at, as_slot, slot_at, as_cell, cell_at, as_buffer, buffer_at, as_place, place_at, text_literal, as_bytes, bytes_literal, written, literal_of, op_at, as_code_register, as_code, code_at, hresult_of, as_given, given_at}
+use Rattle.com_read_operands.specs.Operands.{small_of, lettered_by, lettered, numbered, numeric_of, braced, begins_number, by_first, plain_of, inner, operand_by, operand_of, as_register, register_at, as_slot, slot_at, as_cell, cell_at, as_buffer, buffer_at, as_place, place_at, text_literal, as_bytes, bytes_literal, written, literal_of, op_at, as_code_register, begins_hex, as_code, code_at, hresult_of, as_given, given_at}
 use Rattle.com_model.specs.Formed.{IsLiteral, IsOperand, IsGivenValue}
 use Rattle.com_scenario_laws.specs.Words.{IsQuoted, IsLiteral as IsLiteralWord, IsWord}
 use Rattle.com_scenario_laws.specs.Holds.{Holds}
@@ -331,7 +331,7 @@ code_register_by w bytes (operands.Register n) h = done (answers.Register n) h
 code_register_by w bytes o h = fails _
 
 code_by : (w : WordAt) (o : Option HResult) → IsWord w → Holds IsCode (as_code w o)
-code_by w None is = code_register_by w w.bytes (operand_of w) (said w is)
+code_by w None is = either (begins_hex w.bytes) _ _ (λ _. fails _) (λ _. code_register_by w w.bytes (operand_of w) (said w is))
 code_by w (Some hr) is = done (answers.Literal hr) tt
 
 pub code_formed : (line : List WordAt) (k : ℕ) → All IsWord line → Holds IsCode (code_at line k)

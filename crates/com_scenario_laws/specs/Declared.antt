@@ -8,7 +8,8 @@ use Rattle.com_read_statements.specs.declared.keywords.Program.{Program}
 use Rattle.com_read_statements.specs.declared.names.Names.{Names}
 use Rattle.com_read_statements.specs.Keywords.{has_cells, has_links}
 
--- The names are those of a scenario's interfaces, classes and filters, and the place is that of a body or script.
+-- The names are those of a scenario's interfaces, classes and filters, and the place is that of a body or
+-- script.
 pub record Declares (s : Scenario) (x : Context) (p : Program) (names : Names) : Type 0 where
   pub tables : names.tables ≡ s.classes.interfaces
   pub interfaces : length names.interfaces ≡ length s.classes.interfaces

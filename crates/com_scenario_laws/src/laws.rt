@@ -24,5 +24,7 @@ pub fn words_are_formed()
 /// the arguments and the destination of its method, and cells, links and the statements of bodies
 /// and scripts stand only where they may.
 pub fn statements_fit()
-    ensures { (s : Scenario) (x : Context) (p : Program) (names : Names) (k : Keyword) (line : List WordAt) → Declares s x p names → All IsWord line → takes p k ≡ true → Holds (Fits s x) (stmt_of p names k line) }
+    ensures { (s : Scenario) (x : Context) (p : Program) (names : Names) (k : Keyword) (line : List WordAt)
+        → Declares s x p names → All IsWord line → takes p k ≡ true
+        → Holds (Fits s x) (stmt_of p names k line) }
 {}

@@ -1,5 +1,6 @@
 -- What an input of `replay` is, and what is answered for it.
-use Rattle.std.specs.Prelude.{List, ◌++◌, ℕ, Option, Some, None, Result, Ok, Err, if◌then◌else◌, codes, decimal}
+use Rattle.std.specs.Prelude.{List, ◌++◌, ℕ, Option, Some, None, Result, Ok, Err, if◌then◌else◌, codes}
+use Rattle.std.specs.Prelude.{decimal}
 use Rattle.com_read_operands.specs.declared.faults.Fault.{Fault}
 use Rattle.com_model.specs.declared.scenario.Scenario.{Scenario}
 use Rattle.com_replay.specs.declared.plan.Plan.{Plan}
@@ -20,7 +21,8 @@ abbrev pub read_as : Result Scenario Fault → Input
 read_as (Err fault) = input.Faulty fault
 read_as (Ok scenario) = planned (plan_of scenario)
 
--- What an input of these bytes is: its length is judged first, then its text, and then what the scenario needs.
+-- What an input of these bytes is: its length is judged first, then its text, and then what the scenario
+-- needs.
 unfoldable pub input_of : List ℕ → Input
 input_of bytes = if is_too_long bytes then input.TooLong else read_as (reading bytes)
 
@@ -33,7 +35,8 @@ unbuilt_line = codes "refused 0 0 13\n"
 -- The line of a text's first fault.
 unfoldable pub refused_line : Fault → List ℕ
 refused_line fault =
-    codes "refused " ++ decimal fault.line ++ codes " " ++ decimal fault.column ++ codes " " ++ decimal fault.number ++ codes "\n"
+    codes "refused " ++ decimal fault.line ++ codes " " ++ decimal fault.column ++ codes " "
+    ++ decimal fault.number ++ codes "\n"
 
 -- What is written for an input: the line of a refusal, or the text and the report of the one history.
 abbrev pub output_of : Input → List ℕ

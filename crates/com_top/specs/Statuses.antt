@@ -37,7 +37,8 @@ pub record Sides : Type 0 where
   pub write_faults : ℕ
   pub write_faults_after : ℕ
 
--- The input was answered: it is one that has this status, and the sink gained the whole text that is written for it.
+-- The input was answered: it is one that has this status, and the sink gained the whole text that is written
+-- for it.
 pub record IsWritten (s : Status) (sides : Sides) : Type 0 where
   pub input : Input
   pub which : (bytes : List ℕ) → sides.left ≡ Some bytes → input_of bytes ≡ input
@@ -56,7 +57,8 @@ pub record IsReadFault (sides : Sides) : Type 0 where
 -- What was written is a prefix of what is written for the input, or of the line of a read fault that came.
 pub record WritesPart (sides : Sides) : Type 0 where
   pub text : List ℕ
-  pub whose : ((input : Input) × (text ≡ output_of input) × ((bytes : List ℕ) → sides.left ≡ Some bytes → input_of bytes ≡ input))
+  pub whose : ((input : Input) × (text ≡ output_of input)
+      × ((bytes : List ℕ) → sides.left ≡ Some bytes → input_of bytes ≡ input))
       ⊎ (Rose sides.read_faults sides.read_faults_after × (text ≡ read_fault_line))
   pub gained : GainsPrefix sides.held sides.held_after text
 
@@ -80,8 +82,8 @@ pub record Answers (code : ℕ) (sides : Sides) : Type 0 where
   pub number : code ≡ code_of status
   pub cause : HasCause status sides
 
--- A line was written and the status is that which goes with it; or the sink's count rose, a prefix of the line
--- was written, and the status is that of a write fault.
+-- A line was written and the status is that which goes with it; or the sink's count rose, a prefix of the
+-- line was written, and the status is that of a write fault.
 abbrev pub Says : Status → Status → List ℕ → Option (List ℕ) → Option (List ℕ) → ℕ → ℕ → Type 0
 Says result wanted line held held_after faults faults_after =
     ((result ≡ wanted) × Gains held held_after line)
@@ -93,22 +95,24 @@ IsSaid result wanted line held held_after faults faults_after =
     ((result ≡ wanted) × Gains held held_after line)
     ⊎ ((result ≡ 4) × Rose faults faults_after × GainsPrefix held held_after line)
 
--- How an input was answered: by its status and its whole text, or a part of the text was written and the sink's count
--- rose or memory wanted.
+-- How an input was answered: by its status and its whole text, or a part of the text was written and the
+-- sink's count rose or memory wanted.
 abbrev pub IsAnswered : Status → Input → Option (List ℕ) → Option (List ℕ) → ℕ → ℕ → Type 0
 IsAnswered s input held held_after faults faults_after =
     ((s ≡ status_of input) × Gains held held_after (output_of input))
     ⊎ ((s ≡ status.WriteFault) × Rose faults faults_after × GainsPrefix held held_after (output_of input))
     ⊎ ((s ≡ status.Memory) × GainsPrefix held held_after (output_of input))
 
--- The call was complete: the number is the status of the input of these bytes and the sink gained its whole text, or
--- memory wanted.
+-- The call was complete: the number is the status of the input of these bytes and the sink gained its whole
+-- text, or memory wanted.
 abbrev pub IsComplete : ℕ → Sides → List ℕ → Type 0
 IsComplete code sides bytes =
-    ((code ≡ code_of (status_of (input_of bytes))) × Gains sides.held sides.held_after (output_of (input_of bytes))) ⊎ (code ≡ 9)
+    ((code ≡ code_of (status_of (input_of bytes)))
+    × Gains sides.held sides.held_after (output_of (input_of bytes))) ⊎ (code ≡ 9)
 
 -- Where the input was told and no count of faults rose, every call is complete.
 abbrev pub Completes : Type 0
 Completes = (code : ℕ) (sides : Sides) (bytes : List ℕ) → Answers code sides → sides.left ≡ Some bytes
-    → (Rose sides.read_faults sides.read_faults_after → ⊥) → (Rose sides.write_faults sides.write_faults_after → ⊥)
+    → (Rose sides.read_faults sides.read_faults_after → ⊥)
+    → (Rose sides.write_faults sides.write_faults_after → ⊥)
     → IsComplete code sides bytes

@@ -1,10 +1,12 @@
 //! The commands.
-ghost use Rattle.std.specs.Prelude.{◌≡◌, ◌⊎◌, ◌≤◌, ◌∷◌, [], ℕ, List, OnOk, IsTrue, ◌↔◌, map, string_bytes, codes};
+ghost use Rattle.std.specs.Prelude.{◌≡◌, ◌⊎◌, ◌≤◌, ◌∷◌, [], ℕ, List, OnOk, IsTrue, ◌↔◌, map, string_bytes};
+ghost use Rattle.std.specs.Prelude.{codes};
 ghost use Rattle.com_io.specs.Faults.{Rose};
 ghost use Rattle.com_io.specs.Told.{Gains, GainsPrefix};
 ghost use Rattle.com_top.specs.declared.inputs.Input.TheVariants as input;
 ghost use Rattle.com_top.specs.Replies.{HasReplyCause, IsObjRefWord, Replies, status_for};
-ghost use Rattle.com_top.specs.Statuses.{Answers, HasCause, IsAnswered, IsReplay, IsSaid, Says, Sides, usage_line};
+ghost use Rattle.com_top.specs.Statuses.{Answers, HasCause, IsAnswered, IsReplay, IsSaid, Says, Sides};
+ghost use Rattle.com_top.specs.Statuses.{usage_line};
 
 use crate::inputs::{Input, input_of, refused_line};
 use crate::statuses::Status;
@@ -18,8 +20,8 @@ use std::alloc::Global;
 const LONGEST_DIGITS: usize = 1_048_576;
 
 /// Does what the words ask for: `replay` reads a scenario from the source and writes its history and report
-/// to the sink, or the line of the refusal; `objref` reads hexadecimal text and shows the OBJREF that it spells.
-/// The answer is the exit status.
+/// to the sink, or the line of the refusal; `objref` reads hexadecimal text and shows the OBJREF that it
+/// spells. The answer is the exit status.
 ///
 /// Status 1 comes exactly for other words, unless the line that says so cannot be written; then nothing was
 /// read.
@@ -49,8 +51,12 @@ pub fn com_main<S: Source, K: Sink>(
       write_faults = K.faults_of sink.old;
       write_faults_after = K.faults_of sink.new;
     }) }
-    ensures usage { (IsReplay (map string_bytes words.now) → ⊥) → (IsObjRefWord (map string_bytes words.now) → ⊥) → IsSaid result 1 usage_line (K.held sink.old) (K.held sink.new) (K.faults_of sink.old) (K.faults_of sink.new) }
-    ensures unread { (IsReplay (map string_bytes words.now) → ⊥) → (IsObjRefWord (map string_bytes words.now) → ⊥) → source.new ≡ source.old }
+    ensures usage { (IsReplay (map string_bytes words.now) → ⊥)
+        → (IsObjRefWord (map string_bytes words.now) → ⊥)
+        → IsSaid result 1 usage_line (K.held sink.old) (K.held sink.new)
+        (K.faults_of sink.old) (K.faults_of sink.new) }
+    ensures unread { (IsReplay (map string_bytes words.now) → ⊥)
+        → (IsObjRefWord (map string_bytes words.now) → ⊥) → source.new ≡ source.old }
 {
     if asks(words, "replay") {
         return replay_main(alloc, source, sink);
@@ -61,10 +67,10 @@ pub fn com_main<S: Source, K: Sink>(
     say(b"usage: comrun replay|objref\n", Status::Usage, sink).code()
 }
 
-/// Reads a scenario from the source, and writes its history and report to the sink. An input that is too long,
-/// whose text is no scenario or whose scenario needs a part of the runtime that is not built yet is refused by
-/// a line with the line, the column and the number of the fault. The answer is the exit status: each has its
-/// cause.
+/// Reads a scenario from the source, and writes its history and report to the sink. An input that is too
+/// long, whose text is no scenario or whose scenario needs a part of the runtime that is not built yet is
+/// refused by a line with the line, the column and the number of the fault. The answer is the exit status:
+/// each has its cause.
 pub fn replay_main<S: Source, K: Sink>(alloc: Global, source: &mut S, sink: &mut K) -> u8
     ensures { Answers result (record {
       left = S.left source.old;
@@ -106,7 +112,8 @@ fn replay_input<S: Source, K: Sink>(alloc: Global, source: &mut S, sink: &mut K)
 
 // Writes what is written for an input, and answers its status.
 fn answer<K: Sink>(alloc: Global, input: Input, sink: &mut K) -> Status
-    ensures { IsAnswered result input (K.held sink.old) (K.held sink.new) (K.faults_of sink.old) (K.faults_of sink.new) }
+    ensures { IsAnswered result input (K.held sink.old) (K.held sink.new)
+        (K.faults_of sink.old) (K.faults_of sink.new) }
 {
     match input {
         Input::TooLong => say(b"refused 0 0 12\n", Status::Refused, sink),
@@ -121,7 +128,8 @@ fn answer<K: Sink>(alloc: Global, input: Input, sink: &mut K) -> Status
 
 // Writes the history and the report of a plan, and answers the status.
 fn run<K: Sink>(alloc: Global, plan: Plan, sink: &mut K) -> Status
-    ensures { IsAnswered result (input.Runs plan) (K.held sink.old) (K.held sink.new) (K.faults_of sink.old) (K.faults_of sink.new) }
+    ensures { IsAnswered result (input.Runs plan) (K.held sink.old) (K.held sink.new)
+        (K.faults_of sink.old) (K.faults_of sink.new) }
 {
     match replay(alloc, plan, sink) {
         Ok(_) => Status::Done,
@@ -196,7 +204,8 @@ fn is_word(word: &str, wanted: &str) -> bool
 
 // Writes one line, and answers the status that it goes with, or that it could not be written.
 fn say<K: Sink>(line: &[u8], status: Status, sink: &mut K) -> Status
-    ensures said { Says result status line.now (K.held sink.old) (K.held sink.new) (K.faults_of sink.old) (K.faults_of sink.new) }
+    ensures said { Says result status line.now (K.held sink.old) (K.held sink.new)
+        (K.faults_of sink.old) (K.faults_of sink.new) }
 {
     match write_all(sink, line) {
         Ok(()) => status,
