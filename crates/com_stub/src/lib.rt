@@ -189,6 +189,13 @@ impl Stubs {
         0
     }
 
+    /// True exactly where the object has a stub that is connected.
+    pub fn is_connected(&self, object: u32) -> bool
+        ensures { result ≡ is_connected self.now.stubs object }
+    {
+        is_live(&self.stubs, &self.places, object)
+    }
+
     /// Disconnects the object's stub: all its counts are 0 and `add` is refused from then on.
     /// Source: CoDisconnectObject.
     pub fn disconnect(&mut self, object: u32)

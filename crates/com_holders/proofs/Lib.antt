@@ -1,0 +1,13 @@
+pub mod Counting
+pub mod Cuts
+pub mod Drops
+pub mod Gives
+pub mod Giving
+pub mod Joins
+pub mod Keeps
+pub mod Marshals
+pub mod Owners
+pub mod Packed
+pub mod Releases
+pub mod Rests
+pub mod Same
