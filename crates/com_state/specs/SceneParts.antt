@@ -1,8 +1,6 @@
 -- The scene of a core as tables, and how an entry changes them: each write changes one row. The tables are those of the state's
 -- definition; a row beside them is kept as it is.
-use Rattle.std.specs.Prelude.{ℕ, zero, Bool, ◌==◌, if◌then◌else◌, List, [], ◌∷◌, Option, Some, None, fold, replicate, slice_index_or, slice_set}
-use Rattle.com_base.specs.declared.value.RefValue.{RefValue}
-use Rattle.com_base.specs.declared.value.Value.{Value}
+use Rattle.std.specs.Prelude.{ℕ, zero, ◌==◌, if◌then◌else◌, List, [], ◌∷◌, Option, Some, None, fold, replicate, slice_index_or, slice_set}
 use Rattle.com_body.specs.declared.operands.Destination.{Destination}
 use Rattle.com_body.specs.declared.operands.Destination.TheVariants as destination
 use Rattle.com_body.specs.declared.actions.Action.{Action}
@@ -14,7 +12,7 @@ use Rattle.com_model.specs.declared.deeds.Deed.{Deed}
 use Rattle.com_model.specs.declared.deeds.Deed.TheVariants as deed
 use Rattle.com_model.specs.declared.deeds.Entry.{Entry}
 use Rattle.com_model.specs.Answers.{S_OK}
-use Rattle.com_model.specs.Lists.{is_number, each_from}
+use Rattle.com_model.specs.Lists.{each_from}
 use Rattle.com_model.specs.Apartments.{ends_sta}
 use Rattle.com_model.specs.Objects.{makes}
 use Rattle.com_model.specs.Frames.{Actor, Body, Script, Nobody, Write, ToRegister, ToSlot, ToLink, ToBuffer, new_cells, with_link, writes, to_answer, to_destination}

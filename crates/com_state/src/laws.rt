@@ -1,11 +1,22 @@
-//! The parts side by side are the state.
+//! The parts side by side are the state, before and after each entry.
 
-ghost use Rattle.std.specs.Prelude.{◌≡◌, ℕ, ◌+◌, is_none};
+ghost use Rattle.std.specs.Prelude.{◌≡◌, ℕ};
+ghost use Rattle.com_model.specs.declared.deeds.Deed.{Deed};
+ghost use Rattle.com_model.specs.declared.deeds.Entry.{Entry};
 ghost use Rattle.com_model.specs.declared.scenario.Scenario.{Scenario};
-ghost use Rattle.com_model.specs.State.{State};
-ghost use Rattle.com_state.specs.Parts.{lanes_of, objects_of, calls_of, state_of};
+ghost use Rattle.com_model.specs.State.{State, after};
+ghost use Rattle.com_state.specs.Parts.{lanes_of, objects_of, calls_of, lanes_after, objects_after, calls_after, moment_in, issuing_in, state_of, joined_after};
 
 /// A state is its parts side by side.
 pub fn parts_make_the_state()
     ensures { (st : State) → state_of (lanes_of st) (objects_of st) (calls_of st) st.scene st.books st.fallen st.clock st.entries ≡ st }
+{}
+
+/// After an entry each part is what the entry makes of it, by its deed and by what it finds of the other parts; with the scene
+/// and the books after it they are the state.
+pub fn after_by_parts()
+    ensures whole { (s : Scenario) (st : State) (l : ℕ) (d : Deed) → after s st l d ≡ joined_after s st (record { lane = l; deed = d }) }
+    ensures lanes { (s : Scenario) (st : State) (l : ℕ) (d : Deed) → lanes_of (after s st l d) ≡ lanes_after (lanes_of st) (record { lane = l; deed = d }) }
+    ensures objects { (s : Scenario) (st : State) (l : ℕ) (d : Deed) → objects_of (after s st l d) ≡ objects_after (objects_of st) (record { lane = l; deed = d }) }
+    ensures calls { (s : Scenario) (st : State) (l : ℕ) (d : Deed) → let e : Entry = record { lane = l; deed = d } in calls_of (after s st l d) ≡ calls_after (objects_of st) (moment_in s st e) (issuing_in s st e) (calls_of st) e }
 {}
