@@ -1,0 +1,118 @@
+//! The values of operands in a frame that is only read.
+
+ghost use Rattle.std.specs.Prelude.{◌≡◌, ◌<◌, IfOk, IsTrue, length, slice_index_or, All};
+ghost use Rattle.com_body.specs.Operands.{register_of, slot_of, value_of, number_in, number_of, held_at, argument_of, arguments_of, answer_of, given_value, same_object, truth};
+ghost use Rattle.com_body.specs.Bodies.{IsOp, IsPlace, IsArg, IsCode, IsGiven};
+
+use com_base::{HResult, Memory, RefValue, Rows, Value};
+use com_body::{Arg, Cells, Code, Frame, Given, Op, Place};
+use std::alloc::Global;
+
+// The Int of a value, and 0 where it is no Int.
+#[inline]
+pub fn number_in(value: &Value) -> i64
+    ensures { result ≡ number_in value.now }
+{
+    match value {
+        Value::Int(number) => *number,
+        _ => 0,
+    }
+}
+
+#[inline]
+pub fn number_of(frame: &Frame, operand: &Op) -> i64
+    requires { IsOp operand.now }
+    ensures { result ≡ number_of frame.now operand.now }
+{
+    match operand {
+        Op::Register(number) => number_in(frame.register(*number)),
+        Op::Literal(value) => number_in(value),
+    }
+}
+
+#[inline]
+pub fn value_of(frame: &Frame, operand: &Op) -> Result<Value, Memory>
+    requires { IsOp operand.now }
+    ensures { IfOk result (λ value. value ≡ value_of frame.now operand.now) }
+{
+    match operand {
+        Op::Register(number) => frame.register(*number).copy(),
+        Op::Literal(value) => value.copy(),
+    }
+}
+
+#[inline]
+pub fn held_at(frame: &Frame, cells: &Cells, place: Place) -> Option<RefValue>
+    requires { IsPlace place }
+    ensures { result ≡ held_at frame.now cells.now place }
+{
+    match place {
+        Place::Slot(number) => frame.slot(number),
+        Place::Link(number) => cells.links[number as usize],
+    }
+}
+
+fn argument_of(frame: &Frame, argument: &Arg) -> Result<Value, Memory>
+    requires { IsArg argument.now }
+    ensures { IfOk result (λ value. value ≡ argument_of frame.now argument.now) }
+{
+    match argument {
+        Arg::Op(operand) => value_of(frame, operand),
+        Arg::Slot(number) => Ok(Value::Ref(frame.slot(*number))),
+        Arg::Null => Ok(Value::Ref(None)),
+    }
+}
+
+pub fn arguments_of(alloc: Global, frame: &Frame, args: &[Arg]) -> Result<Rows<Value>, Memory>
+    requires { All IsArg args.now }
+    ensures { IfOk result (λ values. values ≡ arguments_of frame.now args.now) }
+{
+    let mut values = Vec::with_capacity(alloc, args.len())?;
+    for argument in args {
+        values.push(argument_of(frame, argument)?)?;
+    }
+    Ok(Rows::from_vec(values))
+}
+
+pub fn answer_of(frame: &Frame, answer: Code) -> HResult
+    requires { IsCode answer }
+    ensures { result ≡ answer_of frame.now answer }
+{
+    match answer {
+        Code::Literal(answer) => answer,
+        Code::Register(number) => {
+            let bits = number_in(frame.register(number)).cast_unsigned();
+            HResult((bits % 0x1_0000_0000) as u32)
+        }
+    }
+}
+
+pub fn given_value(frame: &Frame, given: &Given) -> Result<Option<Value>, Memory>
+    requires { IsGiven given.now }
+    ensures { IfOk result (λ value. value ≡ given_value frame.now given.now) }
+{
+    match given {
+        Given::Nothing => Ok(None),
+        Given::Op(operand) => Ok(Some(value_of(frame, operand)?)),
+        Given::Slot(number) => Ok(Some(Value::Ref(frame.slot(*number)))),
+    }
+}
+
+// Whether two references name one object, or are both null.
+pub fn same_object(left: Option<RefValue>, right: Option<RefValue>) -> bool
+    ensures { result ≡ same_object left right }
+{
+    match (left, right) {
+        (None, None) => true,
+        (Some(left), Some(right)) => left.object == right.object,
+        _ => false,
+    }
+}
+
+// The Int 1 for true and the Int 0 for false.
+#[inline]
+pub fn truth(holds: bool) -> Value
+    ensures { result ≡ truth holds }
+{
+    Value::Int(if holds { 1 } else { 0 })
+}
