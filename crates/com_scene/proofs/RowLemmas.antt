@@ -1,0 +1,72 @@
+-- Lists where one row is set, and their columns.
+use Rattle.std.proofs.Common.{◌≡◌, ℕ, zero, suc, ◌+◌, ◌-◌, ◌<◌, ◌≤◌, List, [], ◌∷◌, ◌++◌, Option, Some, None, IsSome, arith, refl, sym, ◌∙◌, ap, length, map, slice_set, slice_index_or, take}
+use Rattle.std.proofs.lemmas.List.{map-set}
+use Rattle.com_scene.specs.declared.tables.CallRow.{CallRow}
+use Rattle.com_scene.specs.Seen.{IsSeated, body_of, destination_of}
+
+pub set_beyond : {A : Type 0} (xs : List A) (i : ℕ) (x : A) → length xs ≤ i → slice_set xs i x ≡ xs
+set_beyond [] i x h = refl
+set_beyond (y ∷ ys) zero x h = absurd (omega (arith, h))
+set_beyond (y ∷ ys) (suc i) x h = ap (λ (zs : List _). y ∷ zs) (set_beyond ys i x (omega (arith, h)))
+
+-- A row that is read and set again.
+pub set_again : {A : Type 0} (xs : List A) (i : ℕ) (x y : A) → slice_set (slice_set xs i x) i y ≡ slice_set xs i y
+set_again [] i x y = refl
+set_again (z ∷ zs) zero x y = refl
+set_again (z ∷ zs) (suc i) x y = ap (λ (ws : List _). z ∷ ws) (set_again zs i x y)
+
+pub set_on : {A : Type 0} (g : A → A) (xs : List A) (i : ℕ) (x d : A) → slice_set (slice_set xs i x) i (g (slice_index_or (slice_set xs i x) i d)) ≡ slice_set xs i (g x)
+set_on g [] i x d = refl
+set_on g (z ∷ zs) zero x d = refl
+set_on g (z ∷ zs) (suc i) x d = ap (λ (ws : List _). z ∷ ws) (set_on g zs i x d)
+
+pub set_same : {A : Type 0} (xs : List A) (i : ℕ) (d : A) → slice_set xs i (slice_index_or xs i d) ≡ xs
+set_same [] i d = refl
+set_same (x ∷ xs) zero d = refl
+set_same (x ∷ xs) (suc i) d = ap (λ (ys : List _). x ∷ ys) (set_same xs i d)
+
+pub map_set : {A B : Type 0} (f : A → B) (l : List A) (i : ℕ) (a : A) → map f (slice_set l i a) ≡ slice_set (map f l) i (f a)
+map_set f l i a = map-set f l i a
+
+pub map_kept : {A B : Type 0} (f : A → B) (l : List A) (i : ℕ) (a d : A) → f a ≡ f (slice_index_or l i d) → map f (slice_set l i a) ≡ map f l
+map_kept f [] i a d e = refl
+map_kept f (x ∷ xs) zero a d e = ap (λ (y : _). y ∷ map f xs) e
+map_kept f (x ∷ xs) (suc i) a d e = ap (λ (ys : List _). f x ∷ ys) (map_kept f xs i a d e)
+
+pub map_append : {A B : Type 0} (f : A → B) (l : List A) (a : A) → map f (l ++ a ∷ []) ≡ map f l ++ f a ∷ []
+map_append f [] a = refl
+map_append f (x ∷ xs) a = ap (λ (ys : List _). f x ∷ ys) (map_append f xs a)
+
+pub map_length : {A B : Type 0} (f : A → B) (l : List A) → length (map f l) ≡ length l
+map_length f [] = refl
+map_length f (x ∷ xs) = ap (λ (n : ℕ). suc n) (map_length f xs)
+
+-- Frames stay where one more is given.
+pub seated_set : (rows : List CallRow) (i c : ℕ) (r : CallRow) → IsSome r.frame → IsSeated rows c → IsSeated (slice_set rows i r) c
+seated_set [] i c r h s = s
+seated_set (x ∷ xs) zero zero r h s = h
+seated_set (x ∷ xs) zero (suc c) r h s = s
+seated_set (x ∷ xs) (suc i) zero r h s = s
+seated_set (x ∷ xs) (suc i) (suc c) r h s = seated_set xs i c r h s
+
+pub seated_same : (rows : List CallRow) (c : ℕ) (r : CallRow) → IsSome r.frame → IsSeated (slice_set rows c r) c
+seated_same [] c r h = tt
+seated_same (x ∷ xs) zero r h = h
+seated_same (x ∷ xs) (suc c) r h = seated_same xs c r h
+
+pub seated_at : (rows : List CallRow) (c : ℕ) (d : CallRow) → c < length rows → IsSeated rows c → IsSome (slice_index_or rows c d).frame
+seated_at [] c d h s = absurd (omega (arith, h))
+seated_at (x ∷ xs) zero d h s = s
+seated_at (x ∷ xs) (suc c) d h s = seated_at xs c d (omega (arith, h)) s
+
+pub seated_beyond : (rows : List CallRow) (c : ℕ) → length rows ≤ c → IsSeated rows c
+seated_beyond [] c h = tt
+seated_beyond (x ∷ xs) zero h = absurd (omega (arith, h))
+seated_beyond (x ∷ xs) (suc c) h = seated_beyond xs c (omega (arith, h))
+
+pub seated_kept : (rows : List CallRow) (i c : ℕ) (r d : CallRow) → (IsSome (slice_index_or rows i d).frame → IsSome r.frame) → IsSeated rows c → IsSeated (slice_set rows i r) c
+seated_kept [] i c r d h s = s
+seated_kept (x ∷ xs) zero zero r d h s = h s
+seated_kept (x ∷ xs) zero (suc c) r d h s = s
+seated_kept (x ∷ xs) (suc i) zero r d h s = s
+seated_kept (x ∷ xs) (suc i) (suc c) r d h s = seated_kept xs i c r d h s

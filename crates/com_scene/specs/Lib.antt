@@ -1,0 +1,4 @@
+pub mod Actors
+pub mod Ranges
+pub mod Seen
+pub mod Steps

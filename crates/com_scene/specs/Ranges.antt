@@ -1,0 +1,48 @@
+-- Numbers of registers, slots and links that are in their ranges.
+use Rattle.std.specs.Prelude.{ℕ, ◌<◌, ◌≤◌, ◌^◌, Option, Some, None, length}
+use Rattle.com_body.specs.declared.actions.Action.{Action}
+use Rattle.com_body.specs.declared.actions.Action.TheVariants as action
+use Rattle.com_body.specs.declared.operands.Asked.{Asked}
+use Rattle.com_body.specs.declared.operands.Asked.TheVariants as asked
+use Rattle.com_body.specs.declared.frame.Outcome.{Outcome}
+use Rattle.com_body.specs.Bodies.{IsPlace, IsDestination}
+use Rattle.com_model.specs.declared.deeds.Deed.{Deed}
+use Rattle.com_model.specs.declared.deeds.Deed.TheVariants as deed
+use Rattle.com_model.specs.Frames.{Write as Writing, ToRegister, ToSlot, ToLink, ToBuffer}
+
+-- Registers are 0 to 15, slots 0 to 7 and links 0 to 3 where an action writes.
+abbrev pub WritesInRange : Action → Type 0
+WritesInRange (action.Create slot k i) = slot < 8
+WritesInRange (action.Query to held i) = to < 8
+WritesInRange (action.Copy to held) = IsPlace to
+WritesInRange (action.Release from held) = IsPlace from
+WritesInRange (action.Call held i m args to) = IsDestination to
+WritesInRange (action.Unmarshal slot b) = slot < 8
+WritesInRange (action.Register to held) = to < 16
+WritesInRange (action.Get slot g) = slot < 8
+WritesInRange _ = Unit {0}
+
+abbrev pub StepsInRange : Option Outcome → Type 0
+StepsInRange None = Unit {0}
+StepsInRange (Some r) = WritesInRange r.action
+
+abbrev pub IsInRange : Writing → Type 0
+IsInRange (ToRegister r v) = r < 16
+IsInRange (ToSlot k held) = k < 8
+IsInRange (ToLink k held) = k < 4
+IsInRange (ToBuffer p bytes) = Unit {0}
+
+-- A call has at most four arguments, and a reference's interface a number of 16 bits.
+abbrev pub IsInterface : Asked → Type 0
+IsInterface (asked.Number i) = i < 2 ^ 16
+IsInterface (asked.Guid g) = Unit {0}
+
+abbrev pub HasInterface : Option ℕ → Asked → Type 0
+HasInterface None i = Unit {0}
+HasInterface (Some o) i = IsInterface i
+
+abbrev pub FitsDeed : Deed → Type 0
+FitsDeed (deed.Enter c o a k vs) = length vs ≤ 4
+FitsDeed (deed.Made o a k i hr) = HasInterface o i
+FitsDeed (deed.Query o i hr) = HasInterface o i
+FitsDeed _ = Unit {0}

@@ -1,0 +1,76 @@
+//! The step of whoever acts: its frame and cells, and what the entry writes.
+ghost use Rattle.std.specs.Prelude.{◌≡◌, ℕ, OnOk, OnErr};
+ghost use Rattle.com_model.specs.Frames.{writes};
+ghost use Rattle.com_state.specs.SceneParts.{rows_acted};
+ghost use Rattle.com_scene.specs.Actors.{acting_of};
+ghost use Rattle.com_scene.specs.Ranges.{FitsDeed, StepsInRange};
+ghost use Rattle.com_scene.specs.Seen.{seen, IsSeated};
+ghost use Rattle.com_scene.specs.Steps.{stepped, with_wanted};
+
+use crate::actor::Actor;
+use crate::tables::Tables;
+use crate::writes::{Bytes, Wanted, Writes, wanted_by};
+use com_base::Memory;
+use com_body::{Cells, Frame, Outcome};
+use com_model::Deed;
+
+impl Tables {
+    // Whoever acts goes on to a frame and cells, and puts bytes in a buffer. The only error is want of memory, and then nothing
+    // has changed.
+    fn step(
+        &mut self,
+        acting: Actor,
+        frame: Frame,
+        cells: Cells,
+        bytes: Option<Bytes>,
+    ) -> Result<(), Memory>
+        ensures ok { OnOk result (seen self.new ≡ stepped acting frame cells bytes (seen self.old)) }
+        ensures err { OnErr result (seen self.new ≡ seen self.old) }
+        ensures seated { (c : ℕ) → IsSeated self.old.calls.items c → IsSeated self.new.calls.items c }
+    {
+        match acting {
+            Actor::Body { call, object } => {
+                self.place(call, frame)?;
+                self.set_cells(object, cells);
+                self.set_bytes(bytes);
+                Ok(())
+            }
+            Actor::Script { lane } => {
+                self.set_script(lane, frame);
+                self.set_bytes(bytes);
+                Ok(())
+            }
+            Actor::Nobody => Ok(()),
+        }
+    }
+
+    /// The step of whoever acts, where it makes the entry. The only error is want of memory, and then nothing has changed.
+    #[tactic(auto, using(crate::proofs::StepLemmas::acted_is))]
+    pub fn act(
+        &mut self,
+        acting: Actor,
+        outcome: Option<Outcome>,
+        deed: &Deed,
+    ) -> Result<(), Memory>
+        requires deed { FitsDeed deed.now }
+        requires step { StepsInRange outcome }
+        ensures ok { OnOk result (seen self.new ≡ rows_acted (acting_of acting) outcome deed.now (seen self.old)) }
+        ensures err { OnErr result (seen self.new ≡ seen self.old) }
+        ensures seated { (c : ℕ) → IsSeated self.old.calls.items c → IsSeated self.new.calls.items c }
+    {
+        let Some(outcome) = outcome else {
+            return Ok(());
+        };
+        let Outcome {
+            mut frame,
+            mut cells,
+            action,
+        } = outcome;
+        let wanted = wanted_by(&action, deed);
+        let writes = Writes::of(action, deed)?;
+        let bytes = writes.put(&mut frame, &mut cells);
+        self.step(acting, frame, cells, bytes)?;
+        self.want(wanted);
+        Ok(())
+    }
+}

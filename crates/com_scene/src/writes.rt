@@ -1,0 +1,212 @@
+//! What an entry writes for whoever acts.
+ghost use Rattle.std.specs.Prelude.{◌≡◌, ◌<◌, ◌^◌, Some, IfOk, fold};
+ghost use Rattle.com_body.specs.Bodies.{IsPlace};
+ghost use Rattle.com_model.specs.Frames.{taken_in, reference, cookie_in, marshalled_in, writes, to_place};
+ghost use Rattle.com_scene.specs.Ranges.{FitsDeed, WritesInRange, IsInRange};
+ghost use Rattle.com_scene.specs.Steps.{IsMoreInRange, writing_of, listed, more_writes, writes_of, frame_with, cells_with, bytes_of, wanted_of};
+
+use com_base::{ByteList, HResult, Memory, RefValue, Value};
+use com_body::{Action, Asked, Cells, Destination, Frame, Place};
+use com_model::Deed;
+
+/// One write: in a register or a slot of a frame, in a link of an object, or in a packet buffer.
+#[derive(Drop)]
+pub enum Write {
+    /// A register, 0 to 15.
+    Register(u8, Value),
+    /// A slot, 0 to 7.
+    Slot(u8, Option<RefValue>),
+    /// A link, 0 to 3.
+    Link(u8, Option<RefValue>),
+    /// A buffer, 0 to 63.
+    Buffer(u8, ByteList),
+}
+
+/// All that an entry writes for whoever acts: first its HRESULT, where it gives one, and then what the destination takes.
+#[derive(Drop)]
+pub struct Writes {
+    pub answer: Option<HResult>,
+    pub more: Option<Write>,
+}
+
+/// Bytes for a buffer, 0 to 63.
+#[derive(Drop)]
+pub struct Bytes {
+    pub buffer: u8,
+    pub bytes: ByteList,
+}
+
+/// Where the result of a call is to go.
+#[derive(Drop)]
+pub struct Wanted {
+    pub call: u32,
+    pub destination: Destination,
+}
+
+/// Where the result of a call that an entry issues is to go, and nothing at all other entries.
+pub fn wanted_by(action: &Action, deed: &Deed) -> Option<Wanted>
+    ensures { result ≡ wanted_of action.now deed.now }
+{
+    match (action, deed) {
+        (Action::Call { destination, .. }, Deed::Out { call, .. }) => Some(Wanted {
+            call: *call,
+            destination: *destination,
+        }),
+        _ => None,
+    }
+}
+
+// The reference that an entry gives to whoever acts.
+fn taken(deed: &Deed) -> Option<RefValue>
+    requires { FitsDeed deed.now }
+    ensures { result ≡ taken_in deed.now }
+{
+    match deed {
+        Deed::Made {
+            object: Some(object),
+            iface: Asked::Number(iface),
+            ..
+        } => reference(*object, *iface),
+        Deed::Query {
+            object: Some(object),
+            iface: Asked::Number(iface),
+            hr,
+        } => {
+            if *hr == HResult::S_OK {
+                reference(*object, *iface)
+            } else {
+                None
+            }
+        }
+        Deed::Unmarshal { held, .. } => *held,
+        Deed::Get { held, .. } => *held,
+        _ => None,
+    }
+}
+
+// A reference to an object, by an interface that is numbered in 16 bits.
+fn reference(object: u32, iface: u32) -> Option<RefValue>
+    requires { iface < 2 ^ 16 }
+    ensures { result ≡ Some (reference object iface) }
+{
+    let iface = iface as u16;
+    Some(RefValue { object, iface })
+}
+
+// The cookie that an entry gives to whoever acts, and 0 where it gives none.
+fn cookie(deed: &Deed) -> u32
+    ensures { result ≡ cookie_in deed.now }
+{
+    match deed {
+        Deed::Register {
+            cookie: Some(cookie),
+            ..
+        } => *cookie,
+        _ => 0,
+    }
+}
+
+// The write of a reference, or of null, at a place.
+fn at_place(place: Place, held: Option<RefValue>) -> Write
+    requires { IsPlace place }
+    ensures write { writing_of result ≡ to_place place held }
+    ensures in_range { IsInRange (writing_of result) }
+{
+    match place {
+        Place::Slot(number) => Write::Slot(number, held),
+        Place::Link(number) => Write::Link(number, held),
+    }
+}
+
+// The packet that an entry puts in a buffer, where it made one. The only error is want of memory.
+fn marshalled(buffer: u8, deed: &Deed) -> Result<Option<Write>, Memory>
+    ensures writes { IfOk result (λ more. listed None more ≡ marshalled_in buffer deed.now) }
+    ensures in_range { IfOk result (λ more. IsMoreInRange more) }
+{
+    match deed {
+        Deed::Marshal {
+            bytes: Some(bytes), ..
+        } => Ok(Some(Write::Buffer(buffer, bytes.copy()?))),
+        _ => Ok(None),
+    }
+}
+
+// What the destination of an action takes, by the entry that does the action. The only error is want of memory.
+fn taken_write(action: Action, deed: &Deed) -> Result<Option<Write>, Memory>
+    requires deed { FitsDeed deed.now }
+    requires action { WritesInRange action }
+    ensures writes { IfOk result (λ more. listed None more ≡ more_writes action deed.now) }
+    ensures in_range { IfOk result (λ more. IsMoreInRange more) }
+{
+    Ok(match action {
+        Action::Create { slot, .. } => Some(Write::Slot(slot, taken(deed))),
+        Action::Query { to, .. } => Some(Write::Slot(to, taken(deed))),
+        Action::Copy { to, held } => Some(at_place(to, held)),
+        Action::Release { place, .. } => Some(at_place(place, None)),
+        Action::Marshal { buffer, .. } => return marshalled(buffer, deed),
+        Action::Unmarshal { slot, .. } => Some(Write::Slot(slot, taken(deed))),
+        Action::Raw { buffer, bytes } => Some(Write::Buffer(buffer, bytes)),
+        Action::Register { to, .. } => Some(Write::Register(to, Value::Int(cookie(deed) as i64))),
+        Action::Get { slot, .. } => Some(Write::Slot(slot, taken(deed))),
+        _ => None,
+    })
+}
+
+impl Writes {
+    /// What the entry of an action writes for whoever acts. The only error is want of memory.
+    pub fn of(action: Action, deed: &Deed) -> Result<Writes, Memory>
+        requires deed { FitsDeed deed.now }
+        requires action { WritesInRange action }
+        ensures writes { IfOk result (λ made. writes_of made ≡ writes action deed.now) }
+        ensures in_range { IfOk result (λ made. IsMoreInRange made.more) }
+    {
+        match action {
+            Action::Call { .. } | Action::Leave { .. } | Action::Pump { .. } => Ok(Writes {
+                answer: None,
+                more: None,
+            }),
+            action => Ok(Writes {
+                answer: Some(deed.answer()),
+                more: taken_write(action, deed)?,
+            }),
+        }
+    }
+
+    /// Does the writes to the frame and the cells of whoever acts, and gives what is to go to a buffer.
+    pub fn put(self, frame: &mut Frame, cells: &mut Cells) -> Option<Bytes>
+        requires { IsMoreInRange self.more }
+        ensures frame { frame.new ≡ fold frame_with frame.old (writes_of self) }
+        ensures cells { cells.new ≡ fold cells_with cells.old (writes_of self) }
+        ensures bytes { result ≡ bytes_of self.more }
+    {
+        let Writes { answer, more } = self;
+        if let Some(answer) = answer {
+            frame.set_register(15, Value::Int(answer.0 as i64));
+        }
+        put_more(more, frame, cells)
+    }
+}
+
+fn put_more(more: Option<Write>, frame: &mut Frame, cells: &mut Cells) -> Option<Bytes>
+    requires { IsMoreInRange more }
+    ensures frame { frame.new ≡ fold frame_with frame.old (listed None more) }
+    ensures cells { cells.new ≡ fold cells_with cells.old (listed None more) }
+    ensures bytes { result ≡ bytes_of more }
+{
+    match more {
+        None => None,
+        Some(Write::Register(number, value)) => {
+            frame.set_register(number, value);
+            None
+        }
+        Some(Write::Slot(number, held)) => {
+            frame.set_slot(number, held);
+            None
+        }
+        Some(Write::Link(number, held)) => {
+            cells.links[number as usize] = held;
+            None
+        }
+        Some(Write::Buffer(buffer, bytes)) => Some(Bytes { buffer, bytes }),
+    }
+}
