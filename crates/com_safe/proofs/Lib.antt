@@ -1,0 +1,5 @@
+pub mod Whole
+pub mod Strict
+pub mod Reports
+pub mod Stricts
+pub mod Bites
