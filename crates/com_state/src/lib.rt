@@ -4,4 +4,4 @@
 
 mod laws;
 
-pub use laws::{after_by_parts, parts_make_the_state, scene_by_rows};
+pub use laws::{after_by_parts, parts_make_the_state, rests, scene_by_rows};
