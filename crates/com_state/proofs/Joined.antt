@@ -11,7 +11,8 @@ use Rattle.com_model.specs.Books.{out_values}
 use Rattle.std.specs.Prelude.{List, None, is_some}
 use Rattle.com_base.specs.declared.value.Value.{Value}
 use Rattle.com_model.specs.State.{State, after, tables_after, refusals_after, endings_by, unread_by, grown, issued_by, with_books, scene_next, books_next, filter_in, issue_in, is_marshalled_by, books_in, sight_of}
-use Rattle.com_state.specs.Parts.{filtered_by, joined_after, calls_of, objects_of, calls_after, moment_in, issuing_in}
+use Rattle.com_state.specs.Parts.{calls_of, objects_of, calls_after}
+use Rattle.com_state.specs.After.{filtered_by, joined_after, moment_in, issuing_in}
 
 one-filter : (f : ℕ → Bool) (d : Deed) → end_effect f d ≡ end_effect (λ c. filtered_by f d) d
 one-filter f (deed.Out c o i m route.Refused k bytes) = refl

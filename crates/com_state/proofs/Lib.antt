@@ -1,1 +1,6 @@
 pub mod Joined
+pub mod SceneRows
+pub mod SceneNext
+pub mod AtRest
+pub mod Quiet
+pub mod Settles

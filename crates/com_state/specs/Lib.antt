@@ -1,2 +1,4 @@
 pub mod Parts
 pub mod SceneParts
+pub mod After
+pub mod Resting

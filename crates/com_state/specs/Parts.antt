@@ -1,13 +1,10 @@
 -- The state of a core by parts: what lanes keep, what objects keep, and what calls keep, and how an entry changes each part. Each
 -- column is changed as in the state's own definition; a part looks at the deed, and at no more of the other parts than is handed in.
-use Rattle.std.specs.Prelude.{ℕ, ◌+◌, Bool, false, not, ◌&&◌, ◌||◌, List, [], Option, Some, None, is_some, is_none, option_map, slice_index_or}
+use Rattle.std.specs.Prelude.{ℕ, ◌+◌, Bool, false, not, ◌&&◌, ◌||◌, List, [], Option, Some, None, is_some, option_map, slice_index_or}
 use Rattle.com_base.specs.declared.hresult.HResult.{HResult}
 use Rattle.com_base.specs.declared.value.Value.{Value}
 use Rattle.com_books.specs.Counting.{count_if}
-use Rattle.com_model.specs.declared.deeds.Deed.{Deed}
-use Rattle.com_model.specs.declared.deeds.Deed.TheVariants as deed
 use Rattle.com_model.specs.declared.deeds.Entry.{Entry}
-use Rattle.com_model.specs.declared.scenario.Scenario.{Scenario}
 use Rattle.com_model.specs.declared.keeps.Opener.{Opener}
 use Rattle.com_model.specs.declared.keeps.Making.{Making}
 use Rattle.com_model.specs.declared.keeps.Issue.{Issue}
@@ -17,16 +14,14 @@ use Rattle.com_model.specs.declared.keeps.Ending.{Ending}
 use Rattle.com_model.specs.declared.keeps.Phase.{Phase}
 use Rattle.com_model.specs.declared.keeps.Phase.TheVariants.{Unposted}
 use Rattle.com_model.specs.Lists.{or_else, number_or_zero, each_from, from_one}
-use Rattle.com_model.specs.Openers.{effect, opened, running_call}
+use Rattle.com_model.specs.Openers.{effect, opened}
 use Rattle.com_model.specs.Apartments.{home_effect, makes_sta, ends_sta, with_last, is_end}
 use Rattle.com_model.specs.Objects.{makes, finals}
-use Rattle.com_model.specs.Calls.{issues, admits, leaves, returns, object_of, lane_of}
-use Rattle.com_model.specs.Clock.{filter_effect, ticked}
-use Rattle.com_model.specs.Books.{out_values}
-use Rattle.com_model.specs.Issue.{action_refusal, or_ok}
+use Rattle.com_model.specs.Calls.{issues, admits, leaves, returns, object_of}
+use Rattle.com_model.specs.Clock.{filter_effect}
 use Rattle.com_model.specs.Endings.{EndEffect, EndsCall, CutsObject, CutsSta, EndsNone, end_effect, ends, can_be_cut}
 use Rattle.com_model.specs.Waiting.{Mail, no_mail, post_effect, posted_last, bound_reached}
-use Rattle.com_model.specs.State.{State, SceneTables, BookTables, grown, issued_by, changed_at, changed_from_one, opens, serves_more, homes_change, counts_change, made_change, over_change, filters_change, mail_lane, mail_change, quit_lane, quit_change, admissions_by, leavings_by, returned_by, phases_by, enters, let_go, openers_in, filter_in, issue_in, home_in, running_in, owns_in, books_in, sight_of, is_marshalled_by, with_books, scene_next, books_next}
+use Rattle.com_model.specs.State.{State, SceneTables, BookTables, grown, issued_by, changed_at, changed_from_one, opens, serves_more, homes_change, counts_change, made_change, over_change, filters_change, mail_lane, mail_change, quit_lane, quit_change, admissions_by, leavings_by, returned_by, phases_by, enters, let_go}
 
 -- By lane, from 0; and the STAs that threads made, the oldest first, and those that ended.
 pub record LaneTables : Type 0 where
@@ -220,36 +215,3 @@ calls_after o m i t e = record {
   postings = posted_last (post_effect e.deed) t.postings;
   causes = count_if (issued_by e && m.outermost) + t.causes;
 }
-
--- ---- the state by its parts
-
--- Whether the caller's lane of the call that a Verdict names has a filter.
-abbrev pub filtered_by : (filtered : ℕ → Bool) → Deed → Bool
-filtered_by filtered (deed.Verdict c t v) = filtered c
-filtered_by filtered _ = false
-
-abbrev pub moment_in : Scenario → State → Entry → Moment
-moment_in s st e = record {
-  outermost = is_none (running_call (openers_in st e.lane));
-  filtered = filtered_by (λ c. is_some (filter_in s st (lane_of (issue_in st c)))) e.deed;
-  clock = st.clock;
-}
-
--- What the call has that the lane's action makes.
-abbrev pub issuing_in : Scenario → State → Entry → Issuing
-issuing_in s st e = record {
-  refusal = or_ok (action_refusal s (home_in s st e.lane) (running_in s st e.lane) (owns_in s st) (books_in st).live ((sight_of s st).act e.lane));
-  values = out_values s (books_in st) (is_marshalled_by (issues e.lane e.deed)) ((sight_of s st).act e.lane);
-}
-
--- The state whose parts have changed, with the scene, the books and the dying objects as they were.
-abbrev pub parts_after : Scenario → State → Entry → State
-parts_after s st e =
-    state_of (lanes_after (lanes_of st) e) (objects_after (objects_of st) e)
-    (calls_after (objects_of st) (moment_in s st e) (issuing_in s st e) (calls_of st) e) st.scene st.books st.fallen (ticked e.deed st.clock) (st.entries + 1)
-
--- Then the scene and the books after the entry.
-abbrev pub joined_after : Scenario → State → Entry → State
-joined_after s st e =
-    with_books s (parts_after s st e) (scene_next s st (parts_after s st e) e)
-    (books_next s st (parts_after s st e) (scene_next s st (parts_after s st e) e) e)

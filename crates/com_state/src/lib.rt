@@ -4,4 +4,4 @@
 
 mod laws;
 
-pub use laws::{after_by_parts, parts_make_the_state};
+pub use laws::{after_by_parts, parts_make_the_state, rests, scene_by_rows};
