@@ -7,10 +7,6 @@ use Rattle.com_model.specs.declared.keeps.Opener.TheVariants.{Pumps, Waits, Ente
 use Rattle.com_lanes.specs.declared.openers.Body.{Body}
 use Rattle.com_lanes.specs.Bodies.{bodies_of}
 
-pub record Popped (os : List Opener) (bodies : List Body) (calls : List ℕ) : Type 0 where
-  pub bodies : bodies_of (without_first os) ≡ bodies
-  pub calls : open_calls (without_first os) ≡ calls
-
 pub pop_pump : (os : List Opener) (n : ℕ) → first os ≡ Some (Pumps n) → (bodies_of (without_first os) ≡ bodies_of os) × (open_calls (without_first os) ≡ open_calls os)
 pop_pump [] n e = absurd cc
 pop_pump (Pumps m ∷ os) n e = (refl, refl)

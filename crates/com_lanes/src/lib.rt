@@ -2,7 +2,10 @@
 //! single-threaded apartments that threads make.
 #![tactic(auto)]
 
+mod numbers;
 mod openers;
 mod stack;
+mod stas;
 
 pub use openers::Openers;
+pub use stas::Stas;
