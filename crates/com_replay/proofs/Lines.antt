@@ -6,15 +6,15 @@ use Rattle.com_model.specs.declared.deeds.Deed.{Deed}
 use Rattle.com_model.specs.declared.deeds.Entry.{Entry}
 use Rattle.com_model.specs.declared.counts.Ended.TheVariants as ended
 use Rattle.com_model.specs.Text.{history_text, line_text, report_text}
-use Rattle.com_core.specs.declared.script.Step.{Step}
-use Rattle.com_core.specs.Standing.{Standing, standing}
-use Rattle.com_core.specs.Counts.{all_counts}
-use Rattle.com_core.specs.Rules.{next_of}
-use Rattle.com_core.specs.After.{after, beginning}
-use Rattle.com_core.specs.Scripts.{IsScript}
-use Rattle.com_core.specs.Histories.{next, entry_of, extended, scheduled, scheduled_history, limit}
-use Rattle.com_core.proofs.Next.{goes_next}
-use Rattle.com_core.proofs.Scheduled.{OnTheWay, on_the_way, way_on, way_ends, way_never_short, standing_after}
+use Rattle.com_first_form.specs.declared.script.Step.{Step}
+use Rattle.com_first_form.specs.Standing.{Standing, standing}
+use Rattle.com_first_form.specs.Counts.{all_counts}
+use Rattle.com_first_form.specs.Rules.{next_of}
+use Rattle.com_first_form.specs.After.{after, beginning}
+use Rattle.com_first_form.specs.Scripts.{IsScript}
+use Rattle.com_first_form.specs.Histories.{next, entry_of, extended, scheduled, scheduled_history, limit}
+use Rattle.com_first_form.proofs.Next.{goes_next}
+use Rattle.com_first_form.proofs.Scheduled.{OnTheWay, on_the_way, way_on, way_ends, way_never_short, standing_after}
 use Rattle.com_replay.specs.Replays.{thread_text, report_of, thread_replayed, GoesOn}
 
 -- A text that begins another.

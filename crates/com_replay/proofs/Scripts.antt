@@ -4,8 +4,8 @@ use Rattle.std.specs.Prelude.{option_and_then}
 use Rattle.com_body.specs.declared.statements.Stmt.{Stmt}
 use Rattle.com_body.specs.Bodies.{IsInRange}
 use Rattle.com_classes.specs.Tables.{Tables}
-use Rattle.com_core.specs.declared.script.Step.{Step}
-use Rattle.com_core.specs.Scripts.{most_steps}
+use Rattle.com_first_form.specs.declared.script.Step.{Step}
+use Rattle.com_first_form.specs.Scripts.{most_steps}
 use Rattle.com_replay.specs.Plans.{before, few_enough, is_last_uninit, step_of, steps_of}
 
 -- What was read, and the steps of what is left.

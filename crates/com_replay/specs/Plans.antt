@@ -20,9 +20,9 @@ use Rattle.com_classes.specs.declared.classes.ThreadingModel.{ThreadingModel}
 use Rattle.com_classes.specs.declared.classes.ThreadingModel.TheVariants as model
 use Rattle.com_classes.specs.Lookups.{class_at, has_interface, find_class, find_interface}
 use Rattle.com_classes.specs.Tables.{Tables}
-use Rattle.com_core.specs.declared.script.Step.{Step}
-use Rattle.com_core.specs.declared.script.Step.TheVariants as step
-use Rattle.com_core.specs.Scripts.{most_steps}
+use Rattle.com_first_form.specs.declared.script.Step.{Step}
+use Rattle.com_first_form.specs.declared.script.Step.TheVariants as step
+use Rattle.com_first_form.specs.Scripts.{most_steps}
 use Rattle.com_model.specs.declared.scenario.Scenario.{Scenario}
 use Rattle.com_replay.specs.declared.plan.Plan.{Plan}
 use Rattle.com_replay.specs.declared.plan.Plan.TheVariants as plan

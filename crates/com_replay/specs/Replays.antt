@@ -3,10 +3,10 @@ use Rattle.std.specs.Prelude.{◌≡◌, ℕ, List, [], ◌++◌, Option, length
 use Rattle.com_io.specs.Told.{Gains}
 use Rattle.com_model.specs.declared.counts.Ended.TheVariants as ended
 use Rattle.com_model.specs.Text.{history_text, report_text}
-use Rattle.com_core.specs.declared.script.Step.{Step}
-use Rattle.com_core.specs.Standing.{standing}
-use Rattle.com_core.specs.Counts.{all_counts}
-use Rattle.com_core.specs.Histories.{scheduled_history}
+use Rattle.com_first_form.specs.declared.script.Step.{Step}
+use Rattle.com_first_form.specs.Standing.{standing}
+use Rattle.com_first_form.specs.Counts.{all_counts}
+use Rattle.com_first_form.specs.Histories.{scheduled_history}
 use Rattle.com_replay.specs.declared.Replayed.{Replayed}
 use Rattle.com_replay.specs.declared.plan.Plan.{Plan}
 use Rattle.com_replay.specs.declared.plan.Plan.TheVariants as plan

@@ -6,7 +6,7 @@ ghost use Rattle.std.specs.Prelude.{◌≡◌, ℕ, ◌≤◌, ◌++◌, List, [
 ghost use Rattle.com_io.specs.Faults.{Rose};
 ghost use Rattle.com_io.specs.Told.{Gains, GainsPrefix};
 ghost use Rattle.com_model.specs.Text.{line_text, report_text};
-ghost use Rattle.com_core.specs.Counts.{all_counts};
+ghost use Rattle.com_first_form.specs.Counts.{all_counts};
 ghost use Rattle.com_model.specs.declared.counts.Ended.TheVariants as ended;
 ghost use Rattle.com_replay.specs.Replays.{text_of, replayed_of, thread_text, thread_replayed, GoesOn};
 ghost use Rattle.com_replay.specs.declared.ReplayError.TheVariants as replay_error;
@@ -15,7 +15,7 @@ mod plan;
 
 use com_base::ByteList;
 pub use com_base::Memory;
-use com_core::{Core, Script};
+use com_first_form::{Core, Script};
 use com_io::{Sink, write_all};
 use com_model::{Counts, Ended, Entry};
 use com_report::{line, report};

@@ -2,13 +2,13 @@
 ghost use Rattle.std.specs.Prelude.{◌≡◌, ◌<◌, All, IfOk, IfSome, option_and_then};
 ghost use Rattle.std.specs.Option.{option_copied};
 ghost use Rattle.com_body.specs.Bodies.{IsInRange};
-ghost use Rattle.com_core.specs.Objects.{slot_of};
+ghost use Rattle.com_first_form.specs.Objects.{slot_of};
 ghost use Rattle.com_replay.specs.Plans.{asked_class, asked_interface, begins_sta, creates_counter, few_enough, is_both_counter, is_one, is_last_uninit, is_r1, one_number, plan_of, script_of, step_of, steps_of};
 
 use com_base::{Memory, Mode, Value};
 use com_body::{Arg, Asked, Destination, Native, Op, Place, Stmt};
 use com_classes::{Class, Classes, ThreadingModel};
-use com_core::{Script, Step};
+use com_first_form::{Script, Step};
 use com_model::Scenario;
 use std::alloc::Global;
 

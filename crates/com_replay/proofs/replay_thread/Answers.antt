@@ -1,9 +1,9 @@
 use Rattle.std.proofs.Common.{◌≡◌, ℕ, None, sym, subst, arith, ◌∙◌}
 use Rattle.std.proofs.lemmas.Result.{on_ok_weaker, IfOk-weaker}
 use Rattle.com_model.specs.declared.counts.Ended.TheVariants as ended
-use Rattle.com_core.specs.Standing.{Standing}
-use Rattle.com_core.specs.Advances.{Advances}
-use Rattle.com_core.specs.Rules.{next_of}
+use Rattle.com_first_form.specs.Standing.{Standing}
+use Rattle.com_first_form.specs.Advances.{Advances}
+use Rattle.com_first_form.specs.Rules.{next_of}
 use Rattle.com_replay.specs.declared.Replayed.{Replayed}
 use Rattle.com_replay.proofs.Lines.{Replaying, Ending, replaying_start, stopped_prefix, one_further, further_on, further_prefix, ending, never_past, ended_gains, ended_prefix}
 use Rattle.com_replay.proofs.replay_thread.Goals as goal

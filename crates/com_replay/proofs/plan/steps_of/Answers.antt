@@ -1,5 +1,5 @@
 use Rattle.std.proofs.Common.{List, sym, arith, subst}
-use Rattle.com_core.specs.declared.script.Step.{Step}
+use Rattle.com_first_form.specs.declared.script.Step.{Step}
 use Rattle.com_replay.proofs.Scripts.{Reads, reads_first, reads_end, reads_none, reads_on, reads_wrong, reads_full, only_uninit}
 use Rattle.com_replay.proofs.plan.steps_of.Goals as goal
 
