@@ -1,0 +1,5 @@
+pub mod Apt
+pub mod Silent
+pub mod Still
+pub mod Quiets
+pub mod Rests
