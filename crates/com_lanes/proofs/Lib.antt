@@ -3,3 +3,4 @@ pub mod StasKept
 pub mod Words
 pub mod MarksLeft
 pub mod Rows
+pub mod Bounds

@@ -3,3 +3,4 @@ pub mod Apartments
 pub mod StasKept
 pub mod Words
 pub mod Changes
+pub mod First

@@ -1,5 +1,5 @@
 //! One row of a table that has a row for each lane. A lane that has no row changes nothing.
-ghost use Rattle.std.specs.Prelude.{◌≡◌, ℕ, ◌+◌, ◌<◌, ◌^◌, ◌∷◌, [], false, true, if◌then◌else◌, OnOk, OnErr, slice_index_or, slice_set};
+ghost use Rattle.std.specs.Prelude.{◌≡◌, ℕ, ◌+◌, ◌<◌, ◌^◌, ◌∷◌, [], false, true, if◌then◌else◌, Option, OnOk, OnErr, slice_index_or, slice_set};
 ghost use Rattle.com_model.specs.Answers.{is_S_OK};
 ghost use Rattle.com_model.specs.Apartments.{Initialises, Uninitialises, home_after, count_after};
 ghost use Rattle.com_model.specs.Clock.{Names, Keeps, filter_effect};

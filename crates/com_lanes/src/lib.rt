@@ -3,6 +3,7 @@
 #![tactic(auto)]
 
 mod columns;
+mod lanes;
 mod mail;
 mod marks;
 mod numbers;
@@ -10,6 +11,4 @@ mod openers;
 mod stack;
 mod stas;
 
-pub use mail::Mail;
-pub use openers::Openers;
-pub use stas::Stas;
+pub use lanes::Lanes;
