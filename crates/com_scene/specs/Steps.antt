@@ -1,5 +1,5 @@
 -- What writes do to a frame, to cells and to the buffers, each on its own.
-use Rattle.std.specs.Prelude.{ℕ, List, [], ◌∷◌, Option, Some, None, pos, slice_set}
+use Rattle.std.specs.Prelude.{ℕ, List, [], ◌∷◌, Option, Some, None, pos, ◌==◌, if◌then◌else◌, slice_index_or, slice_set}
 use Rattle.com_base.specs.declared.value.Value.TheVariants as value
 use Rattle.com_base.specs.declared.hresult.HResult.{HResult}
 use Rattle.com_body.specs.declared.actions.Action.{Action}
@@ -10,7 +10,7 @@ use Rattle.com_model.specs.declared.deeds.Deed.{Deed}
 use Rattle.com_model.specs.declared.deeds.Deed.TheVariants as deed
 use Rattle.com_model.specs.Frames.{Write as Writing, ToRegister, ToSlot, ToLink, ToBuffer, to_answer, to_place, taken_in, cookie_in, marshalled_in, with_link}
 use Rattle.com_model.specs.State.{SceneTables}
-use Rattle.com_state.specs.SceneParts.{with_body, with_script, with_cells, with_buffer}
+use Rattle.com_state.specs.SceneParts.{with_body, with_script, with_cells, with_buffer, without_links}
 use Rattle.com_scene.specs.Ranges.{IsInRange}
 use Rattle.com_scene.specs.declared.actor.Actor.{Actor}
 use Rattle.com_scene.specs.declared.actor.Actor.TheVariants as actor
@@ -89,3 +89,7 @@ wanted_of _ d = None
 abbrev pub with_wanted : Option Wanted → SceneTables → SceneTables
 with_wanted None t = t
 with_wanted (Some w) t = record t { destinations = slice_set t.destinations w.call w.destination }
+
+-- The cells of an object where an apartment ends, by the list of owners.
+abbrev pub cut_by : (owners : List ℕ) → (apartment : ℕ) → ℕ → Cells → Cells
+cut_by owners a o c = if slice_index_or owners o 0 == a then without_links c else c

@@ -1,9 +1,9 @@
 //! The step of whoever acts: its frame and cells, and what the entry writes.
 ghost use Rattle.std.specs.Prelude.{◌≡◌, ℕ, OnOk, OnErr};
-ghost use Rattle.com_model.specs.Frames.{writes};
 ghost use Rattle.com_state.specs.SceneParts.{rows_acted};
 ghost use Rattle.com_scene.specs.Actors.{acting_of};
-ghost use Rattle.com_scene.specs.Ranges.{FitsDeed, StepsInRange};
+ghost use Rattle.com_scene.specs.Kept.{IsStep};
+ghost use Rattle.com_scene.specs.Ranges.{FitsDeed};
 ghost use Rattle.com_scene.specs.Seen.{seen, IsSeated};
 ghost use Rattle.com_scene.specs.Steps.{stepped, with_wanted};
 
@@ -53,7 +53,7 @@ impl Tables {
         deed: &Deed,
     ) -> Result<(), Memory>
         requires deed { FitsDeed deed.now }
-        requires step { StepsInRange outcome }
+        requires step { IsStep outcome }
         ensures ok { OnOk result (seen self.new ≡ rows_acted (acting_of acting) outcome deed.now (seen self.old)) }
         ensures err { OnErr result (seen self.new ≡ seen self.old) }
         ensures seated { (c : ℕ) → IsSeated self.old.calls.items c → IsSeated self.new.calls.items c }
