@@ -1,7 +1,8 @@
 -- What every entry keeps of the tables.
-use Rattle.std.proofs.Common.{◌≡◌, ℕ, zero, suc, ◌<◌, Bool, true, false, List, [], ◌∷◌, ◌++◌, Option, Some, None, All, arith, fold, refl, ◌∙◌, length, replicate, slice_set, slice_index_or, is_some}
+use Rattle.std.proofs.Common.{◌≡◌, ℕ, zero, suc, ◌<◌, Bool, true, false, List, [], ◌∷◌, ◌++◌, Option, Some, None, All, arith, fold, refl, sym, subst, Result, Ok, Err, OnOk, OnErr, ◌∙◌, length, replicate, slice_set, slice_index_or, is_some}
 use Rattle.std.proofs.lemmas.List.{length-set}
 use Rattle.std.proofs.lemmas.List.Elements.{All-set, All-push, All-tail}
+use Rattle.std.specs.declared.alloc.AllocError.{AllocError}
 use Rattle.com_body.specs.declared.actions.Action.{Action}
 use Rattle.com_body.specs.declared.actions.Action.TheVariants as action
 use Rattle.com_body.specs.declared.operands.Destination.{Destination}
@@ -19,6 +20,7 @@ use Rattle.com_model.specs.State.{SceneTables, grown, issued_by}
 use Rattle.com_state.specs.SceneParts.{script_at, destination_at, with_rows, row_written, rows_framed, row_wanted, rows_acted, rows_arrived, links_cut, rows_after}
 use Rattle.com_scene.specs.Kept.{HasSlots, IsKept, IsStep}
 use Rattle.com_scene.specs.Ranges.{WritesInRange}
+use Rattle.com_scene.specs.Steps.{with_call, with_object}
 
 All_at : {X : Type 0} (P : X → Type 0) (xs : List X) (i : ℕ) (d : X) → P d → All P xs → P (slice_index_or xs i d)
 All_at P [] i d p a = p
@@ -66,8 +68,17 @@ acted_kept a None d t s k = k
 acted_kept a (Some r) d t s k =
     wanted_kept r.action d _ s.1 (all_written_kept a (rows_framed a r t) (writes r.action d) (framed_kept a r t s.0 k))
 
-pub issued_kept : (t : SceneTables) (bodies : List FrameView) → IsKept t → IsKept (record t { bodies = bodies; destinations = t.destinations ++ destination.Nowhere ∷ [] })
-issued_kept t bodies k = record { slots = k.slots; destinations = All-push IsDestination t.destinations destination.Nowhere k.destinations tt }
+-- Whether there was memory or not.
+pub acted_or_not_kept : (x : Result (Unit {0}) AllocError) (a : Acting) (r : Option Outcome) (d : Deed) (t u : SceneTables) →
+    OnOk x (u ≡ rows_acted a r d t) → OnErr x (u ≡ t) → IsStep r → IsKept t → IsKept u
+acted_or_not_kept (Ok tt) a r d t u ok err s k = subst IsKept (sym ok) (acted_kept a r d t s k)
+acted_or_not_kept (Err x) a r d t u ok err s k = subst IsKept (sym err) k
+
+pub call_kept : (t : SceneTables) → IsKept t → IsKept (with_call t)
+call_kept t k = record { slots = k.slots; destinations = All-push IsDestination t.destinations destination.Nowhere k.destinations tt }
+
+pub object_kept : (t : SceneTables) → IsKept t → IsKept (with_object t)
+object_kept t k = record { slots = k.slots; destinations = k.destinations }
 
 grown_kept : (b : Bool) (xs : List Destination) → All IsDestination xs → All IsDestination (grown b destination.Nowhere xs)
 grown_kept true xs a = All-push IsDestination xs destination.Nowhere a tt

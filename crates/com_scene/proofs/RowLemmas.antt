@@ -1,5 +1,5 @@
 -- Lists where one row is set, and their columns.
-use Rattle.std.proofs.Common.{◌≡◌, ℕ, zero, suc, ◌+◌, ◌-◌, ◌<◌, ◌≤◌, List, [], ◌∷◌, ◌++◌, Option, Some, None, IsSome, arith, refl, sym, ◌∙◌, ap, ap₂, length, map, slice_set, slice_index_or, replicate, drop, add-one}
+use Rattle.std.proofs.Common.{◌≡◌, ℕ, zero, suc, ◌+◌, ◌-◌, ◌<◌, ◌≤◌, List, [], ◌∷◌, ◌++◌, Option, Some, None, IsSome, arith, refl, sym, ◌∙◌, ap, ap₂, length, map, slice_set, slice_index_or, replicate, take, drop, add-one, length-append}
 use Rattle.std.proofs.lemmas.List.{map-set}
 use Rattle.com_body.specs.declared.operands.Destination.{Destination}
 use Rattle.com_body.specs.declared.frame.Cells.{Cells}
@@ -117,3 +117,24 @@ pub row_changed : (g : FrameView → FrameView) (scripts : List FrameView) (rows
 row_changed g scripts rows cells buffers c r d h e k =
     ap₂ (λ (bodies : List FrameView) (destinations : List Destination). record { scripts = scripts; bodies = bodies; cells = cells; buffers = buffers; destinations = destinations })
       (map_set body_of rows c r ∙ body_changed g rows c r d h e) (map_kept destination_of rows c r d k)
+
+-- A list without its last row, and its columns.
+take_snoc : {A : Type 0} (xs : List A) (x : A) (n : ℕ) → n ≡ length xs → take n (xs ++ x ∷ []) ≡ xs
+take_snoc [] x zero h = refl
+take_snoc [] x (suc n) h = absurd (omega (arith, h))
+take_snoc (y ∷ ys) x zero h = absurd (omega (arith, h))
+take_snoc (y ∷ ys) x (suc n) h = ap (λ (zs : List _). y ∷ zs) (take_snoc ys x n (omega (arith, h)))
+
+map_take : {A B : Type 0} (f : A → B) (n : ℕ) (xs : List A) → map f (take n xs) ≡ take n (map f xs)
+map_take f zero xs = refl
+map_take f (suc n) [] = refl
+map_take f (suc n) (x ∷ xs) = ap (λ (ys : List _). f x ∷ ys) (map_take f n xs)
+
+pub popped_row : {A : Type 0} (xs ys zs : List A) (z : A) (n : ℕ) → ys ≡ take n xs → n + 1 ≡ length xs → xs ≡ zs ++ z ∷ [] → ys ≡ zs
+popped_row xs ys zs z n t h e =
+    let same : length xs ≡ length zs + 1 = ap length e ∙ length-append zs (z ∷ []) in
+    t ∙ ap (λ (l : List _). take n l) e ∙ take_snoc zs z n (omega (arith, h, same))
+
+pub popped : {A B : Type 0} (f : A → B) (xs ys : List A) (zs : List B) (z : B) (n : ℕ) → ys ≡ take n xs → n + 1 ≡ length xs → map f xs ≡ zs ++ z ∷ [] → map f ys ≡ zs
+popped f xs ys zs z n t h e =
+    popped_row (map f xs) (map f ys) zs z n (ap (λ (l : List _). map f l) t ∙ map_take f n xs) (h ∙ sym (map_length f xs)) e

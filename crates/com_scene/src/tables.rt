@@ -2,11 +2,12 @@
 ghost use Rattle.std.specs.Prelude.{◌≡◌, ℕ, IfOk, OnOk, OnErr, Some, None, IsSome, [], ◌∷◌, fold, replicate};
 ghost use Rattle.com_body.specs.Bodies.{IsDestination};
 ghost use Rattle.com_body.specs.Frames.{entered};
+ghost use Rattle.com_model.specs.State.{SceneTables};
 ghost use Rattle.com_model.specs.Frames.{to_answer, to_destination};
 ghost use Rattle.com_state.specs.SceneParts.{with_body, with_script, with_cells};
 ghost use Rattle.com_scene.specs.Kept.{HasSlots};
 ghost use Rattle.com_scene.specs.Seen.{seen, seat_of, IsSeated};
-ghost use Rattle.com_scene.specs.Steps.{frame_with, with_bytes, with_wanted};
+ghost use Rattle.com_scene.specs.Steps.{frame_with, with_bytes, with_wanted, with_call, with_object};
 
 use crate::writes::{Bytes, Wanted};
 use com_base::{ByteList, HResult, Memory, Value};
@@ -260,5 +261,42 @@ impl Tables {
             let row = &mut self.calls[call as usize];
             row.enter(seat);
         }
+    }
+
+    /// A row for a call that is issued. The only error is want of memory, and then nothing has changed.
+    #[tactic(auto, using(crate::proofs::RowLemmas::map_append))]
+    pub fn add_call(&mut self) -> Result<(), Memory>
+        ensures ok { OnOk result (seen self.new ≡ with_call (seen self.old)) }
+        ensures err { OnErr result (seen self.new ≡ seen self.old) }
+    {
+        let row = CallRow {
+            frame: None,
+            destination: Destination::Nowhere,
+        };
+        Ok(self.calls.push(row)?)
+    }
+
+    /// Takes the row of the last call away.
+    #[tactic(auto, using(crate::proofs::RowLemmas::popped))]
+    pub fn drop_call(&mut self)
+        ensures { (t : SceneTables) → seen self.old ≡ with_call t → seen self.new ≡ t }
+    {
+        let _ = self.calls.pop();
+    }
+
+    /// A row for an object that is made. The only error is want of memory, and then nothing has changed.
+    pub fn add_object(&mut self) -> Result<(), Memory>
+        ensures ok { OnOk result (seen self.new ≡ with_object (seen self.old)) }
+        ensures err { OnErr result (seen self.new ≡ seen self.old) }
+    {
+        Ok(self.cells.push(Cells::new())?)
+    }
+
+    /// Takes the row of the last object away.
+    #[tactic(auto, using(crate::proofs::RowLemmas::popped_row))]
+    pub fn drop_object(&mut self)
+        ensures { (t : SceneTables) → seen self.old ≡ with_object t → seen self.new ≡ t }
+    {
+        let _ = self.cells.pop();
     }
 }
