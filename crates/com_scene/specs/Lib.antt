@@ -1,4 +1,5 @@
 pub mod Actors
+pub mod Kept
 pub mod Ranges
 pub mod Seen
 pub mod Steps

@@ -3,6 +3,7 @@
 
 mod act;
 mod actor;
+mod arrive;
 mod tables;
 mod writes;
 
