@@ -8,6 +8,7 @@ ghost use Rattle.com_model.specs.declared.scenario.Scenario.{Scenario};
 ghost use Rattle.com_model.specs.Ends.{ended_as, scheduled, text};
 ghost use Rattle.com_model.specs.Formed.{Formed};
 ghost use Rattle.com_model.specs.Rules.{legal};
+ghost use Rattle.com_written.specs.OneHistory.{OneHistory};
 
 /// The schedule of every scenario gives a legal history that has ended: all is done, or no lane can step and no time is waited
 /// for, or the history has as many entries as it may have.
@@ -19,4 +20,9 @@ pub fn scheduled_ends()
 /// a lane's next entry.
 pub fn text_fixes()
     ensures { (s : Scenario) (g h : List Entry) → Formed s → legal s g → legal s h → text s g ≡ text s h → g ≡ h }
+{}
+
+/// The schedule's history of a formed scenario is legal, has ended and is safe, and no other legal history has its text.
+pub fn one_history()
+    ensures { (s : Scenario) → Formed s → OneHistory s (scheduled s) }
 {}
