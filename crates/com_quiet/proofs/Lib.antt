@@ -3,3 +3,4 @@ pub mod Silent
 pub mod Still
 pub mod Quiets
 pub mod Rests
+pub mod Endings

@@ -1,11 +1,20 @@
 //! What entries leave as it was.
 
-ghost use Rattle.std.specs.Prelude.{◌≡◌, ℕ, true, List, Some};
+ghost use Rattle.std.specs.Prelude.{◌≡◌, ℕ, ◌+◌, ◌≤◌, true, false, List, ◌∷◌, Some};
+ghost use Rattle.com_books.specs.Changes.{Books, held_outside};
+ghost use Rattle.com_books.specs.Counting.{sum_below};
 ghost use Rattle.com_model.specs.declared.deeds.Deed.{Deed};
 ghost use Rattle.com_model.specs.declared.deeds.Entry.{Entry};
 ghost use Rattle.com_model.specs.declared.scenario.Scenario.{Scenario};
-ghost use Rattle.com_model.specs.Places.{places};
-ghost use Rattle.com_model.specs.State.{State, StandsFor, after, ground_in, next_of, scene_in};
+ghost use Rattle.com_model.specs.Apartments.{next_sta};
+ghost use Rattle.com_model.specs.Books.{books, holders_in};
+ghost use Rattle.com_model.specs.Dying.{is_entered};
+ghost use Rattle.com_model.specs.Frames.{Scene, scene};
+ghost use Rattle.com_model.specs.Lists.{is_member};
+ghost use Rattle.com_model.specs.Places.{ground, places, all_places};
+ghost use Rattle.com_model.specs.State.{State, StandsFor, after, book_tables, books_in, books_next, dies_in, ground_in, next_of, next_sta_in, objects_in, openers_in, scene_in, scene_next};
+ghost use Rattle.com_state.specs.After.{parts_after};
+ghost use Rattle.com_quiet.specs.Ends.{books_entered, ends, history_entered, stays};
 ghost use Rattle.com_quiet.specs.Resting.{Resting, is_quiet};
 
 /// A state that stands for a history is at rest.
@@ -18,4 +27,20 @@ pub fn quiet_entries()
     ensures books { (s : Scenario) (st : State) (l : ℕ) (d : Deed) → Resting s st → next_of s st l ≡ Some d → is_quiet d ≡ true → (after s st l d).books ≡ st.books }
     ensures fallen { (s : Scenario) (st : State) (l : ℕ) (d : Deed) → Resting s st → next_of s st l ≡ Some d → is_quiet d ≡ true → (after s st l d).fallen ≡ st.fallen }
     ensures places { (s : Scenario) (st : State) (l : ℕ) (d : Deed) → Resting s st → next_of s st l ≡ Some d → is_quiet d ≡ true → places s (ground_in s (after s st l d)) (scene_in (after s st l d)) ≡ places s (ground_in s st) (scene_in st) }
+{}
+
+/// The books after an entry: its rows, in their order, on the books before it; then what apartments without place for an object
+/// have is given back, and what has no holder, or is disconnected, is cut.
+pub fn books_by_ends()
+    ensures history { (s : Scenario) (h : List Entry) (e : Entry) → books s (e ∷ h) ≡ ends (next_sta (e ∷ h)) (places s (ground s (e ∷ h)) (scene s (e ∷ h))) (history_entered s h e) }
+    ensures next { (s : Scenario) (st su : State) (w : Scene) (e : Entry) → books_next s st su w e ≡ ends (next_sta_in su) (places s (ground_in s su) w) (books_entered s st su e) }
+    ensures state { (s : Scenario) (st : State) (l : ℕ) (d : Deed) → let e : Entry = record { lane = l; deed = d } in let su : State = parts_after s st e in (after s st l d).books ≡ book_tables s su (ends (next_sta_in su) (places s (ground_in s su) (scene_next s st su e)) (books_entered s st su e)) }
+{}
+
+/// What an entry does not touch is at rest: an object that was connected, is not disconnected, and has no fewer holders than before
+/// stays connected; and an object that was made before, and has no fewer holders and open Enters, is dying after it only where it
+/// stood in the list of the dying.
+pub fn untouched()
+    ensures connected { (s : Scenario) (st : State) (n : ℕ) (pl : ℕ → ℕ → ℕ) (c : Books) (o : ℕ) → Resting s st → (books_in st).live o ≡ true → c.live o ≡ true → all_places s (ground_in s st) (scene_in st) o + held_outside (books_in st) o ≤ sum_below n (λ a. pl a o) + held_outside c o → stays n pl c o ≡ true }
+    ensures fallen { (s : Scenario) (st y : State) (o : ℕ) → Resting s st → o ≤ objects_in st → (is_member o y.finaled ≡ false → is_member o st.finaled ≡ false) → holders_in s (ground_in s st) (scene_in st) (books_in st) o ≤ holders_in s (ground_in s y) (scene_in y) (books_in y) o → (is_entered s (openers_in y) o ≡ false → is_entered s (openers_in st) o ≡ false) → dies_in s y o ≡ true → is_member o st.fallen ≡ true }
 {}

@@ -4,4 +4,4 @@
 
 mod laws;
 
-pub use laws::{quiet_entries, resting};
+pub use laws::{books_by_ends, quiet_entries, resting, untouched};
