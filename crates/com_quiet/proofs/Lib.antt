@@ -4,3 +4,4 @@ pub mod Still
 pub mod Quiets
 pub mod Rests
 pub mod Endings
+pub mod Rowless
