@@ -5,4 +5,4 @@ pub mod Quiets
 pub mod Rests
 pub mod Endings
 pub mod Rowless
-pub mod Outs
+pub mod Issues

@@ -1,6 +1,6 @@
 //! What entries leave as it was.
 
-ghost use Rattle.std.specs.Prelude.{◌≡◌, ℕ, ◌+◌, ◌≤◌, true, false, List, [], ◌∷◌, Option, Some, None};
+ghost use Rattle.std.specs.Prelude.{◌≡◌, ℕ, ◌+◌, ◌≤◌, true, false, List, [], ◌∷◌, ◌++◌, length, Option, Some, None};
 ghost use Rattle.com_base.specs.declared.hresult.HResult.{HResult};
 ghost use Rattle.com_base.specs.declared.value.Value.{Value};
 ghost use Rattle.com_books.specs.Changes.{Books, held_outside};
@@ -60,4 +60,12 @@ pub fn rowless_entries()
     ensures enter { (s : Scenario) (st su : State) (l c o a : ℕ) (t : Option ℕ) (vs : List Value) → (books_in st).arguments c ≡ [] → books_entered s st su (record { lane = l; deed = deed.Enter c o a t vs }) ≡ books_in st }
     ensures leave { (s : Scenario) (st su : State) (l c : ℕ) (hr : HResult) (v : Option Value) → (books_in st).result c ≡ None → books_entered s st su (record { lane = l; deed = deed.Leave c hr v None }) ≡ books_in st }
     ensures back { (s : Scenario) (st su : State) (l c : ℕ) (hr : HResult) (v : Option Value) → (books_in st).result c ≡ None → books_entered s st su (record { lane = l; deed = deed.Back c hr v }) ≡ books_in st }
+{}
+
+/// An Out that the rules give moves no place. One that marshals nothing leaves the list of the dying as it was, and the books but
+/// for a row of the new call.
+pub fn outs()
+    ensures places { (s : Scenario) (st : State) (l c i m k : ℕ) (o : Option ℕ) (r : Route) (bytes : Option (List ℕ)) → Resting s st → next_of s st l ≡ Some (deed.Out c o i m r k bytes) → places s (ground_in s (after s st l (deed.Out c o i m r k bytes))) (scene_in (after s st l (deed.Out c o i m r k bytes))) ≡ places s (ground_in s st) (scene_in st) }
+    ensures books { (s : Scenario) (st : State) (l c i m k : ℕ) (o : Option ℕ) (r : Route) → Resting s st → next_of s st l ≡ Some (deed.Out c o i m r k None) → c ≡ length st.issues + 1 → (after s st l (deed.Out c o i m r k None)).books ≡ record st.books { arguments = st.books.arguments ++ [] ∷ []; result = st.books.result ++ None ∷ [] } }
+    ensures fallen { (s : Scenario) (st : State) (l c i m k : ℕ) (o : Option ℕ) (r : Route) → Resting s st → next_of s st l ≡ Some (deed.Out c o i m r k None) → c ≡ length st.issues + 1 → (after s st l (deed.Out c o i m r k None)).fallen ≡ st.fallen }
 {}

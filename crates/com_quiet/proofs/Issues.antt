@@ -15,20 +15,26 @@ use Rattle.com_model.specs.declared.keeps.Issue.{Issue}
 use Rattle.com_model.specs.declared.keeps.Opener.{Opener}
 use Rattle.com_model.specs.declared.keeps.Opener.TheVariants.{Waits}
 use Rattle.com_model.specs.declared.scenario.Scenario.{Scenario}
-use Rattle.com_model.specs.Lists.{from_one}
-use Rattle.com_model.specs.Tables.{threads}
+use Rattle.com_model.specs.Lists.{from_one, is_member, any_of, one_to}
+use Rattle.com_model.specs.Tables.{threads, lanes}
 use Rattle.com_model.specs.Openers.{runs}
 use Rattle.com_model.specs.Calls.{is_direct, route_of}
 use Rattle.com_model.specs.Frames.{Scene, new_cells, value_reference}
 use Rattle.com_model.specs.Places.{Ground, Test, to_object, passes, in_frame, in_scripts, in_bodies, in_links, in_result, in_results, entered_in, left_value, places}
 use Rattle.com_model.specs.Books.{holders_in}
-use Rattle.com_model.specs.State.{State, SceneTables, openers_in, home_in, named_in, class_in, issue_in, owns_in, next_sta_in, objects_in, ground_in, scene_in, scene_read, next_of, scene_tables, scene_next, after}
+use Rattle.com_model.specs.State.{State, SceneTables, openers_in, home_in, named_in, class_in, issue_in, owns_in, next_sta_in, objects_in, ground_in, scene_in, scene_read, next_of, scene_tables, scene_next, after, BookTables, books_in, books_read, book_tables, books_next, dies_in}
 use Rattle.com_model.proofs.Tabled.{grown-row}
 use Rattle.com_state.specs.After.{parts_after, acting_in}
 use Rattle.com_state.proofs.Joined.{joined}
 use Rattle.com_quiet.specs.Resting.{Resting}
 use Rattle.com_quiet.proofs.Quiets.{still-apt}
 use Rattle.com_quiet.proofs.Still.{SameHolds, step-holds, past-rows, read-back, rows-tell, Still, frames-told, still-places}
+use Rattle.com_model.specs.Dying.{fallen_more, is_dying_by, is_entered}
+use Rattle.com_quiet.specs.Ends.{ends}
+use Rattle.com_quiet.proofs.Endings.{books-end}
+use Rattle.com_quiet.proofs.Rowless.{ends-rested, out-books}
+use Rattle.com_state.proofs.Quiet.{none-fall}
+use Rattle.com_state.proofs.SceneRows.{grown-tabulated}
 
 -- ---- results, with one call more
 
@@ -134,3 +140,63 @@ out-entry-places s st l c i m k o r bytes p n =
     let su : State = parts_after s st e in
     ap (λ (x : State). places s (ground_in s x) (scene_in x)) (joined s st l (deed.Out c o i m r k bytes))
     ∙ out-places s st l c i m k o r bytes (scene_read (scene_tables s su (scene_next s st su e))) p (out-read s st l c i m k o r bytes p n)
+
+-- ---- an Out that marshals nothing
+
+-- The tables of the books with a row for one call more.
+abbrev pub with_call : BookTables → BookTables
+with_call t = record t { arguments = t.arguments ++ [] ∷ []; result = t.result ++ None ∷ [] }
+
+module _ (s : Scenario) (st : State) (l c i m k : ℕ) (o : Option ℕ) (r : Route) (p : Resting s st) (n : next_of s st l ≡ Some (deed.Out c o i m r k None)) (e : c ≡ length st.issues + 1) where
+  abbrev entry : Entry
+  entry = record { lane = l; deed = deed.Out c o i m r k None }
+
+  abbrev new : Option Issue
+  new = Some (record { call = c; lane = l; object = o; iface = i; method = m; route = r; cause = k })
+
+  next-books : books_next s st (parts_after s st entry) (scene_next s st (parts_after s st entry) entry) entry ≡ books_in st
+  next-books =
+      let su : State = parts_after s st entry in
+      let w : Scene = scene_next s st su entry in
+      let none : (books_in st).arguments c ≡ [] = past-rows st.books.arguments (length st.issues) (books_in st).arguments [] (ap (λ (t : BookTables). t.arguments) p.settled.books) c (omega (arith, e)) in
+      books-end s st su w entry
+      ∙ ap (ends (next_sta_in st) (places s (ground_in s su) w)) (out-books s st su l c i m k o r none)
+      ∙ ap (λ (pl : ℕ → ℕ → ℕ). ends (next_sta_in st) pl (books_in st)) (out-places s st l c i m k o r None w p (out-scene s st l c i m k o r None p n))
+      ∙ ends-rested (next_sta_in st) (places s (ground_in s st) (scene_in st)) (books_in st) p.settled.rested
+
+  next-tables : book_tables s (parts_after s st entry) (books_in st) ≡ with_call st.books
+  next-tables =
+      let b : Books = books_in st in
+      let arguments : b.arguments (length st.issues + 1) ≡ [] = past-rows st.books.arguments (length st.issues) b.arguments [] (ap (λ (t : BookTables). t.arguments) p.settled.books) (length st.issues + 1) (omega arith) in
+      let result : b.result (length st.issues + 1) ≡ None = past-rows st.books.result (length st.issues) b.result None (ap (λ (t : BookTables). t.result) p.settled.books) (length st.issues + 1) (omega arith) in
+      ap₂ (λ (xs : List (List ℕ)) (ys : List (Option ℕ)). record (book_tables s st b) { arguments = xs; result = ys }) (grown-tabulated true new st.issues b.arguments [] arguments) (grown-tabulated true new st.issues b.result None result)
+      ∙ ap with_call p.settled.books
+
+  abbrev before_fallen : State
+  before_fallen =
+      let su : State = parts_after s st entry in
+      let w : Scene = scene_next s st su entry in
+      record su { scene = scene_tables s su w; books = book_tables s su (books_next s st su w entry) }
+
+  out-tables : before_fallen.books ≡ with_call st.books
+  out-tables = ap (book_tables s (parts_after s st entry)) next-books ∙ next-tables
+
+  out-dies : dies_in s before_fallen ≡ dies_in s st
+  out-dies =
+      let su : State = parts_after s st entry in
+      let x : Scene = scene_in before_fallen in
+      let os : ℕ → List Opener = openers_in su in
+      let h : SameHolds (scene_in st) x = out-read s st l c i m k o r None p n in
+      let z : Still (ground_in s st) os (scene_in st) x = out-still s st l c i m k o r None x h in
+      ap (λ (b : BookTables). is_dying_by (objects_in st) (λ j. is_member j st.finaled) (holders_in s (ground_in s su) x (books_read b)) (is_entered s os)) out-tables
+      ∙ ap (λ (f : ℕ → ℕ). is_dying_by (objects_in st) (λ j. is_member j st.finaled) f (is_entered s os)) (holders-same s (ground_in s su) (ground_in s st) x (scene_in st) (books_in st) refl refl (out-places s st l c i m k o r None x p h))
+      ∙ ap (λ (f : ℕ → Bool). is_dying_by (objects_in st) (λ j. is_member j st.finaled) (holders_in s (ground_in s st) (scene_in st) (books_in st)) f) (λ j y. any_of (λ d. z.runs d y j) (one_to (lanes s)))
+
+  pub out-entry-books : (after s st l (deed.Out c o i m r k None)).books ≡ with_call st.books
+  out-entry-books = ap (λ (x : State). x.books) (joined s st l (deed.Out c o i m r k None)) ∙ out-tables
+
+  pub out-entry-fallen : (after s st l (deed.Out c o i m r k None)).fallen ≡ st.fallen
+  out-entry-fallen =
+      ap (λ (x : State). x.fallen) (joined s st l (deed.Out c o i m r k None))
+      ∙ ap (λ (f : ℕ → Bool). fallen_more f (objects_in st) st.fallen) out-dies
+      ∙ none-fall (dies_in s st) (objects_in st) st.fallen p.settled.dying p.settled.fell
