@@ -1,4 +1,4 @@
--- A quiet deed that the rules give writes no slot and no link, names the lane's home where it names one, and ends a pump that is
+-- A quiet deed or an Out that the rules give writes no slot and no link, names the lane's home where it names one, and ends a pump that is
 -- the lane's top.
 use Rattle.std.proofs.Common.{◌≡◌, refl, sym, ◌∙◌, ap, subst, ℕ, ℤ, zero, suc, Bool, true, false, cond, not, ◌==◌, ◌&&◌, nat_le, List, [], ◌∷◌}
 use Rattle.std.specs.Prelude.{Option, Some, None, option_map, option_and_then, Result, Ok, Err, length}
@@ -39,6 +39,15 @@ use Rattle.com_model.specs.Deeds.{hold_refusal, named_by, deed_of, created, crea
 use Rattle.com_model.specs.Rules.{posted_to_sta, is_handled_in, call_sort, verdict_on, arguments_gone, enters_itself, packet_left, due_of, admits_next, no_lane_can, tick_time, next_by, stepped, ruled, own_call, admission, rule_final, rule_own, rule_answer, rule_bound, rule_inbox, rule_retry, rule_again, rule_pending, rule_word, rule_script, answered, retried, posted_again, asked_on, pumped, takes_word, scripted, is_script_turn, admits_sta, is_open_to_calls, waiting_call, top}
 use Rattle.com_model.proofs.Given.{Given, given-or, given-where, given-map, given-then, cond-of}
 use Rattle.com_quiet.specs.Resting.{is_quiet}
+
+-- The quiet deeds, and an Out.
+abbrev pub is_still : Deed → Bool
+is_still (deed.Out c o i m r k bytes) = true
+is_still d = is_quiet d
+
+pub quiet-stills : (d : Deed) → is_quiet d ≡ true → is_still d ≡ true
+quiet-stills (deed.Out c o i m r k bytes) q = refl
+quiet-stills _ q = q
 
 -- ---- what is said of a deed
 
@@ -85,12 +94,12 @@ clash e = cc
 -- ---- the deed of an action
 
 abbrev Loud : Deed → Type 0
-Loud d = is_quiet d ≡ false
+Loud d = is_still d ≡ false
 
 abbrev Other : Deed → Type 0
 Other d = sort_of d ≡ Others
 
-loud : (P : Type 0) (d : Deed) → Loud d → is_quiet d ≡ true → P
+loud : (P : Type 0) (d : Deed) → Loud d → is_still d ≡ true → P
 loud P d e q = absurd (clash (sym e ∙ q))
 
 created-loud : (s : Scenario) (v : Sight) (l : ℕ) (k i : Asked) (a : Option ℕ) → Loud (created s v l k i a)
@@ -116,9 +125,9 @@ got-loud v l g (Some a) = cond-of Loud k.revoked (deed.Get g None 0 E_INVALIDARG
     k : Cookie
     k = cookie v.books (cookie_number g)
 
-called-loud : (s : Scenario) (v : Sight) (l : ℕ) (held : Option RefValue) (i m : ℕ) (args : List Value) (hr : Option HResult) → Loud (called s v l held i m args hr)
-called-loud s v l held i m args (Some hr) = refl
-called-loud s v l held i m args None = refl
+called-other : (s : Scenario) (v : Sight) (l : ℕ) (held : Option RefValue) (i m : ℕ) (args : List Value) (hr : Option HResult) → Other (called s v l held i m args hr)
+called-other s v l held i m args (Some hr) = refl
+called-other s v l held i m args None = refl
 
 left-loud : (s : Scenario) (v : Sight) (l : ℕ) (hr : HResult) (x : Option Value) (r : Option ℕ) → Loud (left_by s v l hr x r)
 left-loud s v l hr x None = refl
@@ -150,7 +159,7 @@ revoked-other : (v : Sight) (g : ℤ) (a : Option ℕ) → Other (revoked v g a)
 revoked-other v g None = refl
 revoked-other v g (Some a) = refl
 
-deed-plain : (s : Scenario) (v : Sight) (l : ℕ) (a : Action) → is_quiet (deed_of s v l a) ≡ true → IsPlain (writes a (deed_of s v l a))
+deed-plain : (s : Scenario) (v : Sight) (l : ℕ) (a : Action) → is_still (deed_of s v l a) ≡ true → IsPlain (writes a (deed_of s v l a))
 deed-plain s v l (action.Create slot k i) q = loud _ (created s v l k i (v.home l)) (created-loud s v l k i (v.home l)) q
 deed-plain s v l (action.Query to held i) q = absurd (clash q)
 deed-plain s v l (action.Copy to held) q = absurd (clash q)
@@ -175,16 +184,16 @@ deed-plain s v l (action.Pump n) q = tt
 other-fits : (h : Option ℕ) (os : List Opener) (d : Deed) → Other d → Fits h os (sort_of d)
 other-fits h os d e = subst (λ (x : Sort). Fits h os x) (sym e) tt
 
-init-fits : (v : Sight) (m : Mode) (h : Option ℕ) (os : List Opener) → is_quiet (initialised v m h) ≡ true → Fits h os (sort_of (initialised v m h))
+init-fits : (v : Sight) (m : Mode) (h : Option ℕ) (os : List Opener) → is_still (initialised v m h) ≡ true → Fits h os (sort_of (initialised v m h))
 init-fits v m None os q = absurd (clash q)
 init-fits v m (Some a) os q = refl
 
-deed-fits : (s : Scenario) (v : Sight) (l : ℕ) (os : List Opener) (a : Action) → is_quiet (deed_of s v l a) ≡ true → Fits (v.home l) os (sort_of (deed_of s v l a))
+deed-fits : (s : Scenario) (v : Sight) (l : ℕ) (os : List Opener) (a : Action) → is_still (deed_of s v l a) ≡ true → Fits (v.home l) os (sort_of (deed_of s v l a))
 deed-fits s v l os (action.Create slot k i) q = loud _ (created s v l k i (v.home l)) (created-loud s v l k i (v.home l)) q
 deed-fits s v l os (action.Query to held i) q = tt
 deed-fits s v l os (action.Copy to held) q = tt
 deed-fits s v l os (action.Release from held) q = tt
-deed-fits s v l os (action.Call held i m args to) q = loud _ (called s v l held i m args (call_refusal s (v.home l) (v.running l) v.owns v.books.live held i m)) (called-loud s v l held i m args (call_refusal s (v.home l) (v.running l) v.owns v.books.live held i m)) q
+deed-fits s v l os (action.Call held i m args to) q = other-fits (v.home l) os (called s v l held i m args (call_refusal s (v.home l) (v.running l) v.owns v.books.live held i m)) (called-other s v l held i m args (call_refusal s (v.home l) (v.running l) v.owns v.books.live held i m))
 deed-fits s v l os (action.Marshal b held m) q = other-fits (v.home l) os _ (marshalled-other s v l m held (hold_refusal v (v.home l) held))
 deed-fits s v l os (action.Unmarshal slot b) q = loud _ (unmarshalled v l (named_by s v (v.home l) (v.buffers b))) (unmarshalled-loud v l (named_by s v (v.home l) (v.buffers b))) q
 deed-fits s v l os (action.Drop b) q = other-fits (v.home l) os _ (dropped-other (named_by s v (v.home l) (v.buffers b)))
@@ -204,7 +213,7 @@ deed-fits s v l os (action.Pump n) q = tt
 -- ---- the rules
 
 abbrev QuietApt : Option Action → Option ℕ → List Opener → Deed → Type 0
-QuietApt act h os d = is_quiet d ≡ true → Apt act h os d
+QuietApt act h os d = is_still d ≡ true → Apt act h os d
 
 deed-apt : (s : Scenario) (v : Sight) (l : ℕ) (os : List Opener) (a : Action) → v.act l ≡ Some a → QuietApt (v.act l) (v.home l) os (deed_of s v l a)
 deed-apt s v l os a e q = record {

@@ -4,3 +4,5 @@ pub mod Still
 pub mod Quiets
 pub mod Rests
 pub mod Endings
+pub mod Rowless
+pub mod Issues

@@ -31,7 +31,7 @@ use Rattle.com_state.specs.After.{parts_after, acting_in}
 use Rattle.com_state.specs.Resting.{Rested, Settled}
 use Rattle.com_quiet.specs.Resting.{Resting, is_quiet}
 use Rattle.com_state.proofs.Joined.{joined}
-use Rattle.com_quiet.proofs.Apt.{PlainStep, StartsPump, Fits, sort_of, Apt, Idle, next-apt}
+use Rattle.com_quiet.proofs.Apt.{PlainStep, StartsPump, Fits, sort_of, Apt, Idle, next-apt, is_still, quiet-stills}
 use Rattle.com_quiet.proofs.Silent.{Silent, silent, silent-rows, silent-kept, silent-actor, silent-live}
 use Rattle.com_state.proofs.Quiet.{given-rested, cut-rested, none-fall}
 use Rattle.com_quiet.proofs.Still.{SameHolds, then-holds, step-holds, arrived-holds, past-rows, read-back, rows-tell, Still, frames-told, still-places, still-dying}
@@ -50,10 +50,13 @@ idle-act s st l Host [] = refl
 idle-act s st l Pool [] = refl
 idle-act s st l NoLane [] = refl
 
-quiet-apt : (s : Scenario) (st : State) (l : ℕ) (d : Deed) → Resting s st → next_of s st l ≡ Some d → is_quiet d ≡ true → Apt ((sight_of s st).act l) (home_in s st l) (openers_in st l) d
-quiet-apt s st l d p e q =
-    subst (λ (x : Option Deed). Given (λ y. is_quiet y ≡ true → Apt ((sight_of s st).act l) (home_in s st l) (openers_in st l) y) x) e
+pub still-apt : (s : Scenario) (st : State) (l : ℕ) (d : Deed) → Resting s st → next_of s st l ≡ Some d → is_still d ≡ true → Apt ((sight_of s st).act l) (home_in s st l) (openers_in st l) d
+still-apt s st l d p e q =
+    subst (λ (x : Option Deed). Given (λ y. is_still y ≡ true → Apt ((sight_of s st).act l) (home_in s st l) (openers_in st l) y) x) e
     (next-apt s (sight_of s st) l (lane_sort s l) refl (idle-act s st l (lane_sort s l) (openers_in st l)) (p.idle l)) q
+
+quiet-apt : (s : Scenario) (st : State) (l : ℕ) (d : Deed) → Resting s st → next_of s st l ≡ Some d → is_quiet d ≡ true → Apt ((sight_of s st).act l) (home_in s st l) (openers_in st l) d
+quiet-apt s st l d p e q = still-apt s st l d p e (quiet-stills d q)
 
 -- ---- the scene
 

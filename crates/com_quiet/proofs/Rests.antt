@@ -1,5 +1,7 @@
 -- A state that stands for a history is at rest.
-use Rattle.std.proofs.Common.{◌≡◌, refl, sym, ◌∙◌, ap, subst, ℕ, Bool, true, false, cond, ◌==◌, List, [], ◌∷◌, eqb-true}
+use Rattle.std.proofs.Common.{◌≡◌, refl, sym, ◌∙◌, ap, subst, arith, ℕ, zero, suc, ◌+◌, ◌≤◌, length, Bool, true, false, cond, ◌==◌, List, [], ◌∷◌, eqb-true}
+use Rattle.std.proofs.lemmas.List.{get_or_past}
+use Rattle.com_model.specs.Lists.{from_one}
 use Rattle.std.specs.Prelude.{Option, Some, None, option_map}
 use Rattle.com_model.specs.declared.deeds.Deed.{Deed}
 use Rattle.com_model.specs.declared.deeds.Deed.TheVariants as deed
@@ -34,8 +36,13 @@ idle-lanes s (e ∷ h) l p q = by-lane (e.lane == l) refl (idle-lanes s h l p.0 
     by-lane true z none = ap (λ (b : Bool). opened (cond b (effect e.deed) Keeps) (openers h l)) z ∙ ap (λ (x : Effect). opened x (openers h l)) (own (eqb-true e.lane l z)) ∙ none
     by-lane false z none = ap (λ (b : Bool). opened (cond b (effect e.deed) Keeps) (openers h l)) z ∙ none
 
+none-past : {X : Type 0} (xs : List (Option X)) (n : ℕ) → length xs ≡ n → (c : ℕ) → n + 1 ≤ c → from_one xs c None ≡ None
+none-past xs n e zero h = refl
+none-past xs n e (suc c) h = get_or_past xs c None (omega (arith, e, h))
+
 pub resting-stands : (s : Scenario) (st : State) (h : List Entry) → StandsFor s st h → Resting s st
 resting-stands s st h p = record {
   settled = settled-stands s st h p;
   idle = λ l e. p.lanes.openers l ∙ idle-lanes s h l p.lawful e;
+  unissued = none-past st.admissions (length st.issues) (p.calls.rows.0 ∙ sym p.calls.number);
 }

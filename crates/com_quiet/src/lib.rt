@@ -4,4 +4,4 @@
 
 mod laws;
 
-pub use laws::{books_by_ends, quiet_entries, resting, untouched};
+pub use laws::{books_by_ends, outs, quiet_entries, resting, rowless_entries, untouched};
