@@ -2,3 +2,4 @@ pub mod Rows
 pub mod Kept
 pub mod Inside
 pub mod Steps
+pub mod After

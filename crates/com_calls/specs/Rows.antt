@@ -1,5 +1,5 @@
 -- The tables of calls, read from the code's rows, and what an entry changes in one row.
-use Rattle.std.specs.Prelude.{ℕ, zero, suc, Bool, true, false, List, [], ◌∷◌, map, Option, Some, None}
+use Rattle.std.specs.Prelude.{ℕ, zero, suc, Bool, true, false, ◌==◌, ◌&&◌, List, [], ◌∷◌, map, Option, Some, None, slice_get}
 use Rattle.com_base.specs.declared.hresult.HResult.{HResult}
 use Rattle.com_base.specs.declared.value.Value.{Value}
 use Rattle.com_model.specs.declared.keeps.Admission.{Admission}
@@ -8,7 +8,11 @@ use Rattle.com_model.specs.declared.keeps.Ending.{Ending}
 use Rattle.com_model.specs.declared.keeps.Ending.TheVariants.{ByLeave}
 use Rattle.com_model.specs.declared.keeps.Phase.{Phase}
 use Rattle.com_model.specs.Lists.{or_else}
+use Rattle.com_model.specs.Calls.{object_of}
+use Rattle.com_model.specs.Endings.{can_be_cut}
 use Rattle.com_state.specs.Parts.{CallTables}
+use Rattle.com_calls.specs.declared.rows.Cut.{Cut}
+use Rattle.com_calls.specs.declared.rows.Cut.TheVariants as cut
 use Rattle.com_calls.specs.declared.rows.Left.{Left}
 use Rattle.com_calls.specs.declared.rows.Left.TheVariants.{Nothing, AsAnswer, Apart}
 use Rattle.com_calls.specs.declared.rows.Issued.{Issued}
@@ -87,3 +91,17 @@ new_row_of x i now = record {
   phase = Unposted;
   time = now;
 }
+
+-- The row of a call.
+abbrev pub row_at : List CallRow → (call : ℕ) → Option CallRow
+row_at rows zero = None
+row_at rows (suc k) = slice_get rows k
+
+-- A disconnection reaches the calls of other routes than direct that were not entered.
+abbrev pub reaches : Cut → CallRow → Bool
+reaches (cut.Object p) r = can_be_cut (Some r.issue) r.admission && p == object_of (Some r.issue)
+reaches (cut.Sta a) r = can_be_cut (Some r.issue) r.admission && a == r.apartment
+
+abbrev pub value_left : Option Leaving → Option Value
+value_left None = None
+value_left (Some x) = x.value

@@ -4,8 +4,10 @@
 #![tactic(auto)]
 
 mod calls;
+mod laws;
 mod rows;
 
 pub use calls::Calls;
 pub use com_base::Memory;
-pub use rows::{CallRow, Issued, Left};
+pub use laws::{apartments_stay_named, no_calls_at_first, values_are_taken_first};
+pub use rows::{CallRow, Cut, Issued, Left};

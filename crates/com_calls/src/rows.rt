@@ -1,7 +1,9 @@
 //! A row for each call, and what an entry changes in one row.
 
-ghost use Rattle.std.specs.Prelude.{◌≡◌, ◌&&◌, is_none};
-ghost use Rattle.com_calls.specs.Rows.{changed_row, admitting, ending_by, left_with, returning, phased, taken, new_row_of};
+ghost use Rattle.std.specs.Prelude.{◌≡◌, ◌&&◌, is_none, is_some, map, []};
+ghost use Rattle.com_calls.specs.Rows.{changed_row, admitting, ending_by, left_with, returning, phased, taken, new_row_of, row_at, reaches, values_of, leaving_of, value_left};
+ghost use Rattle.com_model.specs.Lists.{from_one};
+ghost use Rattle.std.specs.Option.{option_copied};
 
 use com_base::{HResult, Rows, Value};
 use com_model::{Admission, Ending, Issue, Leaving, Phase};
@@ -39,6 +41,32 @@ pub struct Issued {
     pub refusal: HResult,
     pub values: Rows<Value>,
     pub apartment: u32,
+}
+
+/// Which calls a disconnection reaches: those to an object, or those to the objects of an STA.
+#[derive(Debug, Clone, Copy)]
+pub enum Cut {
+    Object(u32),
+    Sta(u32),
+}
+
+/// The row of a call. `None` exactly where there is none.
+pub fn row_of(rows: &[CallRow], call: u32) -> Option<&CallRow>
+    ensures { option_copied result ≡ row_at rows.now call }
+{
+    let place = call.checked_sub(1)?;
+    rows.get(place as usize)
+}
+
+/// Whether a disconnection reaches a call: one of another route than direct that was not entered.
+pub fn is_reached(row: &CallRow, cut: Cut) -> bool
+    ensures { result ≡ reaches cut row.now }
+{
+    let open = row.issue.route.is_marshalled() && row.admission.is_none();
+    match cut {
+        Cut::Object(object) => open && object == row.issue.object.unwrap_or(0),
+        Cut::Sta(apartment) => open && apartment == row.apartment,
+    }
 }
 
 /// The row of a call at its Out entry: it is neither posted nor refused yet.
@@ -147,12 +175,44 @@ pub fn phase(rows: &mut [CallRow], call: u32, phase: Phase)
 }
 
 /// The values of a call are taken away.
-#[tactic(auto, using(crate::proofs::Changed::changed_at, crate::proofs::Changed::changed_past, crate::proofs::Changed::changed_none))]
-pub fn let_go(rows: &mut [CallRow], call: u32)
-    ensures { rows.new ≡ changed_row taken call rows.old }
+pub fn take(rows: &mut [CallRow], call: u32) -> Option<Rows<Value>>
+    ensures rows { rows.new ≡ changed_row taken call rows.old }
+    ensures values { values_of result ≡ from_one (map (λ r. values_of r.unread) rows.old) call [] }
 {
     if call == 0 || call as usize > rows.len() {
-        return;
+        return None;
     }
-    rows[call as usize - 1].unread = None;
+    rows[call as usize - 1].unread.take()
+}
+
+/// Whether the body of a call left.
+pub fn has_left(row: &CallRow) -> bool
+    ensures { result ≡ is_some (leaving_of row.now.left row.now.ending) }
+{
+    match (&row.left, &row.ending) {
+        (Left::Apart(_), _) => true,
+        (Left::AsAnswer { .. }, Some(Ending::ByLeave(..))) => true,
+        _ => false,
+    }
+}
+
+/// The value that the body of a call left with.
+pub fn left_value(row: &CallRow) -> Option<&Value>
+    ensures { option_copied result ≡ value_left (leaving_of row.now.left row.now.ending) }
+{
+    match (&row.left, &row.ending) {
+        (Left::Apart(leaving), _) => leaving.value.as_ref(),
+        (Left::AsAnswer { .. }, Some(Ending::ByLeave(_, value))) => value.as_ref(),
+        _ => None,
+    }
+}
+
+/// The values that a call sends.
+pub fn unread(row: &CallRow) -> &[Value]
+    ensures { result.now ≡ values_of row.now.unread }
+{
+    match &row.unread {
+        None => &[],
+        Some(values) => values.as_slice(),
+    }
 }

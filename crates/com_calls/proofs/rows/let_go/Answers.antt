@@ -1,7 +1,0 @@
-use Rattle.std.proofs.Common.{◌≡◌, arith, sym, ap, ◌∙◌, slice_set, ◌-◌}
-use Rattle.com_calls.specs.Rows.{taken}
-use Rattle.com_calls.proofs.Changed.{changed_at}
-use Rattle.com_calls.proofs.rows.let_go.Goals as goal
-
-pub returns : goal.returns
-returns c = sym (changed_at taken c.args.call c.args.rows.now c.index-rows-call.result (omega arith) (omega arith))
