@@ -1,6 +1,5 @@
 -- The tables after one row changed.
-use Rattle.std.proofs.Common.{◌≡◌, refl, sym, ◌∙◌, ap, ℕ, ◌+◌, Bool, false, true, List, [], map, length, Option, Some, None, arith}
-use Rattle.std.proofs.lemmas.List.{length-map}
+use Rattle.std.proofs.Common.{◌≡◌, refl, sym, ap, ℕ, Bool, false, true, List, [], Option, Some, None}
 use Rattle.com_base.specs.declared.hresult.HResult.{HResult}
 use Rattle.com_base.specs.declared.value.Value.{Value}
 use Rattle.com_model.specs.declared.keeps.Admission.{Admission}
@@ -8,7 +7,7 @@ use Rattle.com_model.specs.declared.keeps.Leaving.{Leaving}
 use Rattle.com_model.specs.declared.keeps.Ending.{Ending}
 use Rattle.com_model.specs.declared.keeps.Ending.TheVariants as ending
 use Rattle.com_model.specs.declared.keeps.Phase.{Phase}
-use Rattle.com_model.specs.declared.keeps.Phase.TheVariants.{Unposted, Queued}
+use Rattle.com_model.specs.declared.keeps.Phase.TheVariants.{Unposted}
 use Rattle.com_model.specs.Lists.{or_else}
 use Rattle.com_model.specs.Endings.{is_leave}
 use Rattle.com_model.specs.State.{changed, changed_from_one}

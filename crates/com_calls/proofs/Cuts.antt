@@ -1,15 +1,13 @@
 -- All calls that wait for an object, or for the objects of an STA, are cut one after the other.
-use Rattle.std.proofs.Common.{◌≡◌, refl, sym, ◌∙◌, ap, ap₂, arith, subst, ℕ, zero, suc, ◌+◌, ◌-◌, ◌<◌, ◌≤◌, Bool, true, false, cond, not, ◌==◌, ◌&&◌, ◌||◌, nat_lt, nat_le, if◌then◌else◌, List, [], ◌∷◌, length, Option, Some, None, is_none, is_some, slice_index_or, slice_set, slice_get, map}
-use Rattle.std.proofs.lemmas.Grind.{common_steps}
+use Rattle.std.proofs.Common.{◌≡◌, refl, sym, ◌∙◌, ap, ap₂, arith, subst, ℕ, zero, suc, ◌+◌, ◌<◌, ◌≤◌, Bool, true, false, cond, ◌==◌, ◌&&◌, ◌||◌, nat_lt, if◌then◌else◌, List, [], ◌∷◌, length, Option, Some, None, is_some, slice_index_or, slice_set, slice_get, map}
 use Rattle.std.proofs.lemmas.Bool.Decides.{nat_tests}
-use Rattle.std.proofs.lemmas.Bool.{ltb-true, ltb-false}
 use Rattle.std.proofs.lemmas.List.{set-get_or}
 use Rattle.com_base.specs.declared.value.Value.{Value}
 use Rattle.com_model.specs.declared.keeps.Ending.{Ending}
 use Rattle.com_model.specs.declared.keeps.Ending.TheVariants as ending
 use Rattle.com_model.specs.Lists.{each_from, or_else, where_true}
 use Rattle.com_model.specs.Calls.{object_of}
-use Rattle.com_model.specs.Endings.{EndEffect, CutsObject, CutsSta, can_be_cut}
+use Rattle.com_model.specs.Endings.{can_be_cut}
 use Rattle.com_model.specs.State.{changed_from_one, let_go}
 use Rattle.com_state.specs.Parts.{CallTables, ObjectTables, ends_at, issue_at, admission_at}
 use Rattle.com_calls.specs.declared.rows.Cut.{Cut}
@@ -20,8 +18,8 @@ use Rattle.com_inbox.specs.Queues.{Queues}
 use Rattle.com_calls.specs.declared.rows.CallRow.{CallRow}
 use Rattle.com_calls.specs.Rows.{row_at, reaches}
 use Rattle.com_calls.specs.Inside.{kept_of, apartments_of}
-use Rattle.com_calls.specs.Kept.{Kept, IsNamed, with_tables}
-use Rattle.com_calls.specs.Steps.{ended_at, values_gone}
+use Rattle.com_calls.specs.Kept.{Kept, IsNamed}
+use Rattle.com_calls.specs.Steps.{values_gone}
 use Rattle.com_calls.specs.After.{cut_at, effect_of, cut_by, cut_one_at, below, cut_below}
 
 within : {X : Type 0} (f : ℕ → X → X) (n c : ℕ) (x : X) → c < n → below f n c x ≡ f c x

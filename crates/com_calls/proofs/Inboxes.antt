@@ -1,10 +1,10 @@
 -- The inboxes after one row changed, and after a posting.
-use Rattle.std.proofs.Common.{◌≡◌, refl, sym, ◌∙◌, ap, ap₂, arith, subst, ℕ, zero, suc, ◌+◌, ◌-◌, ◌<◌, ◌≤◌, Bool, true, false, not, cond, ◌==◌, ◌&&◌, List, [], ◌∷◌, ◌++◌, map, filter, length, Option, Some, None, is_none, slice_index_or, slice_set, slice_get, replicate, eqb-true, if◌then◌else◌}
+use Rattle.std.proofs.Common.{◌≡◌, refl, sym, ◌∙◌, ap, arith, subst, ℕ, zero, suc, ◌+◌, ◌-◌, ◌<◌, ◌≤◌, Bool, true, false, not, cond, ◌==◌, ◌&&◌, List, [], ◌∷◌, ◌++◌, map, filter, length, Option, Some, None, is_none, slice_index_or, slice_set, slice_get, replicate, eqb-true}
 use Rattle.std.proofs.lemmas.Grind.{common_steps}
 use Rattle.std.proofs.lemmas.Bool.Decides.{nat_tests}
 use Rattle.std.proofs.lemmas.List.{length-map, get_or-set_same, get_or-set_other}
 use Rattle.com_lists.specs.Linked.{without, times, holder_from}
-use Rattle.com_inbox.specs.Queues.{Queues, queue_at, queue_of, with_last, without_number}
+use Rattle.com_inbox.specs.Queues.{Queues, queue_at, with_last, without_number}
 use Rattle.com_model.specs.declared.keeps.Phase.TheVariants.{Queued, Unposted}
 use Rattle.com_model.specs.Lists.{first, or_else}
 use Rattle.com_model.specs.Waiting.{Posts, posted_last, is_queued}

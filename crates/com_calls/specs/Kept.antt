@@ -1,7 +1,7 @@
 -- What a contract sees of a `Calls`, and what stands in its inboxes.
-use Rattle.std.specs.Prelude.{ℕ, zero, suc, ◌≡◌, ◌≤◌, ◌<◌, ◌^◌, ◌+◌, Bool, false, ◌==◌, ◌&&◌, List, [], ◌∷◌, ◌++◌, length, filter, Option, None, is_none, slice_index_or}
+use Rattle.std.specs.Prelude.{ℕ, ◌≡◌, Bool, ◌==◌, ◌&&◌, List, [], ◌∷◌, ◌++◌, filter, None, is_none}
 use Rattle.com_model.specs.declared.keeps.Phase.TheVariants.{Unposted}
-use Rattle.com_model.specs.Lists.{from_one, first}
+use Rattle.com_model.specs.Lists.{from_one}
 use Rattle.com_model.specs.Calls.{object_of}
 use Rattle.com_model.specs.Waiting.{is_queued}
 use Rattle.com_state.specs.Parts.{CallTables, ObjectTables, named_at, issue_at}

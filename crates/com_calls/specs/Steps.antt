@@ -1,5 +1,5 @@
 -- What an entry does to the tables of calls, each step for one call.
-use Rattle.std.specs.Prelude.{ℕ, zero, suc, ◌≡◌, ◌≤◌, ◌+◌, ◌<◌, pos, Bool, true, false, List, [], ◌∷◌, ◌++◌, length, Option, Some, None}
+use Rattle.std.specs.Prelude.{ℕ, ◌≤◌, ◌+◌, pos, true, false, List, [], ◌∷◌, ◌++◌, length, Option, Some, None}
 use Rattle.com_base.specs.declared.hresult.HResult.{HResult}
 use Rattle.com_base.specs.declared.value.Value.{Value}
 use Rattle.com_model.specs.declared.deeds.Deed.{Deed}
@@ -11,7 +11,7 @@ use Rattle.com_model.specs.declared.keeps.Phase.{Phase}
 use Rattle.com_model.specs.declared.keeps.Phase.TheVariants.{Unposted, Queued}
 use Rattle.com_model.specs.Lists.{or_else}
 use Rattle.com_model.specs.State.{changed_from_one}
-use Rattle.com_model.specs.Waiting.{PostEffect, Posts, Judges, Delays, GivesUp, PostsNone, posted_last}
+use Rattle.com_model.specs.Waiting.{PostEffect, Posts, posted_last}
 use Rattle.com_model.specs.declared.keeps.Issue.{Issue}
 use Rattle.com_model.specs.declared.deeds.Entry.{Entry}
 use Rattle.com_state.specs.Parts.{CallTables, Issuing}

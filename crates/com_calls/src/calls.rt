@@ -130,7 +130,11 @@ impl Calls {
         ensures { (o : ObjectTables) (i : Issuing) (outermost : Bool) → IsNamed o self.old → self.new ≡ with_tables self.old (calls_after o (record { outermost = outermost; filtered = filtered; clock = clock }) i self.old.tables (record { lane = lane; deed = deed.now })) }
     {
         match deed {
-            Deed::Enter { call, apartment, .. } => self.enter(Admission {
+            Deed::Enter {
+                call,
+                apartment,
+                ..
+            } => self.enter(Admission {
                 call: *call,
                 lane,
                 apartment: *apartment,
@@ -173,9 +177,12 @@ impl Calls {
             self.post(call);
             return;
         }
-        self.set_phase(call, Phase::Delayed {
-            until: clock + answer as u64,
-        });
+        self.set_phase(
+            call,
+            Phase::Delayed {
+                until: clock + answer as u64,
+            },
+        );
     }
 
     /// A waiting caller's filter was asked about a word: 0 cancels the call.
@@ -246,6 +253,7 @@ impl Calls {
         ensures calls { result ≡ length self.now.tables.issues }
         ensures endings { result ≡ length self.now.tables.endings }
         ensures unread { result ≡ length self.now.tables.unread }
+        ensures apartments { result ≡ length self.now.apartments }
     {
         let _room = self.room;
         self.rows.len() as u32

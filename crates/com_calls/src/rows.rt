@@ -175,6 +175,7 @@ pub fn phase(rows: &mut [CallRow], call: u32, phase: Phase)
 }
 
 /// The values of a call are taken away.
+#[tactic(auto, using(crate::proofs::Changed::changed_past, crate::proofs::Changed::changed_none, crate::proofs::RowReads::read_past, crate::proofs::RowReads::read_none))]
 pub fn take(rows: &mut [CallRow], call: u32) -> Option<Rows<Value>>
     ensures rows { rows.new ≡ changed_row taken call rows.old }
     ensures values { values_of result ≡ from_one (map (λ r. values_of r.unread) rows.old) call [] }

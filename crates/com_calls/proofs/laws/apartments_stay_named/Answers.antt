@@ -1,4 +1,4 @@
-use Rattle.std.proofs.Common.{◌≡◌, ◌≤◌, ◌<◌, ◌∙◌, refl, sym, ap, ap₂, arith, ℕ, zero, suc, ◌+◌, Bool, true, false, List, [], ◌∷◌, ◌++◌, length, Option, Some, None, is_some, option_map, slice_index_or}
+use Rattle.std.proofs.Common.{◌≡◌, ◌≤◌, ◌∙◌, refl, ap, arith, ℕ, zero, suc, Bool, true, false, List, [], ◌∷◌, ◌++◌, length, Option, Some, None, is_some, option_map, slice_index_or}
 use Rattle.std.proofs.lemmas.List.{get_or_append_left}
 use Rattle.com_model.specs.declared.deeds.Entry.{Entry}
 use Rattle.com_model.specs.declared.keeps.Issue.{Issue}
@@ -7,9 +7,8 @@ use Rattle.com_model.specs.Lists.{from_one, number_or_zero}
 use Rattle.com_model.specs.Calls.{object_of}
 use Rattle.com_model.specs.Objects.{makes}
 use Rattle.com_model.specs.State.{grown}
-use Rattle.com_state.specs.Parts.{ObjectTables, CallTables, Moment, Issuing, calls_after, objects_after, named_at, issue_at}
-use Rattle.com_calls.specs.Kept.{Kept, IsNamed, with_call, with_tables}
-use Rattle.com_calls.specs.Steps.{out_entry}
+use Rattle.com_state.specs.Parts.{ObjectTables, Moment, Issuing, objects_after, named_at, issue_at}
+use Rattle.com_calls.specs.Kept.{Kept, IsNamed}
 use Rattle.com_calls.proofs.laws.apartments_stay_named.Goals as goal
 
 grown-kept : (b : Bool) (x : Option Making) (xs : List (Option Making)) (k : ℕ) → k ≤ length xs → from_one (grown b x xs) k None ≡ from_one xs k None

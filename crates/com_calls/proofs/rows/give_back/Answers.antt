@@ -1,4 +1,4 @@
-use Rattle.std.proofs.Common.{◌≡◌, arith, sym, ap, ◌∙◌, slice_set, ◌-◌}
+use Rattle.std.proofs.Common.{arith, sym}
 use Rattle.com_calls.specs.Rows.{returning}
 use Rattle.com_calls.proofs.Changed.{changed_at}
 use Rattle.com_calls.proofs.rows.give_back.Goals as goal

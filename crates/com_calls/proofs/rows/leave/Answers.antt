@@ -1,4 +1,4 @@
-use Rattle.std.proofs.Common.{◌≡◌, arith, sym, ap, ◌∙◌, slice_set, ◌-◌}
+use Rattle.std.proofs.Common.{arith, sym, ap, ◌∙◌, slice_set, ◌-◌}
 use Rattle.com_calls.specs.declared.rows.CallRow.{CallRow}
 use Rattle.com_calls.specs.Rows.{left_with}
 use Rattle.com_calls.proofs.Changed.{changed_at}

@@ -1,4 +1,4 @@
-use Rattle.std.proofs.Common.{◌≡◌, ◌∙◌, sym, ap, List, [], Option, Some, None, true, false}
+use Rattle.std.proofs.Common.{◌∙◌, sym, ap, List, Option, None}
 use Rattle.com_calls.specs.declared.rows.CallRow.{CallRow}
 use Rattle.com_calls.specs.Rows.{row_at}
 use Rattle.com_calls.specs.Kept.{Kept}

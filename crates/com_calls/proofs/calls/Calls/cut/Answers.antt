@@ -1,4 +1,4 @@
-use Rattle.std.proofs.Common.{◌≡◌, ◌+◌, ◌∙◌, refl, sym, ap, arith, length}
+use Rattle.std.proofs.Common.{◌+◌, ◌∙◌, sym, ap, arith}
 use Rattle.com_state.specs.Parts.{CallTables}
 use Rattle.com_calls.specs.Kept.{Kept, with_tables}
 use Rattle.com_calls.specs.After.{cut_one_at, cut_by}

@@ -1,4 +1,4 @@
-use Rattle.std.proofs.Common.{◌≡◌, ◌∙◌, ap}
+use Rattle.std.proofs.Common.{◌∙◌, ap}
 use Rattle.com_model.specs.Lists.{first}
 use Rattle.com_calls.specs.Kept.{Kept, inbox_at}
 use Rattle.com_calls.proofs.Inboxes.{first-seen}

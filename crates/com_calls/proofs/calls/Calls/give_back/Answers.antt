@@ -1,6 +1,6 @@
-use Rattle.std.proofs.Common.{◌≡◌, ◌++◌, ◌∙◌, refl, sym, ap, arith, List, length, take, drop}
+use Rattle.std.proofs.Common.{◌≡◌, ◌++◌, ◌∙◌, refl, ap, arith, List, length, take, drop}
 use Rattle.std.proofs.lemmas.Grind.{common_steps}
-use Rattle.com_inbox.specs.Queues.{Queues, queue_at}
+use Rattle.com_inbox.specs.Queues.{queue_at}
 use Rattle.com_calls.specs.declared.rows.CallRow.{CallRow}
 use Rattle.com_calls.specs.Rows.{changed_row, returning}
 use Rattle.com_calls.specs.Kept.{Kept, with_tables}

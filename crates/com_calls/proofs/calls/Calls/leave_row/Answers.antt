@@ -1,4 +1,4 @@
-use Rattle.std.proofs.Common.{◌≡◌, ◌++◌, ◌∙◌, refl, sym, ap, arith, List, length, take, drop}
+use Rattle.std.proofs.Common.{◌≡◌, ◌++◌, ◌∙◌, ap, arith, List, length, take, drop}
 use Rattle.std.proofs.lemmas.Grind.{common_steps}
 use Rattle.com_inbox.specs.Queues.{Queues, queue_at}
 use Rattle.com_calls.specs.declared.rows.CallRow.{CallRow}

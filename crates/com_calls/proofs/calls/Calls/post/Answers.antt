@@ -1,6 +1,6 @@
-use Rattle.std.proofs.Common.{◌≡◌, ◌≤◌, ◌-◌, ◌++◌, ◌∙◌, refl, sym, ap, subst, arith, List, length, take, drop, slice_index_or, true, false}
+use Rattle.std.proofs.Common.{◌≡◌, ◌≤◌, ◌-◌, ◌++◌, ◌∙◌, sym, ap, subst, arith, List, length, take, drop, slice_index_or, true, false}
 use Rattle.std.proofs.lemmas.Grind.{common_steps}
-use Rattle.com_inbox.specs.Queues.{Queues, queue_at, with_last, without_number}
+use Rattle.com_inbox.specs.Queues.{Queues, with_last, without_number}
 use Rattle.com_model.specs.declared.keeps.Phase.TheVariants.{Queued}
 use Rattle.com_calls.specs.declared.rows.CallRow.{CallRow}
 use Rattle.com_calls.specs.Rows.{changed_row, phased}

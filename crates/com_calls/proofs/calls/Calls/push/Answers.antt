@@ -1,4 +1,4 @@
-use Rattle.std.proofs.Common.{◌≡◌, ◌<◌, ◌≤◌, refl, sym, ap, subst, arith, length, false, ℕ}
+use Rattle.std.proofs.Common.{◌≡◌, ◌≤◌, sym, ap, subst, arith, length, false}
 use Rattle.com_calls.specs.declared.rows.CallRow.{CallRow}
 use Rattle.com_calls.specs.Kept.{Kept}
 use Rattle.com_calls.specs.Inside.{row_waits}

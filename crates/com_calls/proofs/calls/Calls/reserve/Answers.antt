@@ -1,4 +1,4 @@
-use Rattle.std.proofs.Common.{◌≡◌, ◌≤◌, ◌+◌, ◌-◌, ◌∙◌, refl, sym, ap, subst, arith, length, List, [], ℕ, slice_index_or, vec_capacity}
+use Rattle.std.proofs.Common.{◌≡◌, ◌+◌, ◌-◌, ◌∙◌, ap, arith, length, List, [], ℕ, slice_index_or, vec_capacity}
 use Rattle.std.proofs.lemmas.Grind.{common_steps}
 use Rattle.com_calls.proofs.Inboxes.{kept_roomier, queue-filled, length-filled}
 use Rattle.com_calls.proofs.calls.Calls.reserve.Goals as goal
