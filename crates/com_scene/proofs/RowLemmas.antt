@@ -138,3 +138,8 @@ popped_row xs ys zs z n t h e =
 pub popped : {A B : Type 0} (f : A → B) (xs ys : List A) (zs : List B) (z : B) (n : ℕ) → ys ≡ take n xs → n + 1 ≡ length xs → map f xs ≡ zs ++ z ∷ [] → map f ys ≡ zs
 popped f xs ys zs z n t h e =
     popped_row (map f xs) (map f ys) zs z n (ap (λ (l : List _). map f l) t ∙ map_take f n xs) (h ∙ sym (map_length f xs)) e
+
+pub get_beyond : {A : Type 0} (xs : List A) (i : ℕ) (d : A) → length xs ≤ i → slice_index_or xs i d ≡ d
+get_beyond [] i d h = refl
+get_beyond (y ∷ ys) zero d h = absurd (omega (arith, h))
+get_beyond (y ∷ ys) (suc i) d h = get_beyond ys i d (omega (arith, h))
