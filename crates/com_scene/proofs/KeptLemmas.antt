@@ -1,7 +1,7 @@
 -- What every entry keeps of the tables.
-use Rattle.std.proofs.Common.{◌≡◌, ℕ, zero, suc, ◌<◌, Bool, true, false, List, [], ◌∷◌, ◌++◌, Option, Some, None, All, arith, fold, refl, sym, subst, Result, Ok, Err, OnOk, OnErr, ◌∙◌, length, replicate, slice_set, slice_index_or, is_some}
+use Rattle.std.proofs.Common.{◌≡◌, ℕ, zero, suc, ◌+◌, ◌<◌, Bool, true, false, List, [], ◌∷◌, ◌++◌, Option, Some, None, All, arith, fold, refl, sym, subst, Result, Ok, Err, OnOk, OnErr, ◌∙◌, length, replicate, slice_set, slice_index_or, is_some}
 use Rattle.std.proofs.lemmas.List.{length-set}
-use Rattle.std.proofs.lemmas.List.Elements.{All-set, All-push, All-tail}
+use Rattle.std.proofs.lemmas.List.Elements.{All-nil, All-set, All-push, All-tail}
 use Rattle.std.specs.declared.alloc.AllocError.{AllocError}
 use Rattle.com_body.specs.declared.actions.Action.{Action}
 use Rattle.com_body.specs.declared.actions.Action.TheVariants as action
@@ -16,10 +16,12 @@ use Rattle.com_model.specs.declared.deeds.Entry.{Entry}
 use Rattle.com_model.specs.Answers.{S_OK}
 use Rattle.com_model.specs.Apartments.{ends_sta}
 use Rattle.com_model.specs.Frames.{Actor as Acting, Body, Script, Nobody, Write as Writing, ToRegister, ToSlot, ToLink, ToBuffer, writes, to_answer, to_destination}
+use Rattle.com_model.specs.Lists.{tabulated}
 use Rattle.com_model.specs.State.{SceneTables, grown, issued_by}
 use Rattle.com_state.specs.SceneParts.{script_at, destination_at, with_rows, row_written, rows_framed, row_wanted, rows_acted, rows_arrived, links_cut, rows_after}
 use Rattle.com_scene.specs.Kept.{HasSlots, FitsActor, IsKept, IsStep}
 use Rattle.com_scene.specs.Ranges.{WritesInRange}
+use Rattle.com_scene.specs.Scenes.{new_scene}
 use Rattle.com_scene.specs.Steps.{with_call, with_object}
 
 All_at : {X : Type 0} (P : X → Type 0) (xs : List X) (i : ℕ) (d : X) → P d → All P xs → P (slice_index_or xs i d)
@@ -108,3 +110,13 @@ pub after_or_not_kept : (x : Result (Unit {0}) AllocError) (named : ℕ → ℕ)
     OnOk x (u ≡ rows_after named a r b e t) → OnErr x (u ≡ t) → IsStep a r → IsKept t → IsKept u
 after_or_not_kept (Ok tt) named a r b e t u ok err s k = subst IsKept (sym ok) (after_kept named a r b e t s k)
 after_or_not_kept (Err x) named a r b e t u ok err s k = subst IsKept (sym err) k
+
+all_tabulated : {X : Type 0} (P : X → Type 0) (n : ℕ) (f : ℕ → X) → ((k : ℕ) → P (f k)) → All P (tabulated n f)
+all_tabulated P zero f h = All-nil P
+all_tabulated P (suc n) f h = All-push P (tabulated n f) (f n) (all_tabulated P n f h) (h n)
+
+pub new_kept : (threads : ℕ) → IsKept (new_scene threads)
+new_kept n = record {
+  slots = all_tabulated HasSlots (n + 1) (λ l. entered []) (λ l. refl);
+  destinations = all_tabulated IsDestination 1 (λ c. destination.Nowhere) (λ c. tt);
+}

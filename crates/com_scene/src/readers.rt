@@ -15,6 +15,7 @@ use com_body::{Cells, Destination, Frame};
 use std::alloc::Global;
 
 // So many frames of scripts that have not begun.
+#[tactic(auto, using(crate::proofs::RowLemmas::tabulated_more))]
 fn new_scripts(alloc: Global, count: usize) -> Result<Vec<Frame>, Memory>
     ensures { IfOk result (λ scripts. scripts.items ≡ tabulated count (λ l. entered [])) }
 {
@@ -26,6 +27,7 @@ fn new_scripts(alloc: Global, count: usize) -> Result<Vec<Frame>, Memory>
 }
 
 // So many empty buffers.
+#[tactic(auto, using(crate::proofs::RowLemmas::tabulated_more))]
 fn new_buffers(alloc: Global, count: usize) -> Result<Vec<ByteList>, Memory>
     ensures { IfOk result (λ buffers. buffers.items ≡ tabulated count (λ b. [])) }
 {

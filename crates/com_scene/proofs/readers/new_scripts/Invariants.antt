@@ -4,4 +4,4 @@ use Rattle.com_model.specs.Lists.{tabulated}
 use Rattle.com_scene.proofs.readers.new_scripts.Given as goal
 
 abbrev pub invariant-loop : goal.invariant-loop
-invariant-loop l = l.scripts.items ≡ tabulated l.index (λ l'. entered [])
+invariant-loop l = l.scripts.items ≡ tabulated l.counter (λ l'. entered [])
