@@ -1,6 +1,15 @@
 -- The rows of a table that are changed one by one.
-use Rattle.std.proofs.Common.{◌≡◌, ℕ, zero, suc, ◌+◌, ◌<◌, ◌≤◌, List, [], ◌∷◌, ◌++◌, arith, refl, sym, ◌∙◌, ap, length, slice_set, slice_index_or, take, drop, add-one}
+use Rattle.std.proofs.Common.{◌≡◌, ℕ, zero, suc, ◌+◌, ◌<◌, ◌≤◌, List, [], ◌∷◌, ◌++◌, arith, refl, sym, ◌∙◌, ap, length, slice_set, slice_index_or, take, drop, add-one, Option, Some, None, Result, Ok, Err, OnOk, ◌==◌, if◌then◌else◌}
+use Rattle.std.specs.declared.alloc.AllocError.{AllocError}
+use Rattle.com_body.specs.declared.frame.Cells.{Cells}
+use Rattle.com_body.specs.declared.frame.Outcome.{Outcome}
+use Rattle.com_model.specs.declared.deeds.Entry.{Entry}
+use Rattle.com_model.specs.Apartments.{ends_sta}
+use Rattle.com_model.specs.Frames.{Actor as Acting}
 use Rattle.com_model.specs.Lists.{each_from}
+use Rattle.com_model.specs.State.{SceneTables}
+use Rattle.com_state.specs.SceneParts.{without_links, with_rows, rows_acted, rows_arrived, links_cut, rows_after}
+use Rattle.com_scene.specs.Kept.{NamesOwners}
 
 each_next : {A : Type 0} (f : ℕ → A → A) (n : ℕ) (xs : List A) (i : ℕ) (d : A) → i < length xs →
     slice_set (each_from f n (take i xs) ++ drop i xs) i (f (n + i) (slice_index_or xs i d)) ≡ each_from f n (take (suc i) xs) ++ drop (suc i) xs
@@ -53,3 +62,26 @@ cut_step f rows xs i x y h e r w =
     ap (λ (z : _). slice_set rows i z) (w ∙ ap (f i) row)
       ∙ ap (λ (ys : List _). slice_set ys i (f i (slice_index_or xs i y))) e
       ∙ each_more f xs i y h
+
+-- Which objects are cut is what counts, and not how their owners are named.
+cut_same : (named other : ℕ → ℕ) (x : Option ℕ) (t : SceneTables) → ((a : ℕ) → x ≡ Some a → (o : ℕ) → named o ≡ other o) → links_cut named x t ≡ links_cut other x t
+cut_same named other None t h = refl
+cut_same named other (Some a) t h =
+    ap (λ (cells : List Cells). record t { cells = cells })
+      (each_same (λ o c. if named o == a then without_links c else c) (λ o c. if other o == a then without_links c else c) 0 t.cells
+        (λ o l m c. ap (λ (n : ℕ). if n == a then without_links c else c) (h a refl o)))
+
+pub after_same : (named : ℕ → ℕ) (owners : List ℕ) (a : Acting) (r : Option Outcome) (b : Acting) (e : Entry) (t : SceneTables) → NamesOwners named (ends_sta e.deed) owners →
+    rows_after (λ o. slice_index_or owners o 0) a r b e t ≡ rows_after named a r b e t
+after_same named owners a r b e t h = by-end (ends_sta e.deed) h
+  where
+    by-end : (x : Option ℕ) → NamesOwners named x owners →
+        links_cut (λ o. slice_index_or owners o 0) x (rows_arrived b e.lane e.deed (rows_acted a r e.deed (with_rows e t)))
+          ≡ links_cut named x (rows_arrived b e.lane e.deed (rows_acted a r e.deed (with_rows e t)))
+    by-end None h = refl
+    by-end (Some y) h = cut_same (λ o. slice_index_or owners o 0) named (Some y) _ (λ a q o. sym (h o))
+
+pub after_named : (x : Result (Unit {0}) AllocError) (named : ℕ → ℕ) (owners : List ℕ) (a : Acting) (r : Option Outcome) (b : Acting) (e : Entry) (t u : SceneTables) →
+    NamesOwners named (ends_sta e.deed) owners → OnOk x (u ≡ rows_after (λ o. slice_index_or owners o 0) a r b e t) → OnOk x (u ≡ rows_after named a r b e t)
+after_named (Ok tt) named owners a r b e t u h ok = ok ∙ after_same named owners a r b e t h
+after_named (Err x) named owners a r b e t u h ok = tt

@@ -1,7 +1,7 @@
 -- What every entry keeps of the tables.
-use Rattle.std.proofs.Common.{◌≡◌, ℕ, zero, suc, ◌<◌, Bool, true, false, List, [], ◌∷◌, ◌++◌, Option, Some, None, All, arith, fold, refl, sym, subst, Result, Ok, Err, OnOk, OnErr, ◌∙◌, length, replicate, slice_set, slice_index_or, is_some}
+use Rattle.std.proofs.Common.{◌≡◌, ℕ, zero, suc, ◌+◌, ◌<◌, Bool, true, false, List, [], ◌∷◌, ◌++◌, Option, Some, None, All, arith, fold, refl, sym, subst, Result, Ok, Err, OnOk, OnErr, ◌∙◌, length, replicate, slice_set, slice_index_or, is_some}
 use Rattle.std.proofs.lemmas.List.{length-set}
-use Rattle.std.proofs.lemmas.List.Elements.{All-set, All-push, All-tail}
+use Rattle.std.proofs.lemmas.List.Elements.{All-nil, All-set, All-push, All-tail}
 use Rattle.std.specs.declared.alloc.AllocError.{AllocError}
 use Rattle.com_body.specs.declared.actions.Action.{Action}
 use Rattle.com_body.specs.declared.actions.Action.TheVariants as action
@@ -16,10 +16,12 @@ use Rattle.com_model.specs.declared.deeds.Entry.{Entry}
 use Rattle.com_model.specs.Answers.{S_OK}
 use Rattle.com_model.specs.Apartments.{ends_sta}
 use Rattle.com_model.specs.Frames.{Actor as Acting, Body, Script, Nobody, Write as Writing, ToRegister, ToSlot, ToLink, ToBuffer, writes, to_answer, to_destination}
+use Rattle.com_model.specs.Lists.{tabulated}
 use Rattle.com_model.specs.State.{SceneTables, grown, issued_by}
 use Rattle.com_state.specs.SceneParts.{script_at, destination_at, with_rows, row_written, rows_framed, row_wanted, rows_acted, rows_arrived, links_cut, rows_after}
-use Rattle.com_scene.specs.Kept.{HasSlots, IsKept, IsStep}
+use Rattle.com_scene.specs.Kept.{HasSlots, FitsActor, IsKept, IsStep}
 use Rattle.com_scene.specs.Ranges.{WritesInRange}
+use Rattle.com_scene.specs.Scenes.{new_scene}
 use Rattle.com_scene.specs.Steps.{with_call, with_object}
 
 All_at : {X : Type 0} (P : X → Type 0) (xs : List X) (i : ℕ) (d : X) → P d → All P xs → P (slice_index_or xs i d)
@@ -53,7 +55,7 @@ all_written_kept : (a : Acting) (t : SceneTables) (ws : List Writing) → IsKept
 all_written_kept a t [] k = k
 all_written_kept a t (w ∷ ws) k = all_written_kept a (row_written a t w) ws (written_kept a t w k)
 
-framed_kept : (a : Acting) (r : Outcome) (t : SceneTables) → HasSlots r.frame → IsKept t → IsKept (rows_framed a r t)
+framed_kept : (a : Acting) (r : Outcome) (t : SceneTables) → FitsActor a r.frame → IsKept t → IsKept (rows_framed a r t)
 framed_kept (Body c o) r t h k = record { slots = k.slots; destinations = k.destinations }
 framed_kept (Script l) r t h k = script_kept t l r.frame h k
 framed_kept Nobody r t h k = k
@@ -63,14 +65,14 @@ wanted_kept (action.Call held i m args to) (deed.Out c o j n r kk bytes) t h k =
     record { slots = k.slots; destinations = All-set IsDestination t.destinations c to h k.destinations }
 wanted_kept _ _ t h k = k
 
-pub acted_kept : (a : Acting) (r : Option Outcome) (d : Deed) (t : SceneTables) → IsStep r → IsKept t → IsKept (rows_acted a r d t)
+pub acted_kept : (a : Acting) (r : Option Outcome) (d : Deed) (t : SceneTables) → IsStep a r → IsKept t → IsKept (rows_acted a r d t)
 acted_kept a None d t s k = k
 acted_kept a (Some r) d t s k =
     wanted_kept r.action d _ s.1 (all_written_kept a (rows_framed a r t) (writes r.action d) (framed_kept a r t s.0 k))
 
 -- Whether there was memory or not.
 pub acted_or_not_kept : (x : Result (Unit {0}) AllocError) (a : Acting) (r : Option Outcome) (d : Deed) (t u : SceneTables) →
-    OnOk x (u ≡ rows_acted a r d t) → OnErr x (u ≡ t) → IsStep r → IsKept t → IsKept u
+    OnOk x (u ≡ rows_acted a r d t) → OnErr x (u ≡ t) → IsStep a r → IsKept t → IsKept u
 acted_or_not_kept (Ok tt) a r d t u ok err s k = subst IsKept (sym ok) (acted_kept a r d t s k)
 acted_or_not_kept (Err x) a r d t u ok err s k = subst IsKept (sym err) k
 
@@ -100,6 +102,21 @@ cut_kept : (named : ℕ → ℕ) (a : Option ℕ) (t : SceneTables) → IsKept t
 cut_kept named None t k = k
 cut_kept named (Some a) t k = record { slots = k.slots; destinations = k.destinations }
 
-pub after_kept : (named : ℕ → ℕ) (a : Acting) (r : Option Outcome) (b : Acting) (e : Entry) (t : SceneTables) → IsStep r → IsKept t → IsKept (rows_after named a r b e t)
+pub after_kept : (named : ℕ → ℕ) (a : Acting) (r : Option Outcome) (b : Acting) (e : Entry) (t : SceneTables) → IsStep a r → IsKept t → IsKept (rows_after named a r b e t)
 after_kept named a r b e t s k =
     cut_kept named (ends_sta e.deed) _ (arrived_kept b e.lane e.deed _ (acted_kept a r e.deed (with_rows e t) s (rows_kept e t k)))
+
+pub after_or_not_kept : (x : Result (Unit {0}) AllocError) (named : ℕ → ℕ) (a : Acting) (r : Option Outcome) (b : Acting) (e : Entry) (t u : SceneTables) →
+    OnOk x (u ≡ rows_after named a r b e t) → OnErr x (u ≡ t) → IsStep a r → IsKept t → IsKept u
+after_or_not_kept (Ok tt) named a r b e t u ok err s k = subst IsKept (sym ok) (after_kept named a r b e t s k)
+after_or_not_kept (Err x) named a r b e t u ok err s k = subst IsKept (sym err) k
+
+all_tabulated : {X : Type 0} (P : X → Type 0) (n : ℕ) (f : ℕ → X) → ((k : ℕ) → P (f k)) → All P (tabulated n f)
+all_tabulated P zero f h = All-nil P
+all_tabulated P (suc n) f h = All-push P (tabulated n f) (f n) (all_tabulated P n f h) (h n)
+
+pub new_kept : (threads : ℕ) → IsKept (new_scene threads)
+new_kept n = record {
+  slots = all_tabulated HasSlots (n + 1) (λ l. entered []) (λ l. refl);
+  destinations = all_tabulated IsDestination 1 (λ c. destination.Nowhere) (λ c. tt);
+}

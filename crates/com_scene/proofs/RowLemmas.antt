@@ -4,6 +4,7 @@ use Rattle.std.proofs.lemmas.List.{map-set}
 use Rattle.com_body.specs.declared.operands.Destination.{Destination}
 use Rattle.com_body.specs.declared.frame.Cells.{Cells}
 use Rattle.com_body.specs.Frames.{FrameView, entered}
+use Rattle.com_model.specs.Lists.{tabulated}
 use Rattle.com_model.specs.State.{SceneTables}
 use Rattle.com_state.specs.SceneParts.{with_body, body_at}
 use Rattle.com_scene.specs.declared.tables.CallRow.{CallRow}
@@ -138,3 +139,11 @@ popped_row xs ys zs z n t h e =
 pub popped : {A B : Type 0} (f : A → B) (xs ys : List A) (zs : List B) (z : B) (n : ℕ) → ys ≡ take n xs → n + 1 ≡ length xs → map f xs ≡ zs ++ z ∷ [] → map f ys ≡ zs
 popped f xs ys zs z n t h e =
     popped_row (map f xs) (map f ys) zs z n (ap (λ (l : List _). map f l) t ∙ map_take f n xs) (h ∙ sym (map_length f xs)) e
+
+pub get_beyond : {A : Type 0} (xs : List A) (i : ℕ) (d : A) → length xs ≤ i → slice_index_or xs i d ≡ d
+get_beyond [] i d h = refl
+get_beyond (y ∷ ys) zero d h = absurd (omega (arith, h))
+get_beyond (y ∷ ys) (suc i) d h = get_beyond ys i d (omega (arith, h))
+
+pub tabulated_more : {A : Type 0} (n : ℕ) (f : ℕ → A) → tabulated (n + 1) f ≡ tabulated n f ++ f n ∷ []
+tabulated_more n f = ap (λ (m : ℕ). tabulated m f) (add-one n)

@@ -1,8 +1,9 @@
 -- What holds of the tables of every scene.
-use Rattle.std.specs.Prelude.{◌≡◌, ◌≤◌, ℕ, Option, Some, None, All, length}
+use Rattle.std.specs.Prelude.{◌≡◌, ℕ, List, Option, Some, None, All, length, slice_index_or}
 use Rattle.com_body.specs.declared.frame.Outcome.{Outcome}
 use Rattle.com_body.specs.Bodies.{IsDestination}
 use Rattle.com_body.specs.Frames.{FrameView}
+use Rattle.com_model.specs.Frames.{Actor as Acting, Body, Script, Nobody}
 use Rattle.com_model.specs.State.{SceneTables}
 use Rattle.com_scene.specs.Ranges.{WritesInRange}
 
@@ -15,7 +16,16 @@ pub record IsKept (t : SceneTables) : Type 0 where
   pub slots : All HasSlots t.scripts
   pub destinations : All IsDestination t.destinations
 
--- The step of whoever acts has a frame of 8 slots, and an action whose numbers are in range.
-abbrev pub IsStep : Option Outcome → Type 0
-IsStep None = Unit {0}
-IsStep (Some r) = HasSlots r.frame × WritesInRange r.action
+-- What whoever acts goes on to: a script to a frame of 8 slots, and each by an action whose numbers are in range.
+abbrev pub FitsActor : Acting → FrameView → Type 0
+FitsActor (Script l) f = HasSlots f
+FitsActor _ f = Unit {0}
+
+abbrev pub IsStep : Acting → Option Outcome → Type 0
+IsStep a None = Unit {0}
+IsStep a (Some r) = FitsActor a r.frame × WritesInRange r.action
+
+-- The list has the apartment that names the owner of each object, from 0; where no STA ends it may be any.
+abbrev pub NamesOwners : (named : ℕ → ℕ) → (ended : Option ℕ) → (owners : List ℕ) → Type 0
+NamesOwners named None owners = Unit {0}
+NamesOwners named (Some a) owners = (o : ℕ) → named o ≡ slice_index_or owners o 0

@@ -53,7 +53,7 @@ impl Tables {
         deed: &Deed,
     ) -> Result<(), Memory>
         requires deed { FitsDeed deed.now }
-        requires step { IsStep outcome }
+        requires step { IsStep (acting_of acting) outcome }
         ensures ok { OnOk result (seen self.new ≡ rows_acted (acting_of acting) outcome deed.now (seen self.old)) }
         ensures err { OnErr result (seen self.new ≡ seen self.old) }
         ensures seated { (c : ℕ) → IsSeated self.old.calls.items c → IsSeated self.new.calls.items c }
@@ -82,7 +82,7 @@ impl Tables {
         deed: &Deed,
     ) -> Result<(), Memory>
         requires deed { FitsDeed deed.now }
-        requires step { IsStep outcome }
+        requires step { IsStep (acting_of acting) outcome }
         requires kept { IsKept (seen self.old) }
         ensures ok { OnOk result (seen self.new ≡ rows_acted (acting_of acting) outcome deed.now (seen self.old)) }
         ensures err { OnErr result (seen self.new ≡ seen self.old) }
