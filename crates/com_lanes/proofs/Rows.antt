@@ -3,8 +3,9 @@ use Rattle.std.proofs.Common.{◌≡◌, ℕ, zero, suc, ◌+◌, ◌<◌, Bool,
 use Rattle.std.proofs.lemmas.List.{set_past as set-past}
 use Rattle.com_base.specs.declared.hresult.HResult.{HResult}
 use Rattle.com_model.specs.Answers.{is_S_OK}
-use Rattle.com_model.specs.Lists.{where_true}
-use Rattle.com_model.specs.State.{changed_at}
+use Rattle.com_model.specs.Lists.{where_true, without_first}
+use Rattle.com_model.specs.declared.deeds.Deed.TheVariants as deed
+use Rattle.com_model.specs.State.{changed_at, mail_change, mail_lane, quit_change, quit_lane}
 use Rattle.com_model.specs.Waiting.{Mail, no_mail, mail_after, Brings}
 use Rattle.com_lanes.specs.Changes.{natural, posted_to, quit_to}
 use Rattle.com_model.specs.declared.keeps.Opener.{Opener}
@@ -58,3 +59,17 @@ quit_none (negsuc m) hr t e = refl
 pub quit_some : (z : ℤ) (hr : HResult) (t : List Bool) (n : ℕ) → natural z ≡ Some n → is_S_OK hr ≡ true → quit_to z hr t ≡ slice_set t n true
 quit_some (pos m) hr t n e g = ap (λ (b : Bool). changed_at (where_true b (λ (x : Bool). true)) m false t) g ∙ ap (λ (k : ℕ). slice_set t k true) (let q : m ≡ n = cc in q)
 quit_some (negsuc m) hr t n e g = absurd cc
+
+-- The row of a lane whose innermost opener was closed.
+pub popped_row : {X : Type 0} (xs : List (List X)) (i : ℕ) → slice_index_or (slice_set xs i (without_first (slice_index_or xs i []))) i [] ≡ without_first (slice_index_or xs i [])
+popped_row [] i = refl
+popped_row (x ∷ xs) zero = refl
+popped_row (x ∷ xs) (suc i) = popped_row xs i
+
+pub posted_seen : (l : ℕ) (z w : ℤ) (hr : HResult) (t : List Mail) → posted_to z w hr t ≡ changed_at (mail_change (deed.Post z w hr)) (mail_lane l (deed.Post z w hr)) no_mail t
+posted_seen l (pos m) w hr t = refl
+posted_seen l (negsuc m) w hr t = refl
+
+pub quit_seen : (l : ℕ) (own : Bool) (z : ℤ) (hr : HResult) (t : List Bool) → quit_to z hr t ≡ changed_at (quit_change own (deed.Quit z hr)) (quit_lane l (deed.Quit z hr)) false t
+quit_seen l own (pos m) hr t = refl
+quit_seen l own (negsuc m) hr t = refl

@@ -4,9 +4,10 @@ use Rattle.com_base.specs.declared.hresult.HResult.{HResult}
 use Rattle.com_model.specs.declared.deeds.Deed.{Deed}
 use Rattle.com_model.specs.Answers.{is_S_OK}
 use Rattle.com_model.specs.Lists.{where_true}
-use Rattle.com_model.specs.Apartments.{makes_sta, ends_sta}
+use Rattle.com_model.specs.Apartments.{makes_sta, ends_sta, with_last}
 use Rattle.com_model.specs.Waiting.{Mail, no_mail, mail_after, Brings}
-use Rattle.com_model.specs.State.{changed_at}
+use Rattle.com_model.specs.State.{changed_at, made_change}
+use Rattle.com_lanes.specs.Apartments.{StaTables}
 use Rattle.com_state.specs.Parts.{LaneTables, served_at}
 
 -- A natural number, where it is one.
@@ -46,3 +47,7 @@ pub record HasRoom (t : LaneTables) : Type 0 where
   pub counts : (l : ℕ) → slice_index_or t.counts l 0 + 1 < 2 ^ 32
   pub posted : (l : ℕ) → (slice_index_or t.mail l no_mail).posted + 1 < 2 ^ 64
   pub stas : length t.stas + 4 ≤ 2 ^ 32
+
+-- The apartments after a lane makes one, if it does.
+abbrev pub stas_made : StaTables → (lane : ℕ) → Option ℕ → StaTables
+stas_made t l o = record { made = changed_at (made_change o) l [] t.made; stas = with_last t.stas o; ended = t.ended }

@@ -1,18 +1,19 @@
 //! One row of a table that has a row for each lane. A lane that has no row changes nothing.
-ghost use Rattle.std.specs.Prelude.{◌≡◌, ℕ, ◌+◌, ◌<◌, ◌^◌, ◌∷◌, [], false, true, if◌then◌else◌, Option, OnOk, OnErr, slice_index_or, slice_set};
+ghost use Rattle.std.specs.Prelude.{◌≡◌, ℕ, ◌+◌, ◌<◌, ◌≤◌, ◌^◌, length, ◌∷◌, [], false, true, if◌then◌else◌, Option, OnOk, OnErr, slice_index_or, slice_set};
 ghost use Rattle.com_model.specs.Answers.{is_S_OK};
-ghost use Rattle.com_model.specs.Apartments.{Initialises, Uninitialises, home_after, count_after};
+ghost use Rattle.com_model.specs.Apartments.{Initialises, Uninitialises, home_after, count_after, makes_sta, ends_sta, with_last};
 ghost use Rattle.com_model.specs.Clock.{Names, Keeps, filter_effect};
 ghost use Rattle.com_model.specs.Lists.{where_true, without_first};
 ghost use Rattle.com_model.specs.Openers.{Closes, Leaves, left_on};
 ghost use Rattle.com_model.specs.State.{changed_at, filters_change};
 ghost use Rattle.com_model.specs.Waiting.{no_mail, mail_after, Takes, Asks, Forgets};
 ghost use Rattle.com_lanes.specs.Bodies.{is_one_pump};
-ghost use Rattle.com_lanes.specs.Changes.{natural, posted_to, quit_to};
+ghost use Rattle.com_lanes.specs.Changes.{IsBelow, IsNumber, natural, posted_to, quit_to, stas_made};
 
 use crate::mail::Mail;
 use crate::openers::Openers;
-use com_base::{HResult, Memory};
+use crate::stas::{HOST_STA, Stas};
+use com_base::{HResult, Memory, Mode};
 use com_model::{Deed, Opener};
 
 /// Puts a value in a row.
@@ -209,5 +210,48 @@ pub(crate) fn end_quit(column: &mut Vec<bool>, lane: u32, by_quit: bool)
 {
     if by_quit {
         put(column, lane, false);
+    }
+}
+
+/// A lane that is initialised makes an apartment where it asks for one of its own and the answer is S_OK. The only error is want
+/// of memory, and then nothing has changed.
+pub(crate) fn make_sta(stas: &mut Stas, lane: u32, mode: Mode, home: u32, hr: HResult) -> Result<(), Memory>
+    requires next { IsNumber (length stas.old.stas + 3) (makes_sta (Deed.Init mode home hr)) }
+    requires room { length stas.old.stas + 4 ≤ 2 ^ 32 }
+    ensures ok { OnOk result (stas.new ≡ stas_made stas.old lane (makes_sta (Deed.Init mode home hr))) }
+    ensures err { OnErr result (stas.new ≡ stas.old) }
+{
+    match mode {
+        Mode::Mta => Ok(()),
+        Mode::Sta => {
+            if is_s_ok(hr) {
+                stas.make(lane)
+            } else {
+                Ok(())
+            }
+        }
+    }
+}
+
+/// The apartment of a lane ends where this is left of the lane's initialisations. The only error is want of memory, and then
+/// nothing has changed.
+pub(crate) fn end_sta(stas: &mut Stas, home: Option<u32>, count: u32) -> Result<(), Memory>
+    requires { IsBelow (length stas.old.stas + 3) (ends_sta (Deed.Uninit home count)) }
+    ensures ok { OnOk result (stas.new
+        ≡ record stas.old { ended = with_last stas.old.ended (ends_sta (Deed.Uninit home count)) }) }
+    ensures err { OnErr result (stas.new ≡ stas.old) }
+{
+    let Some(apartment) = home else {
+        return Ok(());
+    };
+    match count {
+        0 => {
+            if apartment >= HOST_STA {
+                stas.end(apartment)
+            } else {
+                Ok(())
+            }
+        }
+        _ => Ok(()),
     }
 }

@@ -2,6 +2,7 @@
 //! single-threaded apartments that threads make.
 #![tactic(auto)]
 
+mod apply;
 mod columns;
 mod lanes;
 mod mail;
