@@ -1,2 +1,6 @@
 pub mod Bodies
 pub mod StasKept
+pub mod Words
+pub mod MarksLeft
+pub mod Rows
+pub mod Bounds

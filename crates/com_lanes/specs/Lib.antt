@@ -1,3 +1,6 @@
 pub mod Bodies
 pub mod Apartments
 pub mod StasKept
+pub mod Words
+pub mod Changes
+pub mod First

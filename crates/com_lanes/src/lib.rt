@@ -2,10 +2,14 @@
 //! single-threaded apartments that threads make.
 #![tactic(auto)]
 
+mod apply;
+mod columns;
+mod lanes;
+mod mail;
+mod marks;
 mod numbers;
 mod openers;
 mod stack;
 mod stas;
 
-pub use openers::Openers;
-pub use stas::Stas;
+pub use lanes::Lanes;

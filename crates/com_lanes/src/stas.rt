@@ -10,7 +10,7 @@ use std::alloc::Global;
 use std::marker::Model;
 
 /// The single-threaded apartment of the host.
-const HOST_STA: u32 = 2;
+pub(crate) const HOST_STA: u32 = 2;
 /// The first single-threaded apartment that a thread makes.
 const FIRST_STA: u32 = 3;
 

@@ -190,9 +190,6 @@ pub record ActsClear (s : Scenario) (h : List Entry) (gone : ℕ) (e : Entry) (a
 
 not-agile : (s : Scenario) (h : List Entry) (o a : ℕ) → OwnedAt s h o a → agile s h o ≡ false → a ≡ named h o
 not-agile s h o a (inl p) e = absurd (not-both (agile s h o) e p)
-  where
-    not-both : (b : Bool) → b ≡ false → b ≡ true → ⊥
-    not-both b p q = cc
 not-agile s h o a (inr p) e = p
 
 pub shares-clear : (s : Scenario) (h : List Entry) (gone : ℕ) (e : Entry) (l c o a : ℕ) → Formed s → legal s (e ∷ h) → Among (Enters c o a) (openers h l) → Shares (S2 s h gone e) (B2 s h gone e) (K2 s h gone e) ⊥ (agile s h o ≡ false) (Body c o)

@@ -18,10 +18,9 @@ use Rattle.com_model.specs.Tables.{lane_sort}
 use Rattle.com_model.specs.Openers.{Opens, effect, effect_on, openers}
 use Rattle.com_model.specs.declared.keeps.Opener.{Opener}
 use Rattle.com_model.specs.declared.keeps.Opener.TheVariants.{Waits}
-use Rattle.com_model.specs.Objects.{class_of}
 use Rattle.com_model.specs.Calls.{issue, target, object_of, route_of}
 use Rattle.com_model.specs.declared.keeps.Issue.{Issue}
-use Rattle.com_model.specs.Frames.{scene, Actor, actor, actor_in, outcome, unless_over, action_of, writes}
+use Rattle.com_model.specs.Frames.{scene, Actor, actor, actor_in, action_of, writes}
 use Rattle.com_model.specs.Deeds.{route_to}
 use Rattle.com_model.specs.Sight.{sight}
 use Rattle.com_model.specs.Rules.{legal}
@@ -29,7 +28,7 @@ use Rattle.com_model.specs.Formed.{Formed}
 use Rattle.com_balance.proofs.Carries.{HeldBy}
 use Rattle.com_balance.proofs.Says.{OutSays, next-says}
 use Rattle.com_balance.proofs.Steps.{ActionOf, action-from, opens-own, same-number}
-use Rattle.com_balance.proofs.Arguments.{InSlots, slots_of, acts-own, StillBy}
+use Rattle.com_balance.proofs.Arguments.{InSlots, slots_of, StillBy}
 use Rattle.com_balance.proofs.Directs.{Over, over-after, over-among, issue-stays, waits-issued, still-slots}
 use Rattle.com_release.proofs.Calling.{target-in}
 use Rattle.com_release.proofs.Below.{below-stays}
@@ -73,7 +72,6 @@ target-out s h l k u i m t cause bytes os f q p =
     let own : issue (e ∷ h) k ≡ Some y = ap (λ (b : Bool). cond b (Some y) (issue h k)) (same-number k) in
     let says : OutSays s (sight s h) l i m u t bytes = next-says s h l d q.1 in
     let a : Actor = actor_in s h l in
-    let act-own : unless_over a (outcome s (class_of h) (issue h) (scene s h) a) ≡ a = acts-own s (class_of h) (issue h) (scene s h) a (action.Call says.held i m says.args says.to) says.acts in
     let here : slots_of a (scene s h) ≡ slots_of (actor (lane_sort s l) l os) (scene s (e ∷ h)) =
     sym (still-slots s h e a f q (still-call a _ _ says.held i m says.args says.to d says.acts) tt) ∙ ap (λ (ys : List Opener). slots_of (actor (lane_sort s l) l ys) (scene s (e ∷ h))) p in
     elim says.homed as (λ _. TargetAt s (e ∷ h) l k os) [

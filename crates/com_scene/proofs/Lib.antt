@@ -1,2 +1,5 @@
+pub mod CutLemmas
+pub mod GiveLemmas
+pub mod KeptLemmas
 pub mod RowLemmas
 pub mod StepLemmas

@@ -1,6 +1,12 @@
 -- Lists where one row is set, and their columns.
-use Rattle.std.proofs.Common.{◌≡◌, ℕ, zero, suc, ◌+◌, ◌-◌, ◌<◌, ◌≤◌, List, [], ◌∷◌, ◌++◌, Option, Some, None, IsSome, arith, refl, sym, ◌∙◌, ap, length, map, slice_set, slice_index_or, take}
+use Rattle.std.proofs.Common.{◌≡◌, ℕ, zero, suc, ◌+◌, ◌-◌, ◌<◌, ◌≤◌, List, [], ◌∷◌, ◌++◌, Option, Some, None, IsSome, arith, refl, sym, ◌∙◌, ap, ap₂, length, map, slice_set, slice_index_or, replicate, take, drop, add-one, length-append}
 use Rattle.std.proofs.lemmas.List.{map-set}
+use Rattle.com_body.specs.declared.operands.Destination.{Destination}
+use Rattle.com_body.specs.declared.frame.Cells.{Cells}
+use Rattle.com_body.specs.Frames.{FrameView, entered}
+use Rattle.com_model.specs.Lists.{tabulated}
+use Rattle.com_model.specs.State.{SceneTables}
+use Rattle.com_state.specs.SceneParts.{with_body, body_at}
 use Rattle.com_scene.specs.declared.tables.CallRow.{CallRow}
 use Rattle.com_scene.specs.Seen.{IsSeated, body_of, destination_of}
 
@@ -32,6 +38,11 @@ pub map_kept : {A B : Type 0} (f : A → B) (l : List A) (i : ℕ) (a d : A) →
 map_kept f [] i a d e = refl
 map_kept f (x ∷ xs) zero a d e = ap (λ (y : _). y ∷ map f xs) e
 map_kept f (x ∷ xs) (suc i) a d e = ap (λ (ys : List _). f x ∷ ys) (map_kept f xs i a d e)
+
+pub map_get : {A B : Type 0} (f : A → B) (l : List A) (i : ℕ) (d : A) (e : B) → i < length l → slice_index_or (map f l) i e ≡ f (slice_index_or l i d)
+map_get f [] i d e h = absurd (omega (arith, h))
+map_get f (x ∷ xs) zero d e h = refl
+map_get f (x ∷ xs) (suc i) d e h = map_get f xs i d e (omega (arith, h))
 
 pub map_append : {A B : Type 0} (f : A → B) (l : List A) (a : A) → map f (l ++ a ∷ []) ≡ map f l ++ f a ∷ []
 map_append f [] a = refl
@@ -70,3 +81,69 @@ seated_kept (x ∷ xs) zero zero r d h s = h s
 seated_kept (x ∷ xs) zero (suc c) r d h s = s
 seated_kept (x ∷ xs) (suc i) zero r d h s = s
 seated_kept (x ∷ xs) (suc i) (suc c) r d h s = seated_kept xs i c r d h s
+
+-- The first rows are null, and one more.
+nulls_next : {A : Type 0} (xs : List (Option A)) (i : ℕ) → i < length xs →
+    slice_set (replicate i None ++ drop i xs) i None ≡ replicate (suc i) None ++ drop (suc i) xs
+nulls_next [] i h = absurd (omega (arith, h))
+nulls_next (x ∷ xs) zero h = refl
+nulls_next (x ∷ xs) (suc i) h = ap (λ (ys : List (Option _)). None ∷ ys) (nulls_next xs i (omega (arith, h)))
+
+pub nulls_more : {A : Type 0} (xs : List (Option A)) (i : ℕ) → i < length xs →
+    slice_set (replicate i None ++ drop i xs) i None ≡ replicate (i + 1) None ++ drop (i + 1) xs
+nulls_more xs i h = rw add-one (nulls_next xs i h)
+
+pub nulls_all : {A : Type 0} (xs : List (Option A)) (n : ℕ) → length xs ≡ n → replicate n None ++ drop n xs ≡ replicate n None
+nulls_all [] zero h = refl
+nulls_all [] (suc n) h = absurd (omega (arith, h))
+nulls_all (x ∷ xs) zero h = absurd (omega (arith, h))
+nulls_all (x ∷ xs) (suc n) h = ap (λ (ys : List (Option _)). None ∷ ys) (nulls_all xs n (omega (arith, h)))
+
+-- A call's body is changed by what its row's body becomes.
+pub body_changed : (g : FrameView → FrameView) (rows : List CallRow) (c : ℕ) (r d : CallRow) → c < length rows →
+    body_of r ≡ g (body_of (slice_index_or rows c d)) →
+    slice_set (map body_of rows) c (body_of r) ≡ slice_set (map body_of rows) c (g (slice_index_or (map body_of rows) c (entered [])))
+body_changed g rows c r d h e =
+    ap (λ (f : FrameView). slice_set (map body_of rows) c f) (e ∙ ap g (sym (map_get body_of rows c d (entered []) h)))
+
+abbrev pub tables_of : List FrameView → List CallRow → List Cells → List (List ℕ) → SceneTables
+tables_of scripts rows cells buffers =
+    record { scripts = scripts; bodies = map body_of rows; cells = cells; buffers = buffers; destinations = map destination_of rows }
+
+-- The same on all tables.
+pub row_changed : (g : FrameView → FrameView) (scripts : List FrameView) (rows : List CallRow) (cells : List Cells) (buffers : List (List ℕ)) (c : ℕ) (r d : CallRow) →
+    c < length rows → body_of r ≡ g (body_of (slice_index_or rows c d)) → destination_of r ≡ destination_of (slice_index_or rows c d) →
+    tables_of scripts (slice_set rows c r) cells buffers
+      ≡ with_body (tables_of scripts rows cells buffers) c (g (body_at (tables_of scripts rows cells buffers) c))
+row_changed g scripts rows cells buffers c r d h e k =
+    ap₂ (λ (bodies : List FrameView) (destinations : List Destination). record { scripts = scripts; bodies = bodies; cells = cells; buffers = buffers; destinations = destinations })
+      (map_set body_of rows c r ∙ body_changed g rows c r d h e) (map_kept destination_of rows c r d k)
+
+-- A list without its last row, and its columns.
+take_snoc : {A : Type 0} (xs : List A) (x : A) (n : ℕ) → n ≡ length xs → take n (xs ++ x ∷ []) ≡ xs
+take_snoc [] x zero h = refl
+take_snoc [] x (suc n) h = absurd (omega (arith, h))
+take_snoc (y ∷ ys) x zero h = absurd (omega (arith, h))
+take_snoc (y ∷ ys) x (suc n) h = ap (λ (zs : List _). y ∷ zs) (take_snoc ys x n (omega (arith, h)))
+
+map_take : {A B : Type 0} (f : A → B) (n : ℕ) (xs : List A) → map f (take n xs) ≡ take n (map f xs)
+map_take f zero xs = refl
+map_take f (suc n) [] = refl
+map_take f (suc n) (x ∷ xs) = ap (λ (ys : List _). f x ∷ ys) (map_take f n xs)
+
+pub popped_row : {A : Type 0} (xs ys zs : List A) (z : A) (n : ℕ) → ys ≡ take n xs → n + 1 ≡ length xs → xs ≡ zs ++ z ∷ [] → ys ≡ zs
+popped_row xs ys zs z n t h e =
+    let same : length xs ≡ length zs + 1 = ap length e ∙ length-append zs (z ∷ []) in
+    t ∙ ap (λ (l : List _). take n l) e ∙ take_snoc zs z n (omega (arith, h, same))
+
+pub popped : {A B : Type 0} (f : A → B) (xs ys : List A) (zs : List B) (z : B) (n : ℕ) → ys ≡ take n xs → n + 1 ≡ length xs → map f xs ≡ zs ++ z ∷ [] → map f ys ≡ zs
+popped f xs ys zs z n t h e =
+    popped_row (map f xs) (map f ys) zs z n (ap (λ (l : List _). map f l) t ∙ map_take f n xs) (h ∙ sym (map_length f xs)) e
+
+pub get_beyond : {A : Type 0} (xs : List A) (i : ℕ) (d : A) → length xs ≤ i → slice_index_or xs i d ≡ d
+get_beyond [] i d h = refl
+get_beyond (y ∷ ys) zero d h = absurd (omega (arith, h))
+get_beyond (y ∷ ys) (suc i) d h = get_beyond ys i d (omega (arith, h))
+
+pub tabulated_more : {A : Type 0} (n : ℕ) (f : ℕ → A) → tabulated (n + 1) f ≡ tabulated n f ++ f n ∷ []
+tabulated_more n f = ap (λ (m : ℕ). tabulated m f) (add-one n)

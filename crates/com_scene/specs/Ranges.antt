@@ -4,7 +4,6 @@ use Rattle.com_body.specs.declared.actions.Action.{Action}
 use Rattle.com_body.specs.declared.actions.Action.TheVariants as action
 use Rattle.com_body.specs.declared.operands.Asked.{Asked}
 use Rattle.com_body.specs.declared.operands.Asked.TheVariants as asked
-use Rattle.com_body.specs.declared.frame.Outcome.{Outcome}
 use Rattle.com_body.specs.Bodies.{IsPlace, IsDestination}
 use Rattle.com_model.specs.declared.deeds.Deed.{Deed}
 use Rattle.com_model.specs.declared.deeds.Deed.TheVariants as deed
@@ -21,10 +20,6 @@ WritesInRange (action.Unmarshal slot b) = slot < 8
 WritesInRange (action.Register to held) = to < 16
 WritesInRange (action.Get slot g) = slot < 8
 WritesInRange _ = Unit {0}
-
-abbrev pub StepsInRange : Option Outcome → Type 0
-StepsInRange None = Unit {0}
-StepsInRange (Some r) = WritesInRange r.action
 
 abbrev pub IsInRange : Writing → Type 0
 IsInRange (ToRegister r v) = r < 16

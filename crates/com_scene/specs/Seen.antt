@@ -3,6 +3,8 @@ use Rattle.std.specs.Prelude.{ℕ, zero, suc, List, [], ◌∷◌, Option, Some,
 use Rattle.com_body.specs.declared.operands.Destination.{Destination}
 use Rattle.com_body.specs.Frames.{FrameView, entered}
 use Rattle.com_model.specs.State.{SceneTables}
+use Rattle.com_scene.specs.declared.actor.Actor.{Actor}
+use Rattle.com_scene.specs.declared.actor.Actor.TheVariants as actor
 use Rattle.com_scene.specs.declared.tables.CallRow.{CallRow}
 use Rattle.com_scene.specs.declared.tables.Tables.{Tables}
 
@@ -37,3 +39,8 @@ abbrev pub IsSeated : List CallRow → ℕ → Type 0
 IsSeated [] c = Unit {0}
 IsSeated (r ∷ rows) zero = IsSome r.frame
 IsSeated (r ∷ rows) (suc c) = IsSeated rows c
+
+-- The body has a frame of its own, where it is a body that acts.
+abbrev pub IsSeatedActor : List CallRow → Actor → Type 0
+IsSeatedActor rows (actor.Body c o) = IsSeated rows c
+IsSeatedActor rows _ = Unit {0}

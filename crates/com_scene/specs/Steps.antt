@@ -1,16 +1,17 @@
 -- What writes do to a frame, to cells and to the buffers, each on its own.
-use Rattle.std.specs.Prelude.{ℕ, List, [], ◌∷◌, Option, Some, None, pos, slice_set}
+use Rattle.std.specs.Prelude.{ℕ, List, [], ◌∷◌, ◌++◌, Option, Some, None, pos, ◌==◌, if◌then◌else◌, slice_index_or, slice_set}
 use Rattle.com_base.specs.declared.value.Value.TheVariants as value
 use Rattle.com_base.specs.declared.hresult.HResult.{HResult}
 use Rattle.com_body.specs.declared.actions.Action.{Action}
 use Rattle.com_body.specs.declared.actions.Action.TheVariants as action
 use Rattle.com_body.specs.declared.frame.Cells.{Cells}
-use Rattle.com_body.specs.Frames.{FrameView, with_register, with_slot}
+use Rattle.com_body.specs.declared.operands.Destination.TheVariants as destination
+use Rattle.com_body.specs.Frames.{FrameView, entered, with_register, with_slot}
 use Rattle.com_model.specs.declared.deeds.Deed.{Deed}
 use Rattle.com_model.specs.declared.deeds.Deed.TheVariants as deed
-use Rattle.com_model.specs.Frames.{Write as Writing, ToRegister, ToSlot, ToLink, ToBuffer, to_answer, to_place, taken_in, cookie_in, marshalled_in, with_link}
+use Rattle.com_model.specs.Frames.{Write as Writing, ToRegister, ToSlot, ToLink, ToBuffer, to_answer, to_place, taken_in, cookie_in, marshalled_in, new_cells, with_link}
 use Rattle.com_model.specs.State.{SceneTables}
-use Rattle.com_state.specs.SceneParts.{with_body, with_script, with_cells, with_buffer}
+use Rattle.com_state.specs.SceneParts.{with_body, with_script, with_cells, with_buffer, without_links}
 use Rattle.com_scene.specs.Ranges.{IsInRange}
 use Rattle.com_scene.specs.declared.actor.Actor.{Actor}
 use Rattle.com_scene.specs.declared.actor.Actor.TheVariants as actor
@@ -89,3 +90,14 @@ wanted_of _ d = None
 abbrev pub with_wanted : Option Wanted → SceneTables → SceneTables
 with_wanted None t = t
 with_wanted (Some w) t = record t { destinations = slice_set t.destinations w.call w.destination }
+
+-- The cells of an object where an apartment ends, by the list of owners.
+abbrev pub cut_by : (owners : List ℕ) → (apartment : ℕ) → ℕ → Cells → Cells
+cut_by owners a o c = if slice_index_or owners o 0 == a then without_links c else c
+
+-- A row for a call that is issued, and one for an object that is made.
+abbrev pub with_call : SceneTables → SceneTables
+with_call t = record t { bodies = t.bodies ++ entered [] ∷ []; destinations = t.destinations ++ destination.Nowhere ∷ [] }
+
+abbrev pub with_object : SceneTables → SceneTables
+with_object t = record t { cells = t.cells ++ new_cells ∷ [] }

@@ -3,7 +3,12 @@
 
 mod act;
 mod actor;
+mod apply;
+mod arrive;
+mod readers;
+mod scene;
 mod tables;
 mod writes;
 
 pub use actor::Actor;
+pub use scene::Scene;

@@ -1,14 +1,54 @@
 //! The tables of the scene: a row for each lane, call, object and buffer.
-ghost use Rattle.std.specs.Prelude.{◌≡◌, ℕ, IfOk, OnOk, OnErr, Some, IsSome, slice_set};
+ghost use Rattle.std.specs.Prelude.{◌≡◌, ℕ, IfOk, OnOk, OnErr, Some, None, IsSome, [], ◌∷◌, fold, replicate};
+ghost use Rattle.com_body.specs.Bodies.{IsDestination};
+ghost use Rattle.com_body.specs.Frames.{entered};
+ghost use Rattle.com_model.specs.State.{SceneTables};
+ghost use Rattle.com_model.specs.Frames.{to_answer, to_destination};
 ghost use Rattle.com_state.specs.SceneParts.{with_body, with_script, with_cells};
-ghost use Rattle.com_scene.specs.Seen.{seen, IsSeated};
-ghost use Rattle.com_scene.specs.Steps.{with_bytes, with_wanted};
+ghost use Rattle.com_scene.specs.Kept.{HasSlots};
+ghost use Rattle.com_scene.specs.Seen.{seen, seat_of, IsSeated};
+ghost use Rattle.com_scene.specs.Steps.{frame_with, with_bytes, with_wanted, with_call, with_object};
 
 use crate::writes::{Bytes, Wanted};
-use com_base::{ByteList, Memory};
+use com_base::{ByteList, HResult, Memory, Value};
 use com_body::{Cells, Destination, Frame};
 use std::alloc::Global;
 use std::marker::Model;
+
+/// A frame is given an HRESULT, and the result of a call: a destination register takes a value, and stays where there is none;
+/// a slot takes a reference, or null.
+pub fn receive(frame: &mut Frame, hr: HResult, to: Destination, value: Option<Value>)
+    requires { IsDestination to }
+    ensures { frame.new ≡ fold frame_with frame.old (to_answer hr ∷ to_destination to value) }
+{
+    frame.set_register(15, Value::Int(hr.0 as i64));
+    match to {
+        Destination::Nowhere => {}
+        Destination::Register(number) => {
+            if let Some(value) = value {
+                frame.set_register(number, value);
+            }
+        }
+        Destination::Slot(number) => {
+            let held = match value {
+                Some(Value::Ref(held)) => held,
+                _ => None,
+            };
+            frame.set_slot(number, held);
+        }
+    }
+}
+
+/// Makes the slots of a frame null.
+#[tactic(auto, using(crate::proofs::RowLemmas::nulls_more, crate::proofs::RowLemmas::nulls_all))]
+pub fn clear_slots(frame: &mut Frame)
+    requires { HasSlots frame.old }
+    ensures { frame.new ≡ record frame.old { slots = replicate 8 None } }
+{
+    for number in 0u8..8 {
+        frame.set_slot(number, None);
+    }
+}
 
 /// A frame of a body that has begun, on the heap.
 #[derive(Drop)]
@@ -47,6 +87,13 @@ impl Seat {
     {
         *self.frame = frame;
     }
+
+    fn receive(&mut self, hr: HResult, to: Destination, value: Option<Value>)
+        requires { IsDestination to }
+        ensures { self.new ≡ fold frame_with self.old (to_answer hr ∷ to_destination to value) }
+    {
+        receive(&mut self.frame, hr, to, value);
+    }
 }
 
 /// What is kept of a call: the frame of its body, where it has begun and not left, and where its result goes.
@@ -70,6 +117,49 @@ impl CallRow {
         }
         self.frame = Some(Seat::new(alloc, frame)?);
         Ok(())
+    }
+
+    /// The body of the call ends, and has no frame.
+    fn leave(&mut self)
+        ensures frame { seat_of self.new.frame ≡ entered [] }
+        ensures destination { self.new.destination ≡ self.old.destination }
+    {
+        self.frame = None;
+    }
+
+    /// The body of the call begins with a frame.
+    fn enter(&mut self, seat: Seat)
+        ensures frame { self.new.frame ≡ Some seat }
+        ensures destination { self.new.destination ≡ self.old.destination }
+    {
+        self.frame = Some(seat);
+    }
+
+    /// Gives the body of the call a frame of its own, where it has none. The only error is want of memory.
+    pub fn seat(&mut self, alloc: Global) -> Result<(), Memory>
+        ensures frame { seat_of self.new.frame ≡ seat_of self.old.frame }
+        ensures destination { self.new.destination ≡ self.old.destination }
+        ensures seated { OnOk result (IsSome self.new.frame) }
+    {
+        if self.frame.is_some() {
+            return Ok(());
+        }
+        let frame = Frame::enter(alloc, &[])?;
+        self.frame = Some(Seat::new(alloc, frame)?);
+        Ok(())
+    }
+
+    /// The body of the call is given an HRESULT, and the result of a call of its own.
+    pub fn receive(&mut self, hr: HResult, to: Destination, value: Option<Value>)
+        requires seated { IsSome self.old.frame }
+        requires to { IsDestination to }
+        ensures frame { seat_of self.new.frame ≡ fold frame_with (seat_of self.old.frame) (to_answer hr ∷ to_destination to value) }
+        ensures destination { self.new.destination ≡ self.old.destination }
+    {
+        let Some(seat) = &mut self.frame else {
+            return;
+        };
+        seat.receive(hr, to, value);
     }
 
     fn want(&mut self, destination: Destination)
@@ -151,5 +241,62 @@ impl Tables {
             let row = &mut self.calls[call as usize];
             row.want(destination);
         }
+    }
+
+    /// The body of a call ends.
+    pub fn leave(&mut self, call: u32)
+        ensures { seen self.new ≡ with_body (seen self.old) call (entered []) }
+    {
+        if (call as usize) < self.calls.len() {
+            let row = &mut self.calls[call as usize];
+            row.leave();
+        }
+    }
+
+    /// The body of a call begins with a frame.
+    pub fn enter(&mut self, call: u32, seat: Seat)
+        ensures { seen self.new ≡ with_body (seen self.old) call seat }
+    {
+        if (call as usize) < self.calls.len() {
+            let row = &mut self.calls[call as usize];
+            row.enter(seat);
+        }
+    }
+
+    /// A row for a call that is issued. The only error is want of memory, and then nothing has changed.
+    #[tactic(auto, using(crate::proofs::RowLemmas::map_append))]
+    pub fn add_call(&mut self) -> Result<(), Memory>
+        ensures ok { OnOk result (seen self.new ≡ with_call (seen self.old)) }
+        ensures err { OnErr result (seen self.new ≡ seen self.old) }
+    {
+        let row = CallRow {
+            frame: None,
+            destination: Destination::Nowhere,
+        };
+        Ok(self.calls.push(row)?)
+    }
+
+    /// Takes the row of the last call away.
+    #[tactic(auto, using(crate::proofs::RowLemmas::popped))]
+    pub fn drop_call(&mut self)
+        ensures { (t : SceneTables) → seen self.old ≡ with_call t → seen self.new ≡ t }
+    {
+        let _ = self.calls.pop();
+    }
+
+    /// A row for an object that is made. The only error is want of memory, and then nothing has changed.
+    pub fn add_object(&mut self) -> Result<(), Memory>
+        ensures ok { OnOk result (seen self.new ≡ with_object (seen self.old)) }
+        ensures err { OnErr result (seen self.new ≡ seen self.old) }
+    {
+        Ok(self.cells.push(Cells::new())?)
+    }
+
+    /// Takes the row of the last object away.
+    #[tactic(auto, using(crate::proofs::RowLemmas::popped_row))]
+    pub fn drop_object(&mut self)
+        ensures { (t : SceneTables) → seen self.old ≡ with_object t → seen self.new ≡ t }
+    {
+        let _ = self.cells.pop();
     }
 }

@@ -1,0 +1,6 @@
+pub mod Changed
+pub mod Columns
+pub mod Inboxes
+pub mod Entries
+pub mod Cuts
+pub mod RowReads

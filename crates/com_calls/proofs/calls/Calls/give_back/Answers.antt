@@ -1,0 +1,25 @@
+use Rattle.std.proofs.Common.{◌≡◌, ◌++◌, ◌∙◌, refl, ap, arith, List, length, take, drop}
+use Rattle.std.proofs.lemmas.Grind.{common_steps}
+use Rattle.com_inbox.specs.Queues.{queue_at}
+use Rattle.com_calls.specs.declared.rows.CallRow.{CallRow}
+use Rattle.com_calls.specs.Rows.{changed_row, returning}
+use Rattle.com_calls.specs.Kept.{Kept, with_tables}
+use Rattle.com_calls.specs.Inside.{kept_of}
+use Rattle.com_calls.specs.Steps.{returned_at}
+use Rattle.com_calls.proofs.Columns.{tables_returned}
+use Rattle.com_calls.proofs.Inboxes.{kept_same, seen_same}
+use Rattle.com_calls.proofs.calls.Calls.give_back.Goals as goal
+
+pub invariant_of-self : goal.invariant_of-self
+invariant_of-self c =
+    let s = c.self.inside in
+    let is : take s.rows.len (c.give_back.new.rows ++ drop (length c.give_back.new.rows) s.rows.items) ≡ changed_row returning c.args.call s.rows.items = grind (arith, common_steps) in
+    rw is (kept_same returning c.args.call s.rows.items s.posted s.waiting s.rows.cap s.room s.causes c.self.invariant (λ r. refl) (λ a r. refl))
+
+pub returns : goal.returns
+returns c =
+    let s = c.self.inside in
+    let is : take s.rows.len (c.give_back.new.rows ++ drop (length c.give_back.new.rows) s.rows.items) ≡ changed_row returning c.args.call s.rows.items = grind (arith, common_steps) in
+    ap (λ (xs : List CallRow). kept_of xs s.posted s.waiting s.room s.causes) is
+    ∙ seen_same returning c.args.call s.rows.items s.posted s.waiting s.room s.causes _ (tables_returned c.args.call s.rows.items (queue_at s.posted 0) s.causes) (λ r. refl)
+    ∙ ap (λ (b : Kept). with_tables b (returned_at b.tables c.args.call)) c.self.view_is

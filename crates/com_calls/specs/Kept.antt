@@ -1,0 +1,53 @@
+-- What a contract sees of a `Calls`, and what stands in its inboxes.
+use Rattle.std.specs.Prelude.{ℕ, ◌≡◌, Bool, ◌==◌, ◌&&◌, List, [], ◌∷◌, ◌++◌, filter, None, is_none}
+use Rattle.com_model.specs.declared.keeps.Phase.TheVariants.{Unposted}
+use Rattle.com_model.specs.Lists.{from_one}
+use Rattle.com_model.specs.Calls.{object_of}
+use Rattle.com_model.specs.Waiting.{is_queued}
+use Rattle.com_state.specs.Parts.{CallTables, ObjectTables, named_at, issue_at}
+
+-- the tables; the apartment of each call's target when it was issued; the number of calls with room; and the number of apartments
+-- with an inbox
+pub record Kept : Type 0 where
+  pub tables : CallTables
+  pub apartments : List ℕ
+  pub room : ℕ
+  pub inboxes : ℕ
+
+abbrev pub with_tables : Kept → CallTables → Kept
+with_tables b t = record b { tables = t }
+
+abbrev pub with_room : Kept → (room inboxes : ℕ) → Kept
+with_room b n k = record b { room = n; inboxes = k }
+
+abbrev pub no_tables : CallTables
+no_tables = record {
+  issues = [];
+  admissions = [];
+  leavings = [];
+  returned = [];
+  endings = [];
+  refusals = [];
+  unread = [];
+  phases = [];
+  times = [];
+  postings = [];
+  causes = 0;
+}
+
+-- The call was posted to the apartment last, and is neither entered nor answered.
+abbrev pub waits_at : Kept → (apartment call : ℕ) → Bool
+waits_at b a c =
+    from_one b.apartments c 0 == a
+    && (is_queued (from_one b.tables.phases c Unposted) && (is_none (from_one b.tables.admissions c None) && is_none (from_one b.tables.endings c None)))
+
+abbrev pub inbox_at : Kept → (apartment : ℕ) → List ℕ
+inbox_at b a = filter (waits_at b a) b.tables.postings
+
+-- The apartment that is kept of a call is that of its target.
+pub record IsNamed (o : ObjectTables) (b : Kept) : Type 0 where
+  pub named : (c : ℕ) → named_at o (object_of (issue_at b.tables c)) ≡ from_one b.apartments c 0
+
+-- One call more, to an object of this apartment.
+abbrev pub with_call : Kept → (apartment : ℕ) → CallTables → Kept
+with_call b a t = record b { tables = t; apartments = b.apartments ++ a ∷ [] }

@@ -1,0 +1,479 @@
+//! The calls and their inboxes.
+
+ghost use Rattle.std.specs.Prelude.{◌≡◌, ◌+◌, ◌<◌, ◌≤◌, ◌^◌, ℕ, Bool, List, Option, [], length, Some, None, is_some, false, OnOk, OnErr, IfOk};
+ghost use Rattle.com_model.specs.declared.deeds.Deed.TheVariants as deed;
+ghost use Rattle.com_model.specs.Calls.{issues, leaves};
+ghost use Rattle.com_model.specs.Apartments.{ends_sta};
+ghost use Rattle.com_model.specs.Objects.{disconnects};
+ghost use Rattle.com_model.specs.Endings.{is_leave, cuts_object, cuts_sta};
+ghost use Rattle.com_state.specs.Parts.{ObjectTables, Moment, Issuing, calls_after, issue_at, admission_at};
+ghost use Rattle.std.specs.Option.{option_copied};
+ghost use Rattle.com_model.specs.Answers.{S_OK};
+ghost use Rattle.com_model.specs.declared.keeps.Phase.TheVariants.{Unposted};
+ghost use Rattle.com_calls.specs.Rows.{value_left};
+ghost use Rattle.com_calls.specs.After.{judged_at, retried_at, asked_at, cut_at, effect_of, cut_by, cut_one_at};
+ghost use Rattle.com_books.specs.Counting.{count_if};
+ghost use Rattle.com_model.specs.Lists.{first, from_one};
+ghost use Rattle.com_model.specs.Waiting.{is_queued, post_effect, retries};
+ghost use Rattle.com_calls.specs.Kept.{no_tables, with_tables, with_room, with_call, inbox_at, IsNamed};
+ghost use Rattle.com_calls.specs.Steps.{entered_at, ended_at, left_at, returned_at, phased_at, posted_at, taken_at, grown_at, out_entry, is_known, delay_of};
+
+use crate::rows;
+use crate::rows::{CallRow, Cut, Issued};
+use com_base::{HResult, Memory, Rows, Value};
+use com_filter::Verdict;
+use com_inbox::Inbox;
+use com_model::{Admission, Deed, Ending, Issue, Phase, Route};
+use std::alloc::Global;
+use std::marker::Model;
+
+/// The host's STA, the first number of an STA.
+const HOST_STA: u32 = 2;
+
+/// All calls by their numbers, from 1, and the inboxes of apartments, seen as the tables of calls, the apartment of each
+/// call's target, the number of calls with room and the number of apartments with an inbox.
+#[derive(Debug, Drop)]
+pub struct Calls {
+    rows: Vec<CallRow>,
+    // One queue of all calls that were posted, in the order of their last posting.
+    posted: Inbox,
+    // A queue for each apartment, of the posted calls that are neither judged, entered nor answered.
+    waiting: Inbox,
+    room: u32,
+    causes: u32,
+}
+
+impl Model for Calls {
+    ghost use Rattle.std.specs.Prelude.{vec_capacity};
+    ghost use Rattle.com_calls.specs.Kept.{Kept};
+    ghost use Rattle.com_calls.specs.Inside.{kept_of, IsKept};
+
+    ghost Value = { Kept };
+
+    ghost view = { λ s. kept_of s.rows.items s.posted s.waiting s.room s.causes };
+
+    ghost invariant = { λ s. IsKept s.rows.items s.posted s.waiting (vec_capacity s.rows) s.room s.causes };
+}
+
+impl Calls {
+    /// No calls and no inboxes.
+    pub fn new(alloc: Global) -> Result<Self, Memory>
+        ensures tables { IfOk result (λ calls. calls.tables ≡ no_tables) }
+        ensures apartments { IfOk result (λ calls. calls.apartments ≡ []) }
+    {
+        let posted = Inbox::new(alloc, 1)?;
+        let waiting = Inbox::new(alloc, 0)?;
+        Ok(Calls {
+            rows: Vec::new(alloc),
+            posted,
+            waiting,
+            room: 0,
+            causes: 0,
+        })
+    }
+
+    /// Makes room for one call more, to an object of this apartment. The only error is want of memory, and then nothing has
+    /// changed.
+    pub fn reserve(&mut self, apartment: u32) -> Result<(), Memory>
+        requires calls { length self.old.tables.issues + 1 < 2 ^ 32 }
+        requires apartment { apartment + 1 < 2 ^ 32 }
+        ensures kept { self.new ≡ with_room self.old self.new.room self.new.inboxes }
+        ensures room { OnOk result (length self.old.tables.issues < self.new.room) }
+        ensures inbox { OnOk result (apartment < self.new.inboxes) }
+        ensures err { OnErr result (self.new ≡ self.old) }
+    {
+        let room = room_for(self.room, self.rows.len() as u32);
+        self.rows.reserve(room as usize - self.rows.len())?;
+        self.posted.reserve(1, room)?;
+        self.waiting.reserve(apartment + 1, room)?;
+        self.room = room;
+        Ok(())
+    }
+
+    /// The call that waits first in the inbox of an apartment.
+    pub fn first_posted(&self, apartment: u32) -> Option<u32>
+        ensures { result ≡ first (inbox_at self.now apartment) }
+    {
+        self.waiting.first(apartment)
+    }
+
+    /// The Out entry of a call. `outermost` says that its lane runs no body, so that the call draws a causality; `clock` is in
+    /// milliseconds.
+    pub fn add(&mut self, issue: Issue, issued: Issued, outermost: bool, clock: u64)
+        requires number { issue.call ≡ length self.old.tables.issues + 1 }
+        requires room { length self.old.tables.issues < self.old.room }
+        requires inbox { issued.apartment < self.old.inboxes }
+        ensures { (o : ObjectTables) (filtered : Bool) (bytes : Option (List ℕ)) → self.new ≡ with_call self.old issued.apartment (calls_after o (record { outermost = outermost; filtered = filtered; clock = clock }) (record { refusal = issued.refusal; values = issued.values }) self.old.tables (out_entry issue bytes)) }
+    {
+        self.push(issue, issued, outermost, clock);
+        match issue.route {
+            Route::Post => self.post(issue.call),
+            Route::Refused => self.end(issue.call, Ending::AtIssue),
+            Route::Direct | Route::Switch => {}
+        }
+    }
+
+    /// The Leave entry of a call.
+    pub fn leave(&mut self, call: u32, hr: HResult, value: Option<Value>)
+        ensures { (o : ObjectTables) (m : Moment) (i : Issuing) (lane : ℕ) (bytes : Option (List ℕ)) → self.new ≡ with_tables self.old (calls_after o m i self.old.tables (record { lane = lane; deed = deed.Leave call hr value bytes })) }
+    {
+        self.leave_row(call, hr, value);
+    }
+
+    /// Every other entry of a lane. `filtered` says whether the caller's lane of the call that the entry names has a message
+    /// filter, and `clock` is in milliseconds.
+    pub fn apply(&mut self, lane: u32, deed: &Deed, filtered: bool, clock: u64)
+        requires no_out { issues lane deed.now ≡ None }
+        requires no_leave { leaves deed.now ≡ None }
+        requires known { is_known self.old.tables (post_effect deed.now) }
+        requires time { clock + delay_of deed.now < 2 ^ 64 }
+        ensures { (o : ObjectTables) (i : Issuing) (outermost : Bool) → IsNamed o self.old → self.new ≡ with_tables self.old (calls_after o (record { outermost = outermost; filtered = filtered; clock = clock }) i self.old.tables (record { lane = lane; deed = deed.now })) }
+    {
+        match deed {
+            Deed::Enter {
+                call,
+                apartment,
+                ..
+            } => self.enter(Admission {
+                call: *call,
+                lane,
+                apartment: *apartment,
+            }),
+            Deed::Verdict { call, verdict, .. } => self.judge(*call, *verdict, filtered),
+            Deed::Refuse { call, hr } => self.end(*call, Ending::AtAdmission(*hr)),
+            Deed::Retry { call, answer } => self.retry(*call, *answer, clock),
+            Deed::Again { call } => self.post(*call),
+            Deed::Back { call, .. } => self.give_back(*call),
+            Deed::Pending { call, answer, .. } => self.ask(*call, *answer),
+            Deed::Disconnect { object, hr } => self.disconnect(*object, *hr),
+            Deed::Uninit { home, count } => self.end_home(*home, *count),
+            _ => {}
+        }
+    }
+
+    /// A filter, or the want of one, judged a posted call.
+    fn judge(&mut self, call: u32, verdict: Verdict, filtered: bool)
+        ensures { self.new ≡ with_tables self.old (judged_at self.old.tables call verdict filtered) }
+    {
+        self.set_phase(call, Phase::Judged(verdict));
+        if filtered {
+            return;
+        }
+        self.end(call, Ending::ByVerdict(verdict));
+    }
+
+    /// A caller's filter said what to do after a verdict.
+    fn retry(&mut self, call: u32, answer: i64, clock: u64)
+        requires known { is_known self.old.tables (retries call answer) }
+        requires time { clock + delay_of (deed.Retry call answer) < 2 ^ 64 }
+        ensures { self.new ≡ with_tables self.old (retried_at self.old.tables call answer clock) }
+    {
+        if answer < 0 {
+            self.set_phase(call, Phase::GivenUp);
+            self.end(call, Ending::ByRetry);
+            return;
+        }
+        if answer < 100 {
+            self.post(call);
+            return;
+        }
+        self.set_phase(
+            call,
+            Phase::Delayed {
+                until: clock + answer as u64,
+            },
+        );
+    }
+
+    /// A waiting caller's filter was asked about a word: 0 cancels the call.
+    fn ask(&mut self, call: u32, answer: u8)
+        ensures { self.new ≡ with_tables self.old (asked_at self.old.tables call answer) }
+    {
+        if answer == 0 {
+            self.end(call, Ending::ByCancel);
+        }
+    }
+
+    /// An object was disconnected where the answer is S_OK.
+    fn disconnect(&mut self, object: Option<u32>, hr: HResult)
+        ensures { (o : ObjectTables) → IsNamed o self.old → self.new ≡ with_tables self.old (cut_at o self.old.tables (cuts_object (disconnects (deed.Disconnect object hr)))) }
+    {
+        if hr.0 != 0 {
+            return;
+        }
+        let Some(object) = object else {
+            return;
+        };
+        self.cut(Cut::Object(object));
+    }
+
+    /// An STA ended where its lane has no initialisation left.
+    fn end_home(&mut self, home: Option<u32>, count: u32)
+        ensures { (o : ObjectTables) → IsNamed o self.old → self.new ≡ with_tables self.old (cut_at o self.old.tables (cuts_sta (ends_sta (deed.Uninit home count)))) }
+    {
+        let Some(home) = home else {
+            return;
+        };
+        if count != 0 || home < HOST_STA {
+            return;
+        }
+        self.cut(Cut::Sta(home));
+    }
+
+    /// The calls that a disconnection reaches are answered.
+    fn cut(&mut self, cut: Cut)
+        ensures { (o : ObjectTables) → IsNamed o self.old → self.new ≡ with_tables self.old (cut_at o self.old.tables (effect_of cut)) }
+    {
+        let calls = self.len();
+        for place in 0..calls {
+            self.cut_one(place + 1, cut);
+        }
+    }
+
+    fn cut_one(&mut self, call: u32, cut: Cut)
+        requires { 1 ≤ call }
+        ensures { self.new ≡ with_tables self.old (cut_one_at self.old.tables call (cut_by self.old cut call)) }
+    {
+        if self.is_cut(call, cut) {
+            self.end(call, Ending::ByDisconnection);
+        }
+    }
+
+    fn is_cut(&self, call: u32, cut: Cut) -> bool
+        ensures { result ≡ cut_by self.now cut call }
+    {
+        match rows::row_of(&self.rows, call) {
+            None => false,
+            Some(row) => rows::is_reached(row, cut),
+        }
+    }
+
+    /// How many calls there are.
+    pub fn len(&self) -> u32
+        ensures calls { result ≡ length self.now.tables.issues }
+        ensures endings { result ≡ length self.now.tables.endings }
+        ensures unread { result ≡ length self.now.tables.unread }
+        ensures apartments { result ≡ length self.now.apartments }
+    {
+        let _room = self.room;
+        self.rows.len() as u32
+    }
+
+    /// What the Out entry of a call says. `None` exactly where there is no such call.
+    pub fn issue(&self, call: u32) -> Option<Issue>
+        ensures { result ≡ issue_at self.now.tables call }
+    {
+        match rows::row_of(&self.rows, call) {
+            None => None,
+            Some(row) => Some(row.issue),
+        }
+    }
+
+    /// The apartment of a call's target when the call was issued, and 0 where there is no such call.
+    pub fn apartment(&self, call: u32) -> u32
+        ensures { result ≡ from_one self.now.apartments call 0 }
+    {
+        match rows::row_of(&self.rows, call) {
+            None => 0,
+            Some(row) => row.apartment,
+        }
+    }
+
+    /// What the Enter entry of a call says. `None` exactly where it was not entered.
+    pub fn admission(&self, call: u32) -> Option<Admission>
+        ensures { result ≡ admission_at self.now.tables call }
+    {
+        match rows::row_of(&self.rows, call) {
+            None => None,
+            Some(row) => row.admission,
+        }
+    }
+
+    /// True exactly where the body of a call left.
+    pub fn has_left(&self, call: u32) -> bool
+        ensures { result ≡ is_some (from_one self.now.tables.leavings call None) }
+    {
+        match rows::row_of(&self.rows, call) {
+            None => false,
+            Some(row) => rows::has_left(row),
+        }
+    }
+
+    /// The value that the body of a call left with. `None` exactly where it did not leave, or left without one.
+    pub fn left_value(&self, call: u32) -> Option<&Value>
+        ensures { option_copied result ≡ value_left (from_one self.now.tables.leavings call None) }
+    {
+        match rows::row_of(&self.rows, call) {
+            None => None,
+            Some(row) => rows::left_value(row),
+        }
+    }
+
+    /// True exactly where a call came back to its caller.
+    pub fn is_returned(&self, call: u32) -> bool
+        ensures { result ≡ from_one self.now.tables.returned call false }
+    {
+        match rows::row_of(&self.rows, call) {
+            None => false,
+            Some(row) => row.returned,
+        }
+    }
+
+    /// What fixed the answer of a call. `None` exactly where none is fixed.
+    pub fn ending(&self, call: u32) -> Option<&Ending>
+        ensures { option_copied result ≡ from_one self.now.tables.endings call None }
+    {
+        match rows::row_of(&self.rows, call) {
+            None => None,
+            Some(row) => row.ending.as_ref(),
+        }
+    }
+
+    /// The refusal of a call at its issue, and S_OK where it was not refused.
+    pub fn refusal(&self, call: u32) -> HResult
+        ensures { result ≡ from_one self.now.tables.refusals call S_OK }
+    {
+        match rows::row_of(&self.rows, call) {
+            None => HResult::S_OK,
+            Some(row) => row.refusal,
+        }
+    }
+
+    /// The values that a call sends, until it is entered or answered; then none.
+    pub fn unread(&self, call: u32) -> &[Value]
+        ensures { result.now ≡ from_one self.now.tables.unread call [] }
+    {
+        match rows::row_of(&self.rows, call) {
+            None => &[],
+            Some(row) => rows::unread(row),
+        }
+    }
+
+    /// Where a posted call stands since its last posting.
+    pub fn phase(&self, call: u32) -> Phase
+        ensures { result ≡ from_one self.now.tables.phases call Unposted }
+    {
+        match rows::row_of(&self.rows, call) {
+            None => Phase::Unposted,
+            Some(row) => row.phase,
+        }
+    }
+
+    /// The clock at the Out entry of a call, in milliseconds, and 0 where there is no such call.
+    pub fn issued_at(&self, call: u32) -> u64
+        ensures { result ≡ from_one self.now.tables.times call 0 }
+    {
+        match rows::row_of(&self.rows, call) {
+            None => 0,
+            Some(row) => row.time,
+        }
+    }
+
+    /// How many causalities were drawn.
+    pub fn causes(&self) -> u32
+        ensures { result ≡ self.now.tables.causes }
+    {
+        self.causes
+    }
+
+    /// Takes the values that a call sends, for its Enter entry. It takes no memory, and the call keeps none of them.
+    pub fn take_values(&mut self, alloc: Global, call: u32) -> Rows<Value>
+        ensures values { result ≡ from_one self.old.tables.unread call [] }
+        ensures taken { self.new ≡ with_tables self.old (taken_at self.old.tables call) }
+    {
+        match rows::take(&mut self.rows, call) {
+            None => Rows::new(alloc),
+            Some(values) => values,
+        }
+    }
+
+    /// A body is entered.
+    fn enter(&mut self, admission: Admission)
+        ensures { self.new ≡ with_tables self.old (entered_at self.old.tables admission) }
+    {
+        rows::admit(&mut self.rows, admission.call, admission);
+        self.waiting.remove(admission.call);
+    }
+
+    /// An answer is fixed, unless one is fixed already.
+    fn end(&mut self, call: u32, ending: Ending)
+        requires { is_leave (Some ending) ≡ false }
+        ensures { self.new ≡ with_tables self.old (ended_at self.old.tables call ending) }
+    {
+        rows::end(&mut self.rows, call, ending);
+        self.waiting.remove(call);
+    }
+
+    /// A body leaves.
+    fn leave_row(&mut self, call: u32, hr: HResult, value: Option<Value>)
+        ensures { self.new ≡ with_tables self.old (left_at self.old.tables call hr value) }
+    {
+        rows::leave(&mut self.rows, call, hr, value);
+        self.waiting.remove(call);
+    }
+
+    /// A call comes back.
+    fn give_back(&mut self, call: u32)
+        ensures { self.new ≡ with_tables self.old (returned_at self.old.tables call) }
+    {
+        rows::give_back(&mut self.rows, call);
+    }
+
+    /// A call comes into a phase in which it is in no inbox.
+    fn set_phase(&mut self, call: u32, phase: Phase)
+        requires { is_queued phase ≡ false }
+        ensures { self.new ≡ with_tables self.old (phased_at self.old.tables call phase) }
+    {
+        rows::phase(&mut self.rows, call, phase);
+        self.waiting.remove(call);
+    }
+
+    /// A call is posted at the end of the inbox of its target's apartment.
+    fn post(&mut self, call: u32)
+        requires low { 1 ≤ call }
+        requires high { call ≤ length self.old.tables.issues }
+        ensures { self.new ≡ with_tables self.old (posted_at self.old.tables call) }
+    {
+        let row = &self.rows[call as usize - 1];
+        let apartment = row.apartment;
+        let open = rows::is_open(row);
+        rows::phase(&mut self.rows, call, Phase::Queued);
+        self.posted.remove(call);
+        self.posted.post(0, call);
+        self.waiting.remove(call);
+        if !open {
+            return;
+        }
+        self.waiting.post(apartment, call);
+    }
+
+    /// A call more, that is neither posted nor refused.
+    fn push(&mut self, issue: Issue, issued: Issued, outermost: bool, clock: u64)
+        requires room { length self.old.tables.issues < self.old.room }
+        requires inbox { issued.apartment < self.old.inboxes }
+        ensures { self.new ≡ with_call self.old issued.apartment (grown_at self.old.tables issue (record { refusal = issued.refusal; values = issued.values }) clock (count_if outermost)) }
+    {
+        self.rows.push_reserved(rows::new_row(issue, issued, clock));
+        self.causes = drawn(outermost) + self.causes;
+    }
+}
+
+/// How many causalities an Out draws.
+fn drawn(outermost: bool) -> u32
+    ensures { result ≡ count_if outermost }
+{
+    if outermost { 1 } else { 0 }
+}
+
+/// Room for one call more than there are: the same where there is such room, else twice as much.
+fn room_for(room: u32, calls: u32) -> u32
+    requires within { calls ≤ room }
+    requires fewer { calls + 1 < 2 ^ 32 }
+    ensures more { calls < result }
+    ensures grows { room ≤ result }
+{
+    if calls < room {
+        return room;
+    }
+    room.saturating_mul(2).max(16)
+}

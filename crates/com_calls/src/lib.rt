@@ -1,0 +1,13 @@
+//! Calls: what a core keeps of each call, the inboxes of apartments, and how an entry changes them.
+//!
+//! Source: Essential COM, chapter 5, on apartments and message filters; the documentation of IMessageFilter.
+#![tactic(auto)]
+
+mod calls;
+mod laws;
+mod rows;
+
+pub use calls::Calls;
+pub use com_base::Memory;
+pub use laws::{apartments_stay_named, no_calls_at_first, values_are_taken_first};
+pub use rows::{CallRow, Cut, Issued, Left};

@@ -1,0 +1,4 @@
+mod Streams
+mod Sendings
+mod Previewing
+mod Receivings

@@ -1,0 +1,4 @@
+pub mod Wires
+pub mod Sent
+pub mod Previews
+pub mod Received

@@ -1,0 +1,18 @@
+//! Values to bytes and back: the requests and replies of calls that are marshalled, and the values that travel in them.
+//! The tables of references stand elsewhere: the caller gives the fields of the packets that carry the references.
+#![tactic(auto)]
+
+pub mod laws;
+mod preview;
+mod receiving;
+mod sending;
+mod writing;
+
+pub use com_base::Memory;
+pub use preview::{Outgoing, packet_refs};
+pub use receiving::{Request, RequestError, read_request};
+pub use sending::{Connections, carried, sent_result, sent_value, sent_values};
+pub use writing::{reply, request};
+
+#[cfg(test)]
+mod tests;

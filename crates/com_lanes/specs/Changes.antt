@@ -1,0 +1,53 @@
+-- What a deed changes in single columns of the lanes, by the parts of the deed that a column looks at.
+use Rattle.std.specs.Prelude.{ℕ, zero, suc, ◌+◌, ◌≤◌, ◌<◌, ◌^◌, ◌≡◌, ℤ, pos, negsuc, Bool, true, false, List, [], ◌∷◌, length, Option, Some, None, slice_index_or, slice_set}
+use Rattle.com_base.specs.declared.hresult.HResult.{HResult}
+use Rattle.com_model.specs.declared.deeds.Deed.{Deed}
+use Rattle.com_model.specs.Answers.{is_S_OK}
+use Rattle.com_model.specs.Lists.{where_true}
+use Rattle.com_model.specs.Apartments.{makes_sta, ends_sta, with_last}
+use Rattle.com_model.specs.Waiting.{Mail, no_mail, mail_after, Brings}
+use Rattle.com_model.specs.State.{changed_at, made_change}
+use Rattle.com_lanes.specs.Apartments.{StaTables}
+use Rattle.com_state.specs.Parts.{LaneTables, served_at}
+
+-- A natural number, where it is one.
+abbrev pub natural : ℤ → Option ℕ
+natural (pos n) = Some n
+natural (negsuc n) = None
+
+-- The words after a Post to a lane.
+abbrev pub posted_to : ℤ → (word : ℤ) → HResult → List Mail → List Mail
+posted_to (pos m) w hr t = changed_at (where_true (is_S_OK hr) (mail_after (Brings w))) m no_mail t
+posted_to (negsuc m) w hr t = t
+
+-- The quits after a Quit to a lane.
+abbrev pub quit_to : ℤ → HResult → List Bool → List Bool
+quit_to (pos m) hr t = changed_at (where_true (is_S_OK hr) (λ b. true)) m false t
+quit_to (negsuc m) hr t = t
+
+-- The number, if there is one, is this one.
+abbrev pub IsNumber : ℕ → Option ℕ → Type 0
+IsNumber n None = Unit {0}
+IsNumber n (Some m) = m ≡ n
+
+-- The number, if there is one, is below this one.
+abbrev pub IsBelow : ℕ → Option ℕ → Type 0
+IsBelow n None = Unit {0}
+IsBelow n (Some m) = m < n
+
+-- The STA that a deed makes is the next one, and the one that it ends is among those that were made, or the host's. It is so with
+-- each deed that the rules give.
+pub record NamesStas (t : LaneTables) (d : Deed) : Type 0 where
+  pub next : IsNumber (length t.stas + 3) (makes_sta d)
+  pub made : IsBelow (length t.stas + 3) (ends_sta d)
+
+-- One more entry can be counted in each lane.
+pub record HasRoom (t : LaneTables) : Type 0 where
+  pub served : (l : ℕ) → served_at t l + 1 < 2 ^ 64
+  pub counts : (l : ℕ) → slice_index_or t.counts l 0 + 1 < 2 ^ 32
+  pub posted : (l : ℕ) → (slice_index_or t.mail l no_mail).posted + 1 < 2 ^ 64
+  pub stas : length t.stas + 4 ≤ 2 ^ 32
+
+-- The apartments after a lane makes one, if it does.
+abbrev pub stas_made : StaTables → (lane : ℕ) → Option ℕ → StaTables
+stas_made t l o = record { made = changed_at (made_change o) l [] t.made; stas = with_last t.stas o; ended = t.ended }

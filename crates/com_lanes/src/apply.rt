@@ -1,0 +1,236 @@
+//! What an entry changes in the lanes.
+ghost use Rattle.std.specs.Prelude.{◌≡◌, ℕ, ◌+◌, ◌<◌, ◌≤◌, ◌^◌, [], ◌∷◌, false, true, not, if◌then◌else◌, length, OnOk, OnErr, None, Some, slice_index_or, slice_set};
+ghost use Rattle.com_model.specs.Answers.{is_S_OK};
+ghost use Rattle.com_model.specs.Apartments.{Initialises, Uninitialises, home_after, count_after, makes_sta, ends_sta, with_last};
+ghost use Rattle.com_model.specs.Clock.{Names, Keeps, filter_effect};
+ghost use Rattle.com_model.specs.Lists.{where_true, without_first};
+ghost use Rattle.com_model.specs.Openers.{Closes, Leaves, left_on};
+ghost use Rattle.com_model.specs.State.{changed_at, filters_change, made_change, mail_change, mail_lane, quit_change, quit_lane};
+ghost use Rattle.com_model.specs.Waiting.{no_mail, mail_after, bound_reached, Takes, Asks, Forgets};
+ghost use Rattle.com_state.specs.Parts.{openers_at, served_at, lanes_after};
+ghost use Rattle.com_lanes.specs.Changes.{IsNumber, IsBelow, NamesStas, HasRoom};
+
+use crate::columns::{
+    ask_at, bring_at, count_left, count_success, drop_filter, end_quit, end_sta, forget_at, home_left, make_sta, name_filter,
+    pop_opener, push_opener, put, quit_at, take_at,
+};
+use crate::lanes::Lanes;
+use com_base::{HResult, Memory, Mode};
+use com_model::{Deed, Opener};
+
+impl Lanes {
+    /// Makes of the lanes what an entry of a lane makes of them. The only error is want of memory, and then nothing has changed.
+    ///
+    /// An entry that makes a single-threaded apartment names the next one, and one that ends one names one that was made.
+    pub fn apply(&mut self, lane: u32, deed: &Deed) -> Result<(), Memory>
+        requires stas { NamesStas self.old deed.now }
+        requires room { HasRoom self.old }
+        ensures ok { OnOk result (self.new ≡ lanes_after self.old (record { lane = lane; deed = deed.now })) }
+        ensures err { OnErr result (self.new ≡ self.old) }
+    {
+        match deed {
+            Deed::Pump { bound } => self.pump(lane, *bound),
+            Deed::Out { call, .. } => self.open(lane, Opener::Waits { call: *call }),
+            Deed::Enter { call, object, apartment, .. } => self.enter(lane, *call, *object, *apartment),
+            Deed::EndPump => self.end_pump(lane),
+            Deed::Back { call, .. } => self.back(lane, *call),
+            Deed::Leave { call, .. } => self.leave(lane, *call),
+            Deed::Init { mode, home, hr } => self.initialise(lane, *mode, *home, *hr),
+            Deed::Uninit { home, count } => self.uninitialise(lane, *home, *count),
+            Deed::SetFilter { filter, hr } => self.set_filter(lane, *filter, *hr),
+            Deed::Post { lane: to, word, hr } => self.post(lane, *to, *word, *hr),
+            Deed::Word { .. } => self.take_word(lane),
+            Deed::Pending { call, answer, .. } => self.ask(lane, *call, *answer),
+            Deed::Quit { lane: to, hr } => self.quit(lane, *to, *hr),
+            Deed::End => self.finish(lane),
+            _ => Ok(()),
+        }
+    }
+
+    /// Opens a call that is waited for, or a body.
+    fn open(&mut self, lane: u32, opener: Opener) -> Result<(), Memory>
+        ensures ok { OnOk result (self.new ≡ record self.old {
+            openers = slice_set self.old.openers lane (opener ∷ openers_at self.old lane);
+        }) }
+        ensures err { OnErr result (self.new ≡ self.old) }
+    {
+        push_opener(&mut self.openers, lane, opener)
+    }
+
+    /// Opens a body.
+    fn enter(&mut self, lane: u32, call: u32, object: u32, apartment: u32) -> Result<(), Memory>
+        ensures ok { OnOk result (self.new ≡ record self.old {
+            openers = slice_set self.old.openers lane (Opener.Enters call object apartment ∷ openers_at self.old lane);
+        }) }
+        ensures err { OnErr result (self.new ≡ self.old) }
+    {
+        let opener = Opener::Enters {
+            call,
+            object,
+            apartment,
+        };
+        push_opener(&mut self.openers, lane, opener)
+    }
+
+    /// Opens a pump.
+    fn pump(&mut self, lane: u32, bound: u32) -> Result<(), Memory>
+        ensures ok { OnOk result (self.new ≡ record self.old {
+            openers = slice_set self.old.openers lane (Opener.Pumps bound ∷ openers_at self.old lane);
+            served = slice_set self.old.served lane 0;
+        }) }
+        ensures err { OnErr result (self.new ≡ self.old) }
+    {
+        push_opener(&mut self.openers, lane, Opener::Pumps { bound })?;
+        put(&mut self.served, lane, 0);
+        Ok(())
+    }
+
+    /// Closes a pump, by the quit that stands where its bound is not reached.
+    fn end_pump(&mut self, lane: u32) -> Result<(), Memory>
+        ensures ok { OnOk result (self.new ≡ record self.old {
+            openers = slice_set self.old.openers lane (without_first (openers_at self.old lane));
+            quits = changed_at (where_true (not (bound_reached (openers_at self.old lane) (served_at self.old lane))) (λ b. false))
+                lane false self.old.quits;
+        }) }
+        ensures err { OnErr result (self.new ≡ self.old) }
+    {
+        let by_quit = !self.bound_is_reached(lane);
+        pop_opener(&mut self.openers, lane);
+        end_quit(&mut self.quits, lane, by_quit);
+        Ok(())
+    }
+
+    /// Closes the wait for a call, and forgets what the call was asked.
+    fn back(&mut self, lane: u32, call: u32) -> Result<(), Memory>
+        ensures ok { OnOk result (self.new ≡ record self.old {
+            openers = slice_set self.old.openers lane (without_first (openers_at self.old lane));
+            mail = slice_set self.old.mail lane (mail_after (Forgets call) (slice_index_or self.old.mail lane no_mail));
+        }) }
+        ensures err { OnErr result (self.new ≡ self.old) }
+    {
+        pop_opener(&mut self.openers, lane);
+        forget_at(&mut self.mail, lane, call);
+        Ok(())
+    }
+
+    /// Closes a body.
+    #[tactic(auto, using(crate::proofs::Rows::popped_row))]
+    fn leave(&mut self, lane: u32, call: u32) -> Result<(), Memory>
+        requires { HasRoom self.old }
+        ensures ok { OnOk result (self.new ≡ record self.old {
+            openers = slice_set self.old.openers lane (without_first (openers_at self.old lane));
+            served = slice_set self.old.served lane
+                (left_on (Closes (Leaves call)) (without_first (openers_at self.old lane)) (served_at self.old lane));
+        }) }
+        ensures err { OnErr result (self.new ≡ self.old) }
+    {
+        pop_opener(&mut self.openers, lane);
+        count_left(&mut self.served, &self.openers, lane, call);
+        Ok(())
+    }
+
+    /// A lane is initialised, or refused.
+    fn initialise(&mut self, lane: u32, mode: Mode, home: u32, hr: HResult) -> Result<(), Memory>
+        requires next { IsNumber (length self.old.stas + 3) (makes_sta (Deed.Init mode home hr)) }
+        requires room { HasRoom self.old }
+        ensures ok { OnOk result (self.new ≡ record self.old {
+            homes = slice_set self.old.homes lane (Some home);
+            counts = slice_set self.old.counts lane (count_after (Initialises home hr) (slice_index_or self.old.counts lane 0));
+            filters = changed_at (filters_change (if is_S_OK hr then Names None else Keeps)) lane None self.old.filters;
+            made = changed_at (made_change (makes_sta (Deed.Init mode home hr))) lane [] self.old.made;
+            stas = with_last self.old.stas (makes_sta (Deed.Init mode home hr));
+        }) }
+        ensures err { OnErr result (self.new ≡ self.old) }
+    {
+        make_sta(&mut self.stas, lane, mode, home, hr)?;
+        put(&mut self.homes, lane, Some(home));
+        count_success(&mut self.counts, lane, home, hr);
+        name_filter(&mut self.filters, lane, None, hr);
+        Ok(())
+    }
+
+    /// A lane is uninitialised.
+    fn uninitialise(&mut self, lane: u32, home: Option<u32>, count: u32) -> Result<(), Memory>
+        requires { IsBelow (length self.old.stas + 3) (ends_sta (Deed.Uninit home count)) }
+        ensures ok { OnOk result (self.new ≡ record self.old {
+            homes = slice_set self.old.homes lane (home_after (Uninitialises home count) (slice_index_or self.old.homes lane None));
+            counts = slice_set self.old.counts lane count;
+            filters = changed_at (filters_change (filter_effect (Deed.Uninit home count))) lane None self.old.filters;
+            ended = with_last self.old.ended (ends_sta (Deed.Uninit home count));
+        }) }
+        ensures err { OnErr result (self.new ≡ self.old) }
+    {
+        end_sta(&mut self.stas, home, count)?;
+        put(&mut self.homes, lane, home_left(home, count));
+        put(&mut self.counts, lane, count);
+        drop_filter(&mut self.filters, lane, home, count);
+        Ok(())
+    }
+
+    /// A lane names its filter.
+    fn set_filter(&mut self, lane: u32, filter: Option<u32>, hr: HResult) -> Result<(), Memory>
+        ensures ok { OnOk result (self.new ≡ record self.old {
+            filters = changed_at (filters_change (if is_S_OK hr then Names filter else Keeps)) lane None self.old.filters;
+        }) }
+        ensures err { OnErr result (self.new ≡ self.old) }
+    {
+        name_filter(&mut self.filters, lane, filter, hr);
+        Ok(())
+    }
+
+    /// A lane posts a word.
+    #[tactic(auto, using(crate::proofs::Rows::posted_seen))]
+    fn post(&mut self, lane: u32, to: i64, word: i64, hr: HResult) -> Result<(), Memory>
+        requires { HasRoom self.old }
+        ensures ok { OnOk result (self.new ≡ record self.old {
+            mail = changed_at (mail_change (Deed.Post to word hr)) (mail_lane lane (Deed.Post to word hr)) no_mail self.old.mail;
+        }) }
+        ensures err { OnErr result (self.new ≡ self.old) }
+    {
+        bring_at(&mut self.mail, to, word, hr)
+    }
+
+    /// A lane takes its first word.
+    fn take_word(&mut self, lane: u32) -> Result<(), Memory>
+        ensures ok { OnOk result (self.new ≡ record self.old {
+            mail = slice_set self.old.mail lane (mail_after Takes (slice_index_or self.old.mail lane no_mail));
+        }) }
+        ensures err { OnErr result (self.new ≡ self.old) }
+    {
+        take_at(&mut self.mail, lane);
+        Ok(())
+    }
+
+    /// A lane's filter is asked about a word.
+    fn ask(&mut self, lane: u32, call: u32, answer: u8) -> Result<(), Memory>
+        ensures ok { OnOk result (self.new ≡ record self.old {
+            mail = slice_set self.old.mail lane (mail_after (Asks call answer) (slice_index_or self.old.mail lane no_mail));
+        }) }
+        ensures err { OnErr result (self.new ≡ self.old) }
+    {
+        ask_at(&mut self.mail, lane, call, answer)
+    }
+
+    /// A lane asks a pump to end.
+    #[tactic(auto, using(crate::proofs::Rows::quit_seen))]
+    fn quit(&mut self, lane: u32, to: i64, hr: HResult) -> Result<(), Memory>
+        ensures ok { OnOk result (self.new ≡ record self.old {
+            quits = changed_at
+                (quit_change (not (bound_reached (openers_at self.old lane) (served_at self.old lane))) (Deed.Quit to hr))
+                (quit_lane lane (Deed.Quit to hr)) false self.old.quits;
+        }) }
+        ensures err { OnErr result (self.new ≡ self.old) }
+    {
+        quit_at(&mut self.quits, to, hr);
+        Ok(())
+    }
+
+    /// A lane ends.
+    fn finish(&mut self, lane: u32) -> Result<(), Memory>
+        ensures ok { OnOk result (self.new ≡ record self.old { over = slice_set self.old.over lane true }) }
+        ensures err { OnErr result (self.new ≡ self.old) }
+    {
+        put(&mut self.over, lane, true);
+        Ok(())
+    }
+}

@@ -1,0 +1,257 @@
+//! One row of a table that has a row for each lane. A lane that has no row changes nothing.
+ghost use Rattle.std.specs.Prelude.{◌≡◌, ℕ, ◌+◌, ◌<◌, ◌≤◌, ◌^◌, length, ◌∷◌, [], false, true, if◌then◌else◌, Option, OnOk, OnErr, slice_index_or, slice_set};
+ghost use Rattle.com_model.specs.Answers.{is_S_OK};
+ghost use Rattle.com_model.specs.Apartments.{Initialises, Uninitialises, home_after, count_after, makes_sta, ends_sta, with_last};
+ghost use Rattle.com_model.specs.Clock.{Names, Keeps, filter_effect};
+ghost use Rattle.com_model.specs.Lists.{where_true, without_first};
+ghost use Rattle.com_model.specs.Openers.{Closes, Leaves, left_on};
+ghost use Rattle.com_model.specs.State.{changed_at, filters_change};
+ghost use Rattle.com_model.specs.Waiting.{no_mail, mail_after, Takes, Asks, Forgets};
+ghost use Rattle.com_lanes.specs.Bodies.{is_one_pump};
+ghost use Rattle.com_lanes.specs.Changes.{IsBelow, IsNumber, natural, posted_to, quit_to, stas_made};
+
+use crate::mail::Mail;
+use crate::openers::Openers;
+use crate::stas::{HOST_STA, Stas};
+use com_base::{HResult, Memory, Mode};
+use com_model::{Deed, Opener};
+
+/// Puts a value in a row.
+pub(crate) fn put<T: Copy>(column: &mut Vec<T>, lane: u32, value: T)
+    ensures { column.new.items ≡ slice_set column.old.items lane value }
+{
+    if let Some(row) = column.get_mut(lane as usize) {
+        *row = value;
+    }
+}
+
+/// Opens one more in a lane. The only error is want of memory, and then nothing has changed.
+pub(crate) fn push_opener(column: &mut Vec<Openers>, lane: u32, opener: Opener) -> Result<(), Memory>
+    ensures ok { OnOk result (column.new.items
+        ≡ slice_set column.old.items lane (opener ∷ slice_index_or column.old.items lane [])) }
+    ensures err { OnErr result (column.new.items ≡ column.old.items) }
+{
+    match column.get_mut(lane as usize) {
+        Some(openers) => openers.push(opener),
+        None => Ok(()),
+    }
+}
+
+/// Closes the innermost of a lane.
+pub(crate) fn pop_opener(column: &mut Vec<Openers>, lane: u32)
+    ensures { column.new.items
+        ≡ slice_set column.old.items lane (without_first (slice_index_or column.old.items lane [])) }
+{
+    if let Some(openers) = column.get_mut(lane as usize) {
+        openers.pop();
+    }
+}
+
+#[tactic(auto, using(crate::proofs::Rows::set_own, crate::proofs::Rows::left_one, crate::proofs::Rows::left_other))]
+/// A body has left a lane in which these are open, which counts where a pump alone is.
+pub(crate) fn count_left(column: &mut Vec<u64>, openers: &Vec<Openers>, lane: u32, call: u32)
+    requires { slice_index_or column.old.items lane 0 + 1 < 2 ^ 64 }
+    ensures { column.new.items ≡ slice_set column.old.items lane
+        (left_on (Closes (Leaves call)) (slice_index_or openers.now.items lane []) (slice_index_or column.old.items lane 0)) }
+{
+    if !one_pump_at(openers, lane) {
+        return;
+    }
+    if let Some(left) = column.get_mut(lane as usize) {
+        *left += 1;
+    }
+}
+
+/// Whether a pump alone is open in a lane.
+fn one_pump_at(openers: &Vec<Openers>, lane: u32) -> bool
+    ensures { result ≡ is_one_pump (slice_index_or openers.now.items lane []) }
+{
+    match openers.get(lane as usize) {
+        Some(openers) => openers.is_one_pump(),
+        None => false,
+    }
+}
+
+/// A lane is initialised, with this answer.
+#[tactic(auto, using(crate::proofs::Rows::set_own))]
+pub(crate) fn count_success(column: &mut Vec<u32>, lane: u32, home: u32, hr: HResult)
+    requires { slice_index_or column.old.items lane 0 + 1 < 2 ^ 32 }
+    ensures { column.new.items ≡ slice_set column.old.items lane
+        (count_after (Initialises home hr) (slice_index_or column.old.items lane 0)) }
+{
+    if hr.is_failure() {
+        return;
+    }
+    if let Some(count) = column.get_mut(lane as usize) {
+        *count += 1;
+    }
+}
+
+/// The home that a lane has after it is uninitialised, with its home before and the count after.
+pub(crate) fn home_left(home: Option<u32>, count: u32) -> Option<u32>
+    ensures { (before : Option ℕ) → result ≡ home_after (Uninitialises home count) before }
+{
+    match count {
+        0 => None,
+        _ => home,
+    }
+}
+
+/// Whether an HRESULT is S_OK.
+fn is_s_ok(hr: HResult) -> bool
+    ensures { result ≡ is_S_OK hr }
+{
+    hr.0 == 0
+}
+
+/// Names a lane's filter, or none, where the answer is S_OK.
+pub(crate) fn name_filter(column: &mut Vec<Option<u32>>, lane: u32, filter: Option<u32>, hr: HResult)
+    ensures { column.new.items
+        ≡ changed_at (filters_change (if is_S_OK hr then Names filter else Keeps)) lane None column.old.items }
+{
+    if is_s_ok(hr) {
+        put(column, lane, filter);
+    }
+}
+
+/// Ends a lane's filter where this is left of its initialisations.
+pub(crate) fn drop_filter(column: &mut Vec<Option<u32>>, lane: u32, home: Option<u32>, count: u32)
+    ensures { column.new.items
+        ≡ changed_at (filters_change (filter_effect (Deed.Uninit home count))) lane None column.old.items }
+{
+    match count {
+        0 => put(column, lane, None),
+        _ => {}
+    }
+}
+
+/// A whole number, where it is not below 0.
+fn natural(number: i64) -> Option<u64>
+    ensures { result ≡ natural number }
+{
+    if number < 0 {
+        None
+    } else {
+        Some(number as u64)
+    }
+}
+
+/// Brings a word to the lane that a Post names, where the answer is S_OK. The only error is want of memory, and then nothing
+/// has changed.
+#[tactic(auto, using(crate::proofs::Rows::posted_none, crate::proofs::Rows::posted_some, crate::proofs::Rows::posted_not, crate::proofs::Rows::set_past))]
+pub(crate) fn bring_at(column: &mut Vec<Mail>, to: i64, word: i64, hr: HResult) -> Result<(), Memory>
+    requires { (l : ℕ) → (slice_index_or column.old.items l no_mail).posted + 1 < 2 ^ 64 }
+    ensures ok { OnOk result (column.new.items ≡ posted_to to word hr column.old.items) }
+    ensures err { OnErr result (column.new.items ≡ column.old.items) }
+{
+    if !is_s_ok(hr) {
+        return Ok(());
+    }
+    let Some(lane) = natural(to) else {
+        return Ok(());
+    };
+    match column.get_mut(lane as usize) {
+        Some(mail) => mail.bring(word),
+        None => Ok(()),
+    }
+}
+
+/// Takes the first word of a lane.
+pub(crate) fn take_at(column: &mut Vec<Mail>, lane: u32)
+    ensures { column.new.items
+        ≡ slice_set column.old.items lane (mail_after Takes (slice_index_or column.old.items lane no_mail)) }
+{
+    if let Some(mail) = column.get_mut(lane as usize) {
+        mail.take();
+    }
+}
+
+/// Asks a call of a lane about the next word. The only error is want of memory, and then nothing has changed.
+pub(crate) fn ask_at(column: &mut Vec<Mail>, lane: u32, call: u32, answer: u8) -> Result<(), Memory>
+    ensures ok { OnOk result (column.new.items
+        ≡ slice_set column.old.items lane (mail_after (Asks call answer) (slice_index_or column.old.items lane no_mail))) }
+    ensures err { OnErr result (column.new.items ≡ column.old.items) }
+{
+    match column.get_mut(lane as usize) {
+        Some(mail) => mail.ask(call, answer),
+        None => Ok(()),
+    }
+}
+
+/// A call of a lane came back.
+pub(crate) fn forget_at(column: &mut Vec<Mail>, lane: u32, call: u32)
+    ensures { column.new.items
+        ≡ slice_set column.old.items lane (mail_after (Forgets call) (slice_index_or column.old.items lane no_mail)) }
+{
+    if let Some(mail) = column.get_mut(lane as usize) {
+        mail.forget(call);
+    }
+}
+
+/// A quit stands for the lane that a Quit names, where the answer is S_OK.
+#[tactic(auto, using(crate::proofs::Rows::quit_none, crate::proofs::Rows::quit_some, crate::proofs::Rows::quit_not, crate::proofs::Rows::set_past))]
+pub(crate) fn quit_at(column: &mut Vec<bool>, to: i64, hr: HResult)
+    ensures { column.new.items ≡ quit_to to hr column.old.items }
+{
+    if !is_s_ok(hr) {
+        return;
+    }
+    let Some(lane) = natural(to) else {
+        return;
+    };
+    if let Some(quit) = column.get_mut(lane as usize) {
+        *quit = true;
+    }
+}
+
+/// A pump of a lane ends by its quit, if it does.
+pub(crate) fn end_quit(column: &mut Vec<bool>, lane: u32, by_quit: bool)
+    ensures { column.new.items ≡ changed_at (where_true by_quit (λ b. false)) lane false column.old.items }
+{
+    if by_quit {
+        put(column, lane, false);
+    }
+}
+
+/// A lane that is initialised makes an apartment where it asks for one of its own and the answer is S_OK. The only error is want
+/// of memory, and then nothing has changed.
+pub(crate) fn make_sta(stas: &mut Stas, lane: u32, mode: Mode, home: u32, hr: HResult) -> Result<(), Memory>
+    requires next { IsNumber (length stas.old.stas + 3) (makes_sta (Deed.Init mode home hr)) }
+    requires room { length stas.old.stas + 4 ≤ 2 ^ 32 }
+    ensures ok { OnOk result (stas.new ≡ stas_made stas.old lane (makes_sta (Deed.Init mode home hr))) }
+    ensures err { OnErr result (stas.new ≡ stas.old) }
+{
+    match mode {
+        Mode::Mta => Ok(()),
+        Mode::Sta => {
+            if is_s_ok(hr) {
+                stas.make(lane)
+            } else {
+                Ok(())
+            }
+        }
+    }
+}
+
+/// The apartment of a lane ends where this is left of the lane's initialisations. The only error is want of memory, and then
+/// nothing has changed.
+pub(crate) fn end_sta(stas: &mut Stas, home: Option<u32>, count: u32) -> Result<(), Memory>
+    requires { IsBelow (length stas.old.stas + 3) (ends_sta (Deed.Uninit home count)) }
+    ensures ok { OnOk result (stas.new
+        ≡ record stas.old { ended = with_last stas.old.ended (ends_sta (Deed.Uninit home count)) }) }
+    ensures err { OnErr result (stas.new ≡ stas.old) }
+{
+    let Some(apartment) = home else {
+        return Ok(());
+    };
+    match count {
+        0 => {
+            if apartment >= HOST_STA {
+                stas.end(apartment)
+            } else {
+                Ok(())
+            }
+        }
+        _ => Ok(()),
+    }
+}

@@ -1,0 +1,290 @@
+//! The lanes of a core and what is read of them.
+ghost use Rattle.std.specs.Prelude.{◌≡◌, ℕ, ◌+◌, ◌<◌, ◌≤◌, ◌^◌, [], false, not, filter, length, reverse, IfOk, None, slice_get, slice_index_or};
+ghost use Rattle.com_model.specs.Apartments.{or_host};
+ghost use Rattle.com_model.specs.Lists.{first, is_member, tabulated};
+ghost use Rattle.com_model.specs.Openers.{running_call, running_object, entered_apartment, open_calls};
+ghost use Rattle.com_model.specs.Waiting.{no_mail, mark_of, not_asked, bound_reached};
+ghost use Rattle.com_state.specs.Parts.{openers_at, served_at};
+ghost use Rattle.com_lanes.specs.First.{first_lanes};
+
+use crate::mail::Mail;
+use crate::openers::Openers;
+use crate::stas::Stas;
+use com_base::Memory;
+use com_model::{Opener, Word};
+use std::alloc::Global;
+use std::marker::Model;
+
+/// What a core keeps of each lane, by the lane's number from 0, and of the single-threaded apartments that threads made. Lane 0
+/// is the clock's.
+#[derive(Debug, Drop)]
+pub struct Lanes {
+    pub(crate) openers: Vec<Openers>,
+    pub(crate) served: Vec<u64>,
+    pub(crate) homes: Vec<Option<u32>>,
+    pub(crate) counts: Vec<u32>,
+    pub(crate) over: Vec<bool>,
+    pub(crate) filters: Vec<Option<u32>>,
+    pub(crate) mail: Vec<Mail>,
+    pub(crate) quits: Vec<bool>,
+    pub(crate) stas: Stas,
+}
+
+impl Model for Lanes {
+    ghost use Rattle.com_state.specs.Parts.{LaneTables};
+
+    ghost Value = { LaneTables };
+
+    ghost view = { λ a. record {
+      openers = a.openers.items;
+      served = a.served.items;
+      homes = a.homes.items;
+      counts = a.counts.items;
+      made = a.stas.made;
+      over = a.over.items;
+      filters = a.filters.items;
+      mail = a.mail.items;
+      quits = a.quits.items;
+      stas = a.stas.stas;
+      ended = a.stas.ended;
+    } };
+}
+
+impl Lanes {
+    /// The lanes before the first entry: nothing is open, and no lane has a home. The only error is want of memory.
+    pub fn new(alloc: Global, lanes: u32) -> Result<Lanes, Memory>
+        ensures { IfOk result (λ new. new ≡ first_lanes lanes) }
+    {
+        let rows = lanes as usize + 1;
+        Ok(Lanes {
+            openers: no_openers(alloc, rows)?,
+            served: filled(alloc, rows, 0)?,
+            homes: filled(alloc, rows, None)?,
+            counts: filled(alloc, rows, 0)?,
+            over: filled(alloc, rows, false)?,
+            filters: filled(alloc, rows, None)?,
+            mail: no_mails(alloc, rows)?,
+            quits: filled(alloc, rows, false)?,
+            stas: Stas::new(alloc, lanes)?,
+        })
+    }
+
+    /// The innermost opener of a lane.
+    pub fn top(&self, lane: u32) -> Option<Opener>
+        ensures { result ≡ first (openers_at self.now lane) }
+    {
+        match self.openers.get(lane as usize) {
+            Some(openers) => openers.top(),
+            None => None,
+        }
+    }
+
+    /// How many openers a lane has.
+    pub fn depth(&self, lane: u32) -> usize
+        ensures { result ≡ length (openers_at self.now lane) }
+    {
+        match self.openers.get(lane as usize) {
+            Some(openers) => openers.len(),
+            None => 0,
+        }
+    }
+
+    /// The opener of a lane at a place, counted from the outermost.
+    pub fn at(&self, lane: u32, place: u32) -> Option<Opener>
+        ensures { result ≡ slice_get (reverse (openers_at self.now lane)) place }
+    {
+        match self.openers.get(lane as usize) {
+            Some(openers) => openers.at(place),
+            None => None,
+        }
+    }
+
+    /// The object of the innermost body of a lane.
+    pub fn running(&self, lane: u32) -> Option<u32>
+        ensures { result ≡ running_object (openers_at self.now lane) }
+    {
+        match self.openers.get(lane as usize) {
+            Some(openers) => openers.running_object(),
+            None => None,
+        }
+    }
+
+    /// The call of the innermost body of a lane.
+    pub fn running_call(&self, lane: u32) -> Option<u32>
+        ensures { result ≡ running_call (openers_at self.now lane) }
+    {
+        match self.openers.get(lane as usize) {
+            Some(openers) => openers.running_call(),
+            None => None,
+        }
+    }
+
+    /// The apartment that the innermost body of a lane was entered in.
+    pub fn running_apartment(&self, lane: u32) -> Option<u32>
+        ensures { result ≡ entered_apartment (openers_at self.now lane) }
+    {
+        match self.openers.get(lane as usize) {
+            Some(openers) => openers.entered_apartment(),
+            None => None,
+        }
+    }
+
+    /// The calls that a lane waits for, the outermost first.
+    pub fn open_calls(&self, lane: u32) -> &[u32]
+        ensures { result.now ≡ reverse (open_calls (openers_at self.now lane)) }
+    {
+        match self.openers.get(lane as usize) {
+            Some(openers) => openers.open_calls(),
+            None => &[],
+        }
+    }
+
+    /// How many bodies have left that the pump of a lane admitted.
+    pub fn served(&self, lane: u32) -> u64
+        ensures { result ≡ served_at self.now lane }
+    {
+        match self.served.get(lane as usize) {
+            Some(served) => *served,
+            None => 0,
+        }
+    }
+
+    /// Whether the pump of a lane has a bound and has reached it.
+    #[tactic(auto, using(crate::proofs::Bounds::bound_of_first))]
+    pub fn bound_is_reached(&self, lane: u32) -> bool
+        ensures { result ≡ bound_reached (openers_at self.now lane) (served_at self.now lane) }
+    {
+        match self.top(lane) {
+            Some(Opener::Pumps { bound: 0 }) => false,
+            Some(Opener::Pumps { bound }) => bound as u64 <= self.served(lane),
+            _ => false,
+        }
+    }
+
+    /// The home of a lane that was initialised.
+    pub fn home(&self, lane: u32) -> Option<u32>
+        ensures { result ≡ slice_index_or self.now.homes lane None }
+    {
+        match self.homes.get(lane as usize) {
+            Some(home) => *home,
+            None => None,
+        }
+    }
+
+    /// How many of a lane's initialisations are open.
+    pub fn count(&self, lane: u32) -> u32
+        ensures { result ≡ slice_index_or self.now.counts lane 0 }
+    {
+        match self.counts.get(lane as usize) {
+            Some(count) => *count,
+            None => 0,
+        }
+    }
+
+    /// Whether a lane has ended.
+    pub fn is_over(&self, lane: u32) -> bool
+        ensures { result ≡ slice_index_or self.now.over lane false }
+    {
+        match self.over.get(lane as usize) {
+            Some(over) => *over,
+            None => false,
+        }
+    }
+
+    /// The message filter that a lane named last.
+    pub fn filter(&self, lane: u32) -> Option<u32>
+        ensures { result ≡ slice_index_or self.now.filters lane None }
+    {
+        match self.filters.get(lane as usize) {
+            Some(filter) => *filter,
+            None => None,
+        }
+    }
+
+    /// Whether a quit stands for a lane.
+    pub fn quit_stands(&self, lane: u32) -> bool
+        ensures { result ≡ slice_index_or self.now.quits lane false }
+    {
+        match self.quits.get(lane as usize) {
+            Some(quit) => *quit,
+            None => false,
+        }
+    }
+
+    /// The first word of a lane.
+    pub fn first_word(&self, lane: u32) -> Option<Word>
+        ensures { result ≡ first (slice_index_or self.now.mail lane no_mail).words }
+    {
+        match self.mail.get(lane as usize) {
+            Some(mail) => mail.first(),
+            None => None,
+        }
+    }
+
+    /// The first word of a lane that its call was not asked about yet.
+    pub fn word_not_asked(&self, lane: u32, call: u32) -> Option<Word>
+        ensures { result ≡ not_asked (mark_of (slice_index_or self.now.mail lane no_mail).marks call)
+            (slice_index_or self.now.mail lane no_mail).words }
+    {
+        match self.mail.get(lane as usize) {
+            Some(mail) => mail.not_asked(call),
+            None => None,
+        }
+    }
+
+    /// The number of the next single-threaded apartment that a thread makes.
+    pub fn next_sta(&self) -> u32
+        requires { length self.now.stas + 4 ≤ 2 ^ 32 }
+        ensures { result ≡ length self.now.stas + 3 }
+    {
+        self.stas.next()
+    }
+
+    /// The main single-threaded apartment: the oldest that a thread made and that has not ended, else the host's. Source: the
+    /// documentation of apartments, "main apartment".
+    pub fn main_sta(&self) -> u32
+        ensures { result ≡ or_host (first (filter (λ a. not (is_member a self.now.ended)) self.now.stas)) }
+    {
+        self.stas.main()
+    }
+
+    /// Whether a lane made this apartment, and so serves it.
+    pub fn serves(&self, lane: u32, apartment: u32) -> bool
+        ensures { result ≡ is_member apartment (slice_index_or self.now.made lane []) }
+    {
+        self.stas.made_by(lane, apartment)
+    }
+}
+
+/// A table of so many equal rows. The only error is want of memory.
+fn filled<T: Copy>(alloc: Global, rows: usize, row: T) -> Result<Vec<T>, Memory>
+    ensures { IfOk result (λ table. table.items ≡ tabulated rows (λ l. row)) }
+{
+    let mut table = Vec::new(alloc);
+    for i in 0..rows {
+        table.push(row)?;
+    }
+    Ok(table)
+}
+
+/// So many lanes with nothing open. The only error is want of memory.
+fn no_openers(alloc: Global, rows: usize) -> Result<Vec<Openers>, Memory>
+    ensures { IfOk result (λ table. table.items ≡ tabulated rows (λ l. [])) }
+{
+    let mut table = Vec::new(alloc);
+    for i in 0..rows {
+        table.push(Openers::new(alloc))?;
+    }
+    Ok(table)
+}
+
+/// So many lanes with no word. The only error is want of memory.
+fn no_mails(alloc: Global, rows: usize) -> Result<Vec<Mail>, Memory>
+    ensures { IfOk result (λ table. table.items ≡ tabulated rows (λ l. no_mail)) }
+{
+    let mut table = Vec::new(alloc);
+    for i in 0..rows {
+        table.push(Mail::new(alloc))?;
+    }
+    Ok(table)
+}

@@ -1,0 +1,148 @@
+//! What an entry changes beside the step of whoever acts.
+ghost use Rattle.std.specs.Prelude.{◌≡◌, ◌==◌, if◌then◌else◌, ℕ, Bool, OnOk, IfOk, Some, None, ◌∷◌, fold, replicate, slice_index_or, option_map};
+ghost use Rattle.com_body.specs.Bodies.{IsDestination};
+ghost use Rattle.com_model.specs.Frames.{to_answer, to_destination};
+ghost use Rattle.com_model.specs.Lists.{each_from};
+ghost use Rattle.com_state.specs.SceneParts.{body_at, script_at, cells_at, destination_at, with_body, with_script, with_cells, row_written, without_links, links_cut};
+ghost use Rattle.com_scene.specs.Actors.{acting_of};
+ghost use Rattle.com_scene.specs.Kept.{IsKept};
+ghost use Rattle.com_scene.specs.Seen.{seen, IsSeated, IsSeatedActor};
+ghost use Rattle.com_scene.specs.Steps.{cut_by, frame_with};
+
+use crate::actor::Actor;
+use crate::tables::{Tables, clear_slots, receive};
+use com_base::{HResult, Memory, Value};
+use com_body::{Cells, Destination};
+
+/// An equal value, where there is one. The only error is want of memory.
+pub fn copied(value: &Option<Value>) -> Result<Option<Value>, Memory>
+    ensures { IfOk result (λ copy. copy ≡ value.now) }
+{
+    match value {
+        None => Ok(None),
+        Some(value) => Ok(Some(value.copy()?)),
+    }
+}
+
+// Makes the links of an object null, where they are to be cut.
+fn cut_if(cells: &mut Cells, is_cut: bool)
+    ensures { cells.new ≡ (if is_cut then without_links cells.old else cells.old) }
+{
+    if is_cut {
+        cells.links = [None; 4];
+    }
+}
+
+// The apartment of an object by the list of owners, and 0 beyond it.
+fn owner(owners: &[u32], object: usize) -> u32
+    ensures { result ≡ slice_index_or owners.now object 0 }
+{
+    if object < owners.len() {
+        return owners[object];
+    }
+    0
+}
+
+// Makes the links of all objects of an apartment null.
+#[tactic(auto, using(crate::proofs::CutLemmas::each_all, crate::proofs::CutLemmas::each_length))]
+fn cut(cells: &mut Vec<Cells>, apartment: u32, owners: &[u32])
+    ensures { cells.new.items ≡ each_from (cut_by owners.now apartment) 0 cells.old.items }
+{
+    let count = cells.len();
+    for object in 0..count {
+        let is_cut = owner(owners, object) == apartment;
+        cut_if(&mut cells[object], is_cut);
+    }
+}
+
+#[tactic(auto, using(crate::proofs::RowLemmas::set_beyond, crate::proofs::RowLemmas::map_set, crate::proofs::RowLemmas::map_kept, crate::proofs::RowLemmas::map_length, crate::proofs::RowLemmas::seated_same, crate::proofs::RowLemmas::seated_beyond))]
+impl Tables {
+    /// Gives whoever acts a frame of its own, where it is a body without one. The only error is want of memory.
+    pub fn seat(&mut self, actor: Actor) -> Result<(), Memory>
+        ensures same { seen self.new ≡ seen self.old }
+        ensures seated { OnOk result (IsSeatedActor self.new.calls.items actor) }
+    {
+        let Actor::Body { call, .. } = actor else {
+            return Ok(());
+        };
+        if call as usize >= self.calls.len() {
+            return Ok(());
+        }
+        let alloc = *self.calls.allocator();
+        let row = &mut self.calls[call as usize];
+        row.seat(alloc)
+    }
+
+    // The body of a call is given an HRESULT, and the result of a call of its own.
+    fn give_body(&mut self, call: u32, hr: HResult, to: Destination, value: Option<Value>)
+        requires to { IsDestination to }
+        requires seated { IsSeated self.old.calls.items call }
+        ensures { seen self.new ≡ with_body (seen self.old) call (fold frame_with (body_at (seen self.old) call) (to_answer hr ∷ to_destination to value)) }
+    {
+        if (call as usize) < self.calls.len() {
+            let row = &mut self.calls[call as usize];
+            row.receive(hr, to, value);
+        }
+    }
+
+    // A script is given an HRESULT, and the result of a call of its own.
+    fn give_script(&mut self, lane: u32, hr: HResult, to: Destination, value: Option<Value>)
+        requires { IsDestination to }
+        ensures { seen self.new ≡ with_script (seen self.old) lane (fold frame_with (script_at (seen self.old) lane) (to_answer hr ∷ to_destination to value)) }
+    {
+        if (lane as usize) < self.scripts.len() {
+            receive(&mut self.scripts[lane as usize], hr, to, value);
+        }
+    }
+
+    /// Whoever acts is given an HRESULT, and the result of a call of its own.
+    #[tactic(auto, using(crate::proofs::GiveLemmas::given_body, crate::proofs::GiveLemmas::given_script, crate::proofs::GiveLemmas::given_nobody))]
+    pub fn give(&mut self, after: Actor, hr: HResult, to: Destination, value: Option<Value>)
+        requires to { IsDestination to }
+        requires seated { IsSeatedActor self.old.calls.items after }
+        ensures { seen self.new ≡ fold (row_written (acting_of after)) (seen self.old) (to_answer hr ∷ to_destination to value) }
+    {
+        match after {
+            Actor::Body { call, .. } => self.give_body(call, hr, to, value),
+            Actor::Script { lane } => self.give_script(lane, hr, to, value),
+            Actor::Nobody => {}
+        }
+    }
+
+    /// Makes the slots of a script null.
+    pub fn clear_script(&mut self, lane: u32)
+        requires { IsKept (seen self.old) }
+        ensures { seen self.new ≡ with_script (seen self.old) lane (record (script_at (seen self.old) lane) { slots = replicate 8 None }) }
+    {
+        if (lane as usize) < self.scripts.len() {
+            clear_slots(&mut self.scripts[lane as usize]);
+        }
+    }
+
+    /// Makes the links of an object null.
+    pub fn clear_links(&mut self, object: u32)
+        ensures { seen self.new ≡ with_cells (seen self.old) object (record (cells_at (seen self.old) object) { links = replicate 4 None }) }
+    {
+        if (object as usize) < self.cells.len() {
+            let row = &mut self.cells[object as usize];
+            row.links = [None; 4];
+        }
+    }
+
+    /// Makes the links of all objects of an apartment null. The list has the apartment of each object, from 0.
+    pub fn cut_links(&mut self, apartment: u32, owners: &[u32])
+        ensures { seen self.new ≡ links_cut (λ o. slice_index_or owners.now o 0) (Some apartment) (seen self.old) }
+    {
+        cut(&mut self.cells, apartment, owners);
+    }
+
+    /// Where the result of a call goes, and nowhere for a call without row.
+    pub fn destination(&self, call: u32) -> Destination
+        ensures { result ≡ destination_at (seen self.now) call }
+    {
+        if (call as usize) < self.calls.len() {
+            return self.calls[call as usize].destination;
+        }
+        Destination::Nowhere
+    }
+}
