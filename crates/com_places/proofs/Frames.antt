@@ -120,6 +120,15 @@ body-put s g w a c b t f p =
     (lanes-put (lanes s + 1) g.openers w a c b t f p.there) in
     omega (arith, moved)
 
+-- A call that is not open has no place.
+pub body-closed : (s : Scenario) (g : Ground) (w : Scene) (a c : ℕ) (t : Test) (f : FrameView) → sum_below (lanes s + 1) (λ l. open_of c (g.openers l)) ≡ 0 → ((l : ℕ) → l < lanes s + 1 → InApartment c 0 (g.openers l))
+    → in_bodies s g (with_body w c f) a t ≡ in_bodies s g w a t
+body-closed s g w a c t f p q =
+    let moved : in_bodies s g (with_body w c f) a t + times 0 (slots_in 0 a t (w.bodies c).slots) ≡ in_bodies s g w a t + times 0 (slots_in 0 a t f.slots) =
+    subst (λ (n : ℕ). in_bodies s g (with_body w c f) a t + times n (slots_in 0 a t (w.bodies c).slots) ≡ in_bodies s g w a t + times n (slots_in 0 a t f.slots)) p
+    (lanes-put (lanes s + 1) g.openers w a c 0 t f q) in
+    omega (arith, moved)
+
 -- ---- scripts and links
 
 abbrev pub with_script : Scene → ℕ → FrameView → Scene
@@ -131,10 +140,10 @@ with_cells w o c = record w { cells = put o c w.cells }
 same-number : (n : ℕ) → (n == n) ≡ true
 same-number n = grind (arith, common_steps)
 
-same-row : {X : Type 0} (k : ℕ) (x : X) (f : ℕ → X) → put k x f k ≡ x
+pub same-row : {X : Type 0} (k : ℕ) (x : X) (f : ℕ → X) → put k x f k ≡ x
 same-row k x f = ap (λ (b : Bool). cond b x (f k)) (same-number k)
 
-other-row : {X : Type 0} (k j : ℕ) (x : X) (f : ℕ → X) → (j ≡ k → ⊥) → f j ≡ put k x f j
+pub other-row : {X : Type 0} (k j : ℕ) (x : X) (f : ℕ → X) → (j ≡ k → ⊥) → f j ≡ put k x f j
 other-row k j x f p =
     elim (j == k) as (λ b. (j == k) ≡ b → f j ≡ cond b x (f j)) [ true ↦ λ e. absurd (p (eqb-true j k e)) | false ↦ λ e. refl ] refl
 

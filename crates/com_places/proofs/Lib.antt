@@ -1,1 +1,7 @@
 pub mod Frames
+pub mod Counted
+pub mod Writes
+pub mod Acts
+pub mod Opens
+pub mod Arrives
+pub mod Cuts
