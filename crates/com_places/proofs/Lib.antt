@@ -5,3 +5,6 @@ pub mod Acts
 pub mod Opens
 pub mod Arrives
 pub mod Cuts
+pub mod Scripts
+pub mod Bodies
+pub mod Links
