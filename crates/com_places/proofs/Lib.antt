@@ -8,3 +8,4 @@ pub mod Cuts
 pub mod Scripts
 pub mod Bodies
 pub mod Links
+pub mod Results
