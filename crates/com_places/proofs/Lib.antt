@@ -9,3 +9,5 @@ pub mod Scripts
 pub mod Bodies
 pub mod Links
 pub mod Results
+pub mod Facts
+pub mod Laws
