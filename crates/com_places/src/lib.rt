@@ -1,2 +1,18 @@
 //! What entries do to places, in every legal history, stated on functions that do nothing.
 #![tactic(auto)]
+
+ghost use Rattle.std.specs.Prelude.{List, ◌∷◌};
+ghost use Rattle.com_model.specs.declared.deeds.Entry.{Entry};
+ghost use Rattle.com_model.specs.declared.scenario.Scenario.{Scenario};
+ghost use Rattle.com_model.specs.Formed.{Formed};
+ghost use Rattle.com_model.specs.Rules.{legal};
+ghost use Rattle.com_places.specs.Moves.{PlacesMove};
+
+/// In every legal history of a formed scenario, for each entry, each apartment and each test of references: the places of the
+/// apartment after the entry, with the moves by which the entry took some, are those before it, with the moves by which it brought
+/// some. The moves are lists: each slot or link that is written, the frame of a body that leaves, the values of a body that is
+/// entered, the result of a direct call between its Leave and its Back, a script's slots at its last Uninit, an object's links at
+/// its Final, and the links of all objects of an STA that ends.
+pub fn places_move()
+    ensures { (s : Scenario) (h : List Entry) (e : Entry) → Formed s → legal s (e ∷ h) → PlacesMove s h e }
+{}

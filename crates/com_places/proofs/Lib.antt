@@ -1,0 +1,13 @@
+pub mod Frames
+pub mod Counted
+pub mod Writes
+pub mod Acts
+pub mod Opens
+pub mod Arrives
+pub mod Cuts
+pub mod Scripts
+pub mod Bodies
+pub mod Links
+pub mod Results
+pub mod Facts
+pub mod Laws
