@@ -1,20 +1,35 @@
 //! The balance of references: who holds references to each object, how many public references its stub counts, and which
 //! objects nobody holds any more.
+//!
+//! A call that gains changes the books by its row of the table of reference counting. A call that loses a holder does beside
+//! what the end of its entry does: a proxy without place gives everything back, and an object without holder is no longer
+//! connected. It looks at one object only, since between calls each connected object has a holder. Several losses in one entry
+//! are one end. Source: MS-DCOM 3.2.4.4, and Essential COM, chapter 5.
 #![tactic(auto)]
 
-ghost use Rattle.std.specs.Prelude.{◌≡◌, ◌+◌, ◌-◌, ◌<◌, ◌≤◌, ◌↔◌, ◌&&◌, ◌==◌, ℕ, true, false, not, IsTrue, if◌then◌else◌};
+ghost use Rattle.std.specs.Prelude.{◌≡◌, ◌+◌, ◌-◌, ◌<◌, ◌≤◌, ◌^◌, ◌↔◌, ◌&&◌, ◌||◌, ◌==◌, ℕ, true, false, not, [], length, OnOk, OnErr, IfOk, IsOk, IsTrue, Ok, Err, Some, None, if◌then◌else◌};
+ghost use Rattle.com_stub.specs.StubRows.{is_connected};
+ghost use Rattle.com_slots.specs.Table.{held_in};
 ghost use Rattle.com_proxy.specs.Rows.{local_of};
-ghost use Rattle.com_holders.specs.Tables.{books_of, owns_of, object_in};
+ghost use Rattle.com_holders.specs.Tables.{books_of, owns_of, owners_of, is_owned, object_in, direct_in, offers, outstanding_in};
+ghost use Rattle.com_holders.specs.Places.{OneMore, OneLess, SamePlaces};
 ghost use Rattle.com_holders.specs.Stands.{Tells};
-ghost use Rattle.com_books.specs.Changes.{Books, cut};
-ghost use Rattle.com_refs.specs.Counts.{hold_of, hold_less, Totals};
-ghost use Rattle.com_refs.specs.Ends.{ends};
+ghost use Rattle.com_books.specs.Changes.{Books, changed, change, cut, packet, is_weak, Makes, Takes, Asks, Marshals, Unmarshals, Drops, Registers, Revokes, ToCookie, Return, Withdraw};
+ghost use Rattle.com_refs.specs.Counts.{hold_of, hold_less, hold_more};
+ghost use Rattle.com_refs.specs.Ends.{ends, Totals};
 
-use com_base::RefValue;
+use com_base::{MarshalMode, RefValue};
 use com_holders::Holders;
+use std::alloc::Global;
 use std::marker::Model;
 
-/// The references of all objects, and how many holders each has outside of its direct places.
+/// Want of memory.
+pub use com_base::Memory;
+/// Why a call changed nothing.
+pub use com_holders::HoldersError as RefsError;
+
+/// The references of all objects, seen as the tables of their holders. Beside, the holders of each object outside of its direct
+/// places are counted.
 #[derive(Debug, Drop)]
 pub struct Refs {
     holders: Holders,
@@ -22,14 +37,15 @@ pub struct Refs {
 }
 
 impl Model for Refs {
+    ghost use Rattle.std.specs.Prelude.{◌-◌, vec_len, vec_capacity};
     ghost use Rattle.com_holders.specs.Tables.{Tables};
-    ghost use Rattle.com_refs.specs.Counts.{IsCounted};
+    ghost use Rattle.com_refs.specs.Counts.{IsRefs};
 
     ghost Value = { Tables };
 
     ghost view = { λ r. r.holders };
 
-    ghost invariant = { λ r. IsCounted r.holders r.holds.items };
+    ghost invariant = { λ r. IsRefs r.holders r.holds.items (vec_capacity r.holds - vec_len r.holds) };
 }
 
 // The number of an object.
@@ -45,11 +61,11 @@ fn hold_at(holds: &[u64], object: u32) -> u64
     }
 }
 
-// One holder less, unless it was a direct place.
-fn lose_hold(holds: &mut [u64], object: u32, direct: bool)
-    ensures { holds.new ≡ hold_less object direct holds.old }
+// One holder less, if it was one.
+fn lose_hold(holds: &mut [u64], object: u32, held: bool)
+    ensures { holds.new ≡ hold_less object held holds.old }
 {
-    if direct {
+    if !held {
         return;
     }
     let Some(place) = object.checked_sub(1) else {
@@ -61,40 +77,109 @@ fn lose_hold(holds: &mut [u64], object: u32, direct: bool)
     }
 }
 
-// Where an object has no holder left it is no longer connected.
-fn settle(holders: &mut Holders, held: u64, object: u32)
+// One holder more, if it is one.
+fn gain_hold(holds: &mut [u64], object: u32, held: bool)
+    requires fits { hold_of holds.old object + 1 < 2 ^ 64 }
+    ensures { holds.new ≡ hold_more object held holds.old }
+{
+    if !held {
+        return;
+    }
+    let Some(place) = object.checked_sub(1) else {
+        return;
+    };
+    let at = place as usize;
+    if at < holds.len() {
+        holds[at] += 1;
+    }
+}
+
+// Where an object has no holder left it is no longer connected. True exactly then.
+fn settle(holders: &mut Holders, held: u64, object: u32) -> bool
+    ensures lost { IsTrue result ↔ ((object_in holders.old.objects object).direct + held ≡ 0) }
     ensures objects { holders.new.objects ≡ holders.old.objects }
     ensures proxies { holders.new.proxies ≡ holders.old.proxies }
+    ensures counters { holders.new.counters ≡ holders.old.counters }
+    ensures issued { holders.new.issued ≡ holders.old.issued }
+    ensures spare { holders.new.spare ≡ holders.old.spare }
     ensures books { books_of holders.new ≡ (if (object_in holders.old.objects object).direct + held == 0 then cut (λ x. (books_of holders.old).live x && not (x == object)) (books_of holders.old) else books_of holders.old) }
 {
     if holders.direct(object) > 0 {
-        return;
+        return false;
     }
     if held > 0 {
-        return;
+        return false;
     }
     holders.disconnect(object);
+    true
+}
+
+// The packet holds its object: a weak one does not.
+fn holds_object(mode: MarshalMode) -> bool
+    ensures { result ≡ not (is_weak mode) }
+{
+    match mode {
+        MarshalMode::Normal => true,
+        MarshalMode::Strong => true,
+        MarshalMode::Weak => false,
+    }
 }
 
 impl Refs {
-    /// Between entries nothing is left to give back or to cut.
+    /// No object was made and nothing is held. It takes no memory.
+    pub fn new(alloc: Global) -> Self
+        ensures objects { result.objects ≡ [] }
+        ensures proxies { result.proxies ≡ [] }
+        ensures packets { result.packets ≡ [] }
+        ensures cookies { result.cookies ≡ [] }
+        ensures issued { result.issued ≡ 0 }
+    {
+        Refs {
+            holders: Holders::new(alloc),
+            holds: Vec::new(alloc),
+        }
+    }
+
+    /// Between calls nothing is left to give back or to cut.
     pub fn rests(&self)
-        ensures { (n : ℕ) (places : ℕ → ℕ → ℕ) → Tells places self.now → Totals n places self.now → ends n places (books_of self.now) ≡ books_of self.now }
+        ensures { (n : ℕ) (places : ℕ → ℕ → ℕ) → Tells n places self.now → Totals n places self.now → ends n places (books_of self.now) ≡ books_of self.now }
     {
         self.holders.gives_nothing();
     }
 
-    /// One place less, to the end of its entry.
-    pub fn release(&mut self, apartment: u32, held: RefValue)
+    /// One place less, to the end of its entry. True exactly where the object then has no holder of any kind that is counted.
+    pub fn release(&mut self, apartment: u32, held: RefValue) -> bool
         requires proxied { owns_of self.old.objects held.object apartment ≡ false → 0 < local_of self.old.proxies apartment held.object held.iface }
         requires direct { owns_of self.old.objects held.object apartment ≡ true → 0 < (object_in self.old.objects held.object).direct }
-        ensures books { (n : ℕ) (places : ℕ → ℕ → ℕ) → apartment < n → Tells places self.new → Totals n places self.new → books_of self.new ≡ ends n places (books_of self.old) }
+        ensures books { (n : ℕ) (places : ℕ → ℕ → ℕ) → apartment < n → Tells n places self.new → Totals n places self.new → books_of self.new ≡ ends n places (books_of self.old) }
+        ensures places { OneLess self.old self.new apartment held.object (owns_of self.old.objects held.object apartment) }
+        ensures offers { (x j : ℕ) → offers self.new x j ≡ offers self.old x j }
+        ensures issued { self.new.issued ≡ self.old.issued }
+        ensures spare { self.new.spare ≡ self.old.spare }
     {
         let owned = self.holders.owns(held.object, apartment);
         self.holders.release(apartment, held);
-        lose_hold(&mut self.holds, held.object, owned);
+        lose_hold(&mut self.holds, held.object, !owned);
         let left = hold_at(&self.holds, held.object);
-        settle(&mut self.holders, left, held.object);
+        settle(&mut self.holders, left, held.object)
+    }
+
+    /// One place more of a reference that the apartment holds.
+    pub fn copy(&mut self, apartment: u32, held: RefValue)
+        requires proxied { owns_of self.old.objects held.object apartment ≡ false → 0 < local_of self.old.proxies apartment held.object held.iface }
+        requires direct { owns_of self.old.objects held.object apartment ≡ true → 0 < (object_in self.old.objects held.object).direct }
+        requires known { offers self.old held.object held.iface ≡ true }
+        requires few { self.old.issued < 2 ^ 28 }
+        ensures books { books_of self.new ≡ books_of self.old }
+        ensures places { OneMore self.old self.new apartment held.object (owns_of self.old.objects held.object apartment) }
+        ensures offers { (x j : ℕ) → offers self.new x j ≡ offers self.old x j }
+        ensures issued { self.new.issued ≡ self.old.issued + 1 }
+        ensures spare { self.new.spare ≡ self.old.spare }
+    {
+        self.holders.stands();
+        let owned = self.holders.owns(held.object, apartment);
+        self.holders.copy(apartment, held);
+        gain_hold(&mut self.holds, held.object, !owned);
     }
 }
 
