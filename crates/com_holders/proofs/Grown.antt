@@ -82,19 +82,19 @@ module _ (f : ProxyRow → ProxyRow) (n : ℕ) (g : Gains f n) (a o i : ℕ) whe
   unfolding books_of
   grown_stands t u k q w e s = stands_by t u 1 s (grown-steps t u k q s) e
       (λ c x j h.
-        let free : IsFree (changed_row f a o i t.proxies) c x = subst (λ (rs : List ProxyRow). IsFree rs c x) k.proxies h in
-        rw (k.stubs, k.proxies, public-same t.proxies c x j (free-apart t.proxies c x j free)) (s.placed c x j (free-before t.proxies c x free)))
+      let free : IsFree (changed_row f a o i t.proxies) c x = subst (λ (rs : List ProxyRow). IsFree rs c x) k.proxies h in
+      rw (k.stubs, k.proxies, public-same t.proxies c x j (free-apart t.proxies c x j free)) (s.placed c x j (free-before t.proxies c x free)))
       (λ c x j h.
-        let own : owns_of t.objects x c ≡ true = sym (ap (λ os. owns_of os x c) k.objects) ∙ h in
-        let none : local_of t.proxies c x j ≡ 0 = s.owned c x j own in
-        ap (λ rs. local_of rs c x j) k.proxies ∙ grown_local f n g a o i t.proxies c x j ∙ (elim (eqb c a && (eqb x o && eqb j i)) as (λ y. eqb c a && (eqb x o && eqb j i) ≡ y → local_of t.proxies c x j + count_if y ≡ 0) [
-          | true ↦ λ y.
-              let ec : c ≡ a = eqb-true c a (grind (arith, common_steps, y)) in
-              let ex : x ≡ o = eqb-true x o (grind (arith, common_steps, y)) in
-              let no : owns_of t.objects x c ≡ false = rw (ec, ex) w in
-              absurd (cc)
-          | false ↦ λ y. omega (arith, none)
-        ] refl))
+      let own : owns_of t.objects x c ≡ true = sym (ap (λ os. owns_of os x c) k.objects) ∙ h in
+      let none : local_of t.proxies c x j ≡ 0 = s.owned c x j own in
+      ap (λ rs. local_of rs c x j) k.proxies ∙ grown_local f n g a o i t.proxies c x j ∙ (elim (eqb c a && (eqb x o && eqb j i)) as (λ y. eqb c a && (eqb x o && eqb j i) ≡ y → local_of t.proxies c x j + count_if y ≡ 0) [
+        | true ↦ λ y.
+            let ec : c ≡ a = eqb-true c a (grind (arith, common_steps, y)) in
+            let ex : x ≡ o = eqb-true x o (grind (arith, common_steps, y)) in
+            let no : owns_of t.objects x c ≡ false = rw (ec, ex) w in
+            absurd (cc)
+        | false ↦ λ y. omega (arith, none)
+      ] refl))
 
   pub more_elsewhere : (t u : Tables) → u.objects ≡ t.objects → u.proxies ≡ changed_row f a o i t.proxies → OneMore t u a o false
   more_elsewhere t u eo er = record {

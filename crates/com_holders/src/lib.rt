@@ -342,6 +342,7 @@ impl Holders {
         ensures cookies { result.cookies ≡ [] }
         ensures stubs { result.stubs ≡ [] }
         ensures counters { result.counters ≡ [] }
+        ensures spare { result.spare ≡ 0 }
         ensures issued { result.issued ≡ 0 }
     {
         Holders {
@@ -665,7 +666,12 @@ impl Holders {
     }
 
     // A packet of a connected object, for which room is made first.
-    pub fn give_packet(&mut self, apartment: u32, held: RefValue, mode: MarshalMode) -> Result<u32, Memory>
+    pub fn give_packet(
+        &mut self,
+        apartment: u32,
+        held: RefValue,
+        mode: MarshalMode,
+    ) -> Result<u32, Memory>
         requires connected { is_connected self.old.stubs held.object ≡ true }
         requires known { offers self.old held.object held.iface ≡ true }
         requires few { self.old.issued < 2 ^ 28 }
@@ -838,6 +844,7 @@ impl Holders {
         requires known { offers self.old held.object held.iface ≡ true }
         requires few { self.old.issued < 2 ^ 28 }
         ensures not_connected { (result ≡ Err HoldersError.NotConnected) ↔ (is_connected self.old.stubs held.object ≡ false) }
+        ensures live { OnOk result (is_connected self.old.stubs held.object ≡ true) }
         ensures number { IfOk result (λ number. number ≡ length self.old.packets + 1) }
         ensures row { OnOk result (books_of self.new ≡ changed (books_of self.old) (change (owns_of self.old.objects) (books_of self.old) (Marshals apartment mode held.object held.iface))) }
         ensures places { OnOk result (SamePlaces self.old self.new) }
@@ -877,15 +884,11 @@ impl Holders {
 
     /// A reference to another interface of an object of which the apartment holds one. `NotConnected` exactly where the apartment
     /// does not own the object, which is not connected; else `NoInterface` exactly where the interface is not in its set.
-    pub fn query(
-        &mut self,
-        apartment: u32,
-        object: u32,
-        iface: u16,
-    ) -> Result<(), HoldersError>
+    pub fn query(&mut self, apartment: u32, object: u32, iface: u16) -> Result<(), HoldersError>
         requires few { self.old.issued < 2 ^ 28 }
         ensures not_connected { (result ≡ Err HoldersError.NotConnected) ↔ ((owns_of self.old.objects object apartment || is_connected self.old.stubs object) ≡ false) }
         ensures no_interface { (result ≡ Err HoldersError.NoInterface) ↔ (((owns_of self.old.objects object apartment || is_connected self.old.stubs object) ≡ true) × (offers self.old object iface ≡ false)) }
+        ensures offered { OnOk result (offers self.old object iface ≡ true) }
         ensures row { OnOk result (books_of self.new ≡ changed (books_of self.old) (change (owns_of self.old.objects) (books_of self.old) (Asks apartment object iface))) }
         ensures places { OnOk result (OneMore self.old self.new apartment object (owns_of self.old.objects object apartment)) }
         ensures offers { (x j : ℕ) → offers self.new x j ≡ offers self.old x j }

@@ -39,6 +39,6 @@ pub record IsCountedBut (t : Tables) (holds : List ℕ) (o : ℕ) : Type 0 where
   pub small : (x : ℕ) → hold_of holds x ≤ t.issued
 
 -- The whole, with room for as many calls as are sure to find memory.
-pub record IsRefs (t : Tables) (holds : List ℕ) (room : ℕ) : Type 0 where
+pub record IsRefs (t : Tables) (holds : List ℕ) (free : ℕ) : Type 0 where
   pub counts : IsCounted t holds
-  pub room : t.spare ≤ room
+  pub room : t.spare ≤ free

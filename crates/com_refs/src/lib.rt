@@ -20,6 +20,7 @@ ghost use Rattle.com_refs.specs.Ends.{ends, Totals};
 
 use com_base::{MarshalMode, RefValue};
 use com_holders::Holders;
+use com_packets::Packet;
 use std::alloc::Global;
 use std::marker::Model;
 
@@ -114,6 +115,16 @@ fn settle(holders: &mut Holders, held: u64, object: u32) -> bool
     true
 }
 
+// The object, if it lost its last holder.
+fn if_lost(lost: bool, object: u32) -> Option<u32>
+    ensures { result ≡ (if lost then Some object else None) }
+{
+    if lost {
+        return Some(object);
+    }
+    None
+}
+
 // The packet holds its object: a weak one does not.
 fn holds_object(mode: MarshalMode) -> bool
     ensures { result ≡ not (is_weak mode) }
@@ -180,6 +191,208 @@ impl Refs {
         let owned = self.holders.owns(held.object, apartment);
         self.holders.copy(apartment, held);
         gain_hold(&mut self.holds, held.object, !owned);
+    }
+
+    /// A packet of a reference that the apartment holds, under the number that is answered. A strong or a weak one may be
+    /// unmarshalled many times; a weak one does not hold its object. `NotConnected` exactly where the object is not connected.
+    /// Source: CoMarshalInterface.
+    pub fn marshal(
+        &mut self,
+        apartment: u32,
+        held: RefValue,
+        mode: MarshalMode,
+    ) -> Result<u32, RefsError>
+        requires known { offers self.old held.object held.iface ≡ true }
+        requires few { self.old.issued < 2 ^ 28 }
+        ensures not_connected { (result ≡ Err RefsError.NotConnected) ↔ (is_connected self.old.stubs held.object ≡ false) }
+        ensures number { IfOk result (λ number. number ≡ length self.old.packets + 1) }
+        ensures row { OnOk result (books_of self.new ≡ changed (books_of self.old) (change (owns_of self.old.objects) (books_of self.old) (Marshals apartment mode held.object held.iface))) }
+        ensures places { OnOk result (SamePlaces self.old self.new) }
+        ensures offers { (x j : ℕ) → offers self.new x j ≡ offers self.old x j }
+        ensures issued { OnOk result (self.new.issued ≡ self.old.issued + 1) }
+        ensures room { 0 < self.old.spare → result ≡ Err RefsError.Memory → ⊥ }
+        ensures err { OnErr result (self.new ≡ self.old) }
+        ensures spare { self.old.spare ≤ self.new.spare + 1 }
+    {
+        self.holders.stands();
+        match self.holders.marshal(apartment, held, mode) {
+            Ok(number) => {
+                gain_hold(&mut self.holds, held.object, holds_object(mode));
+                Ok(number)
+            }
+            Err(error) => Err(error),
+        }
+    }
+
+    /// A cookie of a reference that the apartment holds. `NotConnected` exactly where the object is not connected.
+    /// Source: IGlobalInterfaceTable::RegisterInterfaceInGlobal.
+    pub fn register(&mut self, held: RefValue) -> Result<u32, RefsError>
+        requires known { offers self.old held.object held.iface ≡ true }
+        requires few { self.old.issued < 2 ^ 28 }
+        ensures not_connected { (result ≡ Err RefsError.NotConnected) ↔ (is_connected self.old.stubs held.object ≡ false) }
+        ensures cookie { IfOk result (λ cookie. cookie ≡ length self.old.cookies + 1) }
+        ensures books { OnOk result (books_of self.new ≡ changed (books_of self.old) (ToCookie held.object held.iface 1)) }
+        ensures places { OnOk result (SamePlaces self.old self.new) }
+        ensures offers { (x j : ℕ) → offers self.new x j ≡ offers self.old x j }
+        ensures issued { OnOk result (self.new.issued ≡ self.old.issued + 1) }
+        ensures room { 0 < self.old.spare → result ≡ Err RefsError.Memory → ⊥ }
+        ensures err { OnErr result (self.new ≡ self.old) }
+        ensures spare { self.old.spare ≤ self.new.spare + 1 }
+    {
+        self.holders.stands();
+        match self.holders.register(held) {
+            Ok(cookie) => {
+                gain_hold(&mut self.holds, held.object, true);
+                Ok(cookie)
+            }
+            Err(error) => Err(error),
+        }
+    }
+
+    /// A reference to another interface of an object of which the apartment holds one. `NotConnected` exactly where the apartment
+    /// does not own the object, which is not connected; else `NoInterface` exactly where the interface is not in its set.
+    pub fn query(&mut self, apartment: u32, object: u32, iface: u16) -> Result<(), RefsError>
+        requires few { self.old.issued < 2 ^ 28 }
+        ensures not_connected { (result ≡ Err RefsError.NotConnected) ↔ ((owns_of self.old.objects object apartment || is_connected self.old.stubs object) ≡ false) }
+        ensures no_interface { (result ≡ Err RefsError.NoInterface) ↔ (((owns_of self.old.objects object apartment || is_connected self.old.stubs object) ≡ true) × (offers self.old object iface ≡ false)) }
+        ensures row { OnOk result (books_of self.new ≡ changed (books_of self.old) (change (owns_of self.old.objects) (books_of self.old) (Asks apartment object iface))) }
+        ensures places { OnOk result (OneMore self.old self.new apartment object (owns_of self.old.objects object apartment)) }
+        ensures offers { (x j : ℕ) → offers self.new x j ≡ offers self.old x j }
+        ensures issued { OnOk result (self.new.issued ≡ self.old.issued + 1) }
+        ensures room { 0 < self.old.spare → result ≡ Err RefsError.Memory → ⊥ }
+        ensures err { OnErr result (self.new ≡ self.old) }
+        ensures spare { self.old.spare ≤ self.new.spare + 1 }
+    {
+        self.holders.stands();
+        let owned = self.holders.owns(object, apartment);
+        match self.holders.query(apartment, object, iface) {
+            Ok(()) => {
+                gain_hold(&mut self.holds, object, !owned);
+                Ok(())
+            }
+            Err(error) => Err(error),
+        }
+    }
+
+    /// The reference of a cookie, in a place of the apartment. `Unknown` exactly where the cookie was never given or was revoked;
+    /// else `NotConnected` exactly where its object is not connected. Source: IGlobalInterfaceTable::GetInterfaceFromGlobal.
+    pub fn get(&mut self, apartment: u32, cookie: u32) -> Result<RefValue, RefsError>
+        requires few { self.old.issued < 2 ^ 28 }
+        ensures unknown { (result ≡ Err RefsError.Unknown) ↔ (held_in self.old.cookies cookie ≡ None) }
+        ensures held { IfOk result (λ held. held_in self.old.cookies cookie ≡ Some held) }
+        ensures row { IfOk result (λ held. books_of self.new ≡ changed (books_of self.old) (change (owns_of self.old.objects) (books_of self.old) (Takes apartment held.object held.iface))) }
+        ensures places { IfOk result (λ held. OneMore self.old self.new apartment held.object (owns_of self.old.objects held.object apartment)) }
+        ensures offers { (x j : ℕ) → offers self.new x j ≡ offers self.old x j }
+        ensures issued { OnOk result (self.new.issued ≡ self.old.issued + 1) }
+        ensures room { 0 < self.old.spare → result ≡ Err RefsError.Memory → ⊥ }
+        ensures err { OnErr result (self.new ≡ self.old) }
+        ensures spare { self.old.spare ≤ self.new.spare + 1 }
+    {
+        self.holders.stands();
+        match self.holders.get(apartment, cookie) {
+            Ok(held) => {
+                let owned = self.holders.owns(held.object, apartment);
+                gain_hold(&mut self.holds, held.object, !owned);
+                Ok(held)
+            }
+            Err(error) => Err(error),
+        }
+    }
+
+    /// A packet ends, and its references go back, to the end of the entry. The answer is the packet's object, where it then has no
+    /// holder. `Unknown` exactly where no outstanding packet has the number. Source: CoReleaseMarshalData.
+    pub fn drop_packet(&mut self, number: u32) -> Result<Option<u32>, RefsError>
+        ensures unknown { OnErr result (outstanding_in (is_connected self.old.stubs) self.old.packets number ≡ None) }
+        ensures books { OnOk result ((n : ℕ) (places : ℕ → ℕ → ℕ) → Tells n places self.new → Totals n places self.new → books_of self.new ≡ ends n places (changed (books_of self.old) (change (owns_of self.old.objects) (books_of self.old) (Drops number)))) }
+        ensures places { OnOk result (SamePlaces self.old self.new) }
+        ensures offers { (x j : ℕ) → offers self.new x j ≡ offers self.old x j }
+        ensures issued { self.new.issued ≡ self.old.issued }
+        ensures err { OnErr result (self.new ≡ self.old) }
+        ensures spare { self.new.spare ≡ self.old.spare }
+    {
+        let Ok(packet) = self.holders.drop_packet(number) else {
+            return Err(RefsError::Unknown);
+        };
+        self.holders.gives_nothing();
+        lose_hold(&mut self.holds, packet.object, holds_object(packet.mode));
+        let left = hold_at(&self.holds, packet.object);
+        let lost = settle(&mut self.holders, left, packet.object);
+        Ok(if_lost(lost, packet.object))
+    }
+
+    /// A cookie ends, and its reference goes back, to the end of the entry. The answer is the cookie's object, where it then has
+    /// no holder. `Unknown` exactly where the cookie was never given or was revoked.
+    /// Source: IGlobalInterfaceTable::RevokeInterfaceFromGlobal.
+    pub fn revoke(&mut self, cookie: u32) -> Result<Option<u32>, RefsError>
+        ensures unknown { OnErr result (held_in self.old.cookies cookie ≡ None) }
+        ensures books { OnOk result ((n : ℕ) (places : ℕ → ℕ → ℕ) → Tells n places self.new → Totals n places self.new → books_of self.new ≡ ends n places (changed (books_of self.old) (change (owns_of self.old.objects) (books_of self.old) (Revokes cookie)))) }
+        ensures places { OnOk result (SamePlaces self.old self.new) }
+        ensures offers { (x j : ℕ) → offers self.new x j ≡ offers self.old x j }
+        ensures issued { self.new.issued ≡ self.old.issued }
+        ensures err { OnErr result (self.new ≡ self.old) }
+        ensures spare { self.new.spare ≡ self.old.spare }
+    {
+        let Ok(held) = self.holders.revoke(cookie) else {
+            return Err(RefsError::Unknown);
+        };
+        self.holders.gives_nothing();
+        lose_hold(&mut self.holds, held.object, true);
+        let left = hold_at(&self.holds, held.object);
+        let lost = settle(&mut self.holders, left, held.object);
+        Ok(if_lost(lost, held.object))
+    }
+
+    /// The object is no longer connected: nothing of it is held any more but its direct places. Source: CoDisconnectObject.
+    pub fn disconnect(&mut self, object: u32)
+        ensures books { books_of self.new ≡ cut (λ x. (books_of self.old).live x && not (x == object)) (books_of self.old) }
+        ensures objects { self.new.objects ≡ self.old.objects }
+        ensures proxies { self.new.proxies ≡ self.old.proxies }
+        ensures offers { (x j : ℕ) → offers self.new x j ≡ offers self.old x j }
+        ensures issued { self.new.issued ≡ self.old.issued }
+        ensures spare { self.new.spare ≡ self.old.spare }
+    {
+        self.holders.disconnect(object);
+    }
+
+    /// All objects that the apartment owns are no longer connected.
+    pub fn end_apartment(&mut self, apartment: u32)
+        requires few { self.old.issued ≤ 2 ^ 28 }
+        ensures books { books_of self.new ≡ cut (λ x. (books_of self.old).live x && not (is_owned (owners_of self.old.objects) apartment x)) (books_of self.old) }
+        ensures objects { self.new.objects ≡ self.old.objects }
+        ensures proxies { self.new.proxies ≡ self.old.proxies }
+        ensures offers { (x j : ℕ) → offers self.new x j ≡ offers self.old x j }
+        ensures issued { self.new.issued ≡ self.old.issued }
+        ensures spare { self.new.spare ≡ self.old.spare }
+    {
+        self.holders.end_apartment(apartment);
+    }
+
+    /// The direct places of the object: once it is not connected, nothing else holds it.
+    pub fn direct(&self, object: u32) -> u64
+        ensures { result ≡ (object_in self.now.objects object).direct }
+    {
+        self.holders.direct(object)
+    }
+
+    /// The apartment owns the object: every apartment owns an agile one.
+    pub fn owns(&self, object: u32, apartment: u32) -> bool
+        ensures { result ≡ owns_of self.now.objects object apartment }
+    {
+        self.holders.owns(object, apartment)
+    }
+
+    /// The object is connected.
+    pub fn connected(&self, object: u32) -> bool
+        ensures { result ≡ is_connected self.now.stubs object }
+    {
+        self.holders.connected(object)
+    }
+
+    /// The packet of a number, if it is outstanding.
+    pub fn packet(&self, number: u32) -> Option<Packet>
+        ensures { result ≡ outstanding_in (is_connected self.now.stubs) self.now.packets number }
+    {
+        self.holders.packet(number)
     }
 }
 

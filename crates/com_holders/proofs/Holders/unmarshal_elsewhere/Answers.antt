@@ -22,5 +22,5 @@ pub returns-clause-row : goal.returns-clause-row
 returns-clause-row c =
     let is = packet_shown c.args.self.now c.args.number c.args.packet c.requires.outstanding in
     let row = takes_table (owns_of c.args.self.now.objects) (books_of c.args.self.now) c.args.apartment c.args.number (shown c.args.packet) is.0 refl
-        (λ m. let yes : true ≡ false = sym (c.is_normal.ensures.1 m) ∙ c.if-is_normal.false in absurd (cc)) c.requires.elsewhere in
+    (λ m. let yes : true ≡ false = sym (c.is_normal.ensures.1 m) ∙ c.if-is_normal.false in absurd (cc)) c.requires.elsewhere in
     subst (λ (b : Books). OnOk c.take_new.result (books_of c.take_new.new.self ≡ b)) (sym row) c.take_new.ensures.books
