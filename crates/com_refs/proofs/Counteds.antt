@@ -86,7 +86,7 @@ at-most false = omega arith
 -- ---- a holder less, and one more
 
 pub lost : (t v : Tables) (hs : List ℕ) (o : ℕ) (w : Bool) → IsCounted t hs → ((x : ℕ) → (books_of v).live x ≡ (books_of t).live x) → ((x : ℕ) → outside_of v x + count_if (w && eqb x o) ≡ outside_of t x)
-    → ((x : ℕ) → (x ≡ o → ⊥) → direct_in v x ≡ direct_in t x) → length v.objects ≡ length t.objects → v.issued ≡ t.issued → IsCountedBut v (hold_less o w hs) o
+    → ((x : ℕ) → (x ≡ o → ⊥) → direct_in v x ≡ direct_in t x) → length v.objects ≡ length t.objects → t.issued ≤ v.issued → IsCountedBut v (hold_less o w hs) o
 lost t v hs o w c live outside direct len issued = record {
   counted = λ x l. less-is o w hs x (outside_of t x) (outside_of v x) (c.counted x (sym (live x) ∙ l)) (outside x);
   others = λ x n l. let same : outside_of v x ≡ outside_of t x = grind (arith, common_steps, outside x, n) in omega (arith, c.tidy x (sym (live x) ∙ l), same, direct x n);

@@ -9,18 +9,18 @@ use Rattle.com_books.specs.Counting.{count_if}
 use Rattle.com_base.specs.declared.value.MarshalMode.{MarshalMode}
 use Rattle.com_base.specs.declared.value.MarshalMode.TheVariants as marshal
 use Rattle.com_slots.specs.Table.{held_in}
-use Rattle.com_books.specs.Changes.{Books, held_outside, packet_holds, cookie_holds, packet, cookie, no_cookie, new_packet, is_weak, cut, Change, changed, change, marshal_change, ToProxy, ToPacket, Split, Join, Return, ToCookie, Withdraw, Same, Marshals, Asks, Takes, Drops, Revokes}
+use Rattle.com_books.specs.Changes.{Books, held_outside, packet_holds, cookie_holds, packet, cookie, no_cookie, new_packet, is_weak, cut, Change, changed, change, marshal_change, ToProxy, ToPacket, Split, Join, Return, ToCookie, Withdraw, Same, Marshals, Asks, Takes, Drops, Revokes, Unmarshals}
 use Rattle.com_books.specs.declared.keeps.Packet.{Packet}
 use Rattle.com_books.specs.declared.keeps.Cookie.{Cookie}
 use Rattle.com_holders.proofs.Cuts.{shown, packet_shown}
-use Rattle.com_holders.proofs.Choices.{drops}
+use Rattle.com_holders.proofs.Choices.{drops, returns, joins, keeps_table, takes_table}
 use Rattle.com_holders.proofs.Cookies.{cookie_of, cookie_shown}
-use Rattle.com_refs.proofs.Outside.{outside-end}
+use Rattle.com_refs.proofs.Outside.{outside-end, outside-join}
 use Rattle.com_refs.proofs.Ends.{holds-kept, holds-same}
 use Rattle.com_holders.specs.Tables.{Tables, books_of, owns_of, outstanding_in, direct_in, object_in}
 use Rattle.com_holders.specs.Places.{OneMore, OneLess, SamePlaces, locals_of}
 use Rattle.com_refs.specs.Counts.{hold_of, outside_of, IsCounted, IsCountedBut, hold_less, hold_more}
-use Rattle.com_refs.proofs.Counteds.{lost, gained}
+use Rattle.com_refs.proofs.Counteds.{lost, gained, still}
 
 live-of : (t v : Tables) → ((x : ℕ) → is_connected v.stubs x ≡ is_connected t.stubs x) → (x : ℕ) → (books_of v).live x ≡ (books_of t).live x
 unfolding books_of
@@ -35,7 +35,7 @@ pub released : (t v : Tables) (hs : List ℕ) (a o : ℕ) (owned : Bool) → IsC
 released t v hs a o owned c m es ep eg ei = lost t v hs o (not owned) c (live-of t v (λ x. ap (λ (l : ℕ → Bool). l x) es))
     (λ x. omega (arith, outside-by t v x es ep eg, m.all_elsewhere x))
     (λ x n. let same : direct_in v x + count_if (owned && eqb x o) ≡ direct_in t x = m.direct x in grind (arith, common_steps, same, n))
-    m.made ei
+    m.made (omega (arith, ei))
 
 pub copied : (t v : Tables) (hs : List ℕ) (a o : ℕ) (owned : Bool) → IsCounted t hs → OneMore t v a o owned → books_of v ≡ books_of t → v.issued ≡ t.issued + 1 → 0 < o → o ≤ length t.objects
     → IsCounted v (hold_more o (not owned) hs)
@@ -134,7 +134,7 @@ dropped t v hs n p c h e s ei =
     let less : held_outside (books_of v) x + packet_holds x (packet (books_of t) n) ≡ held_outside (books_of t) x = ap (λ (b : Books). held_outside b x + packet_holds x (packet (books_of t) n)) e ∙ outside-end (books_of t) n x out in
     let one : packet_holds x (packet (books_of t) n) ≡ count_if (not (is_weak p.mode) && eqb x p.object) = ap (λ (q : Packet). packet_holds x q) is ∙ shown-holds p x in
     omega (arith, less, one, s.all_elsewhere x))
-    (λ x other. s.direct x) s.made ei
+    (λ x other. s.direct x) s.made (omega (arith, ei))
 
 cookie-ends : (gs : List Cookie) (k x : ℕ) → (slice_index_or gs k no_cookie).revoked ≡ false → sum_by (cookie_holds x) (slice_set gs k no_cookie) + count_if (eqb (slice_index_or gs k no_cookie).object x) ≡ sum_by (cookie_holds x) gs
 cookie-ends [] k x h = absurd (cc)
@@ -156,7 +156,7 @@ revoked t v hs n r c h e s ei =
     let less : held_outside (books_of v) x + count_if (eqb (cookie (books_of t) n).object x) ≡ held_outside (books_of t) x = ap (λ (b : Books). held_outside b x + count_if (eqb (cookie (books_of t) n).object x)) e ∙ cookie-less (books_of t) n x held in
     let one : count_if (eqb (cookie (books_of t) n).object x) ≡ count_if (true && eqb x r.object) = ap (λ (o : ℕ). count_if (eqb o x)) object ∙ grind (arith, common_steps) in
     omega (arith, less, one, s.all_elsewhere x))
-    (λ x other. s.direct x) s.made ei
+    (λ x other. s.direct x) s.made (omega (arith, ei))
 
 -- ---- fewer objects that are connected
 
@@ -194,3 +194,58 @@ drop_row t n p h = drops (owns_of t.objects) (books_of t) 0 n (shown p) (packet_
 
 pub revoke_row : (t : Tables) (n : ℕ) → changed (books_of t) (change (owns_of t.objects) (books_of t) (Revokes n)) ≡ changed (books_of t) (Withdraw n)
 revoke_row t n = refl
+
+-- ---- a packet that is unmarshalled
+
+module _ (t v : Tables) (hs : List ℕ) (a n : ℕ) (p : P.Packet) (c : IsCounted t hs) (h : outstanding_in (is_connected t.stubs) t.packets n ≡ Some p)
+    (e : books_of v ≡ changed (books_of t) (change (owns_of t.objects) (books_of t) (Unmarshals a n))) (ei : v.issued ≡ t.issued + 1) (some : 0 < p.object) (made : p.object ≤ length t.objects) where
+  is-shown : packet (books_of t) n ≡ shown p
+  is-shown = (packet_shown t n p h).0
+
+  is-out : (packet (books_of t) n).outstanding ≡ true
+  is-out = ap (λ (q : Packet). q.outstanding) is-shown
+
+  holds-one : (x : ℕ) → p.mode ≡ marshal.Normal → packet_holds x (packet (books_of t) n) ≡ count_if (eqb x p.object)
+  holds-one x m = ap (λ (q : Packet). packet_holds x q) is-shown ∙ shown-holds p x ∙ ap (λ (m : MarshalMode). count_if (not (is_weak m) && eqb x p.object)) m
+
+  normal-here : p.mode ≡ marshal.Normal → owns_of t.objects p.object a ≡ true → OneMore t v a p.object true → IsCounted v (hold_less p.object true hs)
+  normal-here m w one =
+      let r : books_of v ≡ changed (books_of t) (Return n) = e ∙ returns (owns_of t.objects) (books_of t) a n (shown p) is-shown refl m w in
+      still v (hold_less p.object true hs) p.object
+      (lost t v hs p.object true c (live-row t v (Return n) r)
+      (λ x.
+        let less : held_outside (books_of v) x + packet_holds x (packet (books_of t) n) ≡ held_outside (books_of t) x = ap (λ (b : Books). held_outside b x + packet_holds x (packet (books_of t) n)) r ∙ outside-end (books_of t) n x is-out in
+        let elsewhere : locals_of x v.proxies ≡ locals_of x t.proxies + 0 = one.all_elsewhere x in
+        omega (arith, less, holds-one x m, elsewhere))
+      (λ x other. let direct : direct_in v x ≡ direct_in t x + count_if (true && eqb x p.object) = one.direct x in grind (arith, common_steps, direct, other))
+      one.made (omega (arith, ei)))
+      (let direct : direct_in v p.object ≡ direct_in t p.object + count_if (true && eqb p.object p.object) = one.direct p.object in grind (arith, common_steps, direct))
+
+  normal-elsewhere : p.mode ≡ marshal.Normal → owns_of t.objects p.object a ≡ false → OneMore t v a p.object false → IsCounted v (hold_more p.object false hs)
+  normal-elsewhere m w one =
+      let r : books_of v ≡ changed (books_of t) (Join a n) = e ∙ joins (owns_of t.objects) (books_of t) a n (shown p) is-shown refl m w in
+      gained t v hs p.object false c (live-row t v (Join a n) r)
+      (λ x.
+        let less : held_outside (books_of v) x + packet_holds x (packet (books_of t) n) ≡ held_outside (books_of t) x = ap (λ (b : Books). held_outside b x + packet_holds x (packet (books_of t) n)) r ∙ outside-join (books_of t) a n x is-out in
+        let elsewhere : locals_of x v.proxies ≡ locals_of x t.proxies + count_if (eqb x p.object) = one.all_elsewhere x in
+        omega (arith, less, holds-one x m, elsewhere))
+      (λ x. omega (arith, one.direct x)) one.made ei some made
+
+  table-here : (p.mode ≡ marshal.Normal → ⊥) → owns_of t.objects p.object a ≡ true → OneMore t v a p.object true → IsCounted v (hold_more p.object false hs)
+  table-here m w one =
+      let r : books_of v ≡ books_of t = e ∙ keeps_table (owns_of t.objects) (books_of t) a n (shown p) is-shown refl m w in
+      copied t v hs a p.object true c one r ei some made
+
+  table-elsewhere : (p.mode ≡ marshal.Normal → ⊥) → owns_of t.objects p.object a ≡ false → OneMore t v a p.object false → IsCounted v (hold_more p.object true hs)
+  table-elsewhere m w one =
+      let r : books_of v ≡ changed (books_of t) (ToProxy a p.object p.iface 5) = e ∙ takes_table (owns_of t.objects) (books_of t) a n (shown p) is-shown refl m w in
+      gained t v hs p.object true c (live-row t v (ToProxy a p.object p.iface 5) r)
+      (λ x. let out : held_outside (books_of v) x ≡ held_outside (books_of t) x = ap (λ (b : Books). held_outside b x) r in omega (arith, out, one.all_elsewhere x))
+      (λ x. omega (arith, one.direct x)) one.made ei some made
+
+  pub unmarshalled : (normal owned : Bool) → (normal ≡ true → p.mode ≡ marshal.Normal) → (normal ≡ false → p.mode ≡ marshal.Normal → ⊥) → owns_of t.objects p.object a ≡ owned → OneMore t v a p.object owned
+      → IsCounted v (cond normal (hold_less p.object owned hs) (hold_more p.object (not owned) hs))
+  unmarshalled true true m o w one = normal-here (m refl) w one
+  unmarshalled true false m o w one = normal-elsewhere (m refl) w one
+  unmarshalled false true m o w one = table-here (o refl) w one
+  unmarshalled false false m o w one = table-elsewhere (o refl) w one

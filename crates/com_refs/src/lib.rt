@@ -115,6 +115,29 @@ fn settle(holders: &mut Holders, held: u64, object: u32) -> bool
     true
 }
 
+// The holders once a packet was unmarshalled: a normal one ends, and any other stays.
+fn recount(holds: &mut [u64], object: u32, owned: bool, normal: bool)
+    requires fits { hold_of holds.old object + 1 < 2 ^ 64 }
+    ensures { holds.new ≡ (if normal then hold_less object owned holds.old else hold_more object (not owned) holds.old) }
+{
+    if normal {
+        lose_hold(holds, object, owned);
+        return;
+    }
+    gain_hold(holds, object, !owned);
+}
+
+// The packet is one that ends when it is unmarshalled.
+fn is_normal(mode: MarshalMode) -> bool
+    ensures { IsTrue result ↔ (mode ≡ MarshalMode.Normal) }
+{
+    match mode {
+        MarshalMode::Normal => true,
+        MarshalMode::Strong => false,
+        MarshalMode::Weak => false,
+    }
+}
+
 // The object, if it lost its last holder.
 fn if_lost(lost: bool, object: u32) -> Option<u32>
     ensures { result ≡ (if lost then Some object else None) }
@@ -149,6 +172,16 @@ impl Refs {
             holders: Holders::new(alloc),
             holds: Vec::new(alloc),
         }
+    }
+
+    /// Makes room for `n` calls.
+    pub fn reserve(&mut self, n: u32) -> Result<(), Memory>
+        ensures room { OnOk result (n ≤ self.new.spare) }
+        ensures same { self.new ≡ record self.old { spare = self.new.spare } }
+        ensures spare { self.old.spare ≤ self.new.spare }
+    {
+        self.holds.reserve(n as usize)?;
+        self.holders.reserve(n)
     }
 
     /// Between calls nothing is left to give back or to cut.
@@ -294,6 +327,32 @@ impl Refs {
                 let owned = self.holders.owns(held.object, apartment);
                 gain_hold(&mut self.holds, held.object, !owned);
                 Ok(held)
+            }
+            Err(error) => Err(error),
+        }
+    }
+
+    /// A packet's reference, in a place of the apartment. A normal packet ends: its references go to the proxy, or back to the stub
+    /// in an apartment that owns the object. `Unknown` exactly where no outstanding packet has the number.
+    /// Source: CoUnmarshalInterface.
+    pub fn unmarshal(&mut self, apartment: u32, number: u32) -> Result<Packet, RefsError>
+        requires few { self.old.issued < 2 ^ 28 }
+        ensures unknown { (result ≡ Err RefsError.Unknown) ↔ (outstanding_in (is_connected self.old.stubs) self.old.packets number ≡ None) }
+        ensures packet { IfOk result (λ packet. outstanding_in (is_connected self.old.stubs) self.old.packets number ≡ Some packet) }
+        ensures row { OnOk result (books_of self.new ≡ changed (books_of self.old) (change (owns_of self.old.objects) (books_of self.old) (Unmarshals apartment number))) }
+        ensures places { IfOk result (λ packet. OneMore self.old self.new apartment packet.object (owns_of self.old.objects packet.object apartment)) }
+        ensures offers { (x j : ℕ) → offers self.new x j ≡ offers self.old x j }
+        ensures issued { OnOk result (self.new.issued ≡ self.old.issued + 1) }
+        ensures room { 0 < self.old.spare → result ≡ Err RefsError.Memory → ⊥ }
+        ensures err { OnErr result (self.new ≡ self.old) }
+        ensures spare { self.old.spare ≤ self.new.spare + 1 }
+    {
+        self.holders.stands();
+        match self.holders.unmarshal(apartment, number) {
+            Ok(packet) => {
+                let owned = self.holders.owns(packet.object, apartment);
+                recount(&mut self.holds, packet.object, owned, is_normal(packet.mode));
+                Ok(packet)
             }
             Err(error) => Err(error),
         }
