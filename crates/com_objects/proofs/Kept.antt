@@ -1,5 +1,5 @@
 -- The objects after one is made and after one is released.
-use Rattle.std.proofs.Common.{◌≡◌, ℕ, zero, suc, ◌+◌, ◌-◌, ◌<◌, ◌≤◌, ◌^◌, Bool, true, false, ◌==◌, ◌||◌, List, [], ◌∷◌, ◌++◌, length, map, Option, Some, None, refl, sym, ◌∙◌, ap, subst, ⊎_elim, arith, slice_index_or, slice_set, slice_get, eqb-true, lit<}
+use Rattle.std.proofs.Common.{◌≡◌, ℕ, zero, suc, ◌+◌, ◌-◌, ◌<◌, ◌≤◌, ◌^◌, Bool, true, false, ◌==◌, ◌||◌, List, [], ◌∷◌, ◌++◌, length, Option, Some, None, refl, sym, ◌∙◌, ap, subst, ⊎_elim, arith, slice_index_or, slice_set, slice_get, eqb-true, lit<}
 use Rattle.std.proofs.lemmas.Bool.{cases_eq, false_from_ne_true}
 use Rattle.std.proofs.lemmas.Grind.{common_steps}
 use Rattle.std.proofs.lemmas.List.{get_or-set_same, get_or-set_other, length-append, length-set, length-map, map-append}
@@ -65,9 +65,9 @@ released-own rows o (suc k) r h le t e =
 pub kept_released : (rows : List Row) (finaled : List ℕ) (o : ℕ) (r : Row) → ObjectsKept rows finaled → 1 ≤ o → o ≤ length rows → r.released ≡ true → ObjectsKept (slice_set rows (o - 1) r) (finaled ++ o ∷ [])
 kept_released rows finaled o r k h le t = record {
   released = λ p. ⊎_elim
-    (λ same. member-last p o finaled same ∙ sym (released-own rows o p r h le t same))
-    (λ other. member-kept p o finaled other ∙ k.released p ∙ sym (released-set rows o p r h other))
-    (cases_eq p o);
+      (λ same. member-last p o finaled same ∙ sym (released-own rows o p r h le t same))
+      (λ other. member-kept p o finaled other ∙ k.released p ∙ sym (released-set rows o p r h other))
+      (cases_eq p o);
   numbered = omega (arith, length-set rows (o - 1) r, k.numbered);
 }
 

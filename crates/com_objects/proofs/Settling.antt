@@ -1,9 +1,9 @@
 -- The list of dying objects, without the one that was released and with those that are new, is what the definition makes of it.
-use Rattle.std.proofs.Common.{◌≡◌, ℕ, zero, suc, ◌+◌, ◌<◌, ◌≤◌, Bool, true, false, not, cond, ◌==◌, ◌||◌, ◌&&◌, List, [], ◌∷◌, ◌++◌, Option, Some, None, refl, sym, ◌∙◌, ap, ap₂, subst, ⊎_elim, arith, filter, eqb-true}
+use Rattle.std.proofs.Common.{◌≡◌, ℕ, zero, suc, ◌+◌, ◌<◌, ◌≤◌, Bool, true, false, not, cond, ◌==◌, ◌||◌, ◌&&◌, List, [], ◌∷◌, ◌++◌, Option, None, refl, sym, ◌∙◌, ap, ap₂, subst, ⊎_elim, arith, filter, eqb-true}
 use Rattle.std.proofs.lemmas.Bool.{cases_eq, false_from_ne_true}
 use Rattle.std.proofs.lemmas.Grind.{common_steps}
 use Rattle.com_model.specs.Dying.{fallen_more}
-use Rattle.com_model.specs.Lists.{is_member, is_number, one_to}
+use Rattle.com_model.specs.Lists.{is_member, one_to}
 use Rattle.com_objects.specs.Settled.{DieBut, Rise, Falls, without}
 
 still : (dying : ℕ → Bool) (freed : Option ℕ) (os : List ℕ) → DieBut dying freed os → filter dying os ≡ without freed os
@@ -69,16 +69,16 @@ rise-is (suc k) a (o ∷ os) r =
     let n : a + suc k ≡ (a + 1) + k = omega arith in
     ⊎_elim
     (λ same.
-      let tail : Rise (a + 1) os ((a + 1) + k) = subst (λ (i : ℕ). Rise i os ((a + 1) + k)) (sym same) (subst (λ (m : ℕ). Rise o os m) n r.1) in
-      ap (λ (b : Bool). cond (b || is_member (a + 1) os) ((a + 1) ∷ filter (λ x. is_member x (o ∷ os)) (up (a + 1) k)) (filter (λ x. is_member x (o ∷ os)) (up (a + 1) k))) (test-same (a + 1) o same)
-      ∙ ap₂ (λ (i : ℕ) (xs : List ℕ). i ∷ xs) same
-        (filter-up (a + 1) k (λ x. is_member x (o ∷ os)) (λ x. is_member x os) (λ x l h. ap (λ (b : Bool). b || is_member x os) (test-other x o (λ e. absurd (omega (arith, e, l, same)))))
-         ∙ rise-is k (a + 1) os tail))
+    let tail : Rise (a + 1) os ((a + 1) + k) = subst (λ (i : ℕ). Rise i os ((a + 1) + k)) (sym same) (subst (λ (m : ℕ). Rise o os m) n r.1) in
+    ap (λ (b : Bool). cond (b || is_member (a + 1) os) ((a + 1) ∷ filter (λ x. is_member x (o ∷ os)) (up (a + 1) k)) (filter (λ x. is_member x (o ∷ os)) (up (a + 1) k))) (test-same (a + 1) o same)
+    ∙ ap₂ (λ (i : ℕ) (xs : List ℕ). i ∷ xs) same
+    (filter-up (a + 1) k (λ x. is_member x (o ∷ os)) (λ x. is_member x os) (λ x l h. ap (λ (b : Bool). b || is_member x os) (test-other x o (λ e. absurd (omega (arith, e, l, same)))))
+    ∙ rise-is k (a + 1) os tail))
     (λ other.
-      let above : a + 1 < o = omega (arith, r.0, other) in
-      ap (λ (b : Bool). cond b ((a + 1) ∷ filter (λ x. is_member x (o ∷ os)) (up (a + 1) k)) (filter (λ x. is_member x (o ∷ os)) (up (a + 1) k)))
-        (ap₂ (λ (b c : Bool). b || c) (test-other (a + 1) o other) (member-low o os (a + suc k) (a + 1) r.1 (omega (arith, above))))
-      ∙ rise-is k (a + 1) (o ∷ os) (above, subst (λ (m : ℕ). Rise o os m) n r.1))
+    let above : a + 1 < o = omega (arith, r.0, other) in
+    ap (λ (b : Bool). cond b ((a + 1) ∷ filter (λ x. is_member x (o ∷ os)) (up (a + 1) k)) (filter (λ x. is_member x (o ∷ os)) (up (a + 1) k)))
+    (ap₂ (λ (b c : Bool). b || c) (test-other (a + 1) o other) (member-low o os (a + suc k) (a + 1) r.1 (omega (arith, above))))
+    ∙ rise-is k (a + 1) (o ∷ os) (above, subst (λ (m : ℕ). Rise o os m) n r.1))
     (cases_eq (a + 1) o)
 
 fresh-is : (dying : ℕ → Bool) (n : ℕ) (before fresh : List ℕ) → Falls dying n before fresh → fresh ≡ filter (λ o. dying o && not (is_member o before)) (one_to n)

@@ -1,5 +1,5 @@
 -- When the list of dying objects is what the definition makes of it.
-use Rattle.std.specs.Prelude.{◌≡◌, ℕ, ◌<◌, ◌≤◌, Bool, true, not, ◌&&◌, List, [], ◌∷◌, filter, Option}
+use Rattle.std.specs.Prelude.{◌≡◌, ℕ, ◌<◌, ◌≤◌, Bool, not, ◌&&◌, List, [], ◌∷◌, filter, Option}
 use Rattle.com_model.specs.Lists.{is_member, is_number}
 
 -- Each of these still dies, but for one that was released.

@@ -61,7 +61,12 @@ impl Objects {
         ensures err { OnErr result (self.new ≡ self.old) }
     {
         match deed {
-            Deed::Made { object, apartment, class, .. } => self.make(making_of(*object, *apartment, class)),
+            Deed::Made {
+                object,
+                apartment,
+                class,
+                ..
+            } => self.make(making_of(*object, *apartment, class)),
             Deed::Final { object } => self.release(*object),
             _ => Ok(()),
         }

@@ -17,7 +17,7 @@ pub returns-clause-ok : goal.returns-clause-ok
 unfolding seen
 returns-clause-ok c =
     ap₂ seen
-      (makings_kept c.self.inside.rows.items (c.args.object - 1) (record { making = c.index_mut.result.now.making; released = true }) c.index_mut.result.now
-        (ap (λ (x : Row). x.making) c.index_mut.ensures.value))
-      c.in_ok-push.ensures.items
+    (makings_kept c.self.inside.rows.items (c.args.object - 1) (record { making = c.index_mut.result.now.making; released = true }) c.index_mut.result.now
+    (ap (λ (x : Row). x.making) c.index_mut.ensures.value))
+    c.in_ok-push.ensures.items
     ∙ ap (λ (t : ObjectTables). seen t.makings (t.finaled ++ c.args.object ∷ [])) c.self.view_is
