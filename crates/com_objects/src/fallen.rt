@@ -32,8 +32,8 @@ impl Fallen {
         }
     }
 
-    /// After an entry: `gone` was released by it, if it is one, and `fresh` are those that are dying now and were
-    /// not before, by number. The only error is want of memory, and then nothing has changed.
+    /// After an entry: `gone` was released by it, if it is one, and `fresh` are those that are dying now
+    /// and were not before, by number. The only error is want of memory, and then nothing has changed.
     #[tactic(auto, using(crate::proofs::Settling::settled))]
     pub fn settle(&mut self, gone: Option<u32>, fresh: &[u32]) -> Result<(), Memory>
         ensures ok { OnOk result ((dying : ℕ → Bool) (n : ℕ) → DieBut dying gone self.old

@@ -1,5 +1,5 @@
-//! What a core keeps of objects: who made each and of what class, which were released, how many bodies of each
-//! run, and which of them wait for their Final.
+//! What a core keeps of objects: who made each and of what class, which were released, how many bodies of
+//! each run, and which of them wait for their Final.
 #![tactic(auto)]
 
 mod entered;

@@ -19,8 +19,8 @@ struct Row {
     released: bool,
 }
 
-/// The objects that were made, numbered from 1 in the order of making, and those that were released, in the order
-/// of their Finals.
+/// The objects that were made, numbered from 1 in the order of making, and those that were released, in
+/// the order of their Finals.
 #[derive(Debug, Drop)]
 pub struct Objects {
     rows: Vec<Row>,
@@ -57,7 +57,8 @@ impl Objects {
     pub fn apply(&mut self, lane: u32, deed: &Deed) -> Result<(), Memory>
         requires released { IsMade (length self.old.makings) (finals deed.now) }
         requires room { length self.old.makings + 1 < 2 ^ 32 }
-        ensures ok { OnOk result (self.new ≡ objects_after self.old (record { lane = lane; deed = deed.now })) }
+        ensures ok { OnOk result (self.new
+            ≡ objects_after self.old (record { lane = lane; deed = deed.now })) }
         ensures err { OnErr result (self.new ≡ self.old) }
     {
         match deed {
@@ -118,7 +119,8 @@ impl Objects {
         }
     }
 
-    /// The apartment that owns an object, the neutral one for an agile object, and 0 for one that was not made.
+    /// The apartment that owns an object, the neutral one for an agile object, and 0 for one that was not
+    /// made.
     pub fn owner(&self, object: u32) -> u32
         ensures { result ≡ named_at self.now object }
     {
@@ -163,7 +165,8 @@ fn row_at(rows: &[Row], object: u32) -> Option<Row>
 
 /// The making that a Made entry says.
 fn making_of(object: Option<u32>, apartment: Option<u32>, class: &Asked) -> Option<Making>
-    ensures { (iface : Asked) (hr : HResult) → result ≡ makes (Deed.Made object apartment class.now iface hr) }
+    ensures { (iface : Asked) (hr : HResult)
+        → result ≡ makes (Deed.Made object apartment class.now iface hr) }
 {
     let Some(object) = object else {
         return None;
