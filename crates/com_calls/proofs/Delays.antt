@@ -1,5 +1,5 @@
 -- The list of the calls that wait for a time, and the least of these times.
-use Rattle.std.proofs.Common.{◌≡◌, refl, sym, ◌∙◌, ap, ap₂, arith, subst, ℕ, zero, suc, ◌+◌, ◌-◌, ◌<◌, ◌≤◌, Bool, true, false, not, cond, eqb, nat_lt, min, ◌==◌, ◌&&◌, ◌||◌, List, [], ◌∷◌, ◌++◌, fold, filter, filter_map, length, Option, Some, None, is_some, slice_get, slice_index_or, map, eqb-true, if◌then◌else◌}
+use Rattle.std.proofs.Common.{◌≡◌, refl, sym, ◌∙◌, ap, ap₂, arith, ℕ, zero, suc, ◌+◌, ◌<◌, ◌≤◌, Bool, true, false, not, cond, eqb, nat_lt, min, ◌==◌, ◌&&◌, ◌||◌, List, [], ◌∷◌, ◌++◌, fold, filter, filter_map, length, Option, Some, None, is_some, slice_get, slice_index_or, map, eqb-true}
 use Rattle.std.specs.List.{IsDistinct, AllByRecursion, list_any, cons_option}
 use Rattle.std.specs.Cmp.{nat_eq_equiv}
 use Rattle.std.proofs.lemmas.Grind.{common_steps}
@@ -14,12 +14,11 @@ use Rattle.com_base.specs.declared.value.Value.{Value}
 use Rattle.com_model.specs.declared.keeps.Ending.{Ending}
 use Rattle.com_model.specs.declared.keeps.Phase.{Phase}
 use Rattle.com_model.specs.declared.keeps.Phase.TheVariants.{Unposted, Queued, Judged, Delayed, GivenUp}
-use Rattle.com_model.specs.Lists.{or_else, where_true, lesser, least, one_to, from_one, number_or_zero}
+use Rattle.com_model.specs.Lists.{or_else, lesser, least, one_to, number_or_zero}
 use Rattle.com_model.specs.Waiting.{is_queued}
 use Rattle.com_inbox.specs.Queues.{Queues}
 use Rattle.com_calls.specs.declared.rows.CallRow.{CallRow}
 use Rattle.com_calls.specs.Rows.{changed_in, changed_row, row_at, phased, left_or}
-use Rattle.com_calls.specs.Kept.{Kept}
 use Rattle.com_calls.specs.Waits.{wait_until, wait_of, next_wait, sooner_of}
 use Rattle.com_calls.specs.Inside.{kept_of, is_delayed, row_delayed, row_wait, settles, stays, IsCovered}
 use Rattle.com_calls.proofs.Inboxes.{length-changed, length-grown, apart}

@@ -1,8 +1,7 @@
 -- Until when calls wait.
-use Rattle.std.specs.Prelude.{ℕ, Bool, true, false, nat_lt, min, length, filter_map, Option, Some, None, is_some}
+use Rattle.std.specs.Prelude.{ℕ, Bool, false, nat_lt, min, length, filter_map, Option, Some, None, is_some}
 use Rattle.com_model.specs.declared.keeps.Phase.{Phase}
 use Rattle.com_model.specs.declared.keeps.Phase.TheVariants.{Unposted, Delayed}
-use Rattle.com_model.specs.declared.keeps.Ending.{Ending}
 use Rattle.com_model.specs.Lists.{from_one, where_true, least, one_to}
 use Rattle.com_calls.specs.Kept.{Kept}
 

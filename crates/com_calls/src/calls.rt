@@ -20,9 +20,8 @@ ghost use Rattle.com_model.specs.Waiting.{is_queued, post_effect, retries};
 ghost use Rattle.com_calls.specs.Kept.{no_tables, with_tables, with_room, with_call, inbox_at, IsNamed};
 ghost use Rattle.com_calls.specs.Steps.{entered_at, ended_at, left_at, returned_at, phased_at, posted_at, taken_at, grown_at, out_entry, is_known, delay_of};
 
-use crate::rows;
-use crate::waits;
 use crate::rows::{CallRow, Cut, Issued};
+use crate::{rows, waits};
 use com_base::{HResult, Memory, Rows, Value};
 use com_filter::Verdict;
 use com_inbox::Inbox;
@@ -93,7 +92,8 @@ impl Calls {
         let room = room_for(self.room, self.rows.len() as u32);
         self.rows.reserve(room as usize - self.rows.len())?;
         self.posted.reserve(1, room)?;
-        self.delayed.reserve((room as usize + 1).saturating_sub(self.delayed.len()))?;
+        self.delayed
+            .reserve((room as usize + 1).saturating_sub(self.delayed.len()))?;
         self.waiting.reserve(apartment + 1, room)?;
         self.room = room;
         Ok(())
@@ -112,7 +112,11 @@ impl Calls {
         requires number { issue.call ≡ length self.old.tables.issues + 1 }
         requires room { length self.old.tables.issues < self.old.room }
         requires inbox { issued.apartment < self.old.inboxes }
-        ensures { (o : ObjectTables) (filtered : Bool) (bytes : Option (List ℕ)) → self.new ≡ with_call self.old issued.apartment (calls_after o (record { outermost = outermost; filtered = filtered; clock = clock }) (record { refusal = issued.refusal; values = issued.values }) self.old.tables (out_entry issue bytes)) }
+        ensures { (o : ObjectTables) (filtered : Bool) (bytes : Option (List ℕ)) → self.new
+            ≡ with_call self.old issued.apartment (calls_after o
+            (record { outermost = outermost; filtered = filtered; clock = clock })
+            (record { refusal = issued.refusal; values = issued.values })
+            self.old.tables (out_entry issue bytes)) }
     {
         self.push(issue, issued, outermost, clock);
         match issue.route {
@@ -124,7 +128,9 @@ impl Calls {
 
     /// The Leave entry of a call.
     pub fn leave(&mut self, call: u32, hr: HResult, value: Option<Value>)
-        ensures { (o : ObjectTables) (m : Moment) (i : Issuing) (lane : ℕ) (bytes : Option (List ℕ)) → self.new ≡ with_tables self.old (calls_after o m i self.old.tables (record { lane = lane; deed = deed.Leave call hr value bytes })) }
+        ensures { (o : ObjectTables) (m : Moment) (i : Issuing) (lane : ℕ) (bytes : Option (List ℕ)) → self.new
+            ≡ with_tables self.old (calls_after o m i self.old.tables
+            (record { lane = lane; deed = deed.Leave call hr value bytes })) }
     {
         self.leave_row(call, hr, value);
     }
@@ -136,7 +142,10 @@ impl Calls {
         requires no_leave { leaves deed.now ≡ None }
         requires known { is_known self.old.tables (post_effect deed.now) }
         requires time { clock + delay_of deed.now < 2 ^ 64 }
-        ensures { (o : ObjectTables) (i : Issuing) (outermost : Bool) → IsNamed o self.old → self.new ≡ with_tables self.old (calls_after o (record { outermost = outermost; filtered = filtered; clock = clock }) i self.old.tables (record { lane = lane; deed = deed.now })) }
+        ensures { (o : ObjectTables) (i : Issuing) (outermost : Bool) → IsNamed o self.old → self.new
+            ≡ with_tables self.old (calls_after o
+            (record { outermost = outermost; filtered = filtered; clock = clock }) i
+            self.old.tables (record { lane = lane; deed = deed.now })) }
     {
         match deed {
             Deed::Enter {
@@ -429,9 +438,7 @@ impl Calls {
         ensures { self.new ≡ with_tables self.old (phased_at self.old.tables call (Delayed until)) }
     {
         waits::clean(&mut self.delayed, &self.rows, call);
-        rows::phase(&mut self.rows, call, Phase::Delayed {
-            until,
-        });
+        rows::phase(&mut self.rows, call, Phase::Delayed { until });
         self.waiting.remove(call);
         self.delayed.push_reserved(call);
     }

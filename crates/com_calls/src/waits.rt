@@ -46,13 +46,7 @@ fn row_wait(row: &CallRow, now: u64) -> Option<u64>
     ensures { result ≡ wait_until now row.now.phase (is_some row.now.ending) }
 {
     match (row.phase, &row.ending) {
-        (Phase::Delayed { until }, None) => {
-            if now < until {
-                Some(until)
-            } else {
-                None
-            }
-        }
+        (Phase::Delayed { until }, None) => { if now < until { Some(until) } else { None } }
         _ => None,
     }
 }

@@ -1,4 +1,4 @@
-use Rattle.std.proofs.Common.{◌≡◌, sym, ap, filter_map, length, None, is_some}
+use Rattle.std.proofs.Common.{sym, ap, filter_map, length, None, is_some}
 use Rattle.com_model.specs.declared.keeps.Phase.TheVariants.{Unposted}
 use Rattle.com_model.specs.Lists.{least, one_to, from_one}
 use Rattle.com_state.specs.Parts.{CallTables}

@@ -17,9 +17,10 @@ invariant_of-self c =
     let s = c.self.inside in
     let n : length c.args.self.now.tables.issues ≡ length s.rows.items = issues-length s.rows.items s.posted s.waiting s.room s.causes c.args.self.now c.self.view_is in
     let high : c.args.call ≤ length s.rows.items = omega (arith, n, c.requires) in
-    let is : take s.rows.len (c.phase.new.rows ++ drop (length c.phase.new.rows) s.rows.items) ≡ changed_row (phased (Delayed c.args.until)) c.args.call s.rows.items = grind (arith, common_steps) in
-    (rw (is, c.remove.ensures.queues) (kept_retired (phased (Delayed c.args.until)) c.args.call s.rows.items s.posted s.waiting s.rows.cap s.room s.causes c.self.invariant.0 (λ r. refl) (phased_waits_not (Delayed c.args.until) refl)),
-    rw (is, c.push_reserved.ensures.items, c.push_reserved.ensures.capacity, c.clean.ensures.items, c.clean.ensures.capacity, c.deref.ensures.value) (covered_delayed (Delayed c.args.until) c.args.call s.rows.items s.delayed.items (vec_capacity s.delayed) s.room high c.self.invariant.1))
+    let is : take s.rows.len (c.phase.new.rows ++ drop (length c.phase.new.rows) s.rows.items) ≡ changed_row (phased (Delayed c.args.until)) c.args.call s.rows.items = grind (arith, common_steps) in (
+      rw (is, c.remove.ensures.queues) (kept_retired (phased (Delayed c.args.until)) c.args.call s.rows.items s.posted s.waiting s.rows.cap s.room s.causes c.self.invariant.0 (λ r. refl) (phased_waits_not (Delayed c.args.until) refl)),
+      rw (is, c.push_reserved.ensures.items, c.push_reserved.ensures.capacity, c.clean.ensures.items, c.clean.ensures.capacity, c.deref.ensures.value) (covered_delayed (Delayed c.args.until) c.args.call s.rows.items s.delayed.items (vec_capacity s.delayed) s.room high c.self.invariant.1),
+    )
 
 pub returns : goal.returns
 returns c =

@@ -14,9 +14,10 @@ use Rattle.com_calls.proofs.calls.Calls.leave_row.Goals as goal
 pub invariant_of-self : goal.invariant_of-self
 invariant_of-self c =
     let s = c.self.inside in
-    let is : take s.rows.len (c.leave.new.rows ++ drop (length c.leave.new.rows) s.rows.items) ≡ changed_row (left_with c.args.call c.args.hr c.args.value) c.args.call s.rows.items = grind (arith, common_steps) in
-    (rw (is, c.remove.ensures.queues) (kept_retired (left_with c.args.call c.args.hr c.args.value) c.args.call s.rows.items s.posted s.waiting s.rows.cap s.room s.causes c.self.invariant.0 (λ r. left-apartment c.args.call c.args.hr c.args.value r.ending r) (left_waits_not c.args.call c.args.hr c.args.value)),
-    rw is (covered_fewer (left_with c.args.call c.args.hr c.args.value) c.args.call s.rows.items s.delayed.items (vec_capacity s.delayed) s.room (λ r h. left_fewer c.args.call c.args.hr c.args.value r.ending r h) c.self.invariant.1))
+    let is : take s.rows.len (c.leave.new.rows ++ drop (length c.leave.new.rows) s.rows.items) ≡ changed_row (left_with c.args.call c.args.hr c.args.value) c.args.call s.rows.items = grind (arith, common_steps) in (
+      rw (is, c.remove.ensures.queues) (kept_retired (left_with c.args.call c.args.hr c.args.value) c.args.call s.rows.items s.posted s.waiting s.rows.cap s.room s.causes c.self.invariant.0 (λ r. left-apartment c.args.call c.args.hr c.args.value r.ending r) (left_waits_not c.args.call c.args.hr c.args.value)),
+      rw is (covered_fewer (left_with c.args.call c.args.hr c.args.value) c.args.call s.rows.items s.delayed.items (vec_capacity s.delayed) s.room (λ r h. left_fewer c.args.call c.args.hr c.args.value r.ending r h) c.self.invariant.1),
+    )
 
 pub returns : goal.returns
 returns c =

@@ -1,4 +1,4 @@
-use Rattle.std.proofs.Common.{◌≡◌, ◌∙◌, ap, ap₂, vec_capacity, filter_map, List, ℕ}
+use Rattle.std.proofs.Common.{◌∙◌, ap, ap₂, vec_capacity, filter_map, List, ℕ}
 use Rattle.com_model.specs.Lists.{least}
 use Rattle.com_calls.specs.declared.rows.CallRow.{CallRow}
 use Rattle.com_calls.specs.Rows.{row_at}

@@ -25,9 +25,10 @@ invariant_of-self c =
     let n : length c.args.self.now.tables.issues ≡ length s.rows.items = issues-length s.rows.items s.posted s.waiting s.room s.causes c.args.self.now c.self.view_is in
     let high : c.args.call ≤ length s.rows.items = omega (arith, n, c.requires.high) in
     let shut : is_open d ≡ false = grind (arith, common_steps) in
-    let is_shut : is_open (slice_index_or s.rows.items (c.args.call - 1) d) ≡ false = ap (λ (r : CallRow). is_open r) (sym c.index-row.ensures) ∙ shut in
-    (rw (is, c.post.ensures, c.remove.ensures.queues, c.remove-2.ensures.queues) (kept_posted_closed c.args.call s.rows.items s.posted s.waiting s.rows.cap s.room s.causes d c.self.invariant.0 c.requires.low high is_shut),
-    rw is (covered_fewer (phased Queued) c.args.call s.rows.items s.delayed.items (vec_capacity s.delayed) s.room queued_no c.self.invariant.1))
+    let is_shut : is_open (slice_index_or s.rows.items (c.args.call - 1) d) ≡ false = ap (λ (r : CallRow). is_open r) (sym c.index-row.ensures) ∙ shut in (
+      rw (is, c.post.ensures, c.remove.ensures.queues, c.remove-2.ensures.queues) (kept_posted_closed c.args.call s.rows.items s.posted s.waiting s.rows.cap s.room s.causes d c.self.invariant.0 c.requires.low high is_shut),
+      rw is (covered_fewer (phased Queued) c.args.call s.rows.items s.delayed.items (vec_capacity s.delayed) s.room queued_no c.self.invariant.1),
+    )
 
 pub invariant_of-self-2 : goal.invariant_of-self-2
 invariant_of-self-2 c =
@@ -38,10 +39,11 @@ invariant_of-self-2 c =
     let high : c.args.call ≤ length s.rows.items = omega (arith, n, c.requires.high) in
     let free : is_open d ≡ true = grind (arith, common_steps) in
     let is_free : is_open (slice_index_or s.rows.items (c.args.call - 1) d) ≡ true = ap (λ (r : CallRow). is_open r) (sym c.index-row.ensures) ∙ free in
-    let kept = kept_posted c.args.call s.rows.items s.posted s.waiting s.rows.cap s.room s.causes d c.self.invariant.0 c.requires.low high is_free in
-    (rw (is, c.post.ensures, c.remove.ensures.queues, c.post-2.ensures, c.remove-2.ensures.queues)
-    (subst (λ (r : CallRow). IsKept (changed_row (phased Queued) c.args.call s.rows.items) (with_last (without_number s.posted c.args.call) 0 c.args.call) (with_last (without_number s.waiting c.args.call) r.apartment c.args.call) s.rows.cap s.room s.causes) (sym c.index-row.ensures) kept),
-    rw is (covered_fewer (phased Queued) c.args.call s.rows.items s.delayed.items (vec_capacity s.delayed) s.room queued_no c.self.invariant.1))
+    let kept = kept_posted c.args.call s.rows.items s.posted s.waiting s.rows.cap s.room s.causes d c.self.invariant.0 c.requires.low high is_free in (
+      rw (is, c.post.ensures, c.remove.ensures.queues, c.post-2.ensures, c.remove-2.ensures.queues)
+          (subst (λ (r : CallRow). IsKept (changed_row (phased Queued) c.args.call s.rows.items) (with_last (without_number s.posted c.args.call) 0 c.args.call) (with_last (without_number s.waiting c.args.call) r.apartment c.args.call) s.rows.cap s.room s.causes) (sym c.index-row.ensures) kept),
+      rw is (covered_fewer (phased Queued) c.args.call s.rows.items s.delayed.items (vec_capacity s.delayed) s.room queued_no c.self.invariant.1),
+    )
 
 pub returns-then-not-open : goal.returns-then-not-open
 returns-then-not-open c =

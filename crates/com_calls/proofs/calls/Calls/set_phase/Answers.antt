@@ -14,9 +14,10 @@ use Rattle.com_calls.proofs.calls.Calls.set_phase.Goals as goal
 pub invariant_of-self : goal.invariant_of-self
 invariant_of-self c =
     let s = c.self.inside in
-    let is : take s.rows.len (c.phase.new.rows ++ drop (length c.phase.new.rows) s.rows.items) ≡ changed_row (phased c.args.phase) c.args.call s.rows.items = grind (arith, common_steps) in
-    (rw (is, c.remove.ensures.queues) (kept_retired (phased c.args.phase) c.args.call s.rows.items s.posted s.waiting s.rows.cap s.room s.causes c.self.invariant.0 (λ r. refl) (phased_waits_not c.args.phase (settled_unqueued c.args.phase c.requires))),
-    rw is (covered_fewer (phased c.args.phase) c.args.call s.rows.items s.delayed.items (vec_capacity s.delayed) s.room (settled_no c.args.phase c.requires) c.self.invariant.1))
+    let is : take s.rows.len (c.phase.new.rows ++ drop (length c.phase.new.rows) s.rows.items) ≡ changed_row (phased c.args.phase) c.args.call s.rows.items = grind (arith, common_steps) in (
+      rw (is, c.remove.ensures.queues) (kept_retired (phased c.args.phase) c.args.call s.rows.items s.posted s.waiting s.rows.cap s.room s.causes c.self.invariant.0 (λ r. refl) (phased_waits_not c.args.phase (settled_unqueued c.args.phase c.requires))),
+      rw is (covered_fewer (phased c.args.phase) c.args.call s.rows.items s.delayed.items (vec_capacity s.delayed) s.room (settled_no c.args.phase c.requires) c.self.invariant.1),
+    )
 
 pub returns : goal.returns
 returns c =

@@ -14,9 +14,10 @@ use Rattle.com_calls.proofs.calls.Calls.take_values.Goals as goal
 pub invariant_of-self : goal.invariant_of-self
 invariant_of-self c =
     let s = c.self.inside in
-    let is : take s.rows.len (c.take.new.rows ++ drop (length c.take.new.rows) s.rows.items) ≡ changed_row taken c.args.call s.rows.items = grind (arith, common_steps) in
-    (rw is (kept_same taken c.args.call s.rows.items s.posted s.waiting s.rows.cap s.room s.causes c.self.invariant.0 (λ r. refl) (λ a r. refl)),
-    rw is (covered_fewer taken c.args.call s.rows.items s.delayed.items (vec_capacity s.delayed) s.room (λ r h. h) c.self.invariant.1))
+    let is : take s.rows.len (c.take.new.rows ++ drop (length c.take.new.rows) s.rows.items) ≡ changed_row taken c.args.call s.rows.items = grind (arith, common_steps) in (
+      rw is (kept_same taken c.args.call s.rows.items s.posted s.waiting s.rows.cap s.room s.causes c.self.invariant.0 (λ r. refl) (λ a r. refl)),
+      rw is (covered_fewer taken c.args.call s.rows.items s.delayed.items (vec_capacity s.delayed) s.room (λ r h. h) c.self.invariant.1),
+    )
 
 pub returns-clause-taken : goal.returns-clause-taken
 returns-clause-taken c =
