@@ -1,12 +1,12 @@
 -- An HRESULT and a result that a frame is given, as writes.
-use Rattle.std.proofs.Common.{◌≡◌, ℕ, List, [], ◌∷◌, Option, Some, None, fold, refl, sym, ◌∙◌, ap, pos, slice_index_or, slice_set}
+use Rattle.std.proofs.Common.{◌≡◌, ℕ, List, [], ◌∷◌, Option, Some, None, fold, refl, sym, ◌∙◌, ap, pos}
 use Rattle.com_base.specs.declared.hresult.HResult.{HResult}
 use Rattle.com_base.specs.declared.value.Value.{Value}
 use Rattle.com_base.specs.declared.value.Value.TheVariants as value
 use Rattle.com_body.specs.declared.operands.Destination.{Destination}
 use Rattle.com_body.specs.declared.operands.Destination.TheVariants as destination
 use Rattle.com_body.specs.Frames.{FrameView, entered, with_register, with_slot}
-use Rattle.com_model.specs.Frames.{Write as Writing, to_answer, to_destination, value_reference}
+use Rattle.com_model.specs.Frames.{to_answer, to_destination, value_reference}
 use Rattle.com_model.specs.State.{SceneTables}
 use Rattle.com_state.specs.SceneParts.{row_written, with_body, with_script, body_at, script_at}
 use Rattle.com_scene.specs.declared.actor.Actor.{Actor}

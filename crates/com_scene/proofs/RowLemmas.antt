@@ -1,5 +1,5 @@
 -- Lists where one row is set, and their columns.
-use Rattle.std.proofs.Common.{◌≡◌, ℕ, zero, suc, ◌+◌, ◌-◌, ◌<◌, ◌≤◌, List, [], ◌∷◌, ◌++◌, Option, Some, None, IsSome, arith, refl, sym, ◌∙◌, ap, ap₂, length, map, slice_set, slice_index_or, replicate, take, drop, add-one, length-append}
+use Rattle.std.proofs.Common.{◌≡◌, ℕ, zero, suc, ◌+◌, ◌<◌, ◌≤◌, List, [], ◌∷◌, ◌++◌, Option, None, IsSome, arith, refl, sym, ◌∙◌, ap, ap₂, length, map, slice_set, slice_index_or, replicate, take, drop, add-one, length-append}
 use Rattle.std.proofs.lemmas.List.{map-set}
 use Rattle.com_body.specs.declared.operands.Destination.{Destination}
 use Rattle.com_body.specs.declared.frame.Cells.{Cells}

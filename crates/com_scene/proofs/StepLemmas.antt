@@ -1,7 +1,6 @@
 -- A step with its writes one by one is the step with all of them.
-use Rattle.std.proofs.Common.{◌≡◌, ℕ, List, [], ◌∷◌, Option, Some, None, fold, refl, sym, ◌∙◌, ap, slice_index_or, slice_set, pos}
+use Rattle.std.proofs.Common.{◌≡◌, ℕ, List, [], Option, Some, None, fold, refl, sym, ◌∙◌, ap, slice_set, pos}
 use Rattle.com_base.specs.declared.hresult.HResult.{HResult}
-use Rattle.com_base.specs.declared.value.Value.{Value}
 use Rattle.com_base.specs.declared.value.Value.TheVariants as value
 use Rattle.com_body.specs.declared.actions.Action.{Action}
 use Rattle.com_body.specs.declared.actions.Action.TheVariants as action
@@ -10,7 +9,7 @@ use Rattle.com_body.specs.declared.frame.Outcome.{Outcome}
 use Rattle.com_body.specs.Frames.{FrameView, entered, with_register, with_slot}
 use Rattle.com_model.specs.declared.deeds.Deed.{Deed}
 use Rattle.com_model.specs.declared.deeds.Deed.TheVariants as deed
-use Rattle.com_model.specs.Frames.{Write as Writing, new_cells, with_link, to_answer, writes}
+use Rattle.com_model.specs.Frames.{Write as Writing, new_cells, with_link, writes}
 use Rattle.com_model.specs.State.{SceneTables}
 use Rattle.com_state.specs.SceneParts.{row_written, row_wanted, rows_framed, rows_acted}
 use Rattle.com_scene.specs.declared.actor.Actor.{Actor}

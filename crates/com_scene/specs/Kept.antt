@@ -3,7 +3,7 @@ use Rattle.std.specs.Prelude.{◌≡◌, ℕ, List, Option, Some, None, All, len
 use Rattle.com_body.specs.declared.frame.Outcome.{Outcome}
 use Rattle.com_body.specs.Bodies.{IsDestination}
 use Rattle.com_body.specs.Frames.{FrameView}
-use Rattle.com_model.specs.Frames.{Actor as Acting, Body, Script, Nobody}
+use Rattle.com_model.specs.Frames.{Actor as Acting, Script}
 use Rattle.com_model.specs.State.{SceneTables}
 use Rattle.com_scene.specs.Ranges.{WritesInRange}
 

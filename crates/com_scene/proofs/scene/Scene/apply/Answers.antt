@@ -1,5 +1,5 @@
 -- The tables are changed as the definition says, and keep what holds of every scene.
-use Rattle.std.proofs.Common.{◌≡◌, ℕ, OnOk, subst, slice_index_or}
+use Rattle.std.proofs.Common.{◌≡◌, OnOk, subst, slice_index_or}
 use Rattle.com_model.specs.State.{SceneTables}
 use Rattle.com_state.specs.SceneParts.{rows_after}
 use Rattle.com_scene.specs.Actors.{acting_of}

@@ -1,10 +1,9 @@
 -- The body has a frame, and its row's frame is given what the writes say.
-use Rattle.std.proofs.Common.{◌≡◌, ◌<◌, length, arith, List, ◌∷◌, sym, ◌∙◌, ap, ap₂, subst, fold, map, slice_set, slice_index_or, IsSome}
-use Rattle.com_body.specs.declared.operands.Destination.{Destination}
+use Rattle.std.proofs.Common.{◌<◌, length, arith, ◌∷◌, sym, ◌∙◌, ap, subst, fold, IsSome}
 use Rattle.com_body.specs.Frames.{FrameView}
 use Rattle.com_model.specs.Frames.{to_answer, to_destination}
 use Rattle.com_scene.specs.declared.tables.CallRow.{CallRow}
-use Rattle.com_scene.specs.Seen.{seen, body_of, destination_of}
+use Rattle.com_scene.specs.Seen.{body_of, destination_of}
 use Rattle.com_scene.specs.Steps.{frame_with}
 use Rattle.com_scene.proofs.RowLemmas.{row_changed, seated_at}
 use Rattle.com_scene.proofs.tables.Tables.give_body.Goals as goal
