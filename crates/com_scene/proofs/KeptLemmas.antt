@@ -36,7 +36,7 @@ script_slots t l k = All_at HasSlots t.scripts l (entered []) refl k.slots
 pub destination_in_range : (t : SceneTables) (c : ℕ) → IsKept t → IsDestination (destination_at t c)
 destination_in_range t c k = All_at IsDestination t.destinations c destination.Nowhere tt k.destinations
 
-script_kept : (t : SceneTables) (l : ℕ) (f : FrameView) → HasSlots f → IsKept t → IsKept (record t { scripts = slice_set t.scripts l f })
+pub script_kept : (t : SceneTables) (l : ℕ) (f : FrameView) → HasSlots f → IsKept t → IsKept (record t { scripts = slice_set t.scripts l f })
 script_kept t l f h k = record { slots = All-set HasSlots t.scripts l f h k.slots; destinations = k.destinations }
 
 written_kept : (a : Acting) (t : SceneTables) (w : Writing) → IsKept t → IsKept (row_written a t w)

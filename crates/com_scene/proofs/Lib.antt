@@ -3,3 +3,4 @@ pub mod GiveLemmas
 pub mod KeptLemmas
 pub mod RowLemmas
 pub mod StepLemmas
+pub mod PreparedLemmas

@@ -2,15 +2,18 @@
 ghost use Rattle.std.specs.Prelude.{◌≡◌, ℕ, IfOk, IfSome, OnOk, OnErr, MatchOption, [], slice_index_or};
 ghost use Rattle.com_body.specs.Frames.{entered};
 ghost use Rattle.com_model.specs.Apartments.{ends_sta};
-ghost use Rattle.com_state.specs.SceneParts.{cells_at, destination_at, rows_after};
+ghost use Rattle.com_model.specs.Frames.{to_answer};
+ghost use Rattle.com_state.specs.SceneParts.{cells_at, destination_at, row_written, rows_acted, rows_after};
 ghost use Rattle.com_scene.specs.Actors.{acting_of};
 ghost use Rattle.com_scene.specs.Kept.{FitsActor, IsStep, NamesOwners};
+ghost use Rattle.com_scene.specs.Prepared.{KeepsScene, prepared};
 ghost use Rattle.com_scene.specs.Ranges.{FitsDeed};
 ghost use Rattle.com_scene.specs.Scenes.{new_scene, frame_of};
 
 use crate::actor::Actor;
+use crate::prepared::Prepared;
 use crate::tables::Tables;
-use com_base::Memory;
+use com_base::{HResult, Memory, Value};
 use com_body::{Cells, Destination, Frame, Outcome};
 use com_model::Deed;
 use std::alloc::Global;
@@ -101,5 +104,57 @@ impl Scene {
     {
         self.tables
             .apply(acting, outcome, after, lane, deed, owners)
+    }
+    /// The step of whoever acts, where it makes the entry, and what the entry writes for it, made ready for
+    /// `commit`. The only error is want of memory.
+    pub fn prepare(
+        &self,
+        alloc: Global,
+        acting: Actor,
+        outcome: Option<Outcome>,
+        deed: &Deed,
+    ) -> Result<Prepared, Memory>
+        requires deed { FitsDeed deed.now }
+        requires step { IsStep (acting_of acting) outcome }
+        ensures does { IfOk result (λ ready. prepared ready self.now
+            ≡ rows_acted (acting_of acting) outcome deed.now self.now) }
+        ensures keeps { IfOk result (λ ready. KeepsScene ready) }
+    {
+        Prepared::new(alloc, acting, outcome, deed)
+    }
+
+    /// Whoever acts is given an HRESULT, made ready for `commit`. The only error is want of memory.
+    pub fn prepare_answer(
+        &self,
+        alloc: Global,
+        acting: Actor,
+        hr: HResult,
+    ) -> Result<Prepared, Memory>
+        ensures does { IfOk result (λ ready. prepared ready self.now
+            ≡ row_written (acting_of acting) self.now (to_answer hr)) }
+        ensures keeps { IfOk result (λ ready. KeepsScene ready) }
+    {
+        let mut frame = self.own_frame(alloc, acting)?;
+        frame.set_register(15, Value::Int(hr.0 as i64));
+        Prepared::place(alloc, acting, frame)
+    }
+
+    // A copy of the frame of whoever acts.
+    fn own_frame(&self, alloc: Global, acting: Actor) -> Result<Frame, Memory>
+        ensures frame { IfOk result (λ frame. frame ≡ frame_of self.now (acting_of acting)) }
+        ensures slots { IfOk result (λ frame. FitsActor (acting_of acting) frame) }
+    {
+        match self.frame(acting) {
+            Some(frame) => frame.copy(alloc),
+            None => Frame::enter(alloc, &[]),
+        }
+    }
+
+    /// Does a change that was made ready.
+    pub fn commit(&mut self, ready: Prepared)
+        requires { KeepsScene ready }
+        ensures { self.new ≡ prepared ready self.old }
+    {
+        self.tables.change(ready);
     }
 }
