@@ -1,5 +1,6 @@
 pub mod Counteds
 pub mod Ends
+pub mod Makings
 pub mod Moved
 pub mod Outside
 pub mod Rests

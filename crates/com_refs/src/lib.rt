@@ -12,7 +12,9 @@ ghost use Rattle.com_stub.specs.StubRows.{is_connected};
 ghost use Rattle.com_slots.specs.Table.{held_in};
 ghost use Rattle.com_proxy.specs.Rows.{local_of};
 ghost use Rattle.com_holders.specs.Tables.{books_of, owns_of, owners_of, is_owned, object_in, direct_in, offers, outstanding_in};
-ghost use Rattle.com_holders.specs.Places.{OneMore, OneLess, SamePlaces};
+ghost use Rattle.com_holders.specs.Steps.{made_live, among};
+ghost use Rattle.com_holders.specs.Places.{OneMore, OneLess, SamePlaces, places_in};
+ghost use Rattle.com_books.specs.Counting.{count_if};
 ghost use Rattle.com_holders.specs.Stands.{Tells};
 ghost use Rattle.com_books.specs.Changes.{Books, changed, change, cut, packet, is_weak, Makes, Takes, Asks, Marshals, Unmarshals, Drops, Registers, Revokes, ToCookie, Return, Withdraw};
 ghost use Rattle.com_refs.specs.Counts.{hold_of, hold_less, hold_more};
@@ -159,6 +161,27 @@ fn holds_object(mode: MarshalMode) -> bool
     }
 }
 
+// The first place of an object: a direct one, or one of a proxy with new references.
+fn place(holders: &mut Holders, apartment: u32, held: RefValue)
+    requires live { is_connected holders.old.stubs held.object ≡ true }
+    requires known { offers holders.old held.object held.iface ≡ true }
+    requires few { holders.old.issued < 2 ^ 28 }
+    requires room { 0 < holders.old.spare }
+    ensures row { books_of holders.new ≡ changed (books_of holders.old) (change (owns_of holders.old.objects) (books_of holders.old) (Makes apartment held.object held.iface)) }
+    ensures places { OneMore holders.old holders.new apartment held.object (owns_of holders.old.objects held.object apartment) }
+    ensures offers { (x j : ℕ) → offers holders.new x j ≡ offers holders.old x j }
+    ensures issued { holders.new.issued ≡ holders.old.issued + 1 }
+    ensures most { holders.new.spare ≤ holders.old.spare }
+    ensures spare { holders.old.spare ≤ holders.new.spare + 1 }
+{
+    holders.stands();
+    if holders.owns(held.object, apartment) {
+        holders.keep_direct(held.object);
+        return;
+    }
+    holders.issue_elsewhere(apartment, held);
+}
+
 impl Refs {
     /// No object was made and nothing is held. It takes no memory.
     pub fn new(alloc: Global) -> Self
@@ -175,9 +198,12 @@ impl Refs {
     }
 
     /// Makes room for `n` calls.
+    #[tactic(auto, unfolding(com_holders::specs::Tables::books_of))]
     pub fn reserve(&mut self, n: u32) -> Result<(), Memory>
         ensures room { OnOk result (n ≤ self.new.spare) }
+        ensures succeeds { n ≤ self.old.spare → IsOk result }
         ensures same { self.new ≡ record self.old { spare = self.new.spare } }
+        ensures books { books_of self.new ≡ books_of self.old }
         ensures spare { self.old.spare ≤ self.new.spare }
     {
         self.holds.reserve(n as usize)?;
@@ -189,6 +215,65 @@ impl Refs {
         ensures { (n : ℕ) (places : ℕ → ℕ → ℕ) → Tells n places self.now → Totals n places self.now → ends n places (books_of self.now) ≡ books_of self.now }
     {
         self.holders.gives_nothing();
+    }
+
+    /// An object of the owner's is made, the next by its number, and the apartment has a place for it by an interface of its set.
+    /// Every apartment owns an agile object. The call takes the room of two.
+    pub fn made(
+        &mut self,
+        object: u32,
+        owner: u32,
+        agile: bool,
+        apartment: u32,
+        iface: u16,
+        set: &[u16],
+    ) -> Result<(), Memory>
+        requires new { object ≡ length self.old.objects + 1 }
+        requires small { length set.now ≤ 17 }
+        requires within { among iface set.now ≡ true }
+        requires few { self.old.issued + 1 < 2 ^ 28 }
+        ensures row { OnOk result (books_of self.new ≡ changed (made_live object (books_of self.old)) (change (owns_of self.new.objects) (made_live object (books_of self.old)) (Makes apartment object iface))) }
+        ensures owns { OnOk result ((x c : ℕ) → x ≤ length self.old.objects → owns_of self.new.objects x c ≡ owns_of self.old.objects x c) }
+        ensures direct { OnOk result ((x : ℕ) → direct_in self.new x ≡ direct_in self.old x + count_if (owns_of self.new.objects object apartment && x == object)) }
+        ensures elsewhere { OnOk result ((c x : ℕ) → places_in self.new c x ≡ places_in self.old c x + count_if (not (owns_of self.new.objects object apartment) && (c == apartment && x == object))) }
+        ensures offers { OnOk result ((x j : ℕ) → offers self.new x j ≡ (offers self.old x j || (x == object && among j set.now))) }
+        ensures issued { OnOk result (self.new.issued ≡ self.old.issued + 2) }
+        ensures err { OnErr result (self.new ≡ record self.old { spare = self.new.spare }) }
+        ensures room { 2 ≤ self.old.spare → IsOk result }
+    {
+        self.reserve(2)?;
+        self.hold_made(object, owner, agile, apartment, iface, set);
+        Ok(())
+    }
+
+    // The same, where there is room.
+    fn hold_made(
+        &mut self,
+        object: u32,
+        owner: u32,
+        agile: bool,
+        apartment: u32,
+        iface: u16,
+        set: &[u16],
+    )
+        requires new { object ≡ length self.old.objects + 1 }
+        requires small { length set.now ≤ 17 }
+        requires within { among iface set.now ≡ true }
+        requires few { self.old.issued + 1 < 2 ^ 28 }
+        requires room { 2 ≤ self.old.spare }
+        ensures row { books_of self.new ≡ changed (made_live object (books_of self.old)) (change (owns_of self.new.objects) (made_live object (books_of self.old)) (Makes apartment object iface)) }
+        ensures owns { (x c : ℕ) → x ≤ length self.old.objects → owns_of self.new.objects x c ≡ owns_of self.old.objects x c }
+        ensures direct { (x : ℕ) → direct_in self.new x ≡ direct_in self.old x + count_if (owns_of self.new.objects object apartment && x == object) }
+        ensures elsewhere { (c x : ℕ) → places_in self.new c x ≡ places_in self.old c x + count_if (not (owns_of self.new.objects object apartment) && (c == apartment && x == object)) }
+        ensures offers { (x j : ℕ) → offers self.new x j ≡ (offers self.old x j || (x == object && among j set.now)) }
+        ensures issued { self.new.issued ≡ self.old.issued + 2 }
+    {
+        self.holders.stands();
+        self.holders.add_object(owner, agile, set);
+        self.holds.push_reserved(0);
+        let owned = self.holders.owns(object, apartment);
+        place(&mut self.holders, apartment, RefValue { object, iface });
+        gain_hold(&mut self.holds, object, !owned);
     }
 
     /// One place less, to the end of its entry. True exactly where the object then has no holder of any kind that is counted.
