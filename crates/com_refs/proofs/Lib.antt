@@ -6,3 +6,4 @@ pub mod Outside
 pub mod Rests
 pub mod Settling
 pub mod Steps
+pub mod Ties

@@ -7,13 +7,13 @@
 //! are one end. Source: MS-DCOM 3.2.4.4, and Essential COM, chapter 5.
 #![tactic(auto)]
 
-ghost use Rattle.std.specs.Prelude.{◌≡◌, ◌+◌, ◌-◌, ◌<◌, ◌≤◌, ◌^◌, ◌↔◌, ◌&&◌, ◌||◌, ◌==◌, ℕ, true, false, not, [], length, OnOk, OnErr, IfOk, IsOk, IsTrue, Ok, Err, Some, None, if◌then◌else◌};
+ghost use Rattle.std.specs.Prelude.{◌≡◌, ◌+◌, ◌-◌, ◌<◌, ◌≤◌, ◌^◌, ◌↔◌, ◌&&◌, ◌||◌, ◌==◌, ℕ, Bool, true, false, not, [], length, OnOk, OnErr, IfOk, IsOk, IsTrue, Ok, Err, Some, None, if◌then◌else◌};
 ghost use Rattle.com_stub.specs.StubRows.{is_connected};
 ghost use Rattle.com_slots.specs.Table.{held_in};
 ghost use Rattle.com_proxy.specs.Rows.{local_of};
-ghost use Rattle.com_holders.specs.Tables.{books_of, owns_of, owners_of, is_owned, object_in, direct_in, offers, outstanding_in};
+ghost use Rattle.com_holders.specs.Tables.{Tables, books_of, owns_of, owners_of, is_owned, object_in, direct_in, offers, outstanding_in};
 ghost use Rattle.com_holders.specs.Steps.{made_live, among};
-ghost use Rattle.com_holders.specs.Places.{OneMore, OneLess, SamePlaces, places_in};
+ghost use Rattle.com_holders.specs.Places.{Counts, OneMore, OneLess, SamePlaces, places_in};
 ghost use Rattle.com_books.specs.Counting.{count_if};
 ghost use Rattle.com_holders.specs.Stands.{Tells};
 ghost use Rattle.com_books.specs.Changes.{Books, changed, change, cut, packet, is_weak, Makes, Takes, Asks, Marshals, Unmarshals, Drops, Registers, Revokes, ToCookie, Return, Withdraw};
@@ -208,6 +208,14 @@ impl Refs {
     {
         self.holds.reserve(n as usize)?;
         self.holders.reserve(n)
+    }
+
+    /// A table of places that is what the tables count tells which proxies have a place, and totals the places of an object.
+    pub fn tells(&self)
+        ensures tells { (n : ℕ) (places : ℕ → ℕ → ℕ) → Counts n places self.now → Tells n places self.now }
+        ensures totals { (n : ℕ) (places : ℕ → ℕ → ℕ) → Counts n places self.now → Totals n places self.now }
+    {
+        self.holders.stands();
     }
 
     /// Between calls nothing is left to give back or to cut.
@@ -539,6 +547,12 @@ impl Refs {
         self.holders.packet(number)
     }
 }
+
+/// A table of places stays what the tables count, where a call changes none, and where both have one more.
+pub fn counts_move()
+    ensures same { (n : ℕ) (places : ℕ → ℕ → ℕ) (t u : Tables) → Counts n places t → SamePlaces t u → Counts n places u }
+    ensures more { (n : ℕ) (places later : ℕ → ℕ → ℕ) (t u : Tables) (a o : ℕ) (owned : Bool) → Counts n places t → OneMore t u a o owned → owns_of t.objects o a ≡ owned → a < n → ((c x : ℕ) → later c x ≡ places c x + count_if (c == a && x == o)) → Counts n later u }
+{}
 
 /// Ending an entry twice, with fewer places the second time, is ending it once.
 pub fn ends_compose()
