@@ -99,3 +99,33 @@ module _ (n : ℕ) (places later : ℕ → ℕ → ℕ) (t u : Tables) where
           rw none refl
       | false ↦ λ y. grind (arith, common_steps)
     ] refl
+
+  row-less : (w owned e : Bool) (p q : ℕ) → (e ≡ true → w ≡ owned) → q + count_if e ≡ p → cond w q 0 + count_if (owned && e) ≡ cond w p 0
+  row-less true owned true p q h g = let o : true ≡ owned = h refl in rw (← o) g
+  row-less true owned false p q h g = grind (arith, common_steps, g)
+  row-less false owned true p q h g = let o : false ≡ owned = h refl in rw (← o) refl
+  row-less false owned false p q h g = grind (arith, common_steps)
+
+  pub counts_less : (a o : ℕ) (owned : Bool) → Counts n places t → OneLess t u a o owned → owns_of t.objects o a ≡ owned → a < n → ((c x : ℕ) → later c x + count_if (eqb c a && eqb x o) ≡ places c x) → Counts n later u
+  counts_less a o owned c m w l h = record {
+    direct = λ x.
+        let others : (j : ℕ) → (j ≡ a → ⊥) → cond (owns_of t.objects x j) (places j x) 0 ≡ cond (owns_of u.objects x j) (later j x) 0 = λ j other. let same : later j x ≡ places j x = grind (arith, common_steps, h j x, other) in rw (m.owns x j, same) refl in
+        let here : cond (owns_of u.objects x a) (later a x) 0 + count_if (owned && eqb x o) ≡ cond (owns_of t.objects x a) (places a x) 0 =
+        ap (λ (w : Bool). cond w (later a x) 0 + count_if (owned && eqb x o)) (m.owns x a) ∙ row-less (owns_of t.objects x a) owned (eqb x o) (places a x) (later a x) (λ e. let same : x ≡ o = eqb-true x o e in rw same w) (let g : later a x + count_if (eqb a a && eqb x o) ≡ places a x = h a x in grind (arith, common_steps, g)) in
+        let sum = sum-changed n a (λ j. cond (owns_of t.objects x j) (places j x) 0) (λ j. cond (owns_of u.objects x j) (later j x) 0) l others in
+        omega (arith, sum, here, c.direct x, m.direct x);
+    elsewhere = λ d x k v.
+        let before : places d x ≡ places_in t d x = c.elsewhere d x k (sym (m.owns x d) ∙ v) in
+        let after : places_in u d x + count_if (eqb d a && eqb x o) ≡ places_in t d x = ap (λ (p : ℕ). places_in u d x + p) (tests d x v) ∙ m.elsewhere d x in
+        omega (arith, before, after, h d x);
+    past = λ d x k. omega (arith, m.elsewhere d x, c.past d x k);
+  } where
+    tests : (d x : ℕ) → owns_of u.objects x d ≡ false → count_if (eqb d a && eqb x o) ≡ count_if (not owned && (eqb d a && eqb x o))
+    tests d x v = elim (eqb d a && eqb x o) as (λ y. eqb d a && eqb x o ≡ y → count_if y ≡ count_if (not owned && y)) [
+      | true ↦ λ y.
+          let ed : d ≡ a = eqb-true d a (grind (arith, common_steps, y)) in
+          let ex : x ≡ o = eqb-true x o (grind (arith, common_steps, y)) in
+          let none : owned ≡ false = sym w ∙ sym (m.owns o a) ∙ rw (← ed, ← ex) v in
+          rw none refl
+      | false ↦ λ y. grind (arith, common_steps)
+    ] refl

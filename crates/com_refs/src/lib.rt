@@ -548,13 +548,48 @@ impl Refs {
     }
 }
 
-/// A table of places stays what the tables count, where a call changes none, and where both have one more.
+/// A table of places stays what the tables count, where a call changes none, and where both have one more or one less.
 pub fn counts_move()
     ensures same { (n : ℕ) (places : ℕ → ℕ → ℕ) (t u : Tables) → Counts n places t → SamePlaces t u → Counts n places u }
     ensures more { (n : ℕ) (places later : ℕ → ℕ → ℕ) (t u : Tables) (a o : ℕ) (owned : Bool) → Counts n places t → OneMore t u a o owned → owns_of t.objects o a ≡ owned → a < n → ((c x : ℕ) → later c x ≡ places c x + count_if (c == a && x == o)) → Counts n later u }
+    ensures less { (n : ℕ) (places later : ℕ → ℕ → ℕ) (t u : Tables) (a o : ℕ) (owned : Bool) → Counts n places t → OneLess t u a o owned → owns_of t.objects o a ≡ owned → a < n → ((c x : ℕ) → later c x + count_if (c == a && x == o) ≡ places c x) → Counts n later u }
 {}
 
 /// Ending an entry twice, with fewer places the second time, is ending it once.
 pub fn ends_compose()
     ensures { (n : ℕ) (places later : ℕ → ℕ → ℕ) (b : Books) → ((a o : ℕ) → later a o ≤ places a o) → ends n later (ends n places b) ≡ ends n later b }
 {}
+
+#[cfg(test)]
+mod tests {
+    use super::*;
+    use std::test::Fail;
+
+    const COUNTER: RefValue = RefValue {
+        object: 1,
+        iface: 2,
+    };
+
+    #[test]
+    fn a_packet_holds_its_object_until_it_is_dropped(rt: HostRuntime) -> Result<(), Fail> {
+        let mut refs = Refs::new(rt.alloc());
+        refs.made(1, 3, false, 3, 2, &[0, 2])?;
+        assert_eq!(rt; refs.marshal(3, COUNTER, MarshalMode::Normal), Ok(1));
+        assert_eq!(rt; refs.drop_packet(1), Ok(None));
+        assert_eq!(rt; refs.drop_packet(1), Err(RefsError::Unknown));
+        assert!(rt; refs.connected(1));
+        Ok(())
+    }
+
+    #[test]
+    fn a_cookie_gives_its_reference_until_it_is_revoked(rt: HostRuntime) -> Result<(), Fail> {
+        let mut refs = Refs::new(rt.alloc());
+        refs.made(1, 3, false, 4, 2, &[0, 2])?;
+        assert_eq!(rt; refs.register(COUNTER), Ok(1));
+        assert_eq!(rt; refs.revoke(1), Ok(None));
+        assert_eq!(rt; refs.revoke(1), Err(RefsError::Unknown));
+        refs.disconnect(1);
+        assert!(rt; !refs.connected(1));
+        Ok(())
+    }
+}
