@@ -189,6 +189,7 @@ impl Refs {
         ensures proxies { result.proxies ≡ [] }
         ensures packets { result.packets ≡ [] }
         ensures cookies { result.cookies ≡ [] }
+        ensures stubs { result.stubs ≡ [] }
         ensures issued { result.issued ≡ 0 }
     {
         Refs {
