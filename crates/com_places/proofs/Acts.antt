@@ -1,5 +1,5 @@
 -- What the action of whoever acts does to places.
-use Rattle.std.specs.Prelude.{◌≡◌, refl, ℕ, ◌+◌, List, [], ◌∷◌, Option, Some, None, fold}
+use Rattle.std.specs.Prelude.{◌≡◌, refl, ℕ, ◌+◌, Option, Some, None, fold}
 use Rattle.std.proofs.Common.{arith}
 use Rattle.com_base.specs.declared.value.RefValue.{RefValue}
 use Rattle.com_body.specs.declared.actions.Action.{Action}
@@ -12,8 +12,8 @@ use Rattle.com_model.specs.Frames.{Scene, Actor, Body, Script, Nobody, writes, w
 use Rattle.com_model.specs.Places.{Ground, Test, places_that}
 use Rattle.com_balance.proofs.Moves.{OutBy}
 use Rattle.com_places.specs.Moves.{Moves, no_moves, writes_moves, acted_moves}
-use Rattle.com_places.proofs.Frames.{with_body, with_cells, with_script}
-use Rattle.com_places.proofs.Writes.{BodyStands, Stands, Moved, second-part, first-part, third-part, body-same, script-same, cells-same, moved-both, writes-move}
+use Rattle.com_places.proofs.Frames.{with_body, with_cells}
+use Rattle.com_places.proofs.Writes.{Stands, Moved, second-part, first-part, third-part, body-same, script-same, cells-same, moved-both, writes-move}
 
 framed : (s : Scenario) (g : Ground) (S B : ℕ → RefValue → Type 0) (I L : Type 0) (a : Actor) (r : Outcome) (w : Scene) → Stands s g a → OutBy s S B I L a w (Some r) → Moved s g w (with_frame a r w) no_moves
 framed s g S B I L (Body c o) r w p q = moved-both s g w (with_body w c r.frame) (with_cells (with_body w c r.frame) o r.cells) no_moves no_moves

@@ -1,10 +1,8 @@
 -- What the scene after an entry's action does to places, where nothing else changes: a body that leaves or is entered, what is
 -- written at a Back, a script's slots at the last Uninit, an object's links at its Final.
-use Rattle.std.proofs.Common.{subst, sym, ap, ◌∙◌, arith}
-use Rattle.std.specs.Prelude.{◌≡◌, refl, ℕ, zero, suc, ◌+◌, ◌<◌, List, [], ◌∷◌, ◌++◌, Option, Some, None, fold, replicate}
-use Rattle.com_base.specs.declared.value.RefValue.{RefValue}
-use Rattle.com_body.specs.Frames.{FrameView, entered}
-use Rattle.com_body.specs.declared.frame.Cells.{Cells}
+use Rattle.std.proofs.Common.{subst, sym, arith}
+use Rattle.std.specs.Prelude.{◌≡◌, refl, ℕ, zero, suc, ◌+◌, ◌<◌, [], ◌∷◌, Option, Some, None, replicate}
+use Rattle.com_body.specs.Frames.{entered}
 use Rattle.com_books.specs.Counting.{sum_below}
 use Rattle.com_model.specs.declared.deeds.Deed.{Deed}
 use Rattle.com_model.specs.declared.deeds.Deed.TheVariants as deed
@@ -12,9 +10,9 @@ use Rattle.com_model.specs.declared.scenario.Scenario.{Scenario}
 use Rattle.com_model.specs.Answers.{S_OK}
 use Rattle.com_model.specs.Tables.{threads, lanes}
 use Rattle.com_model.specs.Frames.{Scene, Actor, to_answer, to_destination, arrived}
-use Rattle.com_model.specs.Places.{Ground, Test, in_slots, in_scripts, in_bodies, in_links, places_that}
+use Rattle.com_model.specs.Places.{Ground, Test, in_slots, in_bodies}
 use Rattle.com_places.specs.Moves.{Moves, all_moved, no_moves, counted, entered_where, writes_moves}
-use Rattle.com_places.proofs.Frames.{slots_in, slots_at, with_body, with_script, with_cells, open_of, InApartment, body-put, body-closed, script-put, cells-put}
+use Rattle.com_places.proofs.Frames.{with_body, open_of, InApartment, body-put, body-closed, script-put, cells-put}
 use Rattle.com_places.proofs.Counted.{counted-slots, counted-home, nulls-at, nulls-in}
 use Rattle.com_places.proofs.Writes.{BodyStands, Stands, Moved, first-part, second-part, third-part, write-moves, writes-move}
 

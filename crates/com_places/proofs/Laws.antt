@@ -1,6 +1,6 @@
 -- The law of places: what an entry takes from places and brings to places is all that it changes of them.
 use Rattle.std.proofs.Common.{arith}
-use Rattle.std.specs.Prelude.{◌≡◌, refl, ℕ, zero, suc, ◌+◌, ◌≤◌, List, [], ◌∷◌, ◌++◌, Option, Some, None}
+use Rattle.std.specs.Prelude.{◌≡◌, refl, ℕ, zero, suc, ◌+◌, List, ◌∷◌, ◌++◌, Option}
 use Rattle.com_body.specs.declared.frame.Outcome.{Outcome}
 use Rattle.com_body.specs.Frames.{entered}
 use Rattle.com_model.specs.declared.deeds.Deed.{Deed}
@@ -8,23 +8,22 @@ use Rattle.com_model.specs.declared.deeds.Deed.TheVariants as deed
 use Rattle.com_model.specs.declared.deeds.Entry.{Entry}
 use Rattle.com_model.specs.declared.scenario.Scenario.{Scenario}
 use Rattle.com_model.specs.Apartments.{ends_sta, home}
-use Rattle.com_model.specs.Objects.{objects, class_of, named}
-use Rattle.com_model.specs.Calls.{issue}
-use Rattle.com_model.specs.Frames.{Scene, scene, Actor, actor_in, to_answer, to_destination, outcome}
-use Rattle.com_model.specs.Places.{Ground, ground, Test, in_scripts, in_bodies, in_links, in_results, left_value, places_that}
+use Rattle.com_model.specs.Objects.{objects, named}
+use Rattle.com_model.specs.Frames.{Scene, scene, Actor, actor_in, to_answer, to_destination}
+use Rattle.com_model.specs.Places.{Ground, ground, Test, left_value, places_that}
 use Rattle.com_model.specs.Rules.{legal}
 use Rattle.com_model.specs.Formed.{Formed}
 use Rattle.com_model.proofs.Kept.{legal-kept}
 use Rattle.com_balance.proofs.Bases.{S0, B0, I_of, L_of}
 use Rattle.com_balance.proofs.Directs.{out-base}
-use Rattle.com_places.specs.Moves.{Moves, counted, result_moved, writes_moves, acted_moves, arrived_moves, ended_moves, acting_in, outcome_in, after_acting, after_arriving, entry_moves, PlacesMove}
+use Rattle.com_places.specs.Moves.{Moves, counted, result_moved, writes_moves, acted_moves, arrived_moves, ended_moves, acting_in, outcome_in, after_acting, after_arriving, PlacesMove}
 use Rattle.com_places.proofs.Counted.{counted-both, counted-slots}
 use Rattle.com_places.proofs.Writes.{Moved}
 use Rattle.com_places.proofs.Acts.{acted-move}
 use Rattle.com_places.proofs.Arrives.{scene_moves, arrived-move}
 use Rattle.com_places.proofs.Cuts.{cut-move}
 use Rattle.com_places.proofs.Scripts.{HomesStay, homes-stay, scripts-stay}
-use Rattle.com_places.proofs.Bodies.{FrameOf, OpenersMove, entered_slots, bodies-move}
+use Rattle.com_places.proofs.Bodies.{FrameOf, entered_slots, bodies-move}
 use Rattle.com_places.proofs.Links.{NoneYet, links-stay}
 use Rattle.com_places.proofs.Results.{result_moves, results-move}
 use Rattle.com_places.proofs.Facts.{acting-stands, arrives-at, openers-move, frame-of, none-yet, not-first}

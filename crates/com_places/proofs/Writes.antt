@@ -1,16 +1,14 @@
 -- What a write, and a list of writes, does to places.
-use Rattle.std.proofs.Common.{subst, sym, ap, ◌∙◌, arith}
+use Rattle.std.proofs.Common.{subst, sym, ap, arith}
 use Rattle.std.specs.Prelude.{◌≡◌, refl, ℕ, ◌+◌, ◌<◌, List, [], ◌∷◌, ◌++◌, Option, Some, None, fold, slice_index_or, slice_set}
 use Rattle.com_base.specs.declared.value.RefValue.{RefValue}
-use Rattle.com_base.specs.declared.value.Value.{Value}
 use Rattle.com_body.specs.declared.frame.Cells.{Cells}
 use Rattle.com_body.specs.Frames.{FrameView, with_register, with_slot}
-use Rattle.com_model.specs.declared.deeds.Deed.{Deed}
 use Rattle.com_model.specs.declared.scenario.Scenario.{Scenario}
 use Rattle.com_model.specs.Tables.{threads}
 use Rattle.com_model.specs.Frames.{Scene, Actor, Body, Script, Nobody, Write, ToRegister, ToSlot, ToLink, ToBuffer, with_link, written}
-use Rattle.com_model.specs.Places.{Ground, Test, in_scripts, in_bodies, in_links, in_results, places_that}
-use Rattle.com_places.specs.Moves.{Move, Moves, moved, counted, no_moves, entered_where, slots_where, slots_of, write_moves, writes_moves}
+use Rattle.com_model.specs.Places.{Ground, Test, in_scripts, in_bodies, in_links, places_that}
+use Rattle.com_places.specs.Moves.{Moves, moved, counted, entered_where, slots_where, write_moves, writes_moves}
 use Rattle.com_places.proofs.Frames.{slots_in, slots_at, with_body, with_script, with_cells, OpenOnce, body-put, script-put, cells-put}
 use Rattle.com_places.proofs.Counted.{counted-both, put-in, put-at}
 
