@@ -11,3 +11,4 @@ pub mod Links
 pub mod Results
 pub mod Facts
 pub mod Laws
+pub mod Ranges
