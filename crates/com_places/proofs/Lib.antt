@@ -12,3 +12,4 @@ pub mod Results
 pub mod Facts
 pub mod Laws
 pub mod Ranges
+pub mod Wholes
