@@ -1,10 +1,9 @@
 -- In every legal history each frame has its eight slots and each object its four links, and each result goes to a slot that there is.
-use Rattle.std.proofs.Common.{subst, sym, ap, arith}
+use Rattle.std.proofs.Common.{subst, sym, arith}
 use Rattle.std.proofs.lemmas.List.{length-append, length-replicate, length-set}
-use Rattle.std.specs.Prelude.{◌≡◌, refl, ℕ, zero, suc, ◌+◌, ◌-◌, ◌≤◌, ◌<◌, Bool, cond, ◌==◌, List, [], ◌∷◌, ◌++◌, length, replicate, Option, Some, None, fold, slice_set}
+use Rattle.std.specs.Prelude.{◌≡◌, ℕ, zero, suc, ◌+◌, ◌-◌, ◌≤◌, ◌<◌, ◌==◌, List, [], ◌∷◌, ◌++◌, length, replicate, Option, Some, None, fold, slice_set}
 use Rattle.com_base.specs.declared.value.RefValue.{RefValue}
 use Rattle.com_base.specs.declared.value.Value.{Value}
-use Rattle.com_base.specs.declared.value.Value.TheVariants as value
 use Rattle.com_body.specs.declared.operands.Place.{Place}
 use Rattle.com_body.specs.declared.operands.Place.TheVariants as place
 use Rattle.com_body.specs.declared.operands.Destination.{Destination}
@@ -24,7 +23,7 @@ use Rattle.com_model.specs.Lists.{put}
 use Rattle.com_model.specs.Apartments.{ends_sta}
 use Rattle.com_model.specs.Objects.{class_of, named}
 use Rattle.com_model.specs.Calls.{issue}
-use Rattle.com_model.specs.Frames.{Scene, scene, first_scene, Actor, Body, Script, Nobody, actor_in, Write, ToRegister, ToSlot, ToLink, ToBuffer, to_place, to_answer, marshalled_in, writes, to_register, to_destination, with_link, written, with_frame, wants, acted, arrived, cut_links, acting, outcome}
+use Rattle.com_model.specs.Frames.{Scene, scene, first_scene, Actor, Body, Script, Nobody, actor_in, Write, ToRegister, ToSlot, ToLink, ToBuffer, to_place, to_answer, marshalled_in, writes, to_destination, with_link, written, with_frame, wants, acted, arrived, cut_links, acting, outcome}
 use Rattle.com_model.specs.Rules.{legal}
 use Rattle.com_model.specs.Formed.{Formed}
 use Rattle.com_model.proofs.Fines.{cond-is}
