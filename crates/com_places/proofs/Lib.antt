@@ -13,3 +13,4 @@ pub mod Facts
 pub mod Laws
 pub mod Ranges
 pub mod Wholes
+pub mod Tables
