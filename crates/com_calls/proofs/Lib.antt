@@ -4,3 +4,4 @@ pub mod Inboxes
 pub mod Entries
 pub mod Cuts
 pub mod RowReads
+pub mod Delays

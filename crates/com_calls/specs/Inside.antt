@@ -1,9 +1,14 @@
 -- How a `Calls` keeps its rows and inboxes. No public clause cites this module.
-use Rattle.std.specs.Prelude.{ℕ, zero, suc, ◌≡◌, ◌≤◌, ◌<◌, Bool, false, ◌==◌, ◌&&◌, List, [], ◌∷◌, length, map, filter, is_none, slice_index_or}
+use Rattle.std.specs.Prelude.{ℕ, zero, suc, ◌≡◌, ◌+◌, ◌≤◌, ◌<◌, Bool, true, false, not, nat_eq, ◌==◌, ◌&&◌, List, [], ◌∷◌, length, map, filter, Option, Some, None, is_none, is_some, slice_index_or}
+use Rattle.std.specs.List.{IsDistinct, list_any}
+use Rattle.com_model.specs.declared.keeps.Ending.{Ending}
+use Rattle.com_model.specs.declared.keeps.Phase.{Phase}
+use Rattle.com_model.specs.declared.keeps.Phase.TheVariants.{Judged, Delayed, GivenUp}
+use Rattle.com_calls.specs.Waits.{wait_until}
 use Rattle.com_model.specs.Waiting.{is_queued}
 use Rattle.com_inbox.specs.Queues.{Queues, queue_at}
 use Rattle.com_calls.specs.declared.rows.CallRow.{CallRow}
-use Rattle.com_calls.specs.Rows.{call_tables}
+use Rattle.com_calls.specs.Rows.{call_tables, row_at}
 use Rattle.com_calls.specs.Kept.{Kept}
 
 abbrev pub apartments_of : List CallRow → List ℕ
@@ -39,3 +44,34 @@ pub record IsKept (rows : List CallRow) (posted waiting : Queues) (capacity room
   pub causes_are : causes ≤ length rows
   pub homes : (k : ℕ) (d : CallRow) → k < length rows → (slice_index_or rows k d).apartment < length waiting.queues
   pub inboxes : (a : ℕ) → queue_at waiting a ≡ filter (waits_row rows a) (queue_at posted 0)
+
+-- A call waits for a time.
+abbrev pub is_delayed : Phase → Option Ending → Bool
+is_delayed (Delayed t) None = true
+is_delayed _ _ = false
+
+abbrev pub row_delayed : Option CallRow → Bool
+row_delayed None = false
+row_delayed (Some r) = is_delayed r.phase r.ending
+
+-- Until when the call of a row waits.
+abbrev pub row_wait : (now : ℕ) → Option CallRow → Option ℕ
+row_wait now None = None
+row_wait now (Some r) = wait_until now r.phase (is_some r.ending)
+
+-- In this phase a call is in no inbox and waits for no time.
+abbrev pub settles : Phase → Bool
+settles (Judged v) = true
+settles GivenUp = true
+settles _ = false
+
+-- What stays in the list of those that wait for a time, where a call is put at its end.
+abbrev pub stays : List CallRow → (call other : ℕ) → Bool
+stays rows c q = not (q == c) && row_delayed (row_at rows q)
+
+-- Each call that waits for a time is in the list; none is in it twice.
+pub record IsCovered (rows : List CallRow) (delayed : List ℕ) (capacity room : ℕ) : Type 0 where
+  pub distinct : IsDistinct nat_eq delayed
+  pub known : (q : ℕ) → list_any (nat_eq q) delayed ≡ true → q < length rows + 1
+  pub covers : (c : ℕ) → row_delayed (row_at rows c) ≡ true → list_any (nat_eq c) delayed ≡ true
+  pub spare : room < capacity

@@ -1,5 +1,6 @@
 pub mod Rows
 pub mod Kept
+pub mod Waits
 pub mod Inside
 pub mod Steps
 pub mod After

@@ -11,7 +11,7 @@ use Rattle.com_model.specs.declared.keeps.Phase.{Phase}
 use Rattle.com_model.specs.declared.keeps.Phase.TheVariants.{Unposted, Queued}
 use Rattle.com_model.specs.Lists.{or_else}
 use Rattle.com_model.specs.State.{changed_from_one}
-use Rattle.com_model.specs.Waiting.{PostEffect, Posts, posted_last}
+use Rattle.com_model.specs.Waiting.{PostEffect, Posts, Delays, posted_last}
 use Rattle.com_model.specs.declared.keeps.Issue.{Issue}
 use Rattle.com_model.specs.declared.deeds.Entry.{Entry}
 use Rattle.com_state.specs.Parts.{CallTables, Issuing}
@@ -44,9 +44,10 @@ posted_at t c = record t { phases = changed_from_one (Some (λ x. Queued)) c Unp
 abbrev pub taken_at : CallTables → ℕ → CallTables
 taken_at t c = record t { unread = values_gone c t.unread }
 
--- A call that is posted was issued.
+-- A call that is posted, or waits for a time, was issued.
 abbrev pub is_known : CallTables → PostEffect → Type 0
 is_known t (Posts c) = (1 ≤ c) × (c ≤ length t.issues)
+is_known t (Delays c ms) = c ≤ length t.issues
 is_known t _ = Unit {0}
 
 -- How long a Retry lets its call wait, in milliseconds.

@@ -1,6 +1,6 @@
 //! The calls and their inboxes.
 
-ghost use Rattle.std.specs.Prelude.{◌≡◌, ◌+◌, ◌<◌, ◌≤◌, ◌^◌, ℕ, Bool, List, Option, [], length, Some, None, is_some, false, OnOk, OnErr, IfOk};
+ghost use Rattle.std.specs.Prelude.{◌≡◌, ◌+◌, ◌<◌, ◌≤◌, ◌^◌, ℕ, Bool, List, Option, [], length, Some, None, is_some, true, false, OnOk, OnErr, IfOk};
 ghost use Rattle.com_model.specs.declared.deeds.Deed.TheVariants as deed;
 ghost use Rattle.com_model.specs.Calls.{issues, leaves};
 ghost use Rattle.com_model.specs.Apartments.{ends_sta};
@@ -9,7 +9,9 @@ ghost use Rattle.com_model.specs.Endings.{is_leave, cuts_object, cuts_sta};
 ghost use Rattle.com_state.specs.Parts.{ObjectTables, Moment, Issuing, calls_after, issue_at, admission_at};
 ghost use Rattle.std.specs.Option.{option_copied};
 ghost use Rattle.com_model.specs.Answers.{S_OK};
-ghost use Rattle.com_model.specs.declared.keeps.Phase.TheVariants.{Unposted};
+ghost use Rattle.com_model.specs.declared.keeps.Phase.TheVariants.{Unposted, Delayed};
+ghost use Rattle.com_calls.specs.Waits.{next_wait};
+ghost use Rattle.com_calls.specs.Inside.{settles};
 ghost use Rattle.com_calls.specs.Rows.{value_left};
 ghost use Rattle.com_calls.specs.After.{judged_at, retried_at, asked_at, cut_at, effect_of, cut_by, cut_one_at};
 ghost use Rattle.com_books.specs.Counting.{count_if};
@@ -18,8 +20,8 @@ ghost use Rattle.com_model.specs.Waiting.{is_queued, post_effect, retries};
 ghost use Rattle.com_calls.specs.Kept.{no_tables, with_tables, with_room, with_call, inbox_at, IsNamed};
 ghost use Rattle.com_calls.specs.Steps.{entered_at, ended_at, left_at, returned_at, phased_at, posted_at, taken_at, grown_at, out_entry, is_known, delay_of};
 
-use crate::rows;
 use crate::rows::{CallRow, Cut, Issued};
+use crate::{rows, waits};
 use com_base::{HResult, Memory, Rows, Value};
 use com_filter::Verdict;
 use com_inbox::Inbox;
@@ -39,6 +41,8 @@ pub struct Calls {
     posted: Inbox,
     // A queue for each apartment, of the posted calls that are neither judged, entered nor answered.
     waiting: Inbox,
+    // The calls that wait for a time, and some that did: what waits no more is taken out where a call comes in.
+    delayed: Vec<u32>,
     room: u32,
     causes: u32,
 }
@@ -46,13 +50,14 @@ pub struct Calls {
 impl Model for Calls {
     ghost use Rattle.std.specs.Prelude.{vec_capacity};
     ghost use Rattle.com_calls.specs.Kept.{Kept};
-    ghost use Rattle.com_calls.specs.Inside.{kept_of, IsKept};
+    ghost use Rattle.com_calls.specs.Inside.{kept_of, IsKept, IsCovered};
 
     ghost Value = { Kept };
 
     ghost view = { λ s. kept_of s.rows.items s.posted s.waiting s.room s.causes };
 
-    ghost invariant = { λ s. IsKept s.rows.items s.posted s.waiting (vec_capacity s.rows) s.room s.causes };
+    ghost invariant = { λ s. IsKept s.rows.items s.posted s.waiting (vec_capacity s.rows) s.room s.causes
+        × IsCovered s.rows.items s.delayed.items (vec_capacity s.delayed) s.room };
 }
 
 impl Calls {
@@ -63,10 +68,12 @@ impl Calls {
     {
         let posted = Inbox::new(alloc, 1)?;
         let waiting = Inbox::new(alloc, 0)?;
+        let delayed = Vec::with_capacity(alloc, 1)?;
         Ok(Calls {
             rows: Vec::new(alloc),
             posted,
             waiting,
+            delayed,
             room: 0,
             causes: 0,
         })
@@ -85,6 +92,8 @@ impl Calls {
         let room = room_for(self.room, self.rows.len() as u32);
         self.rows.reserve(room as usize - self.rows.len())?;
         self.posted.reserve(1, room)?;
+        self.delayed
+            .reserve((room as usize + 1).saturating_sub(self.delayed.len()))?;
         self.waiting.reserve(apartment + 1, room)?;
         self.room = room;
         Ok(())
@@ -103,7 +112,11 @@ impl Calls {
         requires number { issue.call ≡ length self.old.tables.issues + 1 }
         requires room { length self.old.tables.issues < self.old.room }
         requires inbox { issued.apartment < self.old.inboxes }
-        ensures { (o : ObjectTables) (filtered : Bool) (bytes : Option (List ℕ)) → self.new ≡ with_call self.old issued.apartment (calls_after o (record { outermost = outermost; filtered = filtered; clock = clock }) (record { refusal = issued.refusal; values = issued.values }) self.old.tables (out_entry issue bytes)) }
+        ensures { (o : ObjectTables) (filtered : Bool) (bytes : Option (List ℕ)) → self.new
+            ≡ with_call self.old issued.apartment (calls_after o
+            (record { outermost = outermost; filtered = filtered; clock = clock })
+            (record { refusal = issued.refusal; values = issued.values })
+            self.old.tables (out_entry issue bytes)) }
     {
         self.push(issue, issued, outermost, clock);
         match issue.route {
@@ -115,7 +128,9 @@ impl Calls {
 
     /// The Leave entry of a call.
     pub fn leave(&mut self, call: u32, hr: HResult, value: Option<Value>)
-        ensures { (o : ObjectTables) (m : Moment) (i : Issuing) (lane : ℕ) (bytes : Option (List ℕ)) → self.new ≡ with_tables self.old (calls_after o m i self.old.tables (record { lane = lane; deed = deed.Leave call hr value bytes })) }
+        ensures { (o : ObjectTables) (m : Moment) (i : Issuing) (lane : ℕ) (bytes : Option (List ℕ)) → self.new
+            ≡ with_tables self.old (calls_after o m i self.old.tables
+            (record { lane = lane; deed = deed.Leave call hr value bytes })) }
     {
         self.leave_row(call, hr, value);
     }
@@ -127,7 +142,10 @@ impl Calls {
         requires no_leave { leaves deed.now ≡ None }
         requires known { is_known self.old.tables (post_effect deed.now) }
         requires time { clock + delay_of deed.now < 2 ^ 64 }
-        ensures { (o : ObjectTables) (i : Issuing) (outermost : Bool) → IsNamed o self.old → self.new ≡ with_tables self.old (calls_after o (record { outermost = outermost; filtered = filtered; clock = clock }) i self.old.tables (record { lane = lane; deed = deed.now })) }
+        ensures { (o : ObjectTables) (i : Issuing) (outermost : Bool) → IsNamed o self.old → self.new
+            ≡ with_tables self.old (calls_after o
+            (record { outermost = outermost; filtered = filtered; clock = clock }) i
+            self.old.tables (record { lane = lane; deed = deed.now })) }
     {
         match deed {
             Deed::Enter {
@@ -177,12 +195,7 @@ impl Calls {
             self.post(call);
             return;
         }
-        self.set_phase(
-            call,
-            Phase::Delayed {
-                until: clock + answer as u64,
-            },
-        );
+        self.delay(call, clock + answer as u64);
     }
 
     /// A waiting caller's filter was asked about a word: 0 cancels the call.
@@ -419,9 +432,27 @@ impl Calls {
         rows::give_back(&mut self.rows, call);
     }
 
-    /// A call comes into a phase in which it is in no inbox.
+    /// A call waits until a time, in milliseconds.
+    fn delay(&mut self, call: u32, until: u64)
+        requires { call ≤ length self.old.tables.issues }
+        ensures { self.new ≡ with_tables self.old (phased_at self.old.tables call (Delayed until)) }
+    {
+        waits::clean(&mut self.delayed, &self.rows, call);
+        rows::phase(&mut self.rows, call, Phase::Delayed { until });
+        self.waiting.remove(call);
+        self.delayed.push_reserved(call);
+    }
+
+    /// The least time later than `now` that a call without answer waits for, in milliseconds.
+    pub fn next_time(&self, now: u64) -> Option<u64>
+        ensures { result ≡ next_wait self.now now }
+    {
+        waits::least_wait(&self.rows, &self.delayed, now)
+    }
+
+    /// A call comes into a phase in which it is in no inbox and waits for no time.
     fn set_phase(&mut self, call: u32, phase: Phase)
-        requires { is_queued phase ≡ false }
+        requires { settles phase ≡ true }
         ensures { self.new ≡ with_tables self.old (phased_at self.old.tables call phase) }
     {
         rows::phase(&mut self.rows, call, phase);

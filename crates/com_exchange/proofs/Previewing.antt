@@ -1,16 +1,15 @@
 -- What the packets of one call hold is what was foreseen.
 use Rattle.std.specs.Prelude.{map}
 use Rattle.std.specs.List.{AllByRecursion}
-use Rattle.std.proofs.Common.{◌≡◌, ℕ, zero, suc, ◌+◌, ◌-◌, ◌/◌, ◌<◌, ◌≤◌, Bool, true, false, ◌&&◌, eqb, cond, List, [], ◌∷◌, ◌++◌, length, get_or, take, drop, refl, sym, ap, subst, ◌∙◌, append_assoc, append-nil, arith, eqb-true}
+use Rattle.std.proofs.Common.{◌≡◌, ℕ, suc, ◌+◌, ◌<◌, ◌≤◌, Bool, List, [], ◌∷◌, ◌++◌, length, get_or, take, drop, refl, sym, ap, ◌∙◌, append_assoc, append-nil, arith}
 use Rattle.std.proofs.lemmas.List.{take_more}
 use Rattle.std.proofs.lemmas.Grind.{common_steps}
 use Rattle.std.proofs.Math.Seq.{drop-cons}
 use Rattle.std.proofs.Math.ListN.{drop_of_length-le}
 use Rattle.com_base.specs.declared.value.MarshalMode.TheVariants as marshal
-use Rattle.com_books.specs.declared.keeps.Packet.{Packet}
-use Rattle.com_books.specs.Changes.{Books, Row, Marshals, change, changed, at3, marshal_all, entered_rows, new_packet}
+use Rattle.com_books.specs.Changes.{Books, Row, Marshals, change, changed, marshal_all, entered_rows}
 use Rattle.com_exchange.specs.declared.preview.Outgoing.{Outgoing}
-use Rattle.com_exchange.specs.Previews.{IsOutgoing, reference_of, refs_in, refs_of, halved, after_one, left_after, refs_if_connected, previewed}
+use Rattle.com_exchange.specs.Previews.{IsOutgoing, reference_of, refs_in, after_one, left_after, refs_if_connected, previewed}
 
 -- ---- the loops
 

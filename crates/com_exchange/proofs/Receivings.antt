@@ -1,16 +1,11 @@
 -- What was sent is received.
 use Rattle.std.specs.Prelude.{map, replicate}
-use Rattle.std.specs.Int.{w64}
-use Rattle.std.specs.List.{AllByRecursion}
-use Rattle.std.proofs.Common.{◌≡◌, ℕ, zero, suc, ◌+◌, ◌*◌, ◌^◌, ◌<◌, ◌≤◌, List, [], ◌∷◌, ◌++◌, length, get_or, take, drop, Option, Some, None, Result, Ok, Err, refl, sym, ap, subst, ◌∙◌, append_assoc, append-nil, arith}
-use Rattle.std.proofs.lemmas.List.{take_more}
-use Rattle.std.proofs.lemmas.Nat.{from_le_bytes-to_le_bytes_8}
+use Rattle.std.proofs.Common.{◌≡◌, ℕ, zero, suc, ◌+◌, ◌^◌, ◌<◌, ◌≤◌, List, [], ◌∷◌, ◌++◌, length, get_or, drop, Some, None, Result, Ok, refl, sym, ap, ◌∙◌, append_assoc, append-nil, arith}
 use Rattle.std.proofs.Math.Seq.{drop-cons}
 use Rattle.std.proofs.Math.ListN.{drop_of_length-le}
 use Rattle.com_base.specs.declared.guid.Guid.{Guid}
 use Rattle.com_base.specs.declared.standard.StdFields.{StdFields}
 use Rattle.com_base.specs.declared.value.RefValue.{RefValue}
-use Rattle.com_base.specs.declared.value.Kind.{Kind}
 use Rattle.com_base.specs.declared.value.Value.{Value}
 use Rattle.com_base.specs.declared.value.Value.TheVariants as value
 use Rattle.com_base.specs.Guids.{IsGuid}
@@ -18,15 +13,14 @@ use Rattle.orpc.specs.declared.OrpcFault.{OrpcFault}
 use Rattle.orpc.specs.Headers.{this_text, this_of, request_of}
 use Rattle.orpc.proofs.Spelled.{request_again, length-this, this_fits}
 use Rattle.ndr_args.specs.declared.wire.Wire.{Wire}
-use Rattle.ndr_args.specs.declared.wire.Wire.TheVariants as wire
 use Rattle.ndr_args.specs.declared.wire.ArgFault.{ArgFault}
 use Rattle.ndr_args.specs.Reading.{args_of}
 use Rattle.ndr_args.specs.Written.{written_args}
 use Rattle.ndr_args.proofs.Streams.{args_written, of_again}
-use Rattle.com_model.specs.Values.{carried, wires, cause_guid, request_bytes}
+use Rattle.com_model.specs.Values.{carried, wires, cause_guid}
 use Rattle.com_exchange.specs.declared.receiving.Request.{Request}
 use Rattle.com_exchange.specs.declared.receiving.RequestError.{RequestError}
-use Rattle.com_exchange.specs.Received.{reference_in_fields, packet_in_fields, value_in, packet_in, values_in, packets_in, with_wires, with_header, request_in, Sendable, SentIsReceived}
+use Rattle.com_exchange.specs.Received.{reference_in_fields, packet_in_fields, value_in, packet_in, values_in, packets_in, with_wires, with_header, SentIsReceived}
 
 -- ---- the loops
 

@@ -1,5 +1,5 @@
 -- What is read in a request.
-use Rattle.std.specs.Prelude.{◌≡◌, ℕ, ◌+◌, ◌*◌, ◌^◌, ◌<◌, ◌≤◌, List, [], ◌∷◌, ◌++◌, map, drop, length, Option, Some, None, Result, Ok, Err}
+use Rattle.std.specs.Prelude.{◌≡◌, ℕ, ◌+◌, ◌*◌, ◌^◌, ◌<◌, ◌≤◌, List, [], ◌∷◌, ◌++◌, map, drop, length, Some, None, Result, Ok, Err}
 use Rattle.std.specs.Int.{w64, from_le_bytes}
 use Rattle.std.specs.List.{AllByRecursion}
 use Rattle.com_base.specs.declared.guid.Guid.{Guid}

@@ -2,21 +2,13 @@
 use Rattle.std.proofs.Common.{◌≡◌, ℕ, eqb, ◌+◌, ◌<◌, List, [], ◌∷◌, arith}
 use Rattle.std.proofs.lemmas.Grind.{common_steps}
 use Rattle.com_proxy.specs.declared.ProxyRow.{ProxyRow}
-use Rattle.com_proxy.specs.Rows.{local_of, changed_row, gaining, one_local_more, one_local_less, no_public, halved}
+use Rattle.com_proxy.specs.Rows.{local_of, changed_row, one_local_less, no_public, halved}
 use Rattle.com_books.specs.Counting.{count_if}
-use Rattle.com_holders.specs.Stands.{locals_of}
+use Rattle.com_holders.specs.Places.{locals_of}
 
 pub locals_less : (rs : List ProxyRow) (a o i x : ℕ) → 0 < local_of rs a o i → locals_of x (changed_row one_local_less a o i rs) + count_if (eqb x o) ≡ locals_of x rs
 locals_less [] a o i x h = absurd (omega arith)
 locals_less (r ∷ rs) a o i x h = grind (arith, common_steps, locals_less rs a o i x, h)
-
-pub locals_more : (rs : List ProxyRow) (a o i x n : ℕ) → locals_of x (changed_row (gaining n) a o i rs) ≡ locals_of x rs + count_if (eqb x o)
-locals_more [] a o i x n = grind (arith, common_steps)
-locals_more (r ∷ rs) a o i x n = grind (arith, common_steps, locals_more rs a o i x n)
-
-pub locals_copied : (rs : List ProxyRow) (a o i x : ℕ) → locals_of x (changed_row one_local_more a o i rs) ≡ locals_of x rs + count_if (eqb x o)
-locals_copied [] a o i x = grind (arith, common_steps)
-locals_copied (r ∷ rs) a o i x = grind (arith, common_steps, locals_copied rs a o i x)
 
 pub locals_given : (rs : List ProxyRow) (a o i x : ℕ) → locals_of x (changed_row no_public a o i rs) ≡ locals_of x rs
 locals_given [] a o i x = grind (arith, common_steps)

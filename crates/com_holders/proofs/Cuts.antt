@@ -1,18 +1,22 @@
 -- What is not connected reads as nothing: cutting is reading by fewer.
 use mathlib.Core.Path.{fun_ext}
-use Rattle.std.proofs.Common.{◌≡◌, ℕ, zero, suc, Bool, true, false, eqb, cond, not, ◌&&◌, List, [], ◌∷◌, refl, sym, ap, subst, ◌∙◌, arith}
+use Rattle.std.proofs.Common.{◌≡◌, ℕ, zero, suc, Bool, true, false, eqb, cond, not, ◌&&◌, ◌+◌, ◌*◌, ◌≤◌, length, List, [], ◌∷◌, refl, sym, ap, subst, ◌∙◌, arith}
 use Rattle.std.proofs.lemmas.Grind.{common_steps}
 use Rattle.std.specs.Prelude.{map, Option, Some, None, slice_index_or, slice_set}
 use Rattle.com_base.specs.declared.value.RefValue.{RefValue}
 use Rattle.com_packets.specs.declared.Packet as P
+use Rattle.com_slots.specs.Table.{held_in}
 use Rattle.com_proxy.specs.declared.ProxyRow.{ProxyRow}
 use Rattle.com_proxy.specs.Rows.{local_of, IsFree}
 use Rattle.com_stub.specs.declared.StubRow.{StubRow}
 use Rattle.com_stub.specs.declared.counters.CounterRow.{CounterRow}
-use Rattle.com_stub.specs.StubRows.{is_connected, ended_rows}
+use Rattle.com_stub.specs.StubRows.{is_connected, ended_rows, has_stub}
+use Rattle.com_stub.specs.CounterRows.{has_counter, sum_of}
+use Rattle.com_holders.specs.Places.{locals_of, distinct}
+use Rattle.com_holders.proofs.Standing.{stands_by, kept_proxies, kept_packets, kept_cookies}
 use Rattle.com_books.specs.Changes.{Books, cut, cut_packet, cut_cookie, packet, no_packet}
 use Rattle.com_books.specs.declared.keeps.Packet.{Packet}
-use Rattle.com_holders.specs.Tables.{Tables, books_of, books_by, packet_read, cookie_read, outstanding_in, live_packet}
+use Rattle.com_holders.specs.Tables.{Tables, object_in, direct_in, books_of, books_by, packet_read, cookie_read, outstanding_in, live_packet}
 use Rattle.com_books.specs.Evens.{Even}
 use Rattle.com_holders.specs.Stands.{IsHolders}
 use Rattle.com_books.proofs.Evens.{cut-even}
@@ -80,18 +84,52 @@ less-read : (l m : Bool) (x : ℕ) → cond l x 0 ≡ 0 → cond m (cond l x 0) 
 less-read l true x e = e
 less-read l false x e = refl
 
-pub ended_stands : (t u : Tables) (o : ℕ) → u.objects ≡ t.objects → u.stubs ≡ ended_rows o t.stubs → u.counters ≡ t.counters → u.proxies ≡ t.proxies → u.packets ≡ t.packets → u.cookies ≡ t.cookies → IsHolders t → IsHolders u
-ended_stands t u o eo es ec er ep eg s =
-    let is = ended_cut t u o es ec er ep eg in
-    record {
-      even = record { apartments = s.even.apartments; even = subst (Even s.even.apartments) (sym is) (cut-even s.even.apartments _ (books_of t) s.even.even) };
-      placed = λ a x j f. ap (λ (b : Books). b.proxy a x j) is ∙ cut-none ((books_of t).live x && not (eqb x o)) _ (s.placed a x j (subst (λ (rs : List ProxyRow). IsFree rs a x) er f));
-      owned = λ a x j h. ap (λ rs. local_of rs a x j) er ∙ s.owned a x j (rw eo at h);
-    }
+-- the connected objects are those of before but for some
+pub cut_by : (t u : Tables) (gone : ℕ → Bool) → ((x : ℕ) → is_connected u.stubs x ≡ is_connected t.stubs x && not (gone x)) → u.counters ≡ t.counters → u.proxies ≡ t.proxies → u.packets ≡ t.packets → u.cookies ≡ t.cookies
+    → books_of u ≡ cut (λ x. (books_of t).live x && not (gone x)) (books_of t)
+unfolding books_of
+cut_by t u gone es ec er ep eg =
+    rw (ec, er, ep, eg)
+    (same_live (is_connected u.stubs) (λ x. is_connected t.stubs x && not (gone x)) t.counters t.proxies t.packets t.cookies (fun_ext es)
+    ∙ cut_reads (is_connected t.stubs) (λ x. is_connected t.stubs x && not (gone x)) (λ x h. both-true _ _ h) t.counters t.proxies t.packets t.cookies)
+
+pub ended_has : (rs : List StubRow) (o x : ℕ) → has_stub (ended_rows o rs) x ≡ has_stub rs x
+ended_has [] o x = refl
+ended_has (r ∷ rs) o x = grind (arith, common_steps, ended_has rs o x)
+
+-- where fewer objects are connected, and all else is as it was
+pub cut_stands : (t u : Tables) (less : ℕ → Bool) → ((x : ℕ) → has_stub u.stubs x ≡ has_stub t.stubs x) → u.objects ≡ t.objects → u.counters ≡ t.counters → u.proxies ≡ t.proxies → u.packets ≡ t.packets → u.cookies ≡ t.cookies → u.issued ≡ t.issued
+    → books_of u ≡ cut less (books_of t) → IsHolders t → IsHolders u
+cut_stands t u less es eo ec er ep eg ei is s = stands_by t u 0 s (record {
+  known = record {
+    objects = ap (λ os. length os) eo;
+    stubs = es;
+    counters = λ x j. ap (λ cs. has_counter cs x j) ec;
+    proxies = kept_proxies t u s.known er;
+    packets = kept_packets t u s.known ep;
+    cookies = kept_cookies t u s.known eg;
+  };
+  bounded = record {
+    issued = ei ∙ omega arith;
+    sums = λ x. let e : sum_of u.counters x ≡ sum_of t.counters x = ap (λ cs. sum_of cs x) ec in omega (arith, e);
+    locals = λ x. let e : locals_of x u.proxies ≡ locals_of x t.proxies = ap (λ rs. locals_of x rs) er in omega (arith, e);
+    direct = λ x. let e : direct_in u x ≡ direct_in t x = ap (λ os. (object_in os x).direct) eo in omega (arith, e);
+    packets = let e : length u.packets ≡ length t.packets = ap (λ ps. length ps) ep in omega (arith, e);
+    cookies = let e : length u.cookies ≡ length t.cookies = ap (λ gs. length gs) eg in omega (arith, e);
+    objects = let e : length u.objects ≡ length t.objects = ap (λ os. length os) eo in omega (arith, e);
+  };
+  apart = ap (λ rs. distinct rs) er ∙ s.apart;
+})
+    (record { apartments = s.even.apartments; even = subst (Even s.even.apartments) (sym is) (cut-even s.even.apartments less (books_of t) s.even.even) })
+    (λ a x j f. ap (λ (b : Books). b.proxy a x j) is ∙ cut-none (less x) _ (s.placed a x j (subst (λ (rs : List ProxyRow). IsFree rs a x) er f)))
+    (λ a x j h. ap (λ rs. local_of rs a x j) er ∙ s.owned a x j (rw eo at h))
   where
     cut-none : (m : Bool) (x : ℕ) → x ≡ 0 → cond m x 0 ≡ 0
     cut-none true x e = e
     cut-none false x e = refl
+
+pub ended_stands : (t u : Tables) (o : ℕ) → u.objects ≡ t.objects → u.stubs ≡ ended_rows o t.stubs → u.counters ≡ t.counters → u.proxies ≡ t.proxies → u.packets ≡ t.packets → u.cookies ≡ t.cookies → u.issued ≡ t.issued → IsHolders t → IsHolders u
+ended_stands t u o eo es ec er ep eg ei s = cut_stands t u (λ x. (books_of t).live x && not (eqb x o)) (λ x. ap (λ ss. has_stub ss x) es ∙ ended_has t.stubs o x) eo ec er ep eg ei (ended_cut t u o es ec er ep eg) s
 
 -- ---- a packet that ends
 
@@ -131,3 +169,14 @@ pub packet_hidden : (t : Tables) (n : ℕ) → outstanding_in (is_connected t.st
 unfolding books_of outstanding_in
 packet_hidden t zero h = refl
 packet_hidden t (suc k) h = read_at (is_connected t.stubs) t.packets k ∙ hidden_of (is_connected t.stubs) (slice_index_or t.packets k None) h
+
+live-held : (live : ℕ → Bool) (e : Option P.Packet) (p : P.Packet) → live_packet live e ≡ Some p → e ≡ Some p
+live-held live None p h = absurd (cc)
+live-held live (Some q) p h = elim (live q.object) as (λ l. cond l (Some q) None ≡ Some p → Some q ≡ Some p) [
+  | true ↦ λ e. e
+  | false ↦ λ e. absurd (cc)
+] h
+
+pub outstanding_held : (t : Tables) (n : ℕ) (p : P.Packet) → outstanding_in (is_connected t.stubs) t.packets n ≡ Some p → held_in t.packets n ≡ Some p
+unfolding outstanding_in
+outstanding_held t n p h = live-held (is_connected t.stubs) (held_in t.packets n) p h

@@ -8,6 +8,8 @@ use Rattle.com_stub.specs.declared.counters.CounterRow.{CounterRow}
 use Rattle.com_stub.specs.CounterRows.{has_counter, counter_of, changed_counter, less}
 use Rattle.com_stub.proofs.CounterLemmas.{counter_changed}
 use Rattle.com_books.specs.Counting.{count_if}
+use Rattle.com_holders.proofs.Counters.{has_less, sum_less}
+use Rattle.com_holders.proofs.Rowed.{keeps_none, keeps_less, has_same, distinct_changed, local_has, public_has, places_given, places_less}
 use Rattle.com_holders.proofs.Counting.{locals_less, locals_given}
 use Rattle.com_holders.specs.Stands.{Gave, Released, Giving, publics}
 
@@ -21,7 +23,7 @@ publics_less (r ∷ rs) a o i h = grind (arith, common_steps, publics_less rs a 
 
 module _ (a o : ℕ) (before : List ProxyRow) (counted : List CounterRow) where
   pub giving_begins : ((j : ℕ) → public_of before a o j ≤ (counter_of counted o j).count) → Giving a o before counted before counted
-  giving_begins w = record { local = λ c x j. refl; locals = λ x. refl; public = λ c x j e. refl; balance = λ j. refl; within = w; count = λ x j e. refl }
+  giving_begins w = record { rows = λ c x j. refl; apart = λ d. d; has = λ x j. refl; sums = λ x. omega arith; places = λ c x. refl; local = λ c x j. refl; locals = λ x. refl; public = λ c x j e. refl; balance = λ j. refl; within = w; count = λ x j e. refl }
 
   pub giving_goes_on : (rs : List ProxyRow) (cs : List CounterRow) (i : ℕ) → 0 < public_of rs a o i → Giving a o before counted rs cs
       → Giving a o before counted (changed_row no_public a o i rs) (changed_counter (less (public_of rs a o i)) o i cs)
@@ -30,6 +32,11 @@ module _ (a o : ℕ) (before : List ProxyRow) (counted : List CounterRow) where
       let has : has_counter cs o i ≡ true = counter_some cs o i (omega (arith, h, g.within i)) in
       let counter = λ (x j : ℕ). counter_changed cs (less (public_of rs a o i)) o i x j (λ r. refl) (λ r. refl) has in
       record {
+        rows = λ c x j. has_same no_public keeps_none a o i rs (public_has rs a o i h) c x j ∙ g.rows c x j;
+        apart = λ d. distinct_changed no_public keeps_none a o i rs (g.apart d);
+        has = λ x j. has_less cs o i (public_of rs a o i) x j ∙ g.has x j;
+        sums = λ x. omega (arith, sum_less cs o i (public_of rs a o i) x, g.sums x);
+        places = λ c x. places_given rs a o i c x ∙ g.places c x;
         local = λ c x j. grind (arith, common_steps, row c x j, g.local c x j);
         locals = λ x. locals_given rs a o i x ∙ g.locals x;
         public = λ c x j e. grind (arith, common_steps, row c x j, g.public c x j e, e);
@@ -40,6 +47,11 @@ module _ (a o : ℕ) (before : List ProxyRow) (counted : List CounterRow) where
 
   pub giving_ends : (rs : List ProxyRow) (cs : List CounterRow) → ((j : ℕ) → public_of rs a o j ≡ 0) → Giving a o before counted rs cs → Gave a o true before counted rs cs
   giving_ends rs cs none g = record {
+    rows = g.rows;
+    apart = g.apart;
+    has = g.has;
+    sums = g.sums;
+    places = g.places;
     local = g.local;
     locals = g.locals;
     public = λ c x j. elim (eqb c a && eqb x o) as (λ t. eqb c a && eqb x o ≡ t → public_of rs c x j ≡ cond (t && true) 0 (public_of before c x j)) [
@@ -56,6 +68,11 @@ module _ (a o : ℕ) (before : List ProxyRow) (counted : List CounterRow) where
   gone gave i rs cs h g =
       let row = λ (c x j : ℕ). row_changed before one_local_less a o i c x j (λ r. refl) (λ r. refl) (λ r. refl) in
       record {
+        rows = λ c x j. g.rows c x j ∙ has_same one_local_less keeps_less a o i before (local_has before a o i h) c x j;
+        apart = λ d. g.apart (distinct_changed one_local_less keeps_less a o i before d);
+        has = g.has;
+        sums = g.sums;
+        places = λ c x. ap (λ (n : ℕ). n + count_if (eqb c a && eqb x o)) (g.places c x) ∙ places_less before a o i c x h;
         local = λ c x j. grind (arith, common_steps, row c x j, g.local c x j);
         locals = λ x. ap (λ (n : ℕ). n + count_if (eqb x o)) (g.locals x) ∙ locals_less before a o i x h;
         public = λ c x j. g.public c x j ∙ grind (arith, common_steps, row c x j);
@@ -63,7 +80,7 @@ module _ (a o : ℕ) (before : List ProxyRow) (counted : List CounterRow) where
       }
 
   pub only_less : (i : ℕ) → 0 < local_of before a o i → Released a o i false before counted (changed_row one_local_less a o i before) counted
-  only_less i h = gone false i _ counted h (record { local = λ c x j. refl; locals = λ x. refl; public = λ c x j. grind (arith, common_steps); count = λ x j. grind (arith, common_steps) })
+  only_less i h = gone false i _ counted h (record { rows = λ c x j. refl; apart = λ d. d; has = λ x j. refl; sums = λ x. omega arith; places = λ c x. refl; local = λ c x j. refl; locals = λ x. refl; public = λ c x j. grind (arith, common_steps); count = λ x j. grind (arith, common_steps) })
 
 pub same_public : (rs : List ProxyRow) (a o i c x j : ℕ) → public_of (changed_row one_local_less a o i rs) c x j ≡ public_of rs c x j
 same_public rs a o i c x j = grind (arith, common_steps, row_changed rs one_local_less a o i c x j (λ r. refl) (λ r. refl) (λ r. refl))

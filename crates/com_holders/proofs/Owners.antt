@@ -1,12 +1,15 @@
 -- All objects of an owner, one after another.
-use Rattle.std.proofs.Common.{◌≡◌, ℕ, zero, suc, true, false, eqb, not, ◌&&◌, ◌+◌, ◌<◌, List, length, refl, ap, ◌∙◌, arith, eqb-true}
+use Rattle.std.proofs.Common.{◌≡◌, ℕ, zero, suc, true, false, eqb, not, ◌&&◌, ◌+◌, ◌^◌, ◌<◌, ◌≤◌, List, length, refl, ap, ◌∙◌, arith, eqb-true}
+use Rattle.std.proofs.lemmas.List.{length-map}
 use Rattle.std.proofs.lemmas.Grind.{common_steps}
 use Rattle.std.specs.Prelude.{slice_index, Option, Some, None}
 use Rattle.com_keyed.specs.Places.{IsLatest}
 use Rattle.com_keyed.proofs.Walking.{Walks, walk_ends, walk_goes_on, walk_weaker, walk_inside, walk_at}
 use Rattle.com_stub.specs.declared.StubRow.{StubRow}
 use Rattle.com_stub.specs.StubRows.{is_connected, ended_rows}
-use Rattle.com_holders.specs.Tables.{is_owned}
+use Rattle.com_holders.specs.declared.ObjectRow.{ObjectRow}
+use Rattle.com_holders.specs.Stands.{IsHolders}
+use Rattle.com_holders.specs.Tables.{Tables, is_owned, owners_of}
 use Rattle.com_holders.proofs.Cuts.{ended_connected}
 
 module _ (keys : List ℕ) (a : ℕ) where
@@ -43,3 +46,6 @@ module _ (keys : List ℕ) (a : ℕ) where
         rw next at off ∙ grind (arith, common_steps)
     | false ↦ λ e. others (suc p) e ∙ grind (arith, common_steps)
   ] refl
+
+pub owners_length : (t : Tables) → IsHolders t → t.issued ≤ 2 ^ 28 → length (owners_of t.objects) < 2 ^ 32
+owners_length t s few = omega (arith, few, s.bounded.objects, length-map t.objects (λ (r : ObjectRow). r.owner))

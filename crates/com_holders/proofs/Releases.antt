@@ -1,12 +1,13 @@
 -- A place less, in the tables and in the books.
-use Rattle.std.proofs.Common.{◌≡◌, ℕ, Bool, true, false, eqb, cond, ◌&&◌, ◌-◌, ◌<◌, refl, sym, ap, ◌∙◌, arith, eqb-true}
+use Rattle.std.proofs.Common.{◌≡◌, ℕ, Bool, true, false, eqb, cond, ◌&&◌, ◌-◌, ◌<◌, length, refl, sym, ap, ◌∙◌, arith, eqb-true}
 use Rattle.std.proofs.lemmas.Grind.{common_steps}
 use Rattle.std.specs.Prelude.{◌↔◌, IsTrue}
 use Rattle.com_proxy.specs.Rows.{public_of, local_of, IsFree}
 use Rattle.com_stub.specs.StubRows.{is_connected}
 use Rattle.com_stub.specs.CounterRows.{counter_of}
 use Rattle.com_books.specs.Changes.{given_back}
-use Rattle.com_holders.specs.Tables.{Tables, books_of, owns_of}
+use Rattle.com_holders.specs.Tables.{Tables, books_of, owns_of, object_in, direct_in}
+use Rattle.com_holders.specs.Places.{OneLess}
 use Rattle.com_holders.specs.Stands.{IsHolders, Tells, Released}
 use Rattle.com_holders.proofs.Gives.{OnlyAt, GivesOne, gives_given}
 
@@ -54,7 +55,7 @@ module _ (t u : Tables) (a o i : ℕ) (gave : Bool) (rest : Rest t u) (r : Relea
   }
 
   pub released_given : IsHolders t → u.objects ≡ t.objects → owns_of t.objects o a ≡ false
-      → (is_connected t.stubs o ≡ true → (IsTrue gave ↔ IsFree u.proxies a o)) → (n : ℕ) (places : ℕ → ℕ → ℕ) → a < n → Tells places u → books_of u ≡ given_back n places (books_of t)
+      → (is_connected t.stubs o ≡ true → (IsTrue gave ↔ IsFree u.proxies a o)) → (n : ℕ) (places : ℕ → ℕ → ℕ) → a < n → Tells n places u → books_of u ≡ given_back n places (books_of t)
   released_given st eo own free n places h tells = gives_given n places (books_of t) (books_of u) a o h only (released_gives (eqb (places a o) 0) gave-is) where
     only : OnlyAt places (books_of t) a o
     only = record {
@@ -71,5 +72,14 @@ module _ (t u : Tables) (a o i : ℕ) (gave : Bool) (rest : Rest t u) (r : Relea
 
     gave-is : is_connected t.stubs o ≡ true → gave ≡ eqb (places a o) 0
     gave-is l = same-test gave (eqb (places a o) 0)
-        (λ y. let none : places a o ≡ 0 = tells.some a o (ap (λ os. owns_of os o a) eo ∙ own) ((free l).0 y) in grind (arith, common_steps, none))
+        (λ y. let none : places a o ≡ 0 = tells.some a o h (ap (λ os. owns_of os o a) eo ∙ own) ((free l).0 y) in grind (arith, common_steps, none))
         (λ z. (free l).1 (tells.none a o (ap (λ os. owns_of os o a) eo ∙ own) (eqb-true _ _ z)))
+
+pub released_places : (t u : Tables) (a o i : ℕ) (gave : Bool) → u.objects ≡ t.objects → Released a o i gave t.proxies t.counters u.proxies u.counters → OneLess t u a o false
+released_places t u a o i gave eo r = record {
+  made = ap (λ os. length os) eo;
+  owns = λ x c. ap (λ os. owns_of os x c) eo;
+  direct = λ x. let e : direct_in u x ≡ direct_in t x = ap (λ os. (object_in os x).direct) eo in grind (arith, common_steps, e);
+  elsewhere = λ c x. r.places c x;
+  all_elsewhere = λ x. r.locals x;
+}

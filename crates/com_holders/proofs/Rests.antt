@@ -8,18 +8,18 @@ use Rattle.com_holders.specs.Stands.{IsHolders, Tells}
 use Rattle.com_holders.proofs.Gives.{cond-nothing, cond-nothing-else}
 use Rattle.com_holders.proofs.Same.{same_books}
 
-none-placed : (t : Tables) (places : ℕ → ℕ → ℕ) → IsHolders t → Tells places t → (a o j : ℕ) → eqb (places a o) 0 ≡ true → (books_of t).proxy a o j ≡ 0
-none-placed t places s tells a o j z = s.placed a o j (record {
+none-placed : (t : Tables) (n : ℕ) (places : ℕ → ℕ → ℕ) → IsHolders t → Tells n places t → (a o j : ℕ) → eqb (places a o) 0 ≡ true → (books_of t).proxy a o j ≡ 0
+none-placed t n places s tells a o j z = s.placed a o j (record {
   none_held = λ k. elim (owns_of t.objects o a) as (λ y. owns_of t.objects o a ≡ y → local_of t.proxies a o k ≡ 0) [
     | true ↦ λ y. s.owned a o k y
     | false ↦ λ y. (tells.none a o y (eqb-true _ _ z)).none_held k
   ] refl;
 })
 
-pub gives_none : (t : Tables) (n : ℕ) (places : ℕ → ℕ → ℕ) → IsHolders t → Tells places t → given_back n places (books_of t) ≡ books_of t
+pub gives_none : (t : Tables) (n : ℕ) (places : ℕ → ℕ → ℕ) → IsHolders t → Tells n places t → given_back n places (books_of t) ≡ books_of t
 gives_none t n places s tells = same_books _ _ (record {
-  stub = λ o i. omega (arith, sum-nothing n (λ a. cond (eqb (places a o) 0) ((books_of t).proxy a o i) 0) (λ a. cond-nothing (eqb (places a o) 0) _ (none-placed t places s tells a o i)));
-  proxy = λ a o i. cond-nothing-else (eqb (places a o) 0) _ (none-placed t places s tells a o i);
+  stub = λ o i. omega (arith, sum-nothing n (λ a. cond (eqb (places a o) 0) ((books_of t).proxy a o i) 0) (λ a. cond-nothing (eqb (places a o) 0) _ (none-placed t n places s tells a o i)));
+  proxy = λ a o i. cond-nothing-else (eqb (places a o) 0) _ (none-placed t n places s tells a o i);
   packets = refl;
   cookies = refl;
   live = λ o. refl;

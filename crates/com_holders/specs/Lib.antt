@@ -1,3 +1,4 @@
+pub mod Places
 pub mod Stands
 pub mod Steps
 pub mod Tables

@@ -1,5 +1,5 @@
 -- The bodies and the calls that are waited for, after the innermost opener is closed, and what runs by the first of them.
-use Rattle.std.proofs.Common.{◌≡◌, refl, ap, ℕ, List, [], ◌∷◌, Option, Some, None}
+use Rattle.std.proofs.Common.{◌≡◌, refl, ℕ, List, [], ◌∷◌, Option, Some, None}
 use Rattle.com_model.specs.Lists.{first, without_first}
 use Rattle.com_model.specs.Openers.{open_calls, running_call, running_object, entered_apartment}
 use Rattle.com_model.specs.declared.keeps.Opener.{Opener}

@@ -1,5 +1,5 @@
 -- When the bound of a pump is reached.
-use Rattle.std.proofs.Common.{◌≡◌, ℕ, zero, suc, ◌<◌, ◌≤◌, Bool, true, false, ◌&&◌, nat_lt, nat_le, List, [], ◌∷◌, Option, Some, None, refl, arith}
+use Rattle.std.proofs.Common.{◌≡◌, ℕ, zero, suc, Bool, false, nat_le, List, [], ◌∷◌, Option, Some, refl}
 use Rattle.com_model.specs.declared.keeps.Opener.{Opener}
 use Rattle.com_model.specs.declared.keeps.Opener.TheVariants.{Pumps, Waits, Enters}
 use Rattle.com_model.specs.Lists.{first}

@@ -1,5 +1,5 @@
 -- Rows of tables.
-use Rattle.std.proofs.Common.{◌≡◌, ℕ, zero, suc, ◌+◌, ◌<◌, Bool, true, false, List, [], ◌∷◌, refl, sym, ◌∙◌, ap, slice_index_or, slice_set, length, ◌≤◌, Option, Some, None, ℤ, pos, negsuc, arith}
+use Rattle.std.proofs.Common.{◌≡◌, ℕ, zero, suc, ◌+◌, Bool, true, false, List, [], ◌∷◌, refl, ◌∙◌, ap, slice_index_or, slice_set, length, ◌≤◌, Some, None, ℤ, pos, negsuc}
 use Rattle.std.proofs.lemmas.List.{set_past as set-past}
 use Rattle.com_base.specs.declared.hresult.HResult.{HResult}
 use Rattle.com_model.specs.Answers.{is_S_OK}

@@ -1,12 +1,12 @@
 -- What is kept beside the apartments, after one is made and after one ends.
-use Rattle.std.proofs.Common.{◌≡◌, ℕ, zero, suc, ◌+◌, ◌-◌, ◌<◌, ◌≤◌, ◌^◌, Bool, true, false, not, cond, ◌==◌, ◌&&◌, ◌||◌, List, [], ◌∷◌, ◌++◌, length, Option, Some, None, refl, sym, ◌∙◌, ap, ap₂, subst, ⊎_elim, arith, get_or, set, filter, slice_index_or, slice_set, slice_get, nat_le, eqb-true, lit≤}
-use Rattle.std.proofs.lemmas.Bool.{cases_eq, false_from_ne_true, false≢true}
+use Rattle.std.proofs.Common.{◌≡◌, ℕ, zero, suc, ◌+◌, ◌-◌, ◌<◌, ◌≤◌, ◌^◌, Bool, true, false, not, cond, ◌==◌, ◌&&◌, ◌||◌, List, [], ◌∷◌, ◌++◌, length, Some, refl, sym, ◌∙◌, ap, ap₂, subst, ⊎_elim, arith, get_or, set, filter, slice_index_or, slice_set, slice_get, nat_le, eqb-true, lit≤}
+use Rattle.std.proofs.lemmas.Bool.{cases_eq, false_from_ne_true}
 use Rattle.std.proofs.lemmas.Bool.Decides.{nat_tests}
 use Rattle.std.proofs.lemmas.Grind.{common_steps}
-use Rattle.std.proofs.lemmas.List.{get_or-set_same, get_or-set_other, length-append, length-set, set_past}
+use Rattle.std.proofs.lemmas.List.{get_or-set_same, get_or-set_other, length-append, length-set}
 use Rattle.std.proofs.lemmas.List.Elements.{filter-append}
 use Rattle.com_model.specs.Apartments.{or_host}
-use Rattle.com_model.specs.Lists.{first, or_else, is_member, tabulated}
+use Rattle.com_model.specs.Lists.{first, is_member, tabulated}
 use Rattle.com_lanes.specs.declared.stas.Sta.{Sta}
 use Rattle.com_lanes.specs.Apartments.{StaTables}
 use Rattle.com_lanes.specs.StasKept.{StasKept, unmade, numbers_of, is_maker, made_by, gone_first}
@@ -193,17 +193,17 @@ kept_made made rows ended oldest lane sta k room is =
     record {
       oldest_is = k.oldest_is ∙ sym (gone_first_push rows lane);
       ended_are = λ i h. ⊎_elim
-        (λ same. k.none_above (i + 3) (omega (arith, same)) ∙ sym (ap (λ (r : Sta). r.gone) (get_last rows i (new_row lane) unmade same)))
-        (λ other. let lt : i < length rows = omega (arith, long, h, other) in k.ended_are i lt ∙ sym (ap (λ (r : Sta). r.gone) (get_push rows i (new_row lane) unmade lt)))
-        (cases_eq i (length rows));
+          (λ same. k.none_above (i + 3) (omega (arith, same)) ∙ sym (ap (λ (r : Sta). r.gone) (get_last rows i (new_row lane) unmade same)))
+          (λ other. let lt : i < length rows = omega (arith, long, h, other) in k.ended_are i lt ∙ sym (ap (λ (r : Sta). r.gone) (get_push rows i (new_row lane) unmade lt)))
+          (cases_eq i (length rows));
       none_above = λ a h. k.none_above a (omega (arith, long, h));
       makers = λ l a h. ⊎_elim
-        (λ same. let lt : lane < length made = omega (arith, same, h, length-set made lane (slice_index_or made lane [] ++ sta ∷ [])) in
+          (λ same. let lt : lane < length made = omega (arith, same, h, length-set made lane (slice_index_or made lane [] ++ sta ∷ [])) in
           subst (λ (n : ℕ). is_member a (slice_index_or (slice_set made lane (slice_index_or made lane [] ++ sta ∷ [])) n []) ≡ made_by (rows ++ new_row lane ∷ []) n a) (sym same)
           (ap (is_member a) (get_or-set_same made lane (slice_index_or made lane [] ++ sta ∷ []) [] lt) ∙ own-made rows (slice_index_or made lane []) lane a sta is (k.makers lane a lt)))
-        (λ other. let lt : l < length made = omega (arith, h, length-set made lane (slice_index_or made lane [] ++ sta ∷ [])) in
+          (λ other. let lt : l < length made = omega (arith, h, length-set made lane (slice_index_or made lane [] ++ sta ∷ [])) in
           ap (is_member a) (get_or-set_other made lane l (slice_index_or made lane [] ++ sta ∷ []) [] other) ∙ others-made rows _ l a lane (λ e. other (sym e)) (k.makers l a lt))
-        (cases_eq l lane);
+          (cases_eq l lane);
       numbered = omega (arith, long, room);
     }
 
@@ -224,9 +224,9 @@ kept_ended made rows ended oldest a r d k low high m g =
     record {
       oldest_is = refl;
       ended_are = λ i h. ⊎_elim
-        (λ same. member_last (i + 3) a ended (omega (arith, same, low)) ∙ sym (subst (λ (n : ℕ). (slice_index_or (slice_set rows (a - 3) r) n unmade).gone ≡ true) (sym same) (ap (λ (x : Sta). x.gone) (get_or-set_same rows (a - 3) r unmade (omega (arith, low, high))) ∙ g)))
-        (λ other. member_kept (i + 3) a ended (λ e. other (omega (arith, e))) ∙ k.ended_are i (omega (arith, long, h)) ∙ sym (ap (λ (x : Sta). x.gone) (get_or-set_other rows (a - 3) i r unmade other)))
-        (cases_eq i (a - 3));
+          (λ same. member_last (i + 3) a ended (omega (arith, same, low)) ∙ sym (subst (λ (n : ℕ). (slice_index_or (slice_set rows (a - 3) r) n unmade).gone ≡ true) (sym same) (ap (λ (x : Sta). x.gone) (get_or-set_same rows (a - 3) r unmade (omega (arith, low, high))) ∙ g)))
+          (λ other. member_kept (i + 3) a ended (λ e. other (omega (arith, e))) ∙ k.ended_are i (omega (arith, long, h)) ∙ sym (ap (λ (x : Sta). x.gone) (get_or-set_other rows (a - 3) i r unmade other)))
+          (cases_eq i (a - 3));
       none_above = λ b h. member_kept b a ended (λ e. absurd (omega (arith, e, h, long, high))) ∙ k.none_above b (omega (arith, long, h));
       makers = λ l b h. k.makers l b h ∙ sym (ap (λ (x : Bool). nat_le 3 b && x) (maker_set rows (b - 3) (a - 3) l r d m));
       numbered = omega (arith, long, k.numbered);
@@ -258,10 +258,10 @@ first-passes zero k p f lt h e = absurd (omega (arith, lt))
 first-passes (suc n) k p f lt h e =
     ap first (filter-append p (tabulated n f) (f n ∷ []))
     ∙ ⊎_elim
-      (λ same. ap (λ (xs : List ℕ). first (xs ++ filter p (f n ∷ []))) (none-passes n p f (λ i q. h i (omega (arith, q, same))))
-        ∙ ap (λ (b : Bool). first (cond b (f n ∷ []) [])) (subst (λ (j : ℕ). p (f j) ≡ true) same e) ∙ ap (λ (j : ℕ). Some (f j)) (sym same))
-      (λ other. first-of (filter p (tabulated n f)) (filter p (f n ∷ [])) (f k) (first-passes n k p f (omega (arith, lt, other)) h e))
-      (cases_eq k n)
+    (λ same. ap (λ (xs : List ℕ). first (xs ++ filter p (f n ∷ []))) (none-passes n p f (λ i q. h i (omega (arith, q, same))))
+    ∙ ap (λ (b : Bool). first (cond b (f n ∷ []) [])) (subst (λ (j : ℕ). p (f j) ≡ true) same e) ∙ ap (λ (j : ℕ). Some (f j)) (sym same))
+    (λ other. first-of (filter p (tabulated n f)) (filter p (f n ∷ [])) (f k) (first-passes n k p f (omega (arith, lt, other)) h e))
+    (cases_eq k n)
 
 abbrev lives : List ℕ → ℕ → Bool
 lives ended a = not (is_member a ended)
@@ -269,13 +269,13 @@ lives ended a = not (is_member a ended)
 pub main_lives : (made : List (List ℕ)) (rows : List Sta) (ended : List ℕ) (oldest : ℕ) → StasKept made rows ended oldest → oldest < length rows → or_host (first (filter (lives ended) (numbers_of rows))) ≡ oldest + 3
 main_lives made rows ended oldest k lt =
     ap or_host (first-passes (length rows) oldest (lives ended) (λ i. i + 3) lt
-      (λ i q. ap not (k.ended_are i (omega (arith, q, lt)) ∙ gone_before rows i unmade (subst (λ (n : ℕ). i < n) k.oldest_is q)))
-      (ap not (k.ended_are oldest lt ∙ subst (λ (n : ℕ). (slice_index_or rows n unmade).gone ≡ false) (sym k.oldest_is) (gone_not rows unmade (subst (λ (n : ℕ). n < length rows) k.oldest_is lt)))))
+    (λ i q. ap not (k.ended_are i (omega (arith, q, lt)) ∙ gone_before rows i unmade (subst (λ (n : ℕ). i < n) k.oldest_is q)))
+    (ap not (k.ended_are oldest lt ∙ subst (λ (n : ℕ). (slice_index_or rows n unmade).gone ≡ false) (sym k.oldest_is) (gone_not rows unmade (subst (λ (n : ℕ). n < length rows) k.oldest_is lt)))))
 
 pub main_host : (made : List (List ℕ)) (rows : List Sta) (ended : List ℕ) (oldest : ℕ) → StasKept made rows ended oldest → length rows ≤ oldest → or_host (first (filter (lives ended) (numbers_of rows))) ≡ 2
 main_host made rows ended oldest k le =
     ap (λ (xs : List ℕ). or_host (first xs)) (none-passes (length rows) (lives ended) (λ i. i + 3)
-      (λ i q. ap not (k.ended_are i q ∙ gone_before rows i unmade (omega (arith, q, le, k.oldest_is)))))
+    (λ i q. ap not (k.ended_are i q ∙ gone_before rows i unmade (omega (arith, q, le, k.oldest_is)))))
 
 all-empty : (n l : ℕ) → slice_index_or {A = List ℕ} (tabulated n (λ k. [])) l [] ≡ []
 all-empty zero l = refl
@@ -319,5 +319,5 @@ made_seen made made' rows rows' ended lane sta t is m r e =
     let number : sta ≡ length (numbers_of rows) + 3 = omega (arith, e, long) in
     subst (λ (t : StaTables). seen made' (numbers_of rows') ended ≡ with_made t lane) is
     (ap₂ (λ (x : List (List ℕ)) (y : List ℕ). seen x y ended)
-      (m ∙ ap (λ (n : ℕ). slice_set made lane (slice_index_or made lane [] ++ n ∷ [])) number)
-      (ap numbers_of r ∙ numbers-more rows (new_row lane) ∙ ap (λ (n : ℕ). numbers_of rows ++ n ∷ []) (sym e ∙ number)))
+    (m ∙ ap (λ (n : ℕ). slice_set made lane (slice_index_or made lane [] ++ n ∷ [])) number)
+    (ap numbers_of r ∙ numbers-more rows (new_row lane) ∙ ap (λ (n : ℕ). numbers_of rows ++ n ∷ []) (sym e ∙ number)))

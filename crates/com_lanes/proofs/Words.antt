@@ -1,6 +1,6 @@
 -- Words in the order of their numbers, after one comes and after one goes.
-use Rattle.std.proofs.Common.{◌≡◌, ℕ, zero, suc, ◌+◌, ◌<◌, ◌≤◌, ℤ, Bool, true, false, not, cond, ◌==◌, if◌then◌else◌, List, [], ◌∷◌, ◌++◌, length, Option, Some, None, refl, sym, ◌∙◌, ap, ap₂, subst, arith, filter, slice_index_or, slice_get, nat_lt, take, drop, eqb-true}
-use Rattle.std.proofs.lemmas.Bool.{lt-ltb, ltb-true, ltb-false, false_from_ne_true}
+use Rattle.std.proofs.Common.{◌≡◌, ℕ, zero, suc, ◌+◌, ◌<◌, ◌≤◌, ℤ, Bool, true, false, not, cond, ◌==◌, if◌then◌else◌, List, [], ◌∷◌, ◌++◌, length, Option, Some, None, refl, sym, ◌∙◌, ap, subst, arith, filter, slice_index_or, slice_get, nat_lt, eqb-true}
+use Rattle.std.proofs.lemmas.Bool.{lt-ltb, ltb-true, false_from_ne_true}
 use Rattle.std.proofs.lemmas.Grind.{common_steps}
 use Rattle.std.specs.List.{remove}
 use Rattle.std.specs.List.Sorted.{IsNonDecreasingBy}
@@ -118,8 +118,8 @@ pub asked_taken : (p : ℕ) (ws : List Word) (ms : List Mark) (c n i : ℕ) (w :
     → seen p (remove ws i) (marked c w.number ms) ≡ mail_after (Asks c n) t
 asked_taken p ws ms c n i w t s a e f two =
     ap (λ (xs : List Word). seen p xs (marked c w.number ms))
-      (removed 0 ws p a i w (get-within ws i w f) ∙ ap (λ (x : Word). others x.number ws) (get-is ws i w w f)
-       ∙ sym (ap (λ (k : ℕ). taken_if k w.number ws) two))
+    (removed 0 ws p a i w (get-within ws i w f) ∙ ap (λ (x : Word). others x.number ws) (get-is ws i w w f)
+    ∙ sym (ap (λ (k : ℕ). taken_if k w.number ws) two))
     ∙ asked-word p ws ms c n i (Some w) t s e f
 
 pub asked_left : (p : ℕ) (ws : List Word) (ms : List Mark) (c n i : ℕ) (w : Word) (t : Mail) → seen p ws ms ≡ t → slice_get ws i ≡ not_asked (mark_of ms c) ws → slice_get ws i ≡ Some w → (n ≡ 2 → ⊥)

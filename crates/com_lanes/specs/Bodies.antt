@@ -1,7 +1,7 @@
 -- What stands beside the openers of a lane.
 use Rattle.std.specs.Prelude.{Bool, true, false, List, [], ◌∷◌}
 use Rattle.com_model.specs.declared.keeps.Opener.{Opener}
-use Rattle.com_model.specs.declared.keeps.Opener.TheVariants.{Pumps, Waits, Enters}
+use Rattle.com_model.specs.declared.keeps.Opener.TheVariants.{Pumps, Enters}
 use Rattle.com_lanes.specs.declared.openers.Body.{Body}
 
 -- The openers that are bodies.

@@ -1,5 +1,5 @@
 -- What a deed changes in single columns of the lanes, by the parts of the deed that a column looks at.
-use Rattle.std.specs.Prelude.{ℕ, zero, suc, ◌+◌, ◌≤◌, ◌<◌, ◌^◌, ◌≡◌, ℤ, pos, negsuc, Bool, true, false, List, [], ◌∷◌, length, Option, Some, None, slice_index_or, slice_set}
+use Rattle.std.specs.Prelude.{ℕ, ◌+◌, ◌≤◌, ◌<◌, ◌^◌, ◌≡◌, ℤ, pos, negsuc, Bool, true, false, List, [], length, Option, Some, None, slice_index_or}
 use Rattle.com_base.specs.declared.hresult.HResult.{HResult}
 use Rattle.com_model.specs.declared.deeds.Deed.{Deed}
 use Rattle.com_model.specs.Answers.{is_S_OK}

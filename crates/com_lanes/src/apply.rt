@@ -11,17 +11,19 @@ ghost use Rattle.com_state.specs.Parts.{openers_at, served_at, lanes_after};
 ghost use Rattle.com_lanes.specs.Changes.{IsNumber, IsBelow, NamesStas, HasRoom};
 
 use crate::columns::{
-    ask_at, bring_at, count_left, count_success, drop_filter, end_quit, end_sta, forget_at, home_left, make_sta, name_filter,
-    pop_opener, push_opener, put, quit_at, take_at,
+    ask_at, bring_at, count_left, count_success, drop_filter, end_quit, end_sta, forget_at,
+    home_left, make_sta, name_filter, pop_opener, push_opener, put, quit_at, take_at,
 };
 use crate::lanes::Lanes;
 use com_base::{HResult, Memory, Mode};
 use com_model::{Deed, Opener};
 
 impl Lanes {
-    /// Makes of the lanes what an entry of a lane makes of them. The only error is want of memory, and then nothing has changed.
+    /// Makes of the lanes what an entry of a lane makes of them. The only error is want of memory, and then
+    /// nothing has changed.
     ///
-    /// An entry that makes a single-threaded apartment names the next one, and one that ends one names one that was made.
+    /// An entry that makes a single-threaded apartment names the next one, and one that ends one names one
+    /// that was made.
     pub fn apply(&mut self, lane: u32, deed: &Deed) -> Result<(), Memory>
         requires stas { NamesStas self.old deed.now }
         requires room { HasRoom self.old }
@@ -31,7 +33,12 @@ impl Lanes {
         match deed {
             Deed::Pump { bound } => self.pump(lane, *bound),
             Deed::Out { call, .. } => self.open(lane, Opener::Waits { call: *call }),
-            Deed::Enter { call, object, apartment, .. } => self.enter(lane, *call, *object, *apartment),
+            Deed::Enter {
+                call,
+                object,
+                apartment,
+                ..
+            } => self.enter(lane, *call, *object, *apartment),
             Deed::EndPump => self.end_pump(lane),
             Deed::Back { call, .. } => self.back(lane, *call),
             Deed::Leave { call, .. } => self.leave(lane, *call),
@@ -50,7 +57,7 @@ impl Lanes {
     /// Opens a call that is waited for, or a body.
     fn open(&mut self, lane: u32, opener: Opener) -> Result<(), Memory>
         ensures ok { OnOk result (self.new ≡ record self.old {
-            openers = slice_set self.old.openers lane (opener ∷ openers_at self.old lane);
+          openers = slice_set self.old.openers lane (opener ∷ openers_at self.old lane);
         }) }
         ensures err { OnErr result (self.new ≡ self.old) }
     {
@@ -60,7 +67,7 @@ impl Lanes {
     /// Opens a body.
     fn enter(&mut self, lane: u32, call: u32, object: u32, apartment: u32) -> Result<(), Memory>
         ensures ok { OnOk result (self.new ≡ record self.old {
-            openers = slice_set self.old.openers lane (Opener.Enters call object apartment ∷ openers_at self.old lane);
+          openers = slice_set self.old.openers lane (Opener.Enters call object apartment ∷ openers_at self.old lane);
         }) }
         ensures err { OnErr result (self.new ≡ self.old) }
     {
@@ -75,8 +82,8 @@ impl Lanes {
     /// Opens a pump.
     fn pump(&mut self, lane: u32, bound: u32) -> Result<(), Memory>
         ensures ok { OnOk result (self.new ≡ record self.old {
-            openers = slice_set self.old.openers lane (Opener.Pumps bound ∷ openers_at self.old lane);
-            served = slice_set self.old.served lane 0;
+          openers = slice_set self.old.openers lane (Opener.Pumps bound ∷ openers_at self.old lane);
+          served = slice_set self.old.served lane 0;
         }) }
         ensures err { OnErr result (self.new ≡ self.old) }
     {
@@ -88,9 +95,9 @@ impl Lanes {
     /// Closes a pump, by the quit that stands where its bound is not reached.
     fn end_pump(&mut self, lane: u32) -> Result<(), Memory>
         ensures ok { OnOk result (self.new ≡ record self.old {
-            openers = slice_set self.old.openers lane (without_first (openers_at self.old lane));
-            quits = changed_at (where_true (not (bound_reached (openers_at self.old lane) (served_at self.old lane))) (λ b. false))
-                lane false self.old.quits;
+          openers = slice_set self.old.openers lane (without_first (openers_at self.old lane));
+          quits = changed_at (where_true (not (bound_reached (openers_at self.old lane) (served_at self.old lane))) (λ b. false))
+              lane false self.old.quits;
         }) }
         ensures err { OnErr result (self.new ≡ self.old) }
     {
@@ -103,8 +110,8 @@ impl Lanes {
     /// Closes the wait for a call, and forgets what the call was asked.
     fn back(&mut self, lane: u32, call: u32) -> Result<(), Memory>
         ensures ok { OnOk result (self.new ≡ record self.old {
-            openers = slice_set self.old.openers lane (without_first (openers_at self.old lane));
-            mail = slice_set self.old.mail lane (mail_after (Forgets call) (slice_index_or self.old.mail lane no_mail));
+          openers = slice_set self.old.openers lane (without_first (openers_at self.old lane));
+          mail = slice_set self.old.mail lane (mail_after (Forgets call) (slice_index_or self.old.mail lane no_mail));
         }) }
         ensures err { OnErr result (self.new ≡ self.old) }
     {
@@ -118,9 +125,9 @@ impl Lanes {
     fn leave(&mut self, lane: u32, call: u32) -> Result<(), Memory>
         requires { HasRoom self.old }
         ensures ok { OnOk result (self.new ≡ record self.old {
-            openers = slice_set self.old.openers lane (without_first (openers_at self.old lane));
-            served = slice_set self.old.served lane
-                (left_on (Closes (Leaves call)) (without_first (openers_at self.old lane)) (served_at self.old lane));
+          openers = slice_set self.old.openers lane (without_first (openers_at self.old lane));
+          served = slice_set self.old.served lane
+              (left_on (Closes (Leaves call)) (without_first (openers_at self.old lane)) (served_at self.old lane));
         }) }
         ensures err { OnErr result (self.new ≡ self.old) }
     {
@@ -134,11 +141,11 @@ impl Lanes {
         requires next { IsNumber (length self.old.stas + 3) (makes_sta (Deed.Init mode home hr)) }
         requires room { HasRoom self.old }
         ensures ok { OnOk result (self.new ≡ record self.old {
-            homes = slice_set self.old.homes lane (Some home);
-            counts = slice_set self.old.counts lane (count_after (Initialises home hr) (slice_index_or self.old.counts lane 0));
-            filters = changed_at (filters_change (if is_S_OK hr then Names None else Keeps)) lane None self.old.filters;
-            made = changed_at (made_change (makes_sta (Deed.Init mode home hr))) lane [] self.old.made;
-            stas = with_last self.old.stas (makes_sta (Deed.Init mode home hr));
+          homes = slice_set self.old.homes lane (Some home);
+          counts = slice_set self.old.counts lane (count_after (Initialises home hr) (slice_index_or self.old.counts lane 0));
+          filters = changed_at (filters_change (if is_S_OK hr then Names None else Keeps)) lane None self.old.filters;
+          made = changed_at (made_change (makes_sta (Deed.Init mode home hr))) lane [] self.old.made;
+          stas = with_last self.old.stas (makes_sta (Deed.Init mode home hr));
         }) }
         ensures err { OnErr result (self.new ≡ self.old) }
     {
@@ -153,10 +160,10 @@ impl Lanes {
     fn uninitialise(&mut self, lane: u32, home: Option<u32>, count: u32) -> Result<(), Memory>
         requires { IsBelow (length self.old.stas + 3) (ends_sta (Deed.Uninit home count)) }
         ensures ok { OnOk result (self.new ≡ record self.old {
-            homes = slice_set self.old.homes lane (home_after (Uninitialises home count) (slice_index_or self.old.homes lane None));
-            counts = slice_set self.old.counts lane count;
-            filters = changed_at (filters_change (filter_effect (Deed.Uninit home count))) lane None self.old.filters;
-            ended = with_last self.old.ended (ends_sta (Deed.Uninit home count));
+          homes = slice_set self.old.homes lane (home_after (Uninitialises home count) (slice_index_or self.old.homes lane None));
+          counts = slice_set self.old.counts lane count;
+          filters = changed_at (filters_change (filter_effect (Deed.Uninit home count))) lane None self.old.filters;
+          ended = with_last self.old.ended (ends_sta (Deed.Uninit home count));
         }) }
         ensures err { OnErr result (self.new ≡ self.old) }
     {
@@ -170,7 +177,7 @@ impl Lanes {
     /// A lane names its filter.
     fn set_filter(&mut self, lane: u32, filter: Option<u32>, hr: HResult) -> Result<(), Memory>
         ensures ok { OnOk result (self.new ≡ record self.old {
-            filters = changed_at (filters_change (if is_S_OK hr then Names filter else Keeps)) lane None self.old.filters;
+          filters = changed_at (filters_change (if is_S_OK hr then Names filter else Keeps)) lane None self.old.filters;
         }) }
         ensures err { OnErr result (self.new ≡ self.old) }
     {
@@ -183,7 +190,7 @@ impl Lanes {
     fn post(&mut self, lane: u32, to: i64, word: i64, hr: HResult) -> Result<(), Memory>
         requires { HasRoom self.old }
         ensures ok { OnOk result (self.new ≡ record self.old {
-            mail = changed_at (mail_change (Deed.Post to word hr)) (mail_lane lane (Deed.Post to word hr)) no_mail self.old.mail;
+          mail = changed_at (mail_change (Deed.Post to word hr)) (mail_lane lane (Deed.Post to word hr)) no_mail self.old.mail;
         }) }
         ensures err { OnErr result (self.new ≡ self.old) }
     {
@@ -193,7 +200,7 @@ impl Lanes {
     /// A lane takes its first word.
     fn take_word(&mut self, lane: u32) -> Result<(), Memory>
         ensures ok { OnOk result (self.new ≡ record self.old {
-            mail = slice_set self.old.mail lane (mail_after Takes (slice_index_or self.old.mail lane no_mail));
+          mail = slice_set self.old.mail lane (mail_after Takes (slice_index_or self.old.mail lane no_mail));
         }) }
         ensures err { OnErr result (self.new ≡ self.old) }
     {
@@ -204,7 +211,7 @@ impl Lanes {
     /// A lane's filter is asked about a word.
     fn ask(&mut self, lane: u32, call: u32, answer: u8) -> Result<(), Memory>
         ensures ok { OnOk result (self.new ≡ record self.old {
-            mail = slice_set self.old.mail lane (mail_after (Asks call answer) (slice_index_or self.old.mail lane no_mail));
+          mail = slice_set self.old.mail lane (mail_after (Asks call answer) (slice_index_or self.old.mail lane no_mail));
         }) }
         ensures err { OnErr result (self.new ≡ self.old) }
     {
@@ -215,9 +222,9 @@ impl Lanes {
     #[tactic(auto, using(crate::proofs::Rows::quit_seen))]
     fn quit(&mut self, lane: u32, to: i64, hr: HResult) -> Result<(), Memory>
         ensures ok { OnOk result (self.new ≡ record self.old {
-            quits = changed_at
-                (quit_change (not (bound_reached (openers_at self.old lane) (served_at self.old lane))) (Deed.Quit to hr))
-                (quit_lane lane (Deed.Quit to hr)) false self.old.quits;
+          quits = changed_at
+              (quit_change (not (bound_reached (openers_at self.old lane) (served_at self.old lane))) (Deed.Quit to hr))
+              (quit_lane lane (Deed.Quit to hr)) false self.old.quits;
         }) }
         ensures err { OnErr result (self.new ≡ self.old) }
     {

@@ -26,7 +26,11 @@ pub(crate) fn put<T: Copy>(column: &mut Vec<T>, lane: u32, value: T)
 }
 
 /// Opens one more in a lane. The only error is want of memory, and then nothing has changed.
-pub(crate) fn push_opener(column: &mut Vec<Openers>, lane: u32, opener: Opener) -> Result<(), Memory>
+pub(crate) fn push_opener(
+    column: &mut Vec<Openers>,
+    lane: u32,
+    opener: Opener,
+) -> Result<(), Memory>
     ensures ok { OnOk result (column.new.items
         ≡ slice_set column.old.items lane (opener ∷ slice_index_or column.old.items lane [])) }
     ensures err { OnErr result (column.new.items ≡ column.old.items) }
@@ -105,7 +109,12 @@ fn is_s_ok(hr: HResult) -> bool
 }
 
 /// Names a lane's filter, or none, where the answer is S_OK.
-pub(crate) fn name_filter(column: &mut Vec<Option<u32>>, lane: u32, filter: Option<u32>, hr: HResult)
+pub(crate) fn name_filter(
+    column: &mut Vec<Option<u32>>,
+    lane: u32,
+    filter: Option<u32>,
+    hr: HResult,
+)
     ensures { column.new.items
         ≡ changed_at (filters_change (if is_S_OK hr then Names filter else Keeps)) lane None column.old.items }
 {
@@ -136,10 +145,15 @@ fn natural(number: i64) -> Option<u64>
     }
 }
 
-/// Brings a word to the lane that a Post names, where the answer is S_OK. The only error is want of memory, and then nothing
-/// has changed.
+/// Brings a word to the lane that a Post names, where the answer is S_OK. The only error is want of memory,
+/// and then nothing has changed.
 #[tactic(auto, using(crate::proofs::Rows::posted_none, crate::proofs::Rows::posted_some, crate::proofs::Rows::posted_not, crate::proofs::Rows::set_past))]
-pub(crate) fn bring_at(column: &mut Vec<Mail>, to: i64, word: i64, hr: HResult) -> Result<(), Memory>
+pub(crate) fn bring_at(
+    column: &mut Vec<Mail>,
+    to: i64,
+    word: i64,
+    hr: HResult,
+) -> Result<(), Memory>
     requires { (l : ℕ) → (slice_index_or column.old.items l no_mail).posted + 1 < 2 ^ 64 }
     ensures ok { OnOk result (column.new.items ≡ posted_to to word hr column.old.items) }
     ensures err { OnErr result (column.new.items ≡ column.old.items) }
@@ -213,9 +227,15 @@ pub(crate) fn end_quit(column: &mut Vec<bool>, lane: u32, by_quit: bool)
     }
 }
 
-/// A lane that is initialised makes an apartment where it asks for one of its own and the answer is S_OK. The only error is want
-/// of memory, and then nothing has changed.
-pub(crate) fn make_sta(stas: &mut Stas, lane: u32, mode: Mode, home: u32, hr: HResult) -> Result<(), Memory>
+/// A lane that is initialised makes an apartment where it asks for one of its own and the answer is S_OK.
+/// The only error is want of memory, and then nothing has changed.
+pub(crate) fn make_sta(
+    stas: &mut Stas,
+    lane: u32,
+    mode: Mode,
+    home: u32,
+    hr: HResult,
+) -> Result<(), Memory>
     requires next { IsNumber (length stas.old.stas + 3) (makes_sta (Deed.Init mode home hr)) }
     requires room { length stas.old.stas + 4 ≤ 2 ^ 32 }
     ensures ok { OnOk result (stas.new ≡ stas_made stas.old lane (makes_sta (Deed.Init mode home hr))) }
@@ -223,18 +243,12 @@ pub(crate) fn make_sta(stas: &mut Stas, lane: u32, mode: Mode, home: u32, hr: HR
 {
     match mode {
         Mode::Mta => Ok(()),
-        Mode::Sta => {
-            if is_s_ok(hr) {
-                stas.make(lane)
-            } else {
-                Ok(())
-            }
-        }
+        Mode::Sta => { if is_s_ok(hr) { stas.make(lane) } else { Ok(()) } }
     }
 }
 
-/// The apartment of a lane ends where this is left of the lane's initialisations. The only error is want of memory, and then
-/// nothing has changed.
+/// The apartment of a lane ends where this is left of the lane's initialisations. The only error is want of
+/// memory, and then nothing has changed.
 pub(crate) fn end_sta(stas: &mut Stas, home: Option<u32>, count: u32) -> Result<(), Memory>
     requires { IsBelow (length stas.old.stas + 3) (ends_sta (Deed.Uninit home count)) }
     ensures ok { OnOk result (stas.new

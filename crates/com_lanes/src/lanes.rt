@@ -15,8 +15,8 @@ use com_model::{Opener, Word};
 use std::alloc::Global;
 use std::marker::Model;
 
-/// What a core keeps of each lane, by the lane's number from 0, and of the single-threaded apartments that threads made. Lane 0
-/// is the clock's.
+/// What a core keeps of each lane, by the lane's number from 0, and of the single-threaded apartments that
+/// threads made. Lane 0 is the clock's.
 #[derive(Debug, Drop)]
 pub struct Lanes {
     pub(crate) openers: Vec<Openers>,
@@ -51,7 +51,8 @@ impl Model for Lanes {
 }
 
 impl Lanes {
-    /// The lanes before the first entry: nothing is open, and no lane has a home. The only error is want of memory.
+    /// The lanes before the first entry: nothing is open, and no lane has a home. The only error is want of
+    /// memory.
     pub fn new(alloc: Global, lanes: u32) -> Result<Lanes, Memory>
         ensures { IfOk result (λ new. new ≡ first_lanes lanes) }
     {
@@ -240,8 +241,8 @@ impl Lanes {
         self.stas.next()
     }
 
-    /// The main single-threaded apartment: the oldest that a thread made and that has not ended, else the host's. Source: the
-    /// documentation of apartments, "main apartment".
+    /// The main single-threaded apartment: the oldest that a thread made and that has not ended, else the
+    /// host's. Source: the documentation of apartments, "main apartment".
     pub fn main_sta(&self) -> u32
         ensures { result ≡ or_host (first (filter (λ a. not (is_member a self.now.ended)) self.now.stas)) }
     {

@@ -1,5 +1,5 @@
-//! What a core keeps of lanes and apartments: what stands open in each lane, its home, its words and its quit, and the
-//! single-threaded apartments that threads make.
+//! What a core keeps of lanes and apartments: what stands open in each lane, its home, its words and its
+//! quit, and the single-threaded apartments that threads make.
 #![tactic(auto)]
 
 mod apply;
@@ -13,3 +13,6 @@ mod stack;
 mod stas;
 
 pub use lanes::Lanes;
+
+#[cfg(test)]
+mod tests;

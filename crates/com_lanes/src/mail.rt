@@ -85,8 +85,9 @@ impl Mail {
         }
     }
 
-    /// A call is asked about the first word that it was not asked about yet, and the word goes where the answer is 2,
-    /// PENDINGMSG_WAITDEFPROCESS. The only error is want of memory, and then nothing has changed.
+    /// A call is asked about the first word that it was not asked about yet, and the word goes where the
+    /// answer is 2, PENDINGMSG_WAITDEFPROCESS. The only error is want of memory, and then nothing has
+    /// changed.
     pub fn ask(&mut self, call: u32, answer: u8) -> Result<(), Memory>
         ensures ok { OnOk result (self.new ≡ mail_after (Asks call answer) self.old) }
         ensures err { OnErr result (self.new ≡ self.old) }

@@ -18,8 +18,8 @@ pub struct Body {
     pub apartment: u32,
 }
 
-/// The openers of a lane, seen as a list with the innermost first. Beside them stand those that are bodies, and the calls
-/// that are waited for, so that the innermost of each is known without a walk.
+/// The openers of a lane, seen as a list with the innermost first. Beside them stand those that are bodies,
+/// and the calls that are waited for, so that the innermost of each is known without a walk.
 #[derive(Debug, Drop)]
 pub struct Openers {
     openers: Stack<Opener>,

@@ -21,8 +21,8 @@ struct Sta {
     gone: bool,
 }
 
-/// The single-threaded apartments that threads made, numbered from 3 in the order of making. Seen as those of each lane, as
-/// all of them, and as those that ended.
+/// The single-threaded apartments that threads made, numbered from 3 in the order of making. Seen as those
+/// of each lane, as all of them, and as those that ended.
 #[derive(Debug, Drop)]
 pub struct Stas {
     made: Vec<Numbers>,
@@ -64,9 +64,9 @@ impl Stas {
     pub fn make(&mut self, lane: u32) -> Result<(), Memory>
         requires { length self.old.stas + 4 ≤ 2 ^ 32 }
         ensures ok { OnOk result (self.new ≡ record {
-            made = slice_set self.old.made lane (slice_index_or self.old.made lane [] ++ (length self.old.stas + 3) ∷ []);
-            stas = self.old.stas ++ (length self.old.stas + 3) ∷ [];
-            ended = self.old.ended;
+          made = slice_set self.old.made lane (slice_index_or self.old.made lane [] ++ (length self.old.stas + 3) ∷ []);
+          stas = self.old.stas ++ (length self.old.stas + 3) ∷ [];
+          ended = self.old.ended;
         }) }
         ensures err { OnErr result (self.new ≡ self.old) }
     {
@@ -80,7 +80,8 @@ impl Stas {
         Ok(())
     }
 
-    /// One ends, the host's or one that was made. The only error is want of memory, and then nothing has changed.
+    /// One ends, the host's or one that was made. The only error is want of memory, and then nothing has
+    /// changed.
     pub fn end(&mut self, apartment: u32) -> Result<(), Memory>
         requires { apartment < length self.old.stas + 3 }
         ensures ok { OnOk result (self.new ≡ record self.old { ended = self.old.ended ++ apartment ∷ [] }) }

@@ -1,20 +1,36 @@
 //! The balance of references: who holds references to each object, how many public references its stub counts, and which
 //! objects nobody holds any more.
+//!
+//! A call that gains changes the books by its row of the table of reference counting. A call that loses a holder does beside
+//! what the end of its entry does: a proxy without place gives everything back, and an object without holder is no longer
+//! connected. It looks at one object only, since between calls each connected object has a holder. Several losses in one entry
+//! are one end. Source: MS-DCOM 3.2.4.4, and Essential COM, chapter 5.
 #![tactic(auto)]
 
-ghost use Rattle.std.specs.Prelude.{◌≡◌, ◌+◌, ◌-◌, ◌<◌, ◌≤◌, ◌↔◌, ◌&&◌, ◌==◌, ℕ, true, false, not, IsTrue, if◌then◌else◌};
+ghost use Rattle.std.specs.Prelude.{◌≡◌, ◌+◌, ◌-◌, ◌<◌, ◌≤◌, ◌^◌, ◌↔◌, ◌&&◌, ◌||◌, ◌==◌, ℕ, true, false, not, [], length, OnOk, OnErr, IfOk, IsOk, IsTrue, Ok, Err, Some, None, if◌then◌else◌};
+ghost use Rattle.com_stub.specs.StubRows.{is_connected};
+ghost use Rattle.com_slots.specs.Table.{held_in};
 ghost use Rattle.com_proxy.specs.Rows.{local_of};
-ghost use Rattle.com_holders.specs.Tables.{books_of, owns_of, object_in};
+ghost use Rattle.com_holders.specs.Tables.{books_of, owns_of, owners_of, is_owned, object_in, direct_in, offers, outstanding_in};
+ghost use Rattle.com_holders.specs.Places.{OneMore, OneLess, SamePlaces};
 ghost use Rattle.com_holders.specs.Stands.{Tells};
-ghost use Rattle.com_books.specs.Changes.{Books, cut};
-ghost use Rattle.com_refs.specs.Counts.{hold_of, hold_less, Totals};
-ghost use Rattle.com_refs.specs.Ends.{ends};
+ghost use Rattle.com_books.specs.Changes.{Books, changed, change, cut, packet, is_weak, Makes, Takes, Asks, Marshals, Unmarshals, Drops, Registers, Revokes, ToCookie, Return, Withdraw};
+ghost use Rattle.com_refs.specs.Counts.{hold_of, hold_less, hold_more};
+ghost use Rattle.com_refs.specs.Ends.{ends, Totals};
 
-use com_base::RefValue;
+use com_base::{MarshalMode, RefValue};
 use com_holders::Holders;
+use com_packets::Packet;
+use std::alloc::Global;
 use std::marker::Model;
 
-/// The references of all objects, and how many holders each has outside of its direct places.
+/// Want of memory.
+pub use com_base::Memory;
+/// Why a call changed nothing.
+pub use com_holders::HoldersError as RefsError;
+
+/// The references of all objects, seen as the tables of their holders. Beside, the holders of each object outside of its direct
+/// places are counted.
 #[derive(Debug, Drop)]
 pub struct Refs {
     holders: Holders,
@@ -22,14 +38,15 @@ pub struct Refs {
 }
 
 impl Model for Refs {
+    ghost use Rattle.std.specs.Prelude.{◌-◌, vec_len, vec_capacity};
     ghost use Rattle.com_holders.specs.Tables.{Tables};
-    ghost use Rattle.com_refs.specs.Counts.{IsCounted};
+    ghost use Rattle.com_refs.specs.Counts.{IsRefs};
 
     ghost Value = { Tables };
 
     ghost view = { λ r. r.holders };
 
-    ghost invariant = { λ r. IsCounted r.holders r.holds.items };
+    ghost invariant = { λ r. IsRefs r.holders r.holds.items (vec_capacity r.holds - vec_len r.holds) };
 }
 
 // The number of an object.
@@ -45,11 +62,11 @@ fn hold_at(holds: &[u64], object: u32) -> u64
     }
 }
 
-// One holder less, unless it was a direct place.
-fn lose_hold(holds: &mut [u64], object: u32, direct: bool)
-    ensures { holds.new ≡ hold_less object direct holds.old }
+// One holder less, if it was one.
+fn lose_hold(holds: &mut [u64], object: u32, held: bool)
+    ensures { holds.new ≡ hold_less object held holds.old }
 {
-    if direct {
+    if !held {
         return;
     }
     let Some(place) = object.checked_sub(1) else {
@@ -61,40 +78,380 @@ fn lose_hold(holds: &mut [u64], object: u32, direct: bool)
     }
 }
 
-// Where an object has no holder left it is no longer connected.
-fn settle(holders: &mut Holders, held: u64, object: u32)
+// One holder more, if it is one.
+fn gain_hold(holds: &mut [u64], object: u32, held: bool)
+    requires fits { hold_of holds.old object + 1 < 2 ^ 64 }
+    ensures { holds.new ≡ hold_more object held holds.old }
+{
+    if !held {
+        return;
+    }
+    let Some(place) = object.checked_sub(1) else {
+        return;
+    };
+    let at = place as usize;
+    if at < holds.len() {
+        holds[at] += 1;
+    }
+}
+
+// Where an object has no holder left it is no longer connected. True exactly then.
+fn settle(holders: &mut Holders, held: u64, object: u32) -> bool
+    ensures lost { IsTrue result ↔ ((object_in holders.old.objects object).direct + held ≡ 0) }
     ensures objects { holders.new.objects ≡ holders.old.objects }
     ensures proxies { holders.new.proxies ≡ holders.old.proxies }
+    ensures counters { holders.new.counters ≡ holders.old.counters }
+    ensures issued { holders.new.issued ≡ holders.old.issued }
+    ensures spare { holders.new.spare ≡ holders.old.spare }
     ensures books { books_of holders.new ≡ (if (object_in holders.old.objects object).direct + held == 0 then cut (λ x. (books_of holders.old).live x && not (x == object)) (books_of holders.old) else books_of holders.old) }
 {
     if holders.direct(object) > 0 {
-        return;
+        return false;
     }
     if held > 0 {
-        return;
+        return false;
     }
     holders.disconnect(object);
+    true
+}
+
+// The holders once a packet was unmarshalled: a normal one ends, and any other stays.
+fn recount(holds: &mut [u64], object: u32, owned: bool, normal: bool)
+    requires fits { hold_of holds.old object + 1 < 2 ^ 64 }
+    ensures { holds.new ≡ (if normal then hold_less object owned holds.old else hold_more object (not owned) holds.old) }
+{
+    if normal {
+        lose_hold(holds, object, owned);
+        return;
+    }
+    gain_hold(holds, object, !owned);
+}
+
+// The packet is one that ends when it is unmarshalled.
+fn is_normal(mode: MarshalMode) -> bool
+    ensures { IsTrue result ↔ (mode ≡ MarshalMode.Normal) }
+{
+    match mode {
+        MarshalMode::Normal => true,
+        MarshalMode::Strong => false,
+        MarshalMode::Weak => false,
+    }
+}
+
+// The object, if it lost its last holder.
+fn if_lost(lost: bool, object: u32) -> Option<u32>
+    ensures { result ≡ (if lost then Some object else None) }
+{
+    if lost {
+        return Some(object);
+    }
+    None
+}
+
+// The packet holds its object: a weak one does not.
+fn holds_object(mode: MarshalMode) -> bool
+    ensures { result ≡ not (is_weak mode) }
+{
+    match mode {
+        MarshalMode::Normal => true,
+        MarshalMode::Strong => true,
+        MarshalMode::Weak => false,
+    }
 }
 
 impl Refs {
-    /// Between entries nothing is left to give back or to cut.
+    /// No object was made and nothing is held. It takes no memory.
+    pub fn new(alloc: Global) -> Self
+        ensures objects { result.objects ≡ [] }
+        ensures proxies { result.proxies ≡ [] }
+        ensures packets { result.packets ≡ [] }
+        ensures cookies { result.cookies ≡ [] }
+        ensures issued { result.issued ≡ 0 }
+    {
+        Refs {
+            holders: Holders::new(alloc),
+            holds: Vec::new(alloc),
+        }
+    }
+
+    /// Makes room for `n` calls.
+    pub fn reserve(&mut self, n: u32) -> Result<(), Memory>
+        ensures room { OnOk result (n ≤ self.new.spare) }
+        ensures same { self.new ≡ record self.old { spare = self.new.spare } }
+        ensures spare { self.old.spare ≤ self.new.spare }
+    {
+        self.holds.reserve(n as usize)?;
+        self.holders.reserve(n)
+    }
+
+    /// Between calls nothing is left to give back or to cut.
     pub fn rests(&self)
-        ensures { (n : ℕ) (places : ℕ → ℕ → ℕ) → Tells places self.now → Totals n places self.now → ends n places (books_of self.now) ≡ books_of self.now }
+        ensures { (n : ℕ) (places : ℕ → ℕ → ℕ) → Tells n places self.now → Totals n places self.now → ends n places (books_of self.now) ≡ books_of self.now }
     {
         self.holders.gives_nothing();
     }
 
-    /// One place less, to the end of its entry.
-    pub fn release(&mut self, apartment: u32, held: RefValue)
+    /// One place less, to the end of its entry. True exactly where the object then has no holder of any kind that is counted.
+    pub fn release(&mut self, apartment: u32, held: RefValue) -> bool
         requires proxied { owns_of self.old.objects held.object apartment ≡ false → 0 < local_of self.old.proxies apartment held.object held.iface }
         requires direct { owns_of self.old.objects held.object apartment ≡ true → 0 < (object_in self.old.objects held.object).direct }
-        ensures books { (n : ℕ) (places : ℕ → ℕ → ℕ) → apartment < n → Tells places self.new → Totals n places self.new → books_of self.new ≡ ends n places (books_of self.old) }
+        ensures books { (n : ℕ) (places : ℕ → ℕ → ℕ) → apartment < n → Tells n places self.new → Totals n places self.new → books_of self.new ≡ ends n places (books_of self.old) }
+        ensures places { OneLess self.old self.new apartment held.object (owns_of self.old.objects held.object apartment) }
+        ensures offers { (x j : ℕ) → offers self.new x j ≡ offers self.old x j }
+        ensures issued { self.new.issued ≡ self.old.issued }
+        ensures spare { self.new.spare ≡ self.old.spare }
     {
         let owned = self.holders.owns(held.object, apartment);
         self.holders.release(apartment, held);
-        lose_hold(&mut self.holds, held.object, owned);
+        lose_hold(&mut self.holds, held.object, !owned);
         let left = hold_at(&self.holds, held.object);
-        settle(&mut self.holders, left, held.object);
+        settle(&mut self.holders, left, held.object)
+    }
+
+    /// One place more of a reference that the apartment holds.
+    pub fn copy(&mut self, apartment: u32, held: RefValue)
+        requires proxied { owns_of self.old.objects held.object apartment ≡ false → 0 < local_of self.old.proxies apartment held.object held.iface }
+        requires direct { owns_of self.old.objects held.object apartment ≡ true → 0 < (object_in self.old.objects held.object).direct }
+        requires known { offers self.old held.object held.iface ≡ true }
+        requires few { self.old.issued < 2 ^ 28 }
+        ensures books { books_of self.new ≡ books_of self.old }
+        ensures places { OneMore self.old self.new apartment held.object (owns_of self.old.objects held.object apartment) }
+        ensures offers { (x j : ℕ) → offers self.new x j ≡ offers self.old x j }
+        ensures issued { self.new.issued ≡ self.old.issued + 1 }
+        ensures spare { self.new.spare ≡ self.old.spare }
+    {
+        self.holders.stands();
+        let owned = self.holders.owns(held.object, apartment);
+        self.holders.copy(apartment, held);
+        gain_hold(&mut self.holds, held.object, !owned);
+    }
+
+    /// A packet of a reference that the apartment holds, under the number that is answered. A strong or a weak one may be
+    /// unmarshalled many times; a weak one does not hold its object. `NotConnected` exactly where the object is not connected.
+    /// Source: CoMarshalInterface.
+    pub fn marshal(
+        &mut self,
+        apartment: u32,
+        held: RefValue,
+        mode: MarshalMode,
+    ) -> Result<u32, RefsError>
+        requires known { offers self.old held.object held.iface ≡ true }
+        requires few { self.old.issued < 2 ^ 28 }
+        ensures not_connected { (result ≡ Err RefsError.NotConnected) ↔ (is_connected self.old.stubs held.object ≡ false) }
+        ensures number { IfOk result (λ number. number ≡ length self.old.packets + 1) }
+        ensures row { OnOk result (books_of self.new ≡ changed (books_of self.old) (change (owns_of self.old.objects) (books_of self.old) (Marshals apartment mode held.object held.iface))) }
+        ensures places { OnOk result (SamePlaces self.old self.new) }
+        ensures offers { (x j : ℕ) → offers self.new x j ≡ offers self.old x j }
+        ensures issued { OnOk result (self.new.issued ≡ self.old.issued + 1) }
+        ensures room { 0 < self.old.spare → result ≡ Err RefsError.Memory → ⊥ }
+        ensures err { OnErr result (self.new ≡ self.old) }
+        ensures spare { self.old.spare ≤ self.new.spare + 1 }
+    {
+        self.holders.stands();
+        match self.holders.marshal(apartment, held, mode) {
+            Ok(number) => {
+                gain_hold(&mut self.holds, held.object, holds_object(mode));
+                Ok(number)
+            }
+            Err(error) => Err(error),
+        }
+    }
+
+    /// A cookie of a reference that the apartment holds. `NotConnected` exactly where the object is not connected.
+    /// Source: IGlobalInterfaceTable::RegisterInterfaceInGlobal.
+    pub fn register(&mut self, held: RefValue) -> Result<u32, RefsError>
+        requires known { offers self.old held.object held.iface ≡ true }
+        requires few { self.old.issued < 2 ^ 28 }
+        ensures not_connected { (result ≡ Err RefsError.NotConnected) ↔ (is_connected self.old.stubs held.object ≡ false) }
+        ensures cookie { IfOk result (λ cookie. cookie ≡ length self.old.cookies + 1) }
+        ensures books { OnOk result (books_of self.new ≡ changed (books_of self.old) (ToCookie held.object held.iface 1)) }
+        ensures places { OnOk result (SamePlaces self.old self.new) }
+        ensures offers { (x j : ℕ) → offers self.new x j ≡ offers self.old x j }
+        ensures issued { OnOk result (self.new.issued ≡ self.old.issued + 1) }
+        ensures room { 0 < self.old.spare → result ≡ Err RefsError.Memory → ⊥ }
+        ensures err { OnErr result (self.new ≡ self.old) }
+        ensures spare { self.old.spare ≤ self.new.spare + 1 }
+    {
+        self.holders.stands();
+        match self.holders.register(held) {
+            Ok(cookie) => {
+                gain_hold(&mut self.holds, held.object, true);
+                Ok(cookie)
+            }
+            Err(error) => Err(error),
+        }
+    }
+
+    /// A reference to another interface of an object of which the apartment holds one. `NotConnected` exactly where the apartment
+    /// does not own the object, which is not connected; else `NoInterface` exactly where the interface is not in its set.
+    pub fn query(&mut self, apartment: u32, object: u32, iface: u16) -> Result<(), RefsError>
+        requires few { self.old.issued < 2 ^ 28 }
+        ensures not_connected { (result ≡ Err RefsError.NotConnected) ↔ ((owns_of self.old.objects object apartment || is_connected self.old.stubs object) ≡ false) }
+        ensures no_interface { (result ≡ Err RefsError.NoInterface) ↔ (((owns_of self.old.objects object apartment || is_connected self.old.stubs object) ≡ true) × (offers self.old object iface ≡ false)) }
+        ensures row { OnOk result (books_of self.new ≡ changed (books_of self.old) (change (owns_of self.old.objects) (books_of self.old) (Asks apartment object iface))) }
+        ensures places { OnOk result (OneMore self.old self.new apartment object (owns_of self.old.objects object apartment)) }
+        ensures offers { (x j : ℕ) → offers self.new x j ≡ offers self.old x j }
+        ensures issued { OnOk result (self.new.issued ≡ self.old.issued + 1) }
+        ensures room { 0 < self.old.spare → result ≡ Err RefsError.Memory → ⊥ }
+        ensures err { OnErr result (self.new ≡ self.old) }
+        ensures spare { self.old.spare ≤ self.new.spare + 1 }
+    {
+        self.holders.stands();
+        let owned = self.holders.owns(object, apartment);
+        match self.holders.query(apartment, object, iface) {
+            Ok(()) => {
+                gain_hold(&mut self.holds, object, !owned);
+                Ok(())
+            }
+            Err(error) => Err(error),
+        }
+    }
+
+    /// The reference of a cookie, in a place of the apartment. `Unknown` exactly where the cookie was never given or was revoked;
+    /// else `NotConnected` exactly where its object is not connected. Source: IGlobalInterfaceTable::GetInterfaceFromGlobal.
+    pub fn get(&mut self, apartment: u32, cookie: u32) -> Result<RefValue, RefsError>
+        requires few { self.old.issued < 2 ^ 28 }
+        ensures unknown { (result ≡ Err RefsError.Unknown) ↔ (held_in self.old.cookies cookie ≡ None) }
+        ensures held { IfOk result (λ held. held_in self.old.cookies cookie ≡ Some held) }
+        ensures row { IfOk result (λ held. books_of self.new ≡ changed (books_of self.old) (change (owns_of self.old.objects) (books_of self.old) (Takes apartment held.object held.iface))) }
+        ensures places { IfOk result (λ held. OneMore self.old self.new apartment held.object (owns_of self.old.objects held.object apartment)) }
+        ensures offers { (x j : ℕ) → offers self.new x j ≡ offers self.old x j }
+        ensures issued { OnOk result (self.new.issued ≡ self.old.issued + 1) }
+        ensures room { 0 < self.old.spare → result ≡ Err RefsError.Memory → ⊥ }
+        ensures err { OnErr result (self.new ≡ self.old) }
+        ensures spare { self.old.spare ≤ self.new.spare + 1 }
+    {
+        self.holders.stands();
+        match self.holders.get(apartment, cookie) {
+            Ok(held) => {
+                let owned = self.holders.owns(held.object, apartment);
+                gain_hold(&mut self.holds, held.object, !owned);
+                Ok(held)
+            }
+            Err(error) => Err(error),
+        }
+    }
+
+    /// A packet's reference, in a place of the apartment. A normal packet ends: its references go to the proxy, or back to the stub
+    /// in an apartment that owns the object. `Unknown` exactly where no outstanding packet has the number.
+    /// Source: CoUnmarshalInterface.
+    pub fn unmarshal(&mut self, apartment: u32, number: u32) -> Result<Packet, RefsError>
+        requires few { self.old.issued < 2 ^ 28 }
+        ensures unknown { (result ≡ Err RefsError.Unknown) ↔ (outstanding_in (is_connected self.old.stubs) self.old.packets number ≡ None) }
+        ensures packet { IfOk result (λ packet. outstanding_in (is_connected self.old.stubs) self.old.packets number ≡ Some packet) }
+        ensures row { OnOk result (books_of self.new ≡ changed (books_of self.old) (change (owns_of self.old.objects) (books_of self.old) (Unmarshals apartment number))) }
+        ensures places { IfOk result (λ packet. OneMore self.old self.new apartment packet.object (owns_of self.old.objects packet.object apartment)) }
+        ensures offers { (x j : ℕ) → offers self.new x j ≡ offers self.old x j }
+        ensures issued { OnOk result (self.new.issued ≡ self.old.issued + 1) }
+        ensures room { 0 < self.old.spare → result ≡ Err RefsError.Memory → ⊥ }
+        ensures err { OnErr result (self.new ≡ self.old) }
+        ensures spare { self.old.spare ≤ self.new.spare + 1 }
+    {
+        self.holders.stands();
+        match self.holders.unmarshal(apartment, number) {
+            Ok(packet) => {
+                let owned = self.holders.owns(packet.object, apartment);
+                recount(&mut self.holds, packet.object, owned, is_normal(packet.mode));
+                Ok(packet)
+            }
+            Err(error) => Err(error),
+        }
+    }
+
+    /// A packet ends, and its references go back, to the end of the entry. The answer is the packet's object, where it then has no
+    /// holder. `Unknown` exactly where no outstanding packet has the number. Source: CoReleaseMarshalData.
+    pub fn drop_packet(&mut self, number: u32) -> Result<Option<u32>, RefsError>
+        ensures unknown { OnErr result (outstanding_in (is_connected self.old.stubs) self.old.packets number ≡ None) }
+        ensures books { OnOk result ((n : ℕ) (places : ℕ → ℕ → ℕ) → Tells n places self.new → Totals n places self.new → books_of self.new ≡ ends n places (changed (books_of self.old) (change (owns_of self.old.objects) (books_of self.old) (Drops number)))) }
+        ensures places { OnOk result (SamePlaces self.old self.new) }
+        ensures offers { (x j : ℕ) → offers self.new x j ≡ offers self.old x j }
+        ensures issued { self.new.issued ≡ self.old.issued }
+        ensures err { OnErr result (self.new ≡ self.old) }
+        ensures spare { self.new.spare ≡ self.old.spare }
+    {
+        let Ok(packet) = self.holders.drop_packet(number) else {
+            return Err(RefsError::Unknown);
+        };
+        self.holders.gives_nothing();
+        lose_hold(&mut self.holds, packet.object, holds_object(packet.mode));
+        let left = hold_at(&self.holds, packet.object);
+        let lost = settle(&mut self.holders, left, packet.object);
+        Ok(if_lost(lost, packet.object))
+    }
+
+    /// A cookie ends, and its reference goes back, to the end of the entry. The answer is the cookie's object, where it then has
+    /// no holder. `Unknown` exactly where the cookie was never given or was revoked.
+    /// Source: IGlobalInterfaceTable::RevokeInterfaceFromGlobal.
+    pub fn revoke(&mut self, cookie: u32) -> Result<Option<u32>, RefsError>
+        ensures unknown { OnErr result (held_in self.old.cookies cookie ≡ None) }
+        ensures books { OnOk result ((n : ℕ) (places : ℕ → ℕ → ℕ) → Tells n places self.new → Totals n places self.new → books_of self.new ≡ ends n places (changed (books_of self.old) (change (owns_of self.old.objects) (books_of self.old) (Revokes cookie)))) }
+        ensures places { OnOk result (SamePlaces self.old self.new) }
+        ensures offers { (x j : ℕ) → offers self.new x j ≡ offers self.old x j }
+        ensures issued { self.new.issued ≡ self.old.issued }
+        ensures err { OnErr result (self.new ≡ self.old) }
+        ensures spare { self.new.spare ≡ self.old.spare }
+    {
+        let Ok(held) = self.holders.revoke(cookie) else {
+            return Err(RefsError::Unknown);
+        };
+        self.holders.gives_nothing();
+        lose_hold(&mut self.holds, held.object, true);
+        let left = hold_at(&self.holds, held.object);
+        let lost = settle(&mut self.holders, left, held.object);
+        Ok(if_lost(lost, held.object))
+    }
+
+    /// The object is no longer connected: nothing of it is held any more but its direct places. Source: CoDisconnectObject.
+    pub fn disconnect(&mut self, object: u32)
+        ensures books { books_of self.new ≡ cut (λ x. (books_of self.old).live x && not (x == object)) (books_of self.old) }
+        ensures objects { self.new.objects ≡ self.old.objects }
+        ensures proxies { self.new.proxies ≡ self.old.proxies }
+        ensures offers { (x j : ℕ) → offers self.new x j ≡ offers self.old x j }
+        ensures issued { self.new.issued ≡ self.old.issued }
+        ensures spare { self.new.spare ≡ self.old.spare }
+    {
+        self.holders.disconnect(object);
+    }
+
+    /// All objects that the apartment owns are no longer connected.
+    pub fn end_apartment(&mut self, apartment: u32)
+        requires few { self.old.issued ≤ 2 ^ 28 }
+        ensures books { books_of self.new ≡ cut (λ x. (books_of self.old).live x && not (is_owned (owners_of self.old.objects) apartment x)) (books_of self.old) }
+        ensures objects { self.new.objects ≡ self.old.objects }
+        ensures proxies { self.new.proxies ≡ self.old.proxies }
+        ensures offers { (x j : ℕ) → offers self.new x j ≡ offers self.old x j }
+        ensures issued { self.new.issued ≡ self.old.issued }
+        ensures spare { self.new.spare ≡ self.old.spare }
+    {
+        self.holders.end_apartment(apartment);
+    }
+
+    /// The direct places of the object: once it is not connected, nothing else holds it.
+    pub fn direct(&self, object: u32) -> u64
+        ensures { result ≡ (object_in self.now.objects object).direct }
+    {
+        self.holders.direct(object)
+    }
+
+    /// The apartment owns the object: every apartment owns an agile one.
+    pub fn owns(&self, object: u32, apartment: u32) -> bool
+        ensures { result ≡ owns_of self.now.objects object apartment }
+    {
+        self.holders.owns(object, apartment)
+    }
+
+    /// The object is connected.
+    pub fn connected(&self, object: u32) -> bool
+        ensures { result ≡ is_connected self.now.stubs object }
+    {
+        self.holders.connected(object)
+    }
+
+    /// The packet of a number, if it is outstanding.
+    pub fn packet(&self, number: u32) -> Option<Packet>
+        ensures { result ≡ outstanding_in (is_connected self.now.stubs) self.now.packets number }
+    {
+        self.holders.packet(number)
     }
 }
 

@@ -18,14 +18,14 @@ each_next f n (x ∷ xs) zero d h = let e : n + 0 ≡ n = omega arith in ap (λ 
 each_next f n (x ∷ xs) (suc i) d h =
     let e : n + suc i ≡ n + 1 + i = omega arith in
     ap (λ (m : ℕ). f n x ∷ slice_set (each_from f (n + 1) (take i xs) ++ drop i xs) i (f m (slice_index_or xs i d))) e
-      ∙ ap (λ (ys : List _). f n x ∷ ys) (each_next f (n + 1) xs i d (omega (arith, h)))
+    ∙ ap (λ (ys : List _). f n x ∷ ys) (each_next f (n + 1) xs i d (omega (arith, h)))
 
 pub each_more : {A : Type 0} (f : ℕ → A → A) (xs : List A) (i : ℕ) (d : A) → i < length xs →
     slice_set (each_from f 0 (take i xs) ++ drop i xs) i (f i (slice_index_or xs i d)) ≡ each_from f 0 (take (i + 1) xs) ++ drop (i + 1) xs
 each_more f xs i d h =
     let e : i ≡ 0 + i = omega arith in
     ap (λ (m : ℕ). slice_set (each_from f 0 (take i xs) ++ drop i xs) i (f m (slice_index_or xs i d))) e
-      ∙ rw add-one (each_next f 0 xs i d h)
+    ∙ rw add-one (each_next f 0 xs i d h)
 
 -- The row that comes next is still as it was.
 pub each_row : {A : Type 0} (f : ℕ → A → A) (n : ℕ) (xs : List A) (i : ℕ) (d : A) → i < length xs →
@@ -51,7 +51,7 @@ pub each_same : {A : Type 0} (f g : ℕ → A → A) (n : ℕ) (xs : List A) →
 each_same f g n [] h = refl
 each_same f g n (x ∷ xs) h =
     ap (λ (y : _). y ∷ each_from f (n + 1) xs) (h n (omega arith) (omega arith) x)
-      ∙ ap (λ (ys : List _). g n x ∷ ys) (each_same f g (n + 1) xs (λ o a b. h o (omega (arith, a)) (omega (arith, b))))
+    ∙ ap (λ (ys : List _). g n x ∷ ys) (each_same f g (n + 1) xs (λ o a b. h o (omega (arith, a)) (omega (arith, b))))
 
 -- One row more, whose old value is read beside the rows that are changed already.
 pub cut_step : {A : Type 0} (f : ℕ → A → A) (rows xs : List A) (i : ℕ) (x y : A) → i < length xs →
@@ -60,16 +60,16 @@ pub cut_step : {A : Type 0} (f : ℕ → A → A) (rows xs : List A) (i : ℕ) (
 cut_step f rows xs i x y h e r w =
     let row : y ≡ slice_index_or xs i y = r ∙ ap (λ (ys : List _). slice_index_or ys i y) e ∙ each_row f 0 xs i y h in
     ap (λ (z : _). slice_set rows i z) (w ∙ ap (f i) row)
-      ∙ ap (λ (ys : List _). slice_set ys i (f i (slice_index_or xs i y))) e
-      ∙ each_more f xs i y h
+    ∙ ap (λ (ys : List _). slice_set ys i (f i (slice_index_or xs i y))) e
+    ∙ each_more f xs i y h
 
 -- Which objects are cut is what counts, and not how their owners are named.
 cut_same : (named other : ℕ → ℕ) (x : Option ℕ) (t : SceneTables) → ((a : ℕ) → x ≡ Some a → (o : ℕ) → named o ≡ other o) → links_cut named x t ≡ links_cut other x t
 cut_same named other None t h = refl
 cut_same named other (Some a) t h =
     ap (λ (cells : List Cells). record t { cells = cells })
-      (each_same (λ o c. if named o == a then without_links c else c) (λ o c. if other o == a then without_links c else c) 0 t.cells
-        (λ o l m c. ap (λ (n : ℕ). if n == a then without_links c else c) (h a refl o)))
+    (each_same (λ o c. if named o == a then without_links c else c) (λ o c. if other o == a then without_links c else c) 0 t.cells
+    (λ o l m c. ap (λ (n : ℕ). if n == a then without_links c else c) (h a refl o)))
 
 pub after_same : (named : ℕ → ℕ) (owners : List ℕ) (a : Acting) (r : Option Outcome) (b : Acting) (e : Entry) (t : SceneTables) → NamesOwners named (ends_sta e.deed) owners →
     rows_after (λ o. slice_index_or owners o 0) a r b e t ≡ rows_after named a r b e t
@@ -77,7 +77,7 @@ after_same named owners a r b e t h = by-end (ends_sta e.deed) h
   where
     by-end : (x : Option ℕ) → NamesOwners named x owners →
         links_cut (λ o. slice_index_or owners o 0) x (rows_arrived b e.lane e.deed (rows_acted a r e.deed (with_rows e t)))
-          ≡ links_cut named x (rows_arrived b e.lane e.deed (rows_acted a r e.deed (with_rows e t)))
+        ≡ links_cut named x (rows_arrived b e.lane e.deed (rows_acted a r e.deed (with_rows e t)))
     by-end None h = refl
     by-end (Some y) h = cut_same (λ o. slice_index_or owners o 0) named (Some y) _ (λ a q o. sym (h o))
 

@@ -1,5 +1,5 @@
 -- What every entry keeps of the tables.
-use Rattle.std.proofs.Common.{◌≡◌, ℕ, zero, suc, ◌+◌, ◌<◌, Bool, true, false, List, [], ◌∷◌, ◌++◌, Option, Some, None, All, arith, fold, refl, sym, subst, Result, Ok, Err, OnOk, OnErr, ◌∙◌, length, replicate, slice_set, slice_index_or, is_some}
+use Rattle.std.proofs.Common.{◌≡◌, ℕ, zero, suc, ◌+◌, Bool, true, false, List, [], ◌∷◌, Option, Some, None, All, arith, fold, refl, sym, subst, Result, Ok, Err, OnOk, OnErr, ◌∙◌, replicate, slice_set, slice_index_or}
 use Rattle.std.proofs.lemmas.List.{length-set}
 use Rattle.std.proofs.lemmas.List.Elements.{All-nil, All-set, All-push, All-tail}
 use Rattle.std.specs.declared.alloc.AllocError.{AllocError}

@@ -1,5 +1,5 @@
 -- Lists where one row is set, and their columns.
-use Rattle.std.proofs.Common.{◌≡◌, ℕ, zero, suc, ◌+◌, ◌-◌, ◌<◌, ◌≤◌, List, [], ◌∷◌, ◌++◌, Option, Some, None, IsSome, arith, refl, sym, ◌∙◌, ap, ap₂, length, map, slice_set, slice_index_or, replicate, take, drop, add-one, length-append}
+use Rattle.std.proofs.Common.{◌≡◌, ℕ, zero, suc, ◌+◌, ◌<◌, ◌≤◌, List, [], ◌∷◌, ◌++◌, Option, None, IsSome, arith, refl, sym, ◌∙◌, ap, ap₂, length, map, slice_set, slice_index_or, replicate, take, drop, add-one, length-append}
 use Rattle.std.proofs.lemmas.List.{map-set}
 use Rattle.com_body.specs.declared.operands.Destination.{Destination}
 use Rattle.com_body.specs.declared.frame.Cells.{Cells}
@@ -114,10 +114,10 @@ tables_of scripts rows cells buffers =
 pub row_changed : (g : FrameView → FrameView) (scripts : List FrameView) (rows : List CallRow) (cells : List Cells) (buffers : List (List ℕ)) (c : ℕ) (r d : CallRow) →
     c < length rows → body_of r ≡ g (body_of (slice_index_or rows c d)) → destination_of r ≡ destination_of (slice_index_or rows c d) →
     tables_of scripts (slice_set rows c r) cells buffers
-      ≡ with_body (tables_of scripts rows cells buffers) c (g (body_at (tables_of scripts rows cells buffers) c))
+    ≡ with_body (tables_of scripts rows cells buffers) c (g (body_at (tables_of scripts rows cells buffers) c))
 row_changed g scripts rows cells buffers c r d h e k =
     ap₂ (λ (bodies : List FrameView) (destinations : List Destination). record { scripts = scripts; bodies = bodies; cells = cells; buffers = buffers; destinations = destinations })
-      (map_set body_of rows c r ∙ body_changed g rows c r d h e) (map_kept destination_of rows c r d k)
+    (map_set body_of rows c r ∙ body_changed g rows c r d h e) (map_kept destination_of rows c r d k)
 
 -- A list without its last row, and its columns.
 take_snoc : {A : Type 0} (xs : List A) (x : A) (n : ℕ) → n ≡ length xs → take n (xs ++ x ∷ []) ≡ xs

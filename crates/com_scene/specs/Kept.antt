@@ -3,7 +3,7 @@ use Rattle.std.specs.Prelude.{◌≡◌, ℕ, List, Option, Some, None, All, len
 use Rattle.com_body.specs.declared.frame.Outcome.{Outcome}
 use Rattle.com_body.specs.Bodies.{IsDestination}
 use Rattle.com_body.specs.Frames.{FrameView}
-use Rattle.com_model.specs.Frames.{Actor as Acting, Body, Script, Nobody}
+use Rattle.com_model.specs.Frames.{Actor as Acting, Script}
 use Rattle.com_model.specs.State.{SceneTables}
 use Rattle.com_scene.specs.Ranges.{WritesInRange}
 
@@ -11,12 +11,14 @@ use Rattle.com_scene.specs.Ranges.{WritesInRange}
 abbrev pub HasSlots : FrameView → Type 0
 HasSlots f = length f.slots ≡ 8
 
--- Each script has 8 slots, and the result of each call goes to a register or a slot that there is, or nowhere.
+-- Each script has 8 slots, and the result of each call goes to a register or a slot that there is, or
+-- nowhere.
 pub record IsKept (t : SceneTables) : Type 0 where
   pub slots : All HasSlots t.scripts
   pub destinations : All IsDestination t.destinations
 
--- What whoever acts goes on to: a script to a frame of 8 slots, and each by an action whose numbers are in range.
+-- What whoever acts goes on to: a script to a frame of 8 slots, and each by an action whose numbers are in
+-- range.
 abbrev pub FitsActor : Acting → FrameView → Type 0
 FitsActor (Script l) f = HasSlots f
 FitsActor _ f = Unit {0}

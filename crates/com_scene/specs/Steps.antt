@@ -5,13 +5,15 @@ use Rattle.com_base.specs.declared.hresult.HResult.{HResult}
 use Rattle.com_body.specs.declared.actions.Action.{Action}
 use Rattle.com_body.specs.declared.actions.Action.TheVariants as action
 use Rattle.com_body.specs.declared.frame.Cells.{Cells}
+use Rattle.com_body.specs.declared.frame.Outcome.{Outcome}
 use Rattle.com_body.specs.declared.operands.Destination.TheVariants as destination
 use Rattle.com_body.specs.Frames.{FrameView, entered, with_register, with_slot}
 use Rattle.com_model.specs.declared.deeds.Deed.{Deed}
 use Rattle.com_model.specs.declared.deeds.Deed.TheVariants as deed
 use Rattle.com_model.specs.Frames.{Write as Writing, ToRegister, ToSlot, ToLink, ToBuffer, to_answer, to_place, taken_in, cookie_in, marshalled_in, new_cells, with_link}
 use Rattle.com_model.specs.State.{SceneTables}
-use Rattle.com_state.specs.SceneParts.{with_body, with_script, with_cells, with_buffer, without_links}
+use Rattle.com_state.specs.SceneParts.{with_body, with_script, with_cells, with_buffer, without_links, rows_acted}
+use Rattle.com_scene.specs.Actors.{acting_of}
 use Rattle.com_scene.specs.Ranges.{IsInRange}
 use Rattle.com_scene.specs.declared.actor.Actor.{Actor}
 use Rattle.com_scene.specs.declared.actor.Actor.TheVariants as actor
@@ -84,7 +86,8 @@ stepped actor.Nobody f k b t = t
 
 -- Where the result of a call that an entry issues is to go.
 abbrev pub wanted_of : Action → Deed → Option Wanted
-wanted_of (action.Call held i m args to) (deed.Out c o j n r k bytes) = Some (record { call = c; destination = to })
+wanted_of (action.Call held i m args to) (deed.Out c o j n r k bytes) =
+    Some (record { call = c; destination = to })
 wanted_of _ d = None
 
 abbrev pub with_wanted : Option Wanted → SceneTables → SceneTables
@@ -97,7 +100,14 @@ cut_by owners a o c = if slice_index_or owners o 0 == a then without_links c els
 
 -- A row for a call that is issued, and one for an object that is made.
 abbrev pub with_call : SceneTables → SceneTables
-with_call t = record t { bodies = t.bodies ++ entered [] ∷ []; destinations = t.destinations ++ destination.Nowhere ∷ [] }
+with_call t = record t {
+  bodies = t.bodies ++ entered [] ∷ [];
+  destinations = t.destinations ++ destination.Nowhere ∷ [];
+}
 
 abbrev pub with_object : SceneTables → SceneTables
 with_object t = record t { cells = t.cells ++ new_cells ∷ [] }
+
+-- The tables after the step of whoever acts.
+abbrev pub acted : Actor → Option Outcome → Deed → SceneTables → SceneTables
+acted a r d t = rows_acted (acting_of a) r d t

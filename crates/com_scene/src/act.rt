@@ -1,11 +1,10 @@
 //! The step of whoever acts: its frame and cells, and what the entry writes.
 ghost use Rattle.std.specs.Prelude.{◌≡◌, ℕ, OnOk, OnErr};
-ghost use Rattle.com_state.specs.SceneParts.{rows_acted};
 ghost use Rattle.com_scene.specs.Actors.{acting_of};
 ghost use Rattle.com_scene.specs.Kept.{IsKept, IsStep};
 ghost use Rattle.com_scene.specs.Ranges.{FitsDeed};
 ghost use Rattle.com_scene.specs.Seen.{seen, IsSeated};
-ghost use Rattle.com_scene.specs.Steps.{stepped, with_wanted};
+ghost use Rattle.com_scene.specs.Steps.{acted, stepped};
 
 use crate::actor::Actor;
 use crate::tables::Tables;
@@ -15,8 +14,8 @@ use com_body::{Cells, Frame, Outcome};
 use com_model::Deed;
 
 impl Tables {
-    // Whoever acts goes on to a frame and cells, and puts bytes in a buffer. The only error is want of memory, and then nothing
-    // has changed.
+    // Whoever acts goes on to a frame and cells, and puts bytes in a buffer. The only error is want of
+    // memory, and then nothing has changed.
     fn step(
         &mut self,
         acting: Actor,
@@ -46,15 +45,10 @@ impl Tables {
 
     // The step of whoever acts, and what the entry writes for it.
     #[tactic(auto, using(crate::proofs::StepLemmas::acted_is))]
-    fn go_on(
-        &mut self,
-        acting: Actor,
-        outcome: Option<Outcome>,
-        deed: &Deed,
-    ) -> Result<(), Memory>
+    fn go_on(&mut self, acting: Actor, outcome: Option<Outcome>, deed: &Deed) -> Result<(), Memory>
         requires deed { FitsDeed deed.now }
         requires step { IsStep (acting_of acting) outcome }
-        ensures ok { OnOk result (seen self.new ≡ rows_acted (acting_of acting) outcome deed.now (seen self.old)) }
+        ensures ok { OnOk result (seen self.new ≡ acted acting outcome deed.now (seen self.old)) }
         ensures err { OnErr result (seen self.new ≡ seen self.old) }
         ensures seated { (c : ℕ) → IsSeated self.old.calls.items c → IsSeated self.new.calls.items c }
     {
@@ -74,7 +68,8 @@ impl Tables {
         Ok(())
     }
 
-    /// The step of whoever acts, where it makes the entry. The only error is want of memory, and then nothing has changed.
+    /// The step of whoever acts, where it makes the entry. The only error is want of memory, and then nothing
+    /// has changed.
     pub fn act(
         &mut self,
         acting: Actor,
@@ -84,7 +79,7 @@ impl Tables {
         requires deed { FitsDeed deed.now }
         requires step { IsStep (acting_of acting) outcome }
         requires kept { IsKept (seen self.old) }
-        ensures ok { OnOk result (seen self.new ≡ rows_acted (acting_of acting) outcome deed.now (seen self.old)) }
+        ensures ok { OnOk result (seen self.new ≡ acted acting outcome deed.now (seen self.old)) }
         ensures err { OnErr result (seen self.new ≡ seen self.old) }
         ensures kept { IsKept (seen self.new) }
         ensures seated { (c : ℕ) → IsSeated self.old.calls.items c → IsSeated self.new.calls.items c }

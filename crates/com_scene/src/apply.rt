@@ -1,16 +1,17 @@
 //! An entry of a lane, as a change of the tables, by its deed.
-ghost use Rattle.std.specs.Prelude.{◌≡◌, ◌≤◌, None, [], ◌∷◌, OnOk, OnErr, fold, length, replicate, slice_index_or};
+ghost use Rattle.std.specs.Prelude.{◌≡◌, ◌≤◌, [], ◌∷◌, OnOk, OnErr, fold, length, slice_index_or};
 ghost use Rattle.com_body.specs.Frames.{entered};
 ghost use Rattle.com_model.specs.declared.deeds.Deed.TheVariants as of_deed;
 ghost use Rattle.com_model.specs.Answers.{S_OK};
 ghost use Rattle.com_model.specs.Apartments.{ends_sta};
 ghost use Rattle.com_model.specs.Frames.{to_answer, to_destination};
-ghost use Rattle.com_state.specs.SceneParts.{cells_at, destination_at, script_at, with_body, with_cells, with_script, row_written, rows_acted, rows_arrived, links_cut, rows_after};
+ghost use Rattle.com_state.specs.SceneParts.{cells_at, destination_at, with_body, with_cells, row_written, rows_arrived};
+ghost use Rattle.com_state.specs.SceneParts.{links_cut, rows_after, without_links};
 ghost use Rattle.com_scene.specs.Actors.{acting_of};
 ghost use Rattle.com_scene.specs.Kept.{IsKept, IsStep};
 ghost use Rattle.com_scene.specs.Ranges.{FitsDeed};
 ghost use Rattle.com_scene.specs.Seen.{seen};
-ghost use Rattle.com_scene.specs.Steps.{with_call, with_object};
+ghost use Rattle.com_scene.specs.Steps.{acted, with_call, with_object};
 
 use crate::actor::Actor;
 use crate::arrive::copied;
@@ -22,16 +23,12 @@ use com_model::Deed;
 #[tactic(auto, using(crate::proofs::KeptLemmas::call_kept, crate::proofs::KeptLemmas::object_kept, crate::proofs::KeptLemmas::destination_in_range))]
 impl Tables {
     // The entry that issues a call.
-    fn issue(
-        &mut self,
-        acting: Actor,
-        outcome: Option<Outcome>,
-        deed: &Deed,
-    ) -> Result<(), Memory>
+    fn issue(&mut self, acting: Actor, outcome: Option<Outcome>, deed: &Deed) -> Result<(), Memory>
         requires deed { FitsDeed deed.now }
         requires step { IsStep (acting_of acting) outcome }
         requires kept { IsKept (seen self.old) }
-        ensures ok { OnOk result (seen self.new ≡ rows_acted (acting_of acting) outcome deed.now (with_call (seen self.old))) }
+        ensures ok { OnOk result (seen self.new
+            ≡ acted acting outcome deed.now (with_call (seen self.old))) }
         ensures err { OnErr result (seen self.new ≡ seen self.old) }
     {
         self.add_call()?;
@@ -49,7 +46,8 @@ impl Tables {
         requires deed { FitsDeed deed.now }
         requires step { IsStep (acting_of acting) outcome }
         requires kept { IsKept (seen self.old) }
-        ensures ok { OnOk result (seen self.new ≡ rows_acted (acting_of acting) outcome deed.now (with_object (seen self.old))) }
+        ensures ok { OnOk result (seen self.new
+            ≡ acted acting outcome deed.now (with_object (seen self.old))) }
         ensures err { OnErr result (seen self.new ≡ seen self.old) }
     {
         self.add_object()?;
@@ -75,7 +73,8 @@ impl Tables {
         requires step { IsStep (acting_of acting) outcome }
         requires kept { IsKept (seen self.old) }
         requires values { length values.now ≤ 4 }
-        ensures ok { OnOk result (seen self.new ≡ with_body (rows_acted (acting_of acting) outcome deed.now (seen self.old)) call (entered values.now)) }
+        ensures ok { OnOk result (seen self.new
+            ≡ with_body (acted acting outcome deed.now (seen self.old)) call (entered values.now)) }
         ensures err { OnErr result (seen self.new ≡ seen self.old) }
     {
         let alloc = *self.calls.allocator();
@@ -97,7 +96,8 @@ impl Tables {
         requires deed { FitsDeed deed.now }
         requires step { IsStep (acting_of acting) outcome }
         requires kept { IsKept (seen self.old) }
-        ensures ok { OnOk result (seen self.new ≡ with_body (rows_acted (acting_of acting) outcome deed.now (seen self.old)) call (entered [])) }
+        ensures ok { OnOk result (seen self.new
+            ≡ with_body (acted acting outcome deed.now (seen self.old)) call (entered [])) }
         ensures err { OnErr result (seen self.new ≡ seen self.old) }
     {
         self.act(acting, outcome, deed)?;
@@ -119,8 +119,10 @@ impl Tables {
         requires deed { FitsDeed deed.now }
         requires step { IsStep (acting_of acting) outcome }
         requires kept { IsKept (seen self.old) }
-        ensures ok { OnOk result (seen self.new ≡ fold (row_written (acting_of after)) (rows_acted (acting_of acting) outcome deed.now (seen self.old))
-            (to_answer hr ∷ to_destination (destination_at (rows_acted (acting_of acting) outcome deed.now (seen self.old)) call) value.now)) }
+        ensures ok { OnOk result (seen self.new
+            ≡ fold (row_written (acting_of after)) (acted acting outcome deed.now (seen self.old))
+            (to_answer hr ∷ to_destination
+            (destination_at (acted acting outcome deed.now (seen self.old)) call) value.now)) }
         ensures err { OnErr result (seen self.new ≡ seen self.old) }
     {
         let value = copied(value)?;
@@ -142,7 +144,9 @@ impl Tables {
         requires deed { FitsDeed deed.now }
         requires step { IsStep (acting_of acting) outcome }
         requires kept { IsKept (seen self.old) }
-        ensures ok { OnOk result (seen self.new ≡ row_written (acting_of after) (rows_acted (acting_of acting) outcome deed.now (seen self.old)) (to_answer S_OK)) }
+        ensures ok { OnOk result (seen self.new
+            ≡ row_written (acting_of after) (acted acting outcome deed.now (seen self.old))
+            (to_answer S_OK)) }
         ensures err { OnErr result (seen self.new ≡ seen self.old) }
     {
         self.seat(after)?;
@@ -164,8 +168,10 @@ impl Tables {
         requires deed { FitsDeed deed.now }
         requires step { IsStep (acting_of acting) outcome }
         requires kept { IsKept (seen self.old) }
-        ensures ok { OnOk result (seen self.new ≡ links_cut (λ o. slice_index_or owners.now o 0) (ends_sta (of_deed.Uninit home 0))
-            (rows_arrived (acting_of acting) lane (of_deed.Uninit home 0) (rows_acted (acting_of acting) outcome deed.now (seen self.old)))) }
+        ensures ok { OnOk result (seen self.new
+            ≡ links_cut (λ o. slice_index_or owners.now o 0) (ends_sta (of_deed.Uninit home 0))
+            (rows_arrived (acting_of acting) lane (of_deed.Uninit home 0)
+            (acted acting outcome deed.now (seen self.old)))) }
         ensures err { OnErr result (seen self.new ≡ seen self.old) }
     {
         self.act(acting, outcome, deed)?;
@@ -176,7 +182,9 @@ impl Tables {
 
     // Makes the links of all objects of an STA null.
     fn cut_home(&mut self, home: Option<u32>, owners: &[u32])
-        ensures { seen self.new ≡ links_cut (λ o. slice_index_or owners.now o 0) (ends_sta (of_deed.Uninit home 0)) (seen self.old) }
+        ensures { seen self.new
+            ≡ links_cut (λ o. slice_index_or owners.now o 0) (ends_sta (of_deed.Uninit home 0))
+            (seen self.old) }
     {
         let Some(apartment) = home else {
             return;
@@ -197,8 +205,9 @@ impl Tables {
         requires deed { FitsDeed deed.now }
         requires step { IsStep (acting_of acting) outcome }
         requires kept { IsKept (seen self.old) }
-        ensures ok { OnOk result (seen self.new ≡ with_cells (rows_acted (acting_of acting) outcome deed.now (seen self.old)) object
-            (record (cells_at (rows_acted (acting_of acting) outcome deed.now (seen self.old)) object) { links = replicate 4 None })) }
+        ensures ok { OnOk result (seen self.new
+            ≡ with_cells (acted acting outcome deed.now (seen self.old)) object
+            (without_links (cells_at (acted acting outcome deed.now (seen self.old)) object))) }
         ensures err { OnErr result (seen self.new ≡ seen self.old) }
     {
         self.act(acting, outcome, deed)?;
@@ -206,8 +215,8 @@ impl Tables {
         Ok(())
     }
 
-    /// The tables after an entry of a lane. The list has the apartment of each object, from 0; only the end of an STA reads it.
-    /// The only error is want of memory, and then nothing has changed.
+    /// The tables after an entry of a lane. The list has the apartment of each object, from 0; only the end
+    /// of an STA reads it. The only error is want of memory, and then nothing has changed.
     pub fn apply(
         &mut self,
         acting: Actor,
@@ -220,7 +229,9 @@ impl Tables {
         requires deed { FitsDeed deed.now }
         requires step { IsStep (acting_of acting) outcome }
         requires kept { IsKept (seen self.old) }
-        ensures ok { OnOk result (seen self.new ≡ rows_after (λ o. slice_index_or owners.now o 0) (acting_of acting) outcome (acting_of after) (record { lane = lane; deed = deed.now }) (seen self.old)) }
+        ensures ok { OnOk result (seen self.new
+            ≡ rows_after (λ o. slice_index_or owners.now o 0) (acting_of acting) outcome (acting_of after)
+            (record { lane = lane; deed = deed.now }) (seen self.old)) }
         ensures err { OnErr result (seen self.new ≡ seen self.old) }
     {
         match deed {

@@ -1,9 +1,10 @@
 //! What an entry changes beside the step of whoever acts.
-ghost use Rattle.std.specs.Prelude.{◌≡◌, ◌==◌, if◌then◌else◌, ℕ, Bool, OnOk, IfOk, Some, None, ◌∷◌, fold, replicate, slice_index_or, option_map};
+ghost use Rattle.std.specs.Prelude.{◌≡◌, if◌then◌else◌, OnOk, IfOk, Some, None, ◌∷◌, fold, replicate, slice_index_or};
 ghost use Rattle.com_body.specs.Bodies.{IsDestination};
 ghost use Rattle.com_model.specs.Frames.{to_answer, to_destination};
 ghost use Rattle.com_model.specs.Lists.{each_from};
-ghost use Rattle.com_state.specs.SceneParts.{body_at, script_at, cells_at, destination_at, with_body, with_script, with_cells, row_written, without_links, links_cut};
+ghost use Rattle.com_state.specs.SceneParts.{body_at, script_at, cells_at, destination_at, with_body, with_script};
+ghost use Rattle.com_state.specs.SceneParts.{with_cells, row_written, without_links, links_cut};
 ghost use Rattle.com_scene.specs.Actors.{acting_of};
 ghost use Rattle.com_scene.specs.Kept.{IsKept};
 ghost use Rattle.com_scene.specs.Seen.{seen, IsSeated, IsSeatedActor};
@@ -57,7 +58,8 @@ fn cut(cells: &mut Vec<Cells>, apartment: u32, owners: &[u32])
 
 #[tactic(auto, using(crate::proofs::RowLemmas::set_beyond, crate::proofs::RowLemmas::map_set, crate::proofs::RowLemmas::map_kept, crate::proofs::RowLemmas::map_length, crate::proofs::RowLemmas::seated_same, crate::proofs::RowLemmas::seated_beyond))]
 impl Tables {
-    /// Gives whoever acts a frame of its own, where it is a body without one. The only error is want of memory.
+    /// Gives whoever acts a frame of its own, where it is a body without one. The only error is want of
+    /// memory.
     pub fn seat(&mut self, actor: Actor) -> Result<(), Memory>
         ensures same { seen self.new ≡ seen self.old }
         ensures seated { OnOk result (IsSeatedActor self.new.calls.items actor) }
@@ -77,7 +79,8 @@ impl Tables {
     fn give_body(&mut self, call: u32, hr: HResult, to: Destination, value: Option<Value>)
         requires to { IsDestination to }
         requires seated { IsSeated self.old.calls.items call }
-        ensures { seen self.new ≡ with_body (seen self.old) call (fold frame_with (body_at (seen self.old) call) (to_answer hr ∷ to_destination to value)) }
+        ensures { seen self.new ≡ with_body (seen self.old) call
+            (fold frame_with (body_at (seen self.old) call) (to_answer hr ∷ to_destination to value)) }
     {
         if (call as usize) < self.calls.len() {
             let row = &mut self.calls[call as usize];
@@ -88,7 +91,8 @@ impl Tables {
     // A script is given an HRESULT, and the result of a call of its own.
     fn give_script(&mut self, lane: u32, hr: HResult, to: Destination, value: Option<Value>)
         requires { IsDestination to }
-        ensures { seen self.new ≡ with_script (seen self.old) lane (fold frame_with (script_at (seen self.old) lane) (to_answer hr ∷ to_destination to value)) }
+        ensures { seen self.new ≡ with_script (seen self.old) lane
+            (fold frame_with (script_at (seen self.old) lane) (to_answer hr ∷ to_destination to value)) }
     {
         if (lane as usize) < self.scripts.len() {
             receive(&mut self.scripts[lane as usize], hr, to, value);
@@ -96,11 +100,12 @@ impl Tables {
     }
 
     /// Whoever acts is given an HRESULT, and the result of a call of its own.
-    #[tactic(auto, using(crate::proofs::GiveLemmas::given_body, crate::proofs::GiveLemmas::given_script, crate::proofs::GiveLemmas::given_nobody))]
+    #[tactic(auto, using(crate::proofs::GiveLemmas::given_nobody))]
     pub fn give(&mut self, after: Actor, hr: HResult, to: Destination, value: Option<Value>)
         requires to { IsDestination to }
         requires seated { IsSeatedActor self.old.calls.items after }
-        ensures { seen self.new ≡ fold (row_written (acting_of after)) (seen self.old) (to_answer hr ∷ to_destination to value) }
+        ensures { seen self.new
+            ≡ fold (row_written (acting_of after)) (seen self.old) (to_answer hr ∷ to_destination to value) }
     {
         match after {
             Actor::Body { call, .. } => self.give_body(call, hr, to, value),
@@ -112,7 +117,8 @@ impl Tables {
     /// Makes the slots of a script null.
     pub fn clear_script(&mut self, lane: u32)
         requires { IsKept (seen self.old) }
-        ensures { seen self.new ≡ with_script (seen self.old) lane (record (script_at (seen self.old) lane) { slots = replicate 8 None }) }
+        ensures { seen self.new ≡ with_script (seen self.old) lane
+            (record (script_at (seen self.old) lane) { slots = replicate 8 None }) }
     {
         if (lane as usize) < self.scripts.len() {
             clear_slots(&mut self.scripts[lane as usize]);
@@ -121,7 +127,8 @@ impl Tables {
 
     /// Makes the links of an object null.
     pub fn clear_links(&mut self, object: u32)
-        ensures { seen self.new ≡ with_cells (seen self.old) object (record (cells_at (seen self.old) object) { links = replicate 4 None }) }
+        ensures { seen self.new
+            ≡ with_cells (seen self.old) object (without_links (cells_at (seen self.old) object)) }
     {
         if (object as usize) < self.cells.len() {
             let row = &mut self.cells[object as usize];
@@ -129,9 +136,11 @@ impl Tables {
         }
     }
 
-    /// Makes the links of all objects of an apartment null. The list has the apartment of each object, from 0.
+    /// Makes the links of all objects of an apartment null. The list has the apartment of each object, from
+    /// 0.
     pub fn cut_links(&mut self, apartment: u32, owners: &[u32])
-        ensures { seen self.new ≡ links_cut (λ o. slice_index_or owners.now o 0) (Some apartment) (seen self.old) }
+        ensures { seen self.new
+            ≡ links_cut (λ o. slice_index_or owners.now o 0) (Some apartment) (seen self.old) }
     {
         cut(&mut self.cells, apartment, owners);
     }

@@ -1,4 +1,9 @@
-//! The scene of a core: what scripts, open bodies, objects and packet buffers hold, and how an entry changes it.
+//! The scene of a core: what scripts, open bodies, objects and packet buffers hold, and how an entry changes
+//! it.
+//!
+//! An entry changes it in the order of the definitions: a row comes for a call or an object; whoever acts
+//! goes on to its step's frame and cells, and is given what the entry writes; then comes what the entry does
+//! beside that. Whatever may want memory is made before anything changes.
 #![tactic(auto)]
 
 mod act;

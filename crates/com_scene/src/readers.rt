@@ -1,5 +1,5 @@
 //! What the tables hold before the first entry, and what is read from them.
-ghost use Rattle.std.specs.Prelude.{◌≡◌, ◌+◌, ℕ, List, IfOk, IfSome, MatchOption, [], slice_index_or};
+ghost use Rattle.std.specs.Prelude.{◌≡◌, IfOk, IfSome, MatchOption, [], slice_index_or};
 ghost use Rattle.com_body.specs.Frames.{entered};
 ghost use Rattle.com_model.specs.Lists.{tabulated};
 ghost use Rattle.com_state.specs.SceneParts.{body_at, cells_at, script_at};
@@ -61,7 +61,8 @@ impl Tables {
 
     /// The frame of a body, where it has one of its own.
     fn body(&self, call: u32) -> Option<&Frame>
-        ensures { MatchOption result (body_at (seen self.now) call ≡ entered []) (λ frame. frame.now ≡ body_at (seen self.now) call) }
+        ensures { MatchOption result (body_at (seen self.now) call ≡ entered [])
+            (λ frame. frame.now ≡ body_at (seen self.now) call) }
     {
         if call as usize >= self.calls.len() {
             return None;
@@ -75,7 +76,8 @@ impl Tables {
     /// The frame of a script, where there is one.
     fn script(&self, lane: u32) -> Option<&Frame>
         requires { IsKept (seen self.now) }
-        ensures frame { MatchOption result (script_at (seen self.now) lane ≡ entered []) (λ frame. frame.now ≡ script_at (seen self.now) lane) }
+        ensures frame { MatchOption result (script_at (seen self.now) lane ≡ entered [])
+            (λ frame. frame.now ≡ script_at (seen self.now) lane) }
         ensures slots { IfSome result (λ frame. HasSlots frame.now) }
     {
         if lane as usize >= self.scripts.len() {
@@ -87,7 +89,8 @@ impl Tables {
     /// The frame of whoever acts, where it has one of its own.
     pub fn frame(&self, actor: Actor) -> Option<&Frame>
         requires { IsKept (seen self.now) }
-        ensures frame { MatchOption result (frame_of (seen self.now) (acting_of actor) ≡ entered []) (λ frame. frame.now ≡ frame_of (seen self.now) (acting_of actor)) }
+        ensures frame { MatchOption result (frame_of (seen self.now) (acting_of actor) ≡ entered [])
+            (λ frame. frame.now ≡ frame_of (seen self.now) (acting_of actor)) }
         ensures slots { IfSome result (λ frame. FitsActor (acting_of actor) frame.now) }
     {
         match actor {

@@ -1,5 +1,5 @@
 //! The scene, as contracts of the core see it.
-ghost use Rattle.std.specs.Prelude.{◌≡◌, ℕ, None, IfOk, IfSome, OnOk, OnErr, MatchOption, [], slice_index_or};
+ghost use Rattle.std.specs.Prelude.{◌≡◌, ℕ, IfOk, IfSome, OnOk, OnErr, MatchOption, [], slice_index_or};
 ghost use Rattle.com_body.specs.Frames.{entered};
 ghost use Rattle.com_model.specs.Apartments.{ends_sta};
 ghost use Rattle.com_state.specs.SceneParts.{cells_at, destination_at, rows_after};
@@ -16,12 +16,12 @@ use com_model::Deed;
 use std::alloc::Global;
 use std::marker::Model;
 
-/// What the scripts of threads, the bodies of calls, the objects and the packet buffers hold, and where the result of each call
-/// goes. Scripts are numbered by lane, and calls and objects from 1; there are 64 buffers. Contracts see it as the tables of
-/// the state's definition.
+/// What the scripts of threads, the bodies of calls, the objects and the packet buffers hold, and where the
+/// result of each call goes. Scripts are numbered by lane, and calls and objects from 1; there are 64
+/// buffers. Contracts see it as the tables of the state's definition.
 ///
-/// A body that has not begun, or has left, has no frame of its own, and a call's row is small then. It reads as the frame of a
-/// body that was entered without values.
+/// A body that has not begun, or has left, has no frame of its own, and a call's row is small then. It reads
+/// as the frame of a body that was entered without values.
 #[derive(Drop)]
 pub struct Scene {
     tables: Tables,
@@ -51,7 +51,8 @@ impl Scene {
 
     /// The frame of whoever acts, where it has one of its own.
     pub fn frame(&self, actor: Actor) -> Option<&Frame>
-        ensures frame { MatchOption result (frame_of self.now (acting_of actor) ≡ entered []) (λ frame. frame.now ≡ frame_of self.now (acting_of actor)) }
+        ensures frame { MatchOption result (frame_of self.now (acting_of actor) ≡ entered [])
+            (λ frame. frame.now ≡ frame_of self.now (acting_of actor)) }
         ensures slots { IfSome result (λ frame. FitsActor (acting_of actor) frame.now) }
     {
         self.tables.frame(actor)
@@ -78,9 +79,10 @@ impl Scene {
         self.tables.destination(call)
     }
 
-    /// The scene after an entry of a lane. `acting` and `outcome` are who makes the entry and its step, and `after` who acts in
-    /// the lane afterwards. `owners` has the apartment that names the owner of each object, from 0, where the entry ends an STA;
-    /// else it may be empty. The only error is want of memory, and then nothing has changed.
+    /// The scene after an entry of a lane. `acting` and `outcome` are who makes the entry and its step, and
+    /// `after` who acts in the lane afterwards. `owners` has the apartment that names the owner of each
+    /// object, from 0, where the entry ends an STA; else it may be empty. The only error is want of memory,
+    /// and then nothing has changed.
     pub fn apply(
         &mut self,
         acting: Actor,
@@ -93,7 +95,8 @@ impl Scene {
         requires deed { FitsDeed deed.now }
         requires step { IsStep (acting_of acting) outcome }
         ensures ok { (named : ℕ → ℕ) → NamesOwners named (ends_sta deed.now) owners.now →
-            OnOk result (self.new ≡ rows_after named (acting_of acting) outcome (acting_of after) (record { lane = lane; deed = deed.now }) self.old) }
+            OnOk result (self.new ≡ rows_after named (acting_of acting) outcome (acting_of after)
+            (record { lane = lane; deed = deed.now }) self.old) }
         ensures err { OnErr result (self.new ≡ self.old) }
     {
         self.tables

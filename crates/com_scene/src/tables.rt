@@ -15,8 +15,8 @@ use com_body::{Cells, Destination, Frame};
 use std::alloc::Global;
 use std::marker::Model;
 
-/// A frame is given an HRESULT, and the result of a call: a destination register takes a value, and stays where there is none;
-/// a slot takes a reference, or null.
+/// A frame is given an HRESULT, and the result of a call: a destination register takes a value, and stays
+/// where there is none; a slot takes a reference, or null.
 pub fn receive(frame: &mut Frame, hr: HResult, to: Destination, value: Option<Value>)
     requires { IsDestination to }
     ensures { frame.new ≡ fold frame_with frame.old (to_answer hr ∷ to_destination to value) }
@@ -153,7 +153,8 @@ impl CallRow {
     pub fn receive(&mut self, hr: HResult, to: Destination, value: Option<Value>)
         requires seated { IsSome self.old.frame }
         requires to { IsDestination to }
-        ensures frame { seat_of self.new.frame ≡ fold frame_with (seat_of self.old.frame) (to_answer hr ∷ to_destination to value) }
+        ensures frame { seat_of self.new.frame
+            ≡ fold frame_with (seat_of self.old.frame) (to_answer hr ∷ to_destination to value) }
         ensures destination { self.new.destination ≡ self.old.destination }
     {
         let Some(seat) = &mut self.frame else {

@@ -3,7 +3,8 @@ ghost use Rattle.std.specs.Prelude.{◌≡◌, ◌<◌, ◌^◌, Some, IfOk, fol
 ghost use Rattle.com_body.specs.Bodies.{IsPlace};
 ghost use Rattle.com_model.specs.Frames.{taken_in, reference, cookie_in, marshalled_in, writes, to_place};
 ghost use Rattle.com_scene.specs.Ranges.{FitsDeed, WritesInRange, IsInRange};
-ghost use Rattle.com_scene.specs.Steps.{IsMoreInRange, writing_of, listed, more_writes, writes_of, frame_with, cells_with, bytes_of, wanted_of};
+ghost use Rattle.com_scene.specs.Steps.{IsMoreInRange, writing_of, listed, more_writes, writes_of, frame_with};
+ghost use Rattle.com_scene.specs.Steps.{cells_with, bytes_of, wanted_of};
 
 use com_base::{ByteList, HResult, Memory, RefValue, Value};
 use com_body::{Action, Asked, Cells, Destination, Frame, Place};
@@ -22,7 +23,8 @@ pub enum Write {
     Buffer(u8, ByteList),
 }
 
-/// All that an entry writes for whoever acts: first its HRESULT, where it gives one, and then what the destination takes.
+/// All that an entry writes for whoever acts: first its HRESULT, where it gives one, and then what the
+/// destination takes.
 #[derive(Drop)]
 pub struct Writes {
     pub answer: Option<HResult>,
@@ -125,13 +127,15 @@ fn marshalled(buffer: u8, deed: &Deed) -> Result<Option<Write>, Memory>
 {
     match deed {
         Deed::Marshal {
-            bytes: Some(bytes), ..
+            bytes: Some(bytes),
+            ..
         } => Ok(Some(Write::Buffer(buffer, bytes.copy()?))),
         _ => Ok(None),
     }
 }
 
-// What the destination of an action takes, by the entry that does the action. The only error is want of memory.
+// What the destination of an action takes, by the entry that does the action. The only error is want of
+// memory.
 fn taken_write(action: Action, deed: &Deed) -> Result<Option<Write>, Memory>
     requires deed { FitsDeed deed.now }
     requires action { WritesInRange action }

@@ -1,10 +1,9 @@
 -- What a servant computes for a job.
-use Rattle.std.specs.Prelude.{◌≡◌, ℕ, List, Option, Some, slice_index_or, []}
+use Rattle.std.specs.Prelude.{◌≡◌, ℕ, Option, Some}
 use Rattle.std.specs.Option.{option_map}
 use Rattle.com_body.specs.declared.frame.Native.{Native}
 use Rattle.com_body.specs.declared.frame.Job.{Job}
 use Rattle.com_body.specs.declared.frame.Outcome.{Outcome}
-use Rattle.com_body.specs.declared.statements.Stmt.{Stmt}
 use Rattle.com_body.specs.BodySteps.{body_step}
 use Rattle.com_classes.specs.Tables.{Tables}
 use Rattle.com_classes.specs.Lookups.{class_at, body_of}

@@ -196,6 +196,13 @@ impl Stubs {
         is_live(&self.stubs, &self.places, object)
     }
 
+    /// True exactly where the interface is in the set of the object, which has a stub, connected or not.
+    pub fn offers(&self, object: u32, iface: u16) -> bool
+        ensures { result ≡ has_counter self.now.counters object iface }
+    {
+        self.counters.has(object, iface)
+    }
+
     /// Disconnects the object's stub: all its counts are 0 and `add` is refused from then on.
     /// Source: CoDisconnectObject.
     pub fn disconnect(&mut self, object: u32)

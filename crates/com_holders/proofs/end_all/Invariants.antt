@@ -1,7 +1,7 @@
 use Rattle.std.proofs.Common.{◌≡◌, ℕ, ◌+◌, false}
 use Rattle.com_keyed.specs.Places.{reach}
 use Rattle.com_keyed.proofs.Walking.{Walks}
-use Rattle.com_stub.specs.StubRows.{is_connected}
+use Rattle.com_stub.specs.StubRows.{is_connected, has_stub}
 use Rattle.com_holders.specs.Tables.{is_owned}
 use Rattle.com_holders.proofs.end_all.Given as goal
 
@@ -9,6 +9,8 @@ abbrev pub invariant-loop-at : goal.invariant-loop-at
 invariant-loop-at l = record {
   walks : Walks l.owners.keys l.apartment (λ p. is_connected l.stubs.stubs (p + 1) ≡ false) l.at;
   others : (x : ℕ) → is_owned l.owners.keys l.apartment x ≡ false → is_connected l.stubs.stubs x ≡ is_connected l.fn.stubs.stubs x;
+  room : l.stubs.spare ≡ l.fn.stubs.spare;
+  known : (x : ℕ) → has_stub l.stubs.stubs x ≡ has_stub l.fn.stubs.stubs x;
   counters : l.stubs.counters ≡ l.fn.stubs.counters;
 }
 

@@ -5,6 +5,8 @@ use Rattle.com_holders.proofs.give_back.Given as goal
 abbrev pub invariant-loop-iface : goal.invariant-loop-iface
 invariant-loop-iface l = record {
   stubs : l.stubs.stubs ≡ l.fn.stubs.stubs;
+  stub_room : l.stubs.spare ≡ l.fn.stubs.spare;
+  proxy_room : l.proxies.spare ≡ l.fn.proxies.spare;
   giving : Giving l.apartment l.object l.fn.proxies.rows l.fn.stubs.counters l.proxies.rows l.stubs.counters;
 }
 

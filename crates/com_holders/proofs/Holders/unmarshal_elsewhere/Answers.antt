@@ -1,40 +1,26 @@
-use Rattle.std.proofs.Common.{◌≡◌, ◌<◌, ◌^◌, refl, sym, ap, ◌∙◌, arith}
-use Rattle.std.specs.Prelude.{Some}
-use Rattle.com_stub.specs.StubRows.{is_connected}
-use Rattle.com_proxy.specs.Rows.{local_of}
-use Rattle.com_books.specs.declared.keeps.Packet.{Packet}
-use Rattle.com_holders.specs.Tables.{Tables, books_of, outstanding_in}
-use Rattle.com_holders.proofs.Cuts.{packet_shown}
-use Rattle.com_holders.proofs.Joins.{joined_books, joined_stands, join_fits, gained_local}
+use Rattle.std.proofs.Common.{◌≡◌, ◌∙◌, sym, subst, refl, true, false}
+use Rattle.std.specs.Prelude.{OnOk}
+use Rattle.com_books.specs.Changes.{Books}
+use Rattle.com_holders.specs.Tables.{owns_of, books_of}
+use Rattle.com_holders.proofs.Choices.{joins, takes_table}
+use Rattle.com_holders.proofs.Cuts.{shown, packet_shown, outstanding_held}
 use Rattle.com_holders.proofs.Holders.unmarshal_elsewhere.Goals as goal
 
-pub gain-requires-clause-public_fits : goal.gain-requires-clause-public_fits
-gain-requires-clause-public_fits c =
-    let t : Tables = record { objects = c.self.inside.objects.items; stubs = c.self.inside.stubs.stubs; counters = c.self.inside.stubs.counters; proxies = c.self.inside.proxies.rows; packets = c.self.inside.packets.entries; cookies = c.self.inside.cookies.entries } in
-    let some : outstanding_in (is_connected c.self.inside.stubs.stubs) c.self.inside.packets.entries c.args.number ≡ Some c.in-Some.packet = sym c.outstanding.ensures ∙ c.in-Some.is in
-    let fits : (books_of t).stub c.in-Some.packet.object c.in-Some.packet.iface < 2 ^ 64 = rw (← c.self.view_is) at (c.requires.stub_fits c.in-Some.packet.object c.in-Some.packet.iface) in
-    omega (arith, fits, join_fits t c.args.apartment c.args.number c.in-Some.packet c.self.invariant some)
+pub returns-then-is_normal-clause-row : goal.returns-then-is_normal-clause-row
+returns-then-is_normal-clause-row c =
+    let is = packet_shown c.args.self.now c.args.number c.args.packet c.requires.outstanding in
+    let row = joins (owns_of c.args.self.now.objects) (books_of c.args.self.now) c.args.apartment c.args.number (shown c.args.packet) is.0 refl (c.is_normal.ensures.0 c.if-is_normal.true) c.requires.elsewhere in
+    subst (λ (b : Books). OnOk c.take_packet.result (books_of c.take_packet.new.self ≡ b)) (sym row) c.take_packet.ensures.books
 
-pub invariant_of-self-2 : goal.invariant_of-self-2
-invariant_of-self-2 c =
-    let some : outstanding_in (is_connected c.self.inside.stubs.stubs) c.self.inside.packets.entries c.args.number ≡ Some c.in-Some.packet = sym c.outstanding.ensures ∙ c.in-Some.is in
-    let elsewhere = rw (← c.self.view_is) at c.requires.elsewhere in
-    let normal = rw (← c.self.view_is) at c.requires.normal in
-    joined_stands _ _ c.args.apartment c.args.number c.in-Some.packet (record { objects = refl; stubs = refl; counters = refl; cookies = refl }) c.in-Ok.ensures.ok c.end.ensures.entries some (normal c.in-Some.packet some) (elsewhere c.in-Some.packet some) c.self.invariant
+pub take_new-requires-clause-connected : goal.take_new-requires-clause-connected
+take_new-requires-clause-connected c = (packet_shown c.args.self.now c.args.number c.args.packet c.requires.outstanding).1
+
+pub take_new-requires-clause-known : goal.take_new-requires-clause-known
+take_new-requires-clause-known c = c.stands.ensures.known.packets c.args.number c.args.packet (outstanding_held c.args.self.now c.args.number c.args.packet c.requires.outstanding)
 
 pub returns-clause-row : goal.returns-clause-row
 returns-clause-row c =
-    let some : outstanding_in (is_connected c.self.inside.stubs.stubs) c.self.inside.packets.entries c.args.number ≡ Some c.in-Some.packet = sym c.outstanding.ensures ∙ c.in-Some.is in
-    let elsewhere = rw (← c.self.view_is) at c.requires.elsewhere in
-    let normal = rw (← c.self.view_is) at c.requires.normal in
-    rw (← c.self.view_is) (joined_books _ _ c.args.apartment c.args.number c.in-Some.packet (record { objects = refl; stubs = refl; counters = refl; cookies = refl }) c.in-Ok.ensures.ok c.end.ensures.entries some (normal c.in-Some.packet some) (elsewhere c.in-Some.packet some))
-
-pub returns-clause-held : goal.returns-clause-held
-returns-clause-held c =
-    let t : Tables = record { objects = c.self.inside.objects.items; stubs = c.self.inside.stubs.stubs; counters = c.self.inside.stubs.counters; proxies = c.self.inside.proxies.rows; packets = c.self.inside.packets.entries; cookies = c.self.inside.cookies.entries } in
-    let some : outstanding_in (is_connected c.self.inside.stubs.stubs) c.self.inside.packets.entries c.args.number ≡ Some c.in-Some.packet = sym c.outstanding.ensures ∙ c.in-Some.is in
-    let is = (packet_shown t c.args.number c.in-Some.packet some).0 in
-    rw (← c.self.view_is) (sym (ap (λ (q : Packet). q.object) is), sym (ap (λ (q : Packet). q.iface) is))
-
-pub returns-clause-local : goal.returns-clause-local
-returns-clause-local c = λ d x j. rw (← c.self.view_is) (ap (λ rs. local_of rs d x j) c.in-Ok.ensures.ok ∙ gained_local c.self.inside.proxies.rows c.args.apartment c.in-Some.packet.object c.in-Some.packet.iface c.in-Some.packet.refs d x j)
+    let is = packet_shown c.args.self.now c.args.number c.args.packet c.requires.outstanding in
+    let row = takes_table (owns_of c.args.self.now.objects) (books_of c.args.self.now) c.args.apartment c.args.number (shown c.args.packet) is.0 refl
+    (λ m. let yes : true ≡ false = sym (c.is_normal.ensures.1 m) ∙ c.if-is_normal.false in absurd (cc)) c.requires.elsewhere in
+    subst (λ (b : Books). OnOk c.take_new.result (books_of c.take_new.new.self ≡ b)) (sym row) c.take_new.ensures.books

@@ -1,6 +1,5 @@
-use Rattle.std.proofs.Common.{◌≡◌, []}
+use Rattle.std.proofs.Common.{◌≡◌}
 use Rattle.com_model.specs.Lists.{tabulated}
-use Rattle.com_model.specs.Waiting.{no_mail}
 use Rattle.com_lanes.proofs.lanes.filled.Given as goal
 
 abbrev pub invariant-loop-i : goal.invariant-loop-i

@@ -1,4 +1,4 @@
-use Rattle.std.proofs.Common.{◌≡◌, []}
+use Rattle.std.proofs.Common.{◌≡◌}
 use Rattle.com_model.specs.Lists.{tabulated}
 use Rattle.com_model.specs.Waiting.{no_mail}
 use Rattle.com_lanes.proofs.lanes.no_mails.Given as goal

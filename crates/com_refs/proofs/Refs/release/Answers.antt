@@ -1,8 +1,12 @@
-use Rattle.std.proofs.Common.{◌≡◌, refl, ap, ◌∙◌, arith, take, drop, length, ◌++◌}
+use mathlib.Core.Path.{fun_ext}
+use Rattle.std.proofs.Common.{◌≡◌, ℕ, not, refl, sym, ap, subst, ◌∙◌, arith, take, drop, length, ◌++◌}
 use Rattle.std.proofs.lemmas.Grind.{common_steps}
+use Rattle.com_holders.specs.Places.{OneLess}
 use Rattle.com_holders.specs.Tables.{owns_of}
 use Rattle.com_refs.specs.Counts.{hold_of, hold_less}
-use Rattle.com_refs.proofs.Counteds.{counted_ends, counted_stands, tells_same, less_length, Inner}
+use Rattle.com_refs.proofs.Counteds.{settled_ends, settled_stands, less_length}
+use Rattle.com_refs.proofs.Moved.{tells_same, less_same}
+use Rattle.com_refs.proofs.Steps.{released}
 use Rattle.com_refs.proofs.Refs.release.Goals as goal
 
 pub invariant_of-self : goal.invariant_of-self
@@ -10,29 +14,33 @@ invariant_of-self c =
     let o = c.args.held.object in
     let a = c.args.apartment in
     let t = c.self.inside.holders in
-    let v = c.release.new.self in
-    let inner : Inner t v a o = record { objects = c.release.ensures.objects; locals = c.release.ensures.locals; stubs = c.release.ensures.stubs; packets = c.release.ensures.packets; cookies = c.release.ensures.cookies } in
-    let e : c.lose_hold.new.holds ≡ hold_less o (owns_of t.objects o a) c.self.inside.holds.items = rw (c.owns-owned.ensures, c.deref_mut.ensures.value) at c.lose_hold.ensures in
-    let len : length c.lose_hold.new.holds ≡ length c.self.inside.holds.items = ap (λ xs. length xs) e ∙ less_length o (owns_of t.objects o a) c.self.inside.holds.items in
+    let w = owns_of t.objects o a in
+    let e : c.lose_hold.new.holds ≡ hold_less o (not w) c.self.inside.holds.items = rw (c.owns-owned.ensures, c.deref_mut.ensures.value) at c.lose_hold.ensures in
+    let len : length c.lose_hold.new.holds ≡ length c.self.inside.holds.items = ap (λ xs. length xs) e ∙ less_length o (not w) c.self.inside.holds.items in
     let whole : take c.self.inside.holds.len (c.lose_hold.new.holds ++ drop (length c.lose_hold.new.holds) c.self.inside.holds.items) ≡ c.lose_hold.new.holds = grind (arith, common_steps, len) in
-    let holds : take c.self.inside.holds.len (c.lose_hold.new.holds ++ drop (length c.lose_hold.new.holds) c.self.inside.holds.items) ≡ hold_less o (owns_of t.objects o a) c.self.inside.holds.items = whole ∙ e in
-    let left : c.hold_at-left.result ≡ hold_of (hold_less o (owns_of t.objects o a) c.self.inside.holds.items) o = c.hold_at-left.ensures ∙ ap (λ xs. hold_of xs o) (c.deref.ensures.value ∙ whole ∙ e) in
+    let left : c.hold_at-left.result ≡ hold_of (hold_less o (not w) c.self.inside.holds.items) o = c.hold_at-left.ensures ∙ ap (λ xs. hold_of xs o) (c.deref.ensures.value ∙ whole ∙ e) in
+    let but = released t c.release.new.self c.self.inside.holds.items a o w c.self.invariant.counts c.release.ensures.places (fun_ext c.release.ensures.connected) c.release.ensures.packets c.release.ensures.cookies c.release.ensures.issued in
     let books = rw left at c.settle.ensures.books in
-    rw holds (counted_stands t v a o c.self.inside.holds.items inner c.self.invariant c.settle.new.holders _ c.settle.ensures.objects c.settle.ensures.proxies refl books)
+    record {
+      counts = rw (whole, e) (settled_stands c.release.new.self o (hold_less o (not w) c.self.inside.holds.items) but c.settle.new.holders _ c.settle.ensures.objects c.settle.ensures.proxies c.settle.ensures.issued refl books);
+      room = omega (arith, c.self.invariant.room, c.settle.ensures.spare, c.release.ensures.spare);
+    }
 
-pub returns : goal.returns
-returns c =
+pub returns-clause-books : goal.returns-clause-books
+returns-clause-books c =
     let o = c.args.held.object in
     let a = c.args.apartment in
     let t = c.self.inside.holders in
-    let v = c.release.new.self in
-    let inner : Inner t v a o = record { objects = c.release.ensures.objects; locals = c.release.ensures.locals; stubs = c.release.ensures.stubs; packets = c.release.ensures.packets; cookies = c.release.ensures.cookies } in
-    let e : c.lose_hold.new.holds ≡ hold_less o (owns_of t.objects o a) c.self.inside.holds.items = rw (c.owns-owned.ensures, c.deref_mut.ensures.value) at c.lose_hold.ensures in
-    let len : length c.lose_hold.new.holds ≡ length c.self.inside.holds.items = ap (λ xs. length xs) e ∙ less_length o (owns_of t.objects o a) c.self.inside.holds.items in
+    let w = owns_of t.objects o a in
+    let e : c.lose_hold.new.holds ≡ hold_less o (not w) c.self.inside.holds.items = rw (c.owns-owned.ensures, c.deref_mut.ensures.value) at c.lose_hold.ensures in
+    let len : length c.lose_hold.new.holds ≡ length c.self.inside.holds.items = ap (λ xs. length xs) e ∙ less_length o (not w) c.self.inside.holds.items in
     let whole : take c.self.inside.holds.len (c.lose_hold.new.holds ++ drop (length c.lose_hold.new.holds) c.self.inside.holds.items) ≡ c.lose_hold.new.holds = grind (arith, common_steps, len) in
-    let left : c.hold_at-left.result ≡ hold_of (hold_less o (owns_of t.objects o a) c.self.inside.holds.items) o = c.hold_at-left.ensures ∙ ap (λ xs. hold_of xs o) (c.deref.ensures.value ∙ whole ∙ e) in
+    let left : c.hold_at-left.result ≡ hold_of (hold_less o (not w) c.self.inside.holds.items) o = c.hold_at-left.ensures ∙ ap (λ xs. hold_of xs o) (c.deref.ensures.value ∙ whole ∙ e) in
+    let but = released t c.release.new.self c.self.inside.holds.items a o w c.self.invariant.counts c.release.ensures.places (fun_ext c.release.ensures.connected) c.release.ensures.packets c.release.ensures.cookies c.release.ensures.issued in
     let books = rw left at c.settle.ensures.books in
-    record {
-      books = λ n places h tells totals. rw (← c.self.view_is) (counted_ends t v a o c.self.inside.holds.items inner c.self.invariant c.settle.new.holders n places c.settle.ensures.objects c.settle.ensures.proxies
-          (c.release.ensures.books n places h (tells_same places c.settle.new.holders v c.settle.ensures.objects c.settle.ensures.proxies tells)) totals books);
-    }
+    λ n places h tells totals. rw (← c.self.view_is)
+    (settled_ends c.release.new.self o (hold_less o (not w) c.self.inside.holds.items) but c.settle.new.holders n places _ c.settle.ensures.objects c.settle.ensures.proxies
+    (c.release.ensures.given n places h (tells_same n places c.settle.new.holders c.release.new.self c.settle.ensures.objects c.settle.ensures.proxies tells)) totals books)
+
+pub returns-clause-places : goal.returns-clause-places
+returns-clause-places c = rw (← c.self.view_is) (less_same _ _ _ c.args.apartment c.args.held.object _ c.settle.ensures.objects c.settle.ensures.proxies c.release.ensures.places)

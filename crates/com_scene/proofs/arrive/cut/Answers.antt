@@ -1,5 +1,5 @@
 -- Each object's cells in their turn.
-use Rattle.std.proofs.Common.{◌≡◌, ◌<◌, ◌==◌, if◌then◌else◌, ℕ, length, arith, ap, ◌∙◌, slice_index_or}
+use Rattle.std.proofs.Common.{◌<◌, ◌==◌, if◌then◌else◌, ℕ, length, arith, ap, ◌∙◌}
 use Rattle.std.proofs.lemmas.List.{length-set}
 use Rattle.com_state.specs.SceneParts.{without_links}
 use Rattle.com_scene.specs.Steps.{cut_by}

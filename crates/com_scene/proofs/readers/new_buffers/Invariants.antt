@@ -1,5 +1,4 @@
 use Rattle.std.proofs.Common.{◌≡◌, []}
-use Rattle.com_body.specs.Frames.{entered}
 use Rattle.com_model.specs.Lists.{tabulated}
 use Rattle.com_scene.proofs.readers.new_buffers.Given as goal
 

@@ -1,4 +1,4 @@
-use Rattle.std.proofs.Common.{◌≡◌, ◌++◌, ◌∙◌, refl, ap, arith, List, length, take, drop}
+use Rattle.std.proofs.Common.{vec_capacity, ◌≡◌, ◌++◌, ◌∙◌, refl, ap, arith, List, length, take, drop}
 use Rattle.std.proofs.lemmas.Grind.{common_steps}
 use Rattle.com_inbox.specs.Queues.{queue_at}
 use Rattle.com_calls.specs.declared.rows.CallRow.{CallRow}
@@ -8,13 +8,16 @@ use Rattle.com_calls.specs.Inside.{kept_of}
 use Rattle.com_calls.specs.Steps.{returned_at}
 use Rattle.com_calls.proofs.Columns.{tables_returned}
 use Rattle.com_calls.proofs.Inboxes.{kept_same, seen_same}
+use Rattle.com_calls.proofs.Delays.{covered_fewer}
 use Rattle.com_calls.proofs.calls.Calls.give_back.Goals as goal
 
 pub invariant_of-self : goal.invariant_of-self
 invariant_of-self c =
     let s = c.self.inside in
-    let is : take s.rows.len (c.give_back.new.rows ++ drop (length c.give_back.new.rows) s.rows.items) ≡ changed_row returning c.args.call s.rows.items = grind (arith, common_steps) in
-    rw is (kept_same returning c.args.call s.rows.items s.posted s.waiting s.rows.cap s.room s.causes c.self.invariant (λ r. refl) (λ a r. refl))
+    let is : take s.rows.len (c.give_back.new.rows ++ drop (length c.give_back.new.rows) s.rows.items) ≡ changed_row returning c.args.call s.rows.items = grind (arith, common_steps) in (
+      rw is (kept_same returning c.args.call s.rows.items s.posted s.waiting s.rows.cap s.room s.causes c.self.invariant.0 (λ r. refl) (λ a r. refl)),
+      rw is (covered_fewer returning c.args.call s.rows.items s.delayed.items (vec_capacity s.delayed) s.room (λ r h. h) c.self.invariant.1),
+    )
 
 pub returns : goal.returns
 returns c =

@@ -1,4 +1,4 @@
-use Rattle.std.proofs.Common.{◌≡◌, ◌≤◌, ◌-◌, ◌++◌, ◌∙◌, sym, ap, subst, arith, List, length, take, drop, slice_index_or, true, false}
+use Rattle.std.proofs.Common.{vec_capacity, ◌≡◌, ◌≤◌, ◌-◌, ◌++◌, ◌∙◌, sym, ap, subst, arith, List, length, take, drop, slice_index_or, true, false}
 use Rattle.std.proofs.lemmas.Grind.{common_steps}
 use Rattle.com_inbox.specs.Queues.{Queues, with_last, without_number}
 use Rattle.com_model.specs.declared.keeps.Phase.TheVariants.{Queued}
@@ -8,6 +8,7 @@ use Rattle.com_calls.specs.Kept.{Kept, with_tables}
 use Rattle.com_calls.specs.Inside.{kept_of, IsKept}
 use Rattle.com_calls.specs.Steps.{posted_at}
 use Rattle.com_calls.proofs.Inboxes.{is_open, holder_without, issues-length, kept_posted, kept_posted_closed, seen_posted, seen_posted_closed}
+use Rattle.com_calls.proofs.Delays.{covered_fewer, queued_no}
 use Rattle.com_calls.proofs.calls.Calls.post.Goals as goal
 
 pub post-requires-clause-free : goal.post-requires-clause-free
@@ -24,8 +25,10 @@ invariant_of-self c =
     let n : length c.args.self.now.tables.issues ≡ length s.rows.items = issues-length s.rows.items s.posted s.waiting s.room s.causes c.args.self.now c.self.view_is in
     let high : c.args.call ≤ length s.rows.items = omega (arith, n, c.requires.high) in
     let shut : is_open d ≡ false = grind (arith, common_steps) in
-    let is_shut : is_open (slice_index_or s.rows.items (c.args.call - 1) d) ≡ false = ap (λ (r : CallRow). is_open r) (sym c.index-row.ensures) ∙ shut in
-    rw (is, c.post.ensures, c.remove.ensures.queues, c.remove-2.ensures.queues) (kept_posted_closed c.args.call s.rows.items s.posted s.waiting s.rows.cap s.room s.causes d c.self.invariant c.requires.low high is_shut)
+    let is_shut : is_open (slice_index_or s.rows.items (c.args.call - 1) d) ≡ false = ap (λ (r : CallRow). is_open r) (sym c.index-row.ensures) ∙ shut in (
+      rw (is, c.post.ensures, c.remove.ensures.queues, c.remove-2.ensures.queues) (kept_posted_closed c.args.call s.rows.items s.posted s.waiting s.rows.cap s.room s.causes d c.self.invariant.0 c.requires.low high is_shut),
+      rw is (covered_fewer (phased Queued) c.args.call s.rows.items s.delayed.items (vec_capacity s.delayed) s.room queued_no c.self.invariant.1),
+    )
 
 pub invariant_of-self-2 : goal.invariant_of-self-2
 invariant_of-self-2 c =
@@ -36,9 +39,11 @@ invariant_of-self-2 c =
     let high : c.args.call ≤ length s.rows.items = omega (arith, n, c.requires.high) in
     let free : is_open d ≡ true = grind (arith, common_steps) in
     let is_free : is_open (slice_index_or s.rows.items (c.args.call - 1) d) ≡ true = ap (λ (r : CallRow). is_open r) (sym c.index-row.ensures) ∙ free in
-    let kept = kept_posted c.args.call s.rows.items s.posted s.waiting s.rows.cap s.room s.causes d c.self.invariant c.requires.low high is_free in
-    rw (is, c.post.ensures, c.remove.ensures.queues, c.post-2.ensures, c.remove-2.ensures.queues)
-    (subst (λ (r : CallRow). IsKept (changed_row (phased Queued) c.args.call s.rows.items) (with_last (without_number s.posted c.args.call) 0 c.args.call) (with_last (without_number s.waiting c.args.call) r.apartment c.args.call) s.rows.cap s.room s.causes) (sym c.index-row.ensures) kept)
+    let kept = kept_posted c.args.call s.rows.items s.posted s.waiting s.rows.cap s.room s.causes d c.self.invariant.0 c.requires.low high is_free in (
+      rw (is, c.post.ensures, c.remove.ensures.queues, c.post-2.ensures, c.remove-2.ensures.queues)
+          (subst (λ (r : CallRow). IsKept (changed_row (phased Queued) c.args.call s.rows.items) (with_last (without_number s.posted c.args.call) 0 c.args.call) (with_last (without_number s.waiting c.args.call) r.apartment c.args.call) s.rows.cap s.room s.causes) (sym c.index-row.ensures) kept),
+      rw is (covered_fewer (phased Queued) c.args.call s.rows.items s.delayed.items (vec_capacity s.delayed) s.room queued_no c.self.invariant.1),
+    )
 
 pub returns-then-not-open : goal.returns-then-not-open
 returns-then-not-open c =
@@ -48,7 +53,7 @@ returns-then-not-open c =
     ap (λ (xs : List CallRow). kept_of xs c.post.new.self c.remove-2.new.self s.room s.causes) is
     ∙ ap (λ (q : Queues). kept_of (changed_row (phased Queued) c.args.call s.rows.items) q c.remove-2.new.self s.room s.causes) (c.post.ensures ∙ ap (λ (q : Queues). with_last q 0 c.args.call) c.remove.ensures.queues)
     ∙ ap (λ (q : Queues). kept_of (changed_row (phased Queued) c.args.call s.rows.items) (with_last (without_number s.posted c.args.call) 0 c.args.call) q s.room s.causes) c.remove-2.ensures.queues
-    ∙ seen_posted_closed c.args.call s.rows.items s.posted s.waiting s.room s.causes c.self.invariant.one
+    ∙ seen_posted_closed c.args.call s.rows.items s.posted s.waiting s.room s.causes c.self.invariant.0.one
     ∙ ap (λ (b : Kept). with_tables b (posted_at b.tables c.args.call)) c.self.view_is
 
 pub returns : goal.returns
@@ -58,5 +63,5 @@ returns c =
     ap (λ (xs : List CallRow). kept_of xs c.post.new.self c.post-2.new.self s.room s.causes) is
     ∙ ap (λ (q : Queues). kept_of (changed_row (phased Queued) c.args.call s.rows.items) q c.post-2.new.self s.room s.causes) (c.post.ensures ∙ ap (λ (q : Queues). with_last q 0 c.args.call) c.remove.ensures.queues)
     ∙ ap (λ (q : Queues). kept_of (changed_row (phased Queued) c.args.call s.rows.items) (with_last (without_number s.posted c.args.call) 0 c.args.call) q s.room s.causes) (c.post-2.ensures ∙ ap (λ (q : Queues). with_last q c.index-row.result.now.apartment c.args.call) c.remove-2.ensures.queues)
-    ∙ seen_posted c.args.call s.rows.items s.posted s.waiting c.index-row.result.now.apartment s.room s.causes c.self.invariant.one
+    ∙ seen_posted c.args.call s.rows.items s.posted s.waiting c.index-row.result.now.apartment s.room s.causes c.self.invariant.0.one
     ∙ ap (λ (b : Kept). with_tables b (posted_at b.tables c.args.call)) c.self.view_is

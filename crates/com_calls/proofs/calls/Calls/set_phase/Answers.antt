@@ -1,4 +1,4 @@
-use Rattle.std.proofs.Common.{◌≡◌, ◌++◌, ◌∙◌, refl, ap, arith, List, length, take, drop}
+use Rattle.std.proofs.Common.{vec_capacity, ◌≡◌, ◌++◌, ◌∙◌, refl, ap, arith, List, length, take, drop}
 use Rattle.std.proofs.lemmas.Grind.{common_steps}
 use Rattle.com_inbox.specs.Queues.{Queues, queue_at}
 use Rattle.com_calls.specs.declared.rows.CallRow.{CallRow}
@@ -8,13 +8,16 @@ use Rattle.com_calls.specs.Inside.{kept_of}
 use Rattle.com_calls.specs.Steps.{phased_at}
 use Rattle.com_calls.proofs.Columns.{tables_phased}
 use Rattle.com_calls.proofs.Inboxes.{kept_retired, seen_retired, phased_waits_not}
+use Rattle.com_calls.proofs.Delays.{covered_fewer, settled_no, settled_unqueued}
 use Rattle.com_calls.proofs.calls.Calls.set_phase.Goals as goal
 
 pub invariant_of-self : goal.invariant_of-self
 invariant_of-self c =
     let s = c.self.inside in
-    let is : take s.rows.len (c.phase.new.rows ++ drop (length c.phase.new.rows) s.rows.items) ≡ changed_row (phased c.args.phase) c.args.call s.rows.items = grind (arith, common_steps) in
-    rw (is, c.remove.ensures.queues) (kept_retired (phased c.args.phase) c.args.call s.rows.items s.posted s.waiting s.rows.cap s.room s.causes c.self.invariant (λ r. refl) (phased_waits_not c.args.phase c.requires))
+    let is : take s.rows.len (c.phase.new.rows ++ drop (length c.phase.new.rows) s.rows.items) ≡ changed_row (phased c.args.phase) c.args.call s.rows.items = grind (arith, common_steps) in (
+      rw (is, c.remove.ensures.queues) (kept_retired (phased c.args.phase) c.args.call s.rows.items s.posted s.waiting s.rows.cap s.room s.causes c.self.invariant.0 (λ r. refl) (phased_waits_not c.args.phase (settled_unqueued c.args.phase c.requires))),
+      rw is (covered_fewer (phased c.args.phase) c.args.call s.rows.items s.delayed.items (vec_capacity s.delayed) s.room (settled_no c.args.phase c.requires) c.self.invariant.1),
+    )
 
 pub returns : goal.returns
 returns c =

@@ -1,7 +1,6 @@
-use Rattle.std.proofs.Common.{◌≡◌, refl, ◌∙◌, ap, subst, sym, List, [], ◌∷◌, drop}
+use Rattle.std.proofs.Common.{◌≡◌, refl, List, [], ◌∷◌, drop}
 use Rattle.com_model.specs.declared.keeps.Word.{Word}
 use Rattle.com_model.specs.Lists.{without_first}
-use Rattle.com_lanes.specs.Words.{Ascend}
 use Rattle.com_lanes.proofs.Words.{ascend_first}
 use Rattle.com_lanes.proofs.mail.Mail.take.Goals as goal
 

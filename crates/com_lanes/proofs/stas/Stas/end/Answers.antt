@@ -1,6 +1,5 @@
 use Rattle.std.proofs.Common.{arith, ◌+◌, ◌-◌, length, refl, ap, true}
 use Rattle.com_lanes.specs.declared.stas.Sta.{Sta}
-use Rattle.com_lanes.specs.StasKept.{gone_first}
 use Rattle.com_lanes.proofs.StasKept.{length_tab, kept_host, kept_ended, gone_first_set}
 use Rattle.com_lanes.proofs.stas.Stas.end.Goals as goal
 
@@ -23,5 +22,5 @@ invariant_of-self-2 c =
     let r = rw (← c.self.view_is) at c.requires in
     rw (c.in_ok-push.ensures.items, c.oldest_from-self-inside.ensures, c.deref.ensures.value)
     (kept_ended _ _ _ _ _ _ c.index_mut.result.now c.self.invariant c.if-apartment-lt-FIRST_STA.false
-      (omega (arith, r, length_tab (length c.self.inside.rows.items) (λ i. i + 3)))
-      (ap (λ (x : Sta). x.maker) c.index_mut.ensures.value) refl)
+    (omega (arith, r, length_tab (length c.self.inside.rows.items) (λ i. i + 3)))
+    (ap (λ (x : Sta). x.maker) c.index_mut.ensures.value) refl)

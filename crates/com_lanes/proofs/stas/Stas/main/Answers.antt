@@ -1,4 +1,4 @@
-use Rattle.std.proofs.Common.{arith, sym, ◌∙◌}
+use Rattle.std.proofs.Common.{arith}
 use Rattle.com_lanes.proofs.StasKept.{main_lives, main_host}
 use Rattle.com_lanes.proofs.stas.Stas.main.Goals as goal
 

@@ -13,7 +13,7 @@ invariant_of-self-2 c =
     let r = rw (← c.self.view_is) at c.requires in
     rw (c.in_ok-push_at.ensures.ok, c.push_reserved.ensures.items, c.in_ok-reserve.ensures.items)
     (kept_made _ _ _ _ _ _ c.self.invariant (omega (arith, r, length_tab (length c.self.inside.rows.items) (λ i. i + 3)))
-      (omega (arith, c.in_ok-reserve.ensures.len, c.len.ensures, c.self.inside.rows.ok.0)))
+    (omega (arith, c.in_ok-reserve.ensures.len, c.len.ensures, c.self.inside.rows.ok.0)))
 
 pub returns-clause-ok : goal.returns-clause-ok
 returns-clause-ok c =

@@ -1,0 +1,8 @@
+use Rattle.std.proofs.Common.{◌≡◌, ap, ◌∙◌, arith, subst}
+use Rattle.com_books.specs.Changes.{Books, changed, change, ToProxy, ToCookie, Join, Marshals}
+use Rattle.com_holders.specs.Tables.{books_of, owns_of}
+use Rattle.com_holders.proofs.Moves.{more_from, same_from}
+use Rattle.com_holders.proofs.Holders.take_shared.Goals as goal
+
+pub returns-clause-places : goal.returns-clause-places
+returns-clause-places c = more_from _ _ _ _ _ _ c.make_room.ensures.objects c.make_room.ensures.proxies c.share_elsewhere.ensures.places

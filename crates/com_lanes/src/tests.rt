@@ -1,0 +1,41 @@
+use crate::mail::Mail;
+use crate::openers::Openers;
+use com_model::Opener;
+use std::test::Fail;
+
+#[test]
+fn what_runs_is_the_innermost_body(rt: HostRuntime) -> Result<(), Fail> {
+    let mut openers = Openers::new(rt.alloc());
+    openers.push(Opener::Pumps { bound: 0 })?;
+    openers.push(Opener::Enters {
+        call: 4,
+        object: 2,
+        apartment: 3,
+    })?;
+    openers.push(Opener::Waits { call: 7 })?;
+    assert_eq!(rt; openers.running_call(), Some(4));
+    assert_eq!(rt; openers.running_object(), Some(2));
+    assert_eq!(rt; openers.entered_apartment(), Some(3));
+    assert_eq!(rt; openers.open_calls().len(), 1);
+    openers.pop();
+    openers.pop();
+    assert_eq!(rt; openers.running_call(), None);
+    assert_eq!(rt; openers.open_calls().len(), 0);
+    assert_eq!(rt; openers.is_one_pump(), true);
+    Ok(())
+}
+
+#[test]
+fn a_call_is_asked_about_each_word_once(rt: HostRuntime) -> Result<(), Fail> {
+    let mut mail = Mail::new(rt.alloc());
+    mail.bring(10)?;
+    mail.bring(20)?;
+    mail.ask(5, 1)?;
+    assert_eq!(rt; mail.not_asked(5).map(|word| word.word), Some(20));
+    mail.ask(5, 2)?;
+    assert_eq!(rt; mail.not_asked(5).is_none(), true);
+    assert_eq!(rt; mail.first().map(|word| word.number), Some(1));
+    mail.forget(5);
+    assert_eq!(rt; mail.not_asked(5).map(|word| word.word), Some(10));
+    Ok(())
+}

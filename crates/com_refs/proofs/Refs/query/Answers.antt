@@ -1,0 +1,21 @@
+use Rattle.std.proofs.Common.{◌≡◌, not, true, refl, sym, ap, ◌∙◌, arith, take, drop, length, ◌++◌}
+use Rattle.std.proofs.lemmas.Grind.{common_steps}
+use Rattle.com_stub.specs.StubRows.{is_connected}
+use Rattle.com_books.specs.Changes.{is_weak}
+use Rattle.com_holders.specs.Tables.{owns_of}
+use Rattle.com_refs.specs.Counts.{hold_more}
+use Rattle.com_refs.proofs.Counteds.{more_length}
+use Rattle.com_refs.proofs.Steps.{asked}
+use Rattle.com_refs.proofs.Refs.query.Goals as goal
+
+pub invariant_of-self : goal.invariant_of-self
+invariant_of-self c =
+    let t = c.self.inside.holders in
+    let made = c.stands.ensures.known.counters c.args.object c.args.iface c.in-Ok.ensures.offered in
+    let e : c.gain_hold.new.holds ≡ hold_more c.args.object (not (owns_of t.objects c.args.object c.args.apartment)) c.self.inside.holds.items = rw (c.owns-owned.ensures, c.deref_mut.ensures.value) at c.gain_hold.ensures in
+    let len : length c.gain_hold.new.holds ≡ length c.self.inside.holds.items = ap (λ xs. length xs) e ∙ more_length c.args.object (not (owns_of t.objects c.args.object c.args.apartment)) c.self.inside.holds.items in
+    let whole : take c.self.inside.holds.len (c.gain_hold.new.holds ++ drop (length c.gain_hold.new.holds) c.self.inside.holds.items) ≡ c.gain_hold.new.holds = grind (arith, common_steps, len) in
+    record {
+      counts = rw (whole, e) (asked t c.query.new.self c.self.inside.holds.items c.args.apartment c.args.object c.args.iface (owns_of t.objects c.args.object c.args.apartment) c.self.invariant.counts c.in-Ok.ensures.row c.in-Ok.ensures.places c.in-Ok.ensures.issued made.0 made.1);
+      room = omega (arith, c.self.invariant.room, c.in-Ok.ensures.most);
+    }
