@@ -14,3 +14,4 @@ pub mod Laws
 pub mod Ranges
 pub mod Wholes
 pub mod Tables
+pub mod Worked

@@ -10,6 +10,7 @@ ghost use Rattle.com_model.specs.Rules.{legal};
 ghost use Rattle.com_model.specs.State.{State, StandsFor, next_of};
 ghost use Rattle.com_places.specs.Moves.{PlacesMove};
 ghost use Rattle.com_places.specs.Tables.{TablesMove};
+ghost use Rattle.com_places.specs.Worked.{WorkedMoves};
 
 /// In every legal history of a formed scenario, for each entry, each apartment and each test of references: the places of the
 /// apartment after the entry, with the moves by which the entry took some, are those before it, with the moves by which it brought
@@ -25,4 +26,10 @@ pub fn places_move()
 /// stands in the lane after it.
 pub fn tables_move()
     ensures { (s : Scenario) (st : State) (h : List Entry) (l : ℕ) (d : Deed) → Formed s → StandsFor s st h → next_of s st l ≡ Some d → TablesMove s st l d }
+{}
+
+/// What the entries of one worked history take and bring, as lists: the making of two objects, a reference as an argument, in a
+/// link and out of it, a body that leaves, the end of a script's home with its STA, and two Finals.
+pub fn worked_moves()
+    ensures { WorkedMoves }
 {}
