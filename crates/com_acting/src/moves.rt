@@ -116,7 +116,8 @@ pub fn step_move(actor: Actor, outcome: &Outcome, taken: Option<RefValue>) -> Mo
 /// brings there.
 pub fn return_move(actor: Actor, frame: &Frame, to: Destination, value: &Option<Value>) -> Moved
     requires { IsDestination to }
-    ensures { (hr : HResult) (k : Cells) → moves_of (acting_of actor) frame.now k (to_answer hr ∷ to_destination to value.now) ≡ moves_in result }
+    ensures { (hr : HResult) (k : Cells) →
+        moves_of (acting_of actor) frame.now k (to_answer hr ∷ to_destination to value.now) ≡ moves_in result }
 {
     let Destination::Slot(number) = to else {
         return Moved::NONE;
