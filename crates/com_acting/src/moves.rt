@@ -13,7 +13,8 @@ use com_base::{RefValue, Value};
 use com_body::{Action, Cells, Destination, Frame, Outcome, Place};
 use com_scene::Actor;
 
-/// Where a reference stands: in a slot of the frame of a call's body or of a lane's script, or in a link of an object.
+/// Where a reference stands: in a slot of the frame of a call's body or of a lane's script, or in a link of
+/// an object.
 #[derive(Debug, Clone, Copy, PartialEq, Eq)]
 pub enum Spot {
     /// The frame of the body of a call, by the call's number.
@@ -94,12 +95,14 @@ fn place_move(actor: Actor, outcome: &Outcome, to: Place, held: Option<RefValue>
     }
 }
 
-/// What the entry of a step takes from the slots and links of whoever acts, and what it brings there. `taken` is the
-/// reference that the entry gives: a new one, one of another interface, or one that is read from a packet or a cookie.
+/// What the entry of a step takes from the slots and links of whoever acts, and what it brings there. `taken`
+/// is the reference that the entry gives: a new one, one of another interface, or one that is read from a
+/// packet or a cookie.
 pub fn step_move(actor: Actor, outcome: &Outcome, taken: Option<RefValue>) -> Moved
     requires { WritesInRange outcome.now.action }
     ensures { (d : Deed) → taken ≡ taken_in d →
-        moves_of (acting_of actor) outcome.now.frame outcome.now.cells (writes outcome.now.action d) ≡ moves_in result }
+        moves_of (acting_of actor) outcome.now.frame outcome.now.cells (writes outcome.now.action d)
+        ≡ moves_in result }
 {
     match &outcome.action {
         Action::Create { slot, .. } => place_move(actor, outcome, Place::Slot(*slot), taken),
@@ -112,8 +115,8 @@ pub fn step_move(actor: Actor, outcome: &Outcome, taken: Option<RefValue>) -> Mo
     }
 }
 
-/// What the return of a call takes from the destination of its result in the frame of whoever acts then, and what it
-/// brings there.
+/// What the return of a call takes from the destination of its result in the frame of whoever acts then, and
+/// what it brings there.
 pub fn return_move(actor: Actor, frame: &Frame, to: Destination, value: &Option<Value>) -> Moved
     requires { IsDestination to }
     ensures { (hr : HResult) (k : Cells) →
