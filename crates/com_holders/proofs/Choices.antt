@@ -1,5 +1,5 @@
 -- Which change a row is, case by case.
-use Rattle.std.proofs.Common.{◌≡◌, ℕ, Bool, true, false, eqb, cond, refl, ap, subst, sym, ◌∙◌, ◌<◌, ◌≤◌, arith}
+use Rattle.std.proofs.Common.{◌≡◌, ℕ, Bool, true, false, eqb, cond, refl, ap, subst, ◌∙◌, ◌<◌, ◌≤◌, arith}
 use Rattle.com_proxy.specs.Rows.{public_of}
 use Rattle.com_stub.specs.StubRows.{is_connected}
 use Rattle.com_holders.specs.Tables.{Tables, books_of}

@@ -1,14 +1,13 @@
 -- A cookie that is given or revoked, in the tables and in the books.
-use Rattle.std.proofs.Common.{◌≡◌, ℕ, zero, suc, Bool, true, false, eqb, cond, ◌&&◌, ◌+◌, ◌*◌, ◌-◌, ◌<◌, ◌≤◌, List, [], ◌∷◌, ◌++◌, length, refl, sym, ap, subst, ◌∙◌, arith}
+use Rattle.std.proofs.Common.{◌≡◌, ℕ, zero, suc, Bool, true, false, eqb, cond, ◌&&◌, ◌+◌, ◌-◌, ◌≤◌, List, [], ◌∷◌, ◌++◌, length, refl, sym, ap, subst, ◌∙◌, arith}
 use Rattle.std.proofs.lemmas.Grind.{common_steps}
-use Rattle.std.proofs.lemmas.List.{length-set}
 use Rattle.std.specs.Prelude.{map, Option, Some, None, slice_index_or, slice_set, sum_by}
 use Rattle.com_base.specs.declared.value.RefValue.{RefValue}
 use Rattle.com_slots.specs.Table.{with_entry, held_in}
 use Rattle.com_stub.specs.declared.counters.CounterRow.{CounterRow}
 use Rattle.com_stub.specs.StubRows.{is_connected, has_stub}
 use Rattle.com_stub.specs.CounterRows.{counter_of, changed_counter, more, less, has_counter, sum_of}
-use Rattle.com_books.specs.Changes.{Books, cookie, changed, change, ToCookie, Withdraw, Registers, Revokes, no_cookie, lose_stub, set_from_one, cookie_holds_of}
+use Rattle.com_books.specs.Changes.{Books, cookie, changed, ToCookie, Withdraw, no_cookie, lose_stub, set_from_one, cookie_holds_of}
 use Rattle.com_books.specs.declared.keeps.Cookie.{Cookie}
 use Rattle.com_books.specs.Evens.{Even}
 use Rattle.com_books.proofs.Evens.{changed-even}

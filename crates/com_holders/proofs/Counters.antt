@@ -1,5 +1,5 @@
 -- Which counters there are, and the sum of an object's, after a change of one.
-use Rattle.std.proofs.Common.{◌≡◌, ℕ, true, false, eqb, cond, ◌&&◌, ◌||◌, ◌+◌, ◌*◌, ◌<◌, ◌≤◌, List, [], ◌∷◌, ◌++◌, refl, ap, ◌∙◌, arith}
+use Rattle.std.proofs.Common.{◌≡◌, ℕ, false, ◌+◌, ◌≤◌, List, [], ◌∷◌, refl, arith}
 use Rattle.std.proofs.lemmas.Grind.{common_steps}
 use Rattle.com_stub.specs.declared.counters.CounterRow.{CounterRow}
 use Rattle.com_stub.specs.CounterRows.{has_counter, counter_of, changed_counter, more, less, sum_of}

@@ -1,5 +1,5 @@
 -- A packet that ends, in the tables and in the books.
-use Rattle.std.proofs.Common.{◌≡◌, ℕ, zero, suc, Bool, true, false, eqb, cond, ◌&&◌, ◌+◌, ◌*◌, ◌-◌, ◌≤◌, List, [], ◌∷◌, length, refl, sym, ap, subst, ◌∙◌, arith}
+use Rattle.std.proofs.Common.{◌≡◌, ℕ, zero, suc, Bool, true, false, eqb, cond, ◌&&◌, ◌-◌, ◌≤◌, List, [], ◌∷◌, length, refl, sym, ap, subst, ◌∙◌, arith}
 use Rattle.std.proofs.lemmas.Grind.{common_steps}
 use Rattle.std.specs.Prelude.{map, Option, Some, None, slice_index_or}
 use Rattle.com_packets.specs.declared.Packet as P
@@ -7,9 +7,9 @@ use Rattle.com_slots.specs.Table.{with_entry, held_in}
 use Rattle.com_stub.specs.declared.counters.CounterRow.{CounterRow}
 use Rattle.com_stub.specs.StubRows.{is_connected, has_stub}
 use Rattle.com_stub.specs.CounterRows.{counter_of, changed_counter, less, has_counter, sum_of}
-use Rattle.com_books.specs.Changes.{Books, packet, changed, change, Return, Drops, no_packet, lose_stub, at2, set_from_one}
+use Rattle.com_books.specs.Changes.{Books, packet, changed, Return, no_packet, lose_stub, at2, set_from_one}
 use Rattle.com_books.specs.declared.keeps.Packet.{Packet}
-use Rattle.com_holders.specs.Tables.{Tables, object_in, direct_in, books_of, packet_read, owns_of, outstanding_in}
+use Rattle.com_holders.specs.Tables.{Tables, object_in, direct_in, books_of, packet_read, outstanding_in}
 use Rattle.com_books.specs.Evens.{Even}
 use Rattle.com_holders.specs.Stands.{IsEven, IsHolders}
 use Rattle.com_books.proofs.Evens.{changed-even}

@@ -1,7 +1,7 @@
 -- An object more, which nobody holds yet, in the tables and in the books.
 use mathlib.Core.Path.{fun_ext}
-use Rattle.std.proofs.Common.{◌≡◌, ℕ, zero, suc, Bool, true, false, eqb, cond, not, ◌&&◌, ◌||◌, ◌+◌, ◌*◌, ◌<◌, ◌≤◌, List, [], ◌∷◌, ◌++◌, length, refl, sym, ap, subst, ◌∙◌, arith, eqb-true}
-use Rattle.std.proofs.lemmas.Bool.{false_from_ne_true, eqb-false}
+use Rattle.std.proofs.Common.{◌≡◌, ℕ, zero, suc, Bool, true, false, eqb, cond, ◌&&◌, ◌||◌, ◌+◌, ◌<◌, ◌≤◌, List, [], ◌∷◌, ◌++◌, length, refl, sym, ap, subst, ◌∙◌, arith, eqb-true}
+use Rattle.std.proofs.lemmas.Bool.{false_from_ne_true}
 use Rattle.std.proofs.lemmas.List.{map-append}
 use Rattle.std.proofs.lemmas.Grind.{common_steps}
 use Rattle.std.specs.Prelude.{map, Option, Some, None}
@@ -16,14 +16,13 @@ use Rattle.com_stub.specs.StubRows.{is_connected, has_stub}
 use Rattle.com_stub.specs.CounterRows.{has_counter, counter_of, no_counter, opened, opened_all, sum_of}
 use Rattle.com_stub.proofs.Sums.{sum_push}
 use Rattle.com_books.specs.Changes.{Books}
-use Rattle.com_books.specs.Evens.{Even}
 use Rattle.com_holders.specs.declared.ObjectRow.{ObjectRow}
 use Rattle.com_holders.specs.Tables.{Tables, books_of, packet_read, cookie_read, owns_of, owners_of, object_in, direct_in}
 use Rattle.com_holders.specs.Places.{locals_of, has_row, distinct}
 use Rattle.com_holders.specs.Stands.{IsEven, Known, IsHolders}
 use Rattle.com_holders.specs.Steps.{made_live, among}
 use Rattle.com_holders.proofs.Counters.{no_counter_count}
-use Rattle.com_holders.proofs.Rowed.{local_has, no_row_public, no_row_local}
+use Rattle.com_holders.proofs.Rowed.{no_row_public, no_row_local}
 use Rattle.com_holders.proofs.Standing.{bound_step}
 use Rattle.com_holders.proofs.Same.{same_books}
 

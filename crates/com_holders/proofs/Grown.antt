@@ -1,5 +1,5 @@
 -- One place more of an apartment that does not own the object, with public references of its proxy.
-use Rattle.std.proofs.Common.{◌≡◌, ℕ, Bool, true, false, eqb, cond, not, ◌&&◌, ◌||◌, ◌+◌, ◌*◌, ◌<◌, ◌≤◌, List, length, refl, sym, ap, subst, ◌∙◌, arith, eqb-true}
+use Rattle.std.proofs.Common.{◌≡◌, ℕ, Bool, true, false, eqb, ◌&&◌, ◌||◌, ◌+◌, ◌≤◌, List, length, refl, sym, ap, subst, ◌∙◌, arith, eqb-true}
 use Rattle.std.proofs.lemmas.Grind.{common_steps}
 use Rattle.std.specs.Prelude.{Some}
 use Rattle.com_packets.specs.declared.Packet as P
@@ -7,7 +7,7 @@ use Rattle.com_proxy.specs.declared.ProxyRow.{ProxyRow}
 use Rattle.com_proxy.specs.Rows.{public_of, local_of, changed_row, IsFree}
 use Rattle.com_slots.specs.Table.{held_in}
 use Rattle.com_stub.specs.declared.counters.CounterRow.{CounterRow}
-use Rattle.com_stub.specs.StubRows.{is_connected, has_stub}
+use Rattle.com_stub.specs.StubRows.{has_stub}
 use Rattle.com_stub.specs.CounterRows.{has_counter, sum_of}
 use Rattle.com_books.specs.Counting.{count_if}
 use Rattle.com_holders.specs.Tables.{Tables, books_of, owns_of, object_in, direct_in}

@@ -1,16 +1,15 @@
 -- New public references of a proxy, and a direct place more.
-use Rattle.std.proofs.Common.{◌≡◌, ℕ, zero, suc, Bool, true, false, eqb, cond, not, ◌&&◌, ◌+◌, ◌*◌, ◌^◌, ◌<◌, ◌≤◌, List, [], ◌∷◌, length, refl, sym, ap, subst, ◌∙◌, arith, eqb-true}
+use Rattle.std.proofs.Common.{◌≡◌, ℕ, zero, suc, Bool, true, false, eqb, cond, ◌+◌, ◌*◌, ◌^◌, ◌<◌, ◌≤◌, List, [], ◌∷◌, length, refl, sym, ap, subst, ◌∙◌, arith}
 use Rattle.std.proofs.lemmas.Grind.{common_steps}
 use Rattle.std.proofs.lemmas.List.{length-set}
-use Rattle.std.specs.Prelude.{map, Some}
+use Rattle.std.specs.Prelude.{Some}
 use Rattle.com_packets.specs.declared.Packet as P
 use Rattle.com_proxy.specs.declared.ProxyRow.{ProxyRow}
-use Rattle.com_proxy.specs.Rows.{public_of, local_of, changed_row, gaining, one_local_more, IsFree}
+use Rattle.com_proxy.specs.Rows.{public_of, local_of, changed_row, gaining, IsFree}
 use Rattle.com_stub.specs.StubRows.{is_connected, has_stub}
-use Rattle.com_stub.specs.CounterRows.{has_counter, counter_of, changed_counter, more, sum_of}
+use Rattle.com_stub.specs.CounterRows.{has_counter, changed_counter, more, sum_of}
 use Rattle.com_books.specs.Counting.{count_if}
 use Rattle.com_books.specs.Changes.{Books, ToProxy, changed}
-use Rattle.com_books.specs.Evens.{Even}
 use Rattle.com_books.proofs.Evens.{changed-even, more-even}
 use Rattle.com_holders.specs.declared.ObjectRow.{ObjectRow}
 use Rattle.com_holders.specs.Tables.{Tables, books_of, owns_of, owners_of, object_in, direct_in, direct_more, outstanding_in}

@@ -1,26 +1,21 @@
 -- A normal packet's references to a proxy, in the tables and in the books.
-use Rattle.std.proofs.Common.{◌≡◌, ℕ, zero, suc, Bool, true, false, eqb, cond, ◌&&◌, ◌||◌, ◌+◌, ◌*◌, ◌≤◌, length, List, refl, sym, ap, subst, ◌∙◌, arith, eqb-true, inl, inr}
+use Rattle.std.proofs.Common.{◌≡◌, ℕ, zero, suc, Bool, true, false, cond, ◌+◌, ◌≤◌, length, List, refl, sym, ap, subst, ◌∙◌, arith, inl, inr}
 use Rattle.std.proofs.lemmas.Bool.{cases_lt}
 use Rattle.std.proofs.lemmas.Grind.{common_steps}
 use Rattle.std.specs.Prelude.{Some, None, slice_index_or, sum_by}
-use Rattle.com_base.specs.declared.value.MarshalMode.TheVariants as marshal
 use Rattle.com_packets.specs.declared.Packet as P
 use Rattle.com_proxy.specs.declared.ProxyRow.{ProxyRow}
-use Rattle.com_proxy.specs.Rows.{public_of, local_of, changed_row, gaining, IsFree}
-use Rattle.com_proxy.proofs.Rows.{row_changed}
+use Rattle.com_proxy.specs.Rows.{public_of, changed_row, gaining}
 use Rattle.com_slots.specs.Table.{with_entry, held_in}
 use Rattle.com_stub.specs.StubRows.{is_connected}
-use Rattle.com_books.specs.Counting.{count_if}
-use Rattle.com_books.specs.Changes.{Books, packet, changed, change, Join, Unmarshals, no_packet, at3, set_from_one, packet_holds_of}
+use Rattle.com_books.specs.Changes.{Books, packet, changed, Join, no_packet, at3, set_from_one, packet_holds_of}
 use Rattle.com_books.specs.declared.keeps.Packet.{Packet}
-use Rattle.com_holders.specs.Tables.{Tables, object_in, direct_in, books_of, owns_of, outstanding_in}
+use Rattle.com_holders.specs.Tables.{Tables, books_of, owns_of, outstanding_in}
 use Rattle.com_books.specs.Evens.{Even}
 use Rattle.com_holders.specs.Stands.{IsEven, IsHolders}
 use Rattle.com_books.proofs.Evens.{changed-even, more-even}
 use Rattle.com_holders.proofs.Packed.{packet-sum-end}
 use Rattle.com_holders.proofs.Cuts.{shown, packet_shown, outstanding_held}
-use Rattle.com_stub.specs.StubRows.{has_stub}
-use Rattle.com_stub.specs.declared.counters.CounterRow.{CounterRow}
 use Rattle.com_stub.specs.CounterRows.{has_counter, sum_of, counter_of}
 use Rattle.com_holders.proofs.Rowed.{gains, grown_public}
 use Rattle.com_holders.proofs.Grown.{grown_stands}

@@ -1,7 +1,7 @@
 -- Places more and less, reckoned from tables that count the same.
 use Rattle.std.proofs.Common.{◌≡◌, ℕ, Bool, eqb, not, ◌&&◌, ◌+◌, length, ap, ◌∙◌}
 use Rattle.com_books.specs.Counting.{count_if}
-use Rattle.com_holders.specs.Tables.{Tables, owns_of, object_in, direct_in}
+use Rattle.com_holders.specs.Tables.{Tables, owns_of, object_in}
 use Rattle.com_holders.specs.Places.{OneMore, SamePlaces, places_of, locals_of}
 
 pub more_from : (t v u : Tables) (a o : ℕ) (w : Bool) → v.objects ≡ t.objects → v.proxies ≡ t.proxies → OneMore v u a o w → OneMore t u a o w

@@ -1,8 +1,8 @@
 -- Which rows there are, that no two are of one apartment, object and interface, and what they count together.
-use Rattle.std.proofs.Common.{◌≡◌, ℕ, Bool, true, false, eqb, cond, not, ◌&&◌, ◌||◌, ◌+◌, ◌<◌, ◌≤◌, List, [], ◌∷◌, refl, sym, ap, ◌∙◌, arith, eqb-true}
+use Rattle.std.proofs.Common.{◌≡◌, ℕ, true, false, eqb, cond, ◌&&◌, ◌||◌, ◌+◌, ◌<◌, ◌≤◌, List, [], ◌∷◌, refl, ◌∙◌, arith}
 use Rattle.std.proofs.lemmas.Grind.{common_steps}
 use Rattle.com_proxy.specs.declared.ProxyRow.{ProxyRow}
-use Rattle.com_proxy.specs.Rows.{is_for, local_of, public_of, row_of, no_row, changed_row, gaining, one_local_more, one_local_less, no_public, halved, IsFree}
+use Rattle.com_proxy.specs.Rows.{local_of, public_of, row_of, no_row, changed_row, gaining, one_local_more, one_local_less, no_public, halved, IsFree}
 use Rattle.com_proxy.proofs.Rows.{row_changed}
 use Rattle.com_books.specs.Counting.{count_if}
 use Rattle.com_holders.specs.Places.{places_of, locals_of, has_row, distinct}

@@ -1,5 +1,5 @@
 -- What is known of the tables and bounds their numbers, from what a call changed.
-use Rattle.std.proofs.Common.{◌≡◌, ℕ, Bool, true, false, ◌+◌, ◌*◌, ◌<◌, ◌≤◌, List, length, refl, sym, ap, ◌∙◌, arith}
+use Rattle.std.proofs.Common.{◌≡◌, ℕ, true, ◌+◌, ◌*◌, ◌≤◌, length, sym, ap, ◌∙◌, arith}
 use Rattle.std.specs.Prelude.{Some}
 use Rattle.com_base.specs.declared.value.RefValue.{RefValue}
 use Rattle.com_packets.specs.declared.Packet as P

@@ -1,5 +1,5 @@
 -- What is true of the whole, beside its tables: owners under their objects, and room.
-use Rattle.std.proofs.Common.{◌≡◌, ℕ, ◌+◌, ◌≤◌, sym, ap, ◌∙◌, arith}
+use Rattle.std.proofs.Common.{◌≡◌, ℕ, ◌+◌, ◌≤◌, sym, ◌∙◌, arith}
 use Rattle.com_keyed.specs.Places.{Places}
 use Rattle.com_holders.specs.Tables.{Tables, owners_of, books_of}
 use Rattle.com_holders.specs.Stands.{IsHolders, IsWhole}

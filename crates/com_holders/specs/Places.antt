@@ -2,7 +2,7 @@
 -- places of the apartment hold it.
 use Rattle.std.specs.Prelude.{◌≡◌, ℕ, ◌+◌, ◌<◌, ◌≤◌, Bool, true, false, not, ◌==◌, ◌&&◌, ◌||◌, if◌then◌else◌, List, [], ◌∷◌, sum_by, length}
 use Rattle.com_proxy.specs.declared.ProxyRow.{ProxyRow}
-use Rattle.com_proxy.specs.Rows.{is_for, IsFree}
+use Rattle.com_proxy.specs.Rows.{is_for}
 use Rattle.com_books.specs.Counting.{sum_below, count_if}
 use Rattle.com_holders.specs.Tables.{Tables, owns_of, direct_in}
 

@@ -65,9 +65,9 @@ less-small o true hs x = elim (eqb x o) as (λ y. eqb x o ≡ y → hold_of (hol
   | false ↦ λ y. omega (arith, less-other true hs o x (eqb-false x o y))
 ] refl
 
-more-is : (o : ℕ) (w : Bool) (hs : List ℕ) (x : ℕ) → 0 < o → o ≤ length hs → hold_of (hold_more o w hs) x ≡ hold_of hs x + count_if (w && eqb x o)
-more-is o false hs x p q = grind (arith, common_steps)
-more-is o true hs x p q = elim (eqb x o) as (λ y. eqb x o ≡ y → hold_of (hold_more o true hs) x ≡ hold_of hs x + count_if (true && y)) [
+pub more_is : (o : ℕ) (w : Bool) (hs : List ℕ) (x : ℕ) → 0 < o → o ≤ length hs → hold_of (hold_more o w hs) x ≡ hold_of hs x + count_if (w && eqb x o)
+more_is o false hs x p q = grind (arith, common_steps)
+more_is o true hs x p q = elim (eqb x o) as (λ y. eqb x o ≡ y → hold_of (hold_more o true hs) x ≡ hold_of hs x + count_if (true && y)) [
   | true ↦ λ y. let same : x ≡ o = eqb-true x o y in rw same (more-here hs o p q)
   | false ↦ λ y. more-other true hs o x (eqb-false x o y) ∙ grind (arith, common_steps)
 ] refl
@@ -79,9 +79,9 @@ less-is o true hs x h k e f = elim (eqb x o) as (λ y. eqb x o ≡ y → k + cou
   | false ↦ λ y g. let none : k + 0 ≡ h = g in omega (arith, less-other true hs o x (eqb-false x o y), e, none)
 ] refl f
 
-at-most : (b : Bool) → count_if b ≤ 1
-at-most true = omega arith
-at-most false = omega arith
+pub at_most : (b : Bool) → count_if b ≤ 1
+at_most true = omega arith
+at_most false = omega arith
 
 -- ---- a holder less, and one more
 
@@ -99,10 +99,10 @@ pub gained : (t v : Tables) (hs : List ℕ) (o : ℕ) (w : Bool) → IsCounted t
 gained t v hs o w c live outside direct len issued some made =
     let range : o ≤ length hs = omega (arith, made, c.as_many) in
     record {
-      counted = λ x l. more-is o w hs x some range ∙ ap (λ (n : ℕ). n + count_if (w && eqb x o)) (c.counted x (sym (live x) ∙ l)) ∙ sym (outside x);
+      counted = λ x l. more_is o w hs x some range ∙ ap (λ (n : ℕ). n + count_if (w && eqb x o)) (c.counted x (sym (live x) ∙ l)) ∙ sym (outside x);
       tidy = λ x l. omega (arith, c.tidy x (sym (live x) ∙ l), outside x, direct x);
       as_many = more_length o w hs ∙ c.as_many ∙ sym len;
-      small = λ x. omega (arith, more-is o w hs x some range, at-most (w && eqb x o), c.small x, issued);
+      small = λ x. omega (arith, more_is o w hs x some range, at_most (w && eqb x o), c.small x, issued);
     }
 
 -- nothing held less, in all

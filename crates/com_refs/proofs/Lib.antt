@@ -1,7 +1,9 @@
 pub mod Counteds
 pub mod Ends
+pub mod Makings
 pub mod Moved
 pub mod Outside
 pub mod Rests
 pub mod Settling
 pub mod Steps
+pub mod Ties

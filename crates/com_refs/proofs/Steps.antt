@@ -56,7 +56,7 @@ changed-live b (ToCookie o i n) x = refl
 changed-live b (Withdraw g) x = refl
 changed-live b Same x = refl
 
-live-row : (t v : Tables) (c : Change) → books_of v ≡ changed (books_of t) c → (x : ℕ) → (books_of v).live x ≡ (books_of t).live x
+pub live-row : (t v : Tables) (c : Change) → books_of v ≡ changed (books_of t) c → (x : ℕ) → (books_of v).live x ≡ (books_of t).live x
 live-row t v c e x = ap (λ (b : Books). b.live x) e ∙ changed-live (books_of t) c x
 
 pushed : (ps : List Packet) (m : MarshalMode) (o i n x : ℕ) → sum_by (packet_holds x) (ps ++ new_packet m o i n ∷ []) ≡ sum_by (packet_holds x) ps + count_if (not (is_weak m) && eqb x o)

@@ -7,12 +7,14 @@
 //! are one end. Source: MS-DCOM 3.2.4.4, and Essential COM, chapter 5.
 #![tactic(auto)]
 
-ghost use Rattle.std.specs.Prelude.{◌≡◌, ◌+◌, ◌-◌, ◌<◌, ◌≤◌, ◌^◌, ◌↔◌, ◌&&◌, ◌||◌, ◌==◌, ℕ, true, false, not, [], length, OnOk, OnErr, IfOk, IsOk, IsTrue, Ok, Err, Some, None, if◌then◌else◌};
+ghost use Rattle.std.specs.Prelude.{◌≡◌, ◌+◌, ◌-◌, ◌<◌, ◌≤◌, ◌^◌, ◌↔◌, ◌&&◌, ◌||◌, ◌==◌, ℕ, Bool, true, false, not, [], length, OnOk, OnErr, IfOk, IsOk, IsTrue, Ok, Err, Some, None, if◌then◌else◌};
 ghost use Rattle.com_stub.specs.StubRows.{is_connected};
 ghost use Rattle.com_slots.specs.Table.{held_in};
 ghost use Rattle.com_proxy.specs.Rows.{local_of};
-ghost use Rattle.com_holders.specs.Tables.{books_of, owns_of, owners_of, is_owned, object_in, direct_in, offers, outstanding_in};
-ghost use Rattle.com_holders.specs.Places.{OneMore, OneLess, SamePlaces};
+ghost use Rattle.com_holders.specs.Tables.{Tables, books_of, owns_of, owners_of, is_owned, object_in, direct_in, offers, outstanding_in};
+ghost use Rattle.com_holders.specs.Steps.{made_live, among};
+ghost use Rattle.com_holders.specs.Places.{Counts, OneMore, OneLess, SamePlaces, places_in};
+ghost use Rattle.com_books.specs.Counting.{count_if};
 ghost use Rattle.com_holders.specs.Stands.{Tells};
 ghost use Rattle.com_books.specs.Changes.{Books, changed, change, cut, packet, is_weak, Makes, Takes, Asks, Marshals, Unmarshals, Drops, Registers, Revokes, ToCookie, Return, Withdraw};
 ghost use Rattle.com_refs.specs.Counts.{hold_of, hold_less, hold_more};
@@ -159,6 +161,27 @@ fn holds_object(mode: MarshalMode) -> bool
     }
 }
 
+// The first place of an object: a direct one, or one of a proxy with new references.
+fn place(holders: &mut Holders, apartment: u32, held: RefValue)
+    requires live { is_connected holders.old.stubs held.object ≡ true }
+    requires known { offers holders.old held.object held.iface ≡ true }
+    requires few { holders.old.issued < 2 ^ 28 }
+    requires room { 0 < holders.old.spare }
+    ensures row { books_of holders.new ≡ changed (books_of holders.old) (change (owns_of holders.old.objects) (books_of holders.old) (Makes apartment held.object held.iface)) }
+    ensures places { OneMore holders.old holders.new apartment held.object (owns_of holders.old.objects held.object apartment) }
+    ensures offers { (x j : ℕ) → offers holders.new x j ≡ offers holders.old x j }
+    ensures issued { holders.new.issued ≡ holders.old.issued + 1 }
+    ensures most { holders.new.spare ≤ holders.old.spare }
+    ensures spare { holders.old.spare ≤ holders.new.spare + 1 }
+{
+    holders.stands();
+    if holders.owns(held.object, apartment) {
+        holders.keep_direct(held.object);
+        return;
+    }
+    holders.issue_elsewhere(apartment, held);
+}
+
 impl Refs {
     /// No object was made and nothing is held. It takes no memory.
     pub fn new(alloc: Global) -> Self
@@ -175,13 +198,24 @@ impl Refs {
     }
 
     /// Makes room for `n` calls.
+    #[tactic(auto, unfolding(com_holders::specs::Tables::books_of))]
     pub fn reserve(&mut self, n: u32) -> Result<(), Memory>
         ensures room { OnOk result (n ≤ self.new.spare) }
+        ensures succeeds { n ≤ self.old.spare → IsOk result }
         ensures same { self.new ≡ record self.old { spare = self.new.spare } }
+        ensures books { books_of self.new ≡ books_of self.old }
         ensures spare { self.old.spare ≤ self.new.spare }
     {
         self.holds.reserve(n as usize)?;
         self.holders.reserve(n)
+    }
+
+    /// A table of places that is what the tables count tells which proxies have a place, and totals the places of an object.
+    pub fn tells(&self)
+        ensures tells { (n : ℕ) (places : ℕ → ℕ → ℕ) → Counts n places self.now → Tells n places self.now }
+        ensures totals { (n : ℕ) (places : ℕ → ℕ → ℕ) → Counts n places self.now → Totals n places self.now }
+    {
+        self.holders.stands();
     }
 
     /// Between calls nothing is left to give back or to cut.
@@ -189,6 +223,65 @@ impl Refs {
         ensures { (n : ℕ) (places : ℕ → ℕ → ℕ) → Tells n places self.now → Totals n places self.now → ends n places (books_of self.now) ≡ books_of self.now }
     {
         self.holders.gives_nothing();
+    }
+
+    /// An object of the owner's is made, the next by its number, and the apartment has a place for it by an interface of its set.
+    /// Every apartment owns an agile object. The call takes the room of two.
+    pub fn made(
+        &mut self,
+        object: u32,
+        owner: u32,
+        agile: bool,
+        apartment: u32,
+        iface: u16,
+        set: &[u16],
+    ) -> Result<(), Memory>
+        requires new { object ≡ length self.old.objects + 1 }
+        requires small { length set.now ≤ 17 }
+        requires within { among iface set.now ≡ true }
+        requires few { self.old.issued + 1 < 2 ^ 28 }
+        ensures row { OnOk result (books_of self.new ≡ changed (made_live object (books_of self.old)) (change (owns_of self.new.objects) (made_live object (books_of self.old)) (Makes apartment object iface))) }
+        ensures owns { OnOk result ((x c : ℕ) → x ≤ length self.old.objects → owns_of self.new.objects x c ≡ owns_of self.old.objects x c) }
+        ensures direct { OnOk result ((x : ℕ) → direct_in self.new x ≡ direct_in self.old x + count_if (owns_of self.new.objects object apartment && x == object)) }
+        ensures elsewhere { OnOk result ((c x : ℕ) → places_in self.new c x ≡ places_in self.old c x + count_if (not (owns_of self.new.objects object apartment) && (c == apartment && x == object))) }
+        ensures offers { OnOk result ((x j : ℕ) → offers self.new x j ≡ (offers self.old x j || (x == object && among j set.now))) }
+        ensures issued { OnOk result (self.new.issued ≡ self.old.issued + 2) }
+        ensures err { OnErr result (self.new ≡ record self.old { spare = self.new.spare }) }
+        ensures room { 2 ≤ self.old.spare → IsOk result }
+    {
+        self.reserve(2)?;
+        self.hold_made(object, owner, agile, apartment, iface, set);
+        Ok(())
+    }
+
+    // The same, where there is room.
+    fn hold_made(
+        &mut self,
+        object: u32,
+        owner: u32,
+        agile: bool,
+        apartment: u32,
+        iface: u16,
+        set: &[u16],
+    )
+        requires new { object ≡ length self.old.objects + 1 }
+        requires small { length set.now ≤ 17 }
+        requires within { among iface set.now ≡ true }
+        requires few { self.old.issued + 1 < 2 ^ 28 }
+        requires room { 2 ≤ self.old.spare }
+        ensures row { books_of self.new ≡ changed (made_live object (books_of self.old)) (change (owns_of self.new.objects) (made_live object (books_of self.old)) (Makes apartment object iface)) }
+        ensures owns { (x c : ℕ) → x ≤ length self.old.objects → owns_of self.new.objects x c ≡ owns_of self.old.objects x c }
+        ensures direct { (x : ℕ) → direct_in self.new x ≡ direct_in self.old x + count_if (owns_of self.new.objects object apartment && x == object) }
+        ensures elsewhere { (c x : ℕ) → places_in self.new c x ≡ places_in self.old c x + count_if (not (owns_of self.new.objects object apartment) && (c == apartment && x == object)) }
+        ensures offers { (x j : ℕ) → offers self.new x j ≡ (offers self.old x j || (x == object && among j set.now)) }
+        ensures issued { self.new.issued ≡ self.old.issued + 2 }
+    {
+        self.holders.stands();
+        self.holders.add_object(owner, agile, set);
+        self.holds.push_reserved(0);
+        let owned = self.holders.owns(object, apartment);
+        place(&mut self.holders, apartment, RefValue { object, iface });
+        gain_hold(&mut self.holds, object, !owned);
     }
 
     /// One place less, to the end of its entry. True exactly where the object then has no holder of any kind that is counted.
@@ -455,7 +548,48 @@ impl Refs {
     }
 }
 
+/// A table of places stays what the tables count, where a call changes none, and where both have one more or one less.
+pub fn counts_move()
+    ensures same { (n : ℕ) (places : ℕ → ℕ → ℕ) (t u : Tables) → Counts n places t → SamePlaces t u → Counts n places u }
+    ensures more { (n : ℕ) (places later : ℕ → ℕ → ℕ) (t u : Tables) (a o : ℕ) (owned : Bool) → Counts n places t → OneMore t u a o owned → owns_of t.objects o a ≡ owned → a < n → ((c x : ℕ) → later c x ≡ places c x + count_if (c == a && x == o)) → Counts n later u }
+    ensures less { (n : ℕ) (places later : ℕ → ℕ → ℕ) (t u : Tables) (a o : ℕ) (owned : Bool) → Counts n places t → OneLess t u a o owned → owns_of t.objects o a ≡ owned → a < n → ((c x : ℕ) → later c x + count_if (c == a && x == o) ≡ places c x) → Counts n later u }
+{}
+
 /// Ending an entry twice, with fewer places the second time, is ending it once.
 pub fn ends_compose()
     ensures { (n : ℕ) (places later : ℕ → ℕ → ℕ) (b : Books) → ((a o : ℕ) → later a o ≤ places a o) → ends n later (ends n places b) ≡ ends n later b }
 {}
+
+#[cfg(test)]
+mod tests {
+    use super::*;
+    use std::test::Fail;
+
+    const COUNTER: RefValue = RefValue {
+        object: 1,
+        iface: 2,
+    };
+
+    #[test]
+    fn a_packet_holds_its_object_until_it_is_dropped(rt: HostRuntime) -> Result<(), Fail> {
+        let mut refs = Refs::new(rt.alloc());
+        refs.made(1, 3, false, 3, 2, &[0, 2])?;
+        assert_eq!(rt; refs.marshal(3, COUNTER, MarshalMode::Normal), Ok(1));
+        assert_eq!(rt; refs.drop_packet(1), Ok(None));
+        assert_eq!(rt; refs.drop_packet(1), Err(RefsError::Unknown));
+        assert!(rt; refs.connected(1));
+        Ok(())
+    }
+
+    #[test]
+    fn a_cookie_gives_its_reference_until_it_is_revoked(rt: HostRuntime) -> Result<(), Fail> {
+        let mut refs = Refs::new(rt.alloc());
+        refs.made(1, 3, false, 4, 2, &[0, 2])?;
+        assert_eq!(rt; refs.register(COUNTER), Ok(1));
+        assert_eq!(rt; refs.revoke(1), Ok(None));
+        assert_eq!(rt; refs.revoke(1), Err(RefsError::Unknown));
+        refs.disconnect(1);
+        assert!(rt; !refs.connected(1));
+        Ok(())
+    }
+}

@@ -1,6 +1,5 @@
-use Rattle.std.proofs.Common.{◌≡◌, not, ◌&&◌, refl, ap, ◌∙◌, arith, length}
-use Rattle.com_stub.specs.StubRows.{is_connected}
-use Rattle.com_holders.specs.Tables.{is_owned, owners_of}
+use Rattle.std.proofs.Common.{refl, arith}
+use Rattle.com_holders.specs.Tables.{is_owned}
 use Rattle.com_holders.proofs.Cuts.{cut_by, cut_stands}
 use Rattle.com_holders.proofs.Owners.{owners_length}
 use Rattle.com_holders.proofs.Wholes.{whole_by}

@@ -1,4 +1,4 @@
-use Rattle.std.proofs.Common.{◌≡◌, true, refl, ap, ◌∙◌, arith}
+use Rattle.std.proofs.Common.{refl, ap, ◌∙◌, arith}
 use Rattle.com_stub.specs.CounterRows.{has_counter}
 use Rattle.com_holders.specs.Tables.{Tables, tables}
 use Rattle.com_holders.proofs.Counters.{has_less}

@@ -1,9 +1,9 @@
-use Rattle.std.proofs.Common.{◌≡◌, ap, ◌∙◌, arith, subst}
+use Rattle.std.proofs.Common.{◌≡◌, subst}
 use Rattle.std.proofs.Common.{List}
 use Rattle.com_holders.specs.declared.ObjectRow.{ObjectRow}
-use Rattle.com_books.specs.Changes.{Books, changed, change, ToProxy, ToCookie, Join, Marshals}
+use Rattle.com_books.specs.Changes.{Books, changed, change, Marshals}
 use Rattle.com_holders.specs.Tables.{books_of, owns_of}
-use Rattle.com_holders.proofs.Moves.{more_from, same_from}
+use Rattle.com_holders.proofs.Moves.{same_from}
 use Rattle.com_holders.proofs.Holders.give_packet.Goals as goal
 
 pub returns-clause-row : goal.returns-clause-row

@@ -1,7 +1,7 @@
-use Rattle.std.proofs.Common.{◌≡◌, true, refl, ap, ◌∙◌, arith}
+use Rattle.std.proofs.Common.{refl, ap, ◌∙◌, arith}
 use Rattle.com_stub.specs.CounterRows.{has_counter}
 use Rattle.com_holders.proofs.Counters.{has_more}
-use Rattle.com_holders.proofs.Issues.{Issued, local_fits, public_fits, issued_books, issued_stands, issued_places}
+use Rattle.com_holders.proofs.Issues.{local_fits, public_fits, issued_books, issued_stands, issued_places}
 use Rattle.com_holders.proofs.Wholes.{whole_by}
 use Rattle.com_holders.proofs.Holders.issue_elsewhere.Goals as goal
 

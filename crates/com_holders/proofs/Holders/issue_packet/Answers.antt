@@ -1,4 +1,4 @@
-use Rattle.std.proofs.Common.{◌≡◌, true, refl, ap, ◌∙◌, arith}
+use Rattle.std.proofs.Common.{◌≡◌, refl, ap, ◌∙◌, arith}
 use Rattle.com_stub.specs.CounterRows.{has_counter}
 use Rattle.com_proxy.specs.Rows.{public_of}
 use Rattle.com_holders.specs.Tables.{owns_of}

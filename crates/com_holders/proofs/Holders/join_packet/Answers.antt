@@ -1,4 +1,4 @@
-use Rattle.std.proofs.Common.{◌≡◌, true, refl, arith}
+use Rattle.std.proofs.Common.{refl, arith}
 use Rattle.com_proxy.specs.Rows.{gaining}
 use Rattle.com_holders.proofs.Rowed.{gains}
 use Rattle.com_holders.proofs.Grown.{more_elsewhere}

@@ -1,6 +1,6 @@
-use Rattle.std.proofs.Common.{◌≡◌, ◌+◌, ◌<◌, ◌^◌, refl, arith, take, drop, length, ◌++◌}
+use Rattle.std.proofs.Common.{◌≡◌, refl, arith, take, drop, length, ◌++◌}
 use Rattle.std.proofs.lemmas.Grind.{common_steps}
-use Rattle.com_holders.specs.Tables.{object_in, direct_more}
+use Rattle.com_holders.specs.Tables.{direct_more}
 use Rattle.com_holders.proofs.Issues.{more_length, more_owners, kept_books, kept_stands, kept_places}
 use Rattle.com_holders.proofs.Wholes.{whole_by}
 use Rattle.com_holders.proofs.Holders.keep_direct.Goals as goal

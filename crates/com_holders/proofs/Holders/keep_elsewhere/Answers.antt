@@ -1,6 +1,5 @@
-use Rattle.std.proofs.Common.{◌≡◌, true, refl, arith}
+use Rattle.std.proofs.Common.{refl, arith}
 use Rattle.com_proxy.specs.Rows.{one_local_more}
-use Rattle.com_stub.specs.CounterRows.{has_counter}
 use Rattle.com_holders.proofs.Rowed.{local_has, gains_none}
 use Rattle.com_holders.proofs.Issues.{local_fits, copied_books, copied_stands, copied_places}
 use Rattle.com_holders.proofs.Wholes.{whole_by}

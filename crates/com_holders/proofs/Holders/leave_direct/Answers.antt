@@ -1,4 +1,4 @@
-use Rattle.std.proofs.Common.{◌≡◌, ◌+◌, ◌<◌, refl, arith, take, drop, length, ◌++◌}
+use Rattle.std.proofs.Common.{◌≡◌, refl, arith, take, drop, length, ◌++◌}
 use Rattle.std.proofs.lemmas.Grind.{common_steps}
 use Rattle.com_holders.specs.Tables.{direct_less}
 use Rattle.com_holders.proofs.Keeps.{direct_stands, direct_given, direct_books, less_length, less_owners, less_places}

@@ -1,4 +1,4 @@
-use Rattle.std.proofs.Common.{◌≡◌, refl, ap, arith}
+use Rattle.std.proofs.Common.{refl, ap, arith}
 use Rattle.com_stub.specs.StubRows.{is_connected}
 use Rattle.com_holders.proofs.Keeps.{released_stands, counted_within}
 use Rattle.com_holders.proofs.Releases.{released_given, released_places}

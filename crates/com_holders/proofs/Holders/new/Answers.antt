@@ -1,4 +1,4 @@
-use Rattle.std.proofs.Common.{◌≡◌, arith, ◌∙◌}
+use Rattle.std.proofs.Common.{arith}
 use Rattle.com_holders.proofs.Keeps.{empty_stands}
 use Rattle.com_holders.proofs.Holders.new.Goals as goal
 

@@ -1,4 +1,4 @@
-use Rattle.std.proofs.Common.{◌≡◌, ◌∙◌, sym, ap, Bool, true, false, subst}
+use Rattle.std.proofs.Common.{◌≡◌, ◌∙◌, sym, Bool, true, false, subst}
 use Rattle.com_holders.specs.Places.{OneLess}
 use Rattle.com_holders.specs.Tables.{owns_of}
 use Rattle.com_holders.proofs.Holders.release.Goals as goal

@@ -1,4 +1,4 @@
-use Rattle.std.proofs.Common.{◌≡◌, arith, ◌∙◌}
+use Rattle.std.proofs.Common.{arith}
 use Rattle.com_holders.proofs.Wholes.{spare_stands}
 use Rattle.com_holders.proofs.Holders.reserve.Goals as goal
 

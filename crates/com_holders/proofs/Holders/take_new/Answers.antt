@@ -1,7 +1,7 @@
-use Rattle.std.proofs.Common.{◌≡◌, ap, ◌∙◌, arith, subst}
-use Rattle.com_books.specs.Changes.{Books, changed, change, ToProxy, ToCookie, Join, Marshals}
-use Rattle.com_holders.specs.Tables.{books_of, owns_of}
-use Rattle.com_holders.proofs.Moves.{more_from, same_from}
+use Rattle.std.proofs.Common.{◌≡◌, subst}
+use Rattle.com_books.specs.Changes.{Books, changed, ToProxy}
+use Rattle.com_holders.specs.Tables.{books_of}
+use Rattle.com_holders.proofs.Moves.{more_from}
 use Rattle.com_holders.proofs.Holders.take_new.Goals as goal
 
 pub returns-clause-books : goal.returns-clause-books

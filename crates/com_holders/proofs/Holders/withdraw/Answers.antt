@@ -1,4 +1,4 @@
-use Rattle.std.proofs.Common.{◌≡◌, true, refl, ap, ◌∙◌, arith}
+use Rattle.std.proofs.Common.{refl, ap, ◌∙◌, arith}
 use Rattle.com_stub.specs.CounterRows.{has_counter}
 use Rattle.com_stub.specs.StubRows.{is_connected}
 use Rattle.com_holders.proofs.Cookies.{withdrawn_books, withdrawn_stands, same_counted, cookie_count, cond-has}

@@ -1,0 +1,132 @@
+-- An object that is made: nothing held it before, and one place holds it then.
+use Rattle.std.proofs.Common.{◌≡◌, ℕ, zero, suc, Bool, true, false, eqb, cond, not, ◌&&◌, ◌||◌, ◌+◌, ◌<◌, ◌≤◌, List, [], ◌∷◌, ◌++◌, length, refl, sym, ap, ◌∙◌, arith, eqb-true}
+use Rattle.std.proofs.lemmas.Bool.{false_from_ne_true, eqb-false}
+use Rattle.std.proofs.lemmas.Grind.{common_steps}
+use Rattle.std.specs.Prelude.{map, sum_by, Option, Some, None}
+use Rattle.com_base.specs.declared.value.RefValue.{RefValue}
+use Rattle.com_packets.specs.declared.Packet as P
+use Rattle.com_proxy.specs.declared.ProxyRow.{ProxyRow}
+use Rattle.com_slots.specs.Table.{held_in}
+use Rattle.com_stub.specs.StubRows.{is_connected}
+use Rattle.com_books.specs.Counting.{count_if}
+use Rattle.com_books.specs.Changes.{Books, held_outside, packet_holds, cookie_holds, changed, change, ToProxy, Same, Makes}
+use Rattle.com_holders.specs.Tables.{Tables, books_of, packet_read, cookie_read, owns_of, object_in, direct_in}
+use Rattle.com_holders.specs.Places.{OneMore, locals_of, has_row}
+use Rattle.com_holders.specs.Stands.{Known}
+use Rattle.com_holders.specs.Steps.{made_live}
+use Rattle.com_holders.proofs.Enrolls.{no_row_yet, object_before}
+use Rattle.com_holders.specs.declared.ObjectRow.{ObjectRow}
+use Rattle.com_refs.specs.Counts.{hold_of, hold_more, outside_of, IsCounted, IsCountedBut}
+use Rattle.com_refs.proofs.Counteds.{more_is, more_length, at_most}
+use Rattle.com_refs.proofs.Steps.{live-row}
+
+pub spare_counted : (t : Tables) (m : ℕ) (hs : List ℕ) → IsCounted t hs → IsCounted (record t { spare = m }) hs
+unfolding books_of
+spare_counted t m hs c = record { counted = c.counted; tidy = c.tidy; as_many = c.as_many; small = c.small }
+
+-- ---- what was not made has no holder
+
+no-locals : (rs : List ProxyRow) (o : ℕ) → ((c j : ℕ) → has_row rs c o j ≡ false) → locals_of o rs ≡ 0
+no-locals [] o h = refl
+no-locals (r ∷ rs) o h = grind (arith, common_steps, h r.apartment r.iface, no-locals rs o (λ c j. grind (arith, common_steps, h c j)))
+
+packet-tail : (x : Option P.Packet) (ps : List (Option P.Packet)) (o : ℕ) → ((n : ℕ) (p : P.Packet) → held_in (x ∷ ps) n ≡ Some p → eqb p.object o ≡ false) → (n : ℕ) (p : P.Packet) → held_in ps n ≡ Some p → eqb p.object o ≡ false
+packet-tail x ps o h zero p g = absurd (cc)
+packet-tail x ps o h (suc n) p g = h (suc (suc n)) p g
+
+no-packets : (live : ℕ → Bool) (o : ℕ) (ps : List (Option P.Packet)) → ((n : ℕ) (p : P.Packet) → held_in ps n ≡ Some p → eqb p.object o ≡ false) → sum_by (packet_holds o) (map (packet_read live) ps) ≡ 0
+no-packets live o [] h = refl
+no-packets live o (None ∷ ps) h = grind (arith, common_steps, no-packets live o ps (packet-tail None ps o h))
+no-packets live o (Some p ∷ ps) h = grind (arith, common_steps, h 1 p refl, no-packets live o ps (packet-tail (Some p) ps o h))
+
+cookie-tail : (x : Option RefValue) (gs : List (Option RefValue)) (o : ℕ) → ((n : ℕ) (r : RefValue) → held_in (x ∷ gs) n ≡ Some r → eqb r.object o ≡ false) → (n : ℕ) (r : RefValue) → held_in gs n ≡ Some r → eqb r.object o ≡ false
+cookie-tail x gs o h zero r g = absurd (cc)
+cookie-tail x gs o h (suc n) r g = h (suc (suc n)) r g
+
+no-cookies : (live : ℕ → Bool) (o : ℕ) (gs : List (Option RefValue)) → ((n : ℕ) (r : RefValue) → held_in gs n ≡ Some r → eqb r.object o ≡ false) → sum_by (cookie_holds o) (map (cookie_read live) gs) ≡ 0
+no-cookies live o [] h = refl
+no-cookies live o (None ∷ gs) h = grind (arith, common_steps, no-cookies live o gs (cookie-tail None gs o h))
+no-cookies live o (Some r ∷ gs) h = grind (arith, common_steps, h 1 r refl, no-cookies live o gs (cookie-tail (Some r) gs o h))
+
+module _ (t : Tables) (o : ℕ) (k : Known t) (new : o ≡ length t.objects + 1) where
+  other : (x : ℕ) → x ≤ length t.objects → eqb x o ≡ false
+  other x h = false_from_ne_true _ (λ e. omega (arith, h, new, eqb-true x o e))
+
+  fresh : outside_of t o ≡ 0
+  unfolding books_of
+  fresh = omega (arith, no-locals t.proxies o (no_row_yet t o k new),
+    no-packets (is_connected t.stubs) o t.packets (λ n p h. other p.object (k.counters p.object p.iface (k.packets n p h)).1),
+    no-cookies (is_connected t.stubs) o t.cookies (λ n r h. other r.object (k.counters r.object r.iface (k.cookies n r h)).1))
+
+-- ---- a row more of what is counted
+
+hold-pushed : (hs : List ℕ) (x : ℕ) → hold_of (hs ++ 0 ∷ []) x ≡ hold_of hs x
+hold-pushed hs zero = refl
+hold-pushed [] (suc zero) = refl
+hold-pushed [] (suc (suc x)) = refl
+hold-pushed (h ∷ hs) (suc zero) = refl
+hold-pushed (h ∷ hs) (suc (suc x)) = hold-pushed hs (suc x)
+
+hold-past : (hs : List ℕ) (x : ℕ) → length hs < x → hold_of hs x ≡ 0
+hold-past hs zero h = refl
+hold-past [] (suc x) h = refl
+hold-past (r ∷ hs) (suc zero) h = absurd (omega (arith, h))
+hold-past (r ∷ hs) (suc (suc x)) h = let less : length hs < suc x = omega (arith, h) in hold-past hs (suc x) less
+
+pub made_but : (t m : Tables) (hs : List ℕ) (o : ℕ) → IsCounted t hs → Known t → o ≡ length t.objects + 1 → books_of m ≡ made_live o (books_of t) → m.proxies ≡ t.proxies → ((x : ℕ) → direct_in m x ≡ direct_in t x)
+    → length m.objects ≡ length t.objects + 1 → t.issued ≤ m.issued → IsCountedBut m (hs ++ 0 ∷ []) o
+made_but t m hs o c k new e er direct len issued = record {
+  counted = λ x l. hold-pushed hs x ∙ (elim (eqb x o) as (λ y. eqb x o ≡ y → y || (books_of t).live x ≡ true → hold_of hs x ≡ outside_of m x) [
+    | true ↦ λ y g. let same : x ≡ o = eqb-true x o y in let past : length hs < o = omega (arith, new, c.as_many) in rw same (hold-past hs o past ∙ sym (outside o ∙ fresh t o k new))
+    | false ↦ λ y g. c.counted x g ∙ sym (outside x)
+  ] refl (live x l));
+  others = λ x n l.
+      let before : (books_of t).live x ≡ true = grind (arith, common_steps, live x l, n) in
+      omega (arith, c.tidy x before, outside x, direct x);
+  as_many = let pushed : length (hs ++ 0 ∷ []) ≡ length hs + 1 = grind (arith, common_steps) in omega (arith, pushed, c.as_many, len);
+  small = λ x. omega (arith, hold-pushed hs x, c.small x, issued);
+} where
+  outside : (x : ℕ) → outside_of m x ≡ outside_of t x
+  outside x = omega (arith, ap (λ (b : Books). held_outside b x) e, ap (λ rs. locals_of x rs) er)
+
+  live : (x : ℕ) → (books_of m).live x ≡ true → eqb x o || (books_of t).live x ≡ true
+  live x l = sym (ap (λ (b : Books). b.live x) e) ∙ l
+
+makes-none : (b : Books) (w : Bool) (a o i x : ℕ) → held_outside (changed b (cond w Same (ToProxy a o i 5))) x ≡ held_outside b x
+makes-none b true a o i x = refl
+makes-none b false a o i x = refl
+
+one-holder : (owned : Bool) (d e f g : ℕ) → d ≡ e + count_if (owned && true) → f ≡ g + count_if (not owned && true) → 0 < d + f
+one-holder true d e f g p q = let r : d ≡ e + 1 = p in omega (arith, r)
+one-holder false d e f g p q = let r : f ≡ g + 1 = q in omega (arith, r)
+
+pub made_counted : (m v : Tables) (hs : List ℕ) (a o i : ℕ) → IsCountedBut m hs o → books_of v ≡ changed (books_of m) (change (owns_of m.objects) (books_of m) (Makes a o i)) → OneMore m v a o (owns_of m.objects o a) → v.issued ≡ m.issued + 1 → 0 < o → o ≤ length m.objects
+    → IsCounted v (hold_more o (not (owns_of m.objects o a)) hs)
+made_counted m v hs a o i c e one ei some made =
+    let range : o ≤ length hs = omega (arith, made, c.as_many) in
+    record {
+      counted = λ x l. more_is o (not (owns_of m.objects o a)) hs x some range ∙ ap (λ (n : ℕ). n + count_if (not (owns_of m.objects o a) && eqb x o)) (c.counted x (sym (live x) ∙ l)) ∙ sym (outside x);
+      tidy = λ x l. elim (eqb x o) as (λ y. eqb x o ≡ y → 0 < direct_in v x + outside_of v x) [
+        | true ↦ λ y. one-holder (owns_of m.objects o a) (direct_in v x) (direct_in m x) (outside_of v x) (outside_of m x) (one.direct x ∙ ap (λ (b : Bool). direct_in m x + count_if (owns_of m.objects o a && b)) y) (outside x ∙ ap (λ (b : Bool). outside_of m x + count_if (not (owns_of m.objects o a) && b)) y)
+        | false ↦ λ y. omega (arith, c.others x (eqb-false x o y) (sym (live x) ∙ l), outside x, one.direct x)
+      ] refl;
+      as_many = more_length o (not (owns_of m.objects o a)) hs ∙ c.as_many ∙ sym one.made;
+      small = λ x. omega (arith, more_is o (not (owns_of m.objects o a)) hs x some range, at_most (not (owns_of m.objects o a) && eqb x o), c.small x, ei);
+    }
+  where
+    live : (x : ℕ) → (books_of v).live x ≡ (books_of m).live x
+    live x = live-row m v _ e x
+
+    outside : (x : ℕ) → outside_of v x ≡ outside_of m x + count_if (not (owns_of m.objects o a) && eqb x o)
+    outside x = let out : held_outside (books_of v) x ≡ held_outside (books_of m) x = ap (λ (b : Books). held_outside b x) e ∙ makes-none (books_of m) (owns_of m.objects o a) a o i x in omega (arith, out, one.all_elsewhere x)
+
+pub live_connected : (t : Tables) (o : ℕ) → (books_of t).live o ≡ true → is_connected t.stubs o ≡ true
+unfolding books_of
+live_connected t o h = h
+
+pub here_live : (t : Tables) (o : ℕ) (b : Books) → books_of t ≡ made_live o b → is_connected t.stubs o ≡ true
+here_live t o b e = live_connected t o (ap (λ (c : Books). c.live o) e ∙ grind (arith, common_steps))
+
+pub same_owner : (os us : List ObjectRow) (r : ObjectRow) (x a : ℕ) → us ≡ os ++ r ∷ [] → x ≤ length os → owns_of us x a ≡ owns_of os x a
+unfolding owns_of
+same_owner os us r x a e h = let is : object_in us x ≡ object_in os x = ap (λ us. object_in us x) e ∙ object_before os r x h in rw is refl
