@@ -58,3 +58,7 @@ one_more_counted f n xs c e d =
     ∙ ap (λ (y : Counts). map f (one_to n) ++ y ∷ []) (d ∙ ap f (sym q))
     ∙ sym (map-last f (one_to n) (suc n))
     ∙ ap (λ (m : ℕ). map f (one_to m)) q
+
+pub one_more_counted_at : (r s : Scenario) (st : State) (n : ℕ) (xs : List Counts) (c : Counts) → r ≡ s → xs ≡ map (counts_in s st) (one_to n) → c ≡ counts_in r st (n + 1) → xs ++ c ∷ [] ≡ map (counts_in s st) (one_to (n + 1))
+one_more_counted_at r s st n xs c same e d =
+    one_more_counted (counts_in s st) n xs c e (d ∙ ap (λ (x : Scenario). counts_in x st (n + 1)) same)

@@ -1,7 +1,7 @@
 -- From the first state to the whole history: what stands between two steps.
-use Rattle.std.proofs.Common.{sym, subst, ◌∙◌, ap, arith, inl, inr, append_assoc, append-nil}
+use Rattle.std.proofs.Common.{sym, subst, ◌∙◌, ap, arith, inl, inr, append_assoc, append-nil, drop, map}
 use Rattle.std.proofs.lemmas.Grind.{common_steps}
-use Rattle.std.specs.Prelude.{◌≡◌, refl, ℕ, zero, suc, ◌+◌, ◌≤◌, ◌<◌, Bool, true, cond, nat_le, List, [], ◌∷◌, ◌++◌, length, Option, Some, None, slice_index_or, ◌⊎◌}
+use Rattle.std.specs.Prelude.{◌≡◌, refl, ℕ, zero, suc, ◌+◌, ◌-◌, ◌≤◌, ◌<◌, Bool, true, cond, nat_le, List, [], ◌∷◌, ◌++◌, length, Option, Some, None, Result, Ok, Err, OnOk, slice_index_or, ◌⊎◌}
 use Rattle.com_io.specs.Told.{Gains, GainsPrefix}
 use Rattle.com_io.proofs.Passing.{gains_both, gains_then_prefix, prefix_of_more, prefix_of_all, gains_nothing}
 use Rattle.com_books.specs.Changes.{Books}
@@ -26,10 +26,12 @@ use Rattle.com_model.specs.State.{State, StandsFor, sight_of, after, first_table
 use Rattle.com_model.proofs.Whole.{first-stands}
 use Rattle.com_model.proofs.Sights.{same-sight, same-next, same-class}
 use Rattle.com_schedule.proofs.Runs.{stands-later}
-use Rattle.com_drive.specs.declared.Replayed.{Replayed}
+use Rattle.com_drive.specs.declared.replayed.Replayed.{Replayed}
 use Rattle.com_drive.specs.Standings.{ended_now, turn_now}
 use Rattle.com_drive.specs.Turns.{IsNext, IsTurn, GoesOn, next_line, served_in, served_at, served_by, body_kind, one_served}
-use Rattle.com_drive.specs.Steps.{Moment, IsMade, IsOver, Interrupted, Fails}
+use Rattle.com_drive.specs.declared.stream.Step.{Step}
+use Rattle.com_drive.specs.declared.stream.Step.TheVariants.{Made, Over}
+use Rattle.com_drive.specs.Steps.{Moment, IsMade, IsOver, Interrupted, Fails, StepsTo}
 use Rattle.com_drive.specs.Reports.{counts_in, all_counts_in}
 use Rattle.com_drive.specs.Replays.{whole_text, whole_history, whole_served, IsReplay}
 use Rattle.com_drive.proofs.Turning.{below_limit, one_entry}
@@ -286,3 +288,34 @@ ended_prefix s start held from m x e g =
 
 pub driving_within : (s : Scenario) (start : Option (List ℕ)) (from : List ℕ) (m : Moment) → Driving s start from m → m.state.entries ≤ limit s
 driving_within s start from m p = let c = p.count in let k = p.stands.entries in omega (arith, c, k)
+
+-- ---- for the loop
+
+abbrev pub mapped : {A : Type 0} → {B : Type 0} → List A → (A → B) → List B
+mapped xs f = map f xs
+
+pub driving_start_at : (s : Scenario) (start : Option (List ℕ)) (from : List ℕ) (st : State) (tried last : ℕ) (lines : List ℕ) → st ≡ first_tables s → tried ≡ 0 → last ≡ 0 → lines ≡ [] → Driving s start from (record { state = st; picks = drop tried s.picks; last = last; lines = lines; held = start; steps = from })
+driving_start_at s start from st tried last lines e t l none =
+    driving_start s start from (record { state = st; picks = drop tried s.picks; last = last; lines = lines; held = start; steps = from }) e (ap (λ (n : ℕ). drop n s.picks) t) l none refl refl
+
+pub driving_on_step : (s : Scenario) (start : Option (List ℕ)) (from : List ℕ) (m n : Moment) (step : Step) (e : Entry) → Formed s → Driving s start from m → StepsTo s m n step → step ≡ Made e → Driving s start from n
+driving_on_step s start from m n step e f p q is = driving_on s start from m n e f p (subst (StepsTo s m n) is q)
+
+pub driving_smaller : (s : Scenario) (start : Option (List ℕ)) (from : List ℕ) (m n : Moment) (step : Step) (e : Entry) → Driving s start from m → StepsTo s m n step → step ≡ Made e → limit s - n.state.entries < limit s - m.state.entries
+driving_smaller s start from m n step e p q is =
+    let made : IsMade s m n e = subst (StepsTo s m n) is q in
+    fewer (limit s) m.state.entries n.state.entries
+    (below_limit s m.state made.turn.goes_on (driving_within s start from m p))
+    (one_entry s m.state n.state e.lane e made.turn.next)
+  where
+    fewer : (most a b : ℕ) → a < most → b ≡ a + 1 → most - b < most - a
+    fewer most a b h k = omega (arith, h, k)
+
+pub driving_over_step : (s : Scenario) (start : Option (List ℕ)) (from : List ℕ) (m n : Moment) (step : Step) (x : Ended) → Driving s start from m → StepsTo s m n step → step ≡ Over x → Ending s start from n x
+driving_over_step s start from m n step x p q is =
+    let over : IsOver s m n x = subst (StepsTo s m n) is q in
+    subst (λ (k : Moment). Ending s start from k x) (sym over.same) (driving_over s start from m x p over.ended)
+
+pub on-ok : {A E : Type 0} (r : Result A E) (P : Type 0) → P → OnOk r P
+on-ok (Ok x) P p = p
+on-ok (Err e) P p = tt

@@ -4,7 +4,7 @@ use Rattle.com_model.specs.declared.deeds.Entry.{Entry}
 use Rattle.com_model.specs.declared.scenario.Scenario.{Scenario}
 use Rattle.com_model.specs.Clock.{clock}
 use Rattle.com_model.specs.Ends.{ended_as, report, scheduled, text}
-use Rattle.com_drive.specs.declared.Replayed.{Replayed}
+use Rattle.com_drive.specs.declared.replayed.Replayed.{Replayed}
 use Rattle.com_drive.specs.Turns.{served_by}
 
 -- The one history of the schedule.

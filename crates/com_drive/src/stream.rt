@@ -1,6 +1,9 @@
 //! A history entry by entry: each step is one turn of the schedule and one line.
-ghost use Rattle.std.specs.Prelude.{◌≡◌, ℕ, ◌<◌, ◌≤◌, ◌+◌, [], None, IfOk, OnOk, Err, OnErr, map, drop};
+ghost use Rattle.std.specs.Prelude.{◌≡◌, ℕ, ◌<◌, ◌≤◌, ◌+◌, ◌++◌, [], None, IfOk, OnOk, Err, OnErr, map, drop};
 ghost use Rattle.com_io.specs.Faults.{Rose};
+ghost use Rattle.com_io.specs.Told.{Gains, GainsPrefix};
+ghost use Rattle.com_model.specs.Text.{report_text};
+ghost use Rattle.com_drive.specs.Reports.{all_counts_in};
 ghost use Rattle.com_model.specs.Tables.{lanes};
 ghost use Rattle.com_model.specs.Ends.{limit};
 ghost use Rattle.com_servant.specs.Rows.{row};
@@ -10,7 +13,9 @@ ghost use Rattle.com_drive.specs.declared.runtime.Standing.TheVariants as standi
 ghost use Rattle.com_drive.specs.Turns.{IsTurn, served_in};
 ghost use Rattle.com_drive.specs.Steps.{StepsTo, Fails};
 
+use crate::finish::finish;
 use crate::lines::{ReplayError, show};
+use crate::replayed::Replayed;
 use crate::runtime::{Runtime, Standing};
 use crate::schedule::{choose, ended};
 use com_base::{ByteList, Memory};
@@ -173,5 +178,30 @@ impl Stream {
         let place = runtime.entries();
         show(alloc, scenario.version, place, &entry, &mut self.lines, sink)?;
         Ok(Step::Made(entry))
+    }
+
+    /// Writes the lines that are kept, and the report of a runtime whose history has ended so.
+    ///
+    /// `WriteFault` comes only where the sink's count of faults rose in this call, and `Memory` is want of memory. What was
+    /// written is a prefix of the lines and the report.
+    pub fn finish<C: Runtime, K: Sink>(
+        &mut self,
+        alloc: Global,
+        scenario: &Scenario,
+        runtime: &C,
+        ended: Ended,
+        sink: &mut K,
+    ) -> Result<Replayed, ReplayError>
+        requires { C.scenario runtime.now ≡ scenario.now }
+        ensures ok { OnOk result (Gains (K.held sink.old) (K.held sink.new) (self.old.lines
+            ++ report_text (all_counts_in scenario.now (C.state runtime.now)) (C.state runtime.now).entries (C.state runtime.now).clock ended)) }
+        ensures answer { IfOk result (λ replayed. replayed
+            ≡ record { ended = ended; entries = (C.state runtime.now).entries; clock = (C.state runtime.now).clock }) }
+        ensures prefix { GainsPrefix (K.held sink.old) (K.held sink.new) (self.old.lines
+            ++ report_text (all_counts_in scenario.now (C.state runtime.now)) (C.state runtime.now).entries (C.state runtime.now).clock ended) }
+        ensures fault { result ≡ Err replay_error.WriteFault → Rose (K.faults_of sink.old) (K.faults_of sink.new) }
+        ensures counts { K.faults_of sink.old ≤ K.faults_of sink.new }
+    {
+        finish(alloc, scenario, runtime, ended, &mut self.lines, sink)
     }
 }
