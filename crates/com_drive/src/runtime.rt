@@ -2,12 +2,11 @@
 ghost use Rattle.std.specs.Prelude.{◌≡◌, ℕ, ◌<◌, ◌≤◌, true, map, IfOk, OnOk, OnErr};
 ghost use Rattle.com_model.specs.declared.scenario.Scenario.{Scenario as AnyScenario};
 ghost use Rattle.com_model.specs.Tables.{lanes};
-ghost use Rattle.com_model.specs.Rules.{can_step};
 ghost use Rattle.com_model.specs.Ends.{limit};
-ghost use Rattle.com_model.specs.State.{State, objects_in, sight_of};
+ghost use Rattle.com_model.specs.State.{State, objects_in};
 ghost use Rattle.com_servant.specs.Rows.{row};
 ghost use Rattle.com_drive.specs.declared.runtime.Standing.TheVariants as standing;
-ghost use Rattle.com_drive.specs.Standings.{standing_of};
+ghost use Rattle.com_drive.specs.Standings.{can_step_in, standing_of};
 ghost use Rattle.com_drive.specs.Turns.{IsNext, served_in};
 ghost use Rattle.com_drive.specs.Reports.{counts_in};
 
@@ -47,7 +46,7 @@ pub trait Runtime {
     fn can_step(&self, lane: u32) -> bool
         requires above { 1 ≤ lane }
         requires below { lane ≤ lanes (scenario self.now) }
-        ensures { result ≡ can_step (scenario self.now) (sight_of (scenario self.now) (state self.now)) lane };
+        ensures { result ≡ can_step_in (scenario self.now) (state self.now) lane };
 
     /// Whether a lane can step, the clock goes on, or all has ended.
     fn standing(&self) -> Standing
@@ -84,7 +83,7 @@ pub trait Runtime {
     ) -> Result<Entry, Memory>
         requires above { 1 ≤ lane }
         requires below { lane ≤ lanes (scenario self.old) }
-        requires can { can_step (scenario self.old) (sight_of (scenario self.old) (state self.old)) lane ≡ true }
+        requires can { can_step_in (scenario self.old) (state self.old) lane ≡ true }
         requires room { (state self.old).entries < limit (scenario self.old) }
         requires row { map kind_of servants.old.items ≡ row }
         ensures scenario { scenario self.new ≡ scenario self.old }
