@@ -2,5 +2,9 @@
 #![tactic(auto)]
 
 mod laws;
+mod moves;
+mod steps;
+mod written;
 
 pub use laws::moves_stand;
+pub use moves::{Move, Moves};
