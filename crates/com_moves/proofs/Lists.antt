@@ -1,5 +1,5 @@
 -- Lists of moves, and of what places hold.
-use Rattle.std.proofs.Common.{ap, ◌∙◌, sym, append_assoc, arith, get_or}
+use Rattle.std.proofs.Common.{ap, ap₂, ◌∙◌, sym, append_assoc, arith, get_or}
 use Rattle.std.proofs.lemmas.Grind.{common_steps}
 use Rattle.std.specs.Prelude.{◌≡◌, refl, ℕ, zero, suc, ◌+◌, ◌≤◌, ◌<◌, List, [], ◌∷◌, ◌++◌, ◌-◌, replicate, take, map, Option, Some, None, length, slice_index_or, slice_set}
 use Rattle.com_base.specs.declared.value.RefValue.{RefValue}
@@ -7,7 +7,7 @@ use Rattle.com_base.specs.declared.value.Value.{Value}
 use Rattle.com_body.specs.Frames.{references, entered}
 use Rattle.com_body.proofs.Entries.{references_more}
 use Rattle.std.proofs.lemmas.List.{take_more}
-use Rattle.com_places.specs.Moves.{Move as Moving, moved, all_moved}
+use Rattle.com_places.specs.Moves.{Move as Moving, Moves as Movings, together, moved, all_moved}
 use Rattle.com_moves.specs.declared.moves.Move.{Move}
 use Rattle.com_moves.specs.Steps.{moving_of, movings_of}
 
@@ -74,3 +74,13 @@ pub set_beyond : (xs : List (Option RefValue)) (k : ℕ) (held : Option RefValue
 set_beyond [] k held p = refl
 set_beyond (x ∷ xs) zero held p = absurd (omega (arith, p))
 set_beyond (x ∷ xs) (suc k) held p = ap (λ (ys : List (Option RefValue)). x ∷ ys) (set_beyond xs k held (omega (arith, p)))
+
+-- What is lost first, and what comes then.
+pub lost_then : (m : Movings) (xs : List Moving) (n : Movings) → together (record m { lost = m.lost ++ xs }) n ≡ together m (together (record { lost = xs; gained = [] }) n)
+lost_then m xs n = ap (λ (ms : List Moving). record { lost = ms; gained = m.gained ++ n.gained }) (append_assoc m.lost xs n.lost)
+
+pub all_together : (m x y z : Movings) → together (together (together m x) y) z ≡ together m (together x (together y z))
+all_together m x y z =
+    ap₂ (λ (xs ys : List Moving). record { lost = xs; gained = ys })
+    (append_assoc (m.lost ++ x.lost) y.lost z.lost ∙ append_assoc m.lost x.lost (y.lost ++ z.lost))
+    (append_assoc (m.gained ++ x.gained) y.gained z.gained ∙ append_assoc m.gained x.gained (y.gained ++ z.gained))

@@ -1,17 +1,27 @@
 -- The reference that an action's entry writes at a place, what slots and links hold after it, and the moves that it makes.
-use Rattle.std.specs.Prelude.{◌≡◌, ℕ, Bool, true, false, ◌==◌, if◌then◌else◌, List, [], ◌∷◌, ◌++◌, map, Option, Some, None, length, slice_index_or, slice_set}
+use Rattle.std.specs.Prelude.{◌≡◌, ℕ, zero, Bool, true, false, not, ◌&&◌, ◌==◌, if◌then◌else◌, List, [], ◌∷◌, ◌++◌, map, Option, Some, None, length, slice_index_or, slice_set}
 use Rattle.com_base.specs.declared.value.RefValue.{RefValue}
+use Rattle.com_base.specs.declared.value.Value.{Value}
 use Rattle.com_body.specs.declared.actions.Action.{Action}
 use Rattle.com_body.specs.declared.actions.Action.TheVariants as action
 use Rattle.com_body.specs.declared.frame.Outcome.{Outcome}
 use Rattle.com_body.specs.declared.operands.Place.{Place}
 use Rattle.com_body.specs.declared.operands.Place.TheVariants as place
+use Rattle.com_body.specs.declared.operands.Destination.{Destination}
+use Rattle.com_body.specs.declared.operands.Destination.TheVariants as destination
+use Rattle.com_body.specs.Frames.{references}
 use Rattle.com_model.specs.declared.deeds.Deed.{Deed}
-use Rattle.com_model.specs.Frames.{Actor, Body, Script, Nobody, taken_in}
-use Rattle.com_model.specs.Places.{Ground}
+use Rattle.com_model.specs.declared.deeds.Deed.TheVariants as deed
+use Rattle.com_model.specs.declared.deeds.Entry.{Entry}
+use Rattle.com_model.specs.Apartments.{ends_sta}
+use Rattle.com_model.specs.Lists.{one_to, from_one}
+use Rattle.com_model.specs.Calls.{is_direct, route_of}
+use Rattle.com_model.specs.Frames.{Actor, Body, Script, Nobody, taken_in, value_reference}
+use Rattle.com_model.specs.Places.{Ground, left_value}
 use Rattle.com_model.specs.State.{SceneTables}
-use Rattle.com_places.specs.Moves.{Move as Moving, Moves as Movings, no_moves, moved, slots_where}
-use Rattle.com_state.specs.SceneParts.{body_at, cells_at}
+use Rattle.com_places.specs.Moves.{Move as Moving, Moves as Movings, no_moves, together, moved, all_moved, entered_where, slots_where, result_moved}
+use Rattle.com_state.specs.Parts.{CallTables, issue_at, admission_at}
+use Rattle.com_state.specs.SceneParts.{body_at, cells_at, destination_at}
 use Rattle.com_scene.specs.Kept.{HasSlots}
 use Rattle.com_scene.specs.Scenes.{frame_of}
 use Rattle.com_moves.specs.declared.moves.Move.{Move}
@@ -99,5 +109,59 @@ abbrev pub IsWhole : Option Outcome → Type 0
 IsWhole None = Unit {0}
 IsWhole (Some r) = HasSlots r.frame
 
+abbrev pub FrameWhole : SceneTables → Actor → Type 0
+FrameWhole t (Body c o) = HasSlots (body_at t c)
+FrameWhole t _ = Unit {0}
+
 abbrev pub BodiesWhole : SceneTables → Type 0
 BodiesWhole t = (c : ℕ) → HasSlots (body_at t c)
+
+-- ---- what arrives, by the slots and links after the step
+
+-- A result that comes back to a slot.
+abbrev pub given_moves : (apartment : Option ℕ) → (slots : List (Option RefValue)) → Destination → Option Value → Movings
+given_moves a xs (destination.Slot k) v = exchanged a xs k (value_reference v)
+given_moves a xs _ v = no_moves
+
+-- A result that is at a place from its Leave to its Back.
+abbrev pub result_at : CallTables → ℕ → Option Value → List Moving
+result_at c k v =
+    if is_direct (route_of (issue_at c k)) && not (from_one c.returned k false)
+    then moved (entered_where (admission_at c k)) (value_reference v) else []
+
+abbrev pub arrived_stepped : Ground → SceneTables → (acting : Actor) → Option Outcome → (after : Actor) → (lane : ℕ) → Deed → Movings
+arrived_stepped g t a r b l (deed.Leave c hr v bytes) = record {
+  lost = all_moved (entered_where (g.admitted c)) (slots_stepped t a r (deed.Leave c hr v bytes) (Body c 0));
+  gained = result_moved g c v;
+}
+arrived_stepped g t a r b l (deed.Enter c o x k vs) = record { lost = []; gained = all_moved (Some x) (references vs) }
+arrived_stepped g t a r b l (deed.Back c hr v) =
+    together (record { lost = result_moved g c (left_value (g.left c)); gained = [] })
+    (given_moves (slots_where g b) (slots_stepped t a r (deed.Back c hr v) b) (destination_at t c) v)
+arrived_stepped g t a r b l (deed.Uninit h zero) = record {
+  lost = all_moved (g.home l) (slots_stepped t a r (deed.Uninit h 0) (Script l));
+  gained = [];
+}
+arrived_stepped g t a r b l (deed.Final o) = record {
+  lost = all_moved (Some (g.named o)) (links_stepped t a r (deed.Final o) o);
+  gained = [];
+}
+arrived_stepped g t a r b l _ = no_moves
+
+abbrev pub links_of_step : (named : ℕ → ℕ) → SceneTables → (acting : Actor) → Option Outcome → Deed → (apartment : ℕ) → (objects : List ℕ) → List Moving
+links_of_step n t a r d x [] = []
+links_of_step n t a r d x (o ∷ os) = (if n o == x then all_moved (Some x) (links_stepped t a r d o) else []) ++ links_of_step n t a r d x os
+
+abbrev pub ended_stepped : Ground → SceneTables → (acting : Actor) → Option Outcome → Deed → Option ℕ → Movings
+ended_stepped g t a r d None = no_moves
+ended_stepped g t a r d (Some x) = record { lost = links_of_step g.named t a r d x (one_to g.objects); gained = [] }
+
+abbrev pub acted_stepped : Ground → (acting : Actor) → Option Outcome → Deed → Movings
+acted_stepped g a None d = no_moves
+acted_stepped g a (Some r) d = step_moves g a r (place_write r.action d)
+
+-- All moves of an entry.
+abbrev pub moves_stepped : Ground → SceneTables → (acting : Actor) → Option Outcome → (after : Actor) → Entry → Movings
+moves_stepped g t a r b e =
+    together (acted_stepped g a r e.deed)
+    (together (arrived_stepped g t a r b e.lane e.deed) (ended_stepped g t a r e.deed (ends_sta e.deed)))

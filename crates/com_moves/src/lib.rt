@@ -1,6 +1,7 @@
 //! Which references an entry takes from places and brings to them, by the tables of a core.
 #![tactic(auto)]
 
+mod fill;
 mod laws;
 mod moves;
 mod steps;

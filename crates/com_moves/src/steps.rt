@@ -4,8 +4,9 @@ ghost use Rattle.com_scene.specs.Actors.{acting_of};
 ghost use Rattle.com_scene.specs.Kept.{HasSlots};
 ghost use Rattle.com_scene.specs.Ranges.{FitsDeed};
 ghost use Rattle.com_scene.specs.Scenes.{frame_of};
+ghost use Rattle.com_state.specs.SceneParts.{body_at, script_at};
 ghost use Rattle.com_moves.specs.Steps.{has_frame_of, is_on, slots_with, slots_placed, links_with, links_placed};
-ghost use Rattle.com_moves.specs.Steps.{slots_stepped, links_stepped, IsWhole};
+ghost use Rattle.com_moves.specs.Steps.{slots_stepped, links_stepped, FrameWhole, IsWhole};
 
 use crate::written::{Written, written_by};
 use com_base::RefValue;
@@ -31,14 +32,36 @@ pub fn slots_of(frame: &Frame) -> [Option<RefValue>; 8]
     ]
 }
 
-// The slots of an actor's frame as the scene has it.
-fn slots_before(scene: &Scene, who: Actor) -> [Option<RefValue>; 8]
-    requires { HasSlots (frame_of scene.now (acting_of who)) }
-    ensures { result ≡ (frame_of scene.now (acting_of who)).slots }
+// The slots of a body's frame as the scene has it.
+fn body_slots(scene: &Scene, call: u32) -> [Option<RefValue>; 8]
+    requires { HasSlots (body_at scene.now call) }
+    ensures { result ≡ (body_at scene.now call).slots }
 {
-    match scene.frame(who) {
+    match scene.frame(Actor::Body { call, object: 0 }) {
         None => [None; 8],
         Some(frame) => slots_of(frame),
+    }
+}
+
+// The slots of a script as the scene has it.
+fn script_slots(scene: &Scene, lane: u32) -> [Option<RefValue>; 8]
+    ensures { result ≡ (script_at scene.now lane).slots }
+{
+    match scene.frame(Actor::Script { lane }) {
+        None => [None; 8],
+        Some(frame) => slots_of(frame),
+    }
+}
+
+// The slots of an actor's frame as the scene has it.
+fn slots_before(scene: &Scene, who: Actor) -> [Option<RefValue>; 8]
+    requires { FrameWhole scene.now (acting_of who) }
+    ensures { result ≡ (frame_of scene.now (acting_of who)).slots }
+{
+    match who {
+        Actor::Body { call, .. } => body_slots(scene, call),
+        Actor::Script { lane } => script_slots(scene, lane),
+        Actor::Nobody => [None; 8],
     }
 }
 
@@ -105,7 +128,7 @@ pub fn slots_after(
 ) -> [Option<RefValue>; 8]
     requires deed { FitsDeed deed.now }
     requires outcome { IsWhole outcome.now }
-    requires frame { HasSlots (frame_of scene.now (acting_of who)) }
+    requires frame { FrameWhole scene.now (acting_of who) }
     ensures { result ≡ slots_stepped scene.now (acting_of acting) outcome.now deed.now (acting_of who) }
 {
     let Some(outcome) = outcome else {
