@@ -1,6 +1,6 @@
 //! The moves of an entry by its kind: what the action writes, what the entry brings and takes beside that, and what the end of an STA
 //! takes. All is read before anything is changed.
-ghost use Rattle.std.specs.Prelude.{◌≡◌, ℕ, Option, ◌++◌, ◌&&◌, not, false, [], ◌==◌, OnOk, OnErr, Some, None, if◌then◌else◌};
+ghost use Rattle.std.specs.Prelude.{◌≡◌, ℕ, Option, length, ◌++◌, ◌&&◌, not, false, [], ◌==◌, OnOk, OnErr, Some, None, if◌then◌else◌};
 ghost use Rattle.com_body.specs.Frames.{references};
 ghost use Rattle.com_model.specs.Calls.{is_direct, route_of};
 ghost use Rattle.com_model.specs.Frames.{Body, Script, value_reference};
@@ -325,5 +325,27 @@ impl Moves {
             Deed::Final { object } => self.finish(objects, scene, acting, outcome, deed, *object),
             _ => Ok(()),
         }
+    }
+
+    // The end of an STA takes the links of all its objects.
+    fn end_sta(
+        &mut self,
+        objects: &Objects,
+        scene: &Scene,
+        acting: Actor,
+        outcome: &Option<Outcome>,
+        deed: &Deed,
+        apartment: u32,
+    ) -> Result<(), Memory>
+        requires { FitsDeed deed.now }
+        ensures { OnOk result (self.new ≡ record self.old { lost = self.old.lost
+            ++ links_of_step (named_at objects.now) scene.now (acting_of acting) outcome.now deed.now apartment
+                (one_to (length objects.now.makings)) }) }
+    {
+        let count = objects.len();
+        for object in 0..count {
+            self.end_links(objects, scene, acting, outcome, deed, apartment, object + 1)?;
+        }
+        Ok(())
     }
 }
