@@ -132,7 +132,14 @@ impl Moves {
         let Some(outcome) = outcome else {
             return Ok(());
         };
-        self.write(home, objects, calls, acting, outcome, written_by(&outcome.action, deed))
+        self.write(
+            home,
+            objects,
+            calls,
+            acting,
+            outcome,
+            written_by(&outcome.action, deed),
+        )
     }
 
     // A result that comes back to a destination.
@@ -146,7 +153,12 @@ impl Moves {
         ensures { OnOk result (self.new ≡ together self.old (given_moves apartment slots.now to value.now)) }
     {
         match to {
-            Destination::Slot(number) => self.exchange(apartment, slots, number, reference_in(value)),
+            Destination::Slot(number) => self.exchange(
+                apartment,
+                slots,
+                number,
+                reference_in(value),
+            ),
             _ => Ok(()),
         }
     }
@@ -165,8 +177,10 @@ impl Moves {
     // A result leaves its place where its call comes back.
     fn lose_result(&mut self, calls: &Calls, call: u32) -> Result<(), Memory>
         ensures { OnOk result (self.new
-            ≡ record self.old { lost = self.old.lost ++ result_at calls.now.tables call
-                (left_value (from_one calls.now.tables.leavings call None)) }) }
+            ≡ record self.old {
+              lost = self.old.lost ++ result_at calls.now.tables call
+                  (left_value (from_one calls.now.tables.leavings call None));
+            }) }
     {
         if !keeps_result(calls, call) {
             return Ok(());
@@ -189,11 +203,18 @@ impl Moves {
         requires outcome { IsWhole outcome.now }
         requires bodies { BodiesWhole scene.now }
         ensures { OnOk result (self.new ≡ together self.old (record {
-            lost = all_moved (entered_where (admission_at calls.now.tables call))
-                (slots_stepped scene.now (acting_of acting) outcome.now deed.now (Body call 0));
-            gained = result_at calls.now.tables call value.now })) }
+          lost = all_moved (entered_where (admission_at calls.now.tables call))
+              (slots_stepped scene.now (acting_of acting) outcome.now deed.now (Body call 0));
+          gained = result_at calls.now.tables call value.now;
+        })) }
     {
-        let slots = slots_after(scene, acting, outcome, deed, Actor::Body { call, object: 0 });
+        let slots = slots_after(
+            scene,
+            acting,
+            outcome,
+            deed,
+            Actor::Body { call, object: 0 },
+        );
         self.lose_all(entered_where(calls, call), &slots)?;
         self.gain_result(calls, call, value)
     }
@@ -216,11 +237,14 @@ impl Moves {
         requires outcome { IsWhole outcome.now }
         requires after { FrameWhole scene.now (acting_of after) }
         ensures { OnOk result (self.new ≡ together self.old (together
-            (record { lost = result_at calls.now.tables call
-                (left_value (from_one calls.now.tables.leavings call None)); gained = [] })
+            (record {
+              lost = result_at calls.now.tables call
+                  (left_value (from_one calls.now.tables.leavings call None));
+              gained = [];
+            })
             (given_moves apartment
-                (slots_stepped scene.now (acting_of acting) outcome.now deed.now (acting_of after))
-                (destination_at scene.now call) value.now))) }
+            (slots_stepped scene.now (acting_of acting) outcome.now deed.now (acting_of after))
+            (destination_at scene.now call) value.now))) }
     {
         self.lose_result(calls, call)?;
         let slots = slots_after(scene, acting, outcome, deed, after);
@@ -239,15 +263,20 @@ impl Moves {
         object: u32,
     ) -> Result<(), Memory>
         requires { FitsDeed deed.now }
-        ensures { OnOk result (self.new ≡ record self.old { lost = self.old.lost
-            ++ (if named_at objects.now object == apartment
-                then all_moved (Some apartment) (links_stepped scene.now (acting_of acting) outcome.now deed.now object)
-                else []) }) }
+        ensures { OnOk result (self.new ≡ record self.old {
+          lost = self.old.lost
+              ++ (if named_at objects.now object == apartment
+              then all_moved (Some apartment) (links_stepped scene.now (acting_of acting) outcome.now deed.now object)
+              else []);
+        }) }
     {
         if objects.owner(object) != apartment {
             return Ok(());
         }
-        self.lose_all(Some(apartment), &links_after(scene, acting, outcome, deed, object))
+        self.lose_all(
+            Some(apartment),
+            &links_after(scene, acting, outcome, deed, object),
+        )
     }
 
     // A body is entered with values.
@@ -270,8 +299,11 @@ impl Moves {
     ) -> Result<(), Memory>
         requires deed { FitsDeed deed.now }
         requires outcome { IsWhole outcome.now }
-        ensures { OnOk result (self.new ≡ together self.old (record { lost = all_moved home
-            (slots_stepped scene.now (acting_of acting) outcome.now deed.now (Script lane)); gained = [] })) }
+        ensures { OnOk result (self.new ≡ together self.old (record {
+          lost = all_moved home
+              (slots_stepped scene.now (acting_of acting) outcome.now deed.now (Script lane));
+          gained = [];
+        })) }
     {
         let slots = slots_after(scene, acting, outcome, deed, Actor::Script { lane });
         self.lose_all(home, &slots)
@@ -288,10 +320,16 @@ impl Moves {
         object: u32,
     ) -> Result<(), Memory>
         requires { FitsDeed deed.now }
-        ensures { OnOk result (self.new ≡ together self.old (record { lost = all_moved (Some (named_at objects.now object))
-            (links_stepped scene.now (acting_of acting) outcome.now deed.now object); gained = [] })) }
+        ensures { OnOk result (self.new ≡ together self.old (record {
+          lost = all_moved (Some (named_at objects.now object))
+              (links_stepped scene.now (acting_of acting) outcome.now deed.now object);
+          gained = [];
+        })) }
     {
-        self.lose_all(Some(objects.owner(object)), &links_after(scene, acting, outcome, deed, object))
+        self.lose_all(
+            Some(objects.owner(object)),
+            &links_after(scene, acting, outcome, deed, object),
+        )
     }
 
     // What the entry takes and brings beside the action.
@@ -315,13 +353,23 @@ impl Moves {
             scene.now (acting_of acting) outcome.now (acting_of after) lane deed.now)) }
     {
         match deed {
-            Deed::Leave { call, value, .. } => self.leave(calls, scene, acting, outcome, deed, *call, value),
-            Deed::Enter { apartment, values, .. } => self.enter(*apartment, values.as_slice()),
+            Deed::Leave { call, value, .. } => self.leave(
+                calls, scene, acting, outcome, deed, *call, value,
+            ),
+            Deed::Enter {
+                apartment,
+                values,
+                ..
+            } => self.enter(*apartment, values.as_slice()),
             Deed::Back { call, value, .. } => {
                 let apartment = slots_where(home, calls, after);
-                self.give_back(apartment, calls, scene, acting, outcome, after, deed, *call, value)
+                self.give_back(
+                    apartment, calls, scene, acting, outcome, after, deed, *call, value,
+                )
             }
-            Deed::Uninit { count: 0, .. } => self.empty_script(home, scene, acting, outcome, deed, lane),
+            Deed::Uninit { count: 0, .. } => self.empty_script(
+                home, scene, acting, outcome, deed, lane,
+            ),
             Deed::Final { object } => self.finish(objects, scene, acting, outcome, deed, *object),
             _ => Ok(()),
         }
@@ -338,9 +386,11 @@ impl Moves {
         apartment: u32,
     ) -> Result<(), Memory>
         requires { FitsDeed deed.now }
-        ensures { OnOk result (self.new ≡ record self.old { lost = self.old.lost
-            ++ links_of_step (named_at objects.now) scene.now (acting_of acting) outcome.now deed.now apartment
-                (one_to (length objects.now.makings)) }) }
+        ensures { OnOk result (self.new ≡ record self.old {
+          lost = self.old.lost
+              ++ links_of_step (named_at objects.now) scene.now (acting_of acting) outcome.now deed.now apartment
+              (one_to (length objects.now.makings));
+        }) }
     {
         let count = objects.len();
         for object in 0..count {

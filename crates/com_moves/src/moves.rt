@@ -43,7 +43,10 @@ fn put(moves: &mut Vec<Move>, apartment: Option<u32>, held: Option<RefValue>) ->
     let Some(reference) = held else {
         return Ok(());
     };
-    moves.push(Move { apartment, reference })?;
+    moves.push(Move {
+        apartment,
+        reference,
+    })?;
     Ok(())
 }
 
@@ -118,7 +121,11 @@ impl Moves {
 
     // An apartment loses all that a list of places holds.
     #[tactic(auto, using(crate::proofs::Lists::all_moved_more, crate::proofs::Lists::append_none))]
-    pub fn lose_all(&mut self, apartment: Option<u32>, places: &[Option<RefValue>]) -> Result<(), Memory>
+    pub fn lose_all(
+        &mut self,
+        apartment: Option<u32>,
+        places: &[Option<RefValue>],
+    ) -> Result<(), Memory>
         ensures { OnOk result (self.new
             ≡ record self.old { lost = self.old.lost ++ all_moved apartment places.now }) }
     {

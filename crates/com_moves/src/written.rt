@@ -23,8 +23,14 @@ pub fn written_by(action: &Action, deed: &Deed) -> Option<Written>
     match action {
         Action::Create { slot, .. } => at_slot(*slot, taken(deed)),
         Action::Query { to, .. } => at_slot(*to, taken(deed)),
-        Action::Copy { to, held } => Some(Written { place: *to, held: *held }),
-        Action::Release { place, .. } => Some(Written { place: *place, held: None }),
+        Action::Copy { to, held } => Some(Written {
+            place: *to,
+            held: *held,
+        }),
+        Action::Release { place, .. } => Some(Written {
+            place: *place,
+            held: None,
+        }),
         Action::Unmarshal { slot, .. } => at_slot(*slot, taken(deed)),
         Action::Get { slot, .. } => at_slot(*slot, taken(deed)),
         _ => None,
@@ -34,7 +40,10 @@ pub fn written_by(action: &Action, deed: &Deed) -> Option<Written>
 fn at_slot(number: u8, held: Option<RefValue>) -> Option<Written>
     ensures { result ≡ at_slot number held }
 {
-    Some(Written { place: Place::Slot(number), held })
+    Some(Written {
+        place: Place::Slot(number),
+        held,
+    })
 }
 
 // The reference that an entry gives to whoever acts.
