@@ -187,8 +187,8 @@ none-anywhere can n last p e =
     let whole : one_to n ≡ one_to last ++ numbers_from (last + 1) (n - last) = one-split last (n - last) n (omega (arith, p)) in
     ap (any_of can) whole
     ∙ none-both can (one_to last) (numbers_from (last + 1) (n - last))
-      (none-first can (one_to last) (none-right _ _ parts))
-      (none-first can (numbers_from (last + 1) (n - last)) (none-left _ _ parts))
+    (none-first can (one_to last) (none-right _ _ parts))
+    (none-first can (numbers_from (last + 1) (n - last)) (none-left _ _ parts))
 
 -- ---- by how the state stands
 

@@ -222,9 +222,9 @@ driving_stopped s start held from m f p (inr q) =
     let w : Further s m p.history q.entry q.state q.picks q.last = further s start from m q.entry q.state q.picks q.last f p q.turn in
     let b : Begins (history_text s.version (q.entry ∷ p.history)) (whole_text s) = begins-whole s (q.entry ∷ p.history) w.more q.picks q.last w.way in
     let lines : p.written ++ (m.lines ++ next_line s m.state q.entry) ≡ history_text s.version (q.entry ∷ p.history) =
-        sym (append_assoc p.written m.lines (next_line s m.state q.entry))
-        ∙ ap (λ (x : List ℕ). x ++ next_line s m.state q.entry) p.parts
-        ∙ ap (λ (x : List ℕ). history_text s.version p.history ++ x) w.line in
+    sym (append_assoc p.written m.lines (next_line s m.state q.entry))
+    ∙ ap (λ (x : List ℕ). x ++ next_line s m.state q.entry) p.parts
+    ∙ ap (λ (x : List ℕ). history_text s.version p.history ++ x) w.line in
     let g : GainsPrefix start held (p.written ++ (m.lines ++ next_line s m.state q.entry)) = gains_then_prefix start m.held held p.written (m.lines ++ next_line s m.state q.entry) p.gained q.prefix in
     subst (λ (x : List ℕ). GainsPrefix start held x) (sym b.parts)
     (prefix_of_more start held (history_text s.version (q.entry ∷ p.history)) b.back (subst (λ (x : List ℕ). GainsPrefix start held x) lines g))

@@ -63,4 +63,3 @@ pub record GoesOn (old new : Option (List ℕ)) (kept_old kept_new line : List �
 -- The line of the next entry.
 unfoldable pub next_line : Scenario → State → Entry → List ℕ
 next_line s st e = line_text s.version (st.entries + 1) e
-

@@ -176,7 +176,14 @@ impl Stream {
         }
         let entry = self.turn(alloc, scenario, runtime, standing, servants)?;
         let place = runtime.entries();
-        show(alloc, scenario.version, place, &entry, &mut self.lines, sink)?;
+        show(
+            alloc,
+            scenario.version,
+            place,
+            &entry,
+            &mut self.lines,
+            sink,
+        )?;
         Ok(Step::Made(entry))
     }
 
