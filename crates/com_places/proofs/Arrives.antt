@@ -1,10 +1,8 @@
 -- What the scene after an entry's action does to places, where nothing else changes: a body that leaves or is entered, what is
 -- written at a Back, a script's slots at the last Uninit, an object's links at its Final.
-use Rattle.std.proofs.Common.{subst, sym, ap, ◌∙◌, arith}
-use Rattle.std.specs.Prelude.{◌≡◌, refl, ℕ, zero, suc, ◌+◌, ◌<◌, List, [], ◌∷◌, ◌++◌, Option, Some, None, fold, replicate}
-use Rattle.com_base.specs.declared.value.RefValue.{RefValue}
-use Rattle.com_body.specs.Frames.{FrameView, entered}
-use Rattle.com_body.specs.declared.frame.Cells.{Cells}
+use Rattle.std.proofs.Common.{subst, sym, arith}
+use Rattle.std.specs.Prelude.{◌≡◌, refl, ℕ, zero, suc, ◌+◌, ◌<◌, [], ◌∷◌, Option, Some, None, replicate}
+use Rattle.com_body.specs.Frames.{entered}
 use Rattle.com_books.specs.Counting.{sum_below}
 use Rattle.com_model.specs.declared.deeds.Deed.{Deed}
 use Rattle.com_model.specs.declared.deeds.Deed.TheVariants as deed
@@ -12,9 +10,10 @@ use Rattle.com_model.specs.declared.scenario.Scenario.{Scenario}
 use Rattle.com_model.specs.Answers.{S_OK}
 use Rattle.com_model.specs.Tables.{threads, lanes}
 use Rattle.com_model.specs.Frames.{Scene, Actor, to_answer, to_destination, arrived}
-use Rattle.com_model.specs.Places.{Ground, Test, in_slots, in_scripts, in_bodies, in_links, places_that}
+use Rattle.com_model.specs.Places.{Ground, Test, in_slots, in_bodies}
 use Rattle.com_places.specs.Moves.{Moves, all_moved, no_moves, counted, entered_where, writes_moves}
-use Rattle.com_places.proofs.Frames.{slots_in, slots_at, with_body, with_script, with_cells, open_of, InApartment, body-put, body-closed, script-put, cells-put}
+use Rattle.com_places.proofs.Wholes.{Whole, target-writes}
+use Rattle.com_places.proofs.Frames.{with_body, open_of, InApartment, body-put, body-closed, script-put, cells-put}
 use Rattle.com_places.proofs.Counted.{counted-slots, counted-home, nulls-at, nulls-in}
 use Rattle.com_places.proofs.Writes.{BodyStands, Stands, Moved, first-part, second-part, third-part, write-moves, writes-move}
 
@@ -64,14 +63,14 @@ body-leaves s g w c o p a t =
 more-nothing : (x y : ℕ) → x ≡ y → x + 0 ≡ y + 0
 more-nothing x y p = omega (arith, p)
 
-pub arrived-move : (s : Scenario) (g : Ground) (b : Actor) (l : ℕ) (d : Deed) (w : Scene) → Arrives s g b l d → Moved s g w (arrived b l d w) (scene_moves g w b l d)
-arrived-move s g b l (deed.Leave c hr v bytes) w p = λ a t. second-part _ _ _ _ _ _ _ (body-leaves s g w c p.object p.stands a t)
-arrived-move s g b l (deed.Enter c o x k vs) w p = λ a t. second-part _ _ _ _ _ _ _ (more-nothing _ _ (body-closed s g w a c t (entered vs) p.none p.nowhere))
-arrived-move s g b l (deed.Back c hr v) w p = writes-move s g w b (to_answer hr ∷ to_destination (w.destinations c) v) p
-arrived-move s g b l deed.EndPump w p = write-moves s g w b (to_answer S_OK) p
-arrived-move s g b l (deed.Uninit x zero) w p = λ a t.
+pub arrived-move : (s : Scenario) (g : Ground) (b : Actor) (l : ℕ) (d : Deed) (w : Scene) → Arrives s g b l d → Whole w → Moved s g w (arrived b l d w) (scene_moves g w b l d)
+arrived-move s g b l (deed.Leave c hr v bytes) w p n = λ a t. second-part _ _ _ _ _ _ _ (body-leaves s g w c p.object p.stands a t)
+arrived-move s g b l (deed.Enter c o x k vs) w p n = λ a t. second-part _ _ _ _ _ _ _ (more-nothing _ _ (body-closed s g w a c t (entered vs) p.none p.nowhere))
+arrived-move s g b l (deed.Back c hr v) w p n = writes-move s g w b (to_answer hr ∷ to_destination (w.destinations c) v) p n (tt, target-writes (w.destinations c) v (n.targets c))
+arrived-move s g b l deed.EndPump w p n = write-moves s g w b (to_answer S_OK) p n tt
+arrived-move s g b l (deed.Uninit x zero) w p n = λ a t.
     first-part _ _ _ _ _ _ _ (emptied _ _ _ _ _ (script-put s g w a l t (record (w.scripts l) { slots = replicate 8 None }) p) (nulls-at (g.home l) a t (replicate 8 None) (no-slots t)) (counted-home (g.home l) (w.scripts l).slots a t))
-arrived-move s g b l (deed.Uninit x (suc n)) w p = λ a t. refl
-arrived-move s g b l (deed.Final o) w p = λ a t.
+arrived-move s g b l (deed.Uninit x (suc k)) w p n = λ a t. refl
+arrived-move s g b l (deed.Final o) w p n = λ a t.
     third-part _ _ _ _ _ _ _ (emptied _ _ _ _ _ (cells-put g w a o t (record (w.cells o) { links = replicate 4 None }) p) (nulls-in (g.named o) a t (replicate 4 None) (no-links t)) (counted-slots (g.named o) (w.cells o).links a t))
-arrived-move s g b l _ w p = λ a t. refl
+arrived-move s g b l _ w p n = λ a t. refl

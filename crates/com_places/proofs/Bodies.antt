@@ -1,10 +1,8 @@
 -- What the openers of an entry do to places: an Enter brings its frame's slots, and a Leave's frame has none.
-use Rattle.std.proofs.Common.{subst, sym, ap, ◌∙◌, arith}
+use Rattle.std.proofs.Common.{subst, ap, ◌∙◌, arith}
 use Rattle.std.proofs.lemmas.List.Sums.{sum_by-cons}
-use Rattle.std.specs.Prelude.{◌≡◌, refl, ℕ, zero, suc, ◌+◌, ◌≤◌, ◌<◌, List, [], ◌∷◌, Option, Some, None, sum_by}
-use Rattle.com_base.specs.declared.value.RefValue.{RefValue}
+use Rattle.std.specs.Prelude.{◌≡◌, ℕ, ◌+◌, ◌≤◌, List, [], ◌∷◌, sum_by}
 use Rattle.com_body.specs.Frames.{FrameView, entered}
-use Rattle.com_books.specs.Counting.{sum_below}
 use Rattle.com_books.proofs.Sums.{sum-changed}
 use Rattle.com_model.specs.declared.deeds.Deed.{Deed}
 use Rattle.com_model.specs.declared.deeds.Deed.TheVariants as deed
@@ -12,9 +10,9 @@ use Rattle.com_model.specs.declared.scenario.Scenario.{Scenario}
 use Rattle.com_model.specs.declared.keeps.Opener.{Opener}
 use Rattle.com_model.specs.declared.keeps.Opener.TheVariants.{Pumps, Waits, Enters}
 use Rattle.com_model.specs.Tables.{lanes}
-use Rattle.com_model.specs.Openers.{Effect, effect, opened, fits}
+use Rattle.com_model.specs.Openers.{effect, opened, fits}
 use Rattle.com_model.specs.Frames.{Scene}
-use Rattle.com_model.specs.Places.{Ground, Test, in_slots, in_frame, in_bodies}
+use Rattle.com_model.specs.Places.{Ground, Test, in_frame, in_bodies}
 use Rattle.com_places.proofs.Frames.{slots_in}
 use Rattle.com_places.proofs.Counted.{nulls-in}
 use Rattle.com_places.proofs.Arrives.{fresh-slots}

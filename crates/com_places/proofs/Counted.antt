@@ -1,13 +1,13 @@
 -- How many moves a slot or a list of slots makes.
-use Rattle.std.proofs.Common.{subst, sym, ap, ◌∙◌, arith}
+use Rattle.std.proofs.Common.{ap, ◌∙◌, arith}
 use Rattle.std.proofs.lemmas.List.Sums.{sum_by-cons, sum_by-append}
 use Rattle.std.proofs.lemmas.Grind.{common_steps}
-use Rattle.std.specs.Prelude.{◌≡◌, refl, ℕ, zero, suc, ◌+◌, Bool, true, false, cond, ◌==◌, ◌&&◌, List, [], ◌∷◌, ◌++◌, Option, Some, None, sum_by, slice_index_or, slice_set}
+use Rattle.std.specs.Prelude.{◌≡◌, refl, ℕ, zero, suc, ◌+◌, Bool, true, false, cond, ◌==◌, ◌&&◌, List, [], ◌∷◌, ◌++◌, Option, Some, None, slice_index_or, slice_set}
 use Rattle.com_base.specs.declared.value.RefValue.{RefValue}
 use Rattle.com_books.specs.Counting.{count_if}
 use Rattle.com_model.specs.Lists.{is_number}
 use Rattle.com_model.specs.Places.{Test, passes, in_slots}
-use Rattle.com_places.specs.Moves.{Move, Moves, moved, all_moved, together, counted}
+use Rattle.com_places.specs.Moves.{Move, moved, all_moved, counted}
 use Rattle.com_places.proofs.Frames.{slots_in, slots_at}
 
 in_move : ℕ → Test → Move → ℕ

@@ -1,13 +1,11 @@
 -- The end of an STA takes the links of its objects.
-use Rattle.std.proofs.Common.{subst, sym, ap, ◌∙◌, eqb-true, arith}
+use Rattle.std.proofs.Common.{subst, ap, eqb-true, arith}
 use Rattle.std.specs.Prelude.{◌≡◌, refl, ℕ, zero, suc, ◌+◌, Bool, true, false, cond, ◌==◌, List, [], ◌∷◌, ◌++◌, Option, Some, None, replicate}
-use Rattle.com_base.specs.declared.value.RefValue.{RefValue}
-use Rattle.com_body.specs.declared.frame.Cells.{Cells}
 use Rattle.com_books.specs.Counting.{sum_below}
 use Rattle.com_model.specs.declared.scenario.Scenario.{Scenario}
 use Rattle.com_model.specs.Lists.{one_to}
 use Rattle.com_model.specs.Frames.{Scene, cut_links}
-use Rattle.com_model.specs.Places.{Ground, Test, in_slots, in_links, places_that}
+use Rattle.com_model.specs.Places.{Ground, Test, in_slots}
 use Rattle.com_places.specs.Moves.{Move, all_moved, links_moved, ended_moves, counted}
 use Rattle.com_places.proofs.Frames.{slots_in}
 use Rattle.com_places.proofs.Counted.{counted-both, counted-slots}

@@ -1,7 +1,7 @@
 -- What legal histories say of an entry, as far as places rest on it.
-use Rattle.std.proofs.Common.{subst, sym, ap, ◌∙◌, inl, inr, eqb-true, arith}
+use Rattle.std.proofs.Common.{subst, sym, ap, ◌∙◌, inr, eqb-true, arith}
 use Rattle.std.proofs.lemmas.Bool.{false_from_ne_true}
-use Rattle.std.specs.Prelude.{◌≡◌, refl, ℕ, zero, suc, ◌+◌, ◌≤◌, ◌<◌, Bool, true, false, cond, ◌==◌, List, [], ◌∷◌, Option, Some, None}
+use Rattle.std.specs.Prelude.{◌≡◌, refl, ℕ, zero, suc, ◌+◌, ◌≤◌, ◌<◌, true, false, ◌==◌, List, [], ◌∷◌, Option, Some, None}
 use Rattle.com_base.specs.declared.hresult.HResult.{HResult}
 use Rattle.com_base.specs.declared.value.Value.{Value}
 use Rattle.com_body.specs.Frames.{entered}
@@ -19,7 +19,7 @@ use Rattle.com_model.specs.Openers.{Closer, Closes, effect, opened, openers}
 use Rattle.com_model.specs.Apartments.{is_sta, ends_sta}
 use Rattle.com_model.specs.Objects.{objects, class_of, named}
 use Rattle.com_model.specs.Calls.{issue, admitted}
-use Rattle.com_model.specs.Frames.{Scene, scene, new_cells, Actor, Nobody, actor_in, acting, acted, arrived, cut_links}
+use Rattle.com_model.specs.Frames.{Scene, scene, new_cells, Actor, actor_in, acting, acted, arrived, cut_links}
 use Rattle.com_model.specs.Places.{Ground, ground}
 use Rattle.com_model.specs.Rules.{legal}
 use Rattle.com_model.specs.Formed.{Formed}

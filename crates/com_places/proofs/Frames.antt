@@ -1,14 +1,13 @@
 -- One frame, script or object's cells put anew: what the sums of places lose and gain by it.
-use Rattle.std.proofs.Common.{subst, sym, ap, ◌∙◌, eqb-true, arith}
-use Rattle.std.proofs.lemmas.Bool.{eqb-false}
+use Rattle.std.proofs.Common.{subst, ap, ◌∙◌, eqb-true, arith}
 use Rattle.std.proofs.lemmas.List.Sums.{sum_by-cons}
 use Rattle.std.proofs.lemmas.Grind.{common_steps}
-use Rattle.std.specs.Prelude.{◌≡◌, refl, ℕ, zero, suc, ◌+◌, ◌≤◌, ◌<◌, Bool, true, false, cond, ◌==◌, List, [], ◌∷◌, Option, Some, None, sum_by}
+use Rattle.std.specs.Prelude.{◌≡◌, refl, ℕ, zero, suc, ◌+◌, ◌<◌, Bool, true, false, cond, ◌==◌, List, [], ◌∷◌, Option, sum_by}
 use Rattle.com_base.specs.declared.value.RefValue.{RefValue}
 use Rattle.com_body.specs.Frames.{FrameView}
 use Rattle.com_body.specs.declared.frame.Cells.{Cells}
 use Rattle.com_books.specs.Counting.{sum_below, count_if}
-use Rattle.com_books.proofs.Sums.{sum-same, sum-changed}
+use Rattle.com_books.proofs.Sums.{sum-changed}
 use Rattle.com_model.specs.declared.scenario.Scenario.{Scenario}
 use Rattle.com_model.specs.declared.keeps.Opener.{Opener}
 use Rattle.com_model.specs.declared.keeps.Opener.TheVariants.{Pumps, Waits, Enters}

@@ -1,6 +1,6 @@
 -- The law of places: what an entry takes from places and brings to places is all that it changes of them.
 use Rattle.std.proofs.Common.{arith}
-use Rattle.std.specs.Prelude.{◌≡◌, refl, ℕ, zero, suc, ◌+◌, ◌≤◌, List, [], ◌∷◌, ◌++◌, Option, Some, None}
+use Rattle.std.specs.Prelude.{◌≡◌, refl, ℕ, zero, suc, ◌+◌, List, ◌∷◌, ◌++◌, Option}
 use Rattle.com_body.specs.declared.frame.Outcome.{Outcome}
 use Rattle.com_body.specs.Frames.{entered}
 use Rattle.com_model.specs.declared.deeds.Deed.{Deed}
@@ -8,23 +8,25 @@ use Rattle.com_model.specs.declared.deeds.Deed.TheVariants as deed
 use Rattle.com_model.specs.declared.deeds.Entry.{Entry}
 use Rattle.com_model.specs.declared.scenario.Scenario.{Scenario}
 use Rattle.com_model.specs.Apartments.{ends_sta, home}
-use Rattle.com_model.specs.Objects.{objects, class_of, named}
+use Rattle.com_model.specs.Objects.{class_of, objects, named}
 use Rattle.com_model.specs.Calls.{issue}
-use Rattle.com_model.specs.Frames.{Scene, scene, Actor, actor_in, to_answer, to_destination, outcome}
-use Rattle.com_model.specs.Places.{Ground, ground, Test, in_scripts, in_bodies, in_links, in_results, left_value, places_that}
+use Rattle.com_model.specs.Frames.{Scene, scene, Actor, actor_in, to_answer, to_destination}
+use Rattle.com_model.specs.Places.{Ground, ground, Test, left_value, places_that}
 use Rattle.com_model.specs.Rules.{legal}
 use Rattle.com_model.specs.Formed.{Formed}
 use Rattle.com_model.proofs.Kept.{legal-kept}
 use Rattle.com_balance.proofs.Bases.{S0, B0, I_of, L_of}
 use Rattle.com_balance.proofs.Directs.{out-base}
-use Rattle.com_places.specs.Moves.{Moves, counted, result_moved, writes_moves, acted_moves, arrived_moves, ended_moves, acting_in, outcome_in, after_acting, after_arriving, entry_moves, PlacesMove}
+use Rattle.com_places.specs.Moves.{Moves, counted, result_moved, writes_moves, acted_moves, arrived_moves, ended_moves, acting_in, outcome_in, after_acting, after_arriving, PlacesMove}
+use Rattle.com_places.proofs.Ranges.{FitsOut, outcome-fits}
+use Rattle.com_places.proofs.Wholes.{Whole, acted-whole, scene-whole}
 use Rattle.com_places.proofs.Counted.{counted-both, counted-slots}
 use Rattle.com_places.proofs.Writes.{Moved}
 use Rattle.com_places.proofs.Acts.{acted-move}
 use Rattle.com_places.proofs.Arrives.{scene_moves, arrived-move}
 use Rattle.com_places.proofs.Cuts.{cut-move}
 use Rattle.com_places.proofs.Scripts.{HomesStay, homes-stay, scripts-stay}
-use Rattle.com_places.proofs.Bodies.{FrameOf, OpenersMove, entered_slots, bodies-move}
+use Rattle.com_places.proofs.Bodies.{FrameOf, entered_slots, bodies-move}
 use Rattle.com_places.proofs.Links.{NoneYet, links-stay}
 use Rattle.com_places.proofs.Results.{result_moves, results-move}
 use Rattle.com_places.proofs.Facts.{acting-stands, arrives-at, openers-move, frame-of, none-yet, not-first}
@@ -87,8 +89,11 @@ entry-places s h l d f q a t =
     let m : Moves = acted_moves g (scene s h) u r d in
     let n : Moves = arrived_moves g w1 b l d in
     let c : Moves = ended_moves g w2 (ends_sta d) in
-    let first : Moved s g (scene s h) w1 m = acted-move s g (S0 s h) (B0 (e ∷ h)) (I_of u) (L_of s h u) u r d (scene s h) (acting-stands s h e f q.0) (out-base s h e f q) in
-    let second : Moved s g w1 w2 (scene_moves g w1 b l d) = arrived-move s g b l d w1 (arrives-at s h l d f q) in
+    let whole : Whole (scene s h) = scene-whole s h f q.0 in
+    let fits : FitsOut r = outcome-fits s f (class_of h) (issue h) (scene s h) u in
+    let later : Whole w1 = acted-whole s (S0 s h) (B0 (e ∷ h)) (I_of u) (L_of s h u) u r d (scene s h) (out-base s h e f q) fits whole in
+    let first : Moved s g (scene s h) w1 m = acted-move s g (S0 s h) (B0 (e ∷ h)) (I_of u) (L_of s h u) u r d (scene s h) (acting-stands s h e f q.0) (out-base s h e f q) fits whole in
+    let second : Moved s g w1 w2 (scene_moves g w1 b l d) = arrived-move s g b l d w1 (arrives-at s h l d f q) later in
     let third : Moved s g w2 w3 c = cut-move s g (ends_sta d) w2 (not-first s h d f q.0) in
     let fourth : places_that s (ground s (e ∷ h)) w3 a t + counted (result_moves g d).lost a t ≡ places_that s g w3 a t + (entered_slots a t d + counted (result_moves g d).gained a t) =
     ground-move s h l d w3 a t f q (homes-stay s h e f q) (frame-of b l d (named h) w1) (none-yet s g u b r l d (named h) (scene s h) (acting-stands s h e f q.0) (legal-kept s h f q.0).scene.no_cells) in

@@ -11,3 +11,7 @@ pub mod Links
 pub mod Results
 pub mod Facts
 pub mod Laws
+pub mod Ranges
+pub mod Wholes
+pub mod Tables
+pub mod Worked

@@ -1,23 +1,20 @@
 -- An object that is made has no links yet.
-use Rattle.std.proofs.Common.{subst, sym, ap, ◌∙◌, arith}
-use Rattle.std.specs.Prelude.{◌≡◌, refl, ℕ, zero, suc, ◌+◌, ◌≤◌, ◌<◌, Bool, cond, ◌==◌, List, [], ◌∷◌, Option, Some, None, fold}
-use Rattle.com_base.specs.declared.value.RefValue.{RefValue}
+use Rattle.std.proofs.Common.{sym, ap, ◌∙◌, arith}
+use Rattle.std.specs.Prelude.{◌≡◌, refl, ℕ, ◌+◌, ◌≤◌, ◌<◌, List, [], ◌∷◌, Option, Some, None, fold}
 use Rattle.com_body.specs.declared.frame.Cells.{Cells}
 use Rattle.com_body.specs.declared.frame.Outcome.{Outcome}
 use Rattle.com_body.specs.declared.actions.Action.{Action}
 use Rattle.com_body.specs.declared.actions.Action.TheVariants as action
-use Rattle.com_books.specs.Counting.{sum_below}
 use Rattle.com_books.proofs.Sums.{sum-same, sum-more}
 use Rattle.com_model.specs.declared.deeds.Deed.{Deed}
 use Rattle.com_model.specs.declared.deeds.Deed.TheVariants as deed
 use Rattle.com_model.specs.declared.deeds.Entry.{Entry}
 use Rattle.com_model.specs.declared.scenario.Scenario.{Scenario}
 use Rattle.com_model.specs.Objects.{objects, named}
-use Rattle.com_model.specs.Frames.{Scene, scene, new_cells, Actor, Body, Script, Nobody, Write, ToRegister, ToSlot, ToLink, ToBuffer, writes, written, with_frame, wants, acted}
+use Rattle.com_model.specs.Frames.{Scene, new_cells, Actor, Body, Script, Nobody, Write, ToRegister, ToSlot, ToLink, ToBuffer, writes, written, with_frame, wants, acted}
 use Rattle.com_model.specs.Places.{Ground, ground, Test, in_slots, in_links}
 use Rattle.com_model.specs.Rules.{legal}
 use Rattle.com_model.specs.Formed.{Formed}
-use Rattle.com_model.proofs.Kept.{legal-kept}
 use Rattle.com_balance.proofs.Makings.{same-named}
 use Rattle.com_places.proofs.Frames.{slots_in, other-row}
 use Rattle.com_places.proofs.Counted.{nulls-in}

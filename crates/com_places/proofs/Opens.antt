@@ -1,9 +1,9 @@
 -- Whoever acts in a lane of a legal history stands: a body's call is open once, in the apartment that its admission names.
-use Rattle.std.proofs.Common.{subst, sym, ap, ◌∙◌, ◌⊎◌, inl, inr, eqb-true, arith}
+use Rattle.std.proofs.Common.{subst, sym, ap, ◌∙◌, inl, inr, eqb-true, arith}
 use Rattle.std.proofs.lemmas.Bool.{false_from_ne_true}
 use Rattle.std.proofs.lemmas.List.Sums.{sum_by-cons}
 use Rattle.std.proofs.lemmas.Grind.{common_steps}
-use Rattle.std.specs.Prelude.{◌≡◌, refl, ℕ, zero, suc, ◌+◌, ◌≤◌, ◌<◌, Bool, true, false, cond, ◌==◌, List, [], ◌∷◌, Option, Some, None, sum_by, option_map}
+use Rattle.std.specs.Prelude.{◌≡◌, refl, ℕ, ◌+◌, ◌≤◌, ◌<◌, true, ◌==◌, List, [], ◌∷◌, Option, Some, None}
 use Rattle.com_books.specs.Counting.{sum_below, count_if}
 use Rattle.com_books.proofs.Sums.{sum-changed, sum-nothing}
 use Rattle.com_model.specs.declared.deeds.Entry.{Entry}
@@ -14,20 +14,19 @@ use Rattle.com_model.specs.declared.keeps.Admission.{Admission}
 use Rattle.com_model.specs.Tables.{LaneSort, Thread, Host, Pool, NoLane, lane_sort, threads, lanes}
 use Rattle.com_model.specs.Openers.{openers}
 use Rattle.com_model.specs.Objects.{objects}
-use Rattle.com_model.specs.Calls.{admitted, calls}
-use Rattle.com_model.specs.Frames.{Actor, Body, Script, Nobody, actor}
-use Rattle.com_model.specs.Places.{Ground, ground}
+use Rattle.com_model.specs.Calls.{admitted}
+use Rattle.com_model.specs.Frames.{actor}
+use Rattle.com_model.specs.Places.{ground}
 use Rattle.com_model.specs.Rules.{legal}
 use Rattle.com_model.specs.Formed.{Formed}
-use Rattle.com_model.proofs.Scenes.{GoodOpeners, GoodActor, actor-good}
-use Rattle.com_model.proofs.Kept.{legal-kept}
+use Rattle.com_model.proofs.Scenes.{actor-good}
 use Rattle.com_balance.proofs.Counts.{Among}
 use Rattle.com_balance.proofs.Stacks.{admission_in, open-admitted}
-use Rattle.com_balance.proofs.Bases.{top-among, some-none, open-made}
+use Rattle.com_balance.proofs.Bases.{open-made}
 use Rattle.com_balance.proofs.Answered.{lane-low}
 use Rattle.com_release.proofs.Below.{Distinct, legal-distinct}
 use Rattle.com_places.specs.Moves.{entered_where}
-use Rattle.com_places.proofs.Frames.{enters_of, open_of, InApartment, OpenOnce, body-put}
+use Rattle.com_places.proofs.Frames.{enters_of, open_of, InApartment, OpenOnce}
 use Rattle.com_places.proofs.Writes.{BodyStands, Stands}
 
 same-lane : (c k l a b : ℕ) (x : Option Admission) → x ≡ Some (admission_in c k a) → x ≡ Some (admission_in c l b) → (k ≡ l) × (a ≡ b)

@@ -2,7 +2,7 @@
 use Rattle.std.proofs.Common.{subst, sym, ap, ◌∙◌, eqb-true, arith}
 use Rattle.std.proofs.lemmas.Bool.{false_from_ne_true}
 use Rattle.std.proofs.lemmas.Grind.{common_steps}
-use Rattle.std.specs.Prelude.{◌≡◌, refl, ℕ, zero, suc, ◌+◌, ◌≤◌, ◌<◌, Bool, true, false, cond, not, ◌==◌, ◌&&◌, ◌||◌, List, [], ◌∷◌, Option, Some, None}
+use Rattle.std.specs.Prelude.{◌≡◌, refl, ℕ, zero, ◌+◌, ◌≤◌, ◌<◌, Bool, true, false, cond, not, ◌==◌, ◌&&◌, ◌||◌, List, [], ◌∷◌, Option, Some, None}
 use Rattle.com_base.specs.declared.hresult.HResult.{HResult}
 use Rattle.com_base.specs.declared.value.RefValue.{RefValue}
 use Rattle.com_base.specs.declared.value.Value.{Value}
@@ -19,7 +19,7 @@ use Rattle.com_model.specs.Calls.{issue, admitted, left, leaves, leaving_or, ret
 use Rattle.com_model.specs.Frames.{value_reference}
 use Rattle.com_model.specs.Places.{Ground, ground, Test, passes, entered_in, left_value, in_result, in_results}
 use Rattle.com_model.specs.Rules.{legal}
-use Rattle.com_model.specs.Safe.{Stage, stage, stage_after, event, ComesOnce}
+use Rattle.com_model.specs.Safe.{Stage, stage, stage_after, event}
 use Rattle.com_model.proofs.Onces.{InRange, named-in-range, legal-once}
 use Rattle.com_balance.proofs.Directs.{issue-stays, admitted-past}
 use Rattle.com_balance.proofs.Answered.{left-admitted}

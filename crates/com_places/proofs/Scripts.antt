@@ -1,9 +1,8 @@
 -- A script whose lane gets or loses its home holds nothing then, so its places stay.
 use Rattle.std.proofs.Common.{subst, sym, ap, ◌∙◌, ◌⊎◌, inl, inr, eqb-true, arith}
 use Rattle.std.proofs.lemmas.List.Sums.{sum_by-cons}
-use Rattle.std.specs.Prelude.{◌≡◌, refl, ℕ, zero, suc, ◌+◌, ◌<◌, Bool, true, false, cond, ◌==◌, List, [], ◌∷◌, Option, Some, None, All}
+use Rattle.std.specs.Prelude.{◌≡◌, refl, ℕ, zero, suc, ◌+◌, true, false, ◌==◌, List, [], ◌∷◌, Option, Some, None, All}
 use Rattle.com_base.specs.declared.value.RefValue.{RefValue}
-use Rattle.com_body.specs.declared.frame.Outcome.{Outcome}
 use Rattle.com_books.proofs.Sums.{sum-same}
 use Rattle.com_model.specs.declared.deeds.Deed.{Deed}
 use Rattle.com_model.specs.declared.deeds.Deed.TheVariants as deed
@@ -14,11 +13,11 @@ use Rattle.com_model.specs.Apartments.{home_effect, home_after, thread_home, hom
 use Rattle.com_model.specs.Objects.{class_of, named}
 use Rattle.com_model.specs.Calls.{issue}
 use Rattle.com_model.specs.Frames.{Scene, scene, Actor, actor_in, acting, outcome}
-use Rattle.com_model.specs.Places.{Ground, ground, Test, passes, in_slots, in_scripts}
+use Rattle.com_model.specs.Places.{Ground, Test, passes, in_slots, in_scripts}
 use Rattle.com_model.specs.Sight.{Sight, sight}
 use Rattle.com_model.specs.Rules.{legal}
 use Rattle.com_model.specs.Formed.{Formed}
-use Rattle.com_balance.proofs.Carries.{HeldBy, FrameBy, all-head, all-tail}
+use Rattle.com_balance.proofs.Carries.{HeldBy, all-head, all-tail}
 use Rattle.com_balance.proofs.Moves.{SceneBy, scene-by}
 use Rattle.com_balance.proofs.Says.{Says, next-says}
 use Rattle.com_balance.proofs.Homes.{home-other, home-own}

@@ -1,10 +1,10 @@
 -- What an entry takes from places and brings to places, in which apartment. A place is a slot of a script, a slot of an open body's
 -- frame, a link of an object, or the result of a direct call that left and is not back.
-use Rattle.std.specs.Prelude.{◌≡◌, ℕ, zero, ◌+◌, Bool, not, ◌==◌, ◌&&◌, if◌then◌else◌, List, [], ◌∷◌, ◌++◌, Option, Some, None, option_map, slice_index_or, slice_set, sum_by}
+use Rattle.std.specs.Prelude.{◌≡◌, ℕ, zero, ◌+◌, not, ◌==◌, ◌&&◌, if◌then◌else◌, List, [], ◌∷◌, ◌++◌, Option, Some, None, option_map, slice_index_or, sum_by}
 use Rattle.com_base.specs.declared.value.RefValue.{RefValue}
 use Rattle.com_base.specs.declared.value.Value.{Value}
 use Rattle.com_body.specs.declared.frame.Outcome.{Outcome}
-use Rattle.com_body.specs.Frames.{FrameView, entered}
+use Rattle.com_body.specs.Frames.{entered}
 use Rattle.com_books.specs.Counting.{count_if}
 use Rattle.com_model.specs.declared.deeds.Deed.{Deed}
 use Rattle.com_model.specs.declared.deeds.Deed.TheVariants as deed
@@ -14,7 +14,7 @@ use Rattle.com_model.specs.declared.scenario.Scenario.{Scenario}
 use Rattle.com_model.specs.Lists.{one_to}
 use Rattle.com_model.specs.Apartments.{ends_sta}
 use Rattle.com_model.specs.Calls.{is_direct, route_of}
-use Rattle.com_model.specs.Objects.{class_of, named}
+use Rattle.com_model.specs.Objects.{class_of}
 use Rattle.com_model.specs.Calls.{issue}
 use Rattle.com_model.specs.Frames.{Scene, scene, Actor, Body, Script, Nobody, actor_in, Write, ToRegister, ToSlot, ToLink, ToBuffer, writes, to_answer, to_destination, value_reference, with_frame, written, acted, arrived, acting, outcome}
 use Rattle.com_model.specs.Places.{Ground, ground, Test, places_that, left_value}
@@ -67,18 +67,17 @@ slots_of w Nobody = []
 abbrev pub link_moves : Ground → Scene → Actor → ℕ → Option RefValue → Moves
 link_moves g w (Body c o) k held = record {
   lost = moved (Some (g.named o)) (slice_index_or (w.cells o).links k None);
-  gained = moved (Some (g.named o)) (slice_index_or (slice_set (w.cells o).links k held) k None);
+  gained = moved (Some (g.named o)) held;
 }
 link_moves g w (Script l) k held = no_moves
 link_moves g w Nobody k held = no_moves
 
--- A write to a slot or a link takes what stood there, and brings what stands there now: what is written, where the slot or link
--- exists.
+-- A write to a slot or a link takes what stood there, and brings what is written.
 abbrev pub write_moves : Ground → Scene → Actor → Write → Moves
 write_moves g w a (ToRegister n v) = no_moves
 write_moves g w a (ToSlot k held) = record {
   lost = moved (slots_where g a) (slice_index_or (slots_of w a) k None);
-  gained = moved (slots_where g a) (slice_index_or (slice_set (slots_of w a) k held) k None);
+  gained = moved (slots_where g a) held;
 }
 write_moves g w a (ToLink k held) = link_moves g w a k held
 write_moves g w a (ToBuffer p bytes) = no_moves

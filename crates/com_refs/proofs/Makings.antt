@@ -54,9 +54,12 @@ module _ (t : Tables) (o : ℕ) (k : Known t) (new : o ≡ length t.objects + 1)
 
   fresh : outside_of t o ≡ 0
   unfolding books_of
-  fresh = omega (arith, no-locals t.proxies o (no_row_yet t o k new),
+  fresh = omega (
+    arith,
+    no-locals t.proxies o (no_row_yet t o k new),
     no-packets (is_connected t.stubs) o t.packets (λ n p h. other p.object (k.counters p.object p.iface (k.packets n p h)).1),
-    no-cookies (is_connected t.stubs) o t.cookies (λ n r h. other r.object (k.counters r.object r.iface (k.cookies n r h)).1))
+    no-cookies (is_connected t.stubs) o t.cookies (λ n r h. other r.object (k.counters r.object r.iface (k.cookies n r h)).1),
+  )
 
 -- ---- a row more of what is counted
 

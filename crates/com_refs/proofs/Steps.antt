@@ -214,9 +214,9 @@ module _ (t v : Tables) (hs : List ℕ) (a n : ℕ) (p : P.Packet) (c : IsCounte
       still v (hold_less p.object true hs) p.object
       (lost t v hs p.object true c (live-row t v (Return n) r)
       (λ x.
-        let less : held_outside (books_of v) x + packet_holds x (packet (books_of t) n) ≡ held_outside (books_of t) x = ap (λ (b : Books). held_outside b x + packet_holds x (packet (books_of t) n)) r ∙ outside-end (books_of t) n x is-out in
-        let elsewhere : locals_of x v.proxies ≡ locals_of x t.proxies + 0 = one.all_elsewhere x in
-        omega (arith, less, holds-one x m, elsewhere))
+      let less : held_outside (books_of v) x + packet_holds x (packet (books_of t) n) ≡ held_outside (books_of t) x = ap (λ (b : Books). held_outside b x + packet_holds x (packet (books_of t) n)) r ∙ outside-end (books_of t) n x is-out in
+      let elsewhere : locals_of x v.proxies ≡ locals_of x t.proxies + 0 = one.all_elsewhere x in
+      omega (arith, less, holds-one x m, elsewhere))
       (λ x other. let direct : direct_in v x ≡ direct_in t x + count_if (true && eqb x p.object) = one.direct x in grind (arith, common_steps, direct, other))
       one.made (omega (arith, ei)))
       (let direct : direct_in v p.object ≡ direct_in t p.object + count_if (true && eqb p.object p.object) = one.direct p.object in grind (arith, common_steps, direct))
@@ -226,9 +226,9 @@ module _ (t v : Tables) (hs : List ℕ) (a n : ℕ) (p : P.Packet) (c : IsCounte
       let r : books_of v ≡ changed (books_of t) (Join a n) = e ∙ joins (owns_of t.objects) (books_of t) a n (shown p) is-shown refl m w in
       gained t v hs p.object false c (live-row t v (Join a n) r)
       (λ x.
-        let less : held_outside (books_of v) x + packet_holds x (packet (books_of t) n) ≡ held_outside (books_of t) x = ap (λ (b : Books). held_outside b x + packet_holds x (packet (books_of t) n)) r ∙ outside-join (books_of t) a n x is-out in
-        let elsewhere : locals_of x v.proxies ≡ locals_of x t.proxies + count_if (eqb x p.object) = one.all_elsewhere x in
-        omega (arith, less, holds-one x m, elsewhere))
+      let less : held_outside (books_of v) x + packet_holds x (packet (books_of t) n) ≡ held_outside (books_of t) x = ap (λ (b : Books). held_outside b x + packet_holds x (packet (books_of t) n)) r ∙ outside-join (books_of t) a n x is-out in
+      let elsewhere : locals_of x v.proxies ≡ locals_of x t.proxies + count_if (eqb x p.object) = one.all_elsewhere x in
+      omega (arith, less, holds-one x m, elsewhere))
       (λ x. omega (arith, one.direct x)) one.made ei some made
 
   table-here : (p.mode ≡ marshal.Normal → ⊥) → owns_of t.objects p.object a ≡ true → OneMore t v a p.object true → IsCounted v (hold_more p.object false hs)

@@ -445,7 +445,12 @@ impl Refs {
         match self.holders.unmarshal(apartment, number) {
             Ok(packet) => {
                 let owned = self.holders.owns(packet.object, apartment);
-                recount(&mut self.holds, packet.object, owned, is_normal(packet.mode));
+                recount(
+                    &mut self.holds,
+                    packet.object,
+                    owned,
+                    is_normal(packet.mode),
+                );
                 Ok(packet)
             }
             Err(error) => Err(error),
@@ -560,37 +565,3 @@ pub fn counts_move()
 pub fn ends_compose()
     ensures { (n : ℕ) (places later : ℕ → ℕ → ℕ) (b : Books) → ((a o : ℕ) → later a o ≤ places a o) → ends n later (ends n places b) ≡ ends n later b }
 {}
-
-#[cfg(test)]
-mod tests {
-    use super::*;
-    use std::test::Fail;
-
-    const COUNTER: RefValue = RefValue {
-        object: 1,
-        iface: 2,
-    };
-
-    #[test]
-    fn a_packet_holds_its_object_until_it_is_dropped(rt: HostRuntime) -> Result<(), Fail> {
-        let mut refs = Refs::new(rt.alloc());
-        refs.made(1, 3, false, 3, 2, &[0, 2])?;
-        assert_eq!(rt; refs.marshal(3, COUNTER, MarshalMode::Normal), Ok(1));
-        assert_eq!(rt; refs.drop_packet(1), Ok(None));
-        assert_eq!(rt; refs.drop_packet(1), Err(RefsError::Unknown));
-        assert!(rt; refs.connected(1));
-        Ok(())
-    }
-
-    #[test]
-    fn a_cookie_gives_its_reference_until_it_is_revoked(rt: HostRuntime) -> Result<(), Fail> {
-        let mut refs = Refs::new(rt.alloc());
-        refs.made(1, 3, false, 4, 2, &[0, 2])?;
-        assert_eq!(rt; refs.register(COUNTER), Ok(1));
-        assert_eq!(rt; refs.revoke(1), Ok(None));
-        assert_eq!(rt; refs.revoke(1), Err(RefsError::Unknown));
-        refs.disconnect(1);
-        assert!(rt; !refs.connected(1));
-        Ok(())
-    }
-}

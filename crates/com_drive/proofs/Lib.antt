@@ -1,0 +1,5 @@
+pub mod Choices
+pub mod Kept
+pub mod Turning
+pub mod Counting
+pub mod Driving

@@ -1,0 +1,5 @@
+pub mod Standings
+pub mod Turns
+pub mod Steps
+pub mod Reports
+pub mod Replays

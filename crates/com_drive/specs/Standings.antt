@@ -1,0 +1,40 @@
+-- How a state stands: which lanes can step, whether the clock goes on, how all has ended, and whose turn it is.
+use Rattle.std.specs.Prelude.{◌≡◌, ℕ, ◌≤◌, Bool, true, ◌==◌, ◌&&◌, nat_le, List, Option, Some, None, if◌then◌else◌}
+use Rattle.com_model.specs.declared.counts.Ended.{Ended}
+use Rattle.com_model.specs.declared.counts.Ended.TheVariants as ended
+use Rattle.com_model.specs.declared.scenario.Scenario.{Scenario}
+use Rattle.com_model.specs.Tables.{lanes}
+use Rattle.com_model.specs.Rules.{can_step, no_lane_can}
+use Rattle.com_model.specs.Ends.{Turn, finished_by, stuck_by, limit}
+use Rattle.com_model.specs.State.{State, sight_of}
+use Rattle.com_schedule.specs.Turns.{ended_in, turn_in}
+use Rattle.com_drive.specs.declared.runtime.Standing.{Standing}
+use Rattle.com_drive.specs.declared.runtime.Standing.TheVariants as standing
+
+unfoldable pub can_step_in : Scenario → State → ℕ → Bool
+can_step_in s st l = can_step s (sight_of s st) l
+
+-- A number of the picks is tried only where it is a lane's.
+unfoldable pub can_pick_in : Scenario → State → ℕ → Bool
+can_pick_in s st l = (nat_le 1 l && nat_le l (lanes s)) && can_step_in s st l
+
+unfoldable pub standing_of : Scenario → State → Standing
+standing_of s st =
+    if finished_by s (sight_of s st) then standing.Finished
+    else if stuck_by s (sight_of s st) then standing.Stuck
+    else if no_lane_can s (sight_of s st) then standing.Ticks
+    else standing.Runs
+
+unfoldable pub ended_now : Scenario → State → Option Ended
+ended_now s st = ended_in s st
+
+unfoldable pub turn_now : Scenario → State → (picks : List ℕ) → (last : ℕ) → Option Turn
+turn_now s st picks last = turn_in s st picks last
+
+-- The end of a history that is neither finished nor stuck, if it has ended.
+abbrev pub budget_of : Scenario → State → Option Ended
+budget_of s st = if st.entries == limit s then Some ended.Budget else None
+
+-- A lane that can step.
+abbrev pub CanGo : Scenario → State → ℕ → Type 0
+CanGo s st l = (1 ≤ l) × (l ≤ lanes s) × (can_step_in s st l ≡ true)

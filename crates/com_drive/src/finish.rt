@@ -1,0 +1,65 @@
+//! The end of a replay: the report behind the lines, and the answer.
+ghost use Rattle.std.specs.Prelude.{◌≡◌, ℕ, ◌≤◌, ◌++◌, IfOk, OnOk, Err};
+ghost use Rattle.com_io.specs.Faults.{Rose};
+ghost use Rattle.com_io.specs.Told.{Gains, GainsPrefix};
+ghost use Rattle.com_model.specs.Text.{report_text};
+ghost use Rattle.com_drive.specs.declared.lines.ReplayError.TheVariants as replay_error;
+ghost use Rattle.com_drive.specs.Reports.{all_counts_in};
+
+use crate::lines::{ReplayError, tell};
+use crate::replayed::Replayed;
+use crate::runtime::Runtime;
+use com_base::{ByteList, Memory};
+use com_io::Sink;
+use com_model::{Counts, Ended, Scenario};
+use std::alloc::Global;
+
+/// What a report counts of each object, in order of making.
+#[tactic(auto, using(crate::proofs::Counting::one_more_counted_at))]
+fn all_counts<C: Runtime>(
+    alloc: Global,
+    scenario: &Scenario,
+    runtime: &C,
+) -> Result<Vec<Counts>, Memory>
+    requires { C.scenario runtime.now ≡ scenario.now }
+    ensures { IfOk result (λ all. all.items ≡ all_counts_in scenario.now (C.state runtime.now)) }
+{
+    let mut all = Vec::new(alloc);
+    let objects = runtime.objects();
+    for number in 0..objects {
+        let counts = runtime.counts(number + 1);
+        all.push(counts)?;
+    }
+    Ok(all)
+}
+
+/// Writes the lines that are kept, and the report of a runtime whose history has ended so.
+#[tactic(auto, using(com_io::proofs::Passing::prefix_of_none))]
+pub fn finish<C: Runtime, K: Sink>(
+    alloc: Global,
+    scenario: &Scenario,
+    runtime: &C,
+    ended: Ended,
+    kept: &mut ByteList,
+    sink: &mut K,
+) -> Result<Replayed, ReplayError>
+    requires { C.scenario runtime.now ≡ scenario.now }
+    ensures ok { OnOk result (Gains (K.held sink.old) (K.held sink.new) (kept.old
+        ++ report_text (all_counts_in scenario.now (C.state runtime.now)) (C.state runtime.now).entries (C.state runtime.now).clock ended)) }
+    ensures answer { IfOk result (λ replayed. replayed
+        ≡ record { ended = ended; entries = (C.state runtime.now).entries; clock = (C.state runtime.now).clock }) }
+    ensures prefix { GainsPrefix (K.held sink.old) (K.held sink.new) (kept.old
+        ++ report_text (all_counts_in scenario.now (C.state runtime.now)) (C.state runtime.now).entries (C.state runtime.now).clock ended) }
+    ensures fault { result ≡ Err replay_error.WriteFault → Rose (K.faults_of sink.old) (K.faults_of sink.new) }
+    ensures counts { K.faults_of sink.old ≤ K.faults_of sink.new }
+{
+    let counts = all_counts(alloc, scenario, runtime)?;
+    let entries = runtime.entries();
+    let clock = runtime.clock();
+    tell(alloc, counts.as_slice(), entries, clock, ended, kept, sink)?;
+    Ok(Replayed {
+        ended,
+        entries,
+        clock,
+    })
+}

@@ -1,0 +1,11 @@
+use Rattle.com_moves.proofs.Stands.{moves-history, moves-tables, moves-places}
+use Rattle.com_moves.proofs.laws.moves_stand.Goals as goal
+
+pub returns-clause-history : goal.returns-clause-history
+returns-clause-history c = moves-history
+
+pub returns-clause-tables : goal.returns-clause-tables
+returns-clause-tables c = moves-tables
+
+pub returns-clause-places : goal.returns-clause-places
+returns-clause-places c = moves-places

@@ -1,0 +1,10 @@
+pub mod Words
+pub mod Sights
+pub mod Served
+pub mod Firsts
+pub mod Causes
+pub mod Says
+pub mod Gone
+pub mod Chosen
+pub mod Any
+pub mod Stepping

@@ -1,0 +1,9 @@
+pub mod Sorts
+pub mod Seen
+pub mod Words
+pub mod Nexts
+pub mod Reads
+pub mod Connected
+pub mod Opened
+pub mod Given
+pub mod Times

@@ -1,0 +1,179 @@
+//! The rules that look at who holds references.
+
+ghost use Rattle.std.specs.Prelude.{◌≡◌, ◌&&◌, ℕ, not, length, IfOk, option_map};
+ghost use Rattle.com_books.specs.Changes.{Books, cookie, packet};
+ghost use Rattle.com_model.specs.Deeds.{cookie_number};
+ghost use Rattle.com_model.specs.Endings.{is_leave};
+ghost use Rattle.com_model.specs.Lists.{any_of, first_that, or_else};
+ghost use Rattle.com_model.specs.Rules.{answered, arguments_gone, due_of, packet_left, result_gone, rule_answer, rule_inbox, rule_again, rule_own, rule_pending, rule_retry, rule_word};
+ghost use Rattle.com_view.specs.Seen.{bare, sight_by};
+ghost use Rattle.com_view.specs.Given.{gone_in};
+
+use crate::view::View;
+use com_base::{HResult, Memory};
+use com_books::Cookie;
+use com_deeds::is_leave;
+use com_model::Deed;
+use std::alloc::Global;
+
+/// Who holds references, as the rules ask for it.
+pub trait References {
+    // Who holds them.
+    ghost books: { Self → Books };
+
+    /// Whether an object is connected.
+    fn is_connected(&self, object: u32) -> bool
+        ensures { result ≡ (books self.now).live object };
+
+    /// The row of a cookie; that of a revoked one where there is no such cookie.
+    fn cookie(&self, number: i64) -> Cookie
+        ensures { result ≡ cookie (books self.now) (cookie_number number) };
+
+    /// How many cookies were given.
+    fn cookies(&self) -> u32
+        ensures { result ≡ length (books self.now).cookies };
+
+    /// Whether the packet of one of a call's arguments was given up.
+    fn lost_argument(&self, call: u32) -> bool
+        ensures { result ≡ any_of (λ p. not (packet (books self.now) p).outstanding) ((books self.now).arguments call) };
+
+    /// The first packet of a call's arguments that was not given up.
+    fn left_argument(&self, call: u32) -> Option<u32>
+        ensures { result ≡ first_that (λ p. not (not (packet (books self.now) p).outstanding)) ((books self.now).arguments call) };
+
+    /// Whether a call's result has a packet that was given up.
+    fn lost_result(&self, call: u32) -> bool
+        ensures { result ≡ gone_in (books self.now) ((books self.now).result call) };
+}
+
+impl<'a> View<'a> {
+    // Whether a body's Leave fixed the answer of a call.
+    fn is_left(&self, call: u32) -> bool
+        ensures { result ≡ is_leave ((bare self.now).ending call) }
+    {
+        match self.calls.ending(call) {
+            Some(ending) => is_leave(ending),
+            None => false,
+        }
+    }
+
+    // Whether the packet of an argument of a call was given up that travels as bytes.
+    fn has_lost_argument<R: References>(&self, refs: &R, call: u32) -> bool
+        ensures { result ≡ arguments_gone (sight_by self.now (R.books refs.now)) call }
+    {
+        match self.calls.issue(call) {
+            Some(issue) => {
+                if issue.route.is_marshalled() {
+                    refs.lost_argument(call)
+                } else {
+                    false
+                }
+            }
+            None => false,
+        }
+    }
+
+    // Whether the packet of the result was given up that a body left a call with.
+    #[tactic(auto, using(crate::proofs::Gone::result_left, crate::proofs::Gone::result_not_left))]
+    fn has_lost_result<R: References>(&self, refs: &R, call: u32) -> bool
+        ensures { result ≡ result_gone (sight_by self.now (R.books refs.now)) call ((R.books refs.now).result call) }
+    {
+        if self.is_left(call) {
+            refs.lost_result(call)
+        } else {
+            false
+        }
+    }
+
+    // The first packet of an argument to give up, of a call that was not entered.
+    fn packet_left<R: References>(&self, refs: &R, call: u32) -> Option<u32>
+        ensures { result ≡ packet_left (sight_by self.now (R.books refs.now)) call }
+    {
+        match self.calls.admission(call) {
+            Some(_) => None,
+            None => refs.left_argument(call),
+        }
+    }
+
+    // What a call with an answer gives up or comes back with.
+    fn answer_of<R: References>(&self, refs: &R, call: u32) -> Result<Option<Deed>, Memory>
+        ensures { IfOk result (λ deed. deed ≡ option_map (λ x. answered (sight_by self.now (R.books refs.now)) call x (packet_left (sight_by self.now (R.books refs.now)) call)) (due_of (sight_by self.now (R.books refs.now)) call)) }
+    {
+        if !self.is_answered(call) {
+            return Ok(None);
+        }
+        if let Some(packet) = self.packet_left(refs, call) {
+            return Ok(Some(Deed::DropPacket {
+                packet: Some(packet),
+                hr: HResult::S_OK,
+            }));
+        }
+        let gone = self.has_lost_result(refs, call);
+        self.back(call, gone)
+    }
+
+    /// What the lane's own call with an answer gives up, or comes back with. The only error is want of memory.
+    pub fn answer<R: References>(&self, refs: &R, lane: u32) -> Result<Option<Deed>, Memory>
+        ensures { IfOk result (λ deed. deed ≡ rule_answer (sight_by self.now (R.books refs.now)) lane) }
+    {
+        match self.own_call(lane) {
+            Some(call) => self.answer_of(refs, call),
+            None => Ok(None),
+        }
+    }
+
+    /// The admission of the lane's own direct or switched call. The only error is want of memory.
+    pub fn own<R: References>(
+        &self,
+        refs: &R,
+        alloc: Global,
+        lane: u32,
+    ) -> Result<Option<Deed>, Memory>
+        ensures { IfOk result (λ deed. deed ≡ rule_own self.now.scenario (sight_by self.now (R.books refs.now)) lane) }
+    {
+        let Some(call) = self.own_call(lane) else {
+            return Ok(None);
+        };
+        if !self.enters_itself(call) {
+            return Ok(None);
+        }
+        let gone = self.has_lost_argument(refs, call);
+        let deed = self.admission(alloc, lane, call, gone)?;
+        Ok(Some(deed))
+    }
+
+    /// The admission of the first call of the inbox that the lane serves. The only error is want of memory.
+    pub fn inbox<R: References>(
+        &self,
+        refs: &R,
+        alloc: Global,
+        lane: u32,
+    ) -> Result<Option<Deed>, Memory>
+        ensures { IfOk result (λ deed. deed ≡ rule_inbox self.now.scenario (sight_by self.now (R.books refs.now)) lane) }
+    {
+        let Some(call) = self.admits_next(lane) else {
+            return Ok(None);
+        };
+        let gone = self.has_lost_argument(refs, call);
+        let deed = self.admission(alloc, lane, call, gone)?;
+        Ok(Some(deed))
+    }
+
+    /// The entry that the first of the rules after that of the inbox gives a lane, but for that of its script.
+    pub fn ruled_later(&self, lane: u32) -> Option<Deed>
+        ensures { (b : Books) → result ≡ or_else (rule_retry self.now.scenario (sight_by self.now b) lane)
+            (or_else (rule_again (sight_by self.now b) lane)
+            (or_else (rule_pending self.now.scenario (sight_by self.now b) lane) (rule_word (sight_by self.now b) lane))) }
+    {
+        if let Some(deed) = self.retry(lane) {
+            return Some(deed);
+        }
+        if let Some(deed) = self.again(lane) {
+            return Some(deed);
+        }
+        if let Some(deed) = self.pending(lane) {
+            return Some(deed);
+        }
+        self.word(lane)
+    }
+}

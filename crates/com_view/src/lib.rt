@@ -1,0 +1,23 @@
+//! The entry that a lane makes next, computed from the parts of a core by reference. Nothing is changed.
+#![tactic(auto)]
+
+mod actions;
+mod admission;
+mod answering;
+mod entering;
+mod holding;
+mod lanes;
+mod laws;
+mod next;
+mod objects;
+mod references;
+mod rules;
+mod sorts;
+mod standing;
+mod view;
+
+pub use holding::References;
+pub use laws::reads_the_state;
+pub use next::Next;
+pub use sorts::{Sort, sort_of};
+pub use view::View;
