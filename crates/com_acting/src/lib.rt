@@ -9,12 +9,10 @@ ghost use Rattle.com_scene.specs.Scenes.{frame_of};
 ghost use Rattle.com_acting.specs.Turns.{cells_for, step_of};
 
 mod laws;
-mod moves;
 
 use com_body::{Body, Cells, Frame, Memory, Outcome, step};
 use com_scene::{Actor, Scene};
 pub use laws::steps_are_outcomes;
-pub use moves::{Held, Moved, Spot, return_move, step_move};
 use std::alloc::Global;
 
 // A copy of the frame of whoever acts.
