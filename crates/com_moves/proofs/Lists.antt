@@ -19,16 +19,6 @@ pub append_none : (xs : List Moving) → xs ++ [] ≡ xs
 append_none [] = refl
 append_none (x ∷ xs) = ap (λ (ys : List Moving). x ∷ ys) (append_none xs)
 
-pub set_same : (xs : List (Option RefValue)) (k : ℕ) (held : Option RefValue) → k < length xs → slice_index_or (slice_set xs k held) k None ≡ held
-set_same [] k held p = absurd (omega (arith, p))
-set_same (x ∷ xs) zero held p = refl
-set_same (x ∷ xs) (suc k) held p = set_same xs k held (omega (arith, p))
-
-pub set_past : (xs : List (Option RefValue)) (k : ℕ) (held : Option RefValue) → length xs ≤ k → slice_index_or (slice_set xs k held) k None ≡ None
-set_past [] k held p = refl
-set_past (x ∷ xs) zero held p = absurd (omega (arith, p))
-set_past (x ∷ xs) (suc k) held p = set_past xs k held (omega (arith, p))
-
 pub all_moved_more : (a : Option ℕ) (xs ys : List (Option RefValue)) → all_moved a (xs ++ ys) ≡ all_moved a xs ++ all_moved a ys
 all_moved_more a [] ys = refl
 all_moved_more a (x ∷ xs) ys = ap (λ (ms : List Moving). moved a x ++ ms) (all_moved_more a xs ys) ∙ sym (append_assoc (moved a x) (all_moved a xs) (all_moved a ys))

@@ -1,6 +1,6 @@
 -- The moves of an entry over a state that stands for a history, and what they rest on.
 use Rattle.std.proofs.Common.{ap, ap₂, subst, sym, ◌∙◌}
-use Rattle.std.specs.Prelude.{◌≡◌, refl, ℕ, zero, suc, ◌+◌, cond, ◌==◌, List, [], ◌∷◌, ◌++◌, Option, Some, None, slice_index_or, slice_set}
+use Rattle.std.specs.Prelude.{◌≡◌, refl, ℕ, zero, suc, ◌+◌, cond, ◌==◌, List, [], ◌∷◌, ◌++◌, Option, Some, None, slice_index_or}
 use Rattle.com_base.specs.declared.value.RefValue.{RefValue}
 use Rattle.com_body.specs.declared.frame.Outcome.{Outcome}
 use Rattle.com_model.specs.declared.deeds.Deed.{Deed}
@@ -86,7 +86,7 @@ same-links g f k w Nobody n held = refl
 
 same-write : (g : Ground) (f k : ℕ → Option ℕ) (l : ℕ) (w : Scene) (a : Actor) (x : Write) → f l ≡ k l → OfLane l a → write_moves (with_home g f) w a x ≡ write_moves (with_home g k) w a x
 same-write g f k l w a (ToRegister n v) e m = refl
-same-write g f k l w a (ToSlot n held) e m = ap (λ (p : Option ℕ). record { lost = moved p (slice_index_or (slots_of w a) n None); gained = moved p (slice_index_or (slice_set (slots_of w a) n held) n None) }) (same-where g f k l a e m)
+same-write g f k l w a (ToSlot n held) e m = ap (λ (p : Option ℕ). record { lost = moved p (slice_index_or (slots_of w a) n None); gained = moved p held }) (same-where g f k l a e m)
 same-write g f k l w a (ToLink n held) e m = same-links g f k w a n held
 same-write g f k l w a (ToBuffer n bytes) e m = refl
 

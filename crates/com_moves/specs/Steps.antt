@@ -46,11 +46,11 @@ place_write (action.Unmarshal slot b) d = at_slot slot (taken_in d)
 place_write (action.Get slot g) d = at_slot slot (taken_in d)
 place_write _ d = None
 
--- A write at a place of a list takes what stood there, and brings what stands there now.
+-- A write at a place of a list takes what stood there, and brings what is written.
 abbrev pub exchanged : Option ℕ → List (Option RefValue) → ℕ → Option RefValue → Movings
 exchanged a xs k held = record {
   lost = moved a (slice_index_or xs k None);
-  gained = moved a (slice_index_or (slice_set xs k held) k None);
+  gained = moved a held;
 }
 
 abbrev pub link_exchanged : Ground → Actor → Outcome → ℕ → Option RefValue → Movings

@@ -2,6 +2,7 @@
 //! takes. All is read before anything is changed.
 ghost use Rattle.std.specs.Prelude.{◌≡◌, ℕ, Option, length, ◌++◌, ◌&&◌, not, false, [], ◌==◌, OnOk, OnErr, Some, None, if◌then◌else◌};
 ghost use Rattle.com_body.specs.Frames.{references};
+ghost use Rattle.com_model.specs.Apartments.{ends_sta};
 ghost use Rattle.com_model.specs.Calls.{is_direct, route_of};
 ghost use Rattle.com_model.specs.Frames.{Body, Script, value_reference};
 ghost use Rattle.com_model.specs.Lists.{from_one, one_to};
@@ -21,7 +22,7 @@ use crate::written::{Written, written_by};
 use com_base::{Memory, RefValue, Value};
 use com_body::{Destination, Outcome, Place};
 use com_calls::Calls;
-use com_model::{Deed, Route};
+use com_model::{Deed, Entry, Route};
 use com_objects::Objects;
 use com_scene::{Actor, Scene};
 
@@ -78,6 +79,23 @@ fn left_reference(calls: &Calls, call: u32) -> Option<RefValue>
         Some(Value::Ref(held)) => *held,
         _ => None,
     }
+}
+
+// The STA that a last Uninit ends.
+fn ended_sta(deed: &Deed) -> Option<u32>
+    ensures { result ≡ ends_sta deed.now }
+{
+    let Deed::Uninit {
+        home: Some(apartment),
+        count: 0,
+    } = deed
+    else {
+        return None;
+    };
+    if *apartment < 2 {
+        return None;
+    }
+    Some(*apartment)
 }
 
 #[tactic(auto, using(crate::proofs::Lists::append_none))]
@@ -397,5 +415,93 @@ impl Moves {
             self.end_links(objects, scene, acting, outcome, deed, apartment, object + 1)?;
         }
         Ok(())
+    }
+
+    // What the end of an STA takes, where the entry ends one.
+    fn end(
+        &mut self,
+        home: Option<u32>,
+        objects: &Objects,
+        calls: &Calls,
+        scene: &Scene,
+        acting: Actor,
+        outcome: &Option<Outcome>,
+        deed: &Deed,
+    ) -> Result<(), Memory>
+        requires { FitsDeed deed.now }
+        ensures { OnOk result (self.new ≡ together self.old (ended_stepped (ground_at home objects.now calls.now.tables)
+            scene.now (acting_of acting) outcome.now deed.now (ends_sta deed.now))) }
+    {
+        let Some(apartment) = ended_sta(deed) else {
+            return Ok(());
+        };
+        self.end_sta(objects, scene, acting, outcome, deed, apartment)
+    }
+
+    // All that an entry takes and brings.
+    #[tactic(auto, using(crate::proofs::Lists::all_together))]
+    fn add_all(
+        &mut self,
+        home: Option<u32>,
+        objects: &Objects,
+        calls: &Calls,
+        scene: &Scene,
+        acting: Actor,
+        outcome: &Option<Outcome>,
+        after: Actor,
+        entry: &Entry,
+    ) -> Result<(), Memory>
+        requires deed { FitsDeed entry.now.deed }
+        requires outcome { IsWhole outcome.now }
+        requires bodies { BodiesWhole scene.now }
+        requires after { FrameWhole scene.now (acting_of after) }
+        ensures { OnOk result (self.new ≡ together self.old (moves_stepped (ground_at home objects.now calls.now.tables)
+            scene.now (acting_of acting) outcome.now (acting_of after) entry.now)) }
+    {
+        self.act(home, objects, calls, acting, outcome, &entry.deed)?;
+        self.arrive(
+            home,
+            objects,
+            calls,
+            scene,
+            acting,
+            outcome,
+            after,
+            entry.lane,
+            &entry.deed,
+        )?;
+        self.end(home, objects, calls, scene, acting, outcome, &entry.deed)
+    }
+
+    /// Fills the lists anew with all that an entry takes from places and brings to them, by the tables before the entry: the
+    /// home of its lane, who acts and with which outcome, and who acts in the lane after it. `Memory`: no memory was left, and
+    /// the lists are empty.
+    pub fn fill(
+        &mut self,
+        home: Option<u32>,
+        objects: &Objects,
+        calls: &Calls,
+        scene: &Scene,
+        acting: Actor,
+        outcome: &Option<Outcome>,
+        after: Actor,
+        entry: &Entry,
+    ) -> Result<(), Memory>
+        requires deed { FitsDeed entry.now.deed }
+        requires outcome { IsWhole outcome.now }
+        requires bodies { BodiesWhole scene.now }
+        requires after { FrameWhole scene.now (acting_of after) }
+        ensures moves { OnOk result (self.new ≡ moves_stepped (ground_at home objects.now calls.now.tables)
+            scene.now (acting_of acting) outcome.now (acting_of after) entry.now) }
+        ensures err { OnErr result (self.new ≡ no_moves) }
+    {
+        self.clear();
+        match self.add_all(home, objects, calls, scene, acting, outcome, after, entry) {
+            Ok(()) => Ok(()),
+            Err(memory) => {
+                self.clear();
+                Err(memory)
+            }
+        }
     }
 }

@@ -1,5 +1,5 @@
 //! The moves of an entry, as two lists that are used again from entry to entry.
-ghost use Rattle.std.specs.Prelude.{◌≡◌, OnOk, Some, None, [], ◌∷◌, ◌++◌, slice_index_or, slice_set};
+ghost use Rattle.std.specs.Prelude.{◌≡◌, OnOk, Some, None, [], ◌∷◌, ◌++◌, slice_index_or};
 ghost use Rattle.com_body.specs.Frames.{references};
 ghost use Rattle.com_places.specs.Moves.{no_moves, together, moved, all_moved};
 ghost use Rattle.com_moves.specs.Steps.{movings_of, exchanged};
@@ -60,17 +60,6 @@ fn held_at(places: &[Option<RefValue>], number: u8) -> Option<RefValue>
     None
 }
 
-// What a place of a list holds after a write there, and null beyond the list.
-#[tactic(auto, using(crate::proofs::Lists::set_same, crate::proofs::Lists::set_past))]
-fn held_after(places: &[Option<RefValue>], number: u8, held: Option<RefValue>) -> Option<RefValue>
-    ensures { result ≡ slice_index_or (slice_set places.now number held) number None }
-{
-    if (number as usize) < places.len() {
-        return held;
-    }
-    None
-}
-
 #[tactic(auto, using(crate::proofs::Lists::append_none))]
 impl Moves {
     /// No moves. It takes no memory.
@@ -116,7 +105,7 @@ impl Moves {
         ensures { OnOk result (self.new ≡ together self.old (exchanged apartment places.now number held)) }
     {
         self.lose(apartment, held_at(places, number))?;
-        self.gain(apartment, held_after(places, number, held))
+        self.gain(apartment, held)
     }
 
     // An apartment loses all that a list of places holds.
