@@ -14,7 +14,7 @@ use Rattle.com_model.specs.Ends.{Turn, can_pick, picked, lanes_after, in_round, 
 use Rattle.com_model.specs.State.{State, sight_of}
 use Rattle.com_drive.specs.declared.runtime.Standing.{Standing}
 use Rattle.com_drive.specs.declared.runtime.Standing.TheVariants as standing
-use Rattle.com_drive.specs.Standings.{can_step_in, can_pick_in, standing_of, ended_now, turn_now, budget_of, CanGo}
+use Rattle.com_drive.specs.Standings.{can_step_in, can_pick_in, none_can_in, finished_in, standing_of, ended_now, turn_now, budget_of, CanGo, HasTurn, Rests}
 
 -- ---- picks
 
@@ -251,12 +251,63 @@ not-false false e = cc
 both : (b : Bool) → b ≡ true → b ≡ false → ⊥
 both b p q = cc
 
-pub some_goes : (s : Scenario) (st : State) (last : ℕ) → standing_of s st ≡ standing.Runs → last ≤ lanes s → None ≡ first_that (can_step_in s st) (lanes_after s last) → ⊥
-unfolding can_step_in
-some_goes s st last e p q =
-    both (any_of (can_step s (sight_of s st)) (one_to (lanes s)))
-    (not-false _ ((is-runs s st e).2))
-    (none-anywhere (can_step s (sight_of s st)) (lanes s) last p (sym q))
+pub none_can : (s : Scenario) (st : State) (last : ℕ) → last ≤ lanes s → None ≡ first_that (can_step_in s st) (lanes_after s last) → none_can_in s st ≡ true
+unfolding can_step_in none_can_in
+none_can s st last p q = ap not (none-anywhere (can_step s (sight_of s st)) (lanes s) last p (sym q))
+
+pub has_picked : (s : Scenario) (st : State) (picks left : List ℕ) (last l : ℕ) → picked (can_pick_in s st) picks ≡ Some (record { lane = l; picks = left }) → HasTurn s st picks last l left
+has_picked s st picks left last l p = record { turn = λ e. turn_picked s st picks last (record { lane = l; picks = left }) e p }
+
+pub has_round : (s : Scenario) (st : State) (picks left : List ℕ) (last l n : ℕ) → n ≡ length picks → picked (can_pick_in s st) left ≡ None → Some l ≡ first_that (can_step_in s st) (lanes_after s last) → HasTurn s st left last l (drop n picks)
+has_round s st picks left last l n e p q = record { turn = λ r. turn_round s st picks left last l r p q ∙ ap (λ (k : ℕ). chosen l (drop k picks)) (sym e) }
+
+pub same_turn : (s : Scenario) (st : State) (all picks : List ℕ) (tried left last l : ℕ) → all ≡ picks → HasTurn s st (drop tried all) last l (drop left all) → HasTurn s st (drop tried picks) last l (drop left picks)
+same_turn s st all picks tried left last l e p = subst (λ (xs : List ℕ). HasTurn s st (drop tried xs) last l (drop left xs)) e p
+
+pub same_rests : (r s : Scenario) (st : State) → r ≡ s → Rests s st → Rests r st
+same_rests r s st e p = subst (λ (x : Scenario). Rests x st) (sym e) p
+
+-- ---- how the state stands where a lane can step
+
+any-left : (can : ℕ → Bool) (xs ys : List ℕ) → any_of can xs ≡ true → any_of can (xs ++ ys) ≡ true
+any-left can [] ys e = cc
+any-left can (x ∷ xs) ys e =
+    elim (can x) as (λ b. (b || any_of can xs) ≡ true → (b || any_of can (xs ++ ys)) ≡ true) [
+      | true ↦ λ p. refl
+      | false ↦ λ p. any-left can xs ys p
+    ] e
+
+any-right : (can : ℕ → Bool) (xs : List ℕ) (y : ℕ) → can y ≡ true → any_of can (xs ++ y ∷ []) ≡ true
+any-right can [] y e = ap (λ (b : Bool). b || false) e
+any-right can (x ∷ xs) y e =
+    elim (can x) as (λ b. (b || any_of can (xs ++ y ∷ [])) ≡ true) [
+      | true ↦ refl
+      | false ↦ any-right can xs y e
+    ]
+
+any-within : (can : ℕ → Bool) (n l : ℕ) → 1 ≤ l → l ≤ n → can l ≡ true → any_of can (one_to n) ≡ true
+any-within can zero l p q e = absurd (omega (arith, p, q))
+any-within can (suc n) l p q e =
+    elim (nat_le l n) as (λ t. nat_le l n ≡ t → any_of can (one_to (suc n)) ≡ true) [
+      | true ↦ λ z. any-left can (one_to n) (suc n ∷ []) (any-within can n l p (grind (arith, common_steps, z)) e)
+      | false ↦ λ z. let same : l ≡ suc n = grind (arith, common_steps, z, q) in any-right can (one_to n) (suc n) (ap can (sym same) ∙ e)
+    ] refl
+
+runs-if : (f n : Bool) (x : Option ℕ) → (f ≡ true → n ≡ true) → n ≡ false → standing_by f (n && (is_none x && not f)) n ≡ standing.Runs
+runs-if true true x p e = cc
+runs-if true false x p e = absurd (both true refl (sym (p refl) ∙ e))
+runs-if false true x p e = cc
+runs-if false false x p e = refl
+
+pub runs_when : (s : Scenario) (st : State) (l : ℕ) → Rests s st → CanGo s st l → standing.Runs ≡ standing_of s st
+unfolding standing_of can_step_in none_can_in finished_in
+runs_when s st l p g =
+    sym (runs-if (finished_by s (sight_of s st)) (no_lane_can s (sight_of s st)) (tick_time (sight_of s st)) p
+    (ap not (any-within (can_step s (sight_of s st)) (lanes s) l g.0 g.1 g.2)))
+
+pub not_runs : (s : Scenario) (st : State) → standing.Runs ≡ standing_of s st → none_can_in s st ≡ true → ⊥
+unfolding none_can_in
+not_runs s st e p = both (no_lane_can s (sight_of s st)) p ((is-runs s st (sym e)).2)
 
 clock-due : (f k n : Bool) (x : Option ℕ) (picks : List ℕ) → n ≡ true → f ≡ false → (n && (is_none x && not f)) ≡ false → option_map (λ (t : ℕ). record { lane = 0; picks = picks }) x ≡ chosen 0 picks
 clock-due f k n (Some t) picks a b c = refl

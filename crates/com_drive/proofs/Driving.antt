@@ -31,7 +31,7 @@ use Rattle.com_drive.specs.Standings.{ended_now, turn_now}
 use Rattle.com_drive.specs.Turns.{IsNext, IsTurn, GoesOn, next_line, served_in, served_at, served_by, body_kind, one_served}
 use Rattle.com_drive.specs.declared.stream.Step.{Step}
 use Rattle.com_drive.specs.declared.stream.Step.TheVariants.{Made, Over}
-use Rattle.com_drive.specs.Steps.{Moment, IsMade, IsOver, Interrupted, Fails, StepsTo}
+use Rattle.com_drive.specs.Steps.{Moment, IsMade, IsOver, Interrupted, Fails, StepsTo, over_of}
 use Rattle.com_drive.specs.Reports.{counts_in, all_counts_in}
 use Rattle.com_drive.specs.Replays.{whole_text, whole_history, whole_served, IsReplay}
 use Rattle.com_drive.proofs.Turning.{below_limit, one_entry}
@@ -298,24 +298,29 @@ pub driving_start_at : (s : Scenario) (start : Option (List ℕ)) (from : List �
 driving_start_at s start from st tried last lines e t l none =
     driving_start s start from (record { state = st; picks = drop tried s.picks; last = last; lines = lines; held = start; steps = from }) e (ap (λ (n : ℕ). drop n s.picks) t) l none refl refl
 
-pub driving_on_step : (s : Scenario) (start : Option (List ℕ)) (from : List ℕ) (m n : Moment) (step : Step) (e : Entry) → Formed s → Driving s start from m → StepsTo s m n step → step ≡ Made e → Driving s start from n
-driving_on_step s start from m n step e f p q is = driving_on s start from m n e f p (subst (StepsTo s m n) is q)
+pub driving_on_step : (s : Scenario) (start : Option (List ℕ)) (from : List ℕ) (m n : Moment) (step : Step) → Formed s → Driving s start from m → StepsTo s m n step → over_of step ≡ None → Driving s start from n
+driving_on_step s start from m n (Made e) f p q is = driving_on s start from m n e f p q
+driving_on_step s start from m n (Over x) f p q is = cc
 
-pub driving_smaller : (s : Scenario) (start : Option (List ℕ)) (from : List ℕ) (m n : Moment) (step : Step) (e : Entry) → Driving s start from m → StepsTo s m n step → step ≡ Made e → limit s - n.state.entries < limit s - m.state.entries
-driving_smaller s start from m n step e p q is =
-    let made : IsMade s m n e = subst (StepsTo s m n) is q in
+fewer : (most a b : ℕ) → a < most → b ≡ a + 1 → most - b < most - a
+fewer most a b h k = omega (arith, h, k)
+
+pub driving_smaller : (s : Scenario) (start : Option (List ℕ)) (from : List ℕ) (m n : Moment) (step : Step) → Driving s start from m → StepsTo s m n step → over_of step ≡ None → limit s - n.state.entries < limit s - m.state.entries
+driving_smaller s start from m n (Made e) p q is =
     fewer (limit s) m.state.entries n.state.entries
-    (below_limit s m.state made.turn.goes_on (driving_within s start from m p))
-    (one_entry s m.state n.state e.lane e made.turn.next)
-  where
-    fewer : (most a b : ℕ) → a < most → b ≡ a + 1 → most - b < most - a
-    fewer most a b h k = omega (arith, h, k)
+    (below_limit s m.state q.turn.goes_on (driving_within s start from m p))
+    (one_entry s m.state n.state e.lane e q.turn.next)
+driving_smaller s start from m n (Over x) p q is = cc
 
-pub driving_over_step : (s : Scenario) (start : Option (List ℕ)) (from : List ℕ) (m n : Moment) (step : Step) (x : Ended) → Driving s start from m → StepsTo s m n step → step ≡ Over x → Ending s start from n x
-driving_over_step s start from m n step x p q is =
-    let over : IsOver s m n x = subst (StepsTo s m n) is q in
-    subst (λ (k : Moment). Ending s start from k x) (sym over.same) (driving_over s start from m x p over.ended)
+pub driving_over_step : (s : Scenario) (start : Option (List ℕ)) (from : List ℕ) (m n : Moment) (step : Step) (x : Ended) → Driving s start from m → StepsTo s m n step → over_of step ≡ Some x → Ending s start from n x
+driving_over_step s start from m n (Made e) x p q is = cc
+driving_over_step s start from m n (Over y) x p q is =
+    subst (λ (k : Moment). Ending s start from k x) (sym q.same) (driving_over s start from m x p (q.ended ∙ is))
 
 pub on-ok : {A E : Type 0} (r : Result A E) (P : Type 0) → P → OnOk r P
 on-ok (Ok x) P p = p
 on-ok (Err e) P p = tt
+
+pub not-some : {A : Type 0} (o : Option A) → ((x : A) → o ≡ Some x → ⊥) → o ≡ None
+not-some None p = refl
+not-some (Some x) p = absurd (p x refl)

@@ -3,3 +3,4 @@ pub mod Kept
 pub mod Turning
 pub mod Counting
 pub mod Driving
+pub mod Resting

@@ -38,3 +38,17 @@ budget_of s st = if st.entries == limit s then Some ended.Budget else None
 -- A lane that can step.
 abbrev pub CanGo : Scenario → State → ℕ → Type 0
 CanGo s st l = (1 ≤ l) × (l ≤ lanes s) × (can_step_in s st l ≡ true)
+
+unfoldable pub none_can_in : Scenario → State → Bool
+none_can_in s st = no_lane_can s (sight_of s st)
+
+unfoldable pub finished_in : Scenario → State → Bool
+finished_in s st = finished_by s (sight_of s st)
+
+-- Where all has ended no lane can step. It is so of each state that stands for a history of a formed scenario.
+abbrev pub Rests : Scenario → State → Type 0
+Rests s st = finished_in s st ≡ true → none_can_in s st ≡ true
+
+-- The turn is that of a lane, with these picks left, if any lane can step.
+pub record HasTurn (s : Scenario) (st : State) (picks : List ℕ) (last lane : ℕ) (left : List ℕ) : Type 0 where
+  pub turn : standing_of s st ≡ standing.Runs → turn_now s st picks last ≡ Some (record { lane = lane; picks = left })

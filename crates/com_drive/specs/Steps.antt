@@ -1,5 +1,5 @@
 -- What a step of a stream does.
-use Rattle.std.specs.Prelude.{◌≡◌, ℕ, ◌++◌, List, Option, Some, ◌⊎◌}
+use Rattle.std.specs.Prelude.{◌≡◌, ℕ, ◌++◌, List, Option, Some, None, ◌⊎◌}
 use Rattle.com_io.specs.Told.{GainsPrefix}
 use Rattle.com_model.specs.declared.counts.Ended.{Ended}
 use Rattle.com_model.specs.declared.deeds.Entry.{Entry}
@@ -34,6 +34,10 @@ pub record IsOver (s : Scenario) (m n : Moment) (x : Ended) : Type 0 where
 abbrev pub StepsTo : Scenario → (before after : Moment) → Step → Type 0
 StepsTo s m n (Made e) = IsMade s m n e
 StepsTo s m n (Over x) = IsOver s m n x
+
+abbrev pub over_of : Step → Option Ended
+over_of (Made e) = None
+over_of (Over x) = Some x
 
 -- A turn was made, and its line was begun.
 pub record Interrupted (s : Scenario) (m : Moment) (held : Option (List ℕ)) : Type 0 where

@@ -4,8 +4,7 @@ ghost use Rattle.com_books.specs.Counting.{numbers_from};
 ghost use Rattle.com_model.specs.Lists.{first_that};
 ghost use Rattle.com_model.specs.Tables.{lanes};
 ghost use Rattle.com_model.specs.Ends.{picked, lanes_after};
-ghost use Rattle.com_drive.specs.declared.runtime.Standing.TheVariants as standing;
-ghost use Rattle.com_drive.specs.Standings.{can_step_in, can_pick_in, standing_of, ended_now, turn_now, budget_of, CanGo};
+ghost use Rattle.com_drive.specs.Standings.{can_step_in, can_pick_in, none_can_in, standing_of, ended_now, budget_of, CanGo, HasTurn, Rests};
 
 use crate::runtime::{Runtime, Standing};
 use com_model::{Ended, Scenario};
@@ -86,23 +85,36 @@ fn in_round<C: Runtime>(runtime: &C, last: u32) -> Option<u32>
 }
 
 /// The lane whose turn it is, where one can step: `tried` of the picks were tried before, and `last` is the last lane.
-#[tactic(auto, using(crate::proofs::Choices::turn_picked, crate::proofs::Choices::turn_round, crate::proofs::Choices::some_goes))]
-pub fn choose<C: Runtime>(runtime: &C, picks: &[u32], tried: usize, last: u32) -> Chosen
-    requires runs { standing_of (C.scenario runtime.now) (C.state runtime.now) ≡ standing.Runs }
-    requires last { last ≤ lanes (C.scenario runtime.now) }
-    ensures turn { turn_now (C.scenario runtime.now) (C.state runtime.now) (drop tried picks.now) last
-        ≡ Some (record { lane = result.lane; picks = drop result.tried picks.now }) }
-    ensures goes { CanGo (C.scenario runtime.now) (C.state runtime.now) result.lane }
+#[tactic(auto, using(crate::proofs::Choices::has_picked, crate::proofs::Choices::has_round, crate::proofs::Choices::none_can))]
+pub fn choose<C: Runtime>(runtime: &C, picks: &[u32], tried: usize, last: u32) -> Option<Chosen>
+    requires { last ≤ lanes (C.scenario runtime.now) }
+    ensures turn { IfSome result (λ chosen. HasTurn (C.scenario runtime.now) (C.state runtime.now) (drop tried picks.now) last
+        chosen.lane (drop chosen.tried picks.now)) }
+    ensures goes { IfSome result (λ chosen. CanGo (C.scenario runtime.now) (C.state runtime.now) chosen.lane) }
+    ensures none { result ≡ None → none_can_in (C.scenario runtime.now) (C.state runtime.now) ≡ true }
 {
     if let Some(chosen) = pick(runtime, picks, tried) {
-        return chosen;
+        return Some(chosen);
     }
     match in_round(runtime, last) {
-        Some(lane) => Chosen {
+        Some(lane) => Some(Chosen {
             lane,
             tried: picks.len(),
-        },
-        None => unreachable!(),
+        }),
+        None => None,
+    }
+}
+
+/// How a runtime stands, whose lanes were tried: it runs where one of them can step.
+#[tactic(auto, using(crate::proofs::Choices::runs_when))]
+pub fn stand<C: Runtime>(runtime: &C, chosen: Option<Chosen>) -> Standing
+    requires goes { IfSome chosen (λ chosen. CanGo (C.scenario runtime.now) (C.state runtime.now) chosen.lane) }
+    requires rests { Rests (C.scenario runtime.now) (C.state runtime.now) }
+    ensures { result ≡ standing_of (C.scenario runtime.now) (C.state runtime.now) }
+{
+    match chosen {
+        Some(_) => Standing::Runs,
+        None => runtime.standing(),
     }
 }
 

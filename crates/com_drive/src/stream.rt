@@ -1,5 +1,5 @@
 //! A history entry by entry: each step is one turn of the schedule and one line.
-ghost use Rattle.std.specs.Prelude.{◌≡◌, ℕ, ◌<◌, ◌≤◌, ◌+◌, ◌++◌, [], None, IfOk, OnOk, Err, OnErr, map, drop};
+ghost use Rattle.std.specs.Prelude.{◌≡◌, ℕ, ◌<◌, ◌≤◌, ◌+◌, ◌++◌, [], true, None, IfOk, IfSome, OnOk, Err, OnErr, map, drop};
 ghost use Rattle.com_io.specs.Faults.{Rose};
 ghost use Rattle.com_io.specs.Told.{Gains, GainsPrefix};
 ghost use Rattle.com_model.specs.Text.{report_text};
@@ -8,7 +8,7 @@ ghost use Rattle.com_model.specs.Tables.{lanes};
 ghost use Rattle.com_model.specs.Ends.{limit};
 ghost use Rattle.com_servant.specs.Rows.{row};
 ghost use Rattle.com_drive.specs.declared.lines.ReplayError.TheVariants as replay_error;
-ghost use Rattle.com_drive.specs.Standings.{standing_of, ended_now};
+ghost use Rattle.com_drive.specs.Standings.{standing_of, ended_now, none_can_in, CanGo, HasTurn, Rests};
 ghost use Rattle.com_drive.specs.declared.runtime.Standing.TheVariants as standing;
 ghost use Rattle.com_drive.specs.Turns.{IsTurn, served_in};
 ghost use Rattle.com_drive.specs.Steps.{StepsTo, Fails};
@@ -17,7 +17,7 @@ use crate::finish::finish;
 use crate::lines::{ReplayError, show};
 use crate::replayed::Replayed;
 use crate::runtime::{Runtime, Standing};
-use crate::schedule::{choose, ended};
+use crate::schedule::{Chosen, choose, ended, stand};
 use com_base::{ByteList, Memory};
 use com_io::Sink;
 use com_model::{Ended, Entry, Scenario};
@@ -63,10 +63,14 @@ impl Stream {
         alloc: Global,
         scenario: &Scenario,
         runtime: &mut C,
+        chosen: Chosen,
         servants: &mut Vec<Box<dyn Servant + Send>>,
     ) -> Result<Entry, Memory>
         requires scenario { C.scenario runtime.old ≡ scenario.now }
         requires runs { standing_of scenario.now (C.state runtime.old) ≡ standing.Runs }
+        requires goes { CanGo (C.scenario runtime.old) (C.state runtime.old) chosen.lane }
+        requires turn { HasTurn (C.scenario runtime.old) (C.state runtime.old) (drop self.old.tried scenario.now.picks) self.old.last
+            chosen.lane (drop chosen.tried scenario.now.picks) }
         requires goes_on { ended_now scenario.now (C.state runtime.old) ≡ None }
         requires entries { (C.state runtime.old).entries ≤ limit scenario.now }
         requires last { self.old.last ≤ lanes scenario.now }
@@ -80,7 +84,6 @@ impl Stream {
         ensures served { IfOk result (λ entry. map stepped servants.new.items
             ≡ served_in scenario.now (C.state runtime.old) entry.lane (map stepped servants.old.items)) }
     {
-        let chosen = choose(runtime, scenario.picks.as_slice(), self.tried, self.last);
         let entry = runtime.step(alloc, chosen.lane, servants)?;
         self.tried = chosen.tried;
         self.last = chosen.lane;
@@ -88,17 +91,22 @@ impl Stream {
     }
 
     // Has the lane whose turn it is make its entry, or the clock where no lane can step.
-    #[tactic(auto, using(crate::proofs::Turning::turn_of_clock, crate::proofs::Turning::below_limit, crate::proofs::Turning::clock_serves, crate::proofs::Turning::not_finished, crate::proofs::Turning::not_stuck))]
+    #[tactic(auto, using(crate::proofs::Turning::turn_of_clock, crate::proofs::Turning::below_limit, crate::proofs::Turning::clock_serves, crate::proofs::Turning::not_finished, crate::proofs::Turning::not_stuck, crate::proofs::Choices::not_runs))]
     fn turn<C: Runtime>(
         &mut self,
         alloc: Global,
         scenario: &Scenario,
         runtime: &mut C,
         standing: Standing,
+        chosen: Option<Chosen>,
         servants: &mut Vec<Box<dyn Servant + Send>>,
     ) -> Result<Entry, Memory>
         requires scenario { C.scenario runtime.old ≡ scenario.now }
         requires standing { standing ≡ standing_of scenario.now (C.state runtime.old) }
+        requires goes { IfSome chosen (λ chosen. CanGo (C.scenario runtime.old) (C.state runtime.old) chosen.lane) }
+        requires turn { IfSome chosen (λ chosen. HasTurn (C.scenario runtime.old) (C.state runtime.old)
+            (drop self.old.tried scenario.now.picks) self.old.last chosen.lane (drop chosen.tried scenario.now.picks)) }
+        requires none { chosen ≡ None → none_can_in (C.scenario runtime.old) (C.state runtime.old) ≡ true }
         requires goes_on { ended_now scenario.now (C.state runtime.old) ≡ None }
         requires entries { (C.state runtime.old).entries ≤ limit scenario.now }
         requires last { self.old.last ≤ lanes scenario.now }
@@ -113,7 +121,10 @@ impl Stream {
             ≡ served_in scenario.now (C.state runtime.old) entry.lane (map stepped servants.old.items)) }
     {
         match standing {
-            Standing::Runs => self.lane_turn(alloc, scenario, runtime, servants),
+            Standing::Runs => match chosen {
+                Some(chosen) => self.lane_turn(alloc, scenario, runtime, chosen, servants),
+                None => unreachable!(),
+            },
             Standing::Ticks => {
                 let entry = runtime.tick()?;
                 Ok(entry)
@@ -126,9 +137,11 @@ impl Stream {
     /// Makes one turn of the schedule, and its line: the picks are tried first, each once, and then the lanes behind the last one
     /// and from 1 on; the clock goes on where no lane can step. Where the history has ended, nothing is done.
     ///
+    /// Where all has ended no lane can step: so it is in each state that stands for a history of a formed scenario.
+    ///
     /// `WriteFault` comes only where the sink's count of faults rose in this call, and `Memory` is want of memory. After either
     /// the lines may be broken off: what was written is a prefix of what was kept and the turn's line.
-    #[tactic(auto, using(crate::proofs::Turning::step_over, crate::proofs::Turning::step_made, crate::proofs::Turning::step_failed, crate::proofs::Turning::step_began))]
+    #[tactic(auto, using(crate::proofs::Turning::step_over, crate::proofs::Turning::step_made, crate::proofs::Turning::step_failed, crate::proofs::Turning::step_began, crate::proofs::Choices::same_turn, crate::proofs::Choices::same_rests))]
     pub fn step<C: Runtime, K: Sink>(
         &mut self,
         alloc: Global,
@@ -139,6 +152,7 @@ impl Stream {
     ) -> Result<Step, ReplayError>
         requires scenario { C.scenario runtime.old ≡ scenario.now }
         requires entries { (C.state runtime.old).entries ≤ limit scenario.now }
+        requires rests { Rests scenario.now (C.state runtime.old) }
         requires last { self.old.last ≤ lanes scenario.now }
         requires row { map kind_of servants.old.items ≡ row }
         ensures scenario { C.scenario runtime.new ≡ scenario.now }
@@ -170,11 +184,12 @@ impl Stream {
         ensures fault { result ≡ Err replay_error.WriteFault → Rose (K.faults_of sink.old) (K.faults_of sink.new) }
         ensures counts { K.faults_of sink.old ≤ K.faults_of sink.new }
     {
-        let standing = runtime.standing();
+        let chosen = choose(runtime, scenario.picks.as_slice(), self.tried, self.last);
+        let standing = stand(runtime, chosen);
         if let Some(ended) = ended(scenario, runtime, standing) {
             return Ok(Step::Over(ended));
         }
-        let entry = self.turn(alloc, scenario, runtime, standing, servants)?;
+        let entry = self.turn(alloc, scenario, runtime, standing, chosen, servants)?;
         let place = runtime.entries();
         show(
             alloc,

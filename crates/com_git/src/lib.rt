@@ -72,6 +72,13 @@ impl Git {
         }
     }
 
+    /// How many cookies were given.
+    pub fn given(&self) -> u32
+        ensures { result ≡ length self.now.entries }
+    {
+        self.slots.given()
+    }
+
     /// The reference under a cookie. `None` exactly where the cookie was never given or was revoked.
     /// Source: GetInterfaceFromGlobal.
     pub fn get(&self, cookie: u32) -> Option<RefValue>

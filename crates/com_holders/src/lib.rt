@@ -6,18 +6,19 @@
 //! chapter 5, on stubs, proxies and marshalling.
 #![tactic(auto)]
 
-ghost use Rattle.std.specs.Prelude.{◌≡◌, ◌+◌, ◌-◌, ◌*◌, ◌==◌, ◌<◌, ◌≤◌, ◌^◌, ◌↔◌, ◌/◌, ◌&&◌, ◌||◌, ℕ, true, false, not, nat_le, max, [], ◌∷◌, ◌++◌, length, OnOk, OnErr, IfOk, IsOk, IsTrue, Ok, Err, Some, None, if◌then◌else◌};
-ghost use Rattle.com_stub.specs.CounterRows.{counter_of, has_counter, changed_counter, more, less, sum_of, opened_all};
+ghost use Rattle.std.specs.Prelude.{◌≡◌, ◌+◌, ◌-◌, ◌*◌, ◌==◌, ◌<◌, ◌≤◌, ◌^◌, ◌↔◌, ◌/◌, ◌&&◌, ◌||◌, ℕ, true, false, not, nat_le, max, [], ◌∷◌, ◌++◌, length, OnOk, OnErr, IfOk, IsOk, IsTrue, Ok, Err, Some, None, IsSomeAnd, if◌then◌else◌};
+ghost use Rattle.com_stub.specs.CounterRows.{counter_of, has_counter, changed_counter, more, less, sum_of, opened_all, EachFirst};
 ghost use Rattle.com_stub.specs.StubRows.{is_connected, has_stub};
 ghost use Rattle.com_stub.specs.Tables.{total_of};
 ghost use Rattle.com_slots.specs.Table.{held_in};
-ghost use Rattle.com_proxy.specs.Rows.{public_of, split_rows, local_of, changed_row, gaining, one_local_more, IsFree};
+ghost use Rattle.com_proxy.specs.Rows.{public_of, split_rows, local_of, changed_row, gaining, one_local_more, public_sum, IsFree};
+ghost use Rattle.com_packets.specs.Sums.{normal_sum};
 ghost use Rattle.com_packets.specs.declared.Packet as P;
 ghost use Rattle.com_books.specs.Counting.{count_if};
 ghost use Rattle.com_books.specs.Changes.{Books, changed, change, cut, packet, cookie, Makes, Takes, Asks, Marshals, Unmarshals, Drops, Registers, Revokes, ToProxy, ToCookie, Join, Return, Withdraw, given_back};
 ghost use Rattle.com_holders.specs.Tables.{Tables, is_owned, books_of, owns_of, owners_of, object_in, direct_in, direct_less, direct_more, outstanding_in, offers};
 ghost use Rattle.com_holders.specs.Places.{OneMore, OneLess, SamePlaces, places_in, distinct};
-ghost use Rattle.com_holders.specs.Stands.{Gave, Released, Tells, Known, Bounded};
+ghost use Rattle.com_holders.specs.Stands.{Gave, Released, Tells, Known, Bounded, IsEven};
 ghost use Rattle.com_holders.specs.Steps.{minted, minted_counters, minted_rows, made_live, among};
 
 use com_base::{MarshalMode, RefValue};
@@ -452,7 +453,6 @@ impl Holders {
     // One place more of an apartment that does not own the object, and no public reference.
     fn share_elsewhere(&mut self, apartment: u32, held: RefValue)
         requires elsewhere { owns_of self.old.objects held.object apartment ≡ false }
-        requires connected { is_connected self.old.stubs held.object ≡ true }
         requires known { offers self.old held.object held.iface ≡ true }
         requires few { self.old.issued < 2 ^ 28 }
         requires room { 0 < self.old.spare }
@@ -462,6 +462,7 @@ impl Holders {
         ensures issued { self.new.issued ≡ self.old.issued + 1 }
         ensures spare { self.new.spare + 1 ≡ self.old.spare }
     {
+        let _public = self.public(apartment, held.object, held.iface);
         gain(&mut self.proxies, apartment, held, 0);
         self.issued += 1;
         self.room -= 1;
@@ -629,7 +630,6 @@ impl Holders {
     // The same without new references.
     pub fn take_shared(&mut self, apartment: u32, held: RefValue) -> Result<(), Memory>
         requires elsewhere { owns_of self.old.objects held.object apartment ≡ false }
-        requires connected { is_connected self.old.stubs held.object ≡ true }
         requires known { offers self.old held.object held.iface ≡ true }
         requires few { self.old.issued < 2 ^ 28 }
         ensures books { OnOk result (books_of self.new ≡ books_of self.old) }
@@ -761,6 +761,21 @@ impl Holders {
         self.stubs.is_connected(object)
     }
 
+    /// How many objects were made.
+    pub fn objects(&self) -> u32
+        ensures { result ≡ length self.now.objects }
+    {
+        let _issued = self.issued();
+        self.objects.len() as u32
+    }
+
+    /// How many references were given so far.
+    pub fn issued(&self) -> u32
+        ensures { result ≡ self.now.issued }
+    {
+        self.issued
+    }
+
     /// The interface is in the object's set.
     pub fn offers(&self, object: u32, iface: u16) -> bool
         ensures { result ≡ offers self.now object iface }
@@ -773,6 +788,48 @@ impl Holders {
         ensures { result ≡ (object_in self.now.objects object).direct }
     {
         object_at(&self.objects, object).direct
+    }
+
+    /// The owner of the object.
+    pub fn owner(&self, object: u32) -> u32
+        ensures { result ≡ (object_in self.now.objects object).owner }
+    {
+        object_at(&self.objects, object).owner
+    }
+
+    /// How many packets were made.
+    pub fn packets(&self) -> u32
+        ensures { result ≡ length self.now.packets }
+    {
+        self.packets.given()
+    }
+
+    /// How many cookies were given.
+    pub fn cookies(&self) -> u32
+        ensures { result ≡ length self.now.cookies }
+    {
+        self.cookies.given()
+    }
+
+    /// What the stub of the object counts, over all interfaces: nothing where the object is not connected.
+    pub fn counted(&self, object: u32) -> u64
+        ensures { result ≡ (if is_connected self.now.stubs object then sum_of self.now.counters object else 0) }
+    {
+        self.stubs.count(object)
+    }
+
+    /// The public references of all proxies of the object, where they have a number.
+    pub fn proxied(&self, object: u32) -> u64
+        ensures { public_sum object self.now.proxies < 2 ^ 64 → result ≡ public_sum object self.now.proxies }
+    {
+        self.proxies.total(object)
+    }
+
+    /// The public references of the normal packets of the object.
+    pub fn packed(&self, object: u32) -> u64
+        ensures { result ≡ normal_sum object self.now.packets }
+    {
+        self.packets.normal_refs(object)
     }
 
     /// The public references that the apartment's proxy has.
@@ -832,6 +889,40 @@ impl Holders {
             return;
         }
         self.keep_elsewhere(apartment, held);
+    }
+
+    /// Whether the apartment has a place of the reference: a direct one of the object where it owns that, else one of its proxy.
+    pub fn has_place(&self, apartment: u32, held: RefValue) -> bool
+        ensures exact { IsTrue result ↔ (0 < (if owns_of self.now.objects held.object apartment then (object_in self.now.objects held.object).direct else local_of self.now.proxies apartment held.object held.iface)) }
+        ensures proxied { IsTrue result → owns_of self.now.objects held.object apartment ≡ false → 0 < local_of self.now.proxies apartment held.object held.iface }
+        ensures direct { IsTrue result → owns_of self.now.objects held.object apartment ≡ true → 0 < (object_in self.now.objects held.object).direct }
+    {
+        if self.owns(held.object, apartment) {
+            return self.direct(held.object) > 0;
+        }
+        self.proxies.local(apartment, held.object, held.iface) > 0
+    }
+
+    /// One place more of a reference, and no public reference. The apartment need not hold it: a body of an object that every
+    /// apartment owns writes the object's links in the neutral apartment. The only error is want of memory.
+    pub fn share(&mut self, apartment: u32, held: RefValue) -> Result<(), Memory>
+        requires known { offers self.old held.object held.iface ≡ true }
+        requires few { self.old.issued < 2 ^ 28 }
+        ensures books { OnOk result (books_of self.new ≡ books_of self.old) }
+        ensures places { OnOk result (OneMore self.old self.new apartment held.object (owns_of self.old.objects held.object apartment)) }
+        ensures offers { (x j : ℕ) → offers self.new x j ≡ offers self.old x j }
+        ensures issued { OnOk result (self.new.issued ≡ self.old.issued + 1) }
+        ensures room { 0 < self.old.spare → IsOk result }
+        ensures err { OnErr result (self.new ≡ self.old) }
+        ensures most { self.new.spare ≤ self.old.spare }
+        ensures spare { self.old.spare ≤ self.new.spare + 1 }
+    {
+        if self.owns(held.object, apartment) {
+            self.stands();
+            self.keep_direct(held.object);
+            return Ok(());
+        }
+        self.take_shared(apartment, held)
     }
 
     /// A packet of a reference that the apartment holds. `NotConnected` exactly where the object is not connected.
@@ -967,6 +1058,7 @@ impl Holders {
     pub fn get(&mut self, apartment: u32, cookie: u32) -> Result<RefValue, HoldersError>
         requires few { self.old.issued < 2 ^ 28 }
         ensures unknown { (result ≡ Err HoldersError.Unknown) ↔ (held_in self.old.cookies cookie ≡ None) }
+        ensures not_connected { (result ≡ Err HoldersError.NotConnected) ↔ IsSomeAnd (held_in self.old.cookies cookie) (λ held. is_connected self.old.stubs held.object ≡ false) }
         ensures held { IfOk result (λ held. held_in self.old.cookies cookie ≡ Some held) }
         ensures row { IfOk result (λ held. books_of self.new ≡ changed (books_of self.old) (change (owns_of self.old.objects) (books_of self.old) (Takes apartment held.object held.iface))) }
         ensures places { IfOk result (λ held. OneMore self.old self.new apartment held.object (owns_of self.old.objects held.object apartment)) }
@@ -1097,8 +1189,11 @@ impl Holders {
         ensures bounded { Bounded self.now }
         ensures owned { (a o : ℕ) → owns_of self.now.objects o a ≡ true → places_in self.now a o ≡ 0 }
         ensures apart { distinct self.now.proxies ≡ true }
+        ensures even { IsEven (books_of self.now) }
+        ensures placed { (a o i : ℕ) → IsFree self.now.proxies a o → (books_of self.now).proxy a o i ≡ 0 }
+        ensures first { EachFirst self.now.counters }
     {
-        let _rows = &self.objects;
+        self.stubs.counters_differ();
     }
 
     /// Between calls nothing is left to give back.

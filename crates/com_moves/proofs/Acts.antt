@@ -21,11 +21,11 @@ use Rattle.com_moves.specs.declared.written.Written.{Written}
 use Rattle.com_moves.specs.Steps.{place_write, exchanged, link_exchanged, place_moves, step_moves}
 use Rattle.com_moves.proofs.Lists.{append_none}
 
-together-none : (m : Movings) → together m no_moves ≡ m
+pub together-none : (m : Movings) → together m no_moves ≡ m
 together-none m = ap₂ (λ (x y : List Moving). record { lost = x; gained = y }) (append_none m.lost) (append_none m.gained)
 
 -- An answer goes to a register.
-answer-slots : (w : Scene) (a : Actor) (n : ℕ) (v : Value) → slots_of (written a w (ToRegister n v)) a ≡ slots_of w a
+pub answer-slots : (w : Scene) (a : Actor) (n : ℕ) (v : Value) → slots_of (written a w (ToRegister n v)) a ≡ slots_of w a
 answer-slots w (Body c o) n v = ap (λ (f : FrameView). f.slots) (same-row c _ w.bodies)
 answer-slots w (Script l) n v = ap (λ (f : FrameView). f.slots) (same-row l _ w.scripts)
 answer-slots w Nobody n v = refl

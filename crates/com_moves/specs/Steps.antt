@@ -1,5 +1,5 @@
 -- The reference that an action's entry writes at a place, what slots and links hold after it, and the moves that it makes.
-use Rattle.std.specs.Prelude.{◌≡◌, ℕ, zero, Bool, true, false, not, ◌&&◌, ◌==◌, if◌then◌else◌, List, [], ◌∷◌, ◌++◌, map, Option, Some, None, length, slice_index_or, slice_set}
+use Rattle.std.specs.Prelude.{◌≡◌, ℕ, zero, ◌≤◌, Bool, true, false, not, ◌&&◌, ◌==◌, if◌then◌else◌, List, [], ◌∷◌, ◌++◌, map, Option, Some, None, length, slice_index_or, slice_set}
 use Rattle.com_base.specs.declared.value.RefValue.{RefValue}
 use Rattle.com_base.specs.declared.value.Value.{Value}
 use Rattle.com_body.specs.declared.actions.Action.{Action}
@@ -21,7 +21,7 @@ use Rattle.com_model.specs.Places.{Ground, left_value}
 use Rattle.com_model.specs.State.{SceneTables}
 use Rattle.com_places.specs.Moves.{Move as Moving, Moves as Movings, no_moves, together, moved, all_moved, entered_where, slots_where, result_moved}
 use Rattle.com_state.specs.Parts.{CallTables, issue_at, admission_at}
-use Rattle.com_state.specs.SceneParts.{body_at, cells_at, destination_at}
+use Rattle.com_state.specs.SceneParts.{script_at, body_at, cells_at, destination_at}
 use Rattle.com_scene.specs.Kept.{HasSlots}
 use Rattle.com_scene.specs.Scenes.{frame_of}
 use Rattle.com_moves.specs.declared.moves.Move.{Move}
@@ -115,6 +115,15 @@ FrameWhole t _ = Unit {0}
 
 abbrev pub BodiesWhole : SceneTables → Type 0
 BodiesWhole t = (c : ℕ) → HasSlots (body_at t c)
+
+pub record FramesWhole (t : SceneTables) : Type 0 where
+  pub scripts : (l : ℕ) → HasSlots (script_at t l)
+  pub bodies : BodiesWhole t
+
+-- A method has at most 4 parameters.
+abbrev pub FewValues : Deed → Type 0
+FewValues (deed.Enter c o a k vs) = length vs ≤ 4
+FewValues _ = Unit {0}
 
 -- ---- what arrives, by the slots and links after the step
 

@@ -7,5 +7,5 @@ mod moves;
 mod steps;
 mod written;
 
-pub use laws::moves_stand;
+pub use laws::{frames_are_whole, moves_stand, places_by_lists};
 pub use moves::{Move, Moves};

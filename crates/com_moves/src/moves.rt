@@ -80,6 +80,20 @@ impl Moves {
         self.gained.clear();
     }
 
+    /// What an entry takes from places.
+    pub fn lost(&self) -> &[Move]
+        ensures { movings_of result.now ≡ self.now.lost }
+    {
+        self.lost.as_slice()
+    }
+
+    /// What an entry brings to places.
+    pub fn gained(&self) -> &[Move]
+        ensures { movings_of result.now ≡ self.now.gained }
+    {
+        self.gained.as_slice()
+    }
+
     // An apartment loses what a place holds.
     pub fn lose(&mut self, apartment: Option<u32>, held: Option<RefValue>) -> Result<(), Memory>
         ensures { OnOk result (self.new ≡ record self.old { lost = self.old.lost ++ moved apartment held }) }

@@ -9,6 +9,7 @@ ghost use Rattle.std.specs.Prelude.{◌≡◌, ◌+◌, ◌<◌, ◌≤◌, ◌^
 ghost use Rattle.std.specs.Int.{from_le_bytes, w64};
 ghost use Rattle.com_slots.specs.Table.{held_in, with_entry};
 ghost use Rattle.com_packets.specs.Written.{written_fields, IsNamed, cut_entries};
+ghost use Rattle.com_packets.specs.Sums.{normal_of, normal_sum};
 ghost use Rattle.com_packets.specs.Table.{entry_at};
 
 use com_base::{Guid, MarshalMode, StdFields};
@@ -115,6 +116,36 @@ fn end_all(slots: &mut Slots<Packet>, chains: &Chains, object: u32)
     }
 }
 
+// What a number adds to the public references of normal packets.
+fn normal_at(slots: &Slots<Packet>, number: u32) -> u32
+    ensures { result ≡ normal_of (held_in slots.now.entries number) }
+{
+    let Some(packet) = slots.get(number) else {
+        return 0;
+    };
+    match packet.mode {
+        MarshalMode::Normal => packet.refs,
+        MarshalMode::Strong => 0,
+        MarshalMode::Weak => 0,
+    }
+}
+
+// The public references of the outstanding normal packets of the object.
+fn sum_normal(slots: &Slots<Packet>, chains: &Chains, object: u32) -> u64
+    requires as_many { length chains.now.keys ≡ length slots.now.entries }
+    requires keyed { (place : ℕ) → IfSome (entry_at slots.now.entries place) (λ packet. packet.object ≡ slice_index chains.now.keys place) }
+    requires fits { length slots.now.entries ≤ 4294967295 }
+    ensures { result ≡ normal_sum object slots.now.entries }
+{
+    let mut sum = 0;
+    let mut latest = chains.last(object);
+    while let Some(place) = latest {
+        sum += u64::from(normal_at(slots, (place + 1) as u32));
+        latest = chains.earlier(place);
+    }
+    sum
+}
+
 // The number that the last eight bytes of an interface pointer are, if it is one of 32 bits.
 fn number_in(bytes: [u8; 8]) -> Option<u32>
     ensures some { IfSome result (λ number. from_le_bytes w64 bytes ≡ number) }
@@ -183,6 +214,20 @@ impl Packets {
             return None;
         }
         Some(number)
+    }
+
+    /// How many numbers were given.
+    pub fn given(&self) -> u32
+        ensures { result ≡ length self.now.entries }
+    {
+        self.slots.given()
+    }
+
+    /// The public references of the outstanding normal packets of an object.
+    pub fn normal_refs(&self, object: u32) -> u64
+        ensures { result ≡ normal_sum object self.now.entries }
+    {
+        sum_normal(&self.slots, &self.chains, object)
     }
 
     /// The outstanding packet of a number. `None` exactly where none is outstanding under it.

@@ -1,5 +1,5 @@
 -- The rows of the proxies: what each apartment holds of each interface of each object.
-use Rattle.std.specs.Prelude.{ℕ, ◌≡◌, ◌+◌, ◌-◌, ◌*◌, ◌/◌, ◌%◌, ◌^◌, ◌<◌, ◌≤◌, Bool, ◌==◌, ◌&&◌, if◌then◌else◌, nat_le, List, [], ◌∷◌, map, length, slice_index_or}
+use Rattle.std.specs.Prelude.{ℕ, ◌≡◌, ◌+◌, ◌-◌, ◌*◌, ◌/◌, ◌%◌, ◌^◌, ◌<◌, ◌≤◌, Bool, ◌==◌, ◌&&◌, if◌then◌else◌, nat_le, List, [], ◌∷◌, map, length, slice_index_or, sum_by}
 use Rattle.com_proxy.specs.declared.TheConstants.{MIX}
 use Rattle.com_proxy.specs.declared.ProxyRow.{ProxyRow}
 use Rattle.com_proxy.specs.declared.Split.{Split}
@@ -70,6 +70,14 @@ cut_row object row = if row.object == object then no_public row else row
 
 abbrev pub cut_rows : ℕ → List ProxyRow → List ProxyRow
 cut_rows object rows = map (cut_row object) rows
+
+-- what the row adds to the public references of an object
+abbrev pub public_any : ℕ → ProxyRow → ℕ
+public_any object row = if row.object == object then row.public else 0
+
+-- the public references of all proxies of an object
+abbrev pub public_sum : ℕ → List ProxyRow → ℕ
+public_sum object rows = sum_by (public_any object) rows
 
 -- the key of a proxy, which another proxy may share
 unfoldable pub proxy_key_of : ℕ → ℕ → ℕ

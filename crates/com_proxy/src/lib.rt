@@ -7,7 +7,7 @@
 #![tactic(auto)]
 
 ghost use Rattle.std.specs.Prelude.{◌≡◌, ◌+◌, ◌<◌, ◌≤◌, ◌^◌, ◌↔◌, ℕ, [], OnOk, OnErr, IsOk, IsTrue, IfNone, IfSome, length};
-ghost use Rattle.com_proxy.specs.Rows.{local_of, public_of, changed_row, gaining, one_local_more, one_local_less, no_public, split_of, split_rows, cut_rows, place_of, row_at, proxy_key_of, proxies_of, objects_of, EachFirst, HasNoPublic, IsFree, IsLowest};
+ghost use Rattle.com_proxy.specs.Rows.{local_of, public_of, changed_row, gaining, one_local_more, one_local_less, no_public, split_of, split_rows, cut_rows, public_sum, place_of, row_at, proxy_key_of, proxies_of, objects_of, EachFirst, HasNoPublic, IsFree, IsLowest};
 
 use com_keyed::Chains;
 use std::alloc::Global;
@@ -140,6 +140,20 @@ fn is_free(rows: &[ProxyRow], proxies: &Chains, apartment: u32, object: u32) -> 
     true
 }
 
+// The public references of all proxies of the object, where they have a number.
+fn sum_public(rows: &[ProxyRow], objects: &Chains, object: u32) -> u64
+    requires keyed { objects.now.keys ≡ objects_of rows.now }
+    ensures { public_sum object rows.now < 2 ^ 64 → result ≡ public_sum object rows.now }
+{
+    let mut sum: u64 = 0;
+    let mut latest = objects.last(object);
+    while let Some(place) = latest {
+        sum = sum.saturating_add(rows[place].public);
+        latest = objects.earlier(place);
+    }
+    sum
+}
+
 // Takes the public references of all proxies of the object away.
 fn cut_all(rows: &mut [ProxyRow], objects: &Chains, object: u32)
     requires keyed { objects.now.keys ≡ objects_of rows.old }
@@ -259,6 +273,13 @@ impl Proxies {
             return self.rows[at].public;
         }
         0
+    }
+
+    /// The public references of all proxies of an object, where they have a number.
+    pub fn total(&self, object: u32) -> u64
+        ensures { public_sum object self.now.rows < 2 ^ 64 → result ≡ public_sum object self.now.rows }
+    {
+        sum_public(&self.rows, &self.objects, object)
     }
 
     /// Takes the public references of the lowest interface of which the proxy has some: that interface,

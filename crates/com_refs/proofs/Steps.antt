@@ -1,7 +1,7 @@
 -- Holders less and more, from what a call of the tables did.
-use Rattle.std.proofs.Common.{◌≡◌, ℕ, Bool, true, false, eqb, cond, not, ◌&&◌, ◌+◌, ◌/◌, ◌<◌, ◌≤◌, List, [], ◌∷◌, ◌++◌, zero, suc, length, refl, sym, ap, subst, ◌∙◌, arith}
+use Rattle.std.proofs.Common.{◌≡◌, ℕ, Bool, true, false, eqb, cond, not, ◌&&◌, ◌+◌, ◌/◌, ◌<◌, ◌≤◌, List, [], ◌∷◌, ◌++◌, zero, suc, length, refl, sym, ap, ◌∙◌, arith}
 use Rattle.std.proofs.lemmas.Grind.{common_steps}
-use Rattle.std.specs.Prelude.{Option, Some, nat_le, sum_by, slice_set, slice_index_or}
+use Rattle.std.specs.Prelude.{Some, nat_le, sum_by, slice_set, slice_index_or}
 use Rattle.com_base.specs.declared.value.RefValue.{RefValue}
 use Rattle.com_packets.specs.declared.Packet as P
 use Rattle.com_stub.specs.StubRows.{is_connected}
@@ -19,7 +19,7 @@ use Rattle.com_refs.proofs.Outside.{outside-end, outside-join}
 use Rattle.com_refs.proofs.Ends.{holds-kept, holds-same}
 use Rattle.com_holders.specs.Tables.{Tables, books_of, owns_of, outstanding_in, direct_in, object_in}
 use Rattle.com_holders.specs.Places.{OneMore, OneLess, SamePlaces, locals_of}
-use Rattle.com_refs.specs.Counts.{hold_of, outside_of, IsCounted, IsCountedBut, hold_less, hold_more}
+use Rattle.com_refs.specs.Counts.{hold_of, IsCounted, IsCountedBut, hold_less, hold_more}
 use Rattle.com_refs.proofs.Counteds.{lost, gained, still}
 
 live-of : (t v : Tables) → ((x : ℕ) → is_connected v.stubs x ≡ is_connected t.stubs x) → (x : ℕ) → (books_of v).live x ≡ (books_of t).live x

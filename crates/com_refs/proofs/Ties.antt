@@ -1,12 +1,11 @@
 -- A table of places that is what the tables count: what it tells, and how it moves with them.
 use Rattle.std.proofs.Common.{◌≡◌, ℕ, zero, suc, Bool, true, false, eqb, cond, not, ◌&&◌, ◌+◌, ◌<◌, ◌≤◌, List, [], ◌∷◌, refl, sym, ap, ◌∙◌, arith, eqb-true, inl, inr}
-use Rattle.std.proofs.lemmas.Bool.{cases_lt, eqb-false}
+use Rattle.std.proofs.lemmas.Bool.{cases_lt}
 use Rattle.std.proofs.lemmas.Grind.{common_steps}
 use Rattle.com_proxy.specs.declared.ProxyRow.{ProxyRow}
-use Rattle.com_proxy.specs.Rows.{IsFree}
 use Rattle.com_books.specs.Counting.{sum_below, count_if}
 use Rattle.com_books.proofs.Sums.{sum-same, sum-changed, sum-split, sum-nothing}
-use Rattle.com_holders.specs.Tables.{Tables, owns_of, direct_in}
+use Rattle.com_holders.specs.Tables.{Tables, owns_of}
 use Rattle.com_holders.specs.Places.{Counts, OneMore, OneLess, SamePlaces, places_in, places_of, locals_of, local_at, local_for, distinct}
 use Rattle.com_holders.specs.Stands.{Tells}
 use Rattle.com_holders.proofs.Rowed.{places_none, free_places}

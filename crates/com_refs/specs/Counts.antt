@@ -1,8 +1,7 @@
 -- What is counted for each object, so that its holders are known without a walk.
-use Rattle.std.specs.Prelude.{◌≡◌, ℕ, zero, suc, ◌+◌, ◌-◌, slice_index_or, ◌<◌, ◌≤◌, Bool, true, false, if◌then◌else◌, List, length}
-use Rattle.com_holders.specs.Tables.{Tables, books_of, owns_of, direct_in}
+use Rattle.std.specs.Prelude.{◌≡◌, ℕ, zero, suc, ◌+◌, ◌-◌, slice_index_or, ◌<◌, ◌≤◌, Bool, true, if◌then◌else◌, ◌==◌, List, length, Option, Some, None}
+use Rattle.com_holders.specs.Tables.{Tables, books_of, direct_in}
 use Rattle.com_holders.specs.Places.{locals_of}
-use Rattle.com_books.specs.Counting.{sum_below}
 use Rattle.com_books.specs.Changes.{held_outside, set_from_one}
 
 -- The row of an object's number.
@@ -23,6 +22,10 @@ outside_of t x = locals_of x t.proxies + held_outside (books_of t) x
 -- The holders of an object. Of one that is not connected only its direct places hold it.
 abbrev pub holders_of : Tables → ℕ → ℕ
 holders_of t x = if (books_of t).live x then direct_in t x + outside_of t x else direct_in t x
+
+-- The object, where nothing holds it.
+abbrev pub unheld : Tables → ℕ → Option ℕ
+unheld t x = if holders_of t x == 0 then Some x else None
 
 -- The holders beside direct places are counted, and each connected object has a holder.
 pub record IsCounted (t : Tables) (holds : List ℕ) : Type 0 where

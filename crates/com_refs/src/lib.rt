@@ -7,29 +7,47 @@
 //! are one end. Source: MS-DCOM 3.2.4.4, and Essential COM, chapter 5.
 #![tactic(auto)]
 
-ghost use Rattle.std.specs.Prelude.{◌≡◌, ◌+◌, ◌-◌, ◌<◌, ◌≤◌, ◌^◌, ◌↔◌, ◌&&◌, ◌||◌, ◌==◌, ℕ, Bool, true, false, not, [], length, OnOk, OnErr, IfOk, IsOk, IsTrue, Ok, Err, Some, None, if◌then◌else◌};
+ghost use Rattle.std.specs.Prelude.{◌≡◌, ◌+◌, ◌-◌, ◌<◌, ◌≤◌, ◌^◌, ◌↔◌, ◌&&◌, ◌||◌, ◌==◌, ℕ, Bool, true, false, not, [], length, OnOk, OnErr, IfOk, IsOk, IsTrue, Ok, Err, Some, None, IfSome, IfNone, IsSomeAnd, sum_by, if◌then◌else◌};
+ghost use Rattle.std.specs.Int.{from_le_bytes, w64};
 ghost use Rattle.com_stub.specs.StubRows.{is_connected};
 ghost use Rattle.com_slots.specs.Table.{held_in};
 ghost use Rattle.com_proxy.specs.Rows.{local_of};
 ghost use Rattle.com_holders.specs.Tables.{Tables, books_of, owns_of, owners_of, is_owned, object_in, direct_in, offers, outstanding_in};
 ghost use Rattle.com_holders.specs.Steps.{made_live, among};
 ghost use Rattle.com_holders.specs.Places.{Counts, OneMore, OneLess, SamePlaces, places_in};
-ghost use Rattle.com_books.specs.Counting.{count_if};
+ghost use Rattle.com_books.specs.Counting.{count_if, sum_below};
 ghost use Rattle.com_holders.specs.Stands.{Tells};
-ghost use Rattle.com_books.specs.Changes.{Books, changed, change, cut, packet, is_weak, Makes, Takes, Asks, Marshals, Unmarshals, Drops, Registers, Revokes, ToCookie, Return, Withdraw};
-ghost use Rattle.com_refs.specs.Counts.{hold_of, hold_less, hold_more};
+ghost use Rattle.com_books.specs.Changes.{Books, changed, change, cut, packet, cookie, is_weak, Makes, Takes, Asks, Marshals, Unmarshals, Drops, Registers, Revokes, ToCookie, Return, Withdraw};
+ghost use Rattle.com_refs.specs.Counts.{hold_of, hold_less, hold_more, holders_of, unheld};
+ghost use Rattle.com_refs.specs.Found.{IsFound, fields_by, shown_packet};
+ghost use Rattle.com_refs.specs.Numbers.{in_normal, in_table, in_cookie, Within};
 ghost use Rattle.com_refs.specs.Ends.{ends, Totals};
 
-use com_base::{MarshalMode, RefValue};
+use com_base::{Guid, MarshalMode, RefValue, StdFields};
 use com_holders::Holders;
 use com_packets::Packet;
 use std::alloc::Global;
 use std::marker::Model;
 
+/// The row of a cookie in the books.
+pub use com_books::Cookie;
+/// The row of a packet in the books.
+pub use com_books::Packet as PacketRow;
 /// Want of memory.
 pub use com_base::Memory;
 /// Why a call changed nothing.
 pub use com_holders::HoldersError as RefsError;
+
+/// The numbers of a report for an object: its direct places, and the public references of proxies, of normal packets, of strong
+/// packets and cookies, and of the stub, which is the sum of the three before it.
+#[derive(Debug, Clone, Copy, PartialEq, Eq)]
+pub struct Numbers {
+    pub direct: u64,
+    pub proxies: u64,
+    pub packets: u64,
+    pub tables: u64,
+    pub stub: u64,
+}
 
 /// The references of all objects, seen as the tables of their holders. Beside, the holders of each object outside of its direct
 /// places are counted.
@@ -97,9 +115,10 @@ fn gain_hold(holds: &mut [u64], object: u32, held: bool)
     }
 }
 
-// Where an object has no holder left it is no longer connected. True exactly then.
+// Where an object has no holder left it is no longer connected. True exactly then; of an object that was not connected before
+// only its direct places hold it.
 fn settle(holders: &mut Holders, held: u64, object: u32) -> bool
-    ensures lost { IsTrue result ↔ ((object_in holders.old.objects object).direct + held ≡ 0) }
+    ensures lost { IsTrue result ↔ (((object_in holders.old.objects object).direct ≡ 0) × (is_connected holders.old.stubs object ≡ true → held ≡ 0)) }
     ensures objects { holders.new.objects ≡ holders.old.objects }
     ensures proxies { holders.new.proxies ≡ holders.old.proxies }
     ensures counters { holders.new.counters ≡ holders.old.counters }
@@ -111,7 +130,7 @@ fn settle(holders: &mut Holders, held: u64, object: u32) -> bool
         return false;
     }
     if held > 0 {
-        return false;
+        return !holders.connected(object);
     }
     holders.disconnect(object);
     true
@@ -160,6 +179,82 @@ fn holds_object(mode: MarshalMode) -> bool
         MarshalMode::Weak => false,
     }
 }
+
+// The number that the last eight bytes of an interface pointer are, if it is at most so high.
+fn number_in(bytes: [u8; 8], most: u32) -> Option<u32>
+    ensures some { IfSome result (λ number. from_le_bytes w64 bytes ≡ number) }
+    ensures none { IfNone result (most < from_le_bytes w64 bytes) }
+{
+    let number = u64::from_le_bytes(bytes);
+    if number > u64::from(most) {
+        return None;
+    }
+    Some(number as u32)
+}
+
+// The row of a packet in the books.
+fn packet_row(packet: Option<Packet>) -> PacketRow
+    ensures { result ≡ shown_packet packet }
+{
+    match packet {
+        None => NO_PACKET,
+        Some(packet) => PacketRow {
+            outstanding: true,
+            mode: packet.mode,
+            object: packet.object,
+            iface: packet.iface,
+            refs: packet.refs,
+        },
+    }
+}
+
+// The row of a cookie in the books: it holds nothing of an object that is not connected.
+fn cookie_row(held: RefValue, connected: bool) -> Cookie
+    ensures { result ≡ record { revoked = false; object = held.object; iface = held.iface; refs = if connected then 1 else 0 } }
+{
+    Cookie {
+        revoked: false,
+        object: held.object,
+        iface: held.iface,
+        refs: if connected { 1 } else { 0 },
+    }
+}
+
+// What is written of a packet with this number, whose object has this owner.
+fn written(row: PacketRow, owner: u32, number: u32, iid: Guid) -> StdFields
+    ensures { result ≡ fields_by owner iid row number }
+{
+    let packet = Packet {
+        mode: row.mode,
+        object: row.object,
+        iface: row.iface,
+        owner,
+        refs: row.refs,
+    };
+    packet.fields(number, iid)
+}
+
+// The row is that of an outstanding packet of the interface, and the fields are what is written of it with this number.
+fn is_named(row: PacketRow, owner: u32, number: u32, fields: &StdFields, iface: u16) -> bool
+    ensures { IsTrue result ↔ ((row.outstanding ≡ true) × ((row.iface ≡ iface) × (fields_by owner fields.now.iid row number ≡ fields.now))) }
+{
+    row.outstanding && row.iface == iface && written(row, owner, number, fields.iid) == *fields
+}
+
+const NO_PACKET: PacketRow = PacketRow {
+    outstanding: false,
+    mode: MarshalMode::Weak,
+    object: 0,
+    iface: 0,
+    refs: 0,
+};
+
+const NO_COOKIE: Cookie = Cookie {
+    revoked: true,
+    object: 0,
+    iface: 0,
+    refs: 0,
+};
 
 // The first place of an object: a direct one, or one of a proxy with new references.
 fn place(holders: &mut Holders, apartment: u32, held: RefValue)
@@ -285,10 +380,11 @@ impl Refs {
         gain_hold(&mut self.holds, object, !owned);
     }
 
-    /// One place less, to the end of its entry. True exactly where the object then has no holder of any kind that is counted.
+    /// One place less, to the end of its entry. True exactly where nothing holds the object then.
     pub fn release(&mut self, apartment: u32, held: RefValue) -> bool
         requires proxied { owns_of self.old.objects held.object apartment ≡ false → 0 < local_of self.old.proxies apartment held.object held.iface }
         requires direct { owns_of self.old.objects held.object apartment ≡ true → 0 < (object_in self.old.objects held.object).direct }
+        ensures lost { IsTrue result ↔ (holders_of self.new held.object ≡ 0) }
         ensures books { (n : ℕ) (places : ℕ → ℕ → ℕ) → apartment < n → Tells n places self.new → Totals n places self.new → books_of self.new ≡ ends n places (books_of self.old) }
         ensures places { OneLess self.old self.new apartment held.object (owns_of self.old.objects held.object apartment) }
         ensures offers { (x j : ℕ) → offers self.new x j ≡ offers self.old x j }
@@ -318,6 +414,39 @@ impl Refs {
         let owned = self.holders.owns(held.object, apartment);
         self.holders.copy(apartment, held);
         gain_hold(&mut self.holds, held.object, !owned);
+    }
+
+    /// Whether the apartment has a place of the reference: a direct one of the object where it owns that, else one of its proxy.
+    pub fn has_place(&self, apartment: u32, held: RefValue) -> bool
+        ensures exact { IsTrue result ↔ (0 < (if owns_of self.now.objects held.object apartment then (object_in self.now.objects held.object).direct else local_of self.now.proxies apartment held.object held.iface)) }
+        ensures proxied { IsTrue result → owns_of self.now.objects held.object apartment ≡ false → 0 < local_of self.now.proxies apartment held.object held.iface }
+        ensures direct { IsTrue result → owns_of self.now.objects held.object apartment ≡ true → 0 < (object_in self.now.objects held.object).direct }
+    {
+        self.holders.has_place(apartment, held)
+    }
+
+    /// One place more of a reference, and no public reference. The apartment need not hold it: a body of an object that every
+    /// apartment owns writes the object's links in the neutral apartment. The only error is want of memory.
+    pub fn share(&mut self, apartment: u32, held: RefValue) -> Result<(), Memory>
+        requires known { offers self.old held.object held.iface ≡ true }
+        requires few { self.old.issued < 2 ^ 28 }
+        ensures books { books_of self.new ≡ books_of self.old }
+        ensures places { OnOk result (OneMore self.old self.new apartment held.object (owns_of self.old.objects held.object apartment)) }
+        ensures offers { (x j : ℕ) → offers self.new x j ≡ offers self.old x j }
+        ensures issued { OnOk result (self.new.issued ≡ self.old.issued + 1) }
+        ensures room { 0 < self.old.spare → IsOk result }
+        ensures err { OnErr result (self.new ≡ self.old) }
+        ensures spare { self.old.spare ≤ self.new.spare + 1 }
+    {
+        self.holders.stands();
+        let owned = self.holders.owns(held.object, apartment);
+        match self.holders.share(apartment, held) {
+            Ok(()) => {
+                gain_hold(&mut self.holds, held.object, !owned);
+                Ok(())
+            }
+            Err(memory) => Err(memory),
+        }
     }
 
     /// A packet of a reference that the apartment holds, under the number that is answered. A strong or a weak one may be
@@ -406,6 +535,7 @@ impl Refs {
     pub fn get(&mut self, apartment: u32, cookie: u32) -> Result<RefValue, RefsError>
         requires few { self.old.issued < 2 ^ 28 }
         ensures unknown { (result ≡ Err RefsError.Unknown) ↔ (held_in self.old.cookies cookie ≡ None) }
+        ensures not_connected { (result ≡ Err RefsError.NotConnected) ↔ IsSomeAnd (held_in self.old.cookies cookie) (λ held. is_connected self.old.stubs held.object ≡ false) }
         ensures held { IfOk result (λ held. held_in self.old.cookies cookie ≡ Some held) }
         ensures row { IfOk result (λ held. books_of self.new ≡ changed (books_of self.old) (change (owns_of self.old.objects) (books_of self.old) (Takes apartment held.object held.iface))) }
         ensures places { IfOk result (λ held. OneMore self.old self.new apartment held.object (owns_of self.old.objects held.object apartment)) }
@@ -457,10 +587,12 @@ impl Refs {
         }
     }
 
-    /// A packet ends, and its references go back, to the end of the entry. The answer is the packet's object, where it then has no
-    /// holder. `Unknown` exactly where no outstanding packet has the number. Source: CoReleaseMarshalData.
+    /// A packet ends, and its references go back, to the end of the entry. The answer is the packet's object exactly where nothing
+    /// holds it then. `Unknown` exactly where no outstanding packet has the number. Source: CoReleaseMarshalData.
     pub fn drop_packet(&mut self, number: u32) -> Result<Option<u32>, RefsError>
-        ensures unknown { OnErr result (outstanding_in (is_connected self.old.stubs) self.old.packets number ≡ None) }
+        ensures unknown { (result ≡ Err RefsError.Unknown) ↔ (outstanding_in (is_connected self.old.stubs) self.old.packets number ≡ None) }
+        ensures only { OnErr result (result ≡ Err RefsError.Unknown) }
+        ensures lost { IfOk result (λ lost. IsSomeAnd (outstanding_in (is_connected self.old.stubs) self.old.packets number) (λ packet. lost ≡ unheld self.new packet.object)) }
         ensures books { OnOk result ((n : ℕ) (places : ℕ → ℕ → ℕ) → Tells n places self.new → Totals n places self.new → books_of self.new ≡ ends n places (changed (books_of self.old) (change (owns_of self.old.objects) (books_of self.old) (Drops number)))) }
         ensures places { OnOk result (SamePlaces self.old self.new) }
         ensures offers { (x j : ℕ) → offers self.new x j ≡ offers self.old x j }
@@ -478,11 +610,13 @@ impl Refs {
         Ok(if_lost(lost, packet.object))
     }
 
-    /// A cookie ends, and its reference goes back, to the end of the entry. The answer is the cookie's object, where it then has
-    /// no holder. `Unknown` exactly where the cookie was never given or was revoked.
+    /// A cookie ends, and its reference goes back, to the end of the entry. The answer is the cookie's object exactly where nothing
+    /// holds it then. `Unknown` exactly where the cookie was never given or was revoked.
     /// Source: IGlobalInterfaceTable::RevokeInterfaceFromGlobal.
     pub fn revoke(&mut self, cookie: u32) -> Result<Option<u32>, RefsError>
-        ensures unknown { OnErr result (held_in self.old.cookies cookie ≡ None) }
+        ensures unknown { (result ≡ Err RefsError.Unknown) ↔ (held_in self.old.cookies cookie ≡ None) }
+        ensures only { OnErr result (result ≡ Err RefsError.Unknown) }
+        ensures lost { IfOk result (λ lost. IsSomeAnd (held_in self.old.cookies cookie) (λ held. lost ≡ unheld self.new held.object)) }
         ensures books { OnOk result ((n : ℕ) (places : ℕ → ℕ → ℕ) → Tells n places self.new → Totals n places self.new → books_of self.new ≡ ends n places (changed (books_of self.old) (change (owns_of self.old.objects) (books_of self.old) (Revokes cookie)))) }
         ensures places { OnOk result (SamePlaces self.old self.new) }
         ensures offers { (x j : ℕ) → offers self.new x j ≡ offers self.old x j }
@@ -539,6 +673,27 @@ impl Refs {
         self.holders.owns(object, apartment)
     }
 
+    /// The interface is in the object's set.
+    pub fn offers(&self, object: u32, iface: u16) -> bool
+        ensures { result ≡ offers self.now object iface }
+    {
+        self.holders.offers(object, iface)
+    }
+
+    /// How many objects were made.
+    pub fn objects(&self) -> u32
+        ensures { result ≡ length self.now.objects }
+    {
+        self.holders.objects()
+    }
+
+    /// How many references were given so far.
+    pub fn issued(&self) -> u32
+        ensures { result ≡ self.now.issued }
+    {
+        self.holders.issued()
+    }
+
     /// The object is connected.
     pub fn connected(&self, object: u32) -> bool
         ensures { result ≡ is_connected self.now.stubs object }
@@ -546,11 +701,123 @@ impl Refs {
         self.holders.connected(object)
     }
 
+    /// Something holds the object: a direct place, or where it is connected a place elsewhere, a packet or a cookie.
+    pub fn is_held(&self, object: u32) -> bool
+        ensures { IsTrue result ↔ (0 < holders_of self.now object) }
+    {
+        self.holders.direct(object) > 0 || self.holders.connected(object)
+    }
+
     /// The packet of a number, if it is outstanding.
     pub fn packet(&self, number: u32) -> Option<Packet>
         ensures { result ≡ outstanding_in (is_connected self.now.stubs) self.now.packets number }
     {
         self.holders.packet(number)
+    }
+
+    /// The row of a packet in the books; that of an ended one where there is no such packet.
+    pub fn packet_row(&self, number: u32) -> PacketRow
+        ensures { result ≡ packet (books_of self.now) number }
+    {
+        packet_row(self.holders.packet(number))
+    }
+
+    /// How many packets were made.
+    pub fn packets(&self) -> u32
+        ensures rows { result ≡ length self.now.packets }
+        ensures books { result ≡ length (books_of self.now).packets }
+    {
+        self.holders.packets()
+    }
+
+    /// The row of a cookie in the books; that of a revoked one where there is no such cookie.
+    pub fn cookie_row(&self, number: u32) -> Cookie
+        ensures { result ≡ cookie (books_of self.now) number }
+    {
+        let Some(held) = self.holders.cookie(number) else {
+            return NO_COOKIE;
+        };
+        cookie_row(held, self.holders.connected(held.object))
+    }
+
+    /// How many cookies were given.
+    pub fn cookies(&self) -> u32
+        ensures rows { result ≡ length self.now.cookies }
+        ensures books { result ≡ length (books_of self.now).cookies }
+    {
+        self.holders.cookies()
+    }
+
+    /// The public references that the apartment's proxy holds of the interface: none where the object is not connected.
+    pub fn public(&self, apartment: u32, object: u32, iface: u16) -> u64
+        ensures { result ≡ (books_of self.now).proxy apartment object iface }
+    {
+        if !self.holders.connected(object) {
+            return 0;
+        }
+        self.holders.public(apartment, object, iface)
+    }
+
+    /// The outstanding packet of the interface that the fields name: that whose written references, OXID, OID and IPID they have.
+    /// The caller read the interface from their IID. `None` exactly where they name none. Source: MS-DCOM 2.2.18.2.
+    pub fn find(&self, fields: &StdFields, iface: u16) -> Option<u32>
+        ensures some { IfSome result (IsFound self.now fields.now iface) }
+        ensures only { IfSome result (λ number. (other : ℕ) → IsFound self.now fields.now iface other → other ≡ number) }
+        ensures none { IfNone result ((number : ℕ) → IsFound self.now fields.now iface number → ⊥) }
+    {
+        let most = self.holders.packets();
+        let Some(number) = number_in(fields.ipid.data4, most) else {
+            return None;
+        };
+        let row = self.packet_row(number);
+        let owner = self.holders.owner(row.object);
+        if !is_named(row, owner, number, fields, iface) {
+            return None;
+        }
+        Some(number)
+    }
+
+    /// The numbers of a report for an object. It looks at all that ever held it.
+    pub fn numbers(&self, object: u32) -> Numbers
+        ensures direct { result.direct ≡ direct_in self.now object }
+        ensures proxies { (n m : ℕ) → Within n m self.now → result.proxies ≡ sum_below n (λ a. sum_below m ((books_of self.now).proxy a object)) }
+        ensures packets { result.packets ≡ sum_by (in_normal object) (books_of self.now).packets }
+        ensures tables { (n m : ℕ) → Within n m self.now → result.tables ≡ sum_by (in_table object) (books_of self.now).packets + sum_by (in_cookie object) (books_of self.now).cookies }
+        ensures stub { (n m : ℕ) → Within n m self.now → result.stub ≡ sum_below m ((books_of self.now).stub object) }
+    {
+        let direct = self.holders.direct(object);
+        if !self.holders.connected(object) {
+            return Numbers {
+                direct,
+                proxies: 0,
+                packets: 0,
+                tables: 0,
+                stub: 0,
+            };
+        }
+        self.numbers_of_connected(object, direct)
+    }
+
+    // The same for a connected object: what proxies and normal packets leave of the stub's count is that of the tables.
+    fn numbers_of_connected(&self, object: u32, direct: u64) -> Numbers
+        requires connected { is_connected self.now.stubs object ≡ true }
+        ensures direct { result.direct ≡ direct }
+        ensures proxies { (n m : ℕ) → Within n m self.now → result.proxies ≡ sum_below n (λ a. sum_below m ((books_of self.now).proxy a object)) }
+        ensures packets { result.packets ≡ sum_by (in_normal object) (books_of self.now).packets }
+        ensures tables { (n m : ℕ) → Within n m self.now → result.tables ≡ sum_by (in_table object) (books_of self.now).packets + sum_by (in_cookie object) (books_of self.now).cookies }
+        ensures stub { (n m : ℕ) → Within n m self.now → result.stub ≡ sum_below m ((books_of self.now).stub object) }
+    {
+        self.holders.stands();
+        let proxies = self.holders.proxied(object);
+        let packets = self.holders.packed(object);
+        let stub = self.holders.counted(object);
+        Numbers {
+            direct,
+            proxies,
+            packets,
+            tables: stub.saturating_sub(proxies).saturating_sub(packets),
+            stub,
+        }
     }
 }
 

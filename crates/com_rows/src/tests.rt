@@ -139,16 +139,28 @@ fn a_text_that_is_no_scenario_is_refused_at_its_first_fault(rt: HostRuntime) -> 
 }
 
 #[test]
-fn a_scenario_that_needs_what_is_not_built_is_refused(rt: HostRuntime) -> Result<(), Fail> {
-    let cases: [&[u8]; 3] = [
-        b"scenario 1\nthread\nend\nthread\nend\n".as_slice(),
-        b"scenario 1\nthread\ninit mta\nend\n".as_slice(),
-        b"scenario 1\nthread\ninit sta\npump 1\nend\n".as_slice(),
+fn other_scenarios_end_as_their_reports_say(rt: HostRuntime) -> Result<(), Fail> {
+    let cases: [(&[u8], u8, &[u8]); 3] = [
+        (
+            b"scenario 1\nthread\nend\nthread\nend\n".as_slice(),
+            0,
+            b"1 L1 end\n2 L2 end\nentries 2 clock 0\nend ok\n".as_slice(),
+        ),
+        (
+            b"scenario 1\nthread\ninit mta\nend\n".as_slice(),
+            0,
+            b"1 L1 init mta a1 S_OK\n2 L1 uninit a1 0\n3 L1 end\nentries 3 clock 0\nend ok\n".as_slice(),
+        ),
+        (
+            b"scenario 1\nthread\ninit sta\npump 1\nend\n".as_slice(),
+            5,
+            b"1 L1 init sta a3 S_OK\n2 L1 pump 1\nentries 2 clock 0\nend stuck\n".as_slice(),
+        ),
     ];
-    for text in cases {
+    for (text, wanted, lines) in cases {
         let (status, written) = replayed(rt.alloc(), ByteList::from_slice(rt.alloc(), text)?)?;
-        assert_eq!(rt; status, 2);
-        assert_eq!(rt; written.as_slice(), b"refused 0 0 13\n".as_slice());
+        assert_eq!(rt; status, wanted);
+        assert_eq!(rt; written.as_slice(), lines);
     }
     Ok(())
 }

@@ -97,6 +97,14 @@ impl<T> Slots<T> {
         Ok((given + 1) as u32)
     }
 
+    /// How many numbers were given.
+    pub fn given(&self) -> u32
+        ensures { result ≡ length self.now.entries }
+    {
+        let _limit = self.limit;
+        self.entries.len() as u32
+    }
+
     /// The value under a number. `None` exactly where the number holds none.
     pub fn get(&self, number: u32) -> Option<&T>
         ensures { option_copied result ≡ held self.now number }

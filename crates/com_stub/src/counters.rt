@@ -167,6 +167,13 @@ impl Counters {
         0
     }
 
+    /// No two counters are of the same object and interface.
+    pub fn differ(&self)
+        ensures { EachFirst self.now.rows }
+    {
+        let _rows = &self.rows;
+    }
+
     /// The sum over all interfaces of the object.
     pub fn sum(&self, object: u32) -> u64
         ensures { result ≡ sum_of self.now.rows object }

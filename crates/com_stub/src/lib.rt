@@ -6,7 +6,7 @@
 mod counters;
 
 ghost use Rattle.std.specs.Prelude.{◌≡◌, ◌+◌, ◌<◌, ◌≤◌, ◌^◌, ◌↔◌, ℕ, true, false, [], ◌∷◌, ◌++◌, length, OnOk, OnErr, IsOk, IsTrue, Ok, Err};
-ghost use Rattle.com_stub.specs.CounterRows.{has_counter, changed_counter, more, less, opened_all};
+ghost use Rattle.com_stub.specs.CounterRows.{has_counter, changed_counter, more, less, opened_all, EachFirst};
 ghost use Rattle.com_stub.specs.StubRows.{has_stub, is_connected, ended_rows, stub_objects, EachStubFirst};
 ghost use Rattle.com_stub.specs.Tables.{count_of, total_of};
 
@@ -177,6 +177,13 @@ impl Stubs {
             return self.counters.sum(object);
         }
         0
+    }
+
+    /// No two counters are of the same object and interface.
+    pub fn counters_differ(&self)
+        ensures { EachFirst self.now.counters }
+    {
+        self.counters.differ();
     }
 
     /// The public references of an interface. A stub that is not connected has none.

@@ -1,17 +1,28 @@
 -- The causes of the statuses, from what the calls below answer.
-use Rattle.std.proofs.Common.{◌≡◌, ℕ, ◌<◌, ◌≤◌, inl, inr, List, [], ◌∷◌, length, refl, sym, ◌∙◌, ap, Option, Some, Ok, Err, subst, Result, map, slice_index_or, ◌↔◌, arith}
+use Rattle.std.proofs.Common.{◌≡◌, ℕ, ◌<◌, ◌≤◌, inl, inr, ◌⊎◌, List, [], ◌∷◌, length, refl, sym, ◌∙◌, ap, Option, Some, Ok, Err, subst, Result, map, slice_index_or, ◌↔◌, arith}
+use Rattle.std.specs.Prelude.{⊤}
 use Rattle.com_io.specs.declared.whole.ReadAllError.{ReadAllError}
 use Rattle.com_io.specs.declared.whole.ReadAllError.TheVariants as read_all_error
 use Rattle.com_io.specs.Faults.{Rose}
-use Rattle.com_io.specs.Told.{Gains, IsAtEnd, IsWholeOf}
+use Rattle.com_io.specs.Told.{Gains, GainsPrefix, IsAtEnd, IsWholeOf}
 use Rattle.com_io.proofs.Passing.{prefix_of_none}
+use Rattle.com_read_operands.specs.declared.faults.Fault.{Fault}
+use Rattle.com_model.specs.declared.counts.Ended.{Ended}
+use Rattle.com_model.specs.declared.counts.Ended.TheVariants as ended
+use Rattle.com_model.specs.declared.scenario.Scenario.{Scenario}
+use Rattle.com_model.specs.Clock.{clock}
+use Rattle.com_model.specs.Ends.{limit}
+use Rattle.com_drive.specs.declared.replayed.Replayed.{Replayed}
+use Rattle.com_play.specs.Playing.{IsBegun, IsPlayed, played_text}
+use Rattle.com_replay.specs.declared.plan.Plan.{Plan}
+use Rattle.com_replay.specs.Replays.{text_of}
 use Rattle.com_scenario.proofs.Lengths.{longer_than_all}
 use Rattle.com_top.specs.declared.inputs.Input.{Input}
 use Rattle.com_top.specs.declared.inputs.Input.TheVariants as input
 use Rattle.com_top.specs.declared.statuses.Status.{Status}
 use Rattle.com_top.specs.declared.statuses.Status.TheVariants as status
-use Rattle.com_top.specs.Inputs.{input_of, output_of, status_of}
-use Rattle.com_top.specs.Statuses.{Completes, HasCause, IsAnswered, IsComplete, IsWritten, Says, Sides, code_of}
+use Rattle.com_top.specs.Inputs.{input_of, refused_line, status_at, too_long_line, IsAnswer, IsHistory}
+use Rattle.com_top.specs.Statuses.{Completes, FirstFormCompletes, GainsFront, HasCause, IsAnswered, IsComplete, IsText, IsWritten, Says, Sides, code_of}
 
 too_long_input : (bytes : List ℕ) → 16777216 < length bytes → input_of bytes ≡ input.TooLong
 unfolding input_of
@@ -33,37 +44,160 @@ told_whole left answer text i told is read bytes e =
     ap input_of (sym whole.0) ∙ sym read
 
 -- A line that was said answers the input that it is the line of.
-pub said_answers : (s : Status) (i : Input) (held held_after : Option (List ℕ)) (faults faults_after : ℕ)
-    → Says s (status_of i) (output_of i) held held_after faults faults_after → IsAnswered s i held held_after faults faults_after
-said_answers s i held held_after faults faults_after (inl whole) = inl whole
-said_answers s i held held_after faults faults_after (inr part) = inr (inl part)
+pub said_answers : (s wanted : Status) (i : Input) (line : List ℕ) (held held_after : Option (List ℕ)) (faults faults_after : ℕ)
+    → IsAnswer i wanted line → Says s wanted line held held_after faults faults_after → IsAnswered s i held held_after faults faults_after
+said_answers s wanted i line held held_after faults faults_after is (inl whole) =
+    inl (record { text = line; answered = subst (λ (x : Status). IsAnswer i x line) (sym whole.0) is; gained = whole.1 })
+said_answers s wanted i line held held_after faults faults_after is (inr part) =
+    inr (inl (part.0, part.1, record { text = line; status = wanted; answered = is; gained = part.2 }))
+
+pub too_long_said : (s : Status) (held held_after : Option (List ℕ)) (faults faults_after : ℕ)
+    → Says s status.Refused too_long_line held held_after faults faults_after → IsAnswered s input.TooLong held held_after faults faults_after
+too_long_said s held held_after faults faults_after said =
+    said_answers s status.Refused input.TooLong too_long_line held held_after faults faults_after (refl, refl) said
+
+pub refused_said : (s : Status) (fault : Fault) (line : List ℕ) (held held_after : Option (List ℕ)) (faults faults_after : ℕ) → line ≡ refused_line fault
+    → Says s status.Refused line held held_after faults faults_after → IsAnswered s (input.Faulty fault) held held_after faults faults_after
+refused_said s fault line held held_after faults faults_after is said =
+    said_answers s status.Refused (input.Faulty fault) line held held_after faults faults_after (refl, is) said
+
+not_budget : ended.Ok ≡ ended.Budget → ⊥
+not_budget e = cc
+
+-- Any input has a text that is written for it, and nothing written is a front of it.
+some_answer : (i : Input) (held : Option (List ℕ)) → GainsFront i held held
+unfolding played_text
+some_answer input.TooLong held = record { text = too_long_line; status = status.Refused; answered = (refl, refl); gained = prefix_of_none held too_long_line }
+some_answer (input.Faulty fault) held = record { text = refused_line fault; status = status.Refused; answered = (refl, refl); gained = prefix_of_none held (refused_line fault) }
+some_answer (input.Runs plan) held = record { text = text_of plan; status = status.Done; answered = (refl, refl); gained = prefix_of_none held (text_of plan) }
+some_answer (input.Plays scenario) held = record {
+  text = played_text scenario.version [] [] 0 0 ended.Ok;
+  status = status.Done;
+  answered = record {
+    history = [];
+    counts = [];
+    ends = ended.Ok;
+    few = omega arith;
+    budget = λ e. absurd (not_budget e);
+    written = refl;
+    status_is = refl;
+  };
+  gained = prefix_of_none held (played_text scenario.version [] [] 0 0 ended.Ok);
+}
 
 pub nothing_answers : (i : Input) (held : Option (List ℕ)) (faults faults_after : ℕ) → IsAnswered status.Memory i held held faults faults_after
-nothing_answers i held faults faults_after = inr (inr (refl, prefix_of_none held (output_of i)))
+nothing_answers i held faults faults_after = inr (inr (refl, some_answer i held))
 
-written_cause : (i : Input) (sides : Sides) → ((bytes : List ℕ) → sides.left ≡ Some bytes → input_of bytes ≡ i)
-    → (status_of i ≡ status.Done → IsAtEnd sides.left_after) → Gains sides.held sides.held_after (output_of i) → HasCause (status_of i) sides
-written_cause input.TooLong sides which end gained = record { input = input.TooLong; which = which; answered = refl; gained = gained }
-written_cause (input.Faulty fault) sides which end gained = record { input = input.Faulty fault; which = which; answered = refl; gained = gained }
-written_cause input.Unbuilt sides which end gained = record { input = input.Unbuilt; which = which; answered = refl; gained = gained }
-written_cause (input.Runs plan) sides which end gained =
-    (end refl, record { input = input.Runs plan; which = which; answered = refl; gained = gained })
+-- What a planned replay answers.
+pub run_done : (plan : Plan) (held held_after : Option (List ℕ)) (faults faults_after : ℕ) → Gains held held_after (text_of plan)
+    → IsAnswered status.Done (input.Runs plan) held held_after faults faults_after
+run_done plan held held_after faults faults_after gained = inl (record { text = text_of plan; answered = (refl, refl); gained = gained })
+
+run_front : (plan : Plan) (held held_after : Option (List ℕ)) → GainsPrefix held held_after (text_of plan) → GainsFront (input.Runs plan) held held_after
+run_front plan held held_after front = record { text = text_of plan; status = status.Done; answered = (refl, refl); gained = front }
+
+pub run_faults : (plan : Plan) (held held_after : Option (List ℕ)) (faults faults_after : ℕ) → Rose faults faults_after
+    → GainsPrefix held held_after (text_of plan) → IsAnswered status.WriteFault (input.Runs plan) held held_after faults faults_after
+run_faults plan held held_after faults faults_after rose front = inr (inl (refl, rose, run_front plan held held_after front))
+
+pub run_wants : (plan : Plan) (held held_after : Option (List ℕ)) (faults faults_after : ℕ)
+    → GainsPrefix held held_after (text_of plan) → IsAnswered status.Memory (input.Runs plan) held held_after faults faults_after
+run_wants plan held held_after faults faults_after front = inr (inr (refl, run_front plan held held_after front))
+
+-- What the replay of any other scenario answers.
+pub play_done : (scenario : Scenario) (r : Replayed) (s : Status) (held held_after : Option (List ℕ)) (faults faults_after : ℕ)
+    → s ≡ status_at r.ended → IsPlayed scenario.version (limit scenario) r held held_after
+    → IsAnswered s (input.Plays scenario) held held_after faults faults_after
+play_done scenario r s held held_after faults faults_after is played = inl (record {
+  text = played_text scenario.version played.history played.counts (length played.history) (clock played.history) r.ended;
+  answered = record {
+    history = played.history;
+    counts = played.counts;
+    ends = r.ended;
+    few = played.few;
+    budget = played.budget;
+    written = refl;
+    status_is = is;
+  };
+  gained = subst (λ (n : ℕ). Gains held held_after (played_text scenario.version played.history played.counts n (clock played.history) r.ended)) played.entries_are
+      (subst (λ (t : ℕ). Gains held held_after (played_text scenario.version played.history played.counts r.entries t r.ended)) played.clock_is played.gained);
+})
+
+play_front : (scenario : Scenario) (held held_after : Option (List ℕ)) → IsBegun scenario.version (limit scenario) held held_after
+    → GainsFront (input.Plays scenario) held held_after
+play_front scenario held held_after begun = record {
+  text = played_text scenario.version begun.history begun.counts (length begun.history) (clock begun.history) begun.ends;
+  status = status_at begun.ends;
+  answered = record {
+    history = begun.history;
+    counts = begun.counts;
+    ends = begun.ends;
+    few = begun.few;
+    budget = begun.budget;
+    written = refl;
+    status_is = refl;
+  };
+  gained = begun.gained;
+}
+
+pub play_faults : (scenario : Scenario) (held held_after : Option (List ℕ)) (faults faults_after : ℕ) → Rose faults faults_after
+    → IsBegun scenario.version (limit scenario) held held_after → IsAnswered status.WriteFault (input.Plays scenario) held held_after faults faults_after
+play_faults scenario held held_after faults faults_after rose begun = inr (inl (refl, rose, play_front scenario held held_after begun))
+
+pub play_wants : (scenario : Scenario) (held held_after : Option (List ℕ)) (faults faults_after : ℕ)
+    → IsBegun scenario.version (limit scenario) held held_after → IsAnswered status.Memory (input.Plays scenario) held held_after faults faults_after
+play_wants scenario held held_after faults faults_after begun = inr (inr (refl, play_front scenario held held_after begun))
+
+end_cause : (x : Ended) (sides : Sides) → IsAtEnd sides.left_after → IsWritten (status_at x) sides → HasCause (status_at x) sides
+end_cause ended.Ok sides end written = (end, written)
+end_cause ended.Stuck sides end written = (end, written)
+end_cause ended.Budget sides end written = (end, written)
+
+-- The status of an input that has one is 2, 0, 5 or 6; and 2 alone for an input that was not read to its end.
+history_cause : (scenario : Scenario) (s : Status) (text : List ℕ) (sides : Sides) → IsHistory scenario s text → IsAtEnd sides.left_after → IsWritten s sides → HasCause s sides
+history_cause scenario s text sides h end written =
+    subst (λ (x : Status). HasCause x sides) (sym h.status_is)
+    (end_cause h.ends sides end (subst (λ (x : Status). IsWritten x sides) h.status_is written))
+
+-- An input that runs was read to its end.
+abbrev pub IsRead : Input → Sides → Type 0
+IsRead input.TooLong sides = ⊤
+IsRead (input.Faulty fault) sides = ⊤
+IsRead (input.Runs plan) sides = IsAtEnd sides.left_after
+IsRead (input.Plays scenario) sides = IsAtEnd sides.left_after
+
+pub is_read : (i : Input) (sides : Sides) → IsAtEnd sides.left_after → IsRead i sides
+is_read input.TooLong sides end = tt
+is_read (input.Faulty fault) sides end = tt
+is_read (input.Runs plan) sides end = end
+is_read (input.Plays scenario) sides end = end
+
+written_cause : (s : Status) (i : Input) (text : List ℕ) (sides : Sides) → IsRead i sides → IsAnswer i s text → IsWritten s sides → HasCause s sides
+written_cause s input.TooLong text sides read is written =
+    subst (λ (x : Status). HasCause x sides) (sym is.0) (subst (λ (x : Status). IsWritten x sides) is.0 written)
+written_cause s (input.Faulty fault) text sides read is written =
+    subst (λ (x : Status). HasCause x sides) (sym is.0) (subst (λ (x : Status). IsWritten x sides) is.0 written)
+written_cause s (input.Runs plan) text sides read is written =
+    subst (λ (x : Status). HasCause x sides) (sym is.0) (read, subst (λ (x : Status). IsWritten x sides) is.0 written)
+written_cause s (input.Plays scenario) text sides read is written = history_cause scenario s text sides is read written
+
+text_is : (i : Input) (sides : Sides) → ((bytes : List ℕ) → sides.left ≡ Some bytes → input_of bytes ≡ i)
+    → (front : GainsFront i sides.held sides.held_after) → IsText front.text sides
+text_is i sides which front = record { input = i; which = which; status = front.status; answered = front.answered }
 
 -- An input that was answered: the status has its cause.
 pub answered_cause : (s : Status) (i : Input) (sides : Sides) → ((bytes : List ℕ) → sides.left ≡ Some bytes → input_of bytes ≡ i)
-    → (status_of i ≡ status.Done → IsAtEnd sides.left_after)
+    → IsRead i sides
     → IsAnswered s i sides.held sides.held_after sides.write_faults sides.write_faults_after → HasCause s sides
-answered_cause s i sides which end (inl whole) =
-    subst (λ (x : Status). HasCause x sides) (sym whole.0) (written_cause i sides which end whole.1)
-answered_cause s i sides which end (inr (inl part)) =
+answered_cause s i sides which read (inl whole) =
+    written_cause s i whole.text sides read whole.answered
+    (record { input = i; which = which; text = whole.text; answered = whole.answered; gained = whole.gained })
+answered_cause s i sides which read (inr (inl part)) =
     subst (λ (x : Status). HasCause x sides) (sym part.0)
-    (record { rose = part.1; part = record { text = output_of i; whose = inl (i, refl, which); gained = part.2 } })
-answered_cause s i sides which end (inr (inr part)) =
+    (record { rose = part.1; part = record { text = part.2.text; whose = inl (text_is i sides which part.2); gained = part.2.gained } })
+answered_cause s i sides which read (inr (inr part)) =
     subst (λ (x : Status). HasCause x sides) (sym part.0)
-    (inr (record { text = output_of i; whose = inl (i, refl, which); gained = part.1 }))
-
-pub never_done : status.Refused ≡ status.Done → ⊥
-never_done e = let codes : 2 ≡ 0 = ap code_of e in omega (arith, codes)
+    (inr (record { text = part.1.text; whose = inl (text_is i sides which part.1); gained = part.1.gained }))
 
 -- A list of one item.
 pub one_item : {X Y : Type 0} (f : X → Y) (xs : List X) (x : X) → 1 ≤ length xs → length xs < 2 → x ≡ slice_index_or xs 0 x → map f xs ≡ f x ∷ []
@@ -75,23 +209,45 @@ pub one_word : (words : List (List ℕ)) (word : List ℕ) → words ≡ word �
 one_word words word is wanted = ((λ e. is ∙ ap (λ (w : List ℕ). w ∷ []) e), (λ e. cc))
 
 written_complete : (s : Status) (code : ℕ) (sides : Sides) (bytes : List ℕ) → code ≡ code_of s → IsWritten s sides → sides.left ≡ Some bytes
-    → IsComplete code sides bytes
-written_complete s code sides bytes e written told =
-    let which : input_of bytes ≡ written.input = written.which bytes told in
-    inl (
-      e ∙ ap code_of (sym written.answered) ∙ ap (λ (i : Input). code_of (status_of i)) (sym which),
-      subst (λ (i : Input). Gains sides.held sides.held_after (output_of i)) (sym which) written.gained,
-    )
+    → IsComplete code sides bytes ⊎ (code ≡ 9)
+written_complete s code sides bytes e written told = inl (record {
+  status = s;
+  number = e;
+  whole = record {
+    text = written.text;
+    answered = subst (λ (i : Input). IsAnswer i s written.text) (sym (written.which bytes told)) written.answered;
+    gained = written.gained;
+  };
+})
 
 complete_cause : (s : Status) (code : ℕ) (sides : Sides) (bytes : List ℕ) → code ≡ code_of s → HasCause s sides → sides.left ≡ Some bytes
-    → (Rose sides.read_faults sides.read_faults_after → ⊥) → (Rose sides.write_faults sides.write_faults_after → ⊥) → IsComplete code sides bytes
+    → (Rose sides.read_faults sides.read_faults_after → ⊥) → (Rose sides.write_faults sides.write_faults_after → ⊥)
+    → IsComplete code sides bytes ⊎ (code ≡ 9)
 complete_cause status.Done code sides bytes e cause told calm_source calm_sink = written_complete status.Done code sides bytes e cause.1 told
 complete_cause status.Usage code sides bytes e cause told calm_source calm_sink = absurd cause
 complete_cause status.Refused code sides bytes e cause told calm_source calm_sink = written_complete status.Refused code sides bytes e cause told
 complete_cause status.ReadFault code sides bytes e cause told calm_source calm_sink = absurd (calm_source cause.rose)
 complete_cause status.WriteFault code sides bytes e cause told calm_source calm_sink = absurd (calm_sink cause.rose)
+complete_cause status.Stuck code sides bytes e cause told calm_source calm_sink = written_complete status.Stuck code sides bytes e cause.1 told
+complete_cause status.Budget code sides bytes e cause told calm_source calm_sink = written_complete status.Budget code sides bytes e cause.1 told
 complete_cause status.Memory code sides bytes e cause told calm_source calm_sink = inr e
 
 pub completes : Completes
 completes code sides bytes answers told calm_source calm_sink =
     complete_cause answers.status code sides bytes answers.number answers.cause told calm_source calm_sink
+
+-- The same for a scenario of the first form.
+first_form : (code : ℕ) (sides : Sides) (bytes : List ℕ) (plan : Plan) → input_of bytes ≡ input.Runs plan → IsComplete code sides bytes ⊎ (code ≡ 9)
+    → ((code ≡ 0) × Gains sides.held sides.held_after (text_of plan)) ⊎ (code ≡ 9)
+first_form code sides bytes plan is (inl whole) =
+    let planned : IsAnswer (input.Runs plan) whole.status whole.whole.text =
+    subst (λ (i : Input). IsAnswer i whole.status whole.whole.text) is whole.whole.answered in
+    inl (
+      whole.number ∙ ap code_of planned.0,
+      subst (λ (t : List ℕ). Gains sides.held sides.held_after t) planned.1 whole.whole.gained,
+    )
+first_form code sides bytes plan is (inr wants) = inr wants
+
+pub first_form_completes : FirstFormCompletes
+first_form_completes code sides bytes plan answers told is calm_source calm_sink =
+    first_form code sides bytes plan is (completes code sides bytes answers told calm_source calm_sink)

@@ -17,6 +17,8 @@ whole_cause status.Refused code sides bytes e cause told calm_source calm_sink =
     let reply = cause bytes told in inl (e ∙ ap code_of (sym reply.0), reply.1)
 whole_cause status.ReadFault code sides bytes e cause told calm_source calm_sink = absurd (calm_source cause.rose)
 whole_cause status.WriteFault code sides bytes e cause told calm_source calm_sink = absurd (calm_sink cause.0)
+whole_cause status.Stuck code sides bytes e cause told calm_source calm_sink = absurd cause
+whole_cause status.Budget code sides bytes e cause told calm_source calm_sink = absurd cause
 whole_cause status.Memory code sides bytes e cause told calm_source calm_sink = inr e
 
 pub replies_whole : RepliesWhole

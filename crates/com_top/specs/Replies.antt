@@ -60,6 +60,8 @@ HasReplyCause status.Refused sides =
     (bytes : List ℕ) → sides.left ≡ Some bytes → IsReply status.Refused bytes sides
 HasReplyCause status.ReadFault sides = IsReadFault sides
 HasReplyCause status.WriteFault sides = Rose sides.write_faults sides.write_faults_after × RepliesPart sides
+HasReplyCause status.Stuck sides = ⊥
+HasReplyCause status.Budget sides = ⊥
 HasReplyCause status.Memory sides = sides.held_after ≡ sides.held
 
 -- The number is that of a status that has its cause.

@@ -2,10 +2,13 @@
 use Rattle.std.specs.Prelude.{◌≡◌, ℕ, ◌⊎◌, List, [], ◌∷◌, Option, Some, codes}
 use Rattle.com_io.specs.Faults.{Rose}
 use Rattle.com_io.specs.Told.{Gains, GainsPrefix, IsAtEnd}
+use Rattle.com_replay.specs.declared.plan.Plan.{Plan}
+use Rattle.com_replay.specs.Replays.{text_of}
 use Rattle.com_top.specs.declared.inputs.Input.{Input}
+use Rattle.com_top.specs.declared.inputs.Input.TheVariants as input
 use Rattle.com_top.specs.declared.statuses.Status.{Status}
 use Rattle.com_top.specs.declared.statuses.Status.TheVariants as status
-use Rattle.com_top.specs.Inputs.{input_of, output_of, status_of}
+use Rattle.com_top.specs.Inputs.{input_of, IsAnswer}
 
 abbrev pub code_of : Status → ℕ
 code_of status.Done = 0
@@ -13,6 +16,8 @@ code_of status.Usage = 1
 code_of status.Refused = 2
 code_of status.ReadFault = 3
 code_of status.WriteFault = 4
+code_of status.Stuck = 5
+code_of status.Budget = 6
 code_of status.Memory = 9
 
 -- The words that ask for a replay.
@@ -42,24 +47,30 @@ pub record Sides : Type 0 where
 pub record IsWritten (s : Status) (sides : Sides) : Type 0 where
   pub input : Input
   pub which : (bytes : List ℕ) → sides.left ≡ Some bytes → input_of bytes ≡ input
-  pub answered : status_of input ≡ s
-  pub gained : Gains sides.held sides.held_after (output_of input)
+  pub text : List ℕ
+  pub answered : IsAnswer input s text
+  pub gained : Gains sides.held sides.held_after text
 
--- Status 0: the input was read to its end, and the history of its scenario was written.
-abbrev pub IsDone : Sides → Type 0
-IsDone sides = IsAtEnd sides.left_after × IsWritten status.Done sides
+-- Statuses 0, 5 and 6: the input was read to its end, and a history of its scenario was written that ends so.
+abbrev pub IsDone : Status → Sides → Type 0
+IsDone s sides = IsAtEnd sides.left_after × IsWritten s sides
 
 -- Status 3: the source's count rose in this call, and the sink gained the line that says so.
 pub record IsReadFault (sides : Sides) : Type 0 where
   pub rose : Rose sides.read_faults sides.read_faults_after
   pub gained : Gains sides.held sides.held_after read_fault_line
 
+-- The input, and a text that is written for it.
+pub record IsText (text : List ℕ) (sides : Sides) : Type 0 where
+  pub input : Input
+  pub which : (bytes : List ℕ) → sides.left ≡ Some bytes → input_of bytes ≡ input
+  pub status : Status
+  pub answered : IsAnswer input status text
+
 -- What was written is a prefix of what is written for the input, or of the line of a read fault that came.
 pub record WritesPart (sides : Sides) : Type 0 where
   pub text : List ℕ
-  pub whose : ((input : Input) × (text ≡ output_of input)
-      × ((bytes : List ℕ) → sides.left ≡ Some bytes → input_of bytes ≡ input))
-      ⊎ (Rose sides.read_faults sides.read_faults_after × (text ≡ read_fault_line))
+  pub whose : IsText text sides ⊎ (Rose sides.read_faults sides.read_faults_after × (text ≡ read_fault_line))
   pub gained : GainsPrefix sides.held sides.held_after text
 
 -- Status 4: the sink's count rose in this call, and what was written is a prefix of the text.
@@ -69,11 +80,13 @@ pub record IsWriteFault (sides : Sides) : Type 0 where
 
 -- Each status of a replay has its cause. Want of memory is free; a prefix was written.
 abbrev pub HasCause : Status → Sides → Type 0
-HasCause status.Done sides = IsDone sides
+HasCause status.Done sides = IsDone status.Done sides
 HasCause status.Usage sides = ⊥
 HasCause status.Refused sides = IsWritten status.Refused sides
 HasCause status.ReadFault sides = IsReadFault sides
 HasCause status.WriteFault sides = IsWriteFault sides
+HasCause status.Stuck sides = IsDone status.Stuck sides
+HasCause status.Budget sides = IsDone status.Budget sides
 HasCause status.Memory sides = (sides.held_after ≡ sides.held) ⊎ WritesPart sides
 
 -- The number is that of a status that has its cause.
@@ -95,24 +108,45 @@ IsSaid result wanted line held held_after faults faults_after =
     ((result ≡ wanted) × Gains held held_after line)
     ⊎ ((result ≡ 4) × Rose faults faults_after × GainsPrefix held held_after line)
 
+-- The sink gained the whole text that is written for an input of this status.
+pub record GainsWhole (s : Status) (i : Input) (held held_after : Option (List ℕ)) : Type 0 where
+  pub text : List ℕ
+  pub answered : IsAnswer i s text
+  pub gained : Gains held held_after text
+
+-- The sink gained the front of a text that is written for an input.
+pub record GainsFront (i : Input) (held held_after : Option (List ℕ)) : Type 0 where
+  pub text : List ℕ
+  pub status : Status
+  pub answered : IsAnswer i status text
+  pub gained : GainsPrefix held held_after text
+
 -- How an input was answered: by its status and its whole text, or a part of the text was written and the
 -- sink's count rose or memory wanted.
 abbrev pub IsAnswered : Status → Input → Option (List ℕ) → Option (List ℕ) → ℕ → ℕ → Type 0
-IsAnswered s input held held_after faults faults_after =
-    ((s ≡ status_of input) × Gains held held_after (output_of input))
-    ⊎ ((s ≡ status.WriteFault) × Rose faults faults_after × GainsPrefix held held_after (output_of input))
-    ⊎ ((s ≡ status.Memory) × GainsPrefix held held_after (output_of input))
+IsAnswered s i held held_after faults faults_after =
+    GainsWhole s i held held_after
+    ⊎ ((s ≡ status.WriteFault) × Rose faults faults_after × GainsFront i held held_after)
+    ⊎ ((s ≡ status.Memory) × GainsFront i held held_after)
 
 -- The call was complete: the number is the status of the input of these bytes and the sink gained its whole
--- text, or memory wanted.
-abbrev pub IsComplete : ℕ → Sides → List ℕ → Type 0
-IsComplete code sides bytes =
-    ((code ≡ code_of (status_of (input_of bytes)))
-    × Gains sides.held sides.held_after (output_of (input_of bytes))) ⊎ (code ≡ 9)
+-- text.
+pub record IsComplete (code : ℕ) (sides : Sides) (bytes : List ℕ) : Type 0 where
+  pub status : Status
+  pub number : code ≡ code_of status
+  pub whole : GainsWhole status (input_of bytes) sides.held sides.held_after
 
--- Where the input was told and no count of faults rose, every call is complete.
+-- Where the input was told and no count of faults rose, every call is complete, or memory wanted.
 abbrev pub Completes : Type 0
 Completes = (code : ℕ) (sides : Sides) (bytes : List ℕ) → Answers code sides → sides.left ≡ Some bytes
     → (Rose sides.read_faults sides.read_faults_after → ⊥)
     → (Rose sides.write_faults sides.write_faults_after → ⊥)
-    → IsComplete code sides bytes
+    → IsComplete code sides bytes ⊎ (code ≡ 9)
+
+-- For a scenario of the first form the number is then 0 and the sink gained exactly the text and the report of its one history.
+abbrev pub FirstFormCompletes : Type 0
+FirstFormCompletes = (code : ℕ) (sides : Sides) (bytes : List ℕ) (plan : Plan) → Answers code sides → sides.left ≡ Some bytes
+    → input_of bytes ≡ input.Runs plan
+    → (Rose sides.read_faults sides.read_faults_after → ⊥)
+    → (Rose sides.write_faults sides.write_faults_after → ⊥)
+    → ((code ≡ 0) × Gains sides.held sides.held_after (text_of plan)) ⊎ (code ≡ 9)

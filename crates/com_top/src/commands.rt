@@ -9,9 +9,11 @@ ghost use Rattle.com_top.specs.Statuses.{Answers, HasCause, IsAnswered, IsReplay
 ghost use Rattle.com_top.specs.Statuses.{usage_line};
 
 use crate::inputs::{Input, input_of, refused_line};
-use crate::statuses::Status;
+use crate::statuses::{Status, status_at};
 use com_io::{ReadAllError, Sink, Source, read_all, write_all};
+use com_model::Scenario;
 use com_objref::show;
+use com_play::play;
 use com_replay::{Plan, ReplayError, replay};
 use com_scenario::LONGEST;
 use std::alloc::Global;
@@ -68,9 +70,8 @@ pub fn com_main<S: Source, K: Sink>(
 }
 
 /// Reads a scenario from the source, and writes its history and report to the sink. An input that is too
-/// long, whose text is no scenario or whose scenario needs a part of the runtime that is not built yet is
-/// refused by a line with the line, the column and the number of the fault. The answer is the exit status:
-/// each has its cause.
+/// long or whose text is no scenario is refused by a line with the line, the column and the number of the
+/// fault. The answer is the exit status: each has its cause.
 pub fn replay_main<S: Source, K: Sink>(alloc: Global, source: &mut S, sink: &mut K) -> u8
     ensures { Answers result (record {
       left = S.left source.old;
@@ -111,6 +112,7 @@ fn replay_input<S: Source, K: Sink>(alloc: Global, source: &mut S, sink: &mut K)
 }
 
 // Writes what is written for an input, and answers its status.
+#[tactic(auto, using(crate::proofs::Causes::too_long_said, crate::proofs::Causes::refused_said, crate::proofs::Causes::nothing_answers))]
 fn answer<K: Sink>(alloc: Global, input: Input, sink: &mut K) -> Status
     ensures { IsAnswered result input (K.held sink.old) (K.held sink.new)
         (K.faults_of sink.old) (K.faults_of sink.new) }
@@ -121,12 +123,13 @@ fn answer<K: Sink>(alloc: Global, input: Input, sink: &mut K) -> Status
             Ok(line) => say(line.as_slice(), Status::Refused, sink),
             Err(_) => Status::Memory,
         },
-        Input::Unbuilt => say(b"refused 0 0 13\n", Status::Refused, sink),
         Input::Runs(plan) => run(alloc, plan, sink),
+        Input::Plays(scenario) => run_any(alloc, scenario, sink),
     }
 }
 
 // Writes the history and the report of a plan, and answers the status.
+#[tactic(auto, using(crate::proofs::Causes::run_done, crate::proofs::Causes::run_faults, crate::proofs::Causes::run_wants))]
 fn run<K: Sink>(alloc: Global, plan: Plan, sink: &mut K) -> Status
     ensures { IsAnswered result (input.Runs plan) (K.held sink.old) (K.held sink.new)
         (K.faults_of sink.old) (K.faults_of sink.new) }
@@ -135,6 +138,19 @@ fn run<K: Sink>(alloc: Global, plan: Plan, sink: &mut K) -> Status
         Ok(_) => Status::Done,
         Err(ReplayError::WriteFault) => Status::WriteFault,
         Err(ReplayError::Memory) => Status::Memory,
+    }
+}
+
+// Writes a history and the report of any scenario, and answers the status of its end.
+#[tactic(auto, using(crate::proofs::Causes::play_done, crate::proofs::Causes::play_faults, crate::proofs::Causes::play_wants))]
+fn run_any<K: Sink>(alloc: Global, scenario: Scenario, sink: &mut K) -> Status
+    ensures { IsAnswered result (input.Plays scenario) (K.held sink.old) (K.held sink.new)
+        (K.faults_of sink.old) (K.faults_of sink.new) }
+{
+    match play(alloc, scenario, sink) {
+        Ok(replayed) => status_at(replayed.ended),
+        Err(com_play::ReplayError::WriteFault) => Status::WriteFault,
+        Err(com_play::ReplayError::Memory) => Status::Memory,
     }
 }
 

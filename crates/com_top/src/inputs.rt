@@ -3,6 +3,7 @@ ghost use Rattle.std.specs.Prelude.{◌≡◌, ◌++◌, IfOk, OnOk, decimal};
 ghost use Rattle.com_top.specs.Inputs.{input_of, refused_line};
 
 use com_base::{ByteList, Memory};
+use com_model::Scenario;
 use com_read_operands::{Fault, ScenarioError};
 use com_replay::{Plan, plan_of};
 use com_scenario::{is_too_long, parse};
@@ -10,16 +11,16 @@ use itoa::Buffer;
 use std::alloc::{AllocError, Global};
 
 /// What an input of `replay` is.
-#[derive(Debug, Drop)]
+#[derive(Drop)]
 pub enum Input {
     /// A text that is longer than its version allows.
     TooLong,
     /// A text that is no scenario, with its first fault.
     Faulty(Fault),
-    /// A scenario that needs a part of the runtime that is not built yet.
-    Unbuilt,
-    /// A scenario that runs.
+    /// A scenario of the first form, whose one history is planned.
     Runs(Plan),
+    /// Any other scenario.
+    Plays(Scenario),
 }
 
 /// What an input of these bytes is. The only error is want of memory.
@@ -49,7 +50,7 @@ pub fn input_of(alloc: Global, text: &[u8]) -> Result<Input, Memory>
     };
     match plan_of(alloc, &scenario)? {
         Some(plan) => Ok(Input::Runs(plan)),
-        None => Ok(Input::Unbuilt),
+        None => Ok(Input::Plays(scenario)),
     }
 }
 

@@ -9,5 +9,5 @@ mod statuses;
 pub use com_base::Memory;
 pub use commands::{com_main, objref_main, replay_main};
 pub use inputs::{Input, input_of};
-pub use laws::{completeness, objref_completeness};
+pub use laws::{completeness, first_form_completeness, objref_completeness};
 pub use statuses::Status;

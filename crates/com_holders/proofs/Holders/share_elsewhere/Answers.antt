@@ -1,7 +1,7 @@
 use Rattle.std.proofs.Common.{refl, arith}
 use Rattle.com_proxy.specs.Rows.{gaining}
 use Rattle.com_holders.proofs.Rowed.{gains}
-use Rattle.com_holders.proofs.Issues.{local_fits, public_fits, copied_books, copied_stands, copied_places}
+use Rattle.com_holders.proofs.Issues.{local_fits, copied_books, copied_stands, copied_places}
 use Rattle.com_holders.proofs.Wholes.{whole_by}
 use Rattle.com_holders.proofs.Holders.share_elsewhere.Goals as goal
 
@@ -13,8 +13,8 @@ gain-requires-clause-local_fits c = local_fits _ c.args.apartment c.args.held.ob
 
 pub gain-requires-clause-public_fits : goal.gain-requires-clause-public_fits
 gain-requires-clause-public_fits c =
-    let few = rw (← c.self.view_is) at c.requires.few in
-    omega (arith, few, public_fits _ c.args.apartment c.args.held.object c.args.held.iface c.self.invariant.stands (rw (← c.self.view_is) at c.requires.connected))
+    let public = rw (← c.self.view_is) at c.public-public.ensures in
+    omega (arith, c.public-public.type_inv, public)
 
 pub invariant_of-self : goal.invariant_of-self
 invariant_of-self c =

@@ -12,3 +12,9 @@ returns-clause-owned c = rw (← c.self.view_is) (λ a o h. free_places _ a o c.
 
 pub returns-clause-apart : goal.returns-clause-apart
 returns-clause-apart c = rw (← c.self.view_is) c.self.invariant.stands.apart
+
+pub returns-clause-even : goal.returns-clause-even
+returns-clause-even c = rw (← c.self.view_is) c.self.invariant.stands.even
+
+pub returns-clause-placed : goal.returns-clause-placed
+returns-clause-placed c = rw (← c.self.view_is) c.self.invariant.stands.placed

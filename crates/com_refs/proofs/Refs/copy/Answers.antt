@@ -1,4 +1,4 @@
-use Rattle.std.proofs.Common.{◌≡◌, not, refl, sym, ap, ◌∙◌, arith, take, drop, length, ◌++◌}
+use Rattle.std.proofs.Common.{◌≡◌, not, ap, ◌∙◌, arith, take, drop, length, ◌++◌}
 use Rattle.std.proofs.lemmas.Grind.{common_steps}
 use Rattle.com_holders.specs.Tables.{owns_of}
 use Rattle.com_refs.specs.Counts.{hold_more}

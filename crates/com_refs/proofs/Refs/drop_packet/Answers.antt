@@ -1,10 +1,12 @@
-use Rattle.std.proofs.Common.{◌≡◌, ℕ, not, true, refl, sym, ap, ◌∙◌, arith, take, drop, length, ◌++◌}
+use Rattle.std.proofs.Common.{◌≡◌, Bool, cond, not, refl, sym, ap, ◌∙◌, arith, take, drop, length, ◌++◌}
 use Rattle.std.proofs.lemmas.Grind.{common_steps}
 use Rattle.com_books.specs.Changes.{Books, is_weak}
-use Rattle.com_holders.specs.Tables.{owns_of, books_of}
-use Rattle.com_refs.specs.Counts.{hold_of, hold_less}
+use Rattle.com_holders.specs.Tables.{books_of}
+use Rattle.std.specs.Prelude.{Some, None}
+use Rattle.com_refs.specs.Counts.{hold_of, hold_less, unheld}
 use Rattle.com_refs.specs.Ends.{ends}
 use Rattle.com_refs.proofs.Counteds.{settled_ends, settled_stands, less_length}
+use Rattle.com_refs.proofs.Losses.{settled_unheld}
 use Rattle.com_refs.proofs.Moved.{tells_same}
 use Rattle.com_refs.proofs.Steps.{dropped, drop_row}
 use Rattle.com_refs.proofs.Refs.drop_packet.Goals as goal
@@ -38,3 +40,16 @@ returns-clause-books c =
     (settled_ends c.drop_packet.new.self o (hold_less o (not (is_weak c.in-Ok.packet.mode)) c.self.inside.holds.items) but c.settle-lost.new.holders n places (books_of c.drop_packet.new.self) c.settle-lost.ensures.objects c.settle-lost.ensures.proxies
     (sym (c.gives_nothing.ensures n places (tells_same n places c.settle-lost.new.holders c.drop_packet.new.self c.settle-lost.ensures.objects c.settle-lost.ensures.proxies tells))) totals books
     ∙ ap (λ (b : Books). ends n places b) (c.in-Ok.ensures.books ∙ sym (drop_row t c.args.number c.in-Ok.packet c.in-Ok.ensures.packet)))
+
+pub returns-clause-lost : goal.returns-clause-lost
+returns-clause-lost c =
+    let t = c.self.inside.holders in
+    let o = c.in-Ok.packet.object in
+    let e : c.lose_hold.new.holds ≡ hold_less o (not (is_weak c.in-Ok.packet.mode)) c.self.inside.holds.items = rw (c.holds_object.ensures, c.deref_mut.ensures.value) at c.lose_hold.ensures in
+    let len : length c.lose_hold.new.holds ≡ length c.self.inside.holds.items = ap (λ xs. length xs) e ∙ less_length o (not (is_weak c.in-Ok.packet.mode)) c.self.inside.holds.items in
+    let whole : take c.self.inside.holds.len (c.lose_hold.new.holds ++ drop (length c.lose_hold.new.holds) c.self.inside.holds.items) ≡ c.lose_hold.new.holds = grind (arith, common_steps, len) in
+    let left : c.hold_at-left.result ≡ hold_of (hold_less o (not (is_weak c.in-Ok.packet.mode)) c.self.inside.holds.items) o = c.hold_at-left.ensures ∙ ap (λ xs. hold_of xs o) (c.deref.ensures.value ∙ whole ∙ e) in
+    let but = dropped t c.drop_packet.new.self c.self.inside.holds.items c.args.number c.in-Ok.packet c.self.invariant.counts c.in-Ok.ensures.packet c.in-Ok.ensures.books c.in-Ok.ensures.places c.drop_packet.ensures.issued in
+    let flag = settled_unheld c.drop_packet.new.self c.settle-lost.new.holders o (hold_less o (not (is_weak c.in-Ok.packet.mode)) c.self.inside.holds.items) but c.settle-lost.ensures.objects c.settle-lost.ensures.proxies _ (rw left at c.settle-lost.ensures.books) (rw left at c.settle-lost.ensures.lost) in
+    let answer : c.if_lost.result ≡ unheld c.settle-lost.new.holders o = c.if_lost.ensures ∙ ap (λ (b : Bool). cond b (Some o) None) flag in
+    rw (← c.self.view_is, c.in-Ok.ensures.packet) answer

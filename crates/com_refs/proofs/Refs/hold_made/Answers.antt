@@ -5,7 +5,7 @@ use Rattle.com_books.specs.Counting.{count_if}
 use Rattle.com_holders.specs.Places.{places_of}
 use Rattle.com_holders.specs.Steps.{made_live, among}
 use Rattle.com_holders.specs.Tables.{owns_of, books_of, object_in, direct_in}
-use Rattle.com_holders.proofs.Enrolls.{direct_new, object_before}
+use Rattle.com_holders.proofs.Enrolls.{direct_new}
 use Rattle.com_refs.specs.Counts.{hold_more}
 use Rattle.com_refs.proofs.Counteds.{more_length}
 use Rattle.com_refs.proofs.Makings.{made_but, made_counted, here_live, same_owner}

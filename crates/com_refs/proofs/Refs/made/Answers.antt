@@ -1,4 +1,4 @@
-use Rattle.std.proofs.Common.{◌≡◌, ℕ, eqb, not, ◌&&◌, ◌||◌, ◌+◌, sym, ap, ◌∙◌, subst, length, ◌≤◌}
+use Rattle.std.proofs.Common.{◌≡◌, eqb, not, ◌&&◌, ◌||◌, ◌+◌, ap, ◌∙◌, subst, length, ◌≤◌}
 use Rattle.com_stub.specs.CounterRows.{has_counter}
 use Rattle.com_books.specs.Counting.{count_if}
 use Rattle.com_books.specs.Changes.{Books, changed, change, Makes}

@@ -1,4 +1,4 @@
-use Rattle.std.proofs.Common.{◌≡◌, ◌+◌, Bool, not, cond, true, false, refl, sym, ap, subst, ◌∙◌, arith, take, drop, length, ◌++◌, List, ℕ}
+use Rattle.std.proofs.Common.{◌≡◌, Bool, not, cond, true, false, refl, sym, ap, ◌∙◌, arith, take, drop, length, ◌++◌, List, ℕ}
 use Rattle.std.proofs.lemmas.Grind.{common_steps}
 use Rattle.com_holders.specs.Tables.{owns_of}
 use Rattle.com_holders.proofs.Cuts.{outstanding_held}

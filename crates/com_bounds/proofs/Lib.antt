@@ -1,0 +1,6 @@
+pub mod Homes
+pub mod Numbers
+pub mod Standing
+pub mod Writing
+pub mod Fitting
+pub mod Times

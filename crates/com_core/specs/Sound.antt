@@ -1,0 +1,22 @@
+-- What holds of a core between entries, where no change was left half done.
+use Rattle.std.specs.Prelude.{◌≡◌, ℕ, ◌≤◌, Bool, false, List, All, length, slice_index_or}
+use Rattle.com_scene.specs.Kept.{HasSlots}
+use Rattle.com_parts.specs.Tables.{PartTables}
+
+-- Each number in the list is at most so much.
+abbrev pub Most : ℕ → List ℕ → Type 0
+Most n xs = (o : ℕ) → slice_index_or xs o 0 ≤ n
+
+-- The frame of each body has 8 slots, and an object runs at most as many bodies as there were entries.
+pub record Sound (parts : PartTables) (entered : List ℕ) : Type 0 where
+  pub bodies : All HasSlots parts.scene.bodies
+  pub runs : Most parts.entries entered
+
+abbrev pub SoundUnless : (broken : Bool) → PartTables → List ℕ → Type 0
+SoundUnless broken parts entered = broken ≡ false → Sound parts entered
+
+-- There were a million entries at most, and no more apartments were made than there were entries. This holds also where a change
+-- was left half done.
+pub record Few (parts : PartTables) : Type 0 where
+  pub entries : parts.entries ≤ 1_000_000
+  pub stas : length parts.lanes.stas ≤ parts.entries

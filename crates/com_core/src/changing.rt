@@ -1,0 +1,323 @@
+//! The change of a core by an entry.
+
+ghost use Rattle.std.specs.Prelude.{◌≡◌, ℕ, ◌+◌, ◌<◌, ◌^◌, All, IfOk, OnOk, map, slice_index_or};
+ghost use Rattle.com_core.specs.Sound.{Few, Most, Sound, SoundUnless};
+ghost use Rattle.com_model.specs.Clock.{ticked};
+ghost use Rattle.com_moves.specs.Steps.{IsWhole};
+ghost use Rattle.com_scene.specs.Kept.{HasSlots};
+ghost use Rattle.com_scene.specs.Ranges.{FitsDeed};
+ghost use Rattle.com_servant.specs.Rows.{row};
+
+use crate::dying::{Fates, count_bodies, left_by, released_by};
+use crate::running::{Running, unproved};
+use com_base::{Memory, RefValue};
+use com_body::Outcome;
+use com_ledger::Context;
+use com_model::{Deed, Entry, Scenario};
+use com_parts::{Change, Sent};
+use com_rules::{Doing, Issued};
+use com_scene::Actor;
+use com_servant::Servant;
+use com_turns::{Turn, actor_after, fits_deed, is_filtered, next_turn};
+use std::alloc::Global;
+
+/// What an entry's change rests on of the parts before it: who acts in the lane after the entry, whether the caller's lane of the
+/// call of a Verdict has a message filter, the home of the lane, and the apartment in which it runs.
+#[derive(Debug, Clone, Copy)]
+struct Glance {
+    after: Actor,
+    filtered: bool,
+    home: Option<u32>,
+    running: Option<u32>,
+}
+
+// What the parts are told of the call that an entry issues.
+fn sent_of(issued: Option<Issued>) -> Option<Sent> {
+    match issued {
+        None => None,
+        Some(issued) => Some(Sent {
+            refusal: issued.refusal,
+            values: issued.values,
+        }),
+    }
+}
+
+// The clock after an entry.
+fn ticked(deed: &Deed, clock: u64) -> u64
+    ensures { result ≡ ticked deed.now clock }
+{
+    match deed {
+        Deed::Tick { clock: time } => *time,
+        _ => clock,
+    }
+}
+
+impl Running {
+    // What an entry's change rests on.
+    fn glance(&self, scenario: &Scenario, entry: &Entry) -> Glance {
+        let view = self.view(scenario);
+        Glance {
+            after: actor_after(&view, entry.lane, &entry.deed),
+            filtered: is_filtered(&view, &entry.deed),
+            home: view.home(entry.lane),
+            running: view.running(entry.lane),
+        }
+    }
+
+    // What the entry takes from places and brings to them, and who holds references after it. The only error is want of memory.
+    #[tactic(auto, using(crate::proofs::Whole::bodies_whole, crate::proofs::Whole::frame_whole))]
+    fn change_holders(
+        &mut self,
+        scenario: &Scenario,
+        glance: Glance,
+        acting: Actor,
+        outcome: &Option<Outcome>,
+        carried: &[RefValue],
+        entry: &Entry,
+    ) -> Result<(), Memory>
+        requires sound { Sound self.old.parts self.old.entered }
+        requires deed { FitsDeed entry.now.deed }
+        requires whole { IsWhole outcome.now }
+        ensures parts { self.new.parts ≡ self.old.parts }
+        ensures entered { self.new.entered ≡ self.old.entered }
+        ensures clock { self.new.clock ≡ self.old.clock }
+        ensures broken { self.new.broken ≡ self.old.broken }
+    {
+        self.moves.fill(
+            glance.home,
+            self.parts.objects(),
+            self.parts.calls(),
+            self.parts.scene(),
+            acting,
+            outcome,
+            glance.after,
+            entry,
+        )?;
+        let context = Context {
+            home: glance.home,
+            running: glance.running,
+            objects: self.parts.objects(),
+            calls: self.parts.calls(),
+            classes: &scenario.classes,
+            carried,
+        };
+        self.ledger.apply(entry, context, &self.moves)
+    }
+
+    // The parts after the entry. The only error is want of memory.
+    #[tactic(auto, using(crate::proofs::Whole::later_whole, crate::proofs::Whole::frame_fits, crate::proofs::Runs::few_later))]
+    fn change_parts(
+        &mut self,
+        glance: Glance,
+        acting: Actor,
+        outcome: Option<Outcome>,
+        issued: Option<Issued>,
+        entry: &Entry,
+    ) -> Result<(), Memory>
+        requires sound { Sound self.old.parts self.old.entered }
+        requires deed { FitsDeed entry.now.deed }
+        requires whole { IsWhole outcome }
+        requires few { Few self.old.parts }
+        requires room { self.old.parts.entries < 1_000_000 }
+        ensures few { Few self.new.parts }
+        ensures bodies { OnOk result (All HasSlots self.new.parts.scene.bodies) }
+        ensures entries { OnOk result (self.new.parts.entries ≡ self.old.parts.entries + 1) }
+        ensures entered { self.new.entered ≡ self.old.entered }
+        ensures clock { self.new.clock ≡ self.old.clock }
+        ensures broken { self.new.broken ≡ self.old.broken }
+    {
+        self.parts.apply(Change {
+            lane: entry.lane,
+            deed: &entry.deed,
+            acting,
+            outcome,
+            after: glance.after,
+            filtered: glance.filtered,
+            clock: self.clock,
+            issued: sent_of(issued),
+        })
+    }
+
+    // The running bodies and the dying objects after the entry, whose parts are those after it. The only error is want of memory.
+    fn settle(&mut self, deed: &Deed, acting: Actor) -> Result<(), Memory>
+        requires few { (o : ℕ) → slice_index_or self.old.entered o 0 + 1 < 2 ^ 32 }
+        ensures runs { OnOk result ((n : ℕ) → Most n self.old.entered → Most (n + 1) self.new.entered) }
+        ensures parts { self.new.parts ≡ self.old.parts }
+        ensures clock { self.new.clock ≡ self.old.clock }
+        ensures broken { self.new.broken ≡ self.old.broken }
+    {
+        count_bodies(&mut self.entered, deed, acting)?;
+        let fates = Fates {
+            objects: self.parts.objects(),
+            ledger: &self.ledger,
+            entered: &self.entered,
+            fallen: &self.fallen,
+        };
+        fates.find_dying(&mut self.fresh, left_by(deed, acting))?;
+        self.fallen.settle(released_by(deed), self.fresh.as_slice())
+    }
+
+    // Makes of all what an entry makes of it. The only error is want of memory, and then it may be half done.
+    #[tactic(auto, using(crate::proofs::Runs::few_run))]
+    fn change(
+        &mut self,
+        scenario: &Scenario,
+        acting: Actor,
+        outcome: Option<Outcome>,
+        issued: Option<Issued>,
+        carried: &[RefValue],
+        entry: &Entry,
+    ) -> Result<(), Memory>
+        requires sound { Sound self.old.parts self.old.entered }
+        requires few { Few self.old.parts }
+        requires room { self.old.parts.entries < 1_000_000 }
+        requires deed { FitsDeed entry.now.deed }
+        requires whole { IsWhole outcome }
+        ensures few { Few self.new.parts }
+        ensures sound { OnOk result (Sound self.new.parts self.new.entered) }
+        ensures entries { OnOk result (self.new.parts.entries ≡ self.old.parts.entries + 1) }
+        ensures clock { OnOk result (self.new.clock ≡ ticked entry.now.deed self.old.clock) }
+        ensures broken { self.new.broken ≡ self.old.broken }
+    {
+        let glance = self.glance(scenario, entry);
+        self.change_holders(scenario, glance, acting, &outcome, carried, entry)?;
+        self.change_parts(glance, acting, outcome, issued, entry)?;
+        self.settle(&entry.deed, acting)?;
+        self.clock = ticked(&entry.deed, self.clock);
+        Ok(())
+    }
+
+    // The same, where the history is shorter than it may be. After want of memory it is broken.
+    fn make(
+        &mut self,
+        scenario: &Scenario,
+        acting: Actor,
+        outcome: Option<Outcome>,
+        issued: Option<Issued>,
+        carried: &[RefValue],
+        entry: &Entry,
+    ) -> Result<(), Memory>
+        requires sound { Sound self.old.parts self.old.entered }
+        requires few { Few self.old.parts }
+        requires whole { IsWhole outcome }
+        ensures few { Few self.new.parts }
+        ensures sound { SoundUnless self.new.broken self.new.parts self.new.entered }
+        ensures entries { OnOk result (self.new.parts.entries ≡ self.old.parts.entries + 1) }
+        ensures clock { OnOk result (self.new.clock ≡ ticked entry.now.deed self.old.clock) }
+    {
+        if self.parts.entries() >= 1_000_000 {
+            return Err(unproved());
+        }
+        if !fits_deed(&entry.deed) {
+            return Err(unproved());
+        }
+        self.broken = true;
+        self.change(scenario, acting, outcome, issued, carried, entry)?;
+        self.broken = false;
+        Ok(())
+    }
+
+    // The entry of a turn of a lane.
+    fn make_turn(&mut self, scenario: &Scenario, lane: u32, made: Turn) -> Result<Entry, Memory>
+        requires sound { Sound self.old.parts self.old.entered }
+        requires few { Few self.old.parts }
+        requires whole { IsWhole made.outcome }
+        ensures few { Few self.new.parts }
+        ensures sound { SoundUnless self.new.broken self.new.parts self.new.entered }
+        ensures lane { IfOk result (λ entry. entry.lane ≡ lane) }
+        ensures entries { OnOk result (self.new.parts.entries ≡ self.old.parts.entries + 1) }
+        ensures clock { IfOk result (λ entry. self.new.clock ≡ ticked entry.deed self.old.clock) }
+    {
+        let Turn {
+            acting,
+            outcome,
+            doing,
+        } = made;
+        let Doing {
+            deed,
+            issued,
+            carried,
+        } = doing;
+        let entry = Entry { lane, deed };
+        self.make(
+            scenario,
+            acting,
+            outcome,
+            issued,
+            carried.as_slice(),
+            &entry,
+        )?;
+        Ok(entry)
+    }
+
+    // The turn of a lane that can step.
+    #[tactic(auto, using(crate::proofs::Whole::bodies_whole, crate::proofs::Runs::room_for_sta))]
+    fn turn_of(
+        &self,
+        scenario: &Scenario,
+        alloc: Global,
+        lane: u32,
+        servants: &mut Vec<Box<dyn Servant + Send>>,
+    ) -> Result<Turn, Memory>
+        requires sound { Sound self.now.parts self.now.entered }
+        requires few { Few self.now.parts }
+        requires row { map kind_of servants.old.items ≡ row }
+        ensures whole { IfOk result (λ made. IsWhole made.outcome) }
+        ensures row { map kind_of servants.new.items ≡ row }
+    {
+        let view = self.view(scenario);
+        match next_turn(&view, &self.ledger, alloc, lane, servants)? {
+            Some(made) => Ok(made),
+            None => Err(unproved()),
+        }
+    }
+
+    /// Makes the next entry of a lane that can step. The only error is want of memory.
+    pub fn step(
+        &mut self,
+        scenario: &Scenario,
+        alloc: Global,
+        lane: u32,
+        servants: &mut Vec<Box<dyn Servant + Send>>,
+    ) -> Result<Entry, Memory>
+        requires sound { SoundUnless self.old.broken self.old.parts self.old.entered }
+        requires few { Few self.old.parts }
+        requires row { map kind_of servants.old.items ≡ row }
+        ensures few { Few self.new.parts }
+        ensures sound { SoundUnless self.new.broken self.new.parts self.new.entered }
+        ensures lane { IfOk result (λ entry. entry.lane ≡ lane) }
+        ensures entries { OnOk result (self.new.parts.entries ≡ self.old.parts.entries + 1) }
+        ensures clock { IfOk result (λ entry. self.new.clock ≡ ticked entry.deed self.old.clock) }
+        ensures row { map kind_of servants.new.items ≡ row }
+    {
+        if self.broken {
+            return Err(Memory);
+        }
+        let made = self.turn_of(scenario, alloc, lane, servants)?;
+        self.make_turn(scenario, lane, made)
+    }
+
+    /// Makes the clock's entry. The only error is want of memory.
+    pub fn tick(&mut self, scenario: &Scenario) -> Result<Entry, Memory>
+        requires sound { SoundUnless self.old.broken self.old.parts self.old.entered }
+        requires few { Few self.old.parts }
+        ensures few { Few self.new.parts }
+        ensures sound { SoundUnless self.new.broken self.new.parts self.new.entered }
+        ensures lane { IfOk result (λ entry. entry.lane ≡ 0) }
+        ensures entries { OnOk result (self.new.parts.entries ≡ self.old.parts.entries + 1) }
+        ensures clock { IfOk result (λ entry. self.new.clock ≡ ticked entry.deed self.old.clock) }
+    {
+        if self.broken {
+            return Err(Memory);
+        }
+        let Some(clock) = self.parts.calls().next_time(self.clock) else {
+            return Err(unproved());
+        };
+        let entry = Entry {
+            lane: 0,
+            deed: Deed::Tick { clock },
+        };
+        self.make(scenario, Actor::Nobody, None, None, &[], &entry)?;
+        Ok(entry)
+    }
+}

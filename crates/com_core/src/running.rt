@@ -1,0 +1,90 @@
+//! All that a core keeps of a history beside its scenario, and how it is read.
+
+ghost use Rattle.std.specs.Prelude.{◌≡◌, ◌∷◌, [], false, IfOk, OnOk};
+ghost use Rattle.com_core.specs.Sound.{Few, Sound};
+
+use com_base::Memory;
+use com_ledger::Ledger;
+use com_model::Scenario;
+use com_moves::Moves;
+use com_objects::{Entered, Fallen};
+use com_parts::Parts;
+use com_view::View;
+use std::alloc::Global;
+
+/// What a core keeps of a history: the parts, who holds references, how many bodies of each object run, the dying objects, and the
+/// clock in milliseconds. `moves` and `fresh` are used again from entry to entry. `broken` says that a change was left half done
+/// for want of memory.
+#[derive(Drop)]
+pub struct Running {
+    pub parts: Parts,
+    pub ledger: Ledger,
+    pub entered: Entered,
+    pub fallen: Fallen,
+    pub moves: Moves,
+    pub fresh: Vec<u32>,
+    pub clock: u64,
+    pub broken: bool,
+}
+
+/// The answer where an entry is none that the rules give, or the history is as long as it may be. No schedule asks for such an
+/// entry; that is not proved here.
+pub fn unproved() -> Memory {
+    Memory
+}
+
+/// The counts of running bodies before the first entry: object 0 is none, and has a row.
+fn no_bodies(alloc: Global) -> Result<Entered, Memory>
+    ensures { IfOk result (λ entered. entered ≡ 0 ∷ []) }
+{
+    let mut entered = Entered::new(alloc);
+    entered.make()?;
+    Ok(entered)
+}
+
+impl Running {
+    /// All before the first entry. The only error is want of memory.
+    #[tactic(auto, using(crate::proofs::Whole::new_whole, crate::proofs::Runs::none_run, crate::proofs::Runs::none_made))]
+    pub fn new(alloc: Global, scenario: &Scenario) -> Result<Running, Memory>
+        ensures sound { IfOk result (λ running. Sound running.parts running.entered) }
+        ensures few { IfOk result (λ running. Few running.parts) }
+        ensures entries { IfOk result (λ running. running.parts.entries ≡ 0) }
+        ensures clock { IfOk result (λ running. running.clock ≡ 0) }
+    {
+        let parts = Parts::new(alloc, scenario)?;
+        let entered = no_bodies(alloc)?;
+        Ok(Running {
+            parts,
+            ledger: Ledger::new(alloc),
+            entered,
+            fallen: Fallen::new(alloc),
+            moves: Moves::new(alloc),
+            fresh: Vec::new(alloc),
+            clock: 0,
+            broken: false,
+        })
+    }
+
+    /// What the rules look at.
+    pub fn view<'a>(&'a self, scenario: &'a Scenario) -> View<'a>
+        ensures { result ≡ record {
+          scenario = scenario.now;
+          lanes = self.now.parts.lanes;
+          objects = self.now.parts.objects;
+          calls = self.now.parts.calls;
+          scene = self.now.parts.scene;
+          fallen = self.now.fallen;
+          clock = self.now.clock;
+        } }
+    {
+        View {
+            scenario,
+            lanes: self.parts.lanes(),
+            objects: self.parts.objects(),
+            calls: self.parts.calls(),
+            scene: self.parts.scene(),
+            fallen: &self.fallen,
+            clock: self.clock,
+        }
+    }
+}

@@ -1,0 +1,175 @@
+//! A runtime that makes one entry at a time.
+
+ghost use Rattle.std.specs.Prelude.{◌≡◌, ◌<◌, ◌^◌, IfOk, IfSome, length, map};
+ghost use Rattle.com_books.specs.Changes.{Books};
+ghost use Rattle.com_core.specs.Seen.{Makes};
+ghost use Rattle.com_model.specs.Tables.{lanes};
+ghost use Rattle.com_servant.specs.Rows.{row};
+
+use crate::running::{Running, unproved};
+use crate::standing::standing_of;
+use com_base::Memory;
+use com_drive::Standing;
+use com_model::{Counts, Entry, ObjectState, Scenario};
+use com_servant::Servant;
+use com_view::References;
+use std::alloc::Global;
+use std::marker::Model;
+
+/// A runtime of a scenario: it keeps what the rules need, and makes one entry at a time.
+///
+/// Lanes are numbered from 1: the threads in order, the host's lane, then the pool's. Lane 0 is the clock's.
+#[derive(Drop)]
+pub struct Core {
+    scenario: Scenario,
+    count: u32,
+    running: Running,
+}
+
+impl Model for Core {
+    ghost use Rattle.std.specs.Prelude.{◌≡◌, ◌<◌, ◌^◌, length};
+    ghost use Rattle.com_core.specs.Seen.{CoreView};
+    ghost use Rattle.com_core.specs.Sound.{Few, SoundUnless};
+    ghost use Rattle.com_model.specs.Tables.{lanes};
+
+    ghost Value = { CoreView };
+
+    ghost view = { λ c. record { lanes = c.count; entries = c.running.parts.entries; clock = c.running.clock } };
+
+    ghost invariant = { λ c. SoundUnless c.running.broken c.running.parts c.running.entered × Few c.running.parts
+        × (c.count ≡ lanes c.scenario) × (length c.scenario.threads < 2 ^ 32) };
+}
+
+// How many lanes a scenario has: one for each thread, the host's, and the pool's. `None` only where a number of 32 bits does
+// not hold that.
+fn lanes_of(scenario: &Scenario) -> Option<u32>
+    ensures count { IfSome result (λ count. count ≡ lanes scenario.now) }
+    ensures threads { IfSome result (λ count. length scenario.now.threads < 2 ^ 32) }
+{
+    let threads = scenario.threads.len();
+    if threads >= 0x1000_0000 {
+        return None;
+    }
+    let lanes = threads as u64 + 1 + scenario.pool as u64;
+    if lanes > 0xFFFF_FFFF {
+        return None;
+    }
+    Some(lanes as u32)
+}
+
+impl Core {
+    /// The runtime before its first entry. The only error is want of memory.
+    pub fn new(alloc: Global, scenario: Scenario) -> Result<Core, Memory>
+        ensures lanes { IfOk result (λ core. core.lanes ≡ lanes scenario) }
+        ensures entries { IfOk result (λ core. core.entries ≡ 0) }
+        ensures clock { IfOk result (λ core. core.clock ≡ 0) }
+    {
+        let Some(count) = lanes_of(&scenario) else {
+            return Err(unproved());
+        };
+        let running = Running::new(alloc, &scenario)?;
+        Ok(Core {
+            scenario,
+            count,
+            running,
+        })
+    }
+
+    /// The scenario that it runs.
+    pub fn scenario(&self) -> &Scenario {
+        &self.scenario
+    }
+
+    /// How many lanes there are.
+    pub fn lanes(&self) -> u32
+        ensures { result ≡ self.now.lanes }
+    {
+        self.count
+    }
+
+    /// Whether a lane, from 1 to `lanes`, can step.
+    pub fn can_step(&self, lane: u32) -> bool {
+        self.running.view(&self.scenario).can_step(lane)
+    }
+
+    /// Whether a lane can step, the clock goes on, or all has ended.
+    #[tactic(auto, using(crate::proofs::Runs::room_for_sta))]
+    pub fn standing(&self) -> Standing {
+        let threads = self.scenario.threads.len() as u32;
+        standing_of(&self.running.view(&self.scenario), threads, self.count)
+    }
+
+    /// How many entries were made.
+    pub fn entries(&self) -> u64
+        ensures { result ≡ self.now.entries }
+    {
+        self.running.parts.entries() as u64
+    }
+
+    /// The clock, in virtual milliseconds.
+    pub fn clock(&self) -> u64
+        ensures { result ≡ self.now.clock }
+    {
+        self.running.clock
+    }
+
+    /// How many objects were made. They are numbered from 1, in order of making.
+    pub fn objects(&self) -> u32 {
+        self.running.parts.objects().len()
+    }
+
+    // Whether an object is connected, or else whether it was released.
+    fn state(&self, object: u32) -> ObjectState {
+        if self.running.parts.objects().is_released(object) {
+            return ObjectState::Released;
+        }
+        if self.running.ledger.is_connected(object) {
+            ObjectState::Live
+        } else {
+            ObjectState::Disconnected
+        }
+    }
+
+    /// What a report counts of an object, from 1 to `objects`.
+    pub fn counts(&self, object: u32) -> Counts {
+        let numbers = self.running.ledger.counts(object);
+        Counts {
+            class: self.running.parts.objects().class(object),
+            owner: self.running.parts.objects().owner(object),
+            state: self.state(object),
+            direct: numbers.direct,
+            proxies: numbers.proxies,
+            packets: numbers.packets,
+            tables: numbers.tables,
+            stub: numbers.stub,
+        }
+    }
+
+    /// Makes the next entry of a lane that can step. Where a body runs in the lane, the servant of its class's kind computes the
+    /// step. The row has one servant of each kind, in the order of the kinds.
+    ///
+    /// The only error is want of memory. Where it came while the entry was being made, the runtime makes no more entries: each later
+    /// step answers want of memory. A servant may have counted a step whose entry was not made.
+    pub fn step(
+        &mut self,
+        alloc: Global,
+        lane: u32,
+        servants: &mut Vec<Box<dyn Servant + Send>>,
+    ) -> Result<Entry, Memory>
+        requires row { map kind_of servants.old.items ≡ row }
+        ensures entry { IfOk result (λ entry. Makes lane self.old self.new entry) }
+        ensures lanes { self.new.lanes ≡ self.old.lanes }
+        ensures row { map kind_of servants.new.items ≡ row }
+    {
+        self.running.step(&self.scenario, alloc, lane, servants)
+    }
+
+    /// Makes the clock's entry, where the clock goes on: to the least time that a call waits for. The only error is want of memory;
+    /// where it came while the entry was being made, the runtime makes no more entries.
+    pub fn tick(&mut self) -> Result<Entry, Memory>
+        ensures entry { IfOk result (λ entry. Makes 0 self.old self.new entry) }
+        ensures lanes { self.new.lanes ≡ self.old.lanes }
+    {
+        self.running.tick(&self.scenario)
+    }
+}

@@ -1,0 +1,19 @@
+use Rattle.std.proofs.Common.{refl, ◌∙◌}
+use Rattle.com_ledger.proofs.Placed.{gained_none, gained_next, gained_all}
+use Rattle.com_ledger.proofs.moving.gain_all.Goals as goal
+
+pub loop-moved-init : goal.loop-moved-init
+loop-moved-init c = record { books = refl; some = gained_none c.args.gained.now c.args.refs.now }
+
+pub loop-moved-preserved : goal.loop-moved-preserved
+loop-moved-preserved c = record {
+  books = c.in_ok-gain.ensures.books ∙ c.loop-moved.invariant.books;
+  some = gained_next c.args.gained.now c.loop-moved.moved-index (record { apartment = 0; reference = record { object = 0; iface = 0 } })
+      c.args.refs.now c.loop-moved.refs c.gain.new.refs c.loop-moved-test.true c.loop-moved.invariant.some c.in_ok-gain.ensures.places;
+}
+
+pub returns-clause-books : goal.returns-clause-books
+returns-clause-books c = c.loop-moved.invariant.books
+
+pub returns-clause-places : goal.returns-clause-places
+returns-clause-places c = gained_all c.args.gained.now c.loop-moved.moved-index c.args.refs.now c.loop-moved.refs c.loop-moved-test.false c.loop-moved.invariant.some

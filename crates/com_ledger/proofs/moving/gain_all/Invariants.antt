@@ -1,0 +1,10 @@
+use Rattle.std.proofs.Common.{◌≡◌}
+use Rattle.com_holders.specs.Tables.{books_of}
+use Rattle.com_ledger.proofs.Placed.{GainedSome}
+use Rattle.com_ledger.proofs.moving.gain_all.Given as goal
+
+abbrev pub invariant-loop-moved : goal.invariant-loop-moved
+invariant-loop-moved l = record {
+  books : books_of l.refs ≡ books_of l.initial.refs;
+  some : GainedSome l.gained l.moved-index l.initial.refs l.refs;
+}

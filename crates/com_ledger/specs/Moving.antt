@@ -1,0 +1,25 @@
+-- Places that moves bring and take, and what an entry's losses do to the books.
+use Rattle.std.specs.Prelude.{◌≡◌, ℕ, ◌+◌, ◌<◌, ◌==◌, ◌&&◌, List, [], ◌∷◌}
+use Rattle.com_books.specs.Counting.{count_if}
+use Rattle.com_holders.specs.Places.{Counts}
+use Rattle.com_holders.specs.Tables.{Tables, books_of}
+use Rattle.com_moves.specs.declared.moves.Move.{Move}
+use Rattle.com_refs.specs.Ends.{ends}
+
+-- How many of the moves are at an apartment and an object.
+abbrev pub moves_at : List Move → (apartment object : ℕ) → ℕ
+moves_at [] c x = 0
+moves_at (m ∷ ms) c x = count_if (c == m.apartment && x == m.reference.object) + moves_at ms c x
+
+-- Places, and moves beside them.
+abbrev pub plus : (ℕ → ℕ → ℕ) → List Move → (apartment object : ℕ) → ℕ
+plus places ms c x = places c x + moves_at ms c x
+
+abbrev pub AllBelow : ℕ → List Move → Type 0
+AllBelow n [] = Unit {0}
+AllBelow n (m ∷ ms) = (m.apartment < n) × AllBelow n ms
+
+-- Places were lost: these are left, and the books are at their end for them.
+pub record Ended (n : ℕ) (later : ℕ → ℕ → ℕ) (before after : Tables) : Type 0 where
+  pub counts : Counts n later after
+  pub books : books_of after ≡ ends n later (books_of before)

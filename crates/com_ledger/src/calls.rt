@@ -1,0 +1,107 @@
+//! The packets of each call.
+ghost use Rattle.std.specs.Prelude.{◌≡◌, ◌+◌, ◌<◌, ◌^◌, [], ◌∷◌, ◌++◌, length, OnOk, OnErr};
+ghost use Rattle.com_ledger.specs.Calls.{call_at, with_result};
+
+use com_base::Memory;
+use std::alloc::Global;
+use std::marker::Model;
+
+/// The packets of one call: those of its arguments have numbers one after another, from `first` on, and that of its result has the
+/// number `result`, which is 0 where there is none.
+#[derive(Debug, Clone, Copy, PartialEq, Eq)]
+pub struct CallPackets {
+    pub first: u32,
+    pub count: u32,
+    pub result: u32,
+}
+
+const NO_PACKETS: CallPackets = CallPackets {
+    first: 0,
+    count: 0,
+    result: 0,
+};
+
+/// The packets of each call, in order of the calls' numbers from 1 on.
+#[derive(Debug, Drop)]
+pub struct CallTable {
+    rows: Vec<CallPackets>,
+}
+
+impl Model for CallTable {
+    ghost use Rattle.std.specs.Prelude.{List};
+    ghost use Rattle.com_ledger.specs.declared.calls.CallPackets.{CallPackets};
+    ghost use Rattle.com_ledger.specs.Calls.{AreNumbered};
+
+    ghost Value = { List CallPackets };
+
+    ghost view = { λ t. t.rows.items };
+
+    ghost invariant = { λ t. AreNumbered t.rows.items };
+}
+
+impl CallTable {
+    /// No call. It takes no memory.
+    pub fn new(alloc: Global) -> CallTable
+        ensures { result ≡ [] }
+    {
+        CallTable {
+            rows: Vec::new(alloc),
+        }
+    }
+
+    /// How many calls were issued.
+    pub fn len(&self) -> usize
+        ensures { result ≡ length self.now }
+    {
+        self.rows.len()
+    }
+
+    /// The packets of a call; none where there is no such call.
+    pub fn get(&self, call: u32) -> CallPackets
+        ensures row { result ≡ call_at self.now call }
+        ensures fits { result.first + result.count < 2 ^ 32 }
+    {
+        match call.checked_sub(1) {
+            None => NO_PACKETS,
+            Some(place) => match self.rows.get(place as usize) {
+                None => NO_PACKETS,
+                Some(row) => *row,
+            },
+        }
+    }
+
+    /// Makes room for one call.
+    pub fn reserve(&mut self) -> Result<(), Memory>
+        ensures { self.new ≡ self.old }
+    {
+        self.rows.reserve(1)
+    }
+
+    /// The packets of the arguments of the next call. Numbers past the last one that there is are none.
+    pub fn push(&mut self, first: u32, count: u32) -> Result<(), Memory>
+        requires { first + count < 2 ^ 32 }
+        ensures ok { OnOk result (self.new ≡ self.old ++ record { first = first; count = count; result = 0 } ∷ []) }
+        ensures err { OnErr result (self.new ≡ self.old) }
+    {
+        self.rows.push(CallPackets {
+            first,
+            count,
+            result: 0,
+        })?;
+        Ok(())
+    }
+
+    /// The packet of the result of a call, or 0 where it has none.
+    pub fn set_result(&mut self, call: u32, packet: u32)
+        ensures { self.new ≡ with_result call packet self.old }
+    {
+        let Some(place) = call.checked_sub(1) else {
+            return;
+        };
+        let at = place as usize;
+        if at < self.rows.len() {
+            let row = &mut self.rows[at];
+            row.result = packet;
+        }
+    }
+}

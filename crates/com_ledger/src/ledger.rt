@@ -1,0 +1,60 @@
+//! Who holds references, and the packets of each call.
+ghost use Rattle.std.specs.Prelude.{◌≡◌, ◌<◌, ◌↔◌, [], IsTrue};
+ghost use Rattle.com_refs.specs.Counts.{holders_of};
+
+use crate::keeping::Keeping;
+use com_refs::Numbers;
+use std::alloc::Global;
+use std::marker::Model;
+
+/// Who holds references, which packets carry the arguments and the result of each call, and the objects that lost their last holder
+/// in the last entry.
+#[derive(Debug, Drop)]
+pub struct Ledger {
+    pub keeping: Keeping,
+}
+
+impl Model for Ledger {
+    ghost use Rattle.com_ledger.specs.Books.{Held};
+
+    ghost Value = { Held };
+
+    ghost view = { λ a. record { tables = a.keeping.refs; calls = a.keeping.calls; touched = a.keeping.touched.items } };
+}
+
+impl Ledger {
+    /// Nothing is held. It takes no memory.
+    pub fn new(alloc: Global) -> Ledger
+        ensures objects { result.tables.objects ≡ [] }
+        ensures proxies { result.tables.proxies ≡ [] }
+        ensures packets { result.tables.packets ≡ [] }
+        ensures cookies { result.tables.cookies ≡ [] }
+        ensures stubs { result.tables.stubs ≡ [] }
+        ensures issued { result.tables.issued ≡ 0 }
+        ensures calls { result.calls ≡ [] }
+        ensures touched { result.touched ≡ [] }
+    {
+        Ledger {
+            keeping: Keeping::new(alloc),
+        }
+    }
+
+    /// The objects that lost their last holder in the last entry, or may have: each once, by number.
+    pub fn touched(&self) -> &[u32]
+        ensures { result.now ≡ self.now.touched }
+    {
+        self.keeping.touched.as_slice()
+    }
+
+    /// Something holds the object: a direct place, or where it is connected a place elsewhere, a packet or a cookie.
+    pub fn is_held(&self, object: u32) -> bool
+        ensures { IsTrue result ↔ (0 < holders_of self.now.tables object) }
+    {
+        self.keeping.refs.is_held(object)
+    }
+
+    /// The numbers of a report for an object.
+    pub fn counts(&self, object: u32) -> Numbers {
+        self.keeping.refs.numbers(object)
+    }
+}

@@ -1,0 +1,74 @@
+//! What comes to places and leaves them, beside what the row of the entry brings.
+ghost use Rattle.std.specs.Prelude.{◌≡◌, ◌<◌, ◌≤◌, ℕ, ◌∷◌, [], OnOk, IsTrue, length};
+ghost use Rattle.com_holders.specs.Places.{Counts};
+ghost use Rattle.com_holders.specs.Tables.{books_of};
+ghost use Rattle.com_ledger.specs.Moving.{plus, AllBelow, Ended};
+
+use crate::rows::{can_give, unproved};
+use crate::touching::touch_where;
+use com_base::Memory;
+use com_moves::Move;
+use com_refs::Refs;
+
+// One place more.
+fn gain(refs: &mut Refs, moved: Move) -> Result<(), Memory>
+    ensures books { OnOk result (books_of refs.new ≡ books_of refs.old) }
+    ensures places { OnOk result ((n : ℕ) (places : ℕ → ℕ → ℕ) → moved.apartment < n → Counts n places refs.old → Counts n (plus places (moved ∷ [])) refs.new) }
+{
+    if !can_give(refs, moved.reference) {
+        return Err(unproved());
+    }
+    refs.share(moved.apartment, moved.reference)?;
+    Ok(())
+}
+
+// One place less.
+fn lose(refs: &mut Refs, touched: &mut Vec<u32>, moved: Move) -> Result<(), Memory>
+    ensures { OnOk result ((n : ℕ) (later : ℕ → ℕ → ℕ) → moved.apartment < n → Counts n (plus later (moved ∷ [])) refs.old → Ended n later refs.old refs.new) }
+{
+    if !refs.has_place(moved.apartment, moved.reference) {
+        return Err(unproved());
+    }
+    let lost = refs.release(moved.apartment, moved.reference);
+    refs.tells();
+    touch_where(touched, lost, moved.reference.object)?;
+    Ok(())
+}
+
+/// What comes to places.
+pub fn gain_all(refs: &mut Refs, gained: &[Move]) -> Result<(), Memory>
+    ensures books { OnOk result (books_of refs.new ≡ books_of refs.old) }
+    ensures places { OnOk result ((n : ℕ) (places : ℕ → ℕ → ℕ) → AllBelow n gained.now → Counts n places refs.old → Counts n (plus places gained.now) refs.new) }
+{
+    for moved in gained {
+        gain(refs, *moved)?;
+    }
+    Ok(())
+}
+
+/// What leaves places.
+pub fn lose_all(refs: &mut Refs, touched: &mut Vec<u32>, lost: &[Move]) -> Result<(), Memory>
+    ensures { OnOk result ((n : ℕ) (later : ℕ → ℕ → ℕ) → AllBelow n lost.now → Counts n (plus later lost.now) refs.old → Ended n later refs.old refs.new) }
+{
+    refs.tells();
+    refs.rests();
+    for moved in lost {
+        lose(refs, touched, *moved)?;
+    }
+    Ok(())
+}
+
+/// Whether what the row brought stands first in what comes to places.
+pub fn are_kept(brought: &[Move], gained: &[Move]) -> bool
+    ensures { IsTrue result → length brought.now ≤ length gained.now }
+{
+    if brought.len() > gained.len() {
+        return false;
+    }
+    for (place, moved) in brought.iter().enumerate() {
+        if gained[place] != *moved {
+            return false;
+        }
+    }
+    true
+}

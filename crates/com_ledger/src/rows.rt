@@ -1,0 +1,219 @@
+//! The rows of the table of reference counting, one for each kind of entry.
+ghost use Rattle.std.specs.Prelude.{◌≡◌, ◌+◌, ◌<◌, ◌≤◌, ◌^◌, ◌↔◌, ◌++◌, ◌∷◌, [], ℕ, true, IsTrue, OnOk, length, map};
+ghost use Rattle.com_base.specs.declared.value.RefValue.{RefValue};
+ghost use Rattle.com_books.specs.Changes.{Asks, Marshals, Registers};
+ghost use Rattle.com_holders.specs.Places.{OneMore, SamePlaces};
+ghost use Rattle.com_holders.specs.Tables.{offers, owns_of};
+ghost use Rattle.com_model.specs.Deeds.{cookie_number};
+ghost use Rattle.com_ledger.specs.Books.{Rowed, moved_to};
+
+use crate::touching::{touch, touch_if};
+use com_base::{MarshalMode, Memory, RefValue};
+use com_moves::Move;
+use com_objects::Objects;
+use com_refs::{Refs, RefsError};
+use std::alloc::AllocError;
+
+/// Where a fact of all histories is not proved here, the core stops as it does without memory. Missing are, at their places: that
+/// an object has the next number, and the interface that is asked for is in its class's set, of 17 at most; that a reference at a
+/// place, of a packet or of a cookie is by an interface of its object's set; that an apartment has a place of each reference that
+/// leaves one; that calls are numbered one after another; that fewer than 2^28 references were given.
+pub fn unproved() -> Memory {
+    AllocError
+}
+
+/// How many references are given at most.
+pub const MOST_GIVEN: u32 = 0x1000_0000;
+
+/// Whether one more reference may be given.
+pub fn is_few(refs: &Refs) -> bool
+    ensures { IsTrue result ↔ (refs.now.issued < 2 ^ 28) }
+{
+    refs.issued() < MOST_GIVEN
+}
+
+/// Whether one more reference may be given, of an object by an interface of its set.
+pub fn can_give(refs: &Refs, held: RefValue) -> bool
+    ensures few { IsTrue result → refs.now.issued < 2 ^ 28 }
+    ensures known { IsTrue result → offers refs.now held.object held.iface ≡ true }
+{
+    if !is_few(refs) {
+        return false;
+    }
+    refs.offers(held.object, held.iface)
+}
+
+/// The row brought a place.
+pub fn bring(brought: &mut Vec<Move>, apartment: u32, reference: RefValue) -> Result<(), Memory>
+    ensures { OnOk result (brought.new.items ≡ brought.old.items ++ moved_to apartment reference ∷ []) }
+{
+    brought.push(Move {
+        apartment,
+        reference,
+    })?;
+    Ok(())
+}
+
+/// A reference is asked for another interface.
+pub fn query(
+    refs: &mut Refs,
+    brought: &mut Vec<Move>,
+    apartment: u32,
+    held: RefValue,
+) -> Result<(), Memory>
+    ensures row { OnOk result (Rowed refs.old refs.new (Asks apartment held.object held.iface)) }
+    ensures places { OnOk result (OneMore refs.old refs.new apartment held.object (owns_of refs.old.objects held.object apartment)) }
+    ensures brought { OnOk result (brought.new.items ≡ brought.old.items ++ moved_to apartment held ∷ []) }
+{
+    if !is_few(refs) {
+        return Err(unproved());
+    }
+    match refs.query(apartment, held.object, held.iface) {
+        Ok(()) => bring(brought, apartment, held),
+        Err(_) => Err(unproved()),
+    }
+}
+
+/// A packet of a reference; what is not connected gets none.
+pub fn marshal(
+    refs: &mut Refs,
+    apartment: u32,
+    held: RefValue,
+    mode: MarshalMode,
+) -> Result<(), Memory>
+    ensures row { OnOk result (Rowed refs.old refs.new (Marshals apartment mode held.object held.iface)) }
+    ensures places { OnOk result (SamePlaces refs.old refs.new) }
+{
+    if !refs.connected(held.object) {
+        return Ok(());
+    }
+    if !can_give(refs, held) {
+        return Err(unproved());
+    }
+    match refs.marshal(apartment, held, mode) {
+        Ok(_) => Ok(()),
+        Err(_) => Err(unproved()),
+    }
+}
+
+/// A packet is read; one that has ended gives nothing.
+pub fn unmarshal(
+    refs: &mut Refs,
+    brought: &mut Vec<Move>,
+    apartment: u32,
+    number: u32,
+) -> Result<(), Memory> {
+    if !is_few(refs) {
+        return Err(unproved());
+    }
+    match refs.unmarshal(apartment, number) {
+        Ok(packet) => bring(
+            brought,
+            apartment,
+            RefValue {
+                object: packet.object,
+                iface: packet.iface,
+            },
+        ),
+        Err(RefsError::Unknown) => Ok(()),
+        Err(_) => Err(unproved()),
+    }
+}
+
+/// A packet ends; one that has ended stays so.
+pub fn drop_packet(refs: &mut Refs, touched: &mut Vec<u32>, number: u32) -> Result<(), Memory> {
+    match refs.drop_packet(number) {
+        Ok(lost) => touch_if(touched, lost),
+        Err(_) => Ok(()),
+    }
+}
+
+/// A cookie of a reference; what is not connected gets none.
+pub fn register(refs: &mut Refs, held: RefValue) -> Result<(), Memory>
+    ensures row { OnOk result (Rowed refs.old refs.new (Registers held.object held.iface)) }
+    ensures places { OnOk result (SamePlaces refs.old refs.new) }
+{
+    if !refs.connected(held.object) {
+        return Ok(());
+    }
+    if !can_give(refs, held) {
+        return Err(unproved());
+    }
+    match refs.register(held) {
+        Ok(_) => Ok(()),
+        Err(_) => Err(unproved()),
+    }
+}
+
+/// The reference of a cookie; one that was revoked gives nothing.
+pub fn get(
+    refs: &mut Refs,
+    brought: &mut Vec<Move>,
+    apartment: u32,
+    cookie: i64,
+) -> Result<(), Memory> {
+    if !is_few(refs) {
+        return Err(unproved());
+    }
+    match refs.get(apartment, cookie_number(cookie)) {
+        Ok(held) => bring(brought, apartment, held),
+        Err(RefsError::Memory) => Err(unproved()),
+        Err(_) => Ok(()),
+    }
+}
+
+/// A cookie ends; one that has ended stays so.
+pub fn revoke(refs: &mut Refs, touched: &mut Vec<u32>, cookie: i64) -> Result<(), Memory> {
+    match refs.revoke(cookie_number(cookie)) {
+        Ok(lost) => touch_if(touched, lost),
+        Err(_) => Ok(()),
+    }
+}
+
+/// An object is disconnected: only its direct places hold it then.
+pub fn disconnect(refs: &mut Refs, touched: &mut Vec<u32>, object: u32) -> Result<(), Memory> {
+    if !refs.connected(object) {
+        return Ok(());
+    }
+    refs.disconnect(object);
+    if refs.direct(object) > 0 {
+        return Ok(());
+    }
+    touch(touched, object)
+}
+
+// Whether an object that ends with its STA is held by no direct place.
+fn ends_unheld(refs: &Refs, objects: &Objects, apartment: u32, object: u32) -> bool {
+    objects.owner(object) == apartment && refs.connected(object) && refs.direct(object) == 0
+}
+
+/// An STA ends: nothing of it is connected any more.
+pub fn end_apartment(
+    refs: &mut Refs,
+    touched: &mut Vec<u32>,
+    objects: &Objects,
+    apartment: u32,
+) -> Result<(), Memory> {
+    if !is_few(refs) {
+        return Err(unproved());
+    }
+    let count = objects.len();
+    for place in 0..count {
+        if ends_unheld(refs, objects, apartment, place + 1) {
+            touch(touched, place + 1)?;
+        }
+    }
+    refs.end_apartment(apartment);
+    Ok(())
+}
+
+/// The number of a cookie, and 0 where the value names none.
+pub fn cookie_number(number: i64) -> u32
+    ensures within { cookie_number number < 2 ^ 32 → result ≡ cookie_number number }
+    ensures past { 2 ^ 32 ≤ cookie_number number → result ≡ 0 }
+{
+    if number < 0 || number > 0xffff_ffff {
+        return 0;
+    }
+    number as u32
+}

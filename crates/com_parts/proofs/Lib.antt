@@ -1,0 +1,4 @@
+pub mod Owned
+pub mod Counts
+pub mod Wholes
+pub mod Others

@@ -1,0 +1,10 @@
+use Rattle.std.proofs.Common.{[], sym, ◌∙◌, ap}
+use Rattle.com_calls.specs.Kept.{Kept}
+use Rattle.com_model.specs.Answers.{S_OK}
+use Rattle.com_parts.proofs.Others.{no_more}
+use Rattle.com_parts.proofs.issue.change_others.Goals as goal
+
+pub returns-clause-apartments : goal.returns-clause-apartments
+returns-clause-apartments c = λ o a h.
+    ap (λ (b : Kept). b.apartments) (c.apply.ensures o (record { refusal = S_OK; values = [] }) c.args.now.outermost h)
+    ∙ sym (no_more c.args.lane a c.args.deed.now c.args.calls.now.apartments c.requires.other)

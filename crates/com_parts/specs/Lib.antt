@@ -1,0 +1,4 @@
+pub mod Tables
+pub mod Whole
+pub mod Changes
+pub mod Fits

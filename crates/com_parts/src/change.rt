@@ -1,0 +1,34 @@
+//! One entry, with what the parts need to know of it.
+
+use com_base::{HResult, Rows, Value};
+use com_body::Outcome;
+use com_model::Deed;
+use com_scene::Actor;
+
+/// What a call has at its Out entry: the refusal, or S_OK, and the values that it sends.
+#[derive(Debug, Drop)]
+pub struct Sent {
+    pub refusal: HResult,
+    pub values: Rows<Value>,
+}
+
+/// An entry of a lane, with what the parts need to know of it.
+#[derive(Drop)]
+pub struct Change<'a> {
+    /// The lane that makes the entry, and 0 for the clock's.
+    pub lane: u32,
+    /// What the entry says was done.
+    pub deed: &'a Deed,
+    /// Who makes the entry by its step, and nobody where no step does.
+    pub acting: Actor,
+    /// The step of whoever makes the entry by one.
+    pub outcome: Option<Outcome>,
+    /// Who acts in the lane after the entry.
+    pub after: Actor,
+    /// Whether the caller's lane of the call that the entry names has a message filter. Only a Verdict reads it.
+    pub filtered: bool,
+    /// The clock before the entry, in milliseconds.
+    pub clock: u64,
+    /// What the call has that the entry issues, where it is an Out.
+    pub issued: Option<Sent>,
+}

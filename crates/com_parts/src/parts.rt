@@ -1,0 +1,117 @@
+//! The parts and what is read of them.
+ghost use Rattle.std.specs.Prelude.{◌≡◌, IfOk, IfSome, []};
+ghost use Rattle.com_calls.specs.Kept.{no_tables};
+ghost use Rattle.com_lanes.specs.First.{first_lanes};
+ghost use Rattle.com_model.specs.Tables.{lanes, threads};
+ghost use Rattle.com_scene.specs.Scenes.{new_scene};
+
+use com_base::Memory;
+use com_calls::Calls;
+use com_lanes::Lanes;
+use com_model::Scenario;
+use com_objects::Objects;
+use com_scene::Scene;
+use std::alloc::Global;
+use std::marker::Model;
+
+/// The parts of a core that an entry changes together.
+#[derive(Drop)]
+pub struct Parts {
+    pub(crate) lanes: Lanes,
+    pub(crate) objects: Objects,
+    pub(crate) calls: Calls,
+    pub(crate) scene: Scene,
+    pub(crate) entries: u32,
+    pub(crate) alloc: Global,
+}
+
+impl Model for Parts {
+    ghost use Rattle.com_parts.specs.Tables.{PartTables};
+    ghost use Rattle.com_parts.specs.Whole.{IsWhole};
+
+    ghost Value = { PartTables };
+
+    ghost view = { λ p. record {
+      lanes = p.lanes;
+      objects = p.objects;
+      calls = p.calls;
+      scene = p.scene;
+      entries = p.entries;
+    } };
+
+    ghost invariant = { λ p. IsWhole p.lanes p.objects p.calls p.entries };
+}
+
+impl Parts {
+    #[tactic(auto, using(crate::proofs::Wholes::whole_new))]
+    /// The parts before the first entry of a scenario. The only error is want of memory.
+    pub fn new(alloc: Global, scenario: &Scenario) -> Result<Parts, Memory>
+        ensures lanes { IfOk result (λ parts. parts.lanes ≡ first_lanes (lanes scenario.now)) }
+        ensures objects { IfOk result (λ parts. parts.objects ≡ record { makings = []; finaled = [] }) }
+        ensures calls { IfOk result (λ parts. parts.calls.tables ≡ no_tables) }
+        ensures scene { IfOk result (λ parts. parts.scene ≡ new_scene (threads scenario.now)) }
+        ensures entries { IfOk result (λ parts. parts.entries ≡ 0) }
+    {
+        let Some(lanes) = lanes_of(scenario) else {
+            return Err(Memory);
+        };
+        let threads = scenario.threads.len() as u32;
+        Ok(Parts {
+            lanes: Lanes::new(alloc, lanes)?,
+            objects: Objects::new(alloc),
+            calls: Calls::new(alloc)?,
+            scene: Scene::new(alloc, threads)?,
+            entries: 0,
+            alloc,
+        })
+    }
+
+    /// The lanes.
+    pub fn lanes(&self) -> &Lanes
+        ensures { result.now ≡ self.now.lanes }
+    {
+        &self.lanes
+    }
+
+    /// The objects.
+    pub fn objects(&self) -> &Objects
+        ensures { result.now ≡ self.now.objects }
+    {
+        &self.objects
+    }
+
+    /// The calls and their inboxes.
+    pub fn calls(&self) -> &Calls
+        ensures { result.now ≡ self.now.calls }
+    {
+        &self.calls
+    }
+
+    /// What frames, cells and buffers hold.
+    pub fn scene(&self) -> &Scene
+        ensures { result.now ≡ self.now.scene }
+    {
+        &self.scene
+    }
+
+    /// How many entries have changed the parts.
+    pub fn entries(&self) -> u32
+        ensures { result ≡ self.now.entries }
+    {
+        self.entries
+    }
+}
+
+// How many lanes a scenario has beside the clock's: one for each thread, the host's and the pool's. `None` only where a
+// number of 32 bits does not hold that.
+fn lanes_of(scenario: &Scenario) -> Option<u32>
+    ensures { IfSome result (λ count. count ≡ lanes scenario.now) }
+{
+    let lanes = (scenario.threads.len() as u64)
+        .checked_add(1)?
+        .checked_add(scenario.pool as u64)?;
+    if lanes > u32::MAX as u64 {
+        return None;
+    }
+    Some(lanes as u32)
+}

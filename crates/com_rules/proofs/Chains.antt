@@ -1,0 +1,37 @@
+-- The first of two answers.
+use Rattle.std.proofs.Common.{◌≡◌, ℕ, Bool, true, false, if◌then◌else◌, Option, Some, None, refl, ap, sym, ◌∙◌}
+use Rattle.com_base.specs.declared.hresult.HResult.{HResult}
+use Rattle.com_base.specs.declared.value.RefValue.{RefValue}
+use Rattle.com_books.specs.Changes.{Books}
+use Rattle.com_model.specs.declared.deeds.Deed.{Deed}
+use Rattle.com_model.specs.Deeds.{hold_refusal}
+use Rattle.com_model.specs.Lists.{or_else}
+use Rattle.com_model.specs.Sight.{Sight}
+use Rattle.com_view.specs.Connected.{Says}
+
+pub some_first : (a r : Option Deed) (d : Deed) → a ≡ Some d → Some d ≡ or_else a r
+some_first a r d e = rw e refl
+
+pub none_first : (a r : Option Deed) → a ≡ None → or_else a r ≡ r
+none_first a r e = rw e refl
+
+-- What is said of a reference's object.
+pub says_all : (b : Books) (held : Option RefValue) (x : Bool) → Says b held x → (r : RefValue) → held ≡ Some r → b.live r.object ≡ x
+says_all b None x h r e = cc
+says_all b (Some s) x h r e = let q : s ≡ r = cc in ap (λ (y : RefValue). b.live y.object) (sym q) ∙ h
+
+-- A reference that may be held is to an object that is connected.
+held_live : (t : Bool) (hr : HResult) → (if t then None else Some hr) ≡ None → t ≡ true
+held_live true hr e = refl
+held_live false hr e = cc
+
+pub live_held : (v : Sight) (home : Option ℕ) (r : RefValue) → hold_refusal v home (Some r) ≡ None → v.books.live r.object ≡ true
+live_held v None r e = cc
+live_held v (Some a) r e = held_live (v.books.live r.object) _ e
+
+-- The last rule after four others.
+pub after_four : (r a p w z : Option Deed) → or_else (or_else r (or_else a (or_else p w))) z ≡ or_else r (or_else a (or_else p (or_else w z)))
+after_four (Some d) a p w z = refl
+after_four None (Some d) p w z = refl
+after_four None None (Some d) w z = refl
+after_four None None None w z = refl

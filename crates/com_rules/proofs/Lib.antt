@@ -1,0 +1,5 @@
+pub mod Packing
+pub mod Numbers
+pub mod Quiets
+pub mod Chains
+pub mod Outs

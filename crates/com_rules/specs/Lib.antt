@@ -1,0 +1,4 @@
+pub mod Fits
+pub mod Room
+pub mod Acts
+pub mod Packets

@@ -1,0 +1,85 @@
+//! The entries of actions on the lane itself, on words, places and buffers, and of those on objects, references and cookies.
+
+ghost use Rattle.std.specs.Prelude.{◌≡◌, ◌+◌, ◌<◌, ◌≤◌, ◌^◌, length, IfSome};
+ghost use Rattle.com_books.specs.Changes.{Books};
+ghost use Rattle.com_model.specs.Deeds.{deed_of};
+ghost use Rattle.com_view.specs.Seen.{sight_by};
+ghost use Rattle.com_view.specs.Connected.{Says};
+ghost use Rattle.com_rules.specs.Fits.{FitsAction};
+
+use com_base::RefValue;
+use com_body::Action;
+use com_model::Deed;
+use com_view::{References, View};
+
+/// Whether the object of a reference is connected, and false of null.
+pub fn is_connected<R: References>(refs: &R, held: Option<RefValue>) -> bool
+    ensures { Says (R.books refs.now) held result }
+{
+    match held {
+        Some(held) => refs.is_connected(held.object),
+        None => false,
+    }
+}
+
+/// The entry of an action on the lane itself, on words, places and buffers: `init`, `uninit`, `setfilter`, `pump`, `post`, `quit`,
+/// `copy`, `release` and `raw`. `None` of every other.
+pub fn acted_alone(view: &View<'_>, lane: u32, action: &Action) -> Option<Deed>
+    requires stas { length view.now.lanes.stas + 4 ≤ 2 ^ 32 }
+    requires threads { length view.now.scenario.threads < 2 ^ 32 }
+    requires fits { FitsAction action.now }
+    ensures { (b : Books) → IfSome result (λ deed. deed ≡ deed_of view.now.scenario (sight_by view.now b) lane action.now) }
+{
+    match action {
+        Action::Init { mode } => Some(view.initialised(lane, *mode)),
+        Action::Uninit => Some(view.uninitialised(lane)),
+        Action::SetFilter { filter } => Some(view.filter_set(lane, *filter)),
+        Action::Pump { bound } => Some(Deed::Pump { bound: *bound }),
+        Action::Post { lane: to, word } => Some(view.posted(*to, *word)),
+        Action::Quit { lane: to } => Some(view.quit(*to)),
+        Action::Copy { held, .. } => Some(Deed::Copy { held: *held }),
+        Action::Release { held, .. } => Some(Deed::Release { held: *held }),
+        Action::Raw { buffer, bytes } => Some(Deed::Raw {
+            buffer: *buffer,
+            length: bytes.len() as u32,
+        }),
+        _ => None,
+    }
+}
+
+/// The entry of an action on an object, a reference or a cookie: `create`, `query`, `disconnect`, `register`, `get` and `revoke`.
+/// `None` of every other.
+pub fn acted_on<R: References>(
+    view: &View<'_>,
+    refs: &R,
+    lane: u32,
+    action: &Action,
+) -> Option<Deed>
+    requires objects { length view.now.objects.makings + 1 < 2 ^ 32 }
+    requires cookies { length (R.books refs.now).cookies + 1 < 2 ^ 32 }
+    requires fits { FitsAction action.now }
+    ensures { IfSome result (λ deed. deed ≡ deed_of view.now.scenario (sight_by view.now (R.books refs.now)) lane action.now) }
+{
+    match action {
+        Action::Create { class, iface, .. } => Some(view.created(lane, *class, *iface)),
+        Action::Query { held, iface, .. } => {
+            let connected = is_connected(refs, *held);
+            Some(view.queried(lane, *held, *iface, connected))
+        }
+        Action::Disconnect { held } => {
+            let connected = is_connected(refs, *held);
+            Some(view.disconnected(lane, *held, connected))
+        }
+        Action::Register { held, .. } => {
+            let connected = is_connected(refs, *held);
+            Some(view.registered(lane, *held, connected, refs.cookies()))
+        }
+        Action::Get { cookie, .. } => {
+            let kept = refs.cookie(*cookie);
+            let connected = refs.is_connected(kept.object);
+            Some(view.got(lane, *cookie, kept, connected))
+        }
+        Action::Revoke { cookie } => Some(view.revoked(lane, *cookie, refs.cookie(*cookie))),
+        _ => None,
+    }
+}

@@ -1,0 +1,19 @@
+//! The deed of a lane: the entry that the rules give it, and the entry of each action, with the bytes of requests, of replies and of
+//! packets. Nothing is changed.
+#![tactic(auto)]
+
+mod actions;
+mod alone;
+mod asking;
+mod chain;
+mod making;
+mod naming;
+mod room;
+mod sending;
+
+pub use actions::{Doing, acted};
+pub use asking::Found;
+pub use chain::{ruled, script_over};
+pub use com_base::Memory;
+pub use com_calls::Issued;
+pub use room::{fits, has_room};

@@ -1,0 +1,341 @@
+//! The entries that send values: the Out of a call, and the Leave of a body.
+
+ghost use Rattle.std.specs.Prelude.{◌≡◌, ◌&&◌, ℕ, true, not, List, [], Option, Some, IfOk, option_copied, if◌then◌else◌};
+ghost use Rattle.com_body.specs.declared.actions.Action.{Action};
+ghost use Rattle.com_body.specs.declared.actions.Action.TheVariants as action;
+ghost use Rattle.com_body.specs.declared.operands.Destination.{Destination};
+ghost use Rattle.com_books.specs.Changes.{Books};
+ghost use Rattle.com_classes.specs.Lookups.{method_at};
+ghost use Rattle.com_model.specs.declared.deeds.Deed.TheVariants as deed;
+ghost use Rattle.com_model.specs.Calls.{is_marshalled};
+ghost use Rattle.com_model.specs.Deeds.{deed_of, left_as, out_bytes, reply_for};
+ghost use Rattle.com_model.specs.Issue.{or_ok};
+ghost use Rattle.com_model.specs.Tables.{parameters, result_kind};
+ghost use Rattle.com_model.specs.Values.{carried, result_list, sent_values};
+ghost use Rattle.com_rules.specs.Acts.{Issues, carried_by, route_or, target_number};
+ghost use Rattle.com_rules.specs.Room.{HasRoom};
+ghost use Rattle.com_view.specs.Seen.{bare, sight_by};
+
+use crate::actions::Doing;
+use crate::alone::is_connected;
+use crate::asking::Found;
+use crate::making::fields_made;
+use com_base::{ByteList, HResult, Kind, Memory, RefValue, Rows, Value};
+use com_calls::Issued;
+use com_deeds::{number_or_zero, object_in, out, refusal_or_ok};
+use com_exchange::{Connections, carried, reply, request, sent_result, sent_values};
+use com_model::{Deed, Issue, Route};
+use com_view::{References, View};
+use std::alloc::Global;
+
+/// Which objects are connected, by who holds references.
+#[derive(Drop)]
+pub struct Connected<'a, R> {
+    /// Who holds references.
+    pub refs: &'a R,
+}
+
+impl<'a, R: References + Drop> Connections for Connected<'a, R> {
+    ghost live = { λ c. (R.books c.refs.now).live };
+
+    fn is_connected(&self, object: u32) -> bool {
+        self.refs.is_connected(object)
+    }
+}
+
+/// What travels as bytes, and the references in it, which get a packet each.
+#[derive(Drop)]
+pub struct Sending {
+    /// The bytes, where the call is marshalled.
+    pub bytes: Option<ByteList>,
+    /// The references, in their order.
+    pub carried: Rows<RefValue>,
+}
+
+// Of a call that is not marshalled nothing travels as bytes.
+fn nothing_sent(alloc: Global) -> Sending
+    ensures bytes { result.bytes ≡ Option.None }
+    ensures carried { result.carried ≡ [] }
+{
+    Sending {
+        bytes: None,
+        carried: Rows::new(alloc),
+    }
+}
+
+// The arguments of a call as they travel.
+fn arguments<B: Found>(
+    view: &View<'_>,
+    books: &B,
+    alloc: Global,
+    iface: u16,
+    method: u16,
+    marshalled: bool,
+    args: &[Value],
+) -> Result<Rows<Value>, Memory>
+    ensures { IfOk result (λ values. values ≡ sent_values marshalled (B.books books.now).live (parameters (method_at view.now.scenario.classes iface method)) args.now) }
+{
+    match view.scenario.classes.method(iface, method) {
+        Some(method) => sent_values(
+            alloc,
+            marshalled,
+            &Connected { refs: books },
+            method.params.as_slice(),
+            args,
+        ),
+        None => Ok(Rows::new(alloc)),
+    }
+}
+
+// The request of a call on a route that marshals.
+fn request_with<B: Found>(
+    view: &View<'_>,
+    books: &B,
+    alloc: Global,
+    lane: u32,
+    cause: u32,
+    values: &[Value],
+) -> Result<Sending, Memory>
+    ensures bytes { IfOk result (λ made. made.bytes ≡ out_bytes view.now.scenario (sight_by view.now (B.books books.now)) lane Route.Post cause values.now) }
+    ensures carried { IfOk result (λ made. made.carried ≡ carried values.now) }
+{
+    let held = carried(alloc, values)?;
+    let fields = fields_made(view, books, alloc, lane, held.as_slice())?;
+    let bytes = request(alloc, cause, values, fields.as_slice())?;
+    Ok(Sending {
+        bytes: Some(bytes),
+        carried: Rows::from_vec(held),
+    })
+}
+
+// The request of a call, on the routes that marshal.
+fn request_on<B: Found>(
+    view: &View<'_>,
+    books: &B,
+    alloc: Global,
+    lane: u32,
+    route: Route,
+    cause: u32,
+    values: &[Value],
+) -> Result<Sending, Memory>
+    ensures bytes { IfOk result (λ made. made.bytes ≡ out_bytes view.now.scenario (sight_by view.now (B.books books.now)) lane route cause values.now) }
+    ensures carried { IfOk result (λ made. made.carried ≡ (if is_marshalled route then carried values.now else [])) }
+{
+    match route {
+        Route::Direct | Route::Refused => Ok(nothing_sent(alloc)),
+        Route::Switch | Route::Post => request_with(view, books, alloc, lane, cause, values),
+    }
+}
+
+// The route of a call: none of one that is refused.
+fn route(view: &View<'_>, lane: u32, target: Option<RefValue>, refusal: Option<HResult>) -> Route
+    ensures { (b : Books) → result ≡ route_or view.now b lane target refusal }
+{
+    match refusal {
+        Some(_) => Route::Refused,
+        None => view.route(lane, target),
+    }
+}
+
+// What a call has at its Out.
+fn issued(
+    view: &View<'_>,
+    target: Option<RefValue>,
+    refusal: Option<HResult>,
+    values: Rows<Value>,
+) -> Issued
+    ensures { result ≡ record { refusal = or_ok refusal; values = values; apartment = (bare view.now).named (target_number target) } }
+{
+    let object = number_or_zero(object_in(target));
+    Issued {
+        refusal: refusal_or_ok(refusal),
+        values,
+        apartment: view.objects.owner(object),
+    }
+}
+
+/// The entry of a call, with what goes with it. The values are those that travel on its route, and the request has their bytes. The
+/// only error is want of memory.
+pub fn called<B: Found>(
+    view: &View<'_>,
+    books: &B,
+    alloc: Global,
+    lane: u32,
+    target: Option<RefValue>,
+    iface: u16,
+    method: u16,
+    args: &[Value],
+) -> Result<Doing, Memory>
+    requires room { HasRoom view.now (B.books books.now) }
+    ensures deed { IfOk result (λ made. (to : Destination) → made.deed ≡ deed_of view.now.scenario (sight_by view.now (B.books books.now)) lane (action.Call target iface method args.now to)) }
+    ensures issued { IfOk result (λ made. (to : Destination) → Issues view.now.scenario (sight_by view.now (B.books books.now)) lane (action.Call target iface method args.now to) made.deed made.issued) }
+    ensures carried { IfOk result (λ made. (to : Destination) → made.carried ≡ carried_by view.now.scenario (B.books books.now) (action.Call target iface method args.now to) made.deed) }
+{
+    let connected = is_connected(books, target);
+    let refusal = view.call_refusal(lane, target, iface, method, connected);
+    let route = route(view, lane, target, refusal);
+    let values = arguments(
+        view,
+        books,
+        alloc,
+        iface,
+        method,
+        route.is_marshalled(),
+        args,
+    )?;
+    let cause = view.next_cause(lane);
+    let sending = request_on(view, books, alloc, lane, route, cause, values.as_slice())?;
+    Ok(Doing {
+        deed: out(
+            view.calls.len(),
+            target,
+            iface,
+            method,
+            route,
+            cause,
+            sending.bytes,
+        ),
+        issued: Some(issued(view, target, refusal, values)),
+        carried: sending.carried,
+    })
+}
+
+// The reference in a value, where it is one and not null.
+fn reference_in(alloc: Global, value: Option<&Value>) -> Result<Rows<RefValue>, Memory>
+    ensures { IfOk result (λ held. held ≡ carried (result_list (option_copied value.entry))) }
+{
+    match value {
+        Some(Value::Ref(Some(held))) => Ok(Rows::from_vec(vec![in alloc; *held]?)),
+        _ => Ok(Rows::new(alloc)),
+    }
+}
+
+// The reply of a body whose call is marshalled and waited for.
+fn reply_with<B: Found>(
+    view: &View<'_>,
+    books: &B,
+    alloc: Global,
+    lane: u32,
+    answer: HResult,
+    value: Option<&Value>,
+) -> Result<Sending, Memory>
+    ensures bytes { IfOk result (λ made. made.bytes ≡ reply_for view.now.scenario (sight_by view.now (B.books books.now)) lane true answer (option_copied value.entry)) }
+    ensures carried { IfOk result (λ made. made.carried ≡ carried (result_list (option_copied value.entry))) }
+{
+    let held = reference_in(alloc, value)?;
+    let fields = fields_made(view, books, alloc, lane, held.as_slice())?;
+    let bytes = reply(alloc, answer, value, fields.as_slice())?;
+    Ok(Sending {
+        bytes: Some(bytes),
+        carried: held,
+    })
+}
+
+// The reply of a body, where its call is marshalled and waited for.
+fn reply_on<B: Found>(
+    view: &View<'_>,
+    books: &B,
+    alloc: Global,
+    lane: u32,
+    wanted: bool,
+    answer: HResult,
+    value: Option<&Value>,
+) -> Result<Sending, Memory>
+    ensures bytes { IfOk result (λ made. made.bytes ≡ reply_for view.now.scenario (sight_by view.now (B.books books.now)) lane wanted answer (option_copied value.entry)) }
+    ensures carried { IfOk result (λ made. made.carried ≡ (if wanted then carried (result_list (option_copied value.entry)) else [])) }
+{
+    if wanted {
+        reply_with(view, books, alloc, lane, answer, value)
+    } else {
+        Ok(nothing_sent(alloc))
+    }
+}
+
+// The kind of the result that a method declares.
+fn result_kind(view: &View<'_>, iface: u16, method: u16) -> Option<Kind>
+    ensures { result ≡ result_kind (method_at view.now.scenario.classes iface method) }
+{
+    match view.scenario.classes.method(iface, method) {
+        Some(method) => method.result,
+        None => None,
+    }
+}
+
+// The Leave of a call that was issued.
+fn left_as<B: Found>(
+    view: &View<'_>,
+    books: &B,
+    alloc: Global,
+    lane: u32,
+    call: u32,
+    issue: Issue,
+    answer: HResult,
+    value: Option<&Value>,
+) -> Result<Doing, Memory>
+    ensures deed { IfOk result (λ made. made.deed ≡ left_as view.now.scenario (sight_by view.now (B.books books.now)) lane call (Some issue) answer (option_copied value.entry)) }
+    ensures issued { IfOk result (λ made. made.issued ≡ Option.None) }
+    ensures carried { IfOk result (λ made. (x : Action) → made.carried ≡ carried_by view.now.scenario (B.books books.now) x made.deed) }
+{
+    let marshalled = issue.route.is_marshalled();
+    let kind = result_kind(view, issue.iface, issue.method);
+    let value = sent_result(
+        alloc,
+        marshalled,
+        &Connected { refs: books },
+        answer,
+        kind,
+        value,
+    )?;
+    let wanted = marshalled && !view.calls.is_returned(call);
+    let sending = reply_on(view, books, alloc, lane, wanted, answer, value.as_ref())?;
+    Ok(Doing {
+        deed: Deed::Leave {
+            call,
+            hr: answer,
+            value,
+            bytes: sending.bytes,
+        },
+        issued: None,
+        carried: sending.carried,
+    })
+}
+
+// The Leave where no body runs, or its call was not issued.
+fn left_bare(alloc: Global, call: u32, answer: HResult) -> Doing
+    ensures deed { result.deed ≡ deed.Leave call answer Option.None Option.None }
+    ensures issued { result.issued ≡ Option.None }
+    ensures carried { result.carried ≡ [] }
+{
+    Doing {
+        deed: Deed::Leave {
+            call,
+            hr: answer,
+            value: None,
+            bytes: None,
+        },
+        issued: None,
+        carried: Rows::new(alloc),
+    }
+}
+
+/// The entry of a Leave, with what goes with it. The only error is want of memory.
+pub fn left<B: Found>(
+    view: &View<'_>,
+    books: &B,
+    alloc: Global,
+    lane: u32,
+    answer: HResult,
+    value: Option<&Value>,
+) -> Result<Doing, Memory>
+    ensures deed { IfOk result (λ made. made.deed ≡ deed_of view.now.scenario (sight_by view.now (B.books books.now)) lane (action.Leave answer (option_copied value.entry))) }
+    ensures issued { IfOk result (λ made. made.issued ≡ Option.None) }
+    ensures carried { IfOk result (λ made. (x : Action) → made.carried ≡ carried_by view.now.scenario (B.books books.now) x made.deed) }
+{
+    let Some(call) = view.lanes.running_call(lane) else {
+        return Ok(left_bare(alloc, 0, answer));
+    };
+    match view.calls.issue(call) {
+        Some(issue) => left_as(view, books, alloc, lane, call, issue, answer, value),
+        None => Ok(left_bare(alloc, call, answer)),
+    }
+}
