@@ -264,9 +264,6 @@ has_round s st picks left last l n e p q = record { turn = λ r. turn_round s st
 pub same_turn : (s : Scenario) (st : State) (all picks : List ℕ) (tried left last l : ℕ) → all ≡ picks → HasTurn s st (drop tried all) last l (drop left all) → HasTurn s st (drop tried picks) last l (drop left picks)
 same_turn s st all picks tried left last l e p = subst (λ (xs : List ℕ). HasTurn s st (drop tried xs) last l (drop left xs)) e p
 
-pub same_rests : (r s : Scenario) (st : State) → r ≡ s → Rests s st → Rests r st
-same_rests r s st e p = subst (λ (x : Scenario). Rests x st) (sym e) p
-
 -- ---- how the state stands where a lane can step
 
 any-left : (can : ℕ → Bool) (xs ys : List ℕ) → any_of can xs ≡ true → any_of can (xs ++ ys) ≡ true

@@ -27,7 +27,7 @@ use Rattle.com_model.proofs.Whole.{first-stands}
 use Rattle.com_model.proofs.Sights.{same-sight, same-next, same-class}
 use Rattle.com_schedule.proofs.Runs.{stands-later}
 use Rattle.com_drive.specs.declared.replayed.Replayed.{Replayed}
-use Rattle.com_drive.specs.Standings.{ended_now, turn_now}
+use Rattle.com_drive.specs.Standings.{ended_now, turn_now, Reached}
 use Rattle.com_drive.specs.Turns.{IsNext, IsTurn, GoesOn, next_line, served_in, served_at, served_by, body_kind, one_served}
 use Rattle.com_drive.specs.declared.stream.Step.{Step}
 use Rattle.com_drive.specs.declared.stream.Step.TheVariants.{Made, Over}
@@ -36,6 +36,7 @@ use Rattle.com_drive.specs.Reports.{counts_in, all_counts_in}
 use Rattle.com_drive.specs.Replays.{whole_text, whole_history, whole_served, IsReplay}
 use Rattle.com_drive.proofs.Turning.{below_limit, one_entry}
 use Rattle.com_drive.proofs.Counting.{all-counted}
+use Rattle.com_drive.proofs.Resting.{reached_by}
 
 -- ---- the whole text begins with the lines so far
 
@@ -316,6 +317,11 @@ pub driving_over_step : (s : Scenario) (start : Option (List ℕ)) (from : List 
 driving_over_step s start from m n (Made e) x p q is = cc
 driving_over_step s start from m n (Over y) x p q is =
     subst (λ (k : Moment). Ending s start from k x) (sym q.same) (driving_over s start from m x p (q.ended ∙ is))
+
+pub reached_over_step : (s : Scenario) (start : Option (List ℕ)) (from : List ℕ) (m n : Moment) (step : Step) (x : Ended) → Formed s → Driving s start from m → StepsTo s m n step → over_of step ≡ Some x → Reached s n.state
+reached_over_step s start from m n (Made e) x f p q is = cc
+reached_over_step s start from m n (Over y) x f p q is =
+    subst (λ (k : Moment). Reached s k.state) (sym q.same) (reached_by s m.state p.history f p.stands)
 
 pub on-ok : {A E : Type 0} (r : Result A E) (P : Type 0) → P → OnOk r P
 on-ok (Ok x) P p = p

@@ -21,7 +21,10 @@ use Rattle.com_model.proofs.Fines.{GoodHome, GoodSight}
 use Rattle.com_model.proofs.Kept.{sight-good, legal-kept}
 use Rattle.com_model.proofs.Scenes.{actor-good}
 use Rattle.com_model.proofs.Sights.{same-sight}
-use Rattle.com_drive.specs.Standings.{finished_in, none_can_in, Rests}
+use Rattle.com_drive.specs.declared.runtime.Standing.{Standing}
+use Rattle.com_drive.specs.declared.runtime.Standing.TheVariants as standing
+use Rattle.com_drive.specs.Standings.{standing_of, finished_in, none_can_in, CanGo, Reached, Rests}
+use Rattle.com_drive.proofs.Choices.{runs_when}
 
 or-none : (a b : Option Deed) → a ≡ None → b ≡ None → or_else a b ≡ None
 or-none None b p q = q
@@ -174,3 +177,17 @@ unfolding finished_in none_can_in
 rests s st h f p =
     subst (λ (v : Sight). finished_by s v ≡ true → no_lane_can s v ≡ true) (sym (same-sight s st h p))
     (all-rest s (sight s h) (sight-good s h f (legal-kept s h f p.lawful)))
+
+pub reached_by : (s : Scenario) (st : State) (h : List Entry) → Formed s → StandsFor s st h → Reached s st
+unfolding Reached
+reached_by s st h f p = (f, (h, p))
+
+rests_reached : (s : Scenario) (st : State) → Reached s st → Rests s st
+unfolding Reached
+rests_reached s st r = rests s st r.1.0 r.0 r.1.1
+
+pub runs_reached : (s : Scenario) (st : State) (l : ℕ) → Reached s st → CanGo s st l → standing.Runs ≡ standing_of s st
+runs_reached s st l r g = runs_when s st l (rests_reached s st r) g
+
+pub same_reached : (r s : Scenario) (st : State) → r ≡ s → Reached s st → Reached r st
+same_reached r s st e p = subst (λ (x : Scenario). Reached x st) (sym e) p

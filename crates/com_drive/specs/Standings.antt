@@ -2,11 +2,13 @@
 use Rattle.std.specs.Prelude.{◌≡◌, ℕ, ◌≤◌, Bool, true, ◌==◌, ◌&&◌, nat_le, List, Option, Some, None, if◌then◌else◌}
 use Rattle.com_model.specs.declared.counts.Ended.{Ended}
 use Rattle.com_model.specs.declared.counts.Ended.TheVariants as ended
+use Rattle.com_model.specs.declared.deeds.Entry.{Entry}
 use Rattle.com_model.specs.declared.scenario.Scenario.{Scenario}
 use Rattle.com_model.specs.Tables.{lanes}
 use Rattle.com_model.specs.Rules.{can_step, no_lane_can}
 use Rattle.com_model.specs.Ends.{Turn, finished_by, stuck_by, limit}
-use Rattle.com_model.specs.State.{State, sight_of}
+use Rattle.com_model.specs.Formed.{Formed}
+use Rattle.com_model.specs.State.{State, StandsFor, sight_of}
 use Rattle.com_schedule.specs.Turns.{ended_in, turn_in}
 use Rattle.com_drive.specs.declared.runtime.Standing.{Standing}
 use Rattle.com_drive.specs.declared.runtime.Standing.TheVariants as standing
@@ -48,6 +50,10 @@ finished_in s st = finished_by s (sight_of s st)
 -- Where all has ended no lane can step. It is so of each state that stands for a history of a formed scenario.
 abbrev pub Rests : Scenario → State → Type 0
 Rests s st = finished_in s st ≡ true → none_can_in s st ≡ true
+
+-- The scenario is formed, and the state stands for a history of it.
+unfoldable pub Reached : Scenario → State → Type 0
+Reached s st = Formed s × ((h : List Entry) × StandsFor s st h)
 
 -- The turn is that of a lane, with these picks left, if any lane can step.
 pub record HasTurn (s : Scenario) (st : State) (picks : List ℕ) (last lane : ℕ) (left : List ℕ) : Type 0 where

@@ -5,6 +5,7 @@ ghost use Rattle.com_io.specs.Told.{Gains, GainsPrefix};
 ghost use Rattle.com_model.specs.Text.{report_text};
 ghost use Rattle.com_drive.specs.declared.lines.ReplayError.TheVariants as replay_error;
 ghost use Rattle.com_drive.specs.Reports.{all_counts_in};
+ghost use Rattle.com_drive.specs.Standings.{Reached};
 
 use crate::lines::{ReplayError, tell};
 use crate::replayed::Replayed;
@@ -15,13 +16,14 @@ use com_model::{Counts, Ended, Scenario};
 use std::alloc::Global;
 
 /// What a report counts of each object, in order of making.
-#[tactic(auto, using(crate::proofs::Counting::one_more_counted_at))]
+#[tactic(auto, using(crate::proofs::Counting::one_more_counted_at, crate::proofs::Resting::same_reached))]
 fn all_counts<C: Runtime>(
     alloc: Global,
     scenario: &Scenario,
     runtime: &C,
 ) -> Result<Vec<Counts>, Memory>
-    requires { C.scenario runtime.now ≡ scenario.now }
+    requires scenario { C.scenario runtime.now ≡ scenario.now }
+    requires reached { Reached scenario.now (C.state runtime.now) }
     ensures { IfOk result (λ all. all.items ≡ all_counts_in scenario.now (C.state runtime.now)) }
 {
     let mut all = Vec::new(alloc);
@@ -43,7 +45,8 @@ pub fn finish<C: Runtime, K: Sink>(
     kept: &mut ByteList,
     sink: &mut K,
 ) -> Result<Replayed, ReplayError>
-    requires { C.scenario runtime.now ≡ scenario.now }
+    requires scenario { C.scenario runtime.now ≡ scenario.now }
+    requires reached { Reached scenario.now (C.state runtime.now) }
     ensures ok { OnOk result (Gains (K.held sink.old) (K.held sink.new) (kept.old
         ++ report_text (all_counts_in scenario.now (C.state runtime.now)) (C.state runtime.now).entries (C.state runtime.now).clock ended)) }
     ensures answer { IfOk result (λ replayed. replayed

@@ -1,12 +1,12 @@
 //! A runtime that keeps the rules, as the schedule sees it.
-ghost use Rattle.std.specs.Prelude.{◌≡◌, ℕ, ◌<◌, ◌≤◌, true, map, IfOk, OnOk, OnErr};
+ghost use Rattle.std.specs.Prelude.{◌≡◌, ℕ, ◌<◌, ◌≤◌, Bool, true, false, map, IfOk, OnOk, OnErr};
 ghost use Rattle.com_model.specs.declared.scenario.Scenario.{Scenario as AnyScenario};
 ghost use Rattle.com_model.specs.Tables.{lanes};
 ghost use Rattle.com_model.specs.Ends.{limit};
 ghost use Rattle.com_model.specs.State.{State, objects_in};
 ghost use Rattle.com_servant.specs.Rows.{row};
 ghost use Rattle.com_drive.specs.declared.runtime.Standing.TheVariants as standing;
-ghost use Rattle.com_drive.specs.Standings.{can_step_in, standing_of};
+ghost use Rattle.com_drive.specs.Standings.{can_step_in, standing_of, Reached};
 ghost use Rattle.com_drive.specs.Turns.{IsNext, served_in};
 ghost use Rattle.com_drive.specs.Reports.{counts_in};
 
@@ -30,13 +30,18 @@ pub enum Standing {
 
 /// A runtime that keeps the rules, and makes one entry at a time.
 ///
-/// The meaning of a runtime is its scenario, which never changes, and its state: the tables of the rules.
+/// The meaning of a runtime is its scenario, which never changes, and its state: the tables of the rules. What it answers, it
+/// answers of a state that stands for a history. A runtime that ran out of memory in the middle of an entry is broken, and makes
+/// no entry any more.
 pub trait Runtime {
     // The scenario that it runs.
     ghost scenario: { Self → AnyScenario };
 
     // The tables as they stand.
     ghost state: { Self → State };
+
+    // Whether it ran out of memory in the middle of an entry.
+    ghost broken: { Self → Bool };
 
     /// How many lanes there are. They are numbered from 1: the threads in order, the host STA's lane, then the pool's.
     fn lanes(&self) -> u32
@@ -46,10 +51,12 @@ pub trait Runtime {
     fn can_step(&self, lane: u32) -> bool
         requires above { 1 ≤ lane }
         requires below { lane ≤ lanes (scenario self.now) }
+        requires reached { Reached (scenario self.now) (state self.now) }
         ensures { result ≡ can_step_in (scenario self.now) (state self.now) lane };
 
     /// Whether a lane can step, the clock goes on, or all has ended.
     fn standing(&self) -> Standing
+        requires { Reached (scenario self.now) (state self.now) }
         ensures { result ≡ standing_of (scenario self.now) (state self.now) };
 
     /// How many entries were made.
@@ -68,13 +75,14 @@ pub trait Runtime {
     fn counts(&self, object: u32) -> Counts
         requires above { 1 ≤ object }
         requires below { object ≤ objects_in (state self.now) }
+        requires reached { Reached (scenario self.now) (state self.now) }
         ensures { result ≡ counts_in (scenario self.now) (state self.now) object };
 
     /// Makes the next entry of a lane that can step. Where a body runs in the lane, the servant of its class's kind computes the
     /// step. The row has one servant of each kind, in the order of the kinds.
     ///
-    /// The only error is want of memory, and then the state is as before; a servant may have counted a step whose entry was not
-    /// made.
+    /// The only error is want of memory, and then the state is as before, or the runtime is broken; a servant may have counted a
+    /// step whose entry was not made.
     fn step(
         &mut self,
         alloc: Global,
@@ -84,22 +92,28 @@ pub trait Runtime {
         requires above { 1 ≤ lane }
         requires below { lane ≤ lanes (scenario self.old) }
         requires can { can_step_in (scenario self.old) (state self.old) lane ≡ true }
+        requires reached { Reached (scenario self.old) (state self.old) }
+        requires whole { broken self.old ≡ false }
         requires room { (state self.old).entries < limit (scenario self.old) }
         requires row { map kind_of servants.old.items ≡ row }
         ensures scenario { scenario self.new ≡ scenario self.old }
         ensures entry { IfOk result (λ entry. IsNext (scenario self.old) (state self.old) lane entry (state self.new)) }
-        ensures err { OnErr result (state self.new ≡ state self.old) }
+        ensures whole { OnOk result (broken self.new ≡ false) }
+        ensures err { OnErr result (broken self.new ≡ false → state self.new ≡ state self.old) }
         ensures row { map kind_of servants.new.items ≡ row }
         ensures served { OnOk result (map stepped servants.new.items
             ≡ served_in (scenario self.old) (state self.old) lane (map stepped servants.old.items)) };
 
     /// Makes the clock's entry, where the clock goes on: to the least time that a call waits for.
     ///
-    /// The only error is want of memory, and then the state is as before.
+    /// The only error is want of memory, and then the state is as before, or the runtime is broken.
     fn tick(&mut self) -> Result<Entry, Memory>
         requires due { standing_of (scenario self.old) (state self.old) ≡ standing.Ticks }
+        requires reached { Reached (scenario self.old) (state self.old) }
+        requires whole { broken self.old ≡ false }
         requires room { (state self.old).entries < limit (scenario self.old) }
         ensures scenario { scenario self.new ≡ scenario self.old }
         ensures entry { IfOk result (λ entry. IsNext (scenario self.old) (state self.old) 0 entry (state self.new)) }
-        ensures err { OnErr result (state self.new ≡ state self.old) };
+        ensures whole { OnOk result (broken self.new ≡ false) }
+        ensures err { OnErr result (broken self.new ≡ false → state self.new ≡ state self.old) };
 }

@@ -1,5 +1,5 @@
 //! A history entry by entry: each step is one turn of the schedule and one line.
-ghost use Rattle.std.specs.Prelude.{◌≡◌, ℕ, ◌<◌, ◌≤◌, ◌+◌, ◌++◌, [], true, None, IfOk, IfSome, OnOk, Err, OnErr, map, drop};
+ghost use Rattle.std.specs.Prelude.{◌≡◌, ℕ, ◌<◌, ◌≤◌, ◌+◌, ◌++◌, [], true, false, None, IfOk, IfSome, OnOk, Err, OnErr, map, drop};
 ghost use Rattle.com_io.specs.Faults.{Rose};
 ghost use Rattle.com_io.specs.Told.{Gains, GainsPrefix};
 ghost use Rattle.com_model.specs.Text.{report_text};
@@ -8,7 +8,7 @@ ghost use Rattle.com_model.specs.Tables.{lanes};
 ghost use Rattle.com_model.specs.Ends.{limit};
 ghost use Rattle.com_servant.specs.Rows.{row};
 ghost use Rattle.com_drive.specs.declared.lines.ReplayError.TheVariants as replay_error;
-ghost use Rattle.com_drive.specs.Standings.{standing_of, ended_now, none_can_in, CanGo, HasTurn, Rests};
+ghost use Rattle.com_drive.specs.Standings.{standing_of, ended_now, none_can_in, CanGo, HasTurn, Reached};
 ghost use Rattle.com_drive.specs.declared.runtime.Standing.TheVariants as standing;
 ghost use Rattle.com_drive.specs.Turns.{IsTurn, served_in};
 ghost use Rattle.com_drive.specs.Steps.{StepsTo, Fails};
@@ -74,8 +74,11 @@ impl Stream {
         requires goes_on { ended_now scenario.now (C.state runtime.old) ≡ None }
         requires entries { (C.state runtime.old).entries ≤ limit scenario.now }
         requires last { self.old.last ≤ lanes scenario.now }
+        requires reached { Reached (C.scenario runtime.old) (C.state runtime.old) }
+        requires whole { C.broken runtime.old ≡ false }
         requires row { map kind_of servants.old.items ≡ row }
         ensures scenario { C.scenario runtime.new ≡ scenario.now }
+        ensures whole { OnOk result (C.broken runtime.new ≡ false) }
         ensures turn { IfOk result (λ entry. IsTurn scenario.now (C.state runtime.old) (drop self.old.tried scenario.now.picks) self.old.last
             entry (C.state runtime.new) (drop self.new.tried scenario.now.picks) self.new.last) }
         ensures last { self.new.last ≤ lanes scenario.now }
@@ -110,8 +113,11 @@ impl Stream {
         requires goes_on { ended_now scenario.now (C.state runtime.old) ≡ None }
         requires entries { (C.state runtime.old).entries ≤ limit scenario.now }
         requires last { self.old.last ≤ lanes scenario.now }
+        requires reached { Reached (C.scenario runtime.old) (C.state runtime.old) }
+        requires whole { C.broken runtime.old ≡ false }
         requires row { map kind_of servants.old.items ≡ row }
         ensures scenario { C.scenario runtime.new ≡ scenario.now }
+        ensures whole { OnOk result (C.broken runtime.new ≡ false) }
         ensures turn { IfOk result (λ entry. IsTurn scenario.now (C.state runtime.old) (drop self.old.tried scenario.now.picks) self.old.last
             entry (C.state runtime.new) (drop self.new.tried scenario.now.picks) self.new.last) }
         ensures last { self.new.last ≤ lanes scenario.now }
@@ -137,11 +143,12 @@ impl Stream {
     /// Makes one turn of the schedule, and its line: the picks are tried first, each once, and then the lanes behind the last one
     /// and from 1 on; the clock goes on where no lane can step. Where the history has ended, nothing is done.
     ///
-    /// Where all has ended no lane can step: so it is in each state that stands for a history of a formed scenario.
+    /// The runtime's state stands for a history of the scenario, which is formed; and it did not run out of memory in the middle of
+    /// an entry.
     ///
     /// `WriteFault` comes only where the sink's count of faults rose in this call, and `Memory` is want of memory. After either
     /// the lines may be broken off: what was written is a prefix of what was kept and the turn's line.
-    #[tactic(auto, using(crate::proofs::Turning::step_over, crate::proofs::Turning::step_made, crate::proofs::Turning::step_failed, crate::proofs::Turning::step_began, crate::proofs::Choices::same_turn, crate::proofs::Choices::same_rests))]
+    #[tactic(auto, using(crate::proofs::Turning::step_over, crate::proofs::Turning::step_made, crate::proofs::Turning::step_failed, crate::proofs::Turning::step_began, crate::proofs::Choices::same_turn, crate::proofs::Resting::same_reached))]
     pub fn step<C: Runtime, K: Sink>(
         &mut self,
         alloc: Global,
@@ -152,10 +159,12 @@ impl Stream {
     ) -> Result<Step, ReplayError>
         requires scenario { C.scenario runtime.old ≡ scenario.now }
         requires entries { (C.state runtime.old).entries ≤ limit scenario.now }
-        requires rests { Rests scenario.now (C.state runtime.old) }
+        requires reached { Reached scenario.now (C.state runtime.old) }
+        requires whole { C.broken runtime.old ≡ false }
         requires last { self.old.last ≤ lanes scenario.now }
         requires row { map kind_of servants.old.items ≡ row }
         ensures scenario { C.scenario runtime.new ≡ scenario.now }
+        ensures whole { OnOk result (C.broken runtime.new ≡ false) }
         ensures last { self.new.last ≤ lanes scenario.now }
         ensures row { map kind_of servants.new.items ≡ row }
         ensures step { IfOk result (λ step. StepsTo scenario.now (record {
@@ -214,7 +223,8 @@ impl Stream {
         ended: Ended,
         sink: &mut K,
     ) -> Result<Replayed, ReplayError>
-        requires { C.scenario runtime.now ≡ scenario.now }
+        requires scenario { C.scenario runtime.now ≡ scenario.now }
+        requires reached { Reached scenario.now (C.state runtime.now) }
         ensures ok { OnOk result (Gains (K.held sink.old) (K.held sink.new) (self.old.lines
             ++ report_text (all_counts_in scenario.now (C.state runtime.now)) (C.state runtime.now).entries (C.state runtime.now).clock ended)) }
         ensures answer { IfOk result (λ replayed. replayed

@@ -2,8 +2,8 @@ use Rattle.std.proofs.Common.{arith, refl, subst, sym, ◌≡◌, ◌∙◌}
 use Rattle.std.proofs.lemmas.Result.{on_ok_weaker, IfOk-weaker}
 use Rattle.com_drive.specs.declared.replayed.Replayed.{Replayed}
 use Rattle.com_drive.specs.Replays.{IsReplay}
-use Rattle.com_drive.proofs.Driving.{driving_start_at, driving_on_step, driving_smaller, driving_over_step, driving_stopped, driving_within, ended_gains, ended_prefix, on-ok, not-some}
-use Rattle.com_drive.proofs.Resting.{rests}
+use Rattle.com_drive.proofs.Driving.{driving_start_at, driving_on_step, driving_smaller, driving_over_step, driving_stopped, driving_within, reached_over_step, ended_gains, ended_prefix, on-ok, not-some}
+use Rattle.com_drive.proofs.Resting.{reached_by}
 use Rattle.com_drive.proofs.drive.Goals as goal
 
 pub turns-init : goal.turns-init
@@ -11,6 +11,7 @@ turns-init g c = record {
   driving = driving_start_at c.args.scenario.now _ _ _ _ _ _ c.requires.first c.new-stream.ensures.tried c.new-stream.ensures.last c.new-stream.ensures.lines;
   same = c.requires.scenario;
   last = omega (arith, c.new-stream.ensures.last);
+  whole = c.requires.whole;
   kinds = c.requires.row;
   faults = omega arith;
 }
@@ -20,6 +21,7 @@ turns-preserved g c = record {
   driving = driving_on_step c.args.scenario.now _ _ _ _ _ c.requires.formed c.turns.invariant.driving c.in_ok-step.ensures.step (sym c.over.ensures ∙ not-some c.over.result c.in_default.not-Some);
   same = c.in_ok-step.ensures.scenario;
   last = c.in_ok-step.ensures.last;
+  whole = c.in_ok-step.ensures.whole;
   kinds = c.in_ok-step.ensures.row;
   faults = omega arith;
 }
@@ -30,8 +32,13 @@ turns-smaller g c = driving_smaller c.args.scenario.now _ _ _ _ _ c.turns.invari
 pub step-requires-clause-entries : goal.step-requires-clause-entries
 step-requires-clause-entries g c = driving_within c.args.scenario.now _ _ _ c.turns.invariant.driving
 
-pub step-requires-clause-rests : goal.step-requires-clause-rests
-step-requires-clause-rests g c = rests c.args.scenario.now (g.C.Runtime.state c.turns.runtime) c.turns.invariant.driving.history c.requires.formed c.turns.invariant.driving.stands
+pub step-requires-clause-reached : goal.step-requires-clause-reached
+step-requires-clause-reached g c =
+    reached_by c.args.scenario.now (g.C.Runtime.state c.turns.runtime) c.turns.invariant.driving.history c.requires.formed c.turns.invariant.driving.stands
+
+pub finish-requires-clause-reached : goal.finish-requires-clause-reached
+finish-requires-clause-reached g c =
+    reached_over_step c.args.scenario.now _ _ _ _ _ _ c.requires.formed c.turns.invariant.driving c.in_ok-step.ensures.step (sym c.over.ensures ∙ c.in-Some.is)
 
 pub returns-in_err-step-clause-prefix : goal.returns-in_err-step-clause-prefix
 returns-in_err-step-clause-prefix g c = driving_stopped c.args.scenario.now _ _ _ _ c.requires.formed c.turns.invariant.driving c.in_err-step.ensures.prefix
