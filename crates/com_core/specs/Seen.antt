@@ -1,16 +1,30 @@
 -- What a contract sees of a core.
-use Rattle.std.specs.Prelude.{◌≡◌, ℕ, ◌+◌}
+use Rattle.std.specs.Prelude.{◌≡◌, ℕ, ◌+◌, Bool, List}
+use Rattle.com_ledger.specs.Books.{Held, books_held}
 use Rattle.com_model.specs.declared.deeds.Entry.{Entry}
+use Rattle.com_model.specs.declared.scenario.Scenario.{Scenario}
 use Rattle.com_model.specs.Clock.{ticked}
+use Rattle.com_model.specs.State.{State}
+use Rattle.com_parts.specs.Tables.{PartTables}
+use Rattle.com_core.specs.Stands.{state_read}
 
--- How many lanes there are, how many entries were made, and the clock in milliseconds.
+-- The scenario; the parts, who holds references, how many bodies of each object run, the dying objects and the clock in
+-- milliseconds; and whether a change was left half done for want of memory.
 pub record CoreView : Type 0 where
-  pub lanes : ℕ
-  pub entries : ℕ
+  pub scenario : Scenario
+  pub parts : PartTables
+  pub held : Held
+  pub entered : List ℕ
+  pub fallen : List ℕ
   pub clock : ℕ
+  pub broken : Bool
+
+-- The state of the rules that a core is.
+abbrev pub core_state : CoreView → State
+core_state c = state_read c.scenario c.parts (books_held c.held) c.fallen c.clock
 
 -- A lane's entry was made: one more, with the clock that it tells.
 pub record Makes (lane : ℕ) (old new : CoreView) (e : Entry) : Type 0 where
   pub own : e.lane ≡ lane
-  pub one : new.entries ≡ old.entries + 1
+  pub one : new.parts.entries ≡ old.parts.entries + 1
   pub tells : new.clock ≡ ticked e.deed old.clock

@@ -1,14 +1,24 @@
 //! The change of a core by an entry.
 
-ghost use Rattle.std.specs.Prelude.{◌≡◌, ℕ, ◌+◌, ◌<◌, ◌^◌, All, IfOk, OnOk, map, slice_index_or};
+ghost use Rattle.std.specs.Prelude.{◌≡◌, ℕ, ◌+◌, ◌<◌, ◌^◌, All, IfOk, OnOk, is_some, map, slice_index_or};
+ghost use Rattle.com_core.specs.Bodies.{entered_after};
+ghost use Rattle.com_core.specs.Changes.{Becomes, Settles, sent_by};
 ghost use Rattle.com_core.specs.Sound.{Few, Most, Sound, SoundUnless};
+ghost use Rattle.com_core.specs.Stands.{seen_by};
+ghost use Rattle.com_model.specs.Calls.{lane_of};
 ghost use Rattle.com_model.specs.Clock.{ticked};
-ghost use Rattle.com_moves.specs.Steps.{IsWhole};
+ghost use Rattle.com_moves.specs.Steps.{IsWhole, moves_stepped};
+ghost use Rattle.com_moves.specs.Tables.{ground_at};
+ghost use Rattle.com_refs.specs.Counts.{holders_of};
+ghost use Rattle.com_scene.specs.Actors.{acting_of};
 ghost use Rattle.com_scene.specs.Kept.{HasSlots};
 ghost use Rattle.com_scene.specs.Ranges.{FitsDeed};
 ghost use Rattle.com_servant.specs.Rows.{row};
+ghost use Rattle.com_state.specs.After.{filtered_by};
+ghost use Rattle.com_state.specs.Parts.{issue_at};
+ghost use Rattle.com_view.specs.Seen.{filter_seen, home_seen, running_seen};
 
-use crate::dying::{Fates, count_bodies, left_by, released_by};
+use crate::dying::{Fates, count_bodies, other_by, released_by};
 use crate::running::{Running, unproved};
 use com_base::{Memory, RefValue};
 use com_body::Outcome;
@@ -32,7 +42,9 @@ struct Glance {
 }
 
 // What the parts are told of the call that an entry issues.
-fn sent_of(issued: Option<Issued>) -> Option<Sent> {
+fn sent_of(issued: Option<Issued>) -> Option<Sent>
+    ensures { result ≡ sent_by issued }
+{
     match issued {
         None => None,
         Some(issued) => Some(Sent {
@@ -54,7 +66,14 @@ fn ticked(deed: &Deed, clock: u64) -> u64
 
 impl Running {
     // What an entry's change rests on.
-    fn glance(&self, scenario: &Scenario, entry: &Entry) -> Glance {
+    fn glance(&self, scenario: &Scenario, entry: &Entry) -> Glance
+        ensures home { result.home ≡ home_seen (seen_by scenario.now self.now.parts self.now.fallen self.now.clock) entry.now.lane }
+        ensures running { result.running
+            ≡ running_seen (seen_by scenario.now self.now.parts self.now.fallen self.now.clock) entry.now.lane }
+        ensures filtered { result.filtered ≡ filtered_by (λ c. is_some (filter_seen
+            (seen_by scenario.now self.now.parts self.now.fallen self.now.clock)
+            (lane_of (issue_at self.now.parts.calls.tables c)))) entry.now.deed }
+    {
         let view = self.view(scenario);
         Glance {
             after: actor_after(&view, entry.lane, &entry.deed),
@@ -78,8 +97,12 @@ impl Running {
         requires sound { Sound self.old.parts self.old.entered }
         requires deed { FitsDeed entry.now.deed }
         requires whole { IsWhole outcome.now }
+        ensures moves { OnOk result (self.new.moves ≡ moves_stepped
+            (ground_at glance.home self.old.parts.objects self.old.parts.calls.tables) self.old.parts.scene
+            (acting_of acting) outcome.now (acting_of glance.after) entry.now) }
         ensures parts { self.new.parts ≡ self.old.parts }
         ensures entered { self.new.entered ≡ self.old.entered }
+        ensures fallen { self.new.fallen ≡ self.old.fallen }
         ensures clock { self.new.clock ≡ self.old.clock }
         ensures broken { self.new.broken ≡ self.old.broken }
     {
@@ -120,9 +143,12 @@ impl Running {
         requires few { Few self.old.parts }
         requires room { self.old.parts.entries < 1_000_000 }
         ensures few { Few self.new.parts }
+        ensures becomes { OnOk result (Becomes self.old.parts self.new.parts entry.now (acting_of acting) outcome
+            (acting_of glance.after) glance.filtered (sent_by issued) self.old.clock) }
         ensures bodies { OnOk result (All HasSlots self.new.parts.scene.bodies) }
-        ensures entries { OnOk result (self.new.parts.entries ≡ self.old.parts.entries + 1) }
         ensures entered { self.new.entered ≡ self.old.entered }
+        ensures ledger { self.new.ledger ≡ self.old.ledger }
+        ensures fallen { self.new.fallen ≡ self.old.fallen }
         ensures clock { self.new.clock ≡ self.old.clock }
         ensures broken { self.new.broken ≡ self.old.broken }
     {
@@ -142,7 +168,11 @@ impl Running {
     fn settle(&mut self, deed: &Deed, acting: Actor) -> Result<(), Memory>
         requires few { (o : ℕ) → slice_index_or self.old.entered o 0 + 1 < 2 ^ 32 }
         ensures runs { OnOk result ((n : ℕ) → Most n self.old.entered → Most (n + 1) self.new.entered) }
+        ensures entered { OnOk result (self.new.entered ≡ entered_after deed.now (acting_of acting) self.old.entered) }
+        ensures fallen { OnOk result (Settles self.new.parts.objects (holders_of self.new.ledger.tables) self.new.entered
+            self.old.fallen self.new.ledger.touched deed.now (acting_of acting) self.new.fallen) }
         ensures parts { self.new.parts ≡ self.old.parts }
+        ensures ledger { self.new.ledger ≡ self.old.ledger }
         ensures clock { self.new.clock ≡ self.old.clock }
         ensures broken { self.new.broken ≡ self.old.broken }
     {
@@ -153,15 +183,17 @@ impl Running {
             entered: &self.entered,
             fallen: &self.fallen,
         };
-        fates.find_dying(&mut self.fresh, left_by(deed, acting))?;
+        let other = other_by(deed, acting, self.parts.objects().len());
+        fates.find_dying(&mut self.fresh, other)?;
         self.fallen.settle(released_by(deed), self.fresh.as_slice())
     }
 
-    // Makes of all what an entry makes of it. The only error is want of memory, and then it may be half done.
+    // Makes of all what an entry makes of it, with what it rests on. The only error is want of memory, and then it may be half done.
     #[tactic(auto, using(crate::proofs::Runs::few_run))]
     fn change(
         &mut self,
         scenario: &Scenario,
+        glance: Glance,
         acting: Actor,
         outcome: Option<Outcome>,
         issued: Option<Issued>,
@@ -175,11 +207,14 @@ impl Running {
         requires whole { IsWhole outcome }
         ensures few { Few self.new.parts }
         ensures sound { OnOk result (Sound self.new.parts self.new.entered) }
-        ensures entries { OnOk result (self.new.parts.entries ≡ self.old.parts.entries + 1) }
+        ensures becomes { OnOk result (Becomes self.old.parts self.new.parts entry.now (acting_of acting) outcome
+            (acting_of glance.after) glance.filtered (sent_by issued) self.old.clock) }
+        ensures entered { OnOk result (self.new.entered ≡ entered_after entry.now.deed (acting_of acting) self.old.entered) }
+        ensures fallen { OnOk result (Settles self.new.parts.objects (holders_of self.new.ledger.tables) self.new.entered
+            self.old.fallen self.new.ledger.touched entry.now.deed (acting_of acting) self.new.fallen) }
         ensures clock { OnOk result (self.new.clock ≡ ticked entry.now.deed self.old.clock) }
         ensures broken { self.new.broken ≡ self.old.broken }
     {
-        let glance = self.glance(scenario, entry);
         self.change_holders(scenario, glance, acting, &outcome, carried, entry)?;
         self.change_parts(glance, acting, outcome, issued, entry)?;
         self.settle(&entry.deed, acting)?;
@@ -211,8 +246,9 @@ impl Running {
         if !fits_deed(&entry.deed) {
             return Err(unproved());
         }
+        let glance = self.glance(scenario, entry);
         self.broken = true;
-        self.change(scenario, acting, outcome, issued, carried, entry)?;
+        self.change(scenario, glance, acting, outcome, issued, carried, entry)?;
         self.broken = false;
         Ok(())
     }

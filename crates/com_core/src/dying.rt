@@ -1,7 +1,13 @@
 //! The objects that begin to die by an entry.
 
-ghost use Rattle.std.specs.Prelude.{◌≡◌, ℕ, ◌+◌, ◌<◌, ◌^◌, OnOk, slice_index_or};
+ghost use Rattle.std.specs.Prelude.{◌≡◌, ℕ, ◌+◌, ◌++◌, ◌∷◌, [], ◌<◌, ◌^◌, List, IfOk, OnOk, filter, is_some, slice_index_or};
+ghost use Rattle.com_core.specs.Bodies.{entered_after, left_object, without_body};
+ghost use Rattle.com_core.specs.Falling.{begins_by, other_object, placed_in};
 ghost use Rattle.com_core.specs.Sound.{Most};
+ghost use Rattle.com_model.specs.Lists.{is_member};
+ghost use Rattle.com_model.specs.Objects.{finals, makes};
+ghost use Rattle.com_refs.specs.Counts.{holders_of};
+ghost use Rattle.com_scene.specs.Actors.{acting_of};
 
 use com_base::Memory;
 use com_ledger::Ledger;
@@ -19,16 +25,48 @@ pub struct Fates<'a> {
     pub fallen: &'a Fallen,
 }
 
-/// The object whose body an entry ends.
-pub fn left_by(deed: &Deed, acting: Actor) -> Option<u32> {
-    match (deed, acting) {
-        (Deed::Leave { .. }, Actor::Body { object, .. }) => Some(object),
+// The object whose body an entry ends.
+fn left_by(deed: &Deed, acting: Actor) -> Option<u32>
+    ensures { result ≡ left_object deed.now (acting_of acting) }
+{
+    match deed {
+        Deed::Leave { .. } => match acting {
+            Actor::Body { object, .. } => Some(object),
+            _ => None,
+        },
         _ => None,
     }
 }
 
+// Whether an entry makes an object.
+fn is_making(deed: &Deed) -> bool
+    ensures { result ≡ is_some (makes deed.now) }
+{
+    match deed {
+        Deed::Made {
+            object: Some(_),
+            apartment: Some(_),
+            ..
+        } => true,
+        _ => false,
+    }
+}
+
+/// The object that may be without holder and body though it lost no holder: the last one, where the entry made it, or the one whose
+/// body the entry ends.
+pub fn other_by(deed: &Deed, acting: Actor, objects: u32) -> Option<u32>
+    ensures { result ≡ other_object objects deed.now (acting_of acting) }
+{
+    if is_making(deed) {
+        return Some(objects);
+    }
+    left_by(deed, acting)
+}
+
 /// The object that an entry releases.
-pub fn released_by(deed: &Deed) -> Option<u32> {
+pub fn released_by(deed: &Deed) -> Option<u32>
+    ensures { result ≡ finals deed.now }
+{
     match deed {
         Deed::Final { object } => Some(*object),
         _ => None,
@@ -38,7 +76,8 @@ pub fn released_by(deed: &Deed) -> Option<u32> {
 // Counts a body that ends, where one does.
 #[tactic(auto, using(crate::proofs::Runs::left_most, crate::proofs::Runs::kept_most))]
 fn count_left(entered: &mut Entered, left: Option<u32>)
-    ensures { (n : ℕ) → Most n entered.old → Most (n + 1) entered.new }
+    ensures counts { entered.new ≡ without_body left entered.old }
+    ensures most { (n : ℕ) → Most n entered.old → Most (n + 1) entered.new }
 {
     if let Some(object) = left {
         entered.leave(object);
@@ -49,7 +88,8 @@ fn count_left(entered: &mut Entered, left: Option<u32>)
 #[tactic(auto, using(crate::proofs::Runs::entered_most, crate::proofs::Runs::made_most))]
 pub fn count_bodies(entered: &mut Entered, deed: &Deed, acting: Actor) -> Result<(), Memory>
     requires { (o : ℕ) → slice_index_or entered.old o 0 + 1 < 2 ^ 32 }
-    ensures { OnOk result ((n : ℕ) → Most n entered.old → Most (n + 1) entered.new) }
+    ensures counts { OnOk result (entered.new ≡ entered_after deed.now (acting_of acting) entered.old) }
+    ensures most { OnOk result ((n : ℕ) → Most n entered.old → Most (n + 1) entered.new) }
 {
     match deed {
         Deed::Made {
@@ -68,9 +108,24 @@ pub fn count_bodies(entered: &mut Entered, deed: &Deed, acting: Actor) -> Result
     }
 }
 
+// Whether an object is among those that are given.
+fn is_among(objects: &[u32], object: u32) -> bool
+    ensures { result ≡ is_member object objects.now }
+{
+    for other in objects {
+        if *other == object {
+            return true;
+        }
+    }
+    false
+}
+
 impl<'a> Fates<'a> {
     // Whether an object is dying and was not before: it was made and is not released, nothing holds it, and none of its bodies runs.
-    fn begins_to_die(&self, object: u32) -> bool {
+    #[tactic(auto, using(crate::proofs::Begins::not_zero, crate::proofs::Begins::not_above, crate::proofs::Begins::not_held, crate::proofs::Begins::not_running, crate::proofs::Begins::not_released, crate::proofs::Begins::else_begins))]
+    fn begins_to_die(&self, object: u32) -> bool
+        ensures { result ≡ begins_by self.now.objects.now (holders_of self.now.ledger.now.tables) self.now.entered.now self.now.fallen.now object }
+    {
         if object == 0 {
             return false;
         }
@@ -86,46 +141,62 @@ impl<'a> Fates<'a> {
         if self.objects.is_released(object) {
             return false;
         }
-        !self.fallen.as_slice().contains(&object)
+        !is_among(self.fallen.as_slice(), object)
     }
 
     // Keeps an object where it begins to die.
-    fn keep(&self, fresh: &mut Vec<u32>, object: u32) -> Result<(), Memory> {
+    fn keep(&self, fresh: &mut Vec<u32>, object: u32) -> Result<(), Memory>
+        ensures { OnOk result (fresh.new.items ≡ fresh.old.items ++ filter (begins_by self.now.objects.now
+            (holders_of self.now.ledger.now.tables) self.now.entered.now self.now.fallen.now) (object ∷ [])) }
+    {
         if self.begins_to_die(object) {
             fresh.push(object)?;
         }
         Ok(())
     }
 
-    // Keeps the same of two lists: the object whose body ended, where its number is the next, and the next that lost a holder.
-    // Answers the object whose body ended where its turn is yet to come.
+    // Keeps the same of two lists: the one object beside, where its number is the next, and the next that lost a holder.
+    // Answers the one beside where its turn is yet to come.
     fn keep_next(
         &self,
         fresh: &mut Vec<u32>,
-        left: Option<u32>,
+        other: Option<u32>,
         object: u32,
-    ) -> Result<Option<u32>, Memory> {
-        let Some(other) = left else {
+    ) -> Result<Option<u32>, Memory>
+        ensures { IfOk result (λ left. (rest : List ℕ) → fresh.new.items ++ filter (begins_by self.now.objects.now
+            (holders_of self.now.ledger.now.tables) self.now.entered.now self.now.fallen.now) (placed_in left rest)
+            ≡ fresh.old.items ++ filter (begins_by self.now.objects.now (holders_of self.now.ledger.now.tables)
+            self.now.entered.now self.now.fallen.now) (placed_in other (object ∷ rest))) }
+    {
+        let Some(number) = other else {
             self.keep(fresh, object)?;
             return Ok(None);
         };
-        if other < object {
-            self.keep(fresh, other)?;
+        if number < object {
+            self.keep(fresh, number)?;
+            self.keep(fresh, object)?;
+            return Ok(None);
         }
         self.keep(fresh, object)?;
-        Ok(if other <= object { None } else { left })
+        if number == object {
+            return Ok(None);
+        }
+        Ok(other)
     }
 
-    /// Keeps the objects that begin to die, by number: of those that lost a holder, and of the one whose body ended. The only error
-    /// is want of memory.
-    pub fn find_dying(&self, fresh: &mut Vec<u32>, left: Option<u32>) -> Result<(), Memory> {
+    /// Keeps the objects that begin to die, by number: of those that lost a holder, and of one beside. The only error is want of
+    /// memory.
+    pub fn find_dying(&self, fresh: &mut Vec<u32>, other: Option<u32>) -> Result<(), Memory>
+        ensures { OnOk result (fresh.new.items ≡ filter (begins_by self.now.objects.now (holders_of self.now.ledger.now.tables)
+            self.now.entered.now self.now.fallen.now) (placed_in other self.now.ledger.now.touched)) }
+    {
         fresh.clear();
-        let mut left = left;
+        let mut left = other;
         for object in self.ledger.touched() {
             left = self.keep_next(fresh, left, *object)?;
         }
         match left {
-            Some(other) => self.keep(fresh, other),
+            Some(object) => self.keep(fresh, object),
             None => Ok(()),
         }
     }

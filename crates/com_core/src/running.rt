@@ -1,6 +1,8 @@
 //! All that a core keeps of a history beside its scenario, and how it is read.
 
 ghost use Rattle.std.specs.Prelude.{◌≡◌, ◌∷◌, [], false, IfOk, OnOk};
+ghost use Rattle.com_calls.specs.Kept.{IsNamed};
+ghost use Rattle.com_core.specs.Beginning.{BeginsParts};
 ghost use Rattle.com_core.specs.Sound.{Few, Sound};
 
 use com_base::Memory;
@@ -47,6 +49,9 @@ impl Running {
     #[tactic(auto, using(crate::proofs::Whole::new_whole, crate::proofs::Runs::none_run, crate::proofs::Runs::none_made))]
     pub fn new(alloc: Global, scenario: &Scenario) -> Result<Running, Memory>
         ensures sound { IfOk result (λ running. Sound running.parts running.entered) }
+        ensures stands { IfOk result (λ running. BeginsParts scenario.now running.parts running.fallen) }
+        ensures whole { IfOk result (λ running. running.broken ≡ false) }
+        ensures entered { IfOk result (λ running. running.entered ≡ 0 ∷ []) }
         ensures few { IfOk result (λ running. Few running.parts) }
         ensures entries { IfOk result (λ running. running.parts.entries ≡ 0) }
         ensures clock { IfOk result (λ running. running.clock ≡ 0) }
@@ -65,9 +70,9 @@ impl Running {
         })
     }
 
-    /// What the rules look at.
+    /// What the rules look at. The apartment that is kept of a call is that of its target.
     pub fn view<'a>(&'a self, scenario: &'a Scenario) -> View<'a>
-        ensures { result ≡ record {
+        ensures value { result ≡ record {
           scenario = scenario.now;
           lanes = self.now.parts.lanes;
           objects = self.now.parts.objects;
@@ -76,6 +81,7 @@ impl Running {
           fallen = self.now.fallen;
           clock = self.now.clock;
         } }
+        ensures named { IsNamed self.now.parts.objects self.now.parts.calls }
     {
         View {
             scenario,

@@ -1,8 +1,12 @@
 //! A runtime that makes one entry at a time.
 
-ghost use Rattle.std.specs.Prelude.{◌≡◌, ◌<◌, ◌^◌, IfOk, IfSome, length, map};
+ghost use Rattle.std.specs.Prelude.{◌≡◌, ◌<◌, ◌^◌, IfOk, IfSome, false, length, map};
 ghost use Rattle.com_books.specs.Changes.{Books};
-ghost use Rattle.com_core.specs.Seen.{Makes};
+ghost use Rattle.com_core.specs.Beginning.{BeginsParts};
+ghost use Rattle.com_core.specs.Seen.{Makes, core_state};
+ghost use Rattle.com_core.specs.Stands.{IsReached};
+ghost use Rattle.com_drive.specs.Standings.{can_step_in, standing_of};
+ghost use Rattle.com_model.specs.State.{objects_in};
 ghost use Rattle.com_model.specs.Tables.{lanes};
 ghost use Rattle.com_servant.specs.Rows.{row};
 
@@ -34,7 +38,15 @@ impl Model for Core {
 
     ghost Value = { CoreView };
 
-    ghost view = { λ c. record { lanes = c.count; entries = c.running.parts.entries; clock = c.running.clock } };
+    ghost view = { λ c. record {
+      scenario = c.scenario;
+      parts = c.running.parts;
+      held = c.running.ledger;
+      entered = c.running.entered;
+      fallen = c.running.fallen;
+      clock = c.running.clock;
+      broken = c.running.broken;
+    } };
 
     ghost invariant = { λ c. SoundUnless c.running.broken c.running.parts c.running.entered × Few c.running.parts
         × (c.count ≡ lanes c.scenario) × (length c.scenario.threads < 2 ^ 32) };
@@ -60,8 +72,10 @@ fn lanes_of(scenario: &Scenario) -> Option<u32>
 impl Core {
     /// The runtime before its first entry. The only error is want of memory.
     pub fn new(alloc: Global, scenario: Scenario) -> Result<Core, Memory>
-        ensures lanes { IfOk result (λ core. core.lanes ≡ lanes scenario) }
-        ensures entries { IfOk result (λ core. core.entries ≡ 0) }
+        ensures scenario { IfOk result (λ core. core.scenario ≡ scenario) }
+        ensures begins { IfOk result (λ core. BeginsParts scenario core.parts core.fallen) }
+        ensures whole { IfOk result (λ core. core.broken ≡ false) }
+        ensures entries { IfOk result (λ core. core.parts.entries ≡ 0) }
         ensures clock { IfOk result (λ core. core.clock ≡ 0) }
     {
         let Some(count) = lanes_of(&scenario) else {
@@ -76,45 +90,56 @@ impl Core {
     }
 
     /// The scenario that it runs.
-    pub fn scenario(&self) -> &Scenario {
+    pub fn scenario(&self) -> &Scenario
+        ensures { result.now ≡ self.now.scenario }
+    {
         &self.scenario
     }
 
     /// How many lanes there are.
     pub fn lanes(&self) -> u32
-        ensures { result ≡ self.now.lanes }
+        ensures { result ≡ lanes self.now.scenario }
     {
         self.count
     }
 
     /// Whether a lane, from 1 to `lanes`, can step.
-    pub fn can_step(&self, lane: u32) -> bool {
+    #[tactic(auto, using(crate::proofs::Readings::can_step_read))]
+    pub fn can_step(&self, lane: u32) -> bool
+        ensures { IsReached self.now.scenario (core_state self.now)
+            → result ≡ can_step_in self.now.scenario (core_state self.now) lane }
+    {
         self.running.view(&self.scenario).can_step(lane)
     }
 
     /// Whether a lane can step, the clock goes on, or all has ended.
-    #[tactic(auto, using(crate::proofs::Runs::room_for_sta))]
-    pub fn standing(&self) -> Standing {
+    #[tactic(auto, using(crate::proofs::Runs::room_for_sta, crate::proofs::Readings::standing_read))]
+    pub fn standing(&self) -> Standing
+        ensures { IsReached self.now.scenario (core_state self.now)
+            → result ≡ standing_of self.now.scenario (core_state self.now) }
+    {
         let threads = self.scenario.threads.len() as u32;
         standing_of(&self.running.view(&self.scenario), threads, self.count)
     }
 
     /// How many entries were made.
     pub fn entries(&self) -> u64
-        ensures { result ≡ self.now.entries }
+        ensures { result ≡ (core_state self.now).entries }
     {
         self.running.parts.entries() as u64
     }
 
     /// The clock, in virtual milliseconds.
     pub fn clock(&self) -> u64
-        ensures { result ≡ self.now.clock }
+        ensures { result ≡ (core_state self.now).clock }
     {
         self.running.clock
     }
 
     /// How many objects were made. They are numbered from 1, in order of making.
-    pub fn objects(&self) -> u32 {
+    pub fn objects(&self) -> u32
+        ensures { result ≡ objects_in (core_state self.now) }
+    {
         self.running.parts.objects().len()
     }
 
@@ -158,7 +183,7 @@ impl Core {
     ) -> Result<Entry, Memory>
         requires row { map kind_of servants.old.items ≡ row }
         ensures entry { IfOk result (λ entry. Makes lane self.old self.new entry) }
-        ensures lanes { self.new.lanes ≡ self.old.lanes }
+        ensures scenario { self.new.scenario ≡ self.old.scenario }
         ensures row { map kind_of servants.new.items ≡ row }
     {
         self.running.step(&self.scenario, alloc, lane, servants)
@@ -168,7 +193,7 @@ impl Core {
     /// where it came while the entry was being made, the runtime makes no more entries.
     pub fn tick(&mut self) -> Result<Entry, Memory>
         ensures entry { IfOk result (λ entry. Makes 0 self.old self.new entry) }
-        ensures lanes { self.new.lanes ≡ self.old.lanes }
+        ensures scenario { self.new.scenario ≡ self.old.scenario }
     {
         self.running.tick(&self.scenario)
     }

@@ -1,6 +1,6 @@
 //! The parts and what is read of them.
 ghost use Rattle.std.specs.Prelude.{◌≡◌, IfOk, IfSome, []};
-ghost use Rattle.com_calls.specs.Kept.{no_tables};
+ghost use Rattle.com_calls.specs.Kept.{IsNamed, no_tables};
 ghost use Rattle.com_lanes.specs.First.{first_lanes};
 ghost use Rattle.com_model.specs.Tables.{lanes, threads};
 ghost use Rattle.com_scene.specs.Scenes.{new_scene};
@@ -80,9 +80,10 @@ impl Parts {
         &self.objects
     }
 
-    /// The calls and their inboxes.
+    /// The calls and their inboxes. The apartment that is kept of a call is that of its target.
     pub fn calls(&self) -> &Calls
-        ensures { result.now ≡ self.now.calls }
+        ensures value { result.now ≡ self.now.calls }
+        ensures named { IsNamed self.now.objects self.now.calls }
     {
         &self.calls
     }

@@ -1,0 +1,52 @@
+-- What is read of the parts is read of the state that they are.
+use Rattle.std.proofs.Common.{◌≡◌, ℕ, refl, ap, sym, ◌∙◌, subst}
+use Rattle.std.specs.Prelude.{Bool, true, false, not, cond, ◌&&◌, Option, Some, None, is_none, is_some, List}
+use Rattle.com_books.specs.Changes.{Books}
+use Rattle.com_calls.specs.Kept.{IsNamed}
+use Rattle.com_model.specs.declared.scenario.Scenario.{Scenario}
+use Rattle.com_model.specs.Ends.{finished_by}
+use Rattle.com_model.specs.Rules.{can_step, no_lane_can, tick_time}
+use Rattle.com_model.specs.Sight.{Sight}
+use Rattle.com_model.specs.State.{State, books_in, sight_of}
+use Rattle.com_parts.specs.Tables.{PartTables}
+use Rattle.com_view.specs.Seen.{Seen, sight_by}
+use Rattle.com_view.proofs.Sights.{reads_state as sight_read}
+use Rattle.com_drive.specs.declared.runtime.Standing.{Standing}
+use Rattle.com_drive.specs.declared.runtime.Standing.TheVariants as standing
+use Rattle.com_drive.specs.Standings.{can_step_in, standing_of}
+use Rattle.com_core.specs.Standings.{standing_by}
+use Rattle.com_core.specs.Stands.{IsReached, Stands, seen_by, state_read}
+use Rattle.com_core.proofs.Entries.{reads_state}
+
+-- Whatever the books are, the rules look at those of the state.
+sight-is : (s : Scenario) (p : PartTables) (b : Books) (fallen : List ℕ) (clock : ℕ) → IsReached s (state_read s p b fallen clock) → IsNamed p.objects p.calls
+    → sight_by (seen_by s p fallen clock) (books_in (state_read s p b fallen clock)) ≡ sight_of s (state_read s p b fallen clock)
+sight-is s p b fallen clock r n =
+    let st : State = state_read s p b fallen clock in
+    sym (sight_read (seen_by s p fallen clock) (books_in st) st
+    (reads_state s st p (books_in st) fallen clock r
+    (record { lanes = refl; objects = refl; calls = refl; scene = refl; entries = refl; books = refl; fallen_is = refl; clock_is = refl }) n))
+
+pub can_step_read : (s : Scenario) (p : PartTables) (b : Books) (fallen : List ℕ) (clock l : ℕ) (x : Bool) → IsNamed p.objects p.calls
+    → ((c : Books) → x ≡ can_step s (sight_by (seen_by s p fallen clock) c) l) → IsReached s (state_read s p b fallen clock) → x ≡ can_step_in s (state_read s p b fallen clock) l
+unfolding can_step_in
+can_step_read s p b fallen clock l x n e r =
+    e (books_in (state_read s p b fallen clock)) ∙ ap (λ (v : Sight). can_step s v l) (sight-is s p b fallen clock r n)
+
+-- By whether all is done, no lane can step, and a time is waited for.
+standing-by : (f c : Bool) (t : Option ℕ)
+    → cond f standing.Finished (cond c (cond (is_none t) standing.Stuck standing.Ticks) standing.Runs)
+    ≡ cond f standing.Finished (cond (c && (is_none t && not f)) standing.Stuck (cond c standing.Ticks standing.Runs))
+standing-by true c t = refl
+standing-by false true None = refl
+standing-by false true (Some x) = refl
+standing-by false false t = refl
+
+standing-same : (s : Scenario) (st : State) → standing_by s (sight_of s st) ≡ standing_of s st
+unfolding standing_of
+standing-same s st = standing-by (finished_by s (sight_of s st)) (no_lane_can s (sight_of s st)) (tick_time (sight_of s st))
+
+pub standing_read : (s : Scenario) (p : PartTables) (b : Books) (fallen : List ℕ) (clock : ℕ) (x : Standing) → IsNamed p.objects p.calls
+    → ((c : Books) → x ≡ standing_by s (sight_by (seen_by s p fallen clock) c)) → IsReached s (state_read s p b fallen clock) → x ≡ standing_of s (state_read s p b fallen clock)
+standing_read s p b fallen clock x n e r =
+    e (books_in (state_read s p b fallen clock)) ∙ ap (λ (v : Sight). standing_by s v) (sight-is s p b fallen clock r n) ∙ standing-same s (state_read s p b fallen clock)
