@@ -1,16 +1,18 @@
 -- A turn of a state, read from its parts.
-use Rattle.std.proofs.Common.{◌≡◌, ℕ, ◌≤◌, ◌==◌, nat_le, Bool, true, false, cond, List, Option, Some, None, refl, ap, sym, ◌∙◌, eqb-true, arith}
+use Rattle.std.proofs.Common.{◌≡◌, ℕ, ◌≤◌, ◌==◌, nat_le, Bool, true, false, cond, List, [], Option, Some, None, refl, ap, sym, ◌∙◌, eqb-true, arith}
 use Rattle.std.proofs.lemmas.Bool.{false_from_ne_true, le-leb}
 use Rattle.std.specs.Prelude.{is_some}
 use Rattle.com_books.specs.Changes.{Books}
 use Rattle.com_calls.specs.declared.rows.Issued.{Issued}
 use Rattle.com_model.specs.declared.deeds.Deed.{Deed}
+use Rattle.com_model.specs.declared.deeds.Deed.TheVariants as deed
 use Rattle.com_model.specs.declared.deeds.Entry.{Entry}
 use Rattle.com_model.specs.declared.keeps.Issue.{Issue}
+use Rattle.com_model.specs.declared.keeps.Opener.{Opener}
 use Rattle.com_model.specs.declared.scenario.Scenario.{Scenario}
 use Rattle.com_model.specs.Books.{out_values}
 use Rattle.com_model.specs.Calls.{admits, issues, lane_of, object_of}
-use Rattle.com_model.specs.Frames.{acting, actor, outcome}
+use Rattle.com_model.specs.Frames.{Actor, Nobody, acting, actor, outcome, unless_final, unless_over}
 use Rattle.com_model.specs.Issue.{action_refusal, or_ok}
 use Rattle.com_model.specs.Lists.{first}
 use Rattle.com_model.specs.Rules.{lane_next, next_by}
@@ -23,7 +25,7 @@ use Rattle.com_view.specs.Reads.{Reads}
 use Rattle.com_view.specs.Seen.{Seen, filter_seen, sight_by}
 use Rattle.com_view.proofs.Sights.{reads_state}
 use Rattle.com_turns.specs.declared.turns.Turn.{Turn}
-use Rattle.com_turns.specs.Turns.{IsIssued, IsNext, acting_seen, actor_later, carried_seen, carried_with, deed_made, issuing_seen, kind_above, kind_seen, step_seen, told_of}
+use Rattle.com_turns.specs.Turns.{IsIssued, IsNext, acting_seen, actor_later, carried_seen, carried_with, deed_made, issuing_seen, kind_above, kind_seen, outcome_seen, step_seen, told_of}
 
 sorted_lane : (s : Scenario) (v : Sight) (l : ℕ) (a b c e : Bool) → a ≡ false → e ≡ true
     → next_by s v (cond a NoLane (cond b Thread (cond c Host (cond e Pool NoLane)))) l ≡ lane_next s v l
@@ -130,3 +132,11 @@ issued_stands w b st l d None h p o m t = none_issued o m (told_of None) (issuin
 issued_stands w b st l d (Some i) h p o m t =
     same_issuing o m (told_of (Some i)) (issuing_in w.scenario st (record { lane = l; deed = d })) t (record { lane = l; deed = d })
     (ap (λ (y : Issued). told_of (Some y)) p ∙ issuing_told w b st l d h)
+
+-- The clock's lane, where nothing is open.
+pub clock_acting : (w : Seen) (t : ℕ) → openers_at w.lanes 0 ≡ [] → acting_seen w 0 (deed.Tick t) ≡ Nobody
+clock_acting w t e =
+    ap (λ (os : List Opener). unless_final (deed.Tick t) (unless_over (actor (lane_sort w.scenario 0) 0 os) (outcome_seen w (actor (lane_sort w.scenario 0) 0 os)))) e
+
+pub clock_step : (w : Seen) (t : ℕ) → openers_at w.lanes 0 ≡ [] → step_seen w 0 (deed.Tick t) ≡ None
+clock_step w t e = ap (λ (a : Actor). outcome_seen w a) (clock_acting w t e)

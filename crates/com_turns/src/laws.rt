@@ -1,17 +1,19 @@
 //! What is read of a turn is what the state's definition looks at.
 
-ghost use Rattle.std.specs.Prelude.{◌≡◌, ◌≤◌, ℕ, Option, is_some};
+ghost use Rattle.std.specs.Prelude.{◌≡◌, ◌≤◌, ℕ, [], None, Option, is_some};
 ghost use Rattle.com_books.specs.Changes.{Books};
 ghost use Rattle.com_calls.specs.declared.rows.Issued.{Issued};
 ghost use Rattle.com_model.specs.Calls.{issues, lane_of, object_of};
 ghost use Rattle.com_model.specs.declared.deeds.Deed.{Deed};
+ghost use Rattle.com_model.specs.declared.deeds.Deed.TheVariants as deed;
 ghost use Rattle.com_model.specs.declared.deeds.Entry.{Entry};
+ghost use Rattle.com_model.specs.Frames.{Nobody};
 ghost use Rattle.com_model.specs.Lists.{first};
 ghost use Rattle.com_model.specs.Rules.{lane_next};
 ghost use Rattle.com_model.specs.State.{State, books_in, class_in, named_in, next_of, openers_in, sight_of};
 ghost use Rattle.com_model.specs.Tables.{lanes};
 ghost use Rattle.com_state.specs.After.{acting_in, actor_after, filtered_by, issuing_in, moment_in, step_in};
-ghost use Rattle.com_state.specs.Parts.{CallTables, Moment, ObjectTables, calls_after, issue_at};
+ghost use Rattle.com_state.specs.Parts.{CallTables, Moment, ObjectTables, calls_after, issue_at, openers_at};
 ghost use Rattle.com_view.specs.Reads.{Reads};
 ghost use Rattle.com_view.specs.Seen.{Seen, filter_seen, sight_by};
 ghost use Rattle.com_turns.specs.Turns.{IsIssued, acting_seen, actor_later, carried_seen, carried_with};
@@ -43,4 +45,13 @@ pub fn reads_the_turn()
         ≡ (moment_in w.scenario st (record { lane = l; deed = d })).filtered }
     ensures kind { (w : Seen) (b : Books) (st : State) (l : ℕ) → Reads w b st →
         kind_seen w l ≡ kind_above w.scenario (class_in st) (first (openers_in st l)) }
+{}
+
+/// The clock's entry, in its lane where nothing is open, is nobody's step, issues no call and carries
+/// nothing.
+pub fn nobody_acts_for_the_clock()
+    ensures acting { (w : Seen) (t : ℕ) → openers_at w.lanes 0 ≡ [] → acting_seen w 0 (deed.Tick t) ≡ Nobody }
+    ensures step { (w : Seen) (t : ℕ) → openers_at w.lanes 0 ≡ [] → step_seen w 0 (deed.Tick t) ≡ None }
+    ensures issued { (w : Seen) (b : Books) (t : ℕ) → IsIssued w b 0 (deed.Tick t) None }
+    ensures carried { (w : Seen) (b : Books) (t : ℕ) → carried_seen w b 0 (deed.Tick t) ≡ [] }
 {}
