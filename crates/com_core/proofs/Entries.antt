@@ -43,6 +43,7 @@ use Rattle.com_core.specs.Bodies.{bodies_among, entered_after, CountsBodies}
 use Rattle.com_model.specs.declared.keeps.Opener.{Opener}
 use Rattle.com_model.specs.Tables.{lanes}
 use Rattle.com_model.proofs.Tabled.{tabulated-row}
+use Rattle.com_core.specs.Making.{IsCore}
 use Rattle.com_core.specs.Changes.{Becomes, Settles, fresh_by}
 use Rattle.com_core.specs.Falling.{placed_in, other_object, Touches, CountsHolders}
 use Rattle.com_core.proofs.Fallen.{fallen_found, dies_as}
@@ -241,12 +242,6 @@ bodies_first s = record {
 }
 
 -- ---- one entry
-
--- What the parts of a core are between entries: those of a state that a legal history comes to, with the bodies counted.
-pub record IsCore (s : Scenario) (st : State) (p : PartTables) (b : Books) (entered fallen : List ℕ) (clock : ℕ) : Type 0 where
-  pub reached : IsReached s st
-  pub stands : Stands st p b fallen clock
-  pub bodies : CountsBodies s st entered
 
 pub core_first : (s : Scenario) (p : PartTables) (b : Books) (entered fallen : List ℕ) (clock : ℕ) → Formed s → StandsFor s (first_tables s) [] → BeginsParts s p fallen → clock ≡ 0
     → entered ≡ 0 ∷ [] → b ≡ books_in (first_tables s) → IsCore s (first_tables s) p b entered fallen clock

@@ -10,3 +10,4 @@ pub mod Readings
 pub mod Moved
 pub mod Keeping
 pub mod Ticking
+pub mod Turned

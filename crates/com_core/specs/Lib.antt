@@ -6,3 +6,4 @@ pub mod Stands
 pub mod Standings
 pub mod Changes
 pub mod Beginning
+pub mod Making

@@ -6,6 +6,7 @@ use Rattle.com_model.specs.declared.scenario.Scenario.{Scenario}
 use Rattle.com_model.specs.Clock.{ticked}
 use Rattle.com_model.specs.State.{State}
 use Rattle.com_parts.specs.Tables.{PartTables}
+use Rattle.com_core.specs.Making.{IsCore, MakesNext}
 use Rattle.com_core.specs.Stands.{state_read}
 
 -- The scenario; the parts, who holds references, how many bodies of each object run, the dying objects and the clock in
@@ -28,3 +29,13 @@ pub record Makes (lane : ℕ) (old new : CoreView) (e : Entry) : Type 0 where
   pub own : e.lane ≡ lane
   pub one : new.parts.entries ≡ old.parts.entries + 1
   pub tells : new.clock ≡ ticked e.deed old.clock
+
+-- The parts of a core are those of its state, to which a legal history comes, and the bodies are counted.
+abbrev pub IsWhole : CoreView → Type 0
+IsWhole c = IsCore c.scenario (core_state c) c.parts (books_held c.held) c.entered c.fallen c.clock
+
+-- The entry is the next one of its lane in the core's state, and the parts have become what they are in the state after it: all
+-- but the books.
+abbrev pub Steps : (lane : ℕ) → (old new : CoreView) → Entry → Type 0
+Steps lane old new e =
+    MakesNext old.scenario (core_state old) old.parts new.parts new.held old.entered new.entered old.fallen new.fallen old.clock lane e.deed

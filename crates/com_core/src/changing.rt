@@ -1,10 +1,17 @@
 //! The change of a core by an entry.
 
-ghost use Rattle.std.specs.Prelude.{◌≡◌, ℕ, ◌+◌, ◌<◌, ◌^◌, All, IfOk, OnOk, is_some, map, slice_index_or};
+ghost use Rattle.std.specs.Prelude.{◌≡◌, ℕ, ◌+◌, ◌<◌, ◌^◌, All, IfOk, OnOk, false, is_some, length, map, slice_index_or, ◌≤◌};
+ghost use Rattle.com_calls.specs.Kept.{IsNamed};
+ghost use Rattle.com_core.specs.Making.{Changed, IsCore, MakesNext};
+ghost use Rattle.com_drive.specs.declared.runtime.Standing.TheVariants as standing;
+ghost use Rattle.com_drive.specs.Standings.{standing_of};
+ghost use Rattle.com_ledger.specs.Books.{books_held};
+ghost use Rattle.com_model.specs.Tables.{lanes};
+ghost use Rattle.com_turns.specs.Turns.{IsTurn, actor_later};
 ghost use Rattle.com_core.specs.Bodies.{entered_after};
 ghost use Rattle.com_core.specs.Changes.{Becomes, Settles, sent_by};
 ghost use Rattle.com_core.specs.Sound.{Few, Most, Sound, SoundUnless};
-ghost use Rattle.com_core.specs.Stands.{seen_by};
+ghost use Rattle.com_core.specs.Stands.{seen_by, state_read};
 ghost use Rattle.com_model.specs.Calls.{lane_of};
 ghost use Rattle.com_model.specs.Clock.{ticked};
 ghost use Rattle.com_moves.specs.Steps.{IsWhole, moves_stepped};
@@ -15,7 +22,7 @@ ghost use Rattle.com_scene.specs.Kept.{HasSlots};
 ghost use Rattle.com_scene.specs.Ranges.{FitsDeed};
 ghost use Rattle.com_servant.specs.Rows.{row};
 ghost use Rattle.com_state.specs.After.{filtered_by};
-ghost use Rattle.com_state.specs.Parts.{issue_at};
+ghost use Rattle.com_state.specs.Parts.{issue_at, openers_at};
 ghost use Rattle.com_view.specs.Seen.{filter_seen, home_seen, running_seen};
 
 use crate::dying::{Fates, count_bodies, other_by, released_by};
@@ -70,6 +77,10 @@ impl Running {
         ensures home { result.home ≡ home_seen (seen_by scenario.now self.now.parts self.now.fallen self.now.clock) entry.now.lane }
         ensures running { result.running
             ≡ running_seen (seen_by scenario.now self.now.parts self.now.fallen self.now.clock) entry.now.lane }
+        ensures after { length (openers_at self.now.parts.lanes entry.now.lane) < 2 ^ 32
+            → entry.now.lane < length self.now.parts.lanes.openers
+            → acting_of result.after ≡ actor_later (seen_by scenario.now self.now.parts self.now.fallen self.now.clock)
+            entry.now.lane entry.now.deed }
         ensures filtered { result.filtered ≡ filtered_by (λ c. is_some (filter_seen
             (seen_by scenario.now self.now.parts self.now.fallen self.now.clock)
             (lane_of (issue_at self.now.parts.calls.tables c)))) entry.now.deed }
@@ -239,6 +250,10 @@ impl Running {
         ensures sound { SoundUnless self.new.broken self.new.parts self.new.entered }
         ensures entries { OnOk result (self.new.parts.entries ≡ self.old.parts.entries + 1) }
         ensures clock { OnOk result (self.new.clock ≡ ticked entry.now.deed self.old.clock) }
+        ensures changed { OnOk result (Changed scenario.now self.old.parts self.new.parts self.new.ledger self.old.entered
+            self.new.entered self.old.fallen self.new.fallen self.old.clock entry.now (acting_of acting) outcome
+            (sent_by issued)) }
+        ensures whole { OnOk result (self.new.broken ≡ false) }
     {
         if self.parts.entries() >= 1_000_000 {
             return Err(unproved());
@@ -254,15 +269,26 @@ impl Running {
     }
 
     // The entry of a turn of a lane.
+    #[tactic(auto, using(crate::proofs::Turned::next_made))]
     fn make_turn(&mut self, scenario: &Scenario, lane: u32, made: Turn) -> Result<Entry, Memory>
         requires sound { Sound self.old.parts self.old.entered }
         requires few { Few self.old.parts }
         requires whole { IsWhole made.outcome }
+        requires named { IsNamed self.old.parts.objects self.old.parts.calls }
+        requires turn { IsTurn (seen_by scenario.now self.old.parts self.old.fallen self.old.clock)
+            (books_held self.old.ledger) lane made }
         ensures few { Few self.new.parts }
         ensures sound { SoundUnless self.new.broken self.new.parts self.new.entered }
         ensures lane { IfOk result (λ entry. entry.lane ≡ lane) }
         ensures entries { OnOk result (self.new.parts.entries ≡ self.old.parts.entries + 1) }
         ensures clock { IfOk result (λ entry. self.new.clock ≡ ticked entry.deed self.old.clock) }
+        ensures next { IfOk result (λ entry. IsCore scenario.now (state_read scenario.now self.old.parts
+            (books_held self.old.ledger) self.old.fallen self.old.clock) self.old.parts (books_held self.old.ledger)
+            self.old.entered self.old.fallen self.old.clock → 1 ≤ lane → lane ≤ lanes scenario.now
+            → MakesNext scenario.now (state_read scenario.now self.old.parts (books_held self.old.ledger) self.old.fallen
+            self.old.clock) self.old.parts self.new.parts self.new.ledger self.old.entered self.new.entered
+            self.old.fallen self.new.fallen self.old.clock lane entry.deed) }
+        ensures unbroken { OnOk result (self.new.broken ≡ false) }
     {
         let Turn {
             acting,
@@ -299,6 +325,9 @@ impl Running {
         requires few { Few self.now.parts }
         requires row { map kind_of servants.old.items ≡ row }
         ensures whole { IfOk result (λ made. IsWhole made.outcome) }
+        ensures named { IsNamed self.now.parts.objects self.now.parts.calls }
+        ensures turn { IfOk result (λ made. IsTurn (seen_by scenario.now self.now.parts self.now.fallen self.now.clock)
+            (books_held self.now.ledger) lane made) }
         ensures row { map kind_of servants.new.items ≡ row }
     {
         let view = self.view(scenario);
@@ -324,6 +353,13 @@ impl Running {
         ensures lane { IfOk result (λ entry. entry.lane ≡ lane) }
         ensures entries { OnOk result (self.new.parts.entries ≡ self.old.parts.entries + 1) }
         ensures clock { IfOk result (λ entry. self.new.clock ≡ ticked entry.deed self.old.clock) }
+        ensures next { IfOk result (λ entry. IsCore scenario.now (state_read scenario.now self.old.parts
+            (books_held self.old.ledger) self.old.fallen self.old.clock) self.old.parts (books_held self.old.ledger)
+            self.old.entered self.old.fallen self.old.clock → 1 ≤ lane → lane ≤ lanes scenario.now
+            → MakesNext scenario.now (state_read scenario.now self.old.parts (books_held self.old.ledger) self.old.fallen
+            self.old.clock) self.old.parts self.new.parts self.new.ledger self.old.entered self.new.entered
+            self.old.fallen self.new.fallen self.old.clock lane entry.deed) }
+        ensures unbroken { OnOk result (self.new.broken ≡ false) }
         ensures row { map kind_of servants.new.items ≡ row }
     {
         if self.broken {
@@ -334,6 +370,7 @@ impl Running {
     }
 
     /// Makes the clock's entry. The only error is want of memory.
+    #[tactic(auto, using(crate::proofs::Turned::tick_made))]
     pub fn tick(&mut self, scenario: &Scenario) -> Result<Entry, Memory>
         requires sound { SoundUnless self.old.broken self.old.parts self.old.entered }
         requires few { Few self.old.parts }
@@ -342,6 +379,14 @@ impl Running {
         ensures lane { IfOk result (λ entry. entry.lane ≡ 0) }
         ensures entries { OnOk result (self.new.parts.entries ≡ self.old.parts.entries + 1) }
         ensures clock { IfOk result (λ entry. self.new.clock ≡ ticked entry.deed self.old.clock) }
+        ensures next { IfOk result (λ entry. IsCore scenario.now (state_read scenario.now self.old.parts
+            (books_held self.old.ledger) self.old.fallen self.old.clock) self.old.parts (books_held self.old.ledger)
+            self.old.entered self.old.fallen self.old.clock → standing_of scenario.now (state_read scenario.now
+            self.old.parts (books_held self.old.ledger) self.old.fallen self.old.clock) ≡ standing.Ticks
+            → MakesNext scenario.now (state_read scenario.now self.old.parts (books_held self.old.ledger) self.old.fallen
+            self.old.clock) self.old.parts self.new.parts self.new.ledger self.old.entered self.new.entered
+            self.old.fallen self.new.fallen self.old.clock 0 entry.deed) }
+        ensures unbroken { OnOk result (self.new.broken ≡ false) }
     {
         if self.broken {
             return Err(Memory);

@@ -1,9 +1,10 @@
 //! A runtime that makes one entry at a time.
 
-ghost use Rattle.std.specs.Prelude.{◌≡◌, ◌<◌, ◌^◌, IfOk, IfSome, false, length, map};
+ghost use Rattle.std.specs.Prelude.{◌≡◌, ◌<◌, ◌≤◌, ◌^◌, IfOk, IfSome, OnOk, false, length, map};
 ghost use Rattle.com_books.specs.Changes.{Books};
 ghost use Rattle.com_core.specs.Beginning.{BeginsParts};
-ghost use Rattle.com_core.specs.Seen.{Makes, core_state};
+ghost use Rattle.com_core.specs.Seen.{IsWhole, Makes, Steps, core_state};
+ghost use Rattle.com_drive.specs.declared.runtime.Standing.TheVariants as standing;
 ghost use Rattle.com_core.specs.Stands.{IsReached};
 ghost use Rattle.com_drive.specs.Standings.{can_step_in, standing_of};
 ghost use Rattle.com_model.specs.State.{objects_in};
@@ -183,6 +184,9 @@ impl Core {
     ) -> Result<Entry, Memory>
         requires row { map kind_of servants.old.items ≡ row }
         ensures entry { IfOk result (λ entry. Makes lane self.old self.new entry) }
+        ensures next { IfOk result (λ entry. IsWhole self.old → 1 ≤ lane → lane ≤ lanes self.old.scenario
+            → Steps lane self.old self.new entry) }
+        ensures whole { OnOk result (self.new.broken ≡ false) }
         ensures scenario { self.new.scenario ≡ self.old.scenario }
         ensures row { map kind_of servants.new.items ≡ row }
     {
@@ -193,6 +197,9 @@ impl Core {
     /// where it came while the entry was being made, the runtime makes no more entries.
     pub fn tick(&mut self) -> Result<Entry, Memory>
         ensures entry { IfOk result (λ entry. Makes 0 self.old self.new entry) }
+        ensures next { IfOk result (λ entry. IsWhole self.old
+            → standing_of self.old.scenario (core_state self.old) ≡ standing.Ticks → Steps 0 self.old self.new entry) }
+        ensures whole { OnOk result (self.new.broken ≡ false) }
         ensures scenario { self.new.scenario ≡ self.old.scenario }
     {
         self.running.tick(&self.scenario)

@@ -1,1 +1,6 @@
 pub mod Whole
+pub mod Openings
+pub mod Rules
+pub mod Bodies
+pub mod Stepping
+pub mod Stands

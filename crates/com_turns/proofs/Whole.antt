@@ -1,7 +1,6 @@
 -- A step keeps how many slots a frame has.
-use Rattle.std.proofs.Common.{◌≡◌, ℕ, List, ap, ◌∙◌, subst, sym, length}
+use Rattle.std.proofs.Common.{ap, ◌∙◌, length}
 use Rattle.com_body.specs.declared.frame.Job.{Job}
-use Rattle.com_body.specs.declared.frame.Outcome.{Outcome}
 use Rattle.com_classes.specs.Tables.{Tables}
 use Rattle.com_classes.specs.Lookups.{body_of}
 use Rattle.com_servant.specs.Steps.{job_step}

@@ -1,13 +1,15 @@
-//! One turn of a lane: who acts there, the step of whoever does, the entry that the rules give, and who acts after it. Nothing is
-//! changed but the servants' counts of their steps.
+//! One turn of a lane: who acts there, the step of whoever does, the entry that the rules give, and who acts
+//! after it. Nothing is changed but the servants' counts of their steps.
 #![tactic(auto)]
 
 mod after;
 mod fitting;
+mod laws;
 mod steps;
 mod turns;
 
 pub use after::{actor_after, is_filtered};
 pub use com_base::Memory;
 pub use fitting::fits_deed;
+pub use laws::{nobody_acts_for_the_clock, reads_the_turn};
 pub use turns::{Turn, next_turn};

@@ -1,9 +1,19 @@
 //! The turn of a lane.
 
-ghost use Rattle.std.specs.Prelude.{◌≡◌, ◌+◌, ◌≤◌, ◌^◌, IfOk, IfSome, length, map};
+ghost use Rattle.std.specs.Prelude.{◌≡◌, ◌+◌, ◌≤◌, ◌^◌, [], IfOk, IfSome, None, OnOk, Some};
+ghost use Rattle.std.specs.Prelude.{false, length, map, true};
+ghost use Rattle.com_model.specs.Deeds.{deed_of};
+ghost use Rattle.com_model.specs.Frames.{Nobody, is_leave};
+ghost use Rattle.com_model.specs.Rules.{is_script_turn, lane_next, next_by, rule_final, top};
+ghost use Rattle.com_model.specs.Tables.{lane_sort, lanes};
 ghost use Rattle.com_moves.specs.Steps.{BodiesWhole, IsWhole};
+ghost use Rattle.com_rules.specs.Acts.{Issues, carried_by};
+ghost use Rattle.com_scene.specs.Actors.{acting_of};
 ghost use Rattle.com_scene.specs.Kept.{HasSlots};
 ghost use Rattle.com_servant.specs.Rows.{row};
+ghost use Rattle.com_turns.specs.Turns.{IsNext, IsTurn, Steps, deed_made, kind_seen, one_served};
+ghost use Rattle.com_view.specs.Nexts.{is_body};
+ghost use Rattle.com_view.specs.Seen.{bare, sight_by};
 
 use crate::steps::{body_step, script_step, unproved};
 use com_base::{Memory, Rows};
@@ -15,7 +25,8 @@ use com_servant::Servant;
 use com_view::View;
 use std::alloc::Global;
 
-/// A turn of a lane: who makes the entry by a step, and that step, where one does; the entry, and what goes with it.
+/// A turn of a lane: who makes the entry by a step, and that step, where one does; the entry, and what goes
+/// with it.
 #[derive(Debug, Drop)]
 pub struct Turn {
     /// Who makes the entry by its step, and nobody where no step does.
@@ -27,7 +38,13 @@ pub struct Turn {
 }
 
 // An entry that is nobody's step.
-fn by_rule(alloc: Global, deed: Deed) -> Turn {
+fn by_rule(alloc: Global, deed: Deed) -> Turn
+    ensures deed { result.doing.deed ≡ deed }
+    ensures acting { acting_of result.acting ≡ Nobody }
+    ensures outcome { result.outcome ≡ None }
+    ensures issued { result.doing.issued ≡ None }
+    ensures carried { result.doing.carried ≡ [] }
+{
     Turn {
         acting: Actor::Nobody,
         outcome: None,
@@ -48,6 +65,12 @@ fn doing_of<B: Found>(
     action: &Action,
 ) -> Result<Doing, Memory>
     requires stas { length view.now.lanes.stas + 4 ≤ 2 ^ 32 }
+    ensures deed { IfOk result (λ made. made.deed
+        ≡ deed_of view.now.scenario (sight_by view.now (B.books books.now)) lane action.now) }
+    ensures issued { IfOk result (λ made. Issues view.now.scenario
+        (sight_by view.now (B.books books.now)) lane action.now made.deed made.issued) }
+    ensures carried { IfOk result (λ made. made.carried
+        ≡ carried_by view.now.scenario (B.books books.now) action.now made.deed) }
 {
     if !has_room(view, books) {
         return Err(unproved());
@@ -58,8 +81,8 @@ fn doing_of<B: Found>(
     acted(view, books, alloc, lane, action)
 }
 
-// The turn of a lane in which a body is innermost.
-fn body_turn<B: Found>(
+// The turn of whoever goes on by a step in a lane.
+fn step_turn<B: Found>(
     view: &View<'_>,
     books: &B,
     alloc: Global,
@@ -69,7 +92,11 @@ fn body_turn<B: Found>(
 ) -> Result<Turn, Memory>
     requires stas { length view.now.lanes.stas + 4 ≤ 2 ^ 32 }
     requires whole { HasSlots outcome.frame }
+    requires steps { Steps view.now lane (acting_of acting) outcome }
+    requires next { lane_next view.now.scenario (sight_by view.now (B.books books.now)) lane
+        ≡ Some (deed_of view.now.scenario (sight_by view.now (B.books books.now)) lane outcome.action) }
     ensures whole { IfOk result (λ made. IsWhole made.outcome) }
+    ensures turn { IfOk result (λ made. IsTurn view.now (B.books books.now) lane made) }
 {
     let doing = doing_of(view, books, alloc, lane, &outcome.action)?;
     Ok(Turn {
@@ -80,14 +107,33 @@ fn body_turn<B: Found>(
 }
 
 // Whether a step leaves.
-fn is_leave(action: &Action) -> bool {
+fn is_leave(action: &Action) -> bool
+    ensures { result ≡ is_leave action.now }
+{
     match action {
         Action::Leave { .. } => true,
         _ => false,
     }
 }
 
-// The turn of a lane whose script acts: its step, or what comes after it has left.
+// The turn of a lane whose script acts and in which no object waits for its Final: its step, or what comes
+// after it has left.
+fn own_step<B: Found>(view: &View<'_>, books: &B, alloc: Global, lane: u32) -> Result<Turn, Memory>
+    requires stas { length view.now.lanes.stas + 4 ≤ 2 ^ 32 }
+    requires script { is_script_turn (lane_sort view.now.scenario lane)
+        (top (bare view.now) lane) ((bare view.now).over lane) ≡ true }
+    requires no_final { rule_final (sight_by view.now (B.books books.now)) lane ≡ None }
+    ensures whole { IfOk result (λ made. IsWhole made.outcome) }
+    ensures turn { IfOk result (λ made. IsTurn view.now (B.books books.now) lane made) }
+{
+    let outcome = script_step(view, alloc, lane)?;
+    if is_leave(&outcome.action) {
+        return Ok(by_rule(alloc, script_over(view, lane)));
+    }
+    step_turn(view, books, alloc, lane, Actor::Script { lane }, outcome)
+}
+
+// The turn of a lane whose script acts. The Final of a dying object that the lane serves comes before it.
 fn script_turn<B: Found>(
     view: &View<'_>,
     books: &B,
@@ -95,13 +141,35 @@ fn script_turn<B: Found>(
     lane: u32,
 ) -> Result<Turn, Memory>
     requires stas { length view.now.lanes.stas + 4 ≤ 2 ^ 32 }
+    requires script { is_script_turn (lane_sort view.now.scenario lane)
+        (top (bare view.now) lane) ((bare view.now).over lane) ≡ true }
     ensures whole { IfOk result (λ made. IsWhole made.outcome) }
+    ensures turn { IfOk result (λ made. IsTurn view.now (B.books books.now) lane made) }
 {
-    let outcome = script_step(view, alloc, lane)?;
-    if is_leave(&outcome.action) {
-        return Ok(by_rule(alloc, script_over(view, lane)));
+    if let Some(deed) = view.finals(lane) {
+        return Ok(by_rule(alloc, deed));
     }
-    body_turn(view, books, alloc, lane, Actor::Script { lane }, outcome)
+    own_step(view, books, alloc, lane)
+}
+
+// The turn of a lane in which neither a body nor a script acts.
+fn rule_turn<B: Found>(
+    view: &View<'_>,
+    books: &B,
+    alloc: Global,
+    lane: u32,
+) -> Result<Option<Turn>, Memory>
+    requires body { is_body (top (bare view.now) lane) ≡ false }
+    requires script { is_script_turn (lane_sort view.now.scenario lane)
+        (top (bare view.now) lane) ((bare view.now).over lane) ≡ false }
+    ensures whole { IfOk result (λ made. IfSome made (λ turn. IsWhole turn.outcome)) }
+    ensures turn { IfOk result (λ made. IsNext view.now (B.books books.now) lane made) }
+{
+    let given = ruled(view, books, alloc, lane)?;
+    match given {
+        Some(deed) => Ok(Some(by_rule(alloc, deed))),
+        None => Ok(None),
+    }
 }
 
 // The turn of a lane in which no body is innermost.
@@ -112,19 +180,20 @@ fn own_turn<B: Found>(
     lane: u32,
 ) -> Result<Option<Turn>, Memory>
     requires stas { length view.now.lanes.stas + 4 ≤ 2 ^ 32 }
+    requires body { is_body (top (bare view.now) lane) ≡ false }
     ensures whole { IfOk result (λ made. IfSome made (λ turn. IsWhole turn.outcome)) }
+    ensures turn { IfOk result (λ made. IsNext view.now (B.books books.now) lane made) }
 {
-    if let Some(deed) = ruled(view, books, alloc, lane)? {
-        return Ok(Some(by_rule(alloc, deed)));
-    }
     if !view.is_script_turn(lane) {
-        return Ok(None);
+        return rule_turn(view, books, alloc, lane);
     }
     Ok(Some(script_turn(view, books, alloc, lane)?))
 }
 
-/// The turn of a lane, and none where it makes no entry as things stand. Where a body is innermost in the lane, the servant of its
-/// class's kind computes its step. The only error is want of memory.
+/// The turn of a lane, and none where it makes no entry as things stand: the entry that the rules give the
+/// lane, who makes it by a step, that step, and what goes with it. Where a body is innermost in the lane, the
+/// servant of its class's kind computes its step, and has made one more then. The only error is want of
+/// memory.
 pub fn next_turn<B: Found>(
     view: &View<'_>,
     books: &B,
@@ -137,12 +206,18 @@ pub fn next_turn<B: Found>(
     requires row { map kind_of servants.old.items ≡ row }
     ensures whole { IfOk result (λ made. IfSome made (λ turn. IsWhole turn.outcome)) }
     ensures row { map kind_of servants.new.items ≡ row }
+    ensures turn { IfOk result (λ made. IsNext view.now (B.books books.now) lane made) }
+    ensures deed { IfOk result (λ made. 1 ≤ lane → lane ≤ lanes view.now.scenario →
+        deed_made made ≡ next_by view.now.scenario (sight_by view.now (B.books books.now))
+        (lane_sort view.now.scenario lane) lane) }
+    ensures served { OnOk result (map stepped servants.new.items
+        ≡ one_served (kind_seen view.now lane) (map stepped servants.old.items)) }
 {
     let Some(Opener::Enters { call, object, .. }) = view.lanes.top(lane) else {
         return own_turn(view, books, alloc, lane);
     };
     let outcome = body_step(view, alloc, call, object, servants)?;
-    let turn = body_turn(
+    let turn = step_turn(
         view,
         books,
         alloc,

@@ -1,0 +1,138 @@
+-- A turn that is read from the parts is the next entry of the state that they are, with all that its change rests on.
+use Rattle.std.proofs.Common.{◌≡◌, ℕ, ◌+◌, ◌<◌, ◌≤◌, ◌^◌, refl, ap, sym, ◌∙◌, subst, arith}
+use Rattle.std.specs.Prelude.{Bool, List, Option, Some, None, is_some, length}
+use Rattle.com_base.specs.declared.hresult.HResult.{HResult}
+use Rattle.com_base.specs.declared.value.Value.{Value}
+use Rattle.com_books.specs.Changes.{Books}
+use Rattle.com_calls.specs.declared.rows.Issued.{Issued}
+use Rattle.com_calls.specs.Kept.{IsNamed}
+use Rattle.com_model.specs.declared.deeds.Deed.{Deed}
+use Rattle.com_model.specs.declared.deeds.Deed.TheVariants as deed
+use Rattle.com_model.specs.declared.deeds.Entry.{Entry}
+use Rattle.com_model.specs.declared.scenario.Scenario.{Scenario}
+use Rattle.com_model.specs.Books.{out_values}
+use Rattle.com_model.specs.Calls.{issues, lane_of}
+use Rattle.com_model.specs.Frames.{Actor, Nobody}
+use Rattle.com_calls.specs.Waits.{next_wait}
+use Rattle.com_drive.specs.declared.runtime.Standing.TheVariants as standing
+use Rattle.com_drive.specs.Standings.{standing_of}
+use Rattle.com_core.proofs.Ticking.{clock_given, tick_next}
+use Rattle.com_model.specs.Issue.{action_refusal, or_ok}
+use Rattle.com_model.specs.Sight.{Sight}
+use Rattle.com_model.specs.State.{State, is_marshalled_by, next_of, openers_in, sight_of}
+use Rattle.com_model.specs.Tables.{lanes}
+use Rattle.com_bounds.proofs.Standing.{few}
+use Rattle.com_parts.specs.Tables.{PartTables}
+use Rattle.com_scene.specs.Actors.{acting_of}
+use Rattle.com_state.specs.After.{actor_after, filtered_by, issuing_in}
+use Rattle.com_state.specs.Parts.{Issuing, LaneTables, issue_at, lanes_of, openers_at}
+use Rattle.com_view.specs.Reads.{Reads}
+use Rattle.com_view.specs.Seen.{Seen, filter_seen, sight_by}
+use Rattle.com_view.proofs.Sights.{reads_state as sight_read}
+use Rattle.com_turns.specs.declared.turns.Turn.{Turn}
+use Rattle.com_turns.specs.Turns.{IsIssued, IsTurn, actor_later, issuing_seen}
+use Rattle.com_turns.proofs.Stands.{acting_stands, after_stands, filtered_stands, next_stands, step_stands}
+use Rattle.com_ledger.specs.Books.{Held}
+use Rattle.com_core.specs.Changes.{sent_by}
+use Rattle.com_core.specs.Making.{Changed, IsCore, MakesNext}
+use Rattle.com_core.specs.Stands.{IsGiven, IsReached, IsSent, Stands, seen_by}
+use Rattle.com_core.proofs.Entries.{reads_state}
+
+abbrev issuing_by : Scenario → Sight → ℕ → Deed → Issuing
+issuing_by s v l d = record {
+  refusal = or_ok (action_refusal s (v.home l) (v.running l) v.owns v.books.live (v.act l));
+  values = out_values s v.books (is_marshalled_by (issues l d)) (v.act l);
+}
+
+abbrev told : Issued → Issuing
+told i = record { refusal = i.refusal; values = i.values }
+
+sent-turn : (w : Seen) (b : Books) (st : State) (l : ℕ) (d : Deed) (x : Option Issued) → Reads w b st → IsIssued w b l d x
+    → IsSent w.scenario st (record { lane = l; deed = d }) (sent_by x)
+sent-turn w b st l d None h p = p
+sent-turn w b st l d (Some i) h p =
+    ap (λ (v : Sight). issuing_by w.scenario v l d) (sight_read w b st h) ∙ ap (λ (y : Issued). told y) (sym p)
+
+-- A lane has fewer openers than there were entries, and a row of its own.
+pub few_openers : (s : Scenario) (st : State) (p : PartTables) (b : Books) (fallen : List ℕ) (clock l : ℕ) → IsReached s st → Stands st p b fallen clock → st.entries ≤ 1_000_000
+    → length (openers_at p.lanes l) < 2 ^ 32
+few_openers s st p b fallen clock l r h n =
+    let most : length (openers_in st l) ≤ st.entries = (few s st r.history r.formed r.stands).openers l in
+    let same : length (openers_at p.lanes l) ≡ length (openers_in st l) = ap (λ (t : LaneTables). length (openers_at t l)) h.lanes in
+    omega (arith, most, same, n)
+
+pub lane_there : (s : Scenario) (st : State) (p : PartTables) (b : Books) (fallen : List ℕ) (clock l : ℕ) → IsReached s st → Stands st p b fallen clock → l ≤ lanes s
+    → l < length p.lanes.openers
+lane_there s st p b fallen clock l r h n =
+    let rows : length st.openers ≡ lanes s + 1 = r.stands.lanes.rows.0 in
+    let same : length p.lanes.openers ≡ length st.openers = ap (λ (t : LaneTables). length t.openers) h.lanes in
+    omega (arith, rows, same, n)
+
+-- A turn makes the next entry of the lane.
+pub turn_next : (s : Scenario) (st : State) (p : PartTables) (b : Books) (fallen : List ℕ) (clock l : ℕ) (t : Turn) → IsReached s st → Stands st p b fallen clock
+    → IsNamed p.objects p.calls → 1 ≤ l → l ≤ lanes s → IsTurn (seen_by s p fallen clock) b l t → next_of s st l ≡ Some t.doing.deed
+turn_next s st p b fallen clock l t r h n low high k =
+    sym (next_stands (seen_by s p fallen clock) b st l (reads_state s st p b fallen clock r h n) low high) ∙ k.next
+
+-- With what its change rests on.
+pub turn_given : (s : Scenario) (st : State) (p : PartTables) (b : Books) (fallen : List ℕ) (clock l : ℕ) (t : Turn) (follows : Actor) (filtered : Bool)
+    → IsReached s st → Stands st p b fallen clock → IsNamed p.objects p.calls → IsTurn (seen_by s p fallen clock) b l t
+    → follows ≡ actor_later (seen_by s p fallen clock) l t.doing.deed
+    → filtered ≡ filtered_by (λ c. is_some (filter_seen (seen_by s p fallen clock) (lane_of (issue_at p.calls.tables c)))) t.doing.deed
+    → IsGiven s st (record { lane = l; deed = t.doing.deed }) (acting_of t.acting) t.outcome follows filtered (sent_by t.doing.issued)
+turn_given s st p b fallen clock l t follows filtered r h n k f g =
+    let w : Seen = seen_by s p fallen clock in
+    let reads : Reads w b st = reads_state s st p b fallen clock r h n in
+    record {
+      acts = k.acting ∙ acting_stands w b st l t.doing.deed reads;
+      step = k.outcome ∙ step_stands w b st l t.doing.deed reads;
+      next = f ∙ after_stands w b st l t.doing.deed reads;
+      filter = g ∙ filtered_stands w b st l t.doing.deed reads;
+      sent = sent-turn w b st l t.doing.deed t.doing.issued reads k.issued;
+    }
+
+-- Where a turn was made and all but the books has changed by it, that was the next entry of the state.
+pub next_made : (s : Scenario) (st : State) (p q : PartTables) (b : Books) (u : Held) (entered more fallen later : List ℕ) (clock l : ℕ) (t : Turn)
+    → IsTurn (seen_by s p fallen clock) b l t → IsNamed p.objects p.calls → p.entries ≤ 1_000_000
+    → Changed s p q u entered more fallen later clock (record { lane = l; deed = t.doing.deed }) (acting_of t.acting) t.outcome (sent_by t.doing.issued)
+    → IsCore s st p b entered fallen clock → 1 ≤ l → l ≤ lanes s → MakesNext s st p q u entered more fallen later clock l t.doing.deed
+next_made s st p q b u entered more fallen later clock l t k n w m c low high =
+    let few_entries : st.entries ≤ 1_000_000 = subst (λ (i : ℕ). i ≤ 1_000_000) c.stands.entries w in
+    let follows : m.follows ≡ actor_later (seen_by s p fallen clock) l t.doing.deed =
+    m.acts_after (few_openers s st p b fallen clock l c.reached c.stands few_entries) (lane_there s st p b fallen clock l c.reached c.stands high) in
+    record {
+      acting = acting_of t.acting;
+      step = t.outcome;
+      follows = m.follows;
+      filtered = m.filtered;
+      sent = sent_by t.doing.issued;
+      next = turn_next s st p b fallen clock l t c.reached c.stands n low high k;
+      given = turn_given s st p b fallen clock l t m.follows m.filtered c.reached c.stands n k follows m.filter_is;
+      becomes = m.becomes;
+      counts = m.counts;
+      settles = m.settles;
+    }
+
+-- The same of the clock's entry, where the clock goes on.
+pub tick_made : (s : Scenario) (st : State) (p q : PartTables) (b : Books) (u : Held) (entered more fallen later : List ℕ) (clock t : ℕ)
+    → IsNamed p.objects p.calls → p.entries ≤ 1_000_000 → next_wait p.calls clock ≡ Some t
+    → Changed s p q u entered more fallen later clock (record { lane = 0; deed = deed.Tick t }) Nobody None None
+    → IsCore s st p b entered fallen clock → standing_of s st ≡ standing.Ticks → MakesNext s st p q u entered more fallen later clock 0 (deed.Tick t)
+tick_made s st p q b u entered more fallen later clock t n w e m c g =
+    let few_entries : st.entries ≤ 1_000_000 = subst (λ (i : ℕ). i ≤ 1_000_000) c.stands.entries w in
+    let reads : Reads (seen_by s p fallen clock) b st = reads_state s st p b fallen clock c.reached c.stands n in
+    let follows : m.follows ≡ actor_after s st (record { lane = 0; deed = deed.Tick t }) =
+    m.acts_after (few_openers s st p b fallen clock 0 c.reached c.stands few_entries) (lane_there s st p b fallen clock 0 c.reached c.stands (omega arith))
+    ∙ after_stands (seen_by s p fallen clock) b st 0 (deed.Tick t) reads in
+    record {
+      acting = Nobody;
+      step = None;
+      follows = m.follows;
+      filtered = m.filtered;
+      sent = None;
+      next = tick_next s st p b fallen clock t c.stands g e;
+      given = subst (λ (f : Bool). IsGiven s st (record { lane = 0; deed = deed.Tick t }) Nobody None m.follows f None) (sym m.filter_is) (clock_given s st t m.follows c.reached follows);
+      becomes = m.becomes;
+      counts = m.counts;
+      settles = m.settles;
+    }

@@ -1,0 +1,18 @@
+-- The clock's entry is the next one of its lane, where the clock goes on.
+use Rattle.std.proofs.Common.{◌≡◌, Some, ap, sym, ◌∙◌}
+use Rattle.com_calls.specs.Kept.{Kept}
+use Rattle.com_calls.specs.Waits.{next_wait}
+use Rattle.com_ledger.specs.Books.{books_held}
+use Rattle.com_core.specs.Stands.{state_read}
+use Rattle.com_core.proofs.Turned.{tick_made}
+use Rattle.com_core.proofs.running.Running.tick.Goals as goal
+
+pub returns-clause-next : goal.returns-clause-next
+returns-clause-next c =
+    let v = c.args.self.now in
+    let u = c.make.new.self in
+    let b = books_held v.ledger in
+    let time : next_wait v.parts.calls v.clock ≡ Some c.in-Some.clock = ap (λ (k : Kept). next_wait k v.clock) (sym c.calls.ensures.value) ∙ sym c.next_time.ensures ∙ c.in-Some.is in
+    λ k e.
+    tick_made c.args.scenario.now (state_read c.args.scenario.now v.parts b v.fallen v.clock) v.parts u.parts b u.ledger v.entered u.entered v.fallen u.fallen v.clock c.in-Some.clock
+    c.calls.ensures.named c.requires.few.entries time c.in_ok-make.ensures.changed k e
