@@ -43,7 +43,11 @@ use Rattle.com_core.specs.Bodies.{bodies_among, entered_after, CountsBodies}
 use Rattle.com_model.specs.declared.keeps.Opener.{Opener}
 use Rattle.com_model.specs.Tables.{lanes}
 use Rattle.com_model.proofs.Tabled.{tabulated-row}
-use Rattle.com_core.specs.Making.{IsCore}
+use Rattle.com_model.proofs.Whole.{first-stands}
+use Rattle.com_ledger.specs.Books.{Held, books_held}
+use Rattle.com_refs.specs.Counts.{holders_of}
+use Rattle.com_core.specs.Making.{BooksLater, IsCore, MakesNext}
+use Rattle.com_core.specs.Seen.{CoreView, IsWhole, Steps, core_state}
 use Rattle.com_core.specs.Changes.{Becomes, Settles, fresh_by}
 use Rattle.com_core.specs.Falling.{placed_in, other_object, Touches, CountsHolders}
 use Rattle.com_core.proofs.Fallen.{fallen_found, dies_as}
@@ -251,33 +255,50 @@ core_first s p b entered fallen clock f w h c n e = record {
   bodies = subst (λ (xs : List ℕ). CountsBodies s (first_tables s) xs) (sym n) (bodies_first s);
 }
 
--- What the books, the holders and the touched objects are after an entry.
-pub record BooksLater (s : Scenario) (st : State) (l : ℕ) (d : Deed) (c : Books) (holders : ℕ → ℕ) (touched : List ℕ) : Type 0 where
-  pub books : c ≡ books_in (after s st l d)
-  pub holders_are : CountsHolders s (after s st l d) holders
-  pub touches : Touches s st l d touched
-
 -- After a lane's next entry the parts are those of the state after it, if the books are.
-pub core_later : (s : Scenario) (st : State) (p q : PartTables) (b c : Books) (holders : ℕ → ℕ) (entered more fallen later touched : List ℕ) (clock : ℕ) (l : ℕ) (d : Deed)
-    (acting : Actor) (r : Option Outcome) (follows : Actor) (filtered : Bool) (x : Option Sent)
-    → IsCore s st p b entered fallen clock → next_of s st l ≡ Some d → IsGiven s st (record { lane = l; deed = d }) acting r follows filtered x
-    → Becomes p q (record { lane = l; deed = d }) acting r follows filtered x clock → more ≡ entered_after d acting entered
-    → BooksLater s st l d c holders touched → Settles q.objects holders more fallen touched d acting later
-    → IsCore s (after s st l d) q c more later (ticked d clock)
-core_later s st p q b c holders entered more fallen later touched clock l d acting r follows filtered x k e g m n w z =
+pub core_later : (s : Scenario) (st : State) (p q : PartTables) (b : Books) (u : Held) (entered more fallen later : List ℕ) (clock l : ℕ) (d : Deed)
+    → IsCore s st p b entered fallen clock → MakesNext s st p q u entered more fallen later clock l d → BooksLater s st l d u
+    → IsCore s (after s st l d) q (books_held u) more later (ticked d clock)
+core_later s st p q b u entered more fallen later clock l d k m w =
     let v : Entry = record { lane = l; deed = d } in
     let bodies : CountsBodies s (after s st l d) more =
-    subst (λ (xs : List ℕ). CountsBodies s (after s st l d) xs) (sym (n ∙ ap (λ (a : Actor). entered_after d a entered) g.acts))
-    (bodies_counted s st k.reached.history l d entered k.reached.formed k.reached.stands e k.bodies) in
-    let objects : q.objects ≡ objects_of (after s st l d) = m.objects ∙ ap (λ (t : ObjectTables). objects_after t v) k.stands.objects in
+    subst (λ (xs : List ℕ). CountsBodies s (after s st l d) xs) (sym (m.counts ∙ ap (λ (a : Actor). entered_after d a entered) m.given.acts))
+    (bodies_counted s st k.reached.history l d entered k.reached.formed k.reached.stands m.next k.bodies) in
+    let objects : q.objects ≡ objects_of (after s st l d) = m.becomes.objects ∙ ap (λ (t : ObjectTables). objects_after t v) k.stands.objects in
     let dying : later ≡ (after s st l d).fallen =
-    fallen_later s st l d q.objects holders more fallen touched later acting k.reached e k.stands.fallen_is g.acts objects w.holders_are bodies w.touches z in
+    fallen_later s st l d q.objects (holders_of u.tables) more fallen u.touched later m.acting k.reached m.next k.stands.fallen_is m.given.acts objects w.holders_are bodies w.touches m.settles in
     record {
-      reached = reached_later s st l d k.reached e;
-      stands = stands_later s st p q b c fallen later clock l d acting r follows filtered x k.reached.stands.rows.0 k.stands g m w.books dying;
+      reached = reached_later s st l d k.reached m.next;
+      stands = stands_later s st p q b (books_held u) fallen later clock l d m.acting m.step m.follows m.filtered m.sent k.reached.stands.rows.0 k.stands m.given m.becomes w.books dying;
       bodies = bodies;
     }
 
 -- The state that is read from the parts of a core is the state.
 pub core_read : (s : Scenario) (st : State) (p : PartTables) (b : Books) (entered fallen : List ℕ) (clock : ℕ) → IsCore s st p b entered fallen clock → state_read s p b fallen clock ≡ st
 core_read s st p b entered fallen clock k = read_is s st p b fallen clock k.stands (written_books s st k.reached)
+
+-- ---- a core
+
+-- A step of a core that is whole leaves it whole, and its state is that after the entry, if the books are.
+pub steps_stand : (lane : ℕ) (old new : CoreView) (e : Entry) → IsWhole old → Steps lane old new e → new.scenario ≡ old.scenario → new.clock ≡ ticked e.deed old.clock
+    → BooksLater old.scenario (core_state old) lane e.deed new.held → (core_state new ≡ after old.scenario (core_state old) lane e.deed) × IsWhole new
+steps_stand lane old new e k m same tells w =
+    let su : State = after old.scenario (core_state old) lane e.deed in
+    let b : Books = books_held new.held in
+    let later : IsCore old.scenario su new.parts b new.entered new.fallen (ticked e.deed old.clock) =
+    core_later old.scenario (core_state old) old.parts new.parts (books_held old.held) new.held old.entered new.entered old.fallen new.fallen old.clock lane e.deed k m w in
+    let here : IsCore old.scenario su new.parts b new.entered new.fallen new.clock =
+    subst (λ (t : ℕ). IsCore old.scenario su new.parts b new.entered new.fallen t) (sym tells) later in
+    let read : state_read old.scenario new.parts b new.fallen new.clock ≡ su = core_read old.scenario su new.parts b new.entered new.fallen new.clock here in
+    (ap (λ (s : Scenario). state_read s new.parts b new.fallen new.clock) same ∙ read,
+    subst (λ (s : Scenario). IsCore s (state_read s new.parts b new.fallen new.clock) new.parts b new.entered new.fallen new.clock) (sym same)
+    (subst (λ (x : State). IsCore old.scenario x new.parts b new.entered new.fallen new.clock) (sym read) here))
+
+-- A new core of a formed scenario is whole, and its state is the first one, if its books are.
+pub new_stands : (c : CoreView) → Formed c.scenario → BeginsParts c.scenario c.parts c.fallen → c.clock ≡ 0 → c.entered ≡ 0 ∷ []
+    → books_held c.held ≡ books_in (first_tables c.scenario) → (core_state c ≡ first_tables c.scenario) × IsWhole c
+new_stands c f h z n e =
+    let b : Books = books_held c.held in
+    let first : IsCore c.scenario (first_tables c.scenario) c.parts b c.entered c.fallen c.clock = core_first c.scenario c.parts b c.entered c.fallen c.clock f (first-stands c.scenario) h z n e in
+    let read : core_state c ≡ first_tables c.scenario = core_read c.scenario (first_tables c.scenario) c.parts b c.entered c.fallen c.clock first in
+    (read, subst (λ (x : State). IsCore c.scenario x c.parts b c.entered c.fallen c.clock) (sym read) first)

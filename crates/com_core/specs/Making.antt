@@ -2,13 +2,13 @@
 use Rattle.std.specs.Prelude.{◌≡◌, ℕ, ◌<◌, ◌≤◌, ◌^◌, Bool, List, Option, Some, is_some, length}
 use Rattle.com_body.specs.declared.frame.Outcome.{Outcome}
 use Rattle.com_books.specs.Changes.{Books}
-use Rattle.com_ledger.specs.Books.{Held}
+use Rattle.com_ledger.specs.Books.{Held, books_held}
 use Rattle.com_model.specs.declared.deeds.Deed.{Deed}
 use Rattle.com_model.specs.declared.deeds.Entry.{Entry}
 use Rattle.com_model.specs.declared.scenario.Scenario.{Scenario}
 use Rattle.com_model.specs.Calls.{lane_of}
 use Rattle.com_model.specs.Frames.{Actor}
-use Rattle.com_model.specs.State.{State, next_of}
+use Rattle.com_model.specs.State.{State, after, books_in, next_of}
 use Rattle.com_parts.specs.declared.change.Sent.{Sent}
 use Rattle.com_parts.specs.Tables.{PartTables}
 use Rattle.com_refs.specs.Counts.{holders_of}
@@ -18,6 +18,7 @@ use Rattle.com_turns.specs.Turns.{actor_later}
 use Rattle.com_view.specs.Seen.{filter_seen}
 use Rattle.com_core.specs.Bodies.{CountsBodies, entered_after}
 use Rattle.com_core.specs.Changes.{Becomes, Settles}
+use Rattle.com_core.specs.Falling.{CountsHolders, Touches}
 use Rattle.com_core.specs.Stands.{IsGiven, IsReached, Stands, seen_by}
 
 -- What the parts of a core are between entries: those of a state that a legal history comes to, with the bodies counted.
@@ -49,3 +50,9 @@ pub record MakesNext (s : Scenario) (st : State) (p q : PartTables) (u : Held) (
   pub becomes : Becomes p q (record { lane = lane; deed = d }) acting step follows filtered sent clock
   pub counts : more ≡ entered_after d acting entered
   pub settles : Settles q.objects (holders_of u.tables) more fallen u.touched d acting later
+
+-- What the books, the holders and the touched objects are after an entry.
+pub record BooksLater (s : Scenario) (st : State) (lane : ℕ) (d : Deed) (u : Held) : Type 0 where
+  pub books : books_held u ≡ books_in (after s st lane d)
+  pub holders_are : CountsHolders s (after s st lane d) (holders_of u.tables)
+  pub touches : Touches s st lane d u.touched

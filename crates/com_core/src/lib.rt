@@ -6,10 +6,12 @@
 
 mod changing;
 mod dying;
+mod laws;
 mod running;
 mod runtime;
 mod standing;
 
 pub use com_base::Memory;
 pub use com_drive::Standing;
+pub use laws::{begins_first, steps_are_next};
 pub use runtime::Core;

@@ -1,6 +1,6 @@
 //! A runtime that makes one entry at a time.
 
-ghost use Rattle.std.specs.Prelude.{◌≡◌, ◌<◌, ◌≤◌, ◌^◌, IfOk, IfSome, OnOk, false, length, map};
+ghost use Rattle.std.specs.Prelude.{◌≡◌, ◌<◌, ◌≤◌, ◌^◌, ◌∷◌, [], IfOk, IfSome, OnOk, false, length, map};
 ghost use Rattle.com_books.specs.Changes.{Books};
 ghost use Rattle.com_core.specs.Beginning.{BeginsParts};
 ghost use Rattle.com_core.specs.Seen.{IsWhole, Makes, Steps, core_state};
@@ -76,6 +76,7 @@ impl Core {
         ensures scenario { IfOk result (λ core. core.scenario ≡ scenario) }
         ensures begins { IfOk result (λ core. BeginsParts scenario core.parts core.fallen) }
         ensures whole { IfOk result (λ core. core.broken ≡ false) }
+        ensures entered { IfOk result (λ core. core.entered ≡ 0 ∷ []) }
         ensures entries { IfOk result (λ core. core.parts.entries ≡ 0) }
         ensures clock { IfOk result (λ core. core.clock ≡ 0) }
     {
