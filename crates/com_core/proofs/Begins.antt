@@ -1,8 +1,7 @@
 -- Whether an object begins to die, test by test.
-use Rattle.std.proofs.Common.{◌≡◌, ℕ, zero, suc, ◌+◌, ◌<◌, ◌≤◌, Bool, true, false, not, ◌==◌, ◌&&◌, ◌||◌, List, [], ◌∷◌, refl, sym, ap, ◌∙◌, length, slice_index_or, arith}
+use Rattle.std.proofs.Common.{◌≡◌, ℕ, ◌<◌, ◌≤◌, Bool, true, false, not, ◌==◌, ◌&&◌, List, refl, sym, ap, ◌∙◌, length, slice_index_or, arith}
 use Rattle.std.proofs.lemmas.Grind.{common_steps}
-use Rattle.std.proofs.lemmas.Bool.{eqb-false}
-use Rattle.std.specs.Prelude.{nat_le, take, nat_eq}
+use Rattle.std.specs.Prelude.{nat_le}
 use Rattle.com_model.specs.Lists.{is_member}
 use Rattle.com_state.specs.Parts.{ObjectTables}
 use Rattle.com_core.specs.Falling.{begins_by}

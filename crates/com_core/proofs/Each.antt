@@ -1,5 +1,5 @@
 -- Whether each number in a row passes a test, one after another.
-use Rattle.std.proofs.Common.{◌≡◌, ℕ, zero, suc, ◌+◌, ◌<◌, Bool, true, false, ◌&&◌, List, [], ◌∷◌, ◌++◌, Option, Some, None, is_some, is_none, refl, ap, sym, ◌∙◌, add-one, subst, arith}
+use Rattle.std.proofs.Common.{◌≡◌, ℕ, zero, suc, ◌+◌, ◌<◌, Bool, true, false, ◌&&◌, List, [], ◌∷◌, ◌++◌, is_some, is_none, refl, ap, sym, ◌∙◌, add-one, arith}
 use Rattle.com_books.specs.Counting.{numbers_from}
 use Rattle.com_model.specs.Lists.{each_of, one_to, first, is_empty}
 

@@ -1,8 +1,7 @@
 -- The parts after an entry are those of the state after it.
 use Rattle.std.proofs.Common.{arith, ap, sym, subst, ◌∙◌}
-use Rattle.std.specs.Prelude.{◌≡◌, refl, ℕ, zero, suc, ◌+◌, Bool, true, false, not, ◌==◌, ◌&&◌, ◌||◌, ◌<◌, List, [], ◌∷◌, ◌++◌, Option, Some, None, is_some, filter, slice_index_or, length}
+use Rattle.std.specs.Prelude.{◌≡◌, refl, ℕ, zero, suc, ◌+◌, Bool, true, false, not, ◌==◌, ◌&&◌, ◌||◌, ◌<◌, List, [], ◌∷◌, Option, Some, None, is_some, filter, slice_index_or, length}
 use Rattle.std.proofs.lemmas.Grind.{common_steps}
-use Rattle.com_base.specs.declared.value.Value.{Value}
 use Rattle.com_body.specs.declared.frame.Outcome.{Outcome}
 use Rattle.com_books.specs.Changes.{Books}
 use Rattle.com_books.specs.Counting.{count_if}
@@ -12,30 +11,28 @@ use Rattle.com_model.specs.declared.deeds.Entry.{Entry}
 use Rattle.com_model.specs.declared.keeps.Issue.{Issue}
 use Rattle.com_model.specs.declared.keeps.Phase.TheVariants.{Unposted}
 use Rattle.com_model.specs.declared.scenario.Scenario.{Scenario}
-use Rattle.com_model.specs.Calls.{issues, admits, leaves, returns}
+use Rattle.com_model.specs.Calls.{admits, leaves, returns}
 use Rattle.com_model.specs.Clock.{ticked}
 use Rattle.com_model.specs.Dying.{fallen_more}
 use Rattle.com_model.specs.Formed.{Formed}
 use Rattle.com_model.specs.Frames.{Actor}
 use Rattle.com_model.specs.Lists.{is_member}
 use Rattle.com_model.specs.Objects.{finals}
-use Rattle.com_model.specs.State.{State, StandsFor, SceneTables, BookTables, SameBooks, first_tables, openers_in, next_of, after, book_tables, books_in, dies_in, objects_in, grown, admissions_by, leavings_by, returned_by, phases_by, scene_tables, scene_in}
+use Rattle.com_model.specs.State.{State, StandsFor, SameBooks, first_tables, openers_in, next_of, after, book_tables, books_in, dies_in, objects_in, grown, admissions_by, leavings_by, returned_by, phases_by, scene_tables, scene_in}
 use Rattle.com_model.specs.Waiting.{post_effect, posted_last}
-use Rattle.com_model.proofs.Sights.{same-books, same-next}
+use Rattle.com_model.proofs.Sights.{same-next}
 use Rattle.com_dying.proofs.Losing.{members, stay}
 use Rattle.com_objects.specs.Settled.{DieBut, Falls}
-use Rattle.com_objects.proofs.Settling.{settled}
 use Rattle.com_parts.specs.declared.change.Sent.{Sent}
 use Rattle.com_parts.specs.Changes.{issuing_of, moment_at}
 use Rattle.com_parts.specs.Tables.{PartTables}
 use Rattle.com_schedule.proofs.Runs.{stands-later}
-use Rattle.com_state.specs.After.{acting_in, step_in, actor_after, issuing_in, moment_in, scene_rows}
+use Rattle.com_state.specs.After.{acting_in, issuing_in, moment_in}
 use Rattle.com_state.specs.Parts.{LaneTables, ObjectTables, CallTables, Issuing, Moment, lanes_of, objects_of, calls_of, state_of, lanes_after, objects_after, calls_after, endings_after, unread_after, end_effect_at, named_at}
 use Rattle.com_state.specs.SceneParts.{rows_after}
 use Rattle.com_state.proofs.Joined.{calls-joined}
 use Rattle.com_state.proofs.SceneNext.{scene-next}
 use Rattle.com_view.specs.Reads.{Reads}
-use Rattle.com_view.specs.Seen.{Seen, sight_by}
 use Rattle.com_core.specs.Stands.{Stands, state_by, state_read, IsReached, IsSent, IsGiven, seen_by}
 use Rattle.com_books.proofs.Sums.{sum-nothing}
 use Rattle.com_core.specs.Beginning.{BeginsParts}

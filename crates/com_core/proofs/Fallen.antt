@@ -1,33 +1,32 @@
 -- The objects that begin to die by an entry are found among those that it touched.
 use Rattle.std.proofs.Common.{arith, ap, sym, subst, ◌∙◌, eqb-true}
 use Rattle.std.proofs.lemmas.Grind.{common_steps}
-use Rattle.std.specs.Prelude.{◌≡◌, refl, ℕ, zero, suc, ◌+◌, ◌<◌, ◌≤◌, Bool, true, false, cond, not, ◌==◌, ◌&&◌, ◌||◌, nat_le, nat_lt, List, [], ◌∷◌, ◌++◌, ◌⊎◌, Option, Some, None, is_some, filter, length, slice_index_or}
+use Rattle.std.specs.Prelude.{◌≡◌, refl, ℕ, zero, suc, ◌+◌, ◌<◌, ◌≤◌, Bool, true, false, cond, not, ◌==◌, ◌&&◌, ◌||◌, nat_le, nat_lt, List, [], ◌∷◌, Option, Some, None, is_some, filter, slice_index_or}
 use Rattle.std.proofs.Common.{inl, inr}
 use Rattle.std.proofs.lemmas.Bool.{eqb-false}
 use Rattle.com_model.specs.declared.deeds.Deed.{Deed}
 use Rattle.com_model.specs.declared.deeds.Deed.TheVariants as deed
 use Rattle.com_model.specs.declared.deeds.Entry.{Entry}
-use Rattle.com_model.specs.declared.keeps.Making.{Making}
 use Rattle.com_model.specs.declared.keeps.Opener.{Opener}
 use Rattle.com_model.specs.declared.keeps.Opener.TheVariants.{Pumps, Waits, Enters}
 use Rattle.com_model.specs.declared.scenario.Scenario.{Scenario}
 use Rattle.com_model.specs.Dying.{is_entered, is_dying_by}
 use Rattle.com_model.specs.Formed.{Formed}
-use Rattle.com_model.specs.Frames.{Actor, Body, Script, Nobody}
-use Rattle.com_model.specs.Lists.{is_member, is_number, or_else, first}
-use Rattle.com_model.specs.Objects.{makes, finals}
-use Rattle.com_model.specs.Openers.{Effect, Closes, Leaves, effect, fits}
+use Rattle.com_model.specs.Frames.{Actor, Body}
+use Rattle.com_model.specs.Lists.{is_member, is_number, or_else}
+use Rattle.com_model.specs.Objects.{makes}
+use Rattle.com_model.specs.Openers.{Closes, Leaves, effect, fits}
 use Rattle.com_books.specs.Counting.{count_if}
 use Rattle.com_balance.proofs.Bases.{first-is}
 use Rattle.com_safety.proofs.Small.{not-both, and-left, and-right, or-right, or-second, same-number}
 use Rattle.com_model.specs.State.{State, StandsFor, openers_in, objects_in, dies_in, next_of, after}
-use Rattle.com_objects.specs.Settled.{DieBut, Rise, Falls}
+use Rattle.com_objects.specs.Settled.{Rise, Falls}
 use Rattle.com_state.specs.After.{acting_in}
-use Rattle.com_state.specs.Parts.{ObjectTables, objects_of}
-use Rattle.com_dying.specs.Falling.{holders_of, LosesLast, LeavesBody, MayFall}
+use Rattle.com_state.specs.Parts.{objects_of}
+use Rattle.com_dying.specs.Falling.{holders_of, LeavesBody, MayFall}
 use Rattle.com_dying.proofs.Losing.{fresh}
-use Rattle.com_core.specs.Bodies.{CountsBodies, left_object, bodies_over}
-use Rattle.com_core.specs.Falling.{dies_by, begins_by, placed, placed_in, made_object, other_object, Touches, CountsHolders}
+use Rattle.com_core.specs.Bodies.{CountsBodies, left_object}
+use Rattle.com_core.specs.Falling.{dies_by, placed, placed_in, other_object, Touches, CountsHolders}
 use Rattle.com_core.proofs.OpenBodies.{entered_counted, body_acts, objects_grow, top_made, entry_fits}
 
 -- ---- members and order of a list of which some are kept

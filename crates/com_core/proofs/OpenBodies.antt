@@ -2,26 +2,25 @@
 use Rattle.std.proofs.Common.{arith, ap, sym, subst, ◌∙◌, inl, eqb-true, length-append, length-set}
 use Rattle.std.proofs.lemmas.Bool.{false_from_ne_true, eqb-false}
 use Rattle.std.proofs.lemmas.Grind.{common_steps}
-use Rattle.std.proofs.lemmas.List.{get_or-set_same, get_or-set_other, set_past, get_or_past}
+use Rattle.std.proofs.lemmas.List.{get_or-set_same, get_or-set_other}
 use Rattle.std.specs.Prelude.{◌≡◌, refl, ℕ, zero, suc, ◌+◌, ◌-◌, ◌<◌, ◌≤◌, Bool, true, false, cond, not, ◌==◌, ◌||◌, List, [], ◌∷◌, ◌++◌, length, Option, Some, None, is_some, option_map, slice_index_or, slice_set}
 use Rattle.com_books.specs.Counting.{count_if, sum_below}
 use Rattle.com_books.proofs.Sums.{sum-same, sum-changed}
 use Rattle.com_model.specs.declared.deeds.Deed.{Deed}
 use Rattle.com_model.specs.declared.deeds.Deed.TheVariants as deed
 use Rattle.com_model.specs.declared.deeds.Entry.{Entry}
-use Rattle.com_model.specs.declared.keeps.Making.{Making}
 use Rattle.com_model.specs.declared.keeps.Opener.{Opener}
 use Rattle.com_model.specs.declared.keeps.Opener.TheVariants.{Pumps, Waits, Enters}
 use Rattle.com_model.specs.declared.scenario.Scenario.{Scenario}
 use Rattle.com_model.specs.Dying.{is_entered}
 use Rattle.com_model.specs.Formed.{Formed}
-use Rattle.com_model.specs.Frames.{Actor, Body, Script, Nobody, actor, unless_over, unless_final, outcome, acting}
+use Rattle.com_model.specs.Frames.{Actor, Body, Script, Nobody, actor, unless_final, acting}
 use Rattle.com_model.specs.Lists.{any_of, one_to}
 use Rattle.com_model.specs.Objects.{makes, objects}
 use Rattle.com_model.specs.Openers.{Effect, Opens, Closes, Keeps, effect, effect_on, opened, openers, runs, fits, Leaves}
-use Rattle.com_model.specs.Rules.{next, legal, ticks, no_lane_can, tick_time}
+use Rattle.com_model.specs.Rules.{next, no_lane_can, tick_time}
 use Rattle.com_model.specs.Sight.{sight}
-use Rattle.com_model.specs.State.{State, StandsFor, openers_in, objects_in, next_of, after, grown, issue_in, class_in, scene_in, actor_of}
+use Rattle.com_model.specs.State.{State, StandsFor, openers_in, objects_in, next_of, after, grown, issue_in, class_in, scene_in}
 use Rattle.com_model.specs.Tables.{lanes, lane_sort}
 use Rattle.com_model.proofs.Lanes.{lane-within}
 use Rattle.com_model.proofs.Sights.{same-next}

@@ -1,6 +1,6 @@
 -- What is read of the parts is read of the state that they are.
-use Rattle.std.proofs.Common.{◌≡◌, ℕ, refl, ap, sym, ◌∙◌, subst}
-use Rattle.std.specs.Prelude.{Bool, true, false, not, cond, ◌&&◌, Option, Some, None, is_none, is_some, List}
+use Rattle.std.proofs.Common.{◌≡◌, ℕ, refl, ap, sym, ◌∙◌}
+use Rattle.std.specs.Prelude.{Bool, true, false, not, cond, ◌&&◌, Option, Some, None, is_none, List}
 use Rattle.com_books.specs.Changes.{Books}
 use Rattle.com_calls.specs.Kept.{IsNamed}
 use Rattle.com_model.specs.declared.scenario.Scenario.{Scenario}
@@ -9,13 +9,13 @@ use Rattle.com_model.specs.Rules.{can_step, no_lane_can, tick_time}
 use Rattle.com_model.specs.Sight.{Sight}
 use Rattle.com_model.specs.State.{State, books_in, sight_of}
 use Rattle.com_parts.specs.Tables.{PartTables}
-use Rattle.com_view.specs.Seen.{Seen, sight_by}
+use Rattle.com_view.specs.Seen.{sight_by}
 use Rattle.com_view.proofs.Sights.{reads_state as sight_read}
 use Rattle.com_drive.specs.declared.runtime.Standing.{Standing}
 use Rattle.com_drive.specs.declared.runtime.Standing.TheVariants as standing
 use Rattle.com_drive.specs.Standings.{can_step_in, standing_of}
 use Rattle.com_core.specs.Standings.{standing_by}
-use Rattle.com_core.specs.Stands.{IsReached, Stands, seen_by, state_read}
+use Rattle.com_core.specs.Stands.{IsReached, seen_by, state_read}
 use Rattle.com_core.proofs.Entries.{reads_state}
 
 -- Whatever the books are, the rules look at those of the state.

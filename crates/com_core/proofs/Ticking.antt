@@ -1,6 +1,6 @@
 -- The clock's entry is the next one of its lane, and is nobody's step.
 use Rattle.std.proofs.Common.{◌≡◌, ℕ, refl, ap, sym, ◌∙◌, subst, eqb-true}
-use Rattle.std.specs.Prelude.{zero, suc, Bool, true, false, not, cond, ◌==◌, ◌&&◌, List, [], ◌∷◌, Option, Some, None, is_none, is_some, option_map}
+use Rattle.std.specs.Prelude.{Bool, true, false, not, cond, ◌==◌, ◌&&◌, List, [], ◌∷◌, Option, Some, None, is_none, option_map}
 use Rattle.com_books.specs.Changes.{Books}
 use Rattle.com_calls.specs.Kept.{with_tables}
 use Rattle.com_calls.specs.Waits.{next_wait}
@@ -11,13 +11,12 @@ use Rattle.com_model.specs.declared.keeps.Opener.{Opener}
 use Rattle.com_model.specs.declared.scenario.Scenario.{Scenario}
 use Rattle.com_model.specs.Ends.{finished_by}
 use Rattle.com_model.specs.Frames.{Actor, Nobody, actor, acting, outcome}
-use Rattle.com_model.specs.Openers.{Effect, Keeps, effect, effect_on, opened, openers}
+use Rattle.com_model.specs.Openers.{Keeps, effect, opened, openers}
 use Rattle.com_model.specs.Rules.{legal, next, no_lane_can, tick_time}
 use Rattle.com_model.specs.State.{State, openers_in, next_of, sight_of, class_in, issue_in, scene_in}
 use Rattle.com_model.specs.Tables.{lane_sort}
 use Rattle.com_parts.specs.Tables.{PartTables}
-use Rattle.com_state.specs.After.{acting_in, step_in, actor_after}
-use Rattle.com_drive.specs.declared.runtime.Standing.{Standing}
+use Rattle.com_state.specs.After.{acting_in, actor_after}
 use Rattle.com_drive.specs.declared.runtime.Standing.TheVariants as standing
 use Rattle.com_drive.specs.Standings.{standing_of}
 use Rattle.com_core.specs.Stands.{IsReached, Stands, IsGiven}

@@ -1,14 +1,11 @@
 -- A turn that is read from the parts is the next entry of the state that they are, with all that its change rests on.
-use Rattle.std.proofs.Common.{◌≡◌, ℕ, ◌+◌, ◌<◌, ◌≤◌, ◌^◌, refl, ap, sym, ◌∙◌, subst, arith}
+use Rattle.std.proofs.Common.{◌≡◌, ℕ, ◌+◌, ◌<◌, ◌≤◌, ◌^◌, ap, sym, ◌∙◌, subst, arith}
 use Rattle.std.specs.Prelude.{Bool, List, Option, Some, None, is_some, length}
-use Rattle.com_base.specs.declared.hresult.HResult.{HResult}
-use Rattle.com_base.specs.declared.value.Value.{Value}
 use Rattle.com_books.specs.Changes.{Books}
 use Rattle.com_calls.specs.declared.rows.Issued.{Issued}
 use Rattle.com_calls.specs.Kept.{IsNamed}
 use Rattle.com_model.specs.declared.deeds.Deed.{Deed}
 use Rattle.com_model.specs.declared.deeds.Deed.TheVariants as deed
-use Rattle.com_model.specs.declared.deeds.Entry.{Entry}
 use Rattle.com_model.specs.declared.scenario.Scenario.{Scenario}
 use Rattle.com_model.specs.Books.{out_values}
 use Rattle.com_model.specs.Calls.{issues, lane_of}
@@ -19,18 +16,18 @@ use Rattle.com_drive.specs.Standings.{standing_of}
 use Rattle.com_core.proofs.Ticking.{clock_given, tick_next}
 use Rattle.com_model.specs.Issue.{action_refusal, or_ok}
 use Rattle.com_model.specs.Sight.{Sight}
-use Rattle.com_model.specs.State.{State, is_marshalled_by, next_of, openers_in, sight_of}
+use Rattle.com_model.specs.State.{State, is_marshalled_by, next_of, openers_in}
 use Rattle.com_model.specs.Tables.{lanes}
 use Rattle.com_bounds.proofs.Standing.{few}
 use Rattle.com_parts.specs.Tables.{PartTables}
 use Rattle.com_scene.specs.Actors.{acting_of}
-use Rattle.com_state.specs.After.{actor_after, filtered_by, issuing_in}
-use Rattle.com_state.specs.Parts.{Issuing, LaneTables, issue_at, lanes_of, openers_at}
+use Rattle.com_state.specs.After.{actor_after, filtered_by}
+use Rattle.com_state.specs.Parts.{Issuing, LaneTables, issue_at, openers_at}
 use Rattle.com_view.specs.Reads.{Reads}
-use Rattle.com_view.specs.Seen.{Seen, filter_seen, sight_by}
+use Rattle.com_view.specs.Seen.{Seen, filter_seen}
 use Rattle.com_view.proofs.Sights.{reads_state as sight_read}
 use Rattle.com_turns.specs.declared.turns.Turn.{Turn}
-use Rattle.com_turns.specs.Turns.{IsIssued, IsTurn, actor_later, issuing_seen}
+use Rattle.com_turns.specs.Turns.{IsIssued, IsTurn, actor_later}
 use Rattle.com_turns.proofs.Stands.{acting_stands, after_stands, filtered_stands, next_stands, step_stands}
 use Rattle.com_ledger.specs.Books.{Held}
 use Rattle.com_core.specs.Changes.{sent_by}

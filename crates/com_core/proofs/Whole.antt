@@ -1,5 +1,5 @@
 -- An entry keeps how many slots the frames of bodies have.
-use Rattle.std.proofs.Common.{◌≡◌, ℕ, zero, suc, ◌+◌, ◌-◌, ◌≤◌, ◌<◌, Bool, true, false, List, [], ◌∷◌, ◌++◌, Option, Some, None, All, arith, fold, refl, sym, subst, ap, ◌∙◌, replicate, length, slice_set, slice_index_or}
+use Rattle.std.proofs.Common.{◌≡◌, ℕ, zero, suc, ◌+◌, ◌-◌, ◌≤◌, Bool, true, false, List, [], ◌∷◌, ◌++◌, Option, Some, None, All, arith, fold, refl, sym, subst, ◌∙◌, replicate, length, slice_set, slice_index_or}
 use Rattle.std.proofs.lemmas.List.{length-append, length-replicate, length-set}
 use Rattle.std.proofs.lemmas.List.Elements.{All-nil, All-set, All-push, All-tail}
 use Rattle.com_base.specs.declared.value.RefValue.{RefValue}
@@ -19,7 +19,6 @@ use Rattle.com_model.specs.State.{SceneTables, grown, issued_by}
 use Rattle.com_state.specs.SceneParts.{body_at, destination_at, with_rows, row_written, rows_framed, row_wanted, rows_acted, rows_arrived, links_cut, rows_after}
 use Rattle.com_scene.specs.Kept.{HasSlots}
 use Rattle.com_scene.specs.Ranges.{FitsDeed}
-use Rattle.com_scene.specs.Kept.{FitsActor}
 use Rattle.com_scene.specs.Scenes.{new_scene}
 use Rattle.com_moves.specs.Steps.{IsWhole, BodiesWhole, FrameWhole}
 use Rattle.com_parts.specs.Changes.{FitsFrame}

@@ -4,9 +4,9 @@ use Rattle.com_books.specs.Counting.{count_if, sum_below}
 use Rattle.com_model.specs.declared.deeds.Deed.{Deed}
 use Rattle.com_model.specs.declared.deeds.Deed.TheVariants as deed
 use Rattle.com_model.specs.declared.keeps.Opener.{Opener}
-use Rattle.com_model.specs.declared.keeps.Opener.TheVariants.{Pumps, Waits, Enters}
+use Rattle.com_model.specs.declared.keeps.Opener.TheVariants.{Enters}
 use Rattle.com_model.specs.declared.scenario.Scenario.{Scenario}
-use Rattle.com_model.specs.Frames.{Actor, Body, Script, Nobody}
+use Rattle.com_model.specs.Frames.{Actor, Body}
 use Rattle.com_model.specs.State.{State, openers_in, objects_in}
 use Rattle.com_model.specs.Tables.{lanes}
 

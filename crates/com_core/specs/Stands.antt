@@ -2,7 +2,6 @@
 use Rattle.std.specs.Prelude.{◌≡◌, ℕ, Bool, List, [], Option, Some, None}
 use Rattle.com_body.specs.declared.frame.Outcome.{Outcome}
 use Rattle.com_books.specs.Changes.{Books}
-use Rattle.com_model.specs.declared.deeds.Deed.{Deed}
 use Rattle.com_model.specs.declared.deeds.Entry.{Entry}
 use Rattle.com_model.specs.declared.scenario.Scenario.{Scenario}
 use Rattle.com_model.specs.Calls.{issues}
@@ -11,7 +10,7 @@ use Rattle.com_model.specs.Frames.{Actor}
 use Rattle.com_model.specs.State.{State, StandsFor, SceneTables, BookTables, book_tables, books_in}
 use Rattle.com_parts.specs.declared.change.Sent.{Sent}
 use Rattle.com_parts.specs.Tables.{PartTables}
-use Rattle.com_state.specs.After.{acting_in, step_in, actor_after, filtered_by, issuing_in, moment_in}
+use Rattle.com_state.specs.After.{acting_in, step_in, actor_after, issuing_in, moment_in}
 use Rattle.com_state.specs.Parts.{LaneTables, ObjectTables, CallTables, lanes_of, objects_of, calls_of, state_of}
 use Rattle.com_view.specs.Seen.{Seen}
 

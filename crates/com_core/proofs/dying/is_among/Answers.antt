@@ -1,4 +1,4 @@
-use Rattle.std.proofs.Common.{◌<◌, length, get_or, refl, sym, arith}
+use Rattle.std.proofs.Common.{get_or, refl, sym, arith}
 use Rattle.com_core.proofs.Keeping.{found_at, not_yet}
 use Rattle.com_core.proofs.dying.is_among.Goals as goal
 

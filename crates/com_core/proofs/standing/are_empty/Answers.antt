@@ -1,4 +1,4 @@
-use Rattle.std.proofs.Common.{◌≡◌, ℕ, ◌+◌, true, false, sym, ap, ◌∙◌, arith}
+use Rattle.std.proofs.Common.{◌≡◌, ◌+◌, true, false, sym, ap, ◌∙◌, arith}
 use Rattle.com_core.specs.Standings.{is_unasked}
 use Rattle.com_core.proofs.Each.{each_from_more, each_not_from}
 use Rattle.com_core.proofs.standing.are_empty.Goals as goal

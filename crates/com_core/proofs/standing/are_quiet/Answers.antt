@@ -1,4 +1,4 @@
-use Rattle.std.proofs.Common.{◌≡◌, ℕ, ◌+◌, ◌-◌, false, sym, arith}
+use Rattle.std.proofs.Common.{◌≡◌, ◌+◌, ◌-◌, false, sym, arith}
 use Rattle.com_core.specs.Standings.{is_quiet}
 use Rattle.com_core.proofs.Each.{each_not_one}
 use Rattle.com_core.proofs.standing.are_quiet.Goals as goal

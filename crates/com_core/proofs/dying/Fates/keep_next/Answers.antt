@@ -1,5 +1,5 @@
 -- The one beside stands before the next that lost a holder.
-use Rattle.std.proofs.Common.{◌≡◌, ◌++◌, ◌∷◌, [], ℕ, Bool, List, Option, Some, filter, ap, subst, sym, ◌∙◌}
+use Rattle.std.proofs.Common.{◌++◌, ◌∷◌, ℕ, Bool, Option, filter, ap, sym, ◌∙◌}
 use Rattle.com_refs.specs.Counts.{holders_of}
 use Rattle.com_core.specs.Falling.{begins_by, placed_in}
 use Rattle.com_core.proofs.Keeping.{keep_both}
