@@ -1,4 +1,10 @@
+pub mod Climbing
+pub mod Entering
 pub mod Listed
+pub mod Losing
+pub mod Lowest
 pub mod Placed
 pub mod Reading
 pub mod Rowing
+pub mod Tied
+pub mod Touched

@@ -1,0 +1,17 @@
+use Rattle.com_ledger.proofs.Entering.{books-next, moves-below, places-next, ties-after, touched-after}
+use Rattle.com_ledger.proofs.laws.entries_tie.Goals as goal
+
+pub returns-clause-places : goal.returns-clause-places
+returns-clause-places c = places-next
+
+pub returns-clause-below : goal.returns-clause-below
+returns-clause-below c = moves-below
+
+pub returns-clause-books : goal.returns-clause-books
+returns-clause-books c = books-next
+
+pub returns-clause-ties : goal.returns-clause-ties
+returns-clause-ties c = ties-after
+
+pub returns-clause-touched : goal.returns-clause-touched
+returns-clause-touched c = touched-after
