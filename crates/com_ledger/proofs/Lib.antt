@@ -1,10 +1,11 @@
 pub mod Climbing
-pub mod Entering
+pub mod Following
 pub mod Listed
-pub mod Losing
 pub mod Lowest
 pub mod Placed
 pub mod Reading
 pub mod Rowing
 pub mod Tied
 pub mod Touched
+pub mod Unheld
+pub mod Within

@@ -12,7 +12,7 @@ use Rattle.com_model.specs.declared.deeds.Deed.TheVariants as deed
 use Rattle.com_model.specs.declared.deeds.Entry.{Entry}
 use Rattle.com_model.specs.declared.keeps.Admission.{Admission}
 use Rattle.com_model.specs.declared.scenario.Scenario.{Scenario}
-use Rattle.com_model.specs.Apartments.{home, home_by_sort, next_sta, thread_home, ends_sta}
+use Rattle.com_model.specs.Apartments.{ends_sta, home, home_by_sort, makes_sta, next_sta, stas, thread_home}
 use Rattle.com_model.specs.Calls.{admission_or, admits, admitted, is_direct, route_of}
 use Rattle.com_model.specs.Formed.{Formed}
 use Rattle.com_model.specs.Frames.{Scene, Actor, Body, Script, Nobody, Write, ToRegister, ToSlot, ToLink, ToBuffer, acted, arrived, to_answer, to_destination, value_reference, with_frame, writes, written}
@@ -182,6 +182,15 @@ low-state s st su h e f p q =
     let low : LowGround (next_sta (e ∷ h)) (ground_in s st) = subst (λ (x : Ground). LowGround (next_sta (e ∷ h)) x) (sym g) (ground-low s h (next_sta (e ∷ h)) f p.lawful more) in
     let enter : LowEnter (next_sta (e ∷ h)) e.deed = enter-low (objects h) (faces s) (next_sta h) (next_sta (e ∷ h)) e.deed more (fine-next s h e f q.lawful) in
     subst (λ (k : ℕ). LowMoves k (moves_in s st e)) (sym n) (low-by (next_sta (e ∷ h)) (ground_in s st) (scene_in st) (acting_in s st e) (step_in s st e) (actor_after s st e) e low enter)
+
+pub enters-low : (s : Scenario) (st su : State) (h : List Entry) (l c o a : ℕ) (t : Option ℕ) (vs : List Value) → Formed s → StandsFor s st h → StandsFor s su (record { lane = l; deed = deed.Enter c o a t vs } ∷ h) → a < next_sta_in su
+enters-low s st su h l c o a t vs f p q =
+    let e : Entry = record { lane = l; deed = deed.Enter c o a t vs } in
+    let n : next_sta_in su ≡ next_sta (e ∷ h) = ap (λ (xs : List ℕ). length xs + 3) q.apartments.stas in
+    let more : next_sta h ≤ next_sta (e ∷ h) = more-stas (stas h) (makes_sta e.deed) in
+    let fine : FineBy (objects h) (faces s) (next_sta h) (deed.Enter c o a t vs) = fine-next s h e f q.lawful in
+    let low : a < next_sta h = fine.1 in
+    omega (arith, n, more, low)
 
 below-by : (n : ℕ) (ms : List Move) → Low n (movings_of ms) → AllBelow n ms
 below-by n [] p = tt

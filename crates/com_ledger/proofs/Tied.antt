@@ -27,7 +27,7 @@ use Rattle.com_ledger.specs.declared.calls.CallPackets.{CallPackets}
 use Rattle.com_ledger.specs.Books.{Held, books_held}
 use Rattle.com_ledger.specs.Calls.{arguments_in, result_in}
 use Rattle.com_ledger.specs.Moving.{Touches}
-use Rattle.com_ledger.specs.Ties.{AllTouched, Ties, IsNew, places_at, holders_at}
+use Rattle.com_ledger.specs.Ties.{AllTouched, OwnersTie, Ties, IsNew, places_at, holders_at}
 
 -- ---- holders
 
@@ -152,7 +152,6 @@ first-tied s w p =
       totals = subst (λ (f : ℕ → ℕ → ℕ). Totals 3 f w.tables) (sym none) (new-totals w p);
       objects = record {
         number = ap (λ (rows : List ObjectRow). length rows) p.objects;
-        owners = λ o. ap (λ (rows : List ObjectRow). (object_in rows o).owner) p.objects ∙ ap (λ (r : ObjectRow). r.owner) (no-row o) ∙ first-named s o;
         owns = λ o a. new-owns s w o a p;
       };
       calls = ap (λ (rows : List CallPackets). length rows) p.calls;
@@ -170,3 +169,6 @@ losses-touched s st su w u before after p q t o held none =
     let is : holders_of u.tables o ≡ holders_at s su o = holders-tie s su u o q in
     let some : 0 < holders_at s st o = some-held (holders_at s st o) held in
     t.all o (omega (arith, was, some)) (is ∙ eqb-true (holders_at s su o) 0 none)
+
+pub first-owners : (s : Scenario) (w : Held) → IsNew w → OwnersTie (first_tables s) w
+first-owners s w p o = ap (λ (rows : List ObjectRow). (object_in rows o).owner) p.objects ∙ ap (λ (r : ObjectRow). r.owner) (no-row o) ∙ first-named s o

@@ -26,7 +26,7 @@ use Rattle.com_slots.specs.Table.{held_in}
 use Rattle.com_stub.specs.StubRows.{is_connected}
 use Rattle.com_ledger.specs.Books.{Rowed}
 use Rattle.com_ledger.specs.Moving.{Touches}
-use Rattle.com_ledger.proofs.Losing.{touches-one, unlike}
+use Rattle.com_ledger.proofs.Unheld.{touches-one, unlike}
 
 -- ---- an object of which the entry's end changes nothing
 

@@ -27,10 +27,9 @@ places_at s st = places s (ground_in s st) (scene_in st)
 abbrev pub holders_at : Scenario → State → (object : ℕ) → ℕ
 holders_at s st o = holders_in s (ground_in s st) (scene_in st) (books_in st) o
 
--- The objects of a ledger are those that were made, each with its owner.
+-- The objects of a ledger are those that were made, and the same apartments own each.
 pub record ObjectsTie (s : Scenario) (st : State) (w : Held) : Type 0 where
   pub number : length w.tables.objects ≡ objects_in st
-  pub owners : (o : ℕ) → (object_in w.tables.objects o).owner ≡ named_in st o
   pub owns : (o a : ℕ) → owns_of w.tables.objects o a ≡ owns_in s st o a
 
 -- The owner of an object after an entry, and whether an apartment owns it, where the entry makes one.
@@ -45,7 +44,6 @@ owns_after s (Some m) o a x = if m.object == o then is_agile_class s m.class || 
 -- A made object is one more.
 pub record ObjectsGrow (s : Scenario) (d : Deed) (w u : Held) : Type 0 where
   pub number : length u.tables.objects ≡ one_more (makes d) (length w.tables.objects)
-  pub owners : (o : ℕ) → (object_in u.tables.objects o).owner ≡ owner_after (makes d) o (object_in w.tables.objects o).owner
   pub owns : (o a : ℕ) → owns_of u.tables.objects o a ≡ owns_after s (makes d) o a (owns_of w.tables.objects o a)
 
 pub record Ties (s : Scenario) (st : State) (w : Held) : Type 0 where
@@ -85,3 +83,10 @@ AllTouched s st su touched = (o : ℕ) → (holders_at s st o == 0) ≡ false �
 abbrev pub EntryTouches : (gained lost : List Move) → (w u : Held) → Type 0
 EntryTouches gained lost w u =
     (n : ℕ) (places later : ℕ → ℕ → ℕ) → AllBelow n gained → AllBelow n lost → ((a o : ℕ) → plus later lost a o ≡ plus places gained a o) → Counts n places w.tables → Touches w.tables u.tables [] u.touched
+
+-- The owner of each object is the apartment that its making names.
+abbrev pub OwnersTie : State → Held → Type 0
+OwnersTie st w = (o : ℕ) → (object_in w.tables.objects o).owner ≡ named_in st o
+
+abbrev pub OwnersGrow : Deed → (w u : Held) → Type 0
+OwnersGrow d w u = (o : ℕ) → (object_in u.tables.objects o).owner ≡ owner_after (makes d) o (object_in w.tables.objects o).owner

@@ -24,5 +24,7 @@ pub use calls::CallPackets;
 pub use com_base::Memory;
 pub use com_refs::Numbers;
 pub use context::Context;
-pub use laws::{entries_tie, holders_tie, losses_touched, new_ledger_ties};
+pub use laws::{
+    entries_reach, entries_tie, holders_tie, losses_touched, new_ledger_ties, owners_tie,
+};
 pub use ledger::Ledger;

@@ -1,4 +1,4 @@
-use Rattle.com_ledger.proofs.Entering.{books-next, moves-below, places-next, ties-after, touched-after}
+use Rattle.com_ledger.proofs.Following.{books-next, moves-below, places-next, ties-after, touched-after}
 use Rattle.com_ledger.proofs.laws.entries_tie.Goals as goal
 
 pub returns-clause-places : goal.returns-clause-places

@@ -1,4 +1,4 @@
-use Rattle.com_ledger.proofs.Losing.{more-held}
+use Rattle.com_ledger.proofs.Unheld.{more-held}
 use Rattle.com_ledger.proofs.Placed.{gained}
 use Rattle.com_ledger.proofs.moving.gain.Goals as goal
 

@@ -1,6 +1,6 @@
 use Rattle.std.proofs.Common.{ℕ, [], ◌∷◌}
 use Rattle.com_ledger.specs.Moving.{plus}
-use Rattle.com_ledger.proofs.Losing.{others-held, touches-one}
+use Rattle.com_ledger.proofs.Unheld.{others-held, touches-one}
 use Rattle.com_ledger.proofs.Placed.{lost}
 use Rattle.com_ledger.proofs.moving.lose.Goals as goal
 

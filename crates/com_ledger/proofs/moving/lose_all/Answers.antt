@@ -1,5 +1,5 @@
 use Rattle.com_moves.specs.declared.moves.Move.{Move}
-use Rattle.com_ledger.proofs.Losing.{touched-none, touched-next}
+use Rattle.com_ledger.proofs.Unheld.{touched-none, touched-next}
 use Rattle.com_ledger.proofs.Placed.{ended_none, ended_next, ended_all, drop_none}
 use Rattle.com_ledger.proofs.moving.lose_all.Goals as goal
 

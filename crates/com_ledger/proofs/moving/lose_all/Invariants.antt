@@ -1,5 +1,5 @@
 use Rattle.com_ledger.specs.Moving.{Climbs}
-use Rattle.com_ledger.proofs.Losing.{TouchedSome}
+use Rattle.com_ledger.proofs.Unheld.{TouchedSome}
 use Rattle.com_ledger.proofs.Placed.{EndedSome}
 use Rattle.com_ledger.proofs.moving.lose_all.Given as goal
 

@@ -43,19 +43,19 @@ use Rattle.com_refs.specs.Ends.{ends}
 use Rattle.com_release.proofs.Lives.{place-low}
 use Rattle.com_ledger.specs.Books.{Held}
 use Rattle.com_ledger.specs.Moving.{moves_at, plus, AllBelow}
-use Rattle.com_ledger.specs.Ties.{AllTouched, EndedAt, EntryEnds, EntryTouches, ObjectsGrow, ObjectsTie, Ties, owner_after, owns_after, places_at}
+use Rattle.com_ledger.specs.Ties.{AllTouched, EndedAt, EntryEnds, EntryTouches, ObjectsGrow, ObjectsTie, OwnersGrow, OwnersTie, Ties, owner_after, owns_after, places_at}
 use Rattle.com_ledger.proofs.Lowest.{LowMoves, low-state, moves-low}
 use Rattle.com_ledger.proofs.Tied.{losses-touched}
 
 -- ---- the state after an entry
 
-stands-after : (s : Scenario) (st : State) (h : List Entry) (l : ℕ) (d : Deed) → Formed s → StandsFor s st h → next_of s st l ≡ Some d → StandsFor s (after s st l d) (record { lane = l; deed = d } ∷ h)
+pub stands-after : (s : Scenario) (st : State) (h : List Entry) (l : ℕ) (d : Deed) → Formed s → StandsFor s st h → next_of s st l ≡ Some d → StandsFor s (after s st l d) (record { lane = l; deed = d } ∷ h)
 stands-after s st h l d f p n =
     let e : Entry = record { lane = l; deed = d } in
     let q : legal s (e ∷ h) = (p.lawful, sym (same-next s st h l p) ∙ n) in
     subst (λ (x : State). StandsFor s x (e ∷ h)) (after-rows s st l d) (whole-after s st h l d q (legal-bounded s (e ∷ h) f q) p)
 
-ground-is : (s : Scenario) (st : State) (h : List Entry) → StandsFor s st h → ground_in s st ≡ ground s h
+pub ground-is : (s : Scenario) (st : State) (h : List Entry) → StandsFor s st h → ground_in s st ≡ ground s h
 ground-is s st h p = same-ground s st h p.lanes p.apartments p.objects p.calls
 
 -- ---- books
@@ -118,7 +118,7 @@ counts-at n m places t l none c =
     let same : n + (m - n) ≡ m = omega (arith, l) in
     subst (λ (k : ℕ). Counts k places t) same (counts-more n (m - n) places t none c)
 
-stas-more : (s : Scenario) (st su : State) (h : List Entry) (e : Entry) → StandsFor s st h → StandsFor s su (e ∷ h) → next_sta_in st ≤ next_sta_in su
+pub stas-more : (s : Scenario) (st su : State) (h : List Entry) (e : Entry) → StandsFor s st h → StandsFor s su (e ∷ h) → next_sta_in st ≤ next_sta_in su
 stas-more s st su h e p q =
     let old : length st.stas ≡ length (stas h) = ap (λ (xs : List ℕ). length xs) p.apartments.stas in
     let new : length su.stas ≡ length (stas (e ∷ h)) = ap (λ (xs : List ℕ). length xs) q.apartments.stas in
@@ -161,13 +161,16 @@ owns-made s (Some m) o a x = elim (eqb m.object o) as (λ b. cond b (is_agile_cl
 objects-tie : (s : Scenario) (st su : State) (h : List Entry) (e : Entry) (w u : Held) → StandsFor s st h → StandsFor s su (e ∷ h) → ObjectsTie s st w → ObjectsGrow s e.deed w u → ObjectsTie s su u
 objects-tie s st su h e w u p q t g = record {
   number = g.number ∙ ap (one_more (makes e.deed)) (t.number ∙ p.objects.number) ∙ sym q.objects.number;
-  owners = λ o.
-      g.owners o ∙ ap (owner_after (makes e.deed) o) (t.owners o ∙ (λ i. same-named st h p.objects i o)) ∙ owner-made (makes e.deed) o (making h o)
-      ∙ sym (λ i. same-named su (e ∷ h) q.objects i o);
   owns = λ o a.
       g.owns o a ∙ ap (owns_after s (makes e.deed) o a) (t.owns o a ∙ (λ i. (ground-is s st h p i).owns o a)) ∙ owns-made s (makes e.deed) o a (making h o)
       ∙ sym (λ i. (ground-is s su (e ∷ h) q i).owns o a);
 }
+
+pub owners-tie : (s : Scenario) (st : State) (h : List Entry) (l : ℕ) (d : Deed) (w u : Held) → Formed s → StandsFor s st h → next_of s st l ≡ Some d → OwnersTie st w → OwnersGrow d w u → OwnersTie (after s st l d) u
+owners-tie s st h l d w u f p n t g o =
+    let q : StandsFor s (after s st l d) (record { lane = l; deed = d } ∷ h) = stands-after s st h l d f p n in
+    g o ∙ ap (owner_after (makes d) o) (t o ∙ (λ i. same-named st h p.objects i o)) ∙ owner-made (makes d) o (making h o)
+    ∙ sym (λ i. same-named (after s st l d) (record { lane = l; deed = d } ∷ h) q.objects i o)
 
 calls-tie : (s : Scenario) (st : State) (l : ℕ) (d : Deed) (w u : Held) → length w.calls ≡ length st.issues → length u.calls ≡ count_if (issued_by (record { lane = l; deed = d })) + length w.calls → length u.calls ≡ length (after s st l d).issues
 calls-tie s st l d w u t g = g ∙ ap (λ (n : ℕ). count_if (issued_by (record { lane = l; deed = d })) + n) t ∙ sym (length-grown (issued_by (record { lane = l; deed = d })) _ st.issues)
