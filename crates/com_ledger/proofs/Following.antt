@@ -43,9 +43,8 @@ use Rattle.com_refs.specs.Ends.{ends}
 use Rattle.com_release.proofs.Lives.{place-low}
 use Rattle.com_ledger.specs.Books.{Held}
 use Rattle.com_ledger.specs.Moving.{moves_at, plus, AllBelow}
-use Rattle.com_ledger.specs.Ties.{AllTouched, EndedAt, EntryEnds, EntryTouches, ObjectsGrow, ObjectsTie, OwnersGrow, OwnersTie, Ties, owner_after, owns_after, places_at}
+use Rattle.com_ledger.specs.Ties.{EntryEnds, ObjectsGrow, ObjectsTie, OwnersGrow, OwnersTie, Ties, owner_after, owns_after, places_at}
 use Rattle.com_ledger.proofs.Lowest.{LowMoves, low-state, moves-low}
-use Rattle.com_ledger.proofs.Tied.{losses-touched}
 
 -- ---- the state after an entry
 
@@ -177,29 +176,18 @@ calls-tie s st l d w u t g = g ∙ ap (λ (n : ℕ). count_if (issued_by (record
 
 -- ---- the whole
 
-tied-after : (s : Scenario) (st : State) (h : List Entry) (l : ℕ) (d : Deed) (gained lost : List Move) (w u : Held) → Formed s → StandsFor s st h → StandsFor s (after s st l d) (record { lane = l; deed = d } ∷ h)
-    → movings_of gained ≡ (moves_in s st (record { lane = l; deed = d })).gained → movings_of lost ≡ (moves_in s st (record { lane = l; deed = d })).lost
-    → Ties s st w → EntryEnds s st l d gained lost w u → Ties s (after s st l d) u
-tied-after s st h l d gained lost w u f p q g k t c =
-    let e : Entry = record { lane = l; deed = d } in
-    let su : State = after s st l d in
-    let n : ℕ = next_sta_in su in
-    let wide : Counts n (places_at s st) w.tables = counts-at (next_sta_in st) n (places_at s st) w.tables (stas-more s st su h e p q) (λ a o m. places-past s st h a o f p m) t.counts in
-    let low : LowMoves n (moves_in s st e) = low-state s st su h e f p q in
-    let done : EndedAt n (places_at s su) (books_entered s st su e) u =
-    c.ended n (places_at s st) (places_at s su) (moves-low n gained _ g low.gained) (moves-low n lost _ k low.lost) (places-by-moves s st h e gained lost f q.lawful p g k) wide in
-    record {
-      books = done.books ∙ sym (books-after s st su h e p q);
-      counts = done.counts;
-      totals = done.totals;
-      objects = objects-tie s st su h e w u p q t.objects c.objects;
-      calls = calls-tie s st l d w u t.calls c.calls;
-    }
+tied-after : (s : Scenario) (st : State) (h : List Entry) (l : ℕ) (d : Deed) (w u : Held) → StandsFor s st h → StandsFor s (after s st l d) (record { lane = l; deed = d } ∷ h)
+    → Ties s st w → EntryEnds s st l d w u → Ties s (after s st l d) u
+tied-after s st h l d w u p q t c = record {
+  books = c.ended.books ∙ sym (books-after s st (after s st l d) h (record { lane = l; deed = d }) p q);
+  counts = c.ended.counts;
+  totals = c.ended.totals;
+  objects = objects-tie s st (after s st l d) h (record { lane = l; deed = d }) w u p q t.objects c.objects;
+  calls = calls-tie s st l d w u t.calls c.calls;
+}
 
-pub ties-after : (s : Scenario) (st : State) (h : List Entry) (l : ℕ) (d : Deed) (gained lost : List Move) (w u : Held) → Formed s → StandsFor s st h → next_of s st l ≡ Some d
-    → movings_of gained ≡ (moves_in s st (record { lane = l; deed = d })).gained → movings_of lost ≡ (moves_in s st (record { lane = l; deed = d })).lost
-    → Ties s st w → EntryEnds s st l d gained lost w u → Ties s (after s st l d) u
-ties-after s st h l d gained lost w u f p n g k t c = tied-after s st h l d gained lost w u f p (stands-after s st h l d f p n) g k t c
+pub ties-after : (s : Scenario) (st : State) (h : List Entry) (l : ℕ) (d : Deed) (w u : Held) → Formed s → StandsFor s st h → next_of s st l ≡ Some d → Ties s st w → EntryEnds s st l d w u → Ties s (after s st l d) u
+ties-after s st h l d w u f p n t c = tied-after s st h l d w u p (stands-after s st h l d f p n) t c
 
 -- ---- the parts of it
 
@@ -219,15 +207,7 @@ pub books-next : (s : Scenario) (st : State) (h : List Entry) (l : ℕ) (d : Dee
     → books_in (after s st l d) ≡ ends (next_sta_in (after s st l d)) (places_at s (after s st l d)) (books_entered s st (after s st l d) (record { lane = l; deed = d }))
 books-next s st h l d f p n = books-after s st (after s st l d) h (record { lane = l; deed = d }) p (stands-after s st h l d f p n)
 
-wide-counts : (s : Scenario) (st su : State) (h : List Entry) (e : Entry) (w : Held) → Formed s → StandsFor s st h → StandsFor s su (e ∷ h) → Ties s st w → Counts (next_sta_in su) (places_at s st) w.tables
-wide-counts s st su h e w f p q t = counts-at (next_sta_in st) (next_sta_in su) (places_at s st) w.tables (stas-more s st su h e p q) (λ a o m. places-past s st h a o f p m) t.counts
-
-pub touched-after : (s : Scenario) (st : State) (h : List Entry) (l : ℕ) (d : Deed) (gained lost : List Move) (w u : Held) → Formed s → StandsFor s st h → next_of s st l ≡ Some d
-    → movings_of gained ≡ (moves_in s st (record { lane = l; deed = d })).gained → movings_of lost ≡ (moves_in s st (record { lane = l; deed = d })).lost
-    → Ties s st w → EntryEnds s st l d gained lost w u → EntryTouches gained lost w u → AllTouched s st (after s st l d) u.touched
-touched-after s st h l d gained lost w u f p n g k t c r =
-    let su : State = after s st l d in
-    let e : Entry = record { lane = l; deed = d } in
-    let below : AllBelow (next_sta_in su) gained × AllBelow (next_sta_in su) lost = moves-below s st h l d gained lost f p n g k in
-    losses-touched s st su w u [] u.touched t (ties-after s st h l d gained lost w u f p n g k t c)
-    (r (next_sta_in su) (places_at s st) (places_at s su) below.0 below.1 (places-next s st h l d gained lost f p n g k) (wide-counts s st su h e w f p (stands-after s st h l d f p n) t))
+pub counts-next : (s : Scenario) (st : State) (h : List Entry) (l : ℕ) (d : Deed) (w : Held) → Formed s → StandsFor s st h → next_of s st l ≡ Some d → Ties s st w → Counts (next_sta_in (after s st l d)) (places_at s st) w.tables
+counts-next s st h l d w f p n t =
+    counts-at (next_sta_in st) (next_sta_in (after s st l d)) (places_at s st) w.tables
+    (stas-more s st (after s st l d) h (record { lane = l; deed = d }) p (stands-after s st h l d f p n)) (λ a o m. places-past s st h a o f p m) t.counts

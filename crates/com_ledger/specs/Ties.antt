@@ -14,11 +14,9 @@ use Rattle.com_model.specs.Objects.{makes, one_more}
 use Rattle.com_model.specs.Places.{places}
 use Rattle.com_model.specs.State.{State, after, books_in, ground_in, issued_by, named_in, next_sta_in, objects_in, owns_in, scene_in}
 use Rattle.com_model.specs.Tables.{is_agile_class}
-use Rattle.com_moves.specs.declared.moves.Move.{Move}
 use Rattle.com_quiet.specs.Ends.{books_entered}
 use Rattle.com_refs.specs.Ends.{ends, Totals}
 use Rattle.com_ledger.specs.Books.{Held, books_held}
-use Rattle.com_ledger.specs.Moving.{plus, AllBelow, Touches}
 
 -- The places of a state, by apartment and object, and the holders of an object.
 abbrev pub places_at : Scenario → State → (apartment object : ℕ) → ℕ
@@ -68,21 +66,16 @@ pub record EndedAt (n : ℕ) (later : ℕ → ℕ → ℕ) (entered : Books) (u 
   pub totals : Totals n later u.tables
   pub books : books_held u ≡ ends n later entered
 
--- What a ledger does by an entry: where a table of places is what it counts, the places with those that are gained and without those
--- that are lost are what it counts afterwards, and its books are at their end for them.
-pub record EntryEnds (s : Scenario) (st : State) (l : ℕ) (d : Deed) (gained lost : List Move) (w u : Held) : Type 0 where
-  pub ended : (n : ℕ) (places later : ℕ → ℕ → ℕ) → AllBelow n gained → AllBelow n lost → ((a o : ℕ) → plus later lost a o ≡ plus places gained a o) → Counts n places w.tables → EndedAt n later (books_entered s st (after s st l d) (record { lane = l; deed = d })) u
+-- What a ledger is after an entry, by its tables and by the objects and calls that it had: it ends at the places after the entry, with
+-- the books with the entry's rows; and it has one more object and one more call, where the entry makes or issues one.
+pub record EntryEnds (s : Scenario) (st : State) (l : ℕ) (d : Deed) (w u : Held) : Type 0 where
+  pub ended : EndedAt (next_sta_in (after s st l d)) (places_at s (after s st l d)) (books_entered s st (after s st l d) (record { lane = l; deed = d })) u
   pub objects : ObjectsGrow s d w u
   pub calls : length u.calls ≡ count_if (issued_by (record { lane = l; deed = d })) + length w.calls
 
 -- Each object that had a holder in the one state and has none in the other is in the list.
 abbrev pub AllTouched : Scenario → (before after : State) → List ℕ → Type 0
 AllTouched s st su touched = (o : ℕ) → (holders_at s st o == 0) ≡ false → (holders_at s su o == 0) ≡ true → is_member o touched ≡ true
-
--- What a ledger writes down by an entry: each object that had a holder in its tables and has none any more.
-abbrev pub EntryTouches : (gained lost : List Move) → (w u : Held) → Type 0
-EntryTouches gained lost w u =
-    (n : ℕ) (places later : ℕ → ℕ → ℕ) → AllBelow n gained → AllBelow n lost → ((a o : ℕ) → plus later lost a o ≡ plus places gained a o) → Counts n places w.tables → Touches w.tables u.tables [] u.touched
 
 -- The owner of each object is the apartment that its making names.
 abbrev pub OwnersTie : State → Held → Type 0

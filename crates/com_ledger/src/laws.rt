@@ -3,6 +3,7 @@ ghost use Rattle.std.specs.Prelude.{◌≡◌, ◌<◌, ℕ, Bool, List, ◌∷�
 ghost use Rattle.com_base.specs.declared.value.Value.{Value};
 ghost use Rattle.com_body.specs.declared.actions.Action.{Action};
 ghost use Rattle.com_books.specs.Changes.{Books, entered_rows};
+ghost use Rattle.com_holders.specs.Places.{Counts};
 ghost use Rattle.com_model.specs.declared.deeds.Deed.{Deed};
 ghost use Rattle.com_model.specs.declared.deeds.Deed.TheVariants as deed;
 ghost use Rattle.com_model.specs.declared.deeds.Entry.{Entry};
@@ -22,7 +23,7 @@ ghost use Rattle.com_refs.specs.Counts.{holders_of};
 ghost use Rattle.com_refs.specs.Ends.{ends};
 ghost use Rattle.com_ledger.specs.Books.{Held};
 ghost use Rattle.com_ledger.specs.Moving.{plus, AllBelow, Touches};
-ghost use Rattle.com_ledger.specs.Ties.{AllTouched, EntryEnds, EntryTouches, IsNew, OwnersGrow, OwnersTie, Ties, holders_at, places_at};
+ghost use Rattle.com_ledger.specs.Ties.{AllTouched, EntryEnds, IsNew, OwnersGrow, OwnersTie, Ties, holders_at, places_at};
 
 /// A ledger where nothing is held is tied to the state before the first entry.
 pub fn new_ledger_ties()
@@ -37,15 +38,14 @@ pub fn holders_tie()
 /// Where a state stands for a history of a formed scenario, and the moves are those of a lane's next entry: the places after the
 /// entry, with those that it lost, are the places before it, with those that it gained (`places`); the apartments of the moves are
 /// below the number of the next one (`below`); and the books after it are those with the entry's rows, at their end for the places
-/// after it (`books`). So a ledger that was tied to the state, and that did by the entry what `EntryEnds` says, is tied to the state
-/// after the entry (`ties`); and where it wrote down by it each object that lost its last holder in its tables, it wrote down each that
-/// lost its last holder in the state (`touched`).
+/// after it (`books`). A ledger that is tied to the state counts the places before the entry also among the apartments after it
+/// (`counts`); and where it ends as `EntryEnds` says, it is tied to the state after the entry (`ties`).
 pub fn entries_tie()
     ensures places { (s : Scenario) (st : State) (h : List Entry) (l : ℕ) (d : Deed) (gained lost : List Move) → Formed s → StandsFor s st h → next_of s st l ≡ Some d → movings_of gained ≡ (moves_in s st (record { lane = l; deed = d })).gained → movings_of lost ≡ (moves_in s st (record { lane = l; deed = d })).lost → (a o : ℕ) → plus (places_at s (after s st l d)) lost a o ≡ plus (places_at s st) gained a o }
     ensures below { (s : Scenario) (st : State) (h : List Entry) (l : ℕ) (d : Deed) (gained lost : List Move) → Formed s → StandsFor s st h → next_of s st l ≡ Some d → movings_of gained ≡ (moves_in s st (record { lane = l; deed = d })).gained → movings_of lost ≡ (moves_in s st (record { lane = l; deed = d })).lost → AllBelow (next_sta_in (after s st l d)) gained × AllBelow (next_sta_in (after s st l d)) lost }
     ensures books { (s : Scenario) (st : State) (h : List Entry) (l : ℕ) (d : Deed) → Formed s → StandsFor s st h → next_of s st l ≡ Some d → books_in (after s st l d) ≡ ends (next_sta_in (after s st l d)) (places_at s (after s st l d)) (books_entered s st (after s st l d) (record { lane = l; deed = d })) }
-    ensures ties { (s : Scenario) (st : State) (h : List Entry) (l : ℕ) (d : Deed) (gained lost : List Move) (w u : Held) → Formed s → StandsFor s st h → next_of s st l ≡ Some d → movings_of gained ≡ (moves_in s st (record { lane = l; deed = d })).gained → movings_of lost ≡ (moves_in s st (record { lane = l; deed = d })).lost → Ties s st w → EntryEnds s st l d gained lost w u → Ties s (after s st l d) u }
-    ensures touched { (s : Scenario) (st : State) (h : List Entry) (l : ℕ) (d : Deed) (gained lost : List Move) (w u : Held) → Formed s → StandsFor s st h → next_of s st l ≡ Some d → movings_of gained ≡ (moves_in s st (record { lane = l; deed = d })).gained → movings_of lost ≡ (moves_in s st (record { lane = l; deed = d })).lost → Ties s st w → EntryEnds s st l d gained lost w u → EntryTouches gained lost w u → AllTouched s st (after s st l d) u.touched }
+    ensures counts { (s : Scenario) (st : State) (h : List Entry) (l : ℕ) (d : Deed) (w : Held) → Formed s → StandsFor s st h → next_of s st l ≡ Some d → Ties s st w → Counts (next_sta_in (after s st l d)) (places_at s st) w.tables }
+    ensures ties { (s : Scenario) (st : State) (h : List Entry) (l : ℕ) (d : Deed) (w u : Held) → Formed s → StandsFor s st h → next_of s st l ≡ Some d → Ties s st w → EntryEnds s st l d w u → Ties s (after s st l d) u }
 {}
 
 /// Where a ledger is tied to the state before an entry and to the one after it, and each object that had a holder in its tables and
