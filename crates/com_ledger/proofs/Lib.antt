@@ -1,4 +1,11 @@
+pub mod Climbing
+pub mod Following
 pub mod Listed
+pub mod Lowest
 pub mod Placed
 pub mod Reading
 pub mod Rowing
+pub mod Tied
+pub mod Touched
+pub mod Unheld
+pub mod Within

@@ -1,8 +1,7 @@
 -- Places that moves bring and take.
 use mathlib.Core.Path.{fun_ext}
-use Rattle.std.proofs.Common.{◌≡◌, ℕ, zero, suc, eqb, ◌&&◌, ◌+◌, ◌<◌, ◌≤◌, List, [], ◌∷◌, ◌++◌, length, get_or, take, drop, refl, sym, ap, subst, ◌∙◌, arith, add-one, drop-cons}
+use Rattle.std.proofs.Common.{◌≡◌, ℕ, zero, suc, ◌+◌, ◌<◌, ◌≤◌, List, [], ◌∷◌, ◌++◌, length, get_or, take, drop, refl, sym, ap, subst, ◌∙◌, arith, add-one, drop-cons}
 use Rattle.std.proofs.lemmas.List.{take_more}
-use Rattle.com_books.specs.Counting.{count_if}
 use Rattle.com_books.specs.Changes.{Books}
 use Rattle.com_holders.specs.Places.{Counts, OneMore, OneLess}
 use Rattle.com_holders.specs.Stands.{Tells}
@@ -24,11 +23,11 @@ pub lost : (n : ℕ) (later : ℕ → ℕ → ℕ) (t u : Tables) (m : Move) →
 lost n later t u m less below counts =
     counts_less n (plus later (m ∷ [])) later t u m.apartment m.reference.object (owns_of t.objects m.reference.object m.apartment) counts less refl below (λ c x. omega arith)
 
-moves_append : (xs ys : List Move) (c x : ℕ) → moves_at (xs ++ ys) c x ≡ moves_at xs c x + moves_at ys c x
+pub moves_append : (xs ys : List Move) (c x : ℕ) → moves_at (xs ++ ys) c x ≡ moves_at xs c x + moves_at ys c x
 moves_append [] ys c x = omega arith
 moves_append (m ∷ xs) ys c x = omega (arith, moves_append xs ys c x)
 
-below_at : (n : ℕ) (ms : List Move) (k : ℕ) (d : Move) → k < length ms → AllBelow n ms → (get_or ms k d).apartment < n
+pub below_at : (n : ℕ) (ms : List Move) (k : ℕ) (d : Move) → k < length ms → AllBelow n ms → (get_or ms k d).apartment < n
 below_at n [] k d h a = absurd (omega (arith, h))
 below_at n (m ∷ ms) zero d h a = a.0
 below_at n (m ∷ ms) (suc k) d h a = below_at n ms k d (omega (arith, h)) a.1
@@ -63,21 +62,22 @@ ended_none ms t tells totals rests n later below counts = record {
   books = sym (rests n (plus later ms) (tells n (plus later ms) counts) (totals n (plus later ms) counts));
 }
 
+-- The next of what is still to be lost.
+pub falls_one : (ms : List Move) (k : ℕ) (d : Move) (later : ℕ → ℕ → ℕ) → k < length ms → (c x : ℕ) → plus later (drop k ms) c x ≡ plus (plus later (drop (k + 1) ms)) (get_or ms k d ∷ []) c x
+falls_one ms k d later within c x =
+    let next : moves_at (drop (k + 1) ms) c x ≡ moves_at (drop (suc k) ms) c x = ap (λ (j : ℕ). moves_at (drop j ms) c x) (add-one k) in
+    omega (arith, next, ap (λ (l : List Move). moves_at l c x) (drop-cons ms k d within))
+
 pub ended_next : (ms : List Move) (k : ℕ) (d : Move) (t v u : Tables) → k < length ms → EndedSome ms k t v
     → ((n : ℕ) (later : ℕ → ℕ → ℕ) → (get_or ms k d).apartment < n → Counts n (plus later (get_or ms k d ∷ [])) v → Ended n later v u)
     → EndedSome ms (k + 1) t u
 ended_next ms k d t v u within some one n later below counts =
     let before : Ended n (plus later (drop k ms)) t v = some n later below counts in
-    let last : Ended n (plus later (drop (k + 1) ms)) v u = one n (plus later (drop (k + 1) ms)) (below_at n ms k d within below) (same_counts n (plus later (drop k ms)) (plus (plus later (drop (k + 1) ms)) (get_or ms k d ∷ [])) v (λ c x. falls c x) before.counts) in
+    let last : Ended n (plus later (drop (k + 1) ms)) v u = one n (plus later (drop (k + 1) ms)) (below_at n ms k d within below) (same_counts n (plus later (drop k ms)) (plus (plus later (drop (k + 1) ms)) (get_or ms k d ∷ [])) v (λ c x. falls_one ms k d later within c x) before.counts) in
     record {
       counts = last.counts;
-      books = last.books ∙ ap (λ (b : Books). ends n (plus later (drop (k + 1) ms)) b) before.books ∙ ends_again n (plus later (drop k ms)) (plus later (drop (k + 1) ms)) (books_of t) (λ c x. omega (arith, falls c x));
+      books = last.books ∙ ap (λ (b : Books). ends n (plus later (drop (k + 1) ms)) b) before.books ∙ ends_again n (plus later (drop k ms)) (plus later (drop (k + 1) ms)) (books_of t) (λ c x. omega (arith, falls_one ms k d later within c x));
     }
-  where
-    falls : (c x : ℕ) → plus later (drop k ms) c x ≡ plus (plus later (drop (k + 1) ms)) (get_or ms k d ∷ []) c x
-    falls c x =
-        let next : moves_at (drop (k + 1) ms) c x ≡ moves_at (drop (suc k) ms) c x = ap (λ (j : ℕ). moves_at (drop j ms) c x) (add-one k) in
-        omega (arith, next, ap (λ (l : List Move). moves_at l c x) (drop-cons ms k d within))
 
 pub ended_all : (ms : List Move) (k : ℕ) (t u : Tables) → drop k ms ≡ [] → EndedSome ms k t u → (n : ℕ) (later : ℕ → ℕ → ℕ) → AllBelow n ms → Counts n (plus later ms) t → Ended n later t u
 ended_all ms k t u none some n later below counts =
@@ -102,3 +102,25 @@ take_whole (m ∷ ms) (suc k) h = ap (λ (l : List Move). m ∷ l) (take_whole m
 pub gained_all : (ms : List Move) (k : ℕ) (t u : Tables) → length ms ≤ k → GainedSome ms k t u → (n : ℕ) (places : ℕ → ℕ → ℕ) → AllBelow n ms → Counts n places t → Counts n (plus places ms) u
 gained_all ms k t u h some n places below counts =
     same_counts n (plus places (take k ms)) (plus places ms) u (λ c x. omega (arith, ap (λ (l : List Move). moves_at l c x) (take_whole ms k h))) (some n places below counts)
+
+-- ---- what stands first
+
+abbrev pub no_move : Move
+no_move = record { apartment = 0; reference = record { object = 0; iface = 0 } }
+
+abbrev pub AgreeTo : ℕ → (xs ys : List Move) → Type 0
+AgreeTo n xs ys = (k : ℕ) → k < n → get_or xs k no_move ≡ get_or ys k no_move
+
+pub kept_all : (xs ys : List Move) (n : ℕ) → n ≡ length xs → n ≤ length ys → AgreeTo n xs ys → ys ≡ xs ++ drop n ys
+kept_all [] ys zero e l a = refl
+kept_all [] ys (suc n) e l a = absurd (omega (arith, e))
+kept_all (x ∷ xs) ys zero e l a = absurd (omega (arith, e))
+kept_all (x ∷ xs) [] (suc n) e l a = absurd (omega (arith, l))
+kept_all (x ∷ xs) (y ∷ ys) (suc n) e l a =
+    let first : y ≡ x = sym (a 0 (omega arith)) in
+    let rest : ys ≡ xs ++ drop n ys = kept_all xs ys n (omega (arith, e)) (omega (arith, l)) (λ k h. a (suc k) (omega (arith, h))) in
+    λ i. first i ∷ rest i
+
+pub below_both : (n : ℕ) (xs ys : List Move) → AllBelow n (xs ++ ys) → AllBelow n xs × AllBelow n ys
+below_both n [] ys p = (tt, p)
+below_both n (x ∷ xs) ys p = let rest : AllBelow n xs × AllBelow n ys = below_both n xs ys p.1 in ((p.0, rest.0), rest.1)

@@ -1,9 +1,11 @@
 -- Places that moves bring and take, and what an entry's losses do to the books.
-use Rattle.std.specs.Prelude.{◌≡◌, ℕ, ◌+◌, ◌<◌, ◌==◌, ◌&&◌, List, [], ◌∷◌}
+use Rattle.std.specs.Prelude.{◌≡◌, ℕ, ◌+◌, ◌<◌, ◌≤◌, true, ◌==◌, ◌&&◌, List, [], ◌∷◌}
 use Rattle.com_books.specs.Counting.{count_if}
 use Rattle.com_holders.specs.Places.{Counts}
 use Rattle.com_holders.specs.Tables.{Tables, books_of}
+use Rattle.com_model.specs.Lists.{is_member}
 use Rattle.com_moves.specs.declared.moves.Move.{Move}
+use Rattle.com_refs.specs.Counts.{holders_of}
 use Rattle.com_refs.specs.Ends.{ends}
 
 -- How many of the moves are at an apartment and an object.
@@ -23,3 +25,13 @@ AllBelow n (m ∷ ms) = (m.apartment < n) × AllBelow n ms
 pub record Ended (n : ℕ) (later : ℕ → ℕ → ℕ) (before after : Tables) : Type 0 where
   pub counts : Counts n later after
   pub books : books_of after ≡ ends n later (books_of before)
+
+-- Each object that had a holder and has none any more was written down, and nothing that was is missing.
+pub record Touches (t u : Tables) (before after : List ℕ) : Type 0 where
+  pub kept : (o : ℕ) → is_member o before ≡ true → is_member o after ≡ true
+  pub all : (o : ℕ) → 0 < holders_of t o → holders_of u o ≡ 0 → is_member o after ≡ true
+
+-- Each number is at least the first one given, and above those before it.
+abbrev pub Climbs : (low : ℕ) → List ℕ → Type 0
+Climbs low [] = Unit {0}
+Climbs low (x ∷ xs) = (low ≤ x) × Climbs (x + 1) xs

@@ -11,6 +11,7 @@ mod apply;
 mod calls;
 mod context;
 mod keeping;
+mod laws;
 mod ledger;
 mod making;
 mod moving;
@@ -23,4 +24,7 @@ pub use calls::CallPackets;
 pub use com_base::Memory;
 pub use com_refs::Numbers;
 pub use context::Context;
+pub use laws::{
+    entries_reach, entries_tie, holders_tie, losses_touched, new_ledger_ties, owners_tie,
+};
 pub use ledger::Ledger;

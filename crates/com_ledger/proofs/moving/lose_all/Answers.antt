@@ -1,13 +1,33 @@
+use Rattle.com_moves.specs.declared.moves.Move.{Move}
+use Rattle.com_ledger.proofs.Unheld.{touched-none, touched-next}
 use Rattle.com_ledger.proofs.Placed.{ended_none, ended_next, ended_all, drop_none}
 use Rattle.com_ledger.proofs.moving.lose_all.Goals as goal
 
+abbrev no_move : Move
+no_move = record { apartment = 0; reference = record { object = 0; iface = 0 } }
+
 pub loop-moved-init : goal.loop-moved-init
-loop-moved-init c = ended_none c.args.lost.now c.args.refs.now c.tells.ensures.tells c.tells.ensures.totals c.rests.ensures
+loop-moved-init c = record {
+  ended = ended_none c.args.lost.now c.args.refs.now c.tells.ensures.tells c.tells.ensures.totals c.rests.ensures;
+  touched = touched-none c.args.lost.now c.args.refs.now c.args.touched.now.items;
+  climbs = λ m. m;
+}
 
 pub loop-moved-preserved : goal.loop-moved-preserved
-loop-moved-preserved c =
-    ended_next c.args.lost.now c.loop-moved.moved-index (record { apartment = 0; reference = record { object = 0; iface = 0 } })
-    c.args.refs.now c.loop-moved.refs c.lose.new.refs c.loop-moved-test.true c.loop-moved.invariant c.in_ok-lose.ensures
+loop-moved-preserved c = record {
+  ended = ended_next c.args.lost.now c.loop-moved.moved-index no_move
+      c.args.refs.now c.loop-moved.refs c.lose.new.refs c.loop-moved-test.true c.loop-moved.invariant.ended c.in_ok-lose.ensures.ended;
+  touched = touched-next c.args.lost.now c.loop-moved.moved-index no_move
+      c.args.refs.now c.loop-moved.refs c.lose.new.refs c.args.touched.now.items c.loop-moved.touched.items c.lose.new.touched.items
+      c.loop-moved-test.true c.loop-moved.invariant.ended c.loop-moved.invariant.touched c.in_ok-lose.ensures.touched;
+  climbs = λ m. c.in_ok-lose.ensures.climbs (c.loop-moved.invariant.climbs m);
+}
 
-pub returns : goal.returns
-returns c = ended_all c.args.lost.now c.loop-moved.moved-index c.args.refs.now c.loop-moved.refs (drop_none c.args.lost.now c.loop-moved.moved-index c.loop-moved-test.false) c.loop-moved.invariant
+pub returns-clause-ended : goal.returns-clause-ended
+returns-clause-ended c = ended_all c.args.lost.now c.loop-moved.moved-index c.args.refs.now c.loop-moved.refs (drop_none c.args.lost.now c.loop-moved.moved-index c.loop-moved-test.false) c.loop-moved.invariant.ended
+
+pub returns-clause-touched : goal.returns-clause-touched
+returns-clause-touched c = c.loop-moved.invariant.touched
+
+pub returns-clause-climbs : goal.returns-clause-climbs
+returns-clause-climbs c = c.loop-moved.invariant.climbs

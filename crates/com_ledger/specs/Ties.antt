@@ -1,0 +1,85 @@
+-- What ties a ledger to a state: its books are the state's, its tables count the state's places, and its objects and calls are the
+-- state's.
+use Rattle.std.specs.Prelude.{◌≡◌, ℕ, ◌+◌, Bool, true, false, ◌==◌, ◌||◌, if◌then◌else◌, List, [], length, Option, Some, None}
+use Rattle.com_books.specs.Changes.{Books}
+use Rattle.com_books.specs.Counting.{count_if}
+use Rattle.com_holders.specs.Places.{Counts}
+use Rattle.com_holders.specs.Tables.{object_in, owns_of}
+use Rattle.com_model.specs.declared.deeds.Deed.{Deed}
+use Rattle.com_model.specs.declared.keeps.Making.{Making}
+use Rattle.com_model.specs.declared.scenario.Scenario.{Scenario}
+use Rattle.com_model.specs.Books.{holders_in}
+use Rattle.com_model.specs.Lists.{is_member}
+use Rattle.com_model.specs.Objects.{makes, one_more}
+use Rattle.com_model.specs.Places.{places}
+use Rattle.com_model.specs.State.{State, after, books_in, ground_in, issued_by, named_in, next_sta_in, objects_in, owns_in, scene_in}
+use Rattle.com_model.specs.Tables.{is_agile_class}
+use Rattle.com_quiet.specs.Ends.{books_entered}
+use Rattle.com_refs.specs.Ends.{ends, Totals}
+use Rattle.com_ledger.specs.Books.{Held, books_held}
+
+-- The places of a state, by apartment and object, and the holders of an object.
+abbrev pub places_at : Scenario → State → (apartment object : ℕ) → ℕ
+places_at s st = places s (ground_in s st) (scene_in st)
+
+abbrev pub holders_at : Scenario → State → (object : ℕ) → ℕ
+holders_at s st o = holders_in s (ground_in s st) (scene_in st) (books_in st) o
+
+-- The objects of a ledger are those that were made, and the same apartments own each.
+pub record ObjectsTie (s : Scenario) (st : State) (w : Held) : Type 0 where
+  pub number : length w.tables.objects ≡ objects_in st
+  pub owns : (o a : ℕ) → owns_of w.tables.objects o a ≡ owns_in s st o a
+
+-- The owner of an object after an entry, and whether an apartment owns it, where the entry makes one.
+abbrev pub owner_after : Option Making → (object owner : ℕ) → ℕ
+owner_after None o x = x
+owner_after (Some m) o x = if m.object == o then m.apartment else x
+
+abbrev pub owns_after : Scenario → Option Making → (object apartment : ℕ) → Bool → Bool
+owns_after s None o a x = x
+owns_after s (Some m) o a x = if m.object == o then is_agile_class s m.class || a == m.apartment else x
+
+-- A made object is one more.
+pub record ObjectsGrow (s : Scenario) (d : Deed) (w u : Held) : Type 0 where
+  pub number : length u.tables.objects ≡ one_more (makes d) (length w.tables.objects)
+  pub owns : (o a : ℕ) → owns_of u.tables.objects o a ≡ owns_after s (makes d) o a (owns_of w.tables.objects o a)
+
+pub record Ties (s : Scenario) (st : State) (w : Held) : Type 0 where
+  pub books : books_held w ≡ books_in st
+  pub counts : Counts (next_sta_in st) (places_at s st) w.tables
+  pub totals : Totals (next_sta_in st) (places_at s st) w.tables
+  pub objects : ObjectsTie s st w
+  pub calls : length w.calls ≡ length st.issues
+
+-- No object was made, no call was issued, and nothing is held.
+pub record IsNew (w : Held) : Type 0 where
+  pub objects : w.tables.objects ≡ []
+  pub stubs : w.tables.stubs ≡ []
+  pub proxies : w.tables.proxies ≡ []
+  pub packets : w.tables.packets ≡ []
+  pub cookies : w.tables.cookies ≡ []
+  pub calls : w.calls ≡ []
+
+-- A ledger at the end of an entry: its tables count these places, and its books are those with the entry's rows, ended for them.
+pub record EndedAt (n : ℕ) (later : ℕ → ℕ → ℕ) (entered : Books) (u : Held) : Type 0 where
+  pub counts : Counts n later u.tables
+  pub totals : Totals n later u.tables
+  pub books : books_held u ≡ ends n later entered
+
+-- What a ledger is after an entry, by its tables and by the objects and calls that it had: it ends at the places after the entry, with
+-- the books with the entry's rows; and it has one more object and one more call, where the entry makes or issues one.
+pub record EntryEnds (s : Scenario) (st : State) (l : ℕ) (d : Deed) (w u : Held) : Type 0 where
+  pub ended : EndedAt (next_sta_in (after s st l d)) (places_at s (after s st l d)) (books_entered s st (after s st l d) (record { lane = l; deed = d })) u
+  pub objects : ObjectsGrow s d w u
+  pub calls : length u.calls ≡ count_if (issued_by (record { lane = l; deed = d })) + length w.calls
+
+-- Each object that had a holder in the one state and has none in the other is in the list.
+abbrev pub AllTouched : Scenario → (before after : State) → List ℕ → Type 0
+AllTouched s st su touched = (o : ℕ) → (holders_at s st o == 0) ≡ false → (holders_at s su o == 0) ≡ true → is_member o touched ≡ true
+
+-- The owner of each object is the apartment that its making names.
+abbrev pub OwnersTie : State → Held → Type 0
+OwnersTie st w = (o : ℕ) → (object_in w.tables.objects o).owner ≡ named_in st o
+
+abbrev pub OwnersGrow : Deed → (w u : Held) → Type 0
+OwnersGrow d w u = (o : ℕ) → (object_in u.tables.objects o).owner ≡ owner_after (makes d) o (object_in w.tables.objects o).owner
