@@ -151,7 +151,7 @@ owner-made : (m : Option Making) (o : ℕ) (x : Option Making) → owner_after m
 owner-made None o x = refl
 owner-made (Some m) o x = elim (eqb m.object o) as (λ b. cond b m.apartment (number_or_zero (option_map (λ (k : Making). k.apartment) x)) ≡ number_or_zero (option_map (λ (k : Making). k.apartment) (cond b (Some m) x))) [ true ↦ refl | false ↦ refl ]
 
-owns-made : (s : Scenario) (m : Option Making) (o a : ℕ) (x : Option Making)
+pub owns-made : (s : Scenario) (m : Option Making) (o a : ℕ) (x : Option Making)
     → owns_after s m o a (is_agile_class s (number_or_zero (option_map (λ (k : Making). k.class) x)) || eqb a (number_or_zero (option_map (λ (k : Making). k.apartment) x)))
     ≡ (is_agile_class s (number_or_zero (option_map (λ (k : Making). k.class) (made_or m o x))) || eqb a (number_or_zero (option_map (λ (k : Making). k.apartment) (made_or m o x))))
 owns-made s None o a x = refl

@@ -1,5 +1,5 @@
 -- Which objects places hold, in which apartment a lane runs, and what the books are before an entry ends.
-use Rattle.std.proofs.Common.{◌≡◌, refl, sym, ap, ◌∙◌, subst, arith, inl, inr, eqb-true, ℕ, zero, suc, Bool, cond, not, ◌&&◌, ◌||◌, ◌<◌, ◌≤◌, ◌⊎◌, List, [], ◌∷◌}
+use Rattle.std.proofs.Common.{◌≡◌, refl, sym, ap, ◌∙◌, subst, arith, inl, inr, eqb-true, ℕ, zero, suc, Bool, cond, not, ◌&&◌, ◌||◌, ◌<◌, ◌≤◌, ◌⊎◌, List, [], ◌∷◌, length}
 use Rattle.std.specs.Prelude.{All, Option, Some, None, option_map, slice_index_or}
 use Rattle.com_balance.proofs.Answered.{left-known}
 use Rattle.com_balance.proofs.Arrivals.{known-of}
@@ -11,6 +11,7 @@ use Rattle.com_base.specs.declared.value.Value.{Value}
 use Rattle.com_body.specs.declared.actions.Action.{Action}
 use Rattle.com_body.specs.declared.operands.Asked.TheVariants as asked
 use Rattle.com_books.specs.Changes.{Books, Same, ToProxy, changed, entered_rows}
+use Rattle.com_holders.specs.Places.{Counts}
 use Rattle.com_model.specs.declared.deeds.Deed.{Deed}
 use Rattle.com_model.specs.declared.deeds.Deed.TheVariants as deed
 use Rattle.com_model.specs.declared.deeds.Entry.{Entry}
@@ -23,7 +24,7 @@ use Rattle.com_model.specs.Endings.{is_leave}
 use Rattle.com_model.specs.Formed.{Formed}
 use Rattle.com_model.specs.Frames.{scene, value_reference}
 use Rattle.com_model.specs.Lists.{is_number, number_or_zero}
-use Rattle.com_model.specs.Objects.{disconnects, made_or, makes, making, objects}
+use Rattle.com_model.specs.Objects.{disconnects, made_or, makes, making, objects, owns}
 use Rattle.com_model.specs.Places.{Ground, ground, left_value, places, to_object}
 use Rattle.com_model.specs.Rules.{legal}
 use Rattle.com_model.specs.Sight.{Sight, sight}
@@ -32,9 +33,15 @@ use Rattle.com_model.proofs.Goods.{GoodHeld}
 use Rattle.com_model.proofs.Kept.{legal-kept}
 use Rattle.com_model.proofs.Scenes.{faces}
 use Rattle.com_model.proofs.Sights.{same-named, same-scene, same-sight}
+use Rattle.com_moves.specs.declared.moves.Move.{Move}
+use Rattle.com_moves.specs.Steps.{movings_of}
+use Rattle.com_moves.specs.Tables.{moves_in}
 use Rattle.com_quiet.specs.Ends.{books_entered, connected}
-use Rattle.com_ledger.specs.Ties.{places_at}
-use Rattle.com_ledger.proofs.Following.{ground-is, stands-after, stas-more}
+use Rattle.com_refs.specs.Ends.{ends}
+use Rattle.com_ledger.specs.Books.{Held, books_held}
+use Rattle.com_ledger.specs.Moving.{plus, AllBelow}
+use Rattle.com_ledger.specs.Ties.{AppliedAs, EndedAt, Ties, books_by_rows, owns_after, places_at}
+use Rattle.com_ledger.proofs.Following.{counts-next, ground-is, moves-below, owns-made, places-next, stands-after, stas-more}
 use Rattle.com_ledger.proofs.Lowest.{enters-low}
 
 -- ---- objects
@@ -128,3 +135,34 @@ entered-by s st h l d x left b a owned f p n act ended books run owns made =
     let whole : entered_rows owned b (rows s x left b a d) ≡ entered_rows (owns_in s su) (books_in st) (rows s ((sight_of s st).act l) (λ c. is_leave (ending_in st c)) (books_in st) (number_or_zero (running_in s st l)) d) = same ∙ all in
     same-connected d (named_in st) (named_in su) (kept b d (entered_rows owned b (rows s x left b a d))) (λ o none. named-stays s st su h e o p q none)
     ∙ (λ i. connected d (named_in su) (kept (books i) d (whole i)))
+
+-- ---- the end of the entry
+
+owns-stays : (s : Scenario) (st su : State) (h : List Entry) (e : Entry) (o a : ℕ) → StandsFor s st h → StandsFor s su (e ∷ h) → makes e.deed ≡ None → owns_in s st o a ≡ owns_in s su o a
+owns-stays s st su h e o a p q none =
+    (λ i. (ground-is s st h p i).owns o a)
+    ∙ sym (ap (λ (m : Option Making). owns_after s m o a (owns s h o a)) none)
+    ∙ owns-made s (makes e.deed) o a (making h o)
+    ∙ sym (λ i. (ground-is s su (e ∷ h) q i).owns o a)
+
+pub ends-applied : (s : Scenario) (st : State) (h : List Entry) (l : ℕ) (d : Deed) (gained lost : List Move) (w u : Held) → Formed s → StandsFor s st h → next_of s st l ≡ Some d
+    → movings_of gained ≡ (moves_in s st (record { lane = l; deed = d })).gained → movings_of lost ≡ (moves_in s st (record { lane = l; deed = d })).lost
+    → Ties s st w → AppliedAs s st l d gained lost w u
+    → EndedAt (next_sta_in (after s st l d)) (places_at s (after s st l d)) (books_entered s st (after s st l d) (record { lane = l; deed = d })) u
+ends-applied s st h l d gained lost w u f p n g k t r =
+    let e : Entry = record { lane = l; deed = d } in
+    let su : State = after s st l d in
+    let q : StandsFor s su (e ∷ h) = stands-after s st h l d f p n in
+    let below : AllBelow (next_sta_in su) gained × AllBelow (next_sta_in su) lost = moves-below s st h l d gained lost f p n g k in
+    let unmade : (c o : ℕ) → length w.tables.objects < o → places_at s st c o ≡ 0 = λ c o m. places-made s st h c o f p (omega (arith, m, t.objects.number)) in
+    let wide : Counts (next_sta_in su) (places_at s st) w.tables = counts-next s st h l d w f p n t in
+    let moved : (c o : ℕ) → plus (places_at s su) lost c o ≡ plus (places_at s st) gained c o = places-next s st h l d gained lost f p n g k in
+    let counts : Counts (next_sta_in su) (places_at s su) u.tables = r.counts below.0 below.1 unmade wide moved in
+    let entered : books_by_rows s st l d r.owned (books_held w) ≡ books_entered s st su e =
+    entered-by s st h l d ((sight_of s st).act l) (λ c. is_leave (ending_in st c)) (books_held w) (number_or_zero (running_in s st l)) r.owned f p n refl (λ c. refl) t.books refl
+    (λ none o c. r.others o c (inl none) ∙ t.objects.owns o c ∙ owns-stays s st su h e o c p q none) r.made in
+    record {
+      counts = counts;
+      totals = r.totals (next_sta_in su) (places_at s su) counts;
+      books = r.books below.0 below.1 unmade wide moved ∙ ap (λ (b : Books). ends (next_sta_in su) (places_at s su) b) entered;
+    }

@@ -1,22 +1,25 @@
 -- What ties a ledger to a state: its books are the state's, its tables count the state's places, and its objects and calls are the
 -- state's.
-use Rattle.std.specs.Prelude.{◌≡◌, ℕ, ◌+◌, Bool, true, false, ◌==◌, ◌||◌, if◌then◌else◌, List, [], length, Option, Some, None}
-use Rattle.com_books.specs.Changes.{Books}
+use Rattle.std.specs.Prelude.{◌≡◌, ◌<◌, ◌≤◌, ◌⊎◌, ℕ, ◌+◌, Bool, true, false, ◌==◌, ◌||◌, if◌then◌else◌, List, [], length, Option, Some, None}
+use Rattle.com_books.specs.Changes.{Books, entered_rows}
 use Rattle.com_books.specs.Counting.{count_if}
 use Rattle.com_holders.specs.Places.{Counts}
 use Rattle.com_holders.specs.Tables.{object_in, owns_of}
 use Rattle.com_model.specs.declared.deeds.Deed.{Deed}
 use Rattle.com_model.specs.declared.keeps.Making.{Making}
 use Rattle.com_model.specs.declared.scenario.Scenario.{Scenario}
-use Rattle.com_model.specs.Books.{holders_in}
-use Rattle.com_model.specs.Lists.{is_member}
+use Rattle.com_model.specs.Books.{holders_in, kept, rows}
+use Rattle.com_model.specs.Endings.{is_leave}
+use Rattle.com_model.specs.Lists.{is_member, number_or_zero}
 use Rattle.com_model.specs.Objects.{makes, one_more}
 use Rattle.com_model.specs.Places.{places}
-use Rattle.com_model.specs.State.{State, after, books_in, ground_in, issued_by, named_in, next_sta_in, objects_in, owns_in, scene_in}
+use Rattle.com_model.specs.State.{State, after, books_in, ending_in, ground_in, issued_by, named_in, next_sta_in, objects_in, owns_in, running_in, scene_in, sight_of}
 use Rattle.com_model.specs.Tables.{is_agile_class}
-use Rattle.com_quiet.specs.Ends.{books_entered}
+use Rattle.com_moves.specs.declared.moves.Move.{Move}
+use Rattle.com_quiet.specs.Ends.{books_entered, connected}
 use Rattle.com_refs.specs.Ends.{ends, Totals}
 use Rattle.com_ledger.specs.Books.{Held, books_held}
+use Rattle.com_ledger.specs.Moving.{plus, AllBelow}
 
 -- The places of a state, by apartment and object, and the holders of an object.
 abbrev pub places_at : Scenario → State → (apartment object : ℕ) → ℕ
@@ -72,6 +75,26 @@ pub record EntryEnds (s : Scenario) (st : State) (l : ℕ) (d : Deed) (w u : Hel
   pub ended : EndedAt (next_sta_in (after s st l d)) (places_at s (after s st l d)) (books_entered s st (after s st l d) (record { lane = l; deed = d })) u
   pub objects : ObjectsGrow s d w u
   pub calls : length u.calls ≡ count_if (issued_by (record { lane = l; deed = d })) + length w.calls
+
+-- Books with the rows of the next entry of a lane, with what calls keep of packets and with what it connects and what not.
+abbrev pub books_by_rows : Scenario → State → (lane : ℕ) → Deed → (owned : ℕ → ℕ → Bool) → Books → Books
+books_by_rows s st l d owned b =
+    connected d (named_in st) (kept b d (entered_rows owned b (rows s ((sight_of s st).act l) (λ c. is_leave (ending_in st c)) b (number_or_zero (running_in s st l)) d)))
+
+-- An entry was applied to a ledger: whatever it takes as who owns objects, it is right of those that were made before, and of the one
+-- that the entry makes; and where the places before the entry are what was counted, the places after it are what is counted, and the
+-- books are those with the entry's rows, at their end for these places.
+pub record AppliedAs (s : Scenario) (st : State) (l : ℕ) (d : Deed) (gained lost : List Move) (w u : Held) : Type 0 where
+  pub owned : ℕ → ℕ → Bool
+  pub others : (o c : ℕ) → (makes d ≡ None) ⊎ (o ≤ length w.tables.objects) → owned o c ≡ owns_of w.tables.objects o c
+  pub made : (m : Making) → makes d ≡ Some m → owned m.object (number_or_zero (running_in s st l)) ≡ owns_in s (after s st l d) m.object (number_or_zero (running_in s st l))
+  pub counts : AllBelow (next_sta_in (after s st l d)) gained → AllBelow (next_sta_in (after s st l d)) lost → ((c o : ℕ) → length w.tables.objects < o → places_at s st c o ≡ 0)
+      → Counts (next_sta_in (after s st l d)) (places_at s st) w.tables → ((c o : ℕ) → plus (places_at s (after s st l d)) lost c o ≡ plus (places_at s st) gained c o)
+      → Counts (next_sta_in (after s st l d)) (places_at s (after s st l d)) u.tables
+  pub books : AllBelow (next_sta_in (after s st l d)) gained → AllBelow (next_sta_in (after s st l d)) lost → ((c o : ℕ) → length w.tables.objects < o → places_at s st c o ≡ 0)
+      → Counts (next_sta_in (after s st l d)) (places_at s st) w.tables → ((c o : ℕ) → plus (places_at s (after s st l d)) lost c o ≡ plus (places_at s st) gained c o)
+      → books_held u ≡ ends (next_sta_in (after s st l d)) (places_at s (after s st l d)) (books_by_rows s st l d owned (books_held w))
+  pub totals : (n : ℕ) (places : ℕ → ℕ → ℕ) → Counts n places u.tables → Totals n places u.tables
 
 -- Each object that had a holder in the one state and has none in the other is in the list.
 abbrev pub AllTouched : Scenario → (before after : State) → List ℕ → Type 0

@@ -20,10 +20,21 @@ ghost use Rattle.com_moves.specs.Steps.{movings_of};
 ghost use Rattle.com_moves.specs.Tables.{moves_in};
 ghost use Rattle.com_quiet.specs.Ends.{books_entered, connected};
 ghost use Rattle.com_refs.specs.Counts.{holders_of};
-ghost use Rattle.com_refs.specs.Ends.{ends};
+ghost use Rattle.com_refs.specs.Ends.{ends, Totals};
 ghost use Rattle.com_ledger.specs.Books.{Held};
 ghost use Rattle.com_ledger.specs.Moving.{plus, AllBelow, Touches};
-ghost use Rattle.com_ledger.specs.Ties.{AllTouched, EntryEnds, IsNew, OwnersGrow, OwnersTie, Ties, holders_at, places_at};
+ghost use Rattle.com_ledger.specs.Ties.{AllTouched, AppliedAs, EndedAt, EntryEnds, IsNew, OwnersGrow, OwnersTie, Ties, holders_at, places_at};
+
+use crate::ledger::Ledger;
+
+impl Ledger {
+    /// Places that are what the ledger counts total the places of each object.
+    pub fn tells(&self)
+        ensures { (n : ℕ) (places : ℕ → ℕ → ℕ) → Counts n places self.now.tables → Totals n places self.now.tables }
+    {
+        self.keeping.refs.tells();
+    }
+}
 
 /// A ledger where nothing is held is tied to the state before the first entry.
 pub fn new_ledger_ties()
@@ -39,12 +50,14 @@ pub fn holders_tie()
 /// entry, with those that it lost, are the places before it, with those that it gained (`places`); the apartments of the moves are
 /// below the number of the next one (`below`); and the books after it are those with the entry's rows, at their end for the places
 /// after it (`books`). A ledger that is tied to the state counts the places before the entry also among the apartments after it
-/// (`counts`); and where it ends as `EntryEnds` says, it is tied to the state after the entry (`ties`).
+/// (`counts`). Where the entry was applied to it (`AppliedAs`), it ends at the places after the entry (`ended`); and where it ends as
+/// `EntryEnds` says, it is tied to the state after the entry (`ties`).
 pub fn entries_tie()
     ensures places { (s : Scenario) (st : State) (h : List Entry) (l : ℕ) (d : Deed) (gained lost : List Move) → Formed s → StandsFor s st h → next_of s st l ≡ Some d → movings_of gained ≡ (moves_in s st (record { lane = l; deed = d })).gained → movings_of lost ≡ (moves_in s st (record { lane = l; deed = d })).lost → (a o : ℕ) → plus (places_at s (after s st l d)) lost a o ≡ plus (places_at s st) gained a o }
     ensures below { (s : Scenario) (st : State) (h : List Entry) (l : ℕ) (d : Deed) (gained lost : List Move) → Formed s → StandsFor s st h → next_of s st l ≡ Some d → movings_of gained ≡ (moves_in s st (record { lane = l; deed = d })).gained → movings_of lost ≡ (moves_in s st (record { lane = l; deed = d })).lost → AllBelow (next_sta_in (after s st l d)) gained × AllBelow (next_sta_in (after s st l d)) lost }
     ensures books { (s : Scenario) (st : State) (h : List Entry) (l : ℕ) (d : Deed) → Formed s → StandsFor s st h → next_of s st l ≡ Some d → books_in (after s st l d) ≡ ends (next_sta_in (after s st l d)) (places_at s (after s st l d)) (books_entered s st (after s st l d) (record { lane = l; deed = d })) }
     ensures counts { (s : Scenario) (st : State) (h : List Entry) (l : ℕ) (d : Deed) (w : Held) → Formed s → StandsFor s st h → next_of s st l ≡ Some d → Ties s st w → Counts (next_sta_in (after s st l d)) (places_at s st) w.tables }
+    ensures ended { (s : Scenario) (st : State) (h : List Entry) (l : ℕ) (d : Deed) (gained lost : List Move) (w u : Held) → Formed s → StandsFor s st h → next_of s st l ≡ Some d → movings_of gained ≡ (moves_in s st (record { lane = l; deed = d })).gained → movings_of lost ≡ (moves_in s st (record { lane = l; deed = d })).lost → Ties s st w → AppliedAs s st l d gained lost w u → EndedAt (next_sta_in (after s st l d)) (places_at s (after s st l d)) (books_entered s st (after s st l d) (record { lane = l; deed = d })) u }
     ensures ties { (s : Scenario) (st : State) (h : List Entry) (l : ℕ) (d : Deed) (w u : Held) → Formed s → StandsFor s st h → next_of s st l ≡ Some d → Ties s st w → EntryEnds s st l d w u → Ties s (after s st l d) u }
 {}
 

@@ -1,4 +1,5 @@
 use Rattle.com_ledger.proofs.Following.{books-next, counts-next, moves-below, places-next, ties-after}
+use Rattle.com_ledger.proofs.Within.{ends-applied}
 use Rattle.com_ledger.proofs.laws.entries_tie.Goals as goal
 
 pub returns-clause-places : goal.returns-clause-places
@@ -15,3 +16,6 @@ returns-clause-counts c = counts-next
 
 pub returns-clause-ties : goal.returns-clause-ties
 returns-clause-ties c = ties-after
+
+pub returns-clause-ended : goal.returns-clause-ended
+returns-clause-ended c = ends-applied
