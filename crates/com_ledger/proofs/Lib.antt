@@ -1,4 +1,13 @@
+pub mod Closing
+pub mod Cutting
+pub mod Ending
+pub mod Entering
+pub mod Gaining
+pub mod Giving
 pub mod Listed
+pub mod Losing
+pub mod Makings
+pub mod Packed
 pub mod Placed
 pub mod Reading
 pub mod Rowing

@@ -5,12 +5,14 @@ use crate::keeping::Keeping;
 use crate::ledger::Ledger;
 use crate::making::make;
 use crate::moving::{are_kept, gain_all, lose_all};
+use crate::packing::{is_left, issue, read_all, reply};
 use crate::rows::{
     MOST_GIVEN, disconnect, drop_packet, end_apartment, get, marshal, query, register, revoke,
     unmarshal, unproved,
 };
 use com_base::{HResult, Memory, RefValue};
 use com_body::Asked;
+use com_calls::Calls;
 use com_deeds::number_or_zero;
 use com_model::{Deed, Entry};
 use com_moves::Moves;
@@ -148,9 +150,9 @@ impl Keeping {
             } => register(&mut self.refs, *held),
             Deed::Get {
                 cookie,
-                held: Some(_),
+                held: Some(held),
                 ..
-            } => get(&mut self.refs, &mut self.brought, apartment, *cookie),
+            } => get(&mut self.refs, &mut self.brought, apartment, *cookie, *held),
             Deed::Revoke {
                 cookie,
                 hr: HResult(0),
@@ -169,20 +171,35 @@ impl Keeping {
         match deed {
             Deed::Out { call, bytes, .. } => {
                 let carried = carried_in(context.carried, bytes.is_some());
-                self.issue(apartment, *call, carried)
+                issue(&mut self.refs, &mut self.calls, apartment, *call, carried)
             }
             Deed::Enter {
                 call,
                 apartment,
                 ..
-            } => self.enter(*apartment, *call),
+            } => {
+                let packets = self.calls.get(*call);
+                read_all(&mut self.refs, &mut self.brought, *apartment, packets)
+            }
             Deed::Leave { call, bytes, .. } => {
                 let carried = carried_in(context.carried, bytes.is_some());
-                self.reply(apartment, *call, carried)
+                reply(&mut self.refs, &mut self.calls, apartment, *call, carried)
             }
             Deed::Back { call, .. } => self.give_back(context.calls, apartment, *call),
             _ => Ok(()),
         }
+    }
+
+    // A call comes back: its result's packet is read where the answer is its body's, and given up where it is not.
+    fn give_back(&mut self, calls: &Calls, apartment: u32, call: u32) -> Result<(), Memory> {
+        let number = self.calls.get(call).result;
+        if number == 0 {
+            return Ok(());
+        }
+        if is_left(calls, call) {
+            return unmarshal(&mut self.refs, &mut self.brought, apartment, number);
+        }
+        drop_packet(&mut self.refs, &mut self.touched, number)
     }
 
     // What comes to places, with what the row brought: that stands first, but for a result that comes back to no slot.
