@@ -1,16 +1,16 @@
 -- The row of an entry that ends a holder which is no place, by its deed.
 use mathlib.Core.Path.{fun_ext}
-use Rattle.std.proofs.Common.{◌≡◌, ℕ, zero, suc, ℤ, pos, negsuc, Bool, true, false, cond, eqb, not, nat_le, ◌&&◌, ◌||◌, ◌+◌, ◌<◌, ◌≤◌, List, [], ◌∷◌, refl, sym, ap, subst, ◌∙◌, arith, eqb-true, inl, inr}
+use Rattle.std.proofs.Common.{◌≡◌, ℕ, zero, suc, ℤ, pos, negsuc, Bool, true, false, cond, eqb, not, nat_le, ◌&&◌, ◌||◌, List, [], ◌∷◌, refl, sym, ap, subst, ◌∙◌, arith, eqb-true}
 use Rattle.std.proofs.lemmas.Bool.{ne_eqb, eqb-false}
 use Rattle.std.proofs.lemmas.Grind.{common_steps}
 use Rattle.std.specs.Prelude.{Option, Some, None}
 use Rattle.com_base.specs.declared.hresult.HResult.{HResult}
 use Rattle.com_base.specs.declared.value.Value.{Value}
 use Rattle.com_body.specs.declared.actions.Action.{Action}
-use Rattle.com_books.specs.Changes.{Books, Row, changed, change, Drops, Revokes, Withdraw, entered_rows}
+use Rattle.com_books.specs.Changes.{Books, Row, Drops, Revokes, entered_rows}
 use Rattle.com_holders.specs.Places.{Counts}
 use Rattle.com_holders.specs.Stands.{Tells}
-use Rattle.com_holders.specs.Tables.{Tables, books_of, owns_of}
+use Rattle.com_holders.specs.Tables.{Tables, owns_of}
 use Rattle.com_model.specs.declared.deeds.Deed.{Deed}
 use Rattle.com_model.specs.declared.deeds.Deed.TheVariants as deed
 use Rattle.com_model.specs.declared.scenario.Scenario.{Scenario}
@@ -20,12 +20,12 @@ use Rattle.com_model.specs.Deeds.{cookie_number}
 use Rattle.com_model.specs.Lists.{is_number, where_true}
 use Rattle.com_model.specs.Objects.{makes, disconnects}
 use Rattle.com_quiet.specs.Ends.{connected}
-use Rattle.com_refs.specs.Ends.{ends, Totals}
+use Rattle.com_refs.specs.Ends.{Totals}
 use Rattle.com_state.specs.Parts.{ObjectTables, named_at}
 use Rattle.com_ledger.specs.declared.calls.CallPackets.{CallPackets}
-use Rattle.com_ledger.specs.Calls.{call_at, result_in, number_of}
+use Rattle.com_ledger.specs.Calls.{call_at, number_of}
 use Rattle.com_ledger.specs.Books.{Taken, Cut, books_with}
-use Rattle.com_ledger.specs.Entries.{Around, Tally, tally, books_tallied, left_by, entered, Closed}
+use Rattle.com_ledger.specs.Entries.{Around, tally, left_by, entered, ends_holder, Closed, Closes, ClosesTables, GivesUp}
 use Rattle.com_ledger.proofs.Entering.{IsPlain, connected_plain, closed_none, closed_taken, closed_cut}
 use Rattle.com_ledger.proofs.Losing.{withdraw_none}
 
@@ -62,6 +62,10 @@ module _ (s : Scenario) (x : Option Action) (g : Around) (owned : ℕ → ℕ �
         (ap (λ (w : Bool). entered_rows owned (books_with t calls) (back_rows g.apartment w (number_of (call_at calls c).result))) left
         ∙ ap (λ (k : ℕ). entered_rows owned (books_with t calls) (back_rows g.apartment false (number_of k))) is)
 
+    pub closed_given_up : (c number : ℕ) (hr : HResult) (v : Option Value) → (number ≡ 0 → ⊥) → left_by g.calls c ≡ false → (call_at calls c).result ≡ number → Taken (Drops number) t u → Closed (expects (deed.Back c hr v)) (tally t calls) (tally u calls)
+    closed_given_up c zero hr v some left is taken = absurd (some refl)
+    closed_given_up c (suc number) hr v some left is taken = closed_back c number hr v left is taken
+
   -- a cookie that was not revoked, and a result that has no packet
   pub closed_unrevoked : (g' : ℤ) (hr : HResult) → (hr.0 ≡ 0 → ⊥) → u ≡ t → Closed (expects (deed.Revoke g' hr)) (tally t calls) (tally u calls)
   closed_unrevoked (pos n) hr bad e = closed_plain (deed.Revoke (pos n) hr) (record { makes_none = refl; disconnects_none = refl; ends_none = refl }) e
@@ -95,3 +99,32 @@ module _ (s : Scenario) (x : Option Action) (g : Around) (owned : ℕ → ℕ �
   pub closed_uninit : (a : ℕ) → nat_le 2 a ≡ true → Cut (λ y. eqb (named_at g.objects y) a) t u → Closed (expects (deed.Uninit (Some a) 0)) (tally t calls) (tally u calls)
   closed_uninit a sta f = closed_cut (λ y. eqb (named_at g.objects y) a) t u calls (expects (deed.Uninit (Some a) 0)) f
       (live-with (deed.Uninit (Some a) 0) (λ y. eqb (named_at g.objects y) a) (λ y. sym (ap (λ (w : Bool). (books_with t calls).live y && (true && not (is_number (named_at g.objects y) (where_true w a)))) sta)))
+
+-- ---- each deed
+
+pub closes_tables : (objects : ObjectTables) (d : Deed) (g : Around) (t u : Tables) (calls : List CallPackets) → g.objects ≡ objects → ((left : ℕ → Bool) → ends_holder left d ≡ true) → ClosesTables objects d t u → Closes g d (tally t calls) (tally u calls)
+closes_tables objects d g t u calls same takes each = λ s x owned.
+    subst (λ (w : Bool). Closed (cond w (entered s x g owned d (books_with t calls)) (books_with t calls)) (tally t calls) (tally u calls)) (sym (takes (left_by g.calls))) (each s x g owned calls same)
+
+pub closes_nothing : (g : Around) (d : Deed) (t : Tables) (calls : List CallPackets) → ends_holder (left_by g.calls) d ≡ false → Closes g d (tally t calls) (tally t calls)
+closes_nothing g d t calls none = λ s x owned.
+    subst (λ (w : Bool). Closed (cond w (entered s x g owned d (books_with t calls)) (books_with t calls)) (tally t calls) (tally t calls)) (sym none) (closed_none (books_with t calls) (tally t calls) (tally t calls) refl refl)
+
+pub closes_back : (g : Around) (c number : ℕ) (hr : HResult) (v : Option Value) (t u : Tables) (calls : List CallPackets) → left_by g.calls c ≡ false → (call_at calls c).result ≡ number → GivesUp number t u
+    → Closes g (deed.Back c hr v) (tally t calls) (tally u calls)
+closes_back g c number hr v t u calls left is each = λ s x owned.
+    subst (λ (w : Bool). Closed (cond (not w) (entered s x g owned (deed.Back c hr v) (books_with t calls)) (books_with t calls)) (tally t calls) (tally u calls)) (sym left) (each s x g owned calls c hr v left is)
+
+pub not_ender : (left : ℕ → Bool) (d : Deed)
+    → ((p : Option ℕ) (hr : HResult) → d ≡ deed.DropPacket p hr → ⊥)
+    → ((k : ℤ) (hr : HResult) → d ≡ deed.Revoke k hr → ⊥)
+    → ((c : ℕ) (hr : HResult) (v : Option Value) → d ≡ deed.Back c hr v → ⊥)
+    → ((o : Option ℕ) (hr : HResult) → d ≡ deed.Disconnect o hr → ⊥)
+    → ((home : Option ℕ) (n : ℕ) → d ≡ deed.Uninit home n → ⊥)
+    → ends_holder left d ≡ false
+not_ender left (deed.DropPacket p hr) drop revoke back disconnect uninit = absurd (drop p hr refl)
+not_ender left (deed.Revoke k hr) drop revoke back disconnect uninit = absurd (revoke k hr refl)
+not_ender left (deed.Back c hr v) drop revoke back disconnect uninit = absurd (back c hr v refl)
+not_ender left (deed.Disconnect o hr) drop revoke back disconnect uninit = absurd (disconnect o hr refl)
+not_ender left (deed.Uninit home n) drop revoke back disconnect uninit = absurd (uninit home n refl)
+not_ender left d drop revoke back disconnect uninit = refl

@@ -1,6 +1,6 @@
 -- What is cut, and then ends.
 use mathlib.Core.Path.{fun_ext}
-use Rattle.std.proofs.Common.{◌≡◌, ℕ, Bool, true, false, eqb, cond, not, ◌&&◌, ◌+◌, ◌-◌, ◌<◌, ◌≤◌, List, [], ◌∷◌, length, refl, sym, ap, subst, ◌∙◌, arith, eqb-true}
+use Rattle.std.proofs.Common.{◌≡◌, ℕ, Bool, true, false, eqb, cond, not, ◌&&◌, ◌+◌, ◌-◌, List, [], ◌∷◌, length, refl, sym, ap, subst, ◌∙◌, arith, eqb-true}
 use Rattle.std.proofs.lemmas.Grind.{common_steps}
 use Rattle.std.specs.Prelude.{map}
 use Rattle.com_stub.specs.StubRows.{is_connected}
@@ -9,7 +9,7 @@ use Rattle.com_books.specs.Changes.{Books, cut, cut_packet, cut_cookie, given_ba
 use Rattle.com_books.specs.declared.keeps.Packet.{Packet}
 use Rattle.com_books.specs.declared.keeps.Cookie.{Cookie}
 use Rattle.com_holders.specs.Places.{SamePlaces, places_of, locals_of}
-use Rattle.com_holders.specs.Tables.{Tables, books_of, owns_of, object_in, direct_in}
+use Rattle.com_holders.specs.Tables.{Tables, books_of, owns_of, object_in}
 use Rattle.com_holders.proofs.Same.{same_books}
 use Rattle.com_refs.specs.Ends.{stays, ends}
 use Rattle.com_refs.proofs.Ends.{holds-kept, holds-same}

@@ -1,11 +1,11 @@
 -- The objects of an STA that ends, one after another.
-use Rattle.std.proofs.Common.{◌≡◌, ℕ, zero, suc, Bool, true, false, eqb, cond, not, nat_le, ◌&&◌, ◌+◌, ◌<◌, ◌≤◌, List, [], ◌∷◌, length, refl, sym, ap, ◌∙◌, arith, eqb-true}
+use Rattle.std.proofs.Common.{◌≡◌, ℕ, zero, suc, Bool, true, false, eqb, not, nat_le, ◌&&◌, ◌+◌, ◌<◌, ◌≤◌, List, [], ◌∷◌, length, refl, ap, ◌∙◌, arith}
 use Rattle.std.proofs.lemmas.Bool.Decides.{nat_tests}
 use Rattle.std.proofs.lemmas.Grind.{common_steps}
-use Rattle.std.specs.Prelude.{Option, Some, None, option_map, slice_index_or}
+use Rattle.std.specs.Prelude.{Option, None, option_map, slice_index_or}
 use Rattle.com_holders.specs.Tables.{Tables, books_of}
 use Rattle.com_model.specs.declared.keeps.Making.{Making}
-use Rattle.com_model.specs.Lists.{from_one, number_or_zero}
+use Rattle.com_model.specs.Lists.{number_or_zero}
 use Rattle.com_state.specs.Parts.{ObjectTables, named_at}
 use Rattle.com_ledger.specs.Books.{Cut}
 use Rattle.com_ledger.proofs.Cutting.{cut_nothing, cut_same, cut_more}

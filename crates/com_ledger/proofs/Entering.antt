@@ -1,18 +1,14 @@
 -- The rows of each deed.
 use mathlib.Core.Path.{fun_ext}
-use Rattle.std.proofs.Common.{◌≡◌, ℕ, zero, suc, Bool, true, false, cond, eqb, not, ◌&&◌, ◌||◌, ◌+◌, ◌<◌, ◌≤◌, List, [], ◌∷◌, ◌++◌, length, refl, sym, ap, subst, ◌∙◌, arith, eqb-true, inl, inr}
-use Rattle.std.proofs.lemmas.Bool.{cases_lt}
-use Rattle.std.proofs.lemmas.Grind.{common_steps}
+use Rattle.std.proofs.Common.{◌≡◌, ℕ, Bool, true, false, cond, not, ◌&&◌, ◌||◌, ◌<◌, ◌≤◌, List, [], ◌∷◌, ◌++◌, length, refl, sym, ap, subst, ◌∙◌, arith}
 use Rattle.std.proofs.lemmas.List.{append-nil}
-use Rattle.std.specs.Prelude.{Option, Some, None}
-use Rattle.com_base.specs.declared.value.RefValue.{RefValue}
+use Rattle.std.specs.Prelude.{Option, None}
 use Rattle.com_body.specs.declared.actions.Action.{Action}
-use Rattle.com_books.specs.Changes.{Books, Row, Change, changed, change, entered_rows, cut, made_since}
-use Rattle.com_holders.specs.Places.{Counts, SamePlaces}
+use Rattle.com_books.specs.Changes.{Books, Row, changed, change, entered_rows}
+use Rattle.com_holders.specs.Places.{Counts}
 use Rattle.com_holders.specs.Stands.{Tells}
 use Rattle.com_holders.specs.Tables.{Tables, books_of, owns_of}
 use Rattle.com_model.specs.declared.deeds.Deed.{Deed}
-use Rattle.com_model.specs.declared.deeds.Deed.TheVariants as deed
 use Rattle.com_model.specs.declared.keeps.Making.{Making}
 use Rattle.com_model.specs.declared.scenario.Scenario.{Scenario}
 use Rattle.com_model.specs.Apartments.{ends_sta}
@@ -20,7 +16,7 @@ use Rattle.com_model.specs.Books.{rows, kept, made_by}
 use Rattle.com_model.specs.Lists.{is_number}
 use Rattle.com_model.specs.Objects.{makes, disconnects}
 use Rattle.com_moves.specs.declared.moves.Move.{Move}
-use Rattle.com_quiet.specs.Ends.{connects, connected}
+use Rattle.com_quiet.specs.Ends.{connected}
 use Rattle.com_refs.specs.Ends.{ends, Totals}
 use Rattle.com_refs.proofs.Ends.{ends_again}
 use Rattle.com_refs.proofs.Ties.{counts_same}

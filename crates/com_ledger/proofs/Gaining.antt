@@ -1,11 +1,11 @@
 -- Rows that take no holder, one after another, and the places that they bring.
 use mathlib.Core.Path.{fun_ext}
-use Rattle.std.proofs.Common.{◌≡◌, ℕ, Bool, ◌+◌, ◌<◌, List, [], ◌∷◌, ◌++◌, refl, sym, ap, subst, ◌∙◌, arith, append_assoc}
+use Rattle.std.proofs.Common.{◌≡◌, ℕ, Bool, ◌+◌, List, [], ◌∷◌, ◌++◌, refl, sym, ap, subst, ◌∙◌, arith, append_assoc}
 use Rattle.std.proofs.lemmas.List.{append-nil}
 use Rattle.std.proofs.lemmas.List.Sums.{fold-append}
 use Rattle.com_base.specs.declared.value.RefValue.{RefValue}
 use Rattle.com_books.specs.Changes.{Books, Row, changed, change, entered_rows}
-use Rattle.com_holders.specs.Places.{Counts, OneMore, SamePlaces}
+use Rattle.com_holders.specs.Places.{OneMore, SamePlaces}
 use Rattle.com_holders.specs.Tables.{Tables, books_of, owns_of}
 use Rattle.com_moves.specs.declared.moves.Move.{Move}
 use Rattle.com_refs.proofs.Ties.{counts_same}
@@ -26,7 +26,7 @@ below_left : (n : ℕ) (xs ys : List Move) → AllBelow n (xs ++ ys) → AllBelo
 below_left n [] ys a = tt
 below_left n (m ∷ xs) ys a = (a.0, below_left n xs ys a.1)
 
-below_right : (n : ℕ) (xs ys : List Move) → AllBelow n (xs ++ ys) → AllBelow n ys
+pub below_right : (n : ℕ) (xs ys : List Move) → AllBelow n (xs ++ ys) → AllBelow n ys
 below_right n [] ys a = a
 below_right n (m ∷ xs) ys a = below_right n xs ys a.1
 

@@ -1,7 +1,9 @@
+pub mod Changing
 pub mod Closing
 pub mod Cutting
 pub mod Ending
 pub mod Entering
+pub mod Exchanging
 pub mod Gaining
 pub mod Giving
 pub mod Listed
@@ -11,3 +13,4 @@ pub mod Packed
 pub mod Placed
 pub mod Reading
 pub mod Rowing
+pub mod Rowless

@@ -1,25 +1,26 @@
 -- Rows that take a holder, and rows of what has ended.
 use mathlib.Core.Path.{fun_ext}
-use Rattle.std.proofs.Common.{◌≡◌, ℕ, zero, suc, Bool, true, false, cond, eqb, ◌&&◌, ◌+◌, ◌-◌, ◌<◌, ◌≤◌, List, [], ◌∷◌, length, Result, OnOk, refl, sym, ap, subst, ◌∙◌, arith, eqb-true, inl, inr}
+use Rattle.std.proofs.Common.{◌≡◌, ℕ, zero, suc, Bool, true, false, cond, eqb, ◌&&◌, ◌-◌, ◌<◌, ◌≤◌, List, [], ◌∷◌, length, Result, OnOk, refl, sym, ap, subst, ◌∙◌, arith, eqb-true, inl, inr}
 use Rattle.std.proofs.lemmas.Bool.{cases_lt}
-use Rattle.std.proofs.lemmas.Grind.{common_steps}
-use Rattle.std.specs.Prelude.{Option, Some, None, Ok, Err, slice_set, slice_index_or}
+use Rattle.std.specs.Prelude.{None, Ok, Err, slice_set, slice_index_or}
 use Rattle.com_stub.specs.StubRows.{is_connected}
-use Rattle.com_books.specs.Changes.{Books, Row, Change, changed, change, unmarshal_change, Same, Return, Withdraw, Unmarshals, Drops, Revokes, packet, cookie, no_cookie, at2, set_from_one}
+use Rattle.com_books.specs.Changes.{Books, Row, changed, change, unmarshal_change, Same, Return, Withdraw, Unmarshals, Drops, packet, cookie, no_cookie, at2, set_from_one}
 use Rattle.com_books.specs.declared.keeps.Packet.{Packet}
 use Rattle.com_books.specs.declared.keeps.Cookie.{Cookie}
-use Rattle.com_holders.specs.Places.{SamePlaces}
 use Rattle.com_holders.specs.Stands.{Tells}
 use Rattle.com_holders.specs.Tables.{Tables, books_of, owns_of, outstanding_in}
 use Rattle.com_holders.proofs.Cuts.{packet_hidden}
-use Rattle.com_holders.proofs.Cookies.{cookie_hidden}
 use Rattle.com_refs.specs.Ends.{ends, Totals}
-use Rattle.com_ledger.specs.Books.{Rowed, Taken}
+use Rattle.com_ledger.specs.Books.{Taken}
 use Rattle.com_ledger.proofs.Cutting.{same_rows}
 
 pub on_ok : {A E : Type 0} (r : Result A E) {P : Type 0} → P → OnOk r P
 on_ok (Ok x) p = p
 on_ok (Err e) p = tt
+
+pub on_ok_both : {A E P Q R : Type 0} (r : Result A E) → (P → Q → R) → OnOk r P → OnOk r Q → OnOk r R
+on_ok_both (Ok x) f p q = f p q
+on_ok_both (Err e) f p q = tt
 
 -- ---- what has ended
 

@@ -6,15 +6,14 @@ use Rattle.std.specs.Prelude.{slice_index_or}
 use Rattle.com_base.specs.declared.value.RefValue.{RefValue}
 use Rattle.com_books.specs.Counting.{sum_below, count_if}
 use Rattle.com_books.proofs.Sums.{sum-same, sum-changed, sum-nothing}
-use Rattle.com_books.specs.Changes.{Books, Change, changed, change, ToProxy, Same, Makes}
+use Rattle.com_books.specs.Changes.{Books, changed, change, ToProxy, Same, Makes}
 use Rattle.com_holders.specs.declared.ObjectRow.{ObjectRow}
 use Rattle.com_holders.specs.Places.{Counts, places_in}
 use Rattle.com_holders.proofs.Rowed.{places_le}
 use Rattle.com_holders.specs.Steps.{made_live}
-use Rattle.com_holders.specs.Tables.{Tables, books_of, owns_of, object_in, direct_in, no_object}
+use Rattle.com_holders.specs.Tables.{Tables, owns_of, direct_in, no_object}
 use Rattle.com_refs.specs.Ends.{Totals}
-use Rattle.com_moves.specs.declared.moves.Move.{Move}
-use Rattle.com_ledger.specs.Books.{moved_to, AreMade, Made}
+use Rattle.com_ledger.specs.Books.{moved_to, AreMade}
 use Rattle.com_ledger.specs.Moving.{plus}
 
 -- ---- the books

@@ -1,4 +1,4 @@
-use Rattle.std.proofs.Common.{refl, sym, ◌∙◌}
+use Rattle.std.proofs.Common.{sym, ◌∙◌}
 use Rattle.com_ledger.proofs.Cutting.{cut_dead, same_rows}
 use Rattle.com_ledger.proofs.Losing.{on_ok}
 use Rattle.com_ledger.proofs.rows.disconnect.Goals as goal

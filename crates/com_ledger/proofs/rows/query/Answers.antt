@@ -1,5 +1,4 @@
 use Rattle.std.proofs.lemmas.Result.{on_ok_weaker}
-use Rattle.std.specs.Prelude.{◌≡◌, ◌++◌, ◌∷◌, []}
 use Rattle.com_books.specs.Changes.{Asks}
 use Rattle.com_ledger.proofs.Gaining.{gained_one}
 use Rattle.com_ledger.proofs.rows.query.Goals as goal
