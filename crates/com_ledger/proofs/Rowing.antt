@@ -1,8 +1,8 @@
 -- Rows of what is not connected.
-use Rattle.std.proofs.Common.{◌≡◌, ℕ, Bool, true, false, cond, refl, sym, ap, subst, ◌∙◌}
+use Rattle.std.proofs.Common.{◌≡◌, ℕ, Bool, true, false, cond, sym, ap, ◌∙◌}
 use Rattle.com_base.specs.declared.value.MarshalMode.{MarshalMode}
 use Rattle.com_stub.specs.StubRows.{is_connected}
-use Rattle.com_books.specs.Changes.{Books, Change, changed, marshal_change, Same, ToCookie, Marshals, Registers}
+use Rattle.com_books.specs.Changes.{changed, marshal_change, Same, ToCookie, Marshals, Registers}
 use Rattle.com_holders.specs.Tables.{Tables, books_of, owns_of}
 use Rattle.com_ledger.specs.Books.{Rowed}
 

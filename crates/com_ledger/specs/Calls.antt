@@ -1,5 +1,5 @@
 -- The packets that carry the arguments and the result of each call.
-use Rattle.std.specs.Prelude.{ℕ, zero, suc, ◌+◌, ◌<◌, ◌^◌, ◌==◌, if◌then◌else◌, List, slice_index_or, Option, Some, None}
+use Rattle.std.specs.Prelude.{ℕ, zero, suc, ◌+◌, ◌<◌, ◌^◌, List, slice_index_or, Option, Some, None}
 use Rattle.std.specs.List.{AllByRecursion}
 use Rattle.com_books.specs.Changes.{set_from_one}
 use Rattle.com_books.specs.Counting.{numbers_from}

@@ -1,35 +1,70 @@
 //! The change of the books by an entry.
+ghost use Rattle.std.specs.Prelude.{◌≡◌, ◌≤◌, [], false, if◌then◌else◌, IsTrue, OnOk, List, length, take};
+ghost use Rattle.com_holders.specs.Places.{SamePlaces};
+ghost use Rattle.com_holders.specs.Tables.{books_of};
+ghost use Rattle.com_model.specs.Lists.{number_or_zero};
+ghost use Rattle.com_moves.specs.declared.moves.Move.{Move};
+ghost use Rattle.com_moves.specs.Steps.{movings_of};
+ghost use Rattle.com_ledger.specs.Books.{Exchanged};
+ghost use Rattle.com_ledger.specs.Entries.{Gives, Closes, Applies, around, tally, is_of_reference};
 
 use crate::context::Context;
+use crate::ends::{end_connection, end_cookie, end_home, end_packet, give_up};
+use crate::entries::{
+    enter_back, enter_get, enter_made, enter_marshal, enter_query, enter_register, enter_unmarshal,
+};
 use crate::keeping::Keeping;
 use crate::ledger::Ledger;
-use crate::making::make;
-use crate::moving::{are_kept, gain_all, lose_all};
-use crate::rows::{
-    MOST_GIVEN, disconnect, drop_packet, end_apartment, get, marshal, query, register, revoke,
-    unmarshal, unproved,
-};
-use com_base::{HResult, Memory, RefValue};
-use com_body::Asked;
+use crate::moving::{gain_all, lose_all};
+use crate::packing::{is_left, issue, read_all, reply};
+use crate::rows::{MOST_GIVEN, unproved};
+use com_base::{Memory, RefValue};
 use com_deeds::number_or_zero;
 use com_model::{Deed, Entry};
-use com_moves::Moves;
+use com_moves::{Move, Moves};
+use com_refs::Refs;
 
 // What is carried, where there are bytes.
-fn carried_in<'a>(carried: &'a [RefValue], is_marshalled: bool) -> &'a [RefValue] {
+fn carried_in<'a>(carried: &'a [RefValue], is_marshalled: bool) -> &'a [RefValue]
+    ensures { result.now ≡ (if is_marshalled then carried.now else []) }
+{
     if is_marshalled {
         return carried;
     }
     &carried[..0]
 }
 
-// A reference by an interface that has a number of 16 bits.
-fn reference(object: u32, iface: u32) -> Result<RefValue, Memory> {
-    if iface > 0xffff {
-        return Err(unproved());
+// Whether what the row brought stands first in what comes to places.
+fn stands_first(brought: &[Move], gained: &[Move]) -> bool
+    ensures within { IsTrue result → length brought.now ≤ length gained.now }
+    ensures first { IsTrue result → take (length brought.now) gained.now ≡ brought.now }
+    ensures none { brought.now ≡ [] → IsTrue result }
+{
+    if brought.len() > gained.len() {
+        return false;
     }
-    let iface = iface as u16;
-    Ok(RefValue { object, iface })
+    for (place, moved) in brought.iter().enumerate() {
+        if gained[place] != *moved {
+            return false;
+        }
+    }
+    true
+}
+
+// What comes to places, with what the row brought: that stands first, but for a result that comes back to no slot.
+fn take(
+    refs: &mut Refs,
+    touched: &mut Vec<u32>,
+    brought: &[Move],
+    gained: &[Move],
+) -> Result<(), Memory>
+    ensures { OnOk result (Exchanged brought.now gained.now refs.old refs.new) }
+{
+    if stands_first(brought, gained) {
+        return gain_all(refs, &gained[brought.len()..]);
+    }
+    gain_all(refs, gained)?;
+    lose_all(refs, touched, brought)
 }
 
 impl Keeping {
@@ -42,12 +77,12 @@ impl Keeping {
     }
 
     // Makes room for the entry, so that memory is wanted before anything has changed.
-    fn make_room(
-        &mut self,
-        deed: &Deed,
-        context: Context<'_>,
-        moves: &Moves,
-    ) -> Result<(), Memory> {
+    fn make_room(&mut self, deed: &Deed, context: Context<'_>, moves: &Moves) -> Result<(), Memory>
+        ensures places { SamePlaces self.old.refs self.new.refs }
+        ensures books { books_of self.new.refs ≡ books_of self.old.refs }
+        ensures calls { self.new.calls ≡ self.old.calls }
+        ensures brought { self.new.brought.items ≡ self.old.brought.items }
+    {
         let arguments = self.arguments_of(deed);
         let gains = arguments
             .saturating_add(context.carried.len())
@@ -64,159 +99,161 @@ impl Keeping {
             .reserve(moves.lost().len().saturating_add(gains))
     }
 
-    // The row of an entry on objects.
-    fn enter_row(
+    // The row of an entry that gives: it may bring places.
+    fn enter_reference(
         &mut self,
         deed: &Deed,
         context: Context<'_>,
         apartment: u32,
-    ) -> Result<(), Memory> {
+    ) -> Result<(), Memory>
+        ensures { OnOk result (Gives (around context.entry.calls.now.tables context.entry.objects.now context.entry.carried.now apartment) deed.now (tally self.old.refs self.old.calls) self.old.brought.items (tally self.new.refs self.new.calls) self.new.brought.items) }
+    {
         match deed {
             Deed::Made {
-                object: Some(object),
-                apartment: Some(owner),
-                class: Asked::Number(class),
-                iface: Asked::Number(iface),
+                object,
+                apartment: owner,
+                class,
+                iface,
                 ..
-            } => {
-                let held = reference(*object, *iface)?;
-                make(
-                    &mut self.refs,
-                    &mut self.brought,
-                    &mut self.set,
-                    context.classes,
-                    apartment,
-                    held,
-                    *owner,
-                    *class,
-                )
-            }
-            Deed::Query {
-                object: Some(object),
-                iface: Asked::Number(iface),
-                hr: HResult(0),
-            } => {
-                let held = reference(*object, *iface)?;
-                query(&mut self.refs, &mut self.brought, apartment, held)
-            }
-            Deed::Disconnect {
-                object: Some(object),
-                hr: HResult(0),
-            } => disconnect(&mut self.refs, &mut self.touched, *object),
-            Deed::Uninit {
-                home: Some(home),
-                count: 0,
-            } => self.end_home(context, *home),
-            _ => self.enter_holder(deed, context, apartment),
-        }
-    }
-
-    // The last Uninit of a lane's home, which ends it where it is an STA.
-    fn end_home(&mut self, context: Context<'_>, home: u32) -> Result<(), Memory> {
-        if home < 2 {
-            return Ok(());
-        }
-        end_apartment(&mut self.refs, &mut self.touched, context.objects, home)
-    }
-
-    // The row of an entry on a packet or a cookie.
-    fn enter_holder(
-        &mut self,
-        deed: &Deed,
-        context: Context<'_>,
-        apartment: u32,
-    ) -> Result<(), Memory> {
-        match deed {
+            } => enter_made(
+                &mut self.refs,
+                &mut self.brought,
+                &mut self.set,
+                context.classes,
+                apartment,
+                *object,
+                *owner,
+                *class,
+                *iface,
+            ),
+            Deed::Query { object, iface, hr } => enter_query(
+                &mut self.refs,
+                &mut self.brought,
+                apartment,
+                *object,
+                *iface,
+                *hr,
+            ),
             Deed::Marshal {
-                packet: Some(_),
+                packet,
                 mode,
-                held: Some(held),
+                held,
                 ..
-            } => marshal(&mut self.refs, apartment, *held, *mode),
-            Deed::Unmarshal {
-                packet: Some(packet),
-                ..
-            } => unmarshal(&mut self.refs, &mut self.brought, apartment, *packet),
-            Deed::DropPacket {
-                packet: Some(packet),
-                ..
-            } => drop_packet(&mut self.refs, &mut self.touched, *packet),
-            Deed::Register {
-                cookie: Some(_),
-                held: Some(held),
-                ..
-            } => register(&mut self.refs, *held),
-            Deed::Get {
+            } => enter_marshal(&mut self.refs, apartment, *packet, *mode, *held),
+            Deed::Unmarshal { packet, .. } => {
+                enter_unmarshal(&mut self.refs, &mut self.brought, apartment, *packet)
+            }
+            Deed::Register { cookie, held, .. } => {
+                enter_register(&mut self.refs, *cookie, *held)
+            }
+            Deed::Get { cookie, held, .. } => enter_get(
+                &mut self.refs,
+                &mut self.brought,
+                apartment,
                 cookie,
-                held: Some(_),
-                ..
-            } => get(&mut self.refs, &mut self.brought, apartment, *cookie),
-            Deed::Revoke {
-                cookie,
-                hr: HResult(0),
-            } => revoke(&mut self.refs, &mut self.touched, *cookie),
+                *held,
+            ),
             _ => self.enter_call(deed, context, apartment),
         }
     }
 
-    // The rows of an entry of a call.
+    // The rows of an entry of a call, but for a packet that is given up.
     fn enter_call(
         &mut self,
         deed: &Deed,
         context: Context<'_>,
         apartment: u32,
-    ) -> Result<(), Memory> {
+    ) -> Result<(), Memory>
+        ensures { OnOk result (is_of_reference deed.now ≡ false → Gives (around context.entry.calls.now.tables context.entry.objects.now context.entry.carried.now apartment) deed.now (tally self.old.refs self.old.calls) self.old.brought.items (tally self.new.refs self.new.calls) self.new.brought.items) }
+    {
         match deed {
             Deed::Out { call, bytes, .. } => {
                 let carried = carried_in(context.carried, bytes.is_some());
-                self.issue(apartment, *call, carried)
+                issue(&mut self.refs, &mut self.calls, apartment, *call, carried)
             }
             Deed::Enter {
                 call,
                 apartment,
                 ..
-            } => self.enter(*apartment, *call),
+            } => {
+                let packets = self.calls.get(*call);
+                read_all(&mut self.refs, &mut self.brought, *apartment, packets)
+            }
             Deed::Leave { call, bytes, .. } => {
                 let carried = carried_in(context.carried, bytes.is_some());
-                self.reply(apartment, *call, carried)
+                reply(&mut self.refs, &mut self.calls, apartment, *call, carried)
             }
-            Deed::Back { call, .. } => self.give_back(context.calls, apartment, *call),
+            Deed::Back { call, .. } => {
+                if !is_left(context.calls, *call) {
+                    return Ok(());
+                }
+                let number = self.calls.get(*call).result;
+                enter_back(&mut self.refs, &mut self.brought, apartment, number)
+            }
             _ => Ok(()),
         }
     }
 
-    // What comes to places, with what the row brought: that stands first, but for a result that comes back to no slot.
-    fn take(&mut self, moves: &Moves) -> Result<(), Memory> {
-        let brought = self.brought.as_slice();
-        let gained = moves.gained();
-        if are_kept(brought, gained) {
-            return gain_all(&mut self.refs, &gained[brought.len()..]);
+    // The row of an entry that ends a holder which is no place: a packet, a cookie, or all of a connection.
+    fn enter_end(&mut self, deed: &Deed, context: Context<'_>, apartment: u32) -> Result<(), Memory>
+        ensures closes { OnOk result (Closes (around context.entry.calls.now.tables context.entry.objects.now context.entry.carried.now apartment) deed.now (tally self.old.refs self.old.calls) (tally self.new.refs self.old.calls)) }
+        ensures calls { self.new.calls ≡ self.old.calls }
+    {
+        let refs = &mut self.refs;
+        let touched = &mut self.touched;
+        match deed {
+            Deed::DropPacket { packet, .. } => end_packet(refs, touched, *packet),
+            Deed::Revoke { cookie, hr } => end_cookie(refs, touched, cookie, *hr),
+            Deed::Back { call, .. } => {
+                if is_left(context.calls, *call) {
+                    return Ok(());
+                }
+                let number = self.calls.get(*call).result;
+                give_up(refs, touched, number)
+            }
+            Deed::Disconnect { object, hr } => end_connection(refs, touched, *object, *hr),
+            Deed::Uninit { home, count } => {
+                end_home(refs, touched, context.objects, *home, *count)
+            }
+            _ => Ok(()),
         }
-        gain_all(&mut self.refs, gained)?;
-        lose_all(&mut self.refs, &mut self.touched, brought)
     }
 
-    // The whole change by an entry.
-    fn change(&mut self, entry: &Entry, context: Context<'_>, moves: &Moves) -> Result<(), Memory> {
+    // The whole change by an entry: first the row that gives, then what comes to places, then the row that ends a holder, and then
+    // what leaves places.
+    fn change(&mut self, entry: &Entry, context: Context<'_>, moves: &Moves) -> Result<(), Memory>
+        ensures { OnOk result ((gained lost : List Move) → movings_of gained ≡ moves.now.gained → movings_of lost ≡ moves.now.lost → Applies (around context.entry.calls.now.tables context.entry.objects.now context.entry.carried.now (number_or_zero context.entry.running)) entry.now.deed gained lost (tally self.old.refs self.old.calls) (tally self.new.refs self.new.calls)) }
+    {
         self.touched.clear();
         self.brought.clear();
         self.make_room(&entry.deed, context, moves)?;
         let apartment = number_or_zero(context.running);
-        self.enter_row(&entry.deed, context, apartment)?;
-        self.take(moves)?;
+        self.enter_reference(&entry.deed, context, apartment)?;
+        take(
+            &mut self.refs,
+            &mut self.touched,
+            self.brought.as_slice(),
+            moves.gained(),
+        )?;
+        self.enter_end(&entry.deed, context, apartment)?;
         lose_all(&mut self.refs, &mut self.touched, moves.lost())
     }
 }
 
 impl Ledger {
     /// Makes of the books what an entry makes of them, which takes these references from places and brings these. The only error is
-    /// want of memory.
+    /// want of memory, or of a fact that is not proved here.
+    ///
+    /// Where places are counted, and those that are lost and gained are counted off and on, the places after the entry are counted, and
+    /// the books are those with the entry's rows, at the entry's end.
     pub fn apply(
         &mut self,
         entry: &Entry,
         context: Context<'_>,
         moves: &Moves,
-    ) -> Result<(), Memory> {
+    ) -> Result<(), Memory>
+        ensures { OnOk result ((gained lost : List Move) → movings_of gained ≡ moves.now.gained → movings_of lost ≡ moves.now.lost → Applies (around context.entry.calls.now.tables context.entry.objects.now context.entry.carried.now (number_or_zero context.entry.running)) entry.now.deed gained lost (tally self.old.tables self.old.calls) (tally self.new.tables self.new.calls)) }
+    {
         self.keeping.change(entry, context, moves)
     }
 }

@@ -1,7 +1,7 @@
 //! The row of a new object.
 ghost use Rattle.std.specs.Prelude.{◌≡◌, ◌+◌, ◌<◌, ◌≤◌, ◌^◌, ◌++◌, ◌∷◌, [], true, IsTrue, OnOk, length};
 ghost use Rattle.com_holders.specs.Steps.{among};
-ghost use Rattle.com_ledger.specs.Books.{moved_to};
+ghost use Rattle.com_ledger.specs.Books.{Made, moved_to};
 
 use crate::rows::{MOST_GIVEN, bring, unproved};
 use com_base::{Memory, RefValue};
@@ -59,7 +59,8 @@ pub fn make(
     owner: u32,
     class: u32,
 ) -> Result<(), Memory>
-    ensures { OnOk result (brought.new.items ≡ brought.old.items ++ moved_to apartment held ∷ []) }
+    ensures brought { OnOk result (brought.new.items ≡ brought.old.items ++ moved_to apartment held ∷ []) }
+    ensures made { OnOk result (Made apartment held refs.old refs.new) }
 {
     let Some(class) = classes.class(class) else {
         return Err(unproved());
@@ -68,6 +69,7 @@ pub fn make(
     if !can_make(refs, set.as_slice(), held) {
         return Err(unproved());
     }
+    refs.tells();
     refs.made(
         held.object,
         owner,

@@ -1,17 +1,24 @@
 //! The packets of calls: requests and replies that carry references.
-ghost use Rattle.std.specs.Prelude.{◌≡◌, ◌+◌, ◌<◌, ◌^◌, None, IfOk};
+ghost use Rattle.std.specs.Prelude.{◌≡◌, ◌+◌, ◌-◌, ◌<◌, ◌^◌, [], map, length, None, OnOk, IfOk};
+ghost use Rattle.com_books.specs.Changes.{Unmarshals, marshal_all, entered_rows, made_since, first_of};
+ghost use Rattle.com_holders.specs.Tables.{books_of, owns_of};
 ghost use Rattle.com_model.specs.Endings.{is_leave};
-ghost use Rattle.com_model.specs.Lists.{from_one};
+ghost use Rattle.com_model.specs.Lists.{put, from_one};
+ghost use Rattle.com_ledger.specs.Books.{Gained, Marshalled, books_with, with_arguments, with_answer};
+ghost use Rattle.com_ledger.specs.Calls.{arguments_of};
 
-use crate::keeping::Keeping;
-use crate::rows::{MOST_GIVEN, drop_packet, marshal, unmarshal, unproved};
+use crate::calls::{CallPackets, CallTable};
+use crate::rows::{MOST_GIVEN, marshal, unmarshal, unproved};
 use com_base::{MarshalMode, Memory, RefValue};
 use com_calls::Calls;
 use com_deeds::is_leave;
+use com_moves::Move;
 use com_refs::Refs;
 
 // A packet for each reference, in order.
-fn marshal_all(refs: &mut Refs, apartment: u32, carried: &[RefValue]) -> Result<(), Memory> {
+fn marshal_all(refs: &mut Refs, apartment: u32, carried: &[RefValue]) -> Result<(), Memory>
+    ensures { OnOk result (Marshalled (marshal_all apartment carried.now) refs.old refs.new) }
+{
     for held in carried {
         marshal(refs, apartment, *held, MarshalMode::Normal)?;
     }
@@ -20,7 +27,10 @@ fn marshal_all(refs: &mut Refs, apartment: u32, carried: &[RefValue]) -> Result<
 
 // The packets of some references: the number of the first, and how many there are.
 fn pack(refs: &mut Refs, apartment: u32, carried: &[RefValue]) -> Result<(u32, u32), Memory>
-    ensures { IfOk result (λ packed. packed.0 + packed.1 < 2 ^ 32) }
+    ensures fits { IfOk result (λ packed. packed.0 + packed.1 < 2 ^ 32) }
+    ensures rows { OnOk result (Marshalled (marshal_all apartment carried.now) refs.old refs.new) }
+    ensures first { IfOk result (λ packed. packed.0 ≡ length (books_of refs.old).packets + 1) }
+    ensures count { IfOk result (λ packed. packed.1 ≡ length (books_of refs.new).packets - length (books_of refs.old).packets) }
 {
     let before = refs.packets();
     marshal_all(refs, apartment, carried)?;
@@ -31,56 +41,64 @@ fn pack(refs: &mut Refs, apartment: u32, carried: &[RefValue]) -> Result<(u32, u
     Ok((before + 1, after - before))
 }
 
-impl Keeping {
-    /// A call is issued, and its arguments' references are marshalled.
-    pub fn issue(&mut self, apartment: u32, call: u32, carried: &[RefValue]) -> Result<(), Memory> {
-        if self.calls.len() >= MOST_GIVEN as usize {
-            return Err(unproved());
-        }
-        if call as usize != self.calls.len() + 1 {
-            return Err(unproved());
-        }
-        let (first, count) = pack(&mut self.refs, apartment, carried)?;
-        self.calls.push(first, count)
+/// A call is issued, and its arguments' references are marshalled.
+pub fn issue(
+    refs: &mut Refs,
+    calls: &mut CallTable,
+    apartment: u32,
+    call: u32,
+    carried: &[RefValue],
+) -> Result<(), Memory>
+    ensures rows { OnOk result (Marshalled (marshal_all apartment carried.now) refs.old refs.new) }
+    ensures books { OnOk result (books_with refs.new calls.new ≡ with_arguments call (books_with refs.old calls.old) (entered_rows (owns_of refs.old.objects) (books_with refs.old calls.old) (marshal_all apartment carried.now))) }
+{
+    if calls.len() >= MOST_GIVEN as usize {
+        return Err(unproved());
     }
-
-    /// A body leaves, and its result's reference is marshalled.
-    pub fn reply(&mut self, apartment: u32, call: u32, carried: &[RefValue]) -> Result<(), Memory> {
-        let (first, count) = pack(&mut self.refs, apartment, carried)?;
-        self.calls
-            .set_result(call, if count > 0 { first } else { 0 });
-        Ok(())
+    if call as usize != calls.len() + 1 {
+        return Err(unproved());
     }
-
-    /// A body is entered, and its arguments' packets are read.
-    pub fn enter(&mut self, apartment: u32, call: u32) -> Result<(), Memory> {
-        let packets = self.calls.get(call);
-        for place in 0..packets.count {
-            unmarshal(
-                &mut self.refs,
-                &mut self.brought,
-                apartment,
-                packets.first + place,
-            )?;
-        }
-        Ok(())
-    }
-
-    /// A call comes back: its result's packet is read where the answer is its body's, and given up where it is not.
-    pub fn give_back(&mut self, calls: &Calls, apartment: u32, call: u32) -> Result<(), Memory> {
-        let number = self.calls.get(call).result;
-        if number == 0 {
-            return Ok(());
-        }
-        if is_left(calls, call) {
-            return unmarshal(&mut self.refs, &mut self.brought, apartment, number);
-        }
-        drop_packet(&mut self.refs, &mut self.touched, number)
-    }
+    let (first, count) = pack(refs, apartment, carried)?;
+    calls.push(first, count)
 }
 
-// Whether a body's Leave fixed the answer of a call.
-fn is_left(calls: &Calls, call: u32) -> bool
+/// A body leaves, and its result's reference is marshalled.
+pub fn reply(
+    refs: &mut Refs,
+    calls: &mut CallTable,
+    apartment: u32,
+    call: u32,
+    carried: &[RefValue],
+) -> Result<(), Memory>
+    ensures rows { OnOk result (Marshalled (marshal_all apartment carried.now) refs.old refs.new) }
+    ensures books { OnOk result (books_with refs.new calls.new ≡ with_answer call (books_with refs.old calls.old) (entered_rows (owns_of refs.old.objects) (books_with refs.old calls.old) (marshal_all apartment carried.now))) }
+{
+    if call == 0 || call as usize > calls.len() {
+        return Err(unproved());
+    }
+    let (first, count) = pack(refs, apartment, carried)?;
+    calls.set_result(call, if count > 0 { first } else { 0 });
+    Ok(())
+}
+
+/// A body is entered, and its arguments' packets are read.
+pub fn read_all(
+    refs: &mut Refs,
+    brought: &mut Vec<Move>,
+    apartment: u32,
+    packets: CallPackets,
+) -> Result<(), Memory>
+    requires { packets.first + packets.count < 2 ^ 32 }
+    ensures { OnOk result (Gained apartment (map (λ p. Unmarshals apartment p) (arguments_of packets)) refs.old refs.new brought.old.items brought.new.items) }
+{
+    for place in 0..packets.count {
+        unmarshal(refs, brought, apartment, packets.first + place)?;
+    }
+    Ok(())
+}
+
+/// Whether a body's Leave fixed the answer of a call.
+pub fn is_left(calls: &Calls, call: u32) -> bool
     ensures { result ≡ is_leave (from_one calls.now.tables.endings call None) }
 {
     match calls.ending(call) {

@@ -1,11 +1,12 @@
 //! The rows of the table of reference counting, one for each kind of entry.
-ghost use Rattle.std.specs.Prelude.{◌≡◌, ◌+◌, ◌<◌, ◌≤◌, ◌^◌, ◌↔◌, ◌++◌, ◌∷◌, [], ℕ, true, IsTrue, OnOk, length, map};
+ghost use Rattle.std.specs.Prelude.{◌≡◌, ◌+◌, ◌<◌, ◌≤◌, ◌^◌, ◌↔◌, ◌++◌, ◌∷◌, ◌==◌, [], ℕ, true, IsTrue, OnOk, length, map};
 ghost use Rattle.com_base.specs.declared.value.RefValue.{RefValue};
-ghost use Rattle.com_books.specs.Changes.{Asks, Marshals, Registers};
+ghost use Rattle.com_books.specs.Changes.{Takes, Asks, Marshals, Unmarshals, Drops, Registers, Revokes};
 ghost use Rattle.com_holders.specs.Places.{OneMore, SamePlaces};
 ghost use Rattle.com_holders.specs.Tables.{offers, owns_of};
 ghost use Rattle.com_model.specs.Deeds.{cookie_number};
-ghost use Rattle.com_ledger.specs.Books.{Rowed, moved_to};
+ghost use Rattle.com_state.specs.Parts.{named_at};
+ghost use Rattle.com_ledger.specs.Books.{Rowed, Gained, Taken, Cut, moved_to};
 
 use crate::touching::{touch, touch_if};
 use com_base::{MarshalMode, Memory, RefValue};
@@ -17,7 +18,8 @@ use std::alloc::AllocError;
 /// Where a fact of all histories is not proved here, the core stops as it does without memory. Missing are, at their places: that
 /// an object has the next number, and the interface that is asked for is in its class's set, of 17 at most; that a reference at a
 /// place, of a packet or of a cookie is by an interface of its object's set; that an apartment has a place of each reference that
-/// leaves one; that calls are numbered one after another; that fewer than 2^28 references were given.
+/// leaves one; that a Get names the reference of its cookie, of a connected object; that calls are numbered one after another, and a
+/// Leave names one of them; that fewer than 2^28 references were given.
 pub fn unproved() -> Memory {
     AllocError
 }
@@ -64,6 +66,7 @@ pub fn query(
     ensures row { OnOk result (Rowed refs.old refs.new (Asks apartment held.object held.iface)) }
     ensures places { OnOk result (OneMore refs.old refs.new apartment held.object (owns_of refs.old.objects held.object apartment)) }
     ensures brought { OnOk result (brought.new.items ≡ brought.old.items ++ moved_to apartment held ∷ []) }
+    ensures gained { OnOk result (Gained apartment (Asks apartment held.object held.iface ∷ []) refs.old refs.new brought.old.items brought.new.items) }
 {
     if !is_few(refs) {
         return Err(unproved());
@@ -102,7 +105,9 @@ pub fn unmarshal(
     brought: &mut Vec<Move>,
     apartment: u32,
     number: u32,
-) -> Result<(), Memory> {
+) -> Result<(), Memory>
+    ensures { OnOk result (Gained apartment (Unmarshals apartment number ∷ []) refs.old refs.new brought.old.items brought.new.items) }
+{
     if !is_few(refs) {
         return Err(unproved());
     }
@@ -121,7 +126,10 @@ pub fn unmarshal(
 }
 
 /// A packet ends; one that has ended stays so.
-pub fn drop_packet(refs: &mut Refs, touched: &mut Vec<u32>, number: u32) -> Result<(), Memory> {
+pub fn drop_packet(refs: &mut Refs, touched: &mut Vec<u32>, number: u32) -> Result<(), Memory>
+    ensures { OnOk result (Taken (Drops number) refs.old refs.new) }
+{
+    refs.rests();
     match refs.drop_packet(number) {
         Ok(lost) => touch_if(touched, lost),
         Err(_) => Ok(()),
@@ -145,33 +153,45 @@ pub fn register(refs: &mut Refs, held: RefValue) -> Result<(), Memory>
     }
 }
 
-/// The reference of a cookie; one that was revoked gives nothing.
+/// The reference of a cookie, which is this one.
 pub fn get(
     refs: &mut Refs,
     brought: &mut Vec<Move>,
     apartment: u32,
     cookie: i64,
-) -> Result<(), Memory> {
+    held: RefValue,
+) -> Result<(), Memory>
+    ensures { OnOk result (Gained apartment (Takes apartment held.object held.iface ∷ []) refs.old refs.new brought.old.items brought.new.items) }
+{
     if !is_few(refs) {
         return Err(unproved());
     }
-    match refs.get(apartment, cookie_number(cookie)) {
-        Ok(held) => bring(brought, apartment, held),
-        Err(RefsError::Memory) => Err(unproved()),
-        Err(_) => Ok(()),
+    let Ok(found) = refs.get(apartment, cookie_number(cookie)) else {
+        return Err(unproved());
+    };
+    if found != held {
+        return Err(unproved());
     }
+    bring(brought, apartment, found)
 }
 
 /// A cookie ends; one that has ended stays so.
-pub fn revoke(refs: &mut Refs, touched: &mut Vec<u32>, cookie: i64) -> Result<(), Memory> {
-    match refs.revoke(cookie_number(cookie)) {
+pub fn revoke(refs: &mut Refs, touched: &mut Vec<u32>, cookie: i64) -> Result<(), Memory>
+    ensures { OnOk result (Taken (Revokes (cookie_number cookie)) refs.old refs.new) }
+{
+    let _count = refs.cookies();
+    refs.rests();
+    let number = cookie_number(cookie);
+    match refs.revoke(number) {
         Ok(lost) => touch_if(touched, lost),
         Err(_) => Ok(()),
     }
 }
 
 /// An object is disconnected: only its direct places hold it then.
-pub fn disconnect(refs: &mut Refs, touched: &mut Vec<u32>, object: u32) -> Result<(), Memory> {
+pub fn disconnect(refs: &mut Refs, touched: &mut Vec<u32>, object: u32) -> Result<(), Memory>
+    ensures { OnOk result (Cut (λ x. x == object) refs.old refs.new) }
+{
     if !refs.connected(object) {
         return Ok(());
     }
@@ -182,28 +202,21 @@ pub fn disconnect(refs: &mut Refs, touched: &mut Vec<u32>, object: u32) -> Resul
     touch(touched, object)
 }
 
-// Whether an object that ends with its STA is held by no direct place.
-fn ends_unheld(refs: &Refs, objects: &Objects, apartment: u32, object: u32) -> bool {
-    objects.owner(object) == apartment && refs.connected(object) && refs.direct(object) == 0
-}
-
-/// An STA ends: nothing of it is connected any more.
+/// An STA ends: nothing that it owns is connected any more.
 pub fn end_apartment(
     refs: &mut Refs,
     touched: &mut Vec<u32>,
     objects: &Objects,
     apartment: u32,
-) -> Result<(), Memory> {
-    if !is_few(refs) {
-        return Err(unproved());
-    }
-    let count = objects.len();
-    for place in 0..count {
-        if ends_unheld(refs, objects, apartment, place + 1) {
-            touch(touched, place + 1)?;
+) -> Result<(), Memory>
+    requires { 0 < apartment }
+    ensures { OnOk result (Cut (λ x. named_at objects.now x == apartment) refs.old refs.new) }
+{
+    for place in 0..objects.len() {
+        if objects.owner(place + 1) == apartment {
+            disconnect(refs, touched, place + 1)?;
         }
     }
-    refs.end_apartment(apartment);
     Ok(())
 }
 

@@ -1,4 +1,4 @@
-use Rattle.std.proofs.Common.{subst, ◌<◌, ℕ, ℤ, w64, sym, ap, ◌∙◌, arith}
+use Rattle.std.proofs.Common.{subst, ◌<◌, ℕ, ℤ, w64, ap, ◌∙◌}
 use Rattle.std.proofs.lemmas.Int.{to_z-of_z}
 use Rattle.com_books.specs.Changes.{cookie}
 use Rattle.com_holders.specs.Tables.{books_of}

@@ -1,0 +1,25 @@
+use Rattle.std.proofs.Common.{◌≡◌, Bool, true, false, not, ◌&&◌, eqb, [], ◌∷◌, ap, subst, ◌∙◌, arith, eqb-true}
+use Rattle.std.proofs.lemmas.Grind.{common_steps}
+use Rattle.std.proofs.lemmas.Result.{on_ok_weaker}
+use Rattle.com_base.specs.declared.value.RefValue.{RefValue}
+use Rattle.com_books.specs.Changes.{Takes}
+use Rattle.com_ledger.specs.Books.{Gained}
+use Rattle.com_ledger.proofs.Gaining.{gained_one}
+use Rattle.com_ledger.proofs.rows.get.Goals as goal
+
+is-this : (found held : RefValue) (other : Bool) → other ≡ not (eqb found.object held.object && eqb found.iface held.iface) → other ≡ false → found ≡ held
+is-this found held other e f =
+    let both : (eqb found.object held.object && eqb found.iface held.iface) ≡ true = grind (arith, common_steps, e, f) in
+    let eo : found.object ≡ held.object = eqb-true found.object held.object (grind (arith, common_steps, both)) in
+    let ei : found.iface ≡ held.iface = eqb-true found.iface held.iface (grind (arith, common_steps, both)) in
+    ap (λ o. record { object = o; iface = found.iface }) eo ∙ ap (λ i. record { object = held.object; iface = i }) ei
+
+pub returns : goal.returns
+returns c =
+    let a = c.args.apartment in
+    let found : RefValue = c.in-Ok.found in
+    let same : found ≡ c.args.held = is-this found c.args.held c.ne.result c.ne.ensures c.if-ne.false in
+    on_ok_weaker c.bring.result
+    (λ w. subst (λ (r : RefValue). Gained a (Takes a r.object r.iface ∷ []) c.args.refs.now c.get.new.self c.args.brought.now.items c.bring.new.brought.items) same
+    (gained_one a (Takes a found.object found.iface) c.args.refs.now c.get.new.self found c.args.brought.now.items c.bring.new.brought.items c.in-Ok.ensures.places c.in-Ok.ensures.row w))
+    c.bring.ensures
