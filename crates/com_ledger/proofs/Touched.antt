@@ -1,4 +1,5 @@
--- What the rows of an entry leave of the holders of each object, and what is written down of those that lose their last one.
+-- What the rows of an entry leave of the holders of each object, and what is written down where one loses its
+-- last holder.
 use Rattle.std.proofs.Common.{◌≡◌, refl, sym, ap, ◌∙◌, arith, ℕ, zero, suc, Bool, true, false, cond, not, eqb, ◌&&◌, ◌||◌, ◌+◌, ◌<◌, ◌≤◌, List, [], ◌∷◌, ◌++◌}
 use Rattle.std.proofs.lemmas.Grind.{common_steps}
 use Rattle.std.specs.Prelude.{Option, Some, None, nat_le, slice_index_or, slice_set, sum_by, ◌/◌}

@@ -1,5 +1,5 @@
--- What ties a ledger to a state: its books are the state's, its tables count the state's places, and its objects and calls are the
--- state's.
+-- What ties a ledger to a state: its books are the state's, its tables count the state's places, and its
+-- objects and calls are the state's.
 use Rattle.std.specs.Prelude.{◌≡◌, ◌<◌, ◌≤◌, ◌⊎◌, ℕ, ◌+◌, Bool, true, false, ◌==◌, ◌||◌, if◌then◌else◌, List, [], length, Option, Some, None}
 use Rattle.com_books.specs.Changes.{Books, entered_rows}
 use Rattle.com_books.specs.Counting.{count_if}
@@ -63,27 +63,31 @@ pub record IsNew (w : Held) : Type 0 where
   pub cookies : w.tables.cookies ≡ []
   pub calls : w.calls ≡ []
 
--- A ledger at the end of an entry: its tables count these places, and its books are those with the entry's rows, ended for them.
+-- A ledger at the end of an entry: its tables count these places, and its books are those with the entry's
+-- rows, ended for them.
 pub record EndedAt (n : ℕ) (later : ℕ → ℕ → ℕ) (entered : Books) (u : Held) : Type 0 where
   pub counts : Counts n later u.tables
   pub totals : Totals n later u.tables
   pub books : books_held u ≡ ends n later entered
 
--- What a ledger is after an entry, by its tables and by the objects and calls that it had: it ends at the places after the entry, with
--- the books with the entry's rows; and it has one more object and one more call, where the entry makes or issues one.
+-- What a ledger is after an entry, by its tables and by the objects and calls that it had: it ends at the
+-- places after the entry, with the books with the entry's rows; and it has one more object and one more
+-- call, where the entry makes or issues one.
 pub record EntryEnds (s : Scenario) (st : State) (l : ℕ) (d : Deed) (w u : Held) : Type 0 where
   pub ended : EndedAt (next_sta_in (after s st l d)) (places_at s (after s st l d)) (books_entered s st (after s st l d) (record { lane = l; deed = d })) u
   pub objects : ObjectsGrow s d w u
   pub calls : length u.calls ≡ count_if (issued_by (record { lane = l; deed = d })) + length w.calls
 
--- Books with the rows of the next entry of a lane, with what calls keep of packets and with what it connects and what not.
+-- Books with the rows of the next entry of a lane, with what calls keep of packets and with what it
+-- connects and what not.
 abbrev pub books_by_rows : Scenario → State → (lane : ℕ) → Deed → (owned : ℕ → ℕ → Bool) → Books → Books
 books_by_rows s st l d owned b =
     connected d (named_in st) (kept b d (entered_rows owned b (rows s ((sight_of s st).act l) (λ c. is_leave (ending_in st c)) b (number_or_zero (running_in s st l)) d)))
 
--- An entry was applied to a ledger: whatever it takes as who owns objects, it is right of those that were made before, and of the one
--- that the entry makes; and where the places before the entry are what was counted, the places after it are what is counted, and the
--- books are those with the entry's rows, at their end for these places.
+-- An entry was applied to a ledger: whatever it takes as who owns objects, it is right of those that were
+-- made before, and of the one that the entry makes; and where the places before the entry are what was
+-- counted, the places after it are what is counted, and the books are those with the entry's rows, at their
+-- end for these places.
 pub record AppliedAs (s : Scenario) (st : State) (l : ℕ) (d : Deed) (gained lost : List Move) (w u : Held) : Type 0 where
   pub owned : ℕ → ℕ → Bool
   pub others : (o c : ℕ) → (makes d ≡ None) ⊎ (o ≤ length w.tables.objects) → owned o c ≡ owns_of w.tables.objects o c
