@@ -22,4 +22,4 @@ returns c = on_ok_weaker c.lose_all.result (λ ends-all.
     exchanged_again c.args.brought.now c.args.gained.now c.args.refs.now c.gain_all-2.new.refs c.lose_all.new.refs
     (λ e. let no : false ≡ true = c.if-stands_first.ensures.none e in cc)
     c.in_ok-gain_all.ensures.books c.in_ok-gain_all.ensures.places ends-all)
-    c.lose_all.ensures
+    c.lose_all.ensures.ended

@@ -15,4 +15,4 @@ returns c = on_ok_weaker c.lose_all.result (λ ends-all. λ gained lost eg el.
     c.in_ok-enter_reference.ensures c.as_slice.ensures.value c.in_ok-take.ensures
     c.in_ok-enter_end.ensures.closes c.in_ok-enter_end.ensures.calls
     ends-all (eg ∙ sym c.gained.ensures) (el ∙ sym c.lost.ensures)))
-    c.lose_all.ensures
+    c.lose_all.ensures.ended
