@@ -1,9 +1,12 @@
 -- An entry as a whole, from its steps.
-use Rattle.std.proofs.Common.{◌≡◌, ℕ, List, [], ◌∷◌, map, refl, sym, ap, subst, ◌∙◌, arith, inl, inr}
+use Rattle.std.proofs.Common.{◌≡◌, ℕ, ◌+◌, List, [], ◌∷◌, map, length, refl, sym, ap, subst, ◌∙◌, arith, inl, inr}
+use Rattle.std.specs.Prelude.{is_some}
 use Rattle.com_books.specs.Changes.{Books}
+use Rattle.com_books.specs.Counting.{count_if}
 use Rattle.com_holders.specs.Places.{Counts, SamePlaces}
 use Rattle.com_holders.specs.Tables.{Tables, books_of}
 use Rattle.com_model.specs.declared.deeds.Deed.{Deed}
+use Rattle.com_model.specs.Calls.{issues}
 use Rattle.com_moves.specs.declared.moves.Move.{Move}
 use Rattle.com_moves.specs.Steps.{movings_of}
 use Rattle.com_places.specs.Moves.{Move as Moving}
@@ -29,11 +32,12 @@ pub same_moves : (ms ns : List Move) → movings_of ms ≡ movings_of ns → ms 
 same_moves ms ns e = sym (moves-of ms) ∙ ap (λ (l : List Moving). map move_of l) e ∙ moves-of ns
 
 -- Where only memory was taken before.
-pub applies_before : (g : Around) (d : Deed) (gained lost : List Move) (t t1 : Tables) (calls calls1 : List CallPackets) (v : Tally) → SamePlaces t t1 → books_with t1 calls1 ≡ books_with t calls
+pub applies_before : (g : Around) (d : Deed) (gained lost : List Move) (t t1 : Tables) (calls calls1 : List CallPackets) (v : Tally) → SamePlaces t t1 → calls1 ≡ calls → books_with t1 calls1 ≡ books_with t calls
     → Applies g d gained lost (tally t1 calls1) v → Applies g d gained lost (tally t calls) v
-applies_before g d gained lost t t1 calls calls1 v same books f = λ s x carries.
+applies_before g d gained lost t t1 calls calls1 v same before books f = λ s x carries.
     let a : Applied (λ owned. entered s x g owned d (books_with t1 calls1)) g d gained lost (tally t1 calls1) v = f s x (subst (λ (b : Books). Carries s x b d g.carried) (sym books) carries) in
     record {
+      calls = λ l. a.calls l ∙ ap (λ (c : List CallPackets). count_if (is_some (issues l d)) + length c) before;
       owned = a.owned;
       owns = λ y c h. a.owns y c (elim h [ inl none ↦ inl none | inr le ↦ inr (omega (arith, le, same.made)) ]) ∙ same.owns y c;
       counts = λ n places later low gs ls made counts both. a.counts n places later low gs ls (λ c y h. made c y (omega (arith, h, same.made))) (counts_same n places places t t1 counts same) both;
@@ -51,7 +55,7 @@ pub applies_whole : (g : Around) (d : Deed) (t t1 t2 t3 t4 t5 : Tables) (calls c
 applies_whole g d t t1 t2 t3 t4 t5 calls calls1 calls2 calls5 xs ys brought gains losses gained lost same books before none gives value exchanged closes after ends-all eg el =
     let gs : gains ≡ gained = sym (same_moves gained gains eg) in
     let ls : losses ≡ lost = sym (same_moves lost losses el) in
-    applies_before g d gained lost t t1 calls calls1 (tally t5 calls5) same
+    applies_before g d gained lost t t1 calls calls1 (tally t5 calls5) same before
     (ap (λ (b : Books). with_calls b (arguments_in calls1) (result_in calls1)) books ∙ ap (λ (c : List CallPackets). books_with t c) before)
     (λ s x carries.
     subst (λ (c : List CallPackets). Applied (λ owned. entered s x g owned d (books_with t1 calls1)) g d gained lost (tally t1 calls1) (tally t5 c)) (sym after)

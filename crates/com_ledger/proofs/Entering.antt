@@ -1,18 +1,21 @@
 -- The rows of each deed.
 use mathlib.Core.Path.{fun_ext}
-use Rattle.std.proofs.Common.{◌≡◌, ℕ, Bool, true, false, cond, not, ◌&&◌, ◌||◌, ◌<◌, ◌≤◌, List, [], ◌∷◌, ◌++◌, length, refl, sym, ap, subst, ◌∙◌, arith}
+use Rattle.std.proofs.Common.{◌≡◌, ℕ, Bool, true, false, cond, not, ◌&&◌, ◌||◌, ◌+◌, ◌<◌, ◌≤◌, List, [], ◌∷◌, ◌++◌, length, refl, sym, ap, subst, ◌∙◌, arith}
 use Rattle.std.proofs.lemmas.List.{append-nil}
-use Rattle.std.specs.Prelude.{Option, None}
+use Rattle.std.specs.Prelude.{Option, None, is_some}
 use Rattle.com_body.specs.declared.actions.Action.{Action}
 use Rattle.com_books.specs.Changes.{Books, Row, changed, change, entered_rows}
+use Rattle.com_books.specs.Counting.{count_if}
 use Rattle.com_holders.specs.Places.{Counts}
 use Rattle.com_holders.specs.Stands.{Tells}
 use Rattle.com_holders.specs.Tables.{Tables, books_of, owns_of}
 use Rattle.com_model.specs.declared.deeds.Deed.{Deed}
+use Rattle.com_model.specs.declared.keeps.Issue.{Issue}
 use Rattle.com_model.specs.declared.keeps.Making.{Making}
 use Rattle.com_model.specs.declared.scenario.Scenario.{Scenario}
 use Rattle.com_model.specs.Apartments.{ends_sta}
 use Rattle.com_model.specs.Books.{rows, kept, made_by}
+use Rattle.com_model.specs.Calls.{issues}
 use Rattle.com_model.specs.Lists.{is_number}
 use Rattle.com_model.specs.Objects.{makes, disconnects}
 use Rattle.com_moves.specs.declared.moves.Move.{Move}
@@ -56,6 +59,12 @@ connected_plain d named b p = unchanged named b (makes d) (disconnects d) (ends_
 
 -- ---- rows that give
 
+as-many : (d : Deed) (calls later : List CallPackets) (l : ℕ) → issues l d ≡ None → later ≡ calls → length later ≡ count_if (is_some (issues l d)) + length calls
+as-many d calls later l none same =
+    let zero-more : count_if (is_some (issues l d)) ≡ 0 = ap (λ (i : Option Issue). count_if (is_some i)) none in
+    let same-length : length later ≡ length calls = ap (λ (c : List CallPackets). length c) same in
+    omega (arith, zero-more, same-length)
+
 pub clash : true ≡ false → ⊥
 clash e = cc
 
@@ -67,39 +76,41 @@ module _ (s : Scenario) (x : Option Action) (g : Around) (d : Deed) (t u : Table
   its_rows = rows s x (left_by g.calls) (books_with t calls) g.apartment d
 
   -- the books with them are those that are expected
-  pub given_by : ends_holder (left_by g.calls) d ≡ false → IsPlain d → (ms : List Move) → ys ≡ xs ++ ms → ((n : ℕ) → brings_to g.apartment d < n → AllBelow n ms) → Brought t u ms
+  pub given_by : ends_holder (left_by g.calls) d ≡ false → IsPlain d → ((l : ℕ) → length later ≡ count_if (is_some (issues l d)) + length calls) → (ms : List Move) → ys ≡ xs ++ ms → ((n : ℕ) → brings_to g.apartment d < n → AllBelow n ms) → Brought t u ms
       → books_with u later ≡ kept (books_with t calls) d (entered_rows (owns_of t.objects) (books_with t calls) its_rows)
       → Given g expected d (tally t calls) xs (tally u later) ys
-  given_by gives plain ms written below brought books = record {
+  given_by gives plain many ms written below brought books = record {
     moves = ms;
     written = written;
     none = λ takes. absurd (clash (sym takes ∙ gives));
     below = below;
     owns = λ y c h. brought.owns y c;
     counts = λ n places b made counts. brought.counts n places b counts;
+    calls = many;
     books = books
         ∙ ap (λ (o : ℕ → ℕ → Bool). kept (books_with t calls) d (entered_rows o (books_with t calls) its_rows)) (sym (same_owners t u brought.owns))
         ∙ sym (connected_plain d (named_at g.objects) (kept (books_with t calls) d (entered_rows (owns_of u.objects) (books_with t calls) its_rows)) plain)
         ∙ sym (ap (λ (w : Bool). cond w (books_with t calls) (entered s x g (owns_of u.objects) d (books_with t calls))) gives);
   }
 
-  pub given_gained : ends_holder (left_by g.calls) d ≡ false → IsPlain d → ((b c : Books) → kept b d c ≡ c) → later ≡ calls → Gained (brings_to g.apartment d) its_rows t u xs ys
+  pub given_gained : ends_holder (left_by g.calls) d ≡ false → IsPlain d → ((b c : Books) → kept b d c ≡ c) → ((l : ℕ) → issues l d ≡ None) → later ≡ calls → Gained (brings_to g.apartment d) its_rows t u xs ys
       → Given g expected d (tally t calls) xs (tally u later) ys
-  given_gained gives plain keeps same f = given_by gives plain f.moves f.written f.below f.places
+  given_gained gives plain keeps quiet same f = given_by gives plain (λ l. as-many d calls later l (quiet l) same) f.moves f.written f.below f.places
       (ap (λ (c : List CallPackets). books_with u c) same
       ∙ ap (λ (b : Books). with_calls b (arguments_in calls) (result_in calls)) f.books
       ∙ sym (rows_beside (owns_of t.objects) (books_of t) (arguments_in calls) (result_in calls) its_rows)
       ∙ sym (keeps (books_with t calls) (entered_rows (owns_of t.objects) (books_with t calls) its_rows)))
 
   -- nothing was done, by a deed that ends a holder
-  pub given_later : ends_holder (left_by g.calls) d ≡ true → u ≡ t → later ≡ calls → ys ≡ xs → Given g expected d (tally t calls) xs (tally u later) ys
-  given_later takes eu ec em = record {
+  pub given_later : ends_holder (left_by g.calls) d ≡ true → ((l : ℕ) → issues l d ≡ None) → u ≡ t → later ≡ calls → ys ≡ xs → Given g expected d (tally t calls) xs (tally u later) ys
+  given_later takes quiet eu ec em = record {
     moves = [];
     written = em ∙ sym (append-nil xs);
     none = λ y. refl;
     below = λ n h. tt;
     owns = λ y c h. ap (λ (v : Tables). owns_of v.objects y c) eu;
     counts = λ n places b made counts. (brought_none t u (same_rows t u (ap (λ (v : Tables). v.objects) eu) (ap (λ (v : Tables). v.proxies) eu))).counts n places b counts;
+    calls = λ l. as-many d calls later l (quiet l) ec;
     books = ap (λ (v : Tables). books_with v later) eu ∙ ap (λ (c : List CallPackets). books_with t c) ec
         ∙ sym (ap (λ (w : Bool). cond w (books_with t calls) (entered s x g (owns_of u.objects) d (books_with t calls))) takes);
   }
@@ -161,6 +172,7 @@ module _ (s : Scenario) (x : Option Action) (g : Around) (d : Deed) (t t1 t2 t3 
       → ((n : ℕ) (later : ℕ → ℕ → ℕ) → AllBelow n lost → Counts n (plus later lost) t3 → Ended n later t3 t4)
       → Applied (λ owned. whole owned (books_with t calls)) g d gained lost (tally t calls) (tally t4 later-calls)
   applied given exchanged closed ends-all = record {
+    calls = given.calls;
     owned = owns_of t1.objects;
     owns = given.owns;
     counts = λ n places later low gs ls made counts same. (at-end n places later low gs ls made counts same).counts;

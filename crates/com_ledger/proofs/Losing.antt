@@ -22,6 +22,10 @@ pub on_ok_both : {A E P Q R : Type 0} (r : Result A E) → (P → Q → R) → O
 on_ok_both (Ok x) f p q = f p q
 on_ok_both (Err e) f p q = tt
 
+pub on_ok_three : {A E P Q R S : Type 0} (r : Result A E) → (P → Q → R → S) → OnOk r P → OnOk r Q → OnOk r R → OnOk r S
+on_ok_three (Ok x) f p q s = f p q s
+on_ok_three (Err e) f p q s = tt
+
 -- ---- what has ended
 
 gone_is : (t : Tables) (n : ℕ) → outstanding_in (is_connected t.stubs) t.packets n ≡ None → (packet (books_of t) n).outstanding ≡ false

@@ -221,3 +221,18 @@ pub number_kept : (b : Books) (after : Books) (first count p : ℕ) → first �
     → number_of p ≡ first_of (made_since b after)
 number_kept b after first zero p ef ec some none = ap number_of (none refl) ∙ ap (λ (k : ℕ). first_of (numbers_from (length b.packets + 1) k)) ec
 number_kept b after first (suc k) p ef ec some none = ap number_of (some (omega arith) ∙ ef) ∙ sym (first_of_some (length b.packets) k) ∙ ap (λ (j : ℕ). first_of (numbers_from (length b.packets + 1) j)) ec
+
+-- ---- how many calls there are
+
+pub pushed_length : (rows : List CallPackets) (row : CallPackets) → length (rows ++ row ∷ []) ≡ length rows + 1
+pushed_length [] row = refl
+pushed_length (r ∷ rows) row = omega (arith, pushed_length rows row)
+
+set-length : (rows : List CallPackets) (k : ℕ) (row : CallPackets) → length (slice_set rows k row) ≡ length rows
+set-length [] k row = refl
+set-length (r ∷ rows) zero row = refl
+set-length (r ∷ rows) (suc k) row = omega (arith, set-length rows k row)
+
+pub answered_length : (rows : List CallPackets) (c p : ℕ) → length (with_result c p rows) ≡ length rows
+answered_length rows zero p = refl
+answered_length rows (suc k) p = set-length rows k (record (call_at rows (suc k)) { result = p })

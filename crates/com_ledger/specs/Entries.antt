@@ -1,5 +1,5 @@
 -- What an entry makes of the books of a ledger.
-use Rattle.std.specs.Prelude.{◌≡◌, ℕ, ◌<◌, ◌≤◌, Bool, true, false, not, if◌then◌else◌, List, [], ◌∷◌, ◌++◌, length, Option, Some, None, ◌⊎◌}
+use Rattle.std.specs.Prelude.{◌≡◌, ℕ, ◌+◌, ◌<◌, ◌≤◌, Bool, true, false, not, if◌then◌else◌, List, [], ◌∷◌, ◌++◌, length, Option, Some, None, is_some, ◌⊎◌}
 use Rattle.com_base.specs.declared.hresult.HResult.{HResult}
 use Rattle.com_base.specs.declared.value.RefValue.{RefValue}
 use Rattle.com_base.specs.declared.value.Value.{Value}
@@ -7,12 +7,14 @@ use Rattle.com_body.specs.declared.actions.Action.{Action}
 use Rattle.com_body.specs.declared.operands.Asked.{Asked}
 use Rattle.com_body.specs.declared.operands.Asked.TheVariants as asked
 use Rattle.com_books.specs.Changes.{Books, entered_rows}
+use Rattle.com_books.specs.Counting.{count_if}
 use Rattle.com_holders.specs.Places.{Counts, SamePlaces}
 use Rattle.com_holders.specs.Tables.{Tables, owns_of}
 use Rattle.com_model.specs.declared.deeds.Deed.{Deed}
 use Rattle.com_model.specs.declared.deeds.Deed.TheVariants as deed
 use Rattle.com_model.specs.declared.scenario.Scenario.{Scenario}
 use Rattle.com_model.specs.Books.{rows, kept, out_values}
+use Rattle.com_model.specs.Calls.{issues}
 use Rattle.com_model.specs.Endings.{is_leave}
 use Rattle.com_model.specs.Lists.{from_one}
 use Rattle.com_model.specs.Objects.{makes}
@@ -94,6 +96,7 @@ pub record Given (g : Around) (e : (ℕ → ℕ → Bool) → Books) (d : Deed) 
   pub below : (n : ℕ) → brings_to g.apartment d < n → AllBelow n moves
   pub owns : (x c : ℕ) → (makes d ≡ None) ⊎ (x ≤ length w.tables.objects) → owns_of v.tables.objects x c ≡ owns_of w.tables.objects x c
   pub counts : (n : ℕ) (places : ℕ → ℕ → ℕ) → AllBelow n moves → AreMade (length w.tables.objects) places → Counts n places w.tables → Counts n (plus places moves) v.tables
+  pub calls : (l : ℕ) → length v.calls ≡ count_if (is_some (issues l d)) + length w.calls
   pub books : books_tallied v ≡ e (owns_of v.tables.objects)
 
 abbrev pub Gives : Around → Deed → Tally → List Move → Tally → List Move → Type 0
@@ -133,6 +136,7 @@ MakesOrNone a (Some o) w k i t u xs ys = ⊥
 -- An entry was applied: where the places are counted, and those that are lost and gained are counted off and on, the places after it
 -- are counted, and the books are those with the entry's rows, at the entry's end.
 pub record Applied (e : (ℕ → ℕ → Bool) → Books) (g : Around) (d : Deed) (gained lost : List Move) (w v : Tally) : Type 0 where
+  pub calls : (l : ℕ) → length v.calls ≡ count_if (is_some (issues l d)) + length w.calls
   pub owned : ℕ → ℕ → Bool
   pub owns : (x c : ℕ) → (makes d ≡ None) ⊎ (x ≤ length w.tables.objects) → owned x c ≡ owns_of w.tables.objects x c
   pub counts : (n : ℕ) (places later : ℕ → ℕ → ℕ) → brings_to g.apartment d < n → AllBelow n gained → AllBelow n lost → AreMade (length w.tables.objects) places

@@ -50,6 +50,7 @@ pub fn issue(
     carried: &[RefValue],
 ) -> Result<(), Memory>
     ensures rows { OnOk result (Marshalled (marshal_all apartment carried.now) refs.old refs.new) }
+    ensures calls { OnOk result (length calls.new ≡ length calls.old + 1) }
     ensures books { OnOk result (books_with refs.new calls.new ≡ with_arguments call (books_with refs.old calls.old) (entered_rows (owns_of refs.old.objects) (books_with refs.old calls.old) (marshal_all apartment carried.now))) }
 {
     if calls.len() >= MOST_GIVEN as usize {
@@ -71,6 +72,7 @@ pub fn reply(
     carried: &[RefValue],
 ) -> Result<(), Memory>
     ensures rows { OnOk result (Marshalled (marshal_all apartment carried.now) refs.old refs.new) }
+    ensures calls { OnOk result (length calls.new ≡ length calls.old) }
     ensures books { OnOk result (books_with refs.new calls.new ≡ with_answer call (books_with refs.old calls.old) (entered_rows (owns_of refs.old.objects) (books_with refs.old calls.old) (marshal_all apartment carried.now))) }
 {
     if call == 0 || call as usize > calls.len() {

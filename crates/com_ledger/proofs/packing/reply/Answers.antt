@@ -2,7 +2,7 @@ use Rattle.std.proofs.Common.{◌≡◌, ◌≤◌, ◌<◌, length, ap, ◌∙�
 use Rattle.com_books.specs.Changes.{marshal_all}
 use Rattle.com_holders.specs.Tables.{books_of}
 use Rattle.com_ledger.specs.Books.{books_with}
-use Rattle.com_ledger.proofs.Packed.{answered_books, number_kept}
+use Rattle.com_ledger.proofs.Packed.{answered_books, answered_length, number_kept}
 use Rattle.com_ledger.proofs.packing.reply.Goals as goal
 use Rattle.com_ledger.proofs.packing.reply.Goals.{then-count-gt0, else-count-gt0}
 
@@ -16,3 +16,6 @@ returns-clause-books c =
     ap (λ calls. books_with c.pack.new.refs calls) c.set_result.ensures
     ∙ answered_books c.args.refs.now c.pack.new.refs c.args.calls.now p (marshal_all c.args.apartment c.args.carried.now) c.args.call c.in_ok-first.ensures.rows low high
     (number_kept (books_of c.args.refs.now) (books_of c.pack.new.refs) c.in_ok-first.first c.in_ok-first.count p c.in_ok-first.ensures.first c.in_ok-first.ensures.count some none)
+
+pub returns-clause-calls : goal.returns-clause-calls
+returns-clause-calls c = ap (λ calls. length calls) c.set_result.ensures ∙ answered_length c.args.calls.now c.args.call c.if-count-gt0.set_result

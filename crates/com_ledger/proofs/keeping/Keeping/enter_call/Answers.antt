@@ -1,19 +1,19 @@
-use Rattle.std.proofs.Common.{Bool, cond, not, [], sym, subst, ap, ◌∙◌}
+use Rattle.std.proofs.Common.{Bool, cond, not, [], refl, sym, subst, ap, ◌∙◌}
 use Rattle.std.proofs.lemmas.Result.{on_ok_weaker}
 use Rattle.com_model.specs.declared.deeds.Deed.{Deed}
 use Rattle.com_model.specs.declared.deeds.Deed.TheVariants as deed
 use Rattle.com_ledger.specs.declared.calls.CallPackets.{CallPackets}
 use Rattle.com_ledger.specs.Entries.{Gives, around, tally}
 use Rattle.com_ledger.proofs.Giving.{given_out, given_leave, given_enter, gives_back, gives_later, gives_other}
-use Rattle.com_ledger.proofs.Losing.{on_ok_both}
+use Rattle.com_ledger.proofs.Losing.{on_ok_three}
 use Rattle.com_ledger.proofs.keeping.Keeping.enter_call.Goals as goal
 
 pub returns-in-Out : goal.returns-in-Out
-returns-in-Out c = on_ok_both c.issue.result (λ packed books. λ other.
+returns-in-Out c = on_ok_three c.issue.result (λ packed books many. λ other.
     subst (λ (d : Deed). Gives (around c.args.context.calls.now.tables c.args.context.objects.now c.args.context.carried.now c.args.apartment) d (tally c.args.self.now.refs c.args.self.now.calls) c.args.self.now.brought.items (tally c.issue.new.refs c.issue.new.calls) c.args.self.now.brought.items) (sym c.in-Out.is)
     (λ s x carries. given_out s x (around c.args.context.calls.now.tables c.args.context.objects.now c.args.context.carried.now c.args.apartment) c.in-Out.call c.in-Out.object c.in-Out.iface c.in-Out.method c.in-Out.route c.in-Out.cause c.in-Out.bytes c.args.self.now.refs c.issue.new.refs c.args.self.now.calls c.issue.new.calls c.args.self.now.brought.items c.carried_in-carried.result.now
-    carries (c.carried_in-carried.ensures ∙ ap (λ (w : Bool). cond w c.args.context.carried.now []) c.is_some.ensures) packed books))
-    c.issue.ensures.rows c.issue.ensures.books
+    carries (c.carried_in-carried.ensures ∙ ap (λ (w : Bool). cond w c.args.context.carried.now []) c.is_some.ensures) packed books many))
+    c.issue.ensures.rows c.issue.ensures.books c.issue.ensures.calls
 
 pub returns-in-Enter : goal.returns-in-Enter
 returns-in-Enter c = on_ok_weaker c.read_all.result (λ f. λ other.
@@ -22,16 +22,16 @@ returns-in-Enter c = on_ok_weaker c.read_all.result (λ f. λ other.
     c.read_all.ensures
 
 pub returns-in-Leave : goal.returns-in-Leave
-returns-in-Leave c = on_ok_both c.reply.result (λ packed books. λ other.
+returns-in-Leave c = on_ok_three c.reply.result (λ packed books many. λ other.
     subst (λ (d : Deed). Gives (around c.args.context.calls.now.tables c.args.context.objects.now c.args.context.carried.now c.args.apartment) d (tally c.args.self.now.refs c.args.self.now.calls) c.args.self.now.brought.items (tally c.reply.new.refs c.reply.new.calls) c.args.self.now.brought.items) (sym c.in-Leave.is)
     (λ s x carries. given_leave s x (around c.args.context.calls.now.tables c.args.context.objects.now c.args.context.carried.now c.args.apartment) c.in-Leave.call c.in-Leave.hr c.in-Leave.value c.in-Leave.bytes c.args.self.now.refs c.reply.new.refs c.args.self.now.calls c.reply.new.calls c.args.self.now.brought.items c.carried_in-carried-in-Leave.result.now
-    carries (c.carried_in-carried-in-Leave.ensures ∙ ap (λ (w : Bool). cond w c.args.context.carried.now []) c.is_some-in-Leave.ensures) packed books))
-    c.reply.ensures.rows c.reply.ensures.books
+    carries (c.carried_in-carried-in-Leave.ensures ∙ ap (λ (w : Bool). cond w c.args.context.carried.now []) c.is_some-in-Leave.ensures) packed books many))
+    c.reply.ensures.rows c.reply.ensures.books c.reply.ensures.calls
 
 pub returns-then-not-is_left : goal.returns-then-not-is_left
 returns-then-not-is_left c = λ other.
     subst (λ (d : Deed). Gives (around c.args.context.calls.now.tables c.args.context.objects.now c.args.context.carried.now c.args.apartment) d (tally c.args.self.now.refs c.args.self.now.calls) c.args.self.now.brought.items (tally c.args.self.now.refs c.args.self.now.calls) c.args.self.now.brought.items) (sym c.in-Back.is)
-    (gives_later (around c.args.context.calls.now.tables c.args.context.objects.now c.args.context.carried.now c.args.apartment) (deed.Back c.in-Back.call c.in-Back.hr c.in-Back.value) c.args.self.now.refs c.args.self.now.calls c.args.self.now.brought.items (ap (λ (w : Bool). not w) (sym c.is_left.ensures ∙ c.if-not-is_left.true)))
+    (gives_later (around c.args.context.calls.now.tables c.args.context.objects.now c.args.context.carried.now c.args.apartment) (deed.Back c.in-Back.call c.in-Back.hr c.in-Back.value) c.args.self.now.refs c.args.self.now.calls c.args.self.now.brought.items (ap (λ (w : Bool). not w) (sym c.is_left.ensures ∙ c.if-not-is_left.true)) (λ l. refl))
 
 pub returns-else-not-is_left : goal.returns-else-not-is_left
 returns-else-not-is_left c = on_ok_weaker c.enter_back.result (λ f. λ other.
