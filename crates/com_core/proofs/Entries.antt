@@ -286,10 +286,11 @@ steps_stand lane old new e k m same tells w =
     core_later old.scenario (core_state old) old.parts new.parts (books_held old.held) new.held old.entered new.entered old.fallen new.fallen old.clock lane e.deed k m w in
     let here : IsCore old.scenario su new.parts b new.entered new.fallen new.clock =
     subst (λ (t : ℕ). IsCore old.scenario su new.parts b new.entered new.fallen t) (sym tells) later in
-    let read : state_read old.scenario new.parts b new.fallen new.clock ≡ su = core_read old.scenario su new.parts b new.entered new.fallen new.clock here in
-    (ap (λ (s : Scenario). state_read s new.parts b new.fallen new.clock) same ∙ read,
-    subst (λ (s : Scenario). IsCore s (state_read s new.parts b new.fallen new.clock) new.parts b new.entered new.fallen new.clock) (sym same)
-    (subst (λ (x : State). IsCore old.scenario x new.parts b new.entered new.fallen new.clock) (sym read) here))
+    let read : state_read old.scenario new.parts b new.fallen new.clock ≡ su = core_read old.scenario su new.parts b new.entered new.fallen new.clock here in (
+      ap (λ (s : Scenario). state_read s new.parts b new.fallen new.clock) same ∙ read,
+      subst (λ (s : Scenario). IsCore s (state_read s new.parts b new.fallen new.clock) new.parts b new.entered new.fallen new.clock) (sym same)
+          (subst (λ (x : State). IsCore old.scenario x new.parts b new.entered new.fallen new.clock) (sym read) here),
+    )
 
 -- A new core of a formed scenario is whole, and its state is the first one, if its books are.
 pub new_stands : (c : CoreView) → Formed c.scenario → BeginsParts c.scenario c.parts c.fallen → c.clock ≡ 0 → c.entered ≡ 0 ∷ []

@@ -11,3 +11,4 @@ pub mod Moved
 pub mod Keeping
 pub mod Ticking
 pub mod Turned
+pub mod Tied

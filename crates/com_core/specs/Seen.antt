@@ -4,7 +4,8 @@ use Rattle.com_ledger.specs.Books.{Held, books_held}
 use Rattle.com_model.specs.declared.deeds.Entry.{Entry}
 use Rattle.com_model.specs.declared.scenario.Scenario.{Scenario}
 use Rattle.com_model.specs.Clock.{ticked}
-use Rattle.com_model.specs.State.{State}
+use Rattle.com_ledger.specs.Ties.{Ties}
+use Rattle.com_model.specs.State.{State, first_tables}
 use Rattle.com_parts.specs.Tables.{PartTables}
 use Rattle.com_core.specs.Making.{IsCore, MakesNext}
 use Rattle.com_core.specs.Stands.{state_read}
@@ -39,3 +40,9 @@ IsWhole c = IsCore c.scenario (core_state c) c.parts (books_held c.held) c.enter
 abbrev pub Steps : (lane : ℕ) → (old new : CoreView) → Entry → Type 0
 Steps lane old new e =
     MakesNext old.scenario (core_state old) old.parts new.parts new.held old.entered new.entered old.fallen new.fallen old.clock lane e.deed
+
+-- A core before its first entry: its state is the first one of the scenario, its parts are those of it, and so are its books.
+pub record IsFirst (s : Scenario) (c : CoreView) : Type 0 where
+  pub state : core_state c ≡ first_tables s
+  pub whole : IsWhole c
+  pub ties : Ties s (first_tables s) c.held

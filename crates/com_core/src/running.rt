@@ -4,6 +4,7 @@ ghost use Rattle.std.specs.Prelude.{◌≡◌, ◌∷◌, [], false, IfOk, OnOk}
 ghost use Rattle.com_calls.specs.Kept.{IsNamed};
 ghost use Rattle.com_core.specs.Beginning.{BeginsParts};
 ghost use Rattle.com_core.specs.Sound.{Few, Sound};
+ghost use Rattle.com_ledger.specs.Ties.{IsNew};
 
 use com_base::Memory;
 use com_ledger::Ledger;
@@ -50,6 +51,7 @@ impl Running {
     pub fn new(alloc: Global, scenario: &Scenario) -> Result<Running, Memory>
         ensures sound { IfOk result (λ running. Sound running.parts running.entered) }
         ensures stands { IfOk result (λ running. BeginsParts scenario.now running.parts running.fallen) }
+        ensures held { IfOk result (λ running. IsNew running.ledger) }
         ensures whole { IfOk result (λ running. running.broken ≡ false) }
         ensures entered { IfOk result (λ running. running.entered ≡ 0 ∷ []) }
         ensures few { IfOk result (λ running. Few running.parts) }

@@ -3,10 +3,12 @@
 ghost use Rattle.std.specs.Prelude.{◌≡◌, ◌<◌, ◌≤◌, ◌^◌, ◌∷◌, [], IfOk, IfSome, OnOk, false, length, map};
 ghost use Rattle.com_books.specs.Changes.{Books};
 ghost use Rattle.com_core.specs.Beginning.{BeginsParts};
-ghost use Rattle.com_core.specs.Seen.{IsWhole, Makes, Steps, core_state};
+ghost use Rattle.com_core.specs.Seen.{IsFirst, IsWhole, Makes, Steps, core_state};
 ghost use Rattle.com_drive.specs.declared.runtime.Standing.TheVariants as standing;
 ghost use Rattle.com_core.specs.Stands.{IsReached};
 ghost use Rattle.com_drive.specs.Standings.{can_step_in, standing_of};
+ghost use Rattle.com_ledger.specs.Ties.{IsNew};
+ghost use Rattle.com_model.specs.Formed.{Formed};
 ghost use Rattle.com_model.specs.State.{objects_in};
 ghost use Rattle.com_model.specs.Tables.{lanes};
 ghost use Rattle.com_servant.specs.Rows.{row};
@@ -77,6 +79,8 @@ impl Core {
         ensures begins { IfOk result (λ core. BeginsParts scenario core.parts core.fallen) }
         ensures whole { IfOk result (λ core. core.broken ≡ false) }
         ensures entered { IfOk result (λ core. core.entered ≡ 0 ∷ []) }
+        ensures held { IfOk result (λ core. IsNew core.held) }
+        ensures first { IfOk result (λ core. Formed scenario → IsFirst scenario core) }
         ensures entries { IfOk result (λ core. core.parts.entries ≡ 0) }
         ensures clock { IfOk result (λ core. core.clock ≡ 0) }
     {
