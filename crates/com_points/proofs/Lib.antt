@@ -1,0 +1,9 @@
+mod Walks
+mod Takes
+mod Removes
+mod Lists
+mod Fired
+mod Advised
+mod Stepped
+mod Framed
+mod Servers
