@@ -1,25 +1,24 @@
 -- `advise` and `unadvise`, where the cells keep sinks.
 use Rattle.std.proofs.Common.{refl, sym, ap, subst, ◌∙◌, arith}
 use Rattle.std.proofs.lemmas.List.{length-append}
-use Rattle.std.specs.Prelude.{◌≡◌, ℕ, zero, suc, ◌+◌, ◌≤◌, ◌<◌, ◌^◌, ℤ, pos, Bool, true, false, cond, int_lt, List, [], ◌∷◌, ◌++◌, length, Option, Some, None}
+use Rattle.std.specs.Prelude.{◌≡◌, ℕ, ◌+◌, ◌≤◌, ◌<◌, ◌^◌, ℤ, pos, Bool, true, false, cond, int_lt, List, [], ◌∷◌, ◌++◌, length, Option, Some, None}
 use Rattle.std.specs.Int.{w64, int_wrapping_add}
 use Rattle.std.specs.Ordering.{int_eq}
 use Rattle.com_base.specs.declared.value.RefValue.{RefValue}
-use Rattle.com_base.specs.declared.value.Value.{Value}
 use Rattle.com_base.specs.declared.value.Value.TheVariants as value
 use Rattle.com_body.specs.declared.actions.Action.TheVariants as action
 use Rattle.com_body.specs.declared.frame.Cells.{Cells}
 use Rattle.com_body.specs.declared.frame.Outcome.{Outcome}
 use Rattle.com_body.specs.Frames.{FrameView, entered}
-use Rattle.com_points.specs.Bodies.{ok, e_pointer, no_connection, advise_limit, advise_body, unadvise_body}
+use Rattle.com_points.specs.Bodies.{ok, e_pointer, no_connection, advise_limit, advise_body}
 use Rattle.com_points.specs.Alone.{alone}
 use Rattle.com_points.specs.Sinks.{Sink, is_cookie, without, has_cookie}
 use Rattle.com_points.specs.Kept.{Keeps, Rising, cells_of}
 use Rattle.com_points.specs.Rounds.{number, Leaves}
 use Rattle.com_points.proofs.Walks.{kept}
 use Rattle.com_points.proofs.Takes.{advising, advised, advises}
-use Rattle.com_points.proofs.Removes.{is_at, answers, unadvised, removes}
-use Rattle.com_points.proofs.Lists.{not-both, next-cookie, not-zero, rising-later, rising-more, rising-without, length-without}
+use Rattle.com_points.proofs.Removes.{answers, unadvised, removes}
+use Rattle.com_points.proofs.Lists.{not-both, next-cookie, not-zero, rising-more, rising-without, length-without}
 
 abbrev pub advised-by : Option RefValue → Cells → Outcome
 advised-by held c = alone advise_body 1 (entered (value.Ref held ∷ [])) c

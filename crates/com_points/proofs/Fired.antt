@@ -1,6 +1,6 @@
 -- A round of `fire`, where the cells keep sinks.
 use Rattle.std.proofs.Common.{refl, sym, ap, subst, ◌∙◌, arith}
-use Rattle.std.specs.Prelude.{◌≡◌, ℕ, zero, suc, ◌+◌, ◌*◌, ◌≤◌, ◌<◌, ℤ, pos, Bool, true, false, cond, int_lt, nat_lt, List, [], ◌∷◌, ◌++◌, length, slice_set, Option, Some, None}
+use Rattle.std.specs.Prelude.{◌≡◌, ℕ, zero, suc, ◌+◌, ◌*◌, ◌≤◌, ◌<◌, ℤ, pos, Bool, true, false, cond, nat_lt, List, [], ◌∷◌, length, slice_set, Option, Some, None}
 use Rattle.std.specs.Int.{w64, int_wrapping_add}
 use Rattle.com_base.specs.declared.value.RefValue.{RefValue}
 use Rattle.com_base.specs.declared.value.Value.{Value}
@@ -12,8 +12,8 @@ use Rattle.com_body.specs.Frames.{FrameView, no_number, entered, with_register}
 use Rattle.com_points.specs.Bodies.{ok, fire_body}
 use Rattle.com_points.specs.Alone.{alone}
 use Rattle.com_points.specs.Sinks.{Sink, above, first_between}
-use Rattle.com_points.specs.Kept.{Keeps, Rising, cells_of}
-use Rattle.com_points.specs.Rounds.{number, Leaves, AtRound, Begins, Sends, Fires}
+use Rattle.com_points.specs.Kept.{Keeps, cells_of}
+use Rattle.com_points.specs.Rounds.{number, Leaves, AtRound, Begins, Fires}
 use Rattle.com_points.proofs.Walks.{firing, past, leaves, stopped, called, found, Round, round-0, round-1, round-2, round-3, fires, fires-no-more}
 use Rattle.com_points.proofs.Lists.{below-zero, next-cookie, at_most, between-above}
 

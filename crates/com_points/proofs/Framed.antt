@@ -1,15 +1,13 @@
 -- Frames that stay at an entry, and what a call that comes back writes.
 use Rattle.std.proofs.Common.{refl, sym, ap, ap₂, subst, ◌∙◌}
-use Rattle.std.specs.Prelude.{◌≡◌, ℕ, zero, suc, pos, Bool, true, false, cond, ◌==◌, List, [], ◌∷◌, fold, Option, Some, None}
+use Rattle.std.specs.Prelude.{◌≡◌, ℕ, zero, suc, pos, false, List, [], ◌∷◌, fold, Option, Some, None}
 use Rattle.com_base.specs.declared.hresult.HResult.{HResult}
-use Rattle.com_base.specs.declared.value.RefValue.{RefValue}
 use Rattle.com_base.specs.declared.value.Value.{Value}
 use Rattle.com_base.specs.declared.value.Value.TheVariants as value
 use Rattle.com_body.specs.declared.operands.Destination.{Destination}
 use Rattle.com_body.specs.declared.operands.Destination.TheVariants as destination
 use Rattle.com_body.specs.declared.actions.Action.{Action}
 use Rattle.com_body.specs.declared.actions.Action.TheVariants as action
-use Rattle.com_body.specs.declared.statements.Stmt.{Stmt}
 use Rattle.com_body.specs.declared.frame.Cells.{Cells}
 use Rattle.com_body.specs.declared.frame.Outcome.{Outcome}
 use Rattle.com_body.specs.Frames.{FrameView, entered, with_register, with_slot}
@@ -18,18 +16,15 @@ use Rattle.com_model.specs.declared.deeds.Deed.TheVariants as deed
 use Rattle.com_model.specs.declared.deeds.Entry.{Entry}
 use Rattle.com_model.specs.declared.scenario.Scenario.{Scenario}
 use Rattle.com_model.specs.declared.keeps.Issue.{Issue}
-use Rattle.com_model.specs.declared.keeps.Opener.{Opener}
-use Rattle.com_model.specs.declared.keeps.Opener.TheVariants.{Enters}
 use Rattle.com_model.specs.Answers.{S_OK}
 use Rattle.com_model.specs.Lists.{put}
-use Rattle.com_model.specs.Openers.{openers}
 use Rattle.com_model.specs.Apartments.{ends_sta}
 use Rattle.com_model.specs.Objects.{class_of, named}
 use Rattle.com_model.specs.Calls.{issue}
 use Rattle.com_model.specs.Frames.{Scene, scene, Actor, Body, Script, Nobody, actor_in, outcome, unless_over, Write, ToRegister, ToSlot, ToLink, ToBuffer, to_answer, to_destination, value_reference, writes, written, with_frame, wants, acted, arrived, cut_links, acting, scene_after}
 use Rattle.com_model.specs.Rules.{legal}
-use Rattle.com_points.specs.Alone.{in_frame, in_cells, goes_on, alone}
-use Rattle.com_points.specs.Steps.{step_of, StepsBy, OwnStep, body_for, left_alone, GoesOn, GoesAlone, acts_for, begins_or_ends, FramesStay, with_result, returned_to, BackWrites}
+use Rattle.com_points.specs.Alone.{goes_on, alone}
+use Rattle.com_points.specs.Steps.{step_of, StepsBy, body_for, left_alone, GoesOn, GoesAlone, acts_for, begins_or_ends, FramesStay, returned_to, BackWrites}
 use Rattle.com_points.proofs.Stepped.{put-same, off, over-or, final-or, own-step}
 
 -- ---- frames that stay

@@ -7,3 +7,5 @@ mod Advised
 mod Stepped
 mod Framed
 mod Servers
+mod Runs
+mod Sourced

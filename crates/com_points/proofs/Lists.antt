@@ -5,11 +5,11 @@ use Rattle.std.proofs.lemmas.Bool.Decides.{Decides-int_eq}
 use Rattle.std.proofs.lemmas.Grind.{common_steps}
 use Rattle.std.proofs.lemmas.Int.{wrapping_add_is, int_wrap_fits, fits_signed_from_abs}
 use Rattle.std.proofs.Math.IntN.{pos-+ℤ-pos}
-use Rattle.std.specs.Prelude.{◌≡◌, ℕ, zero, suc, ◌+◌, ◌≤◌, ◌<◌, ◌^◌, ℤ, pos, ◌+ℤ◌, Bool, true, false, cond, ◌&&◌, nat_lt, nat_le, List, [], ◌∷◌, ◌++◌, length, Option, Some, None}
+use Rattle.std.specs.Prelude.{◌≡◌, ℕ, ◌+◌, ◌≤◌, ◌<◌, ◌^◌, ℤ, pos, Bool, true, false, cond, ◌&&◌, nat_lt, nat_le, List, [], ◌∷◌, ◌++◌, length, Option, Some, None}
 use Rattle.std.specs.Int.{w64, int_wrap, int_wrapping_add}
 use Rattle.std.specs.Ordering.{int_eq}
 use Rattle.com_base.specs.declared.value.RefValue.{RefValue}
-use Rattle.com_points.specs.Sinks.{Sink, is_cookie, without, has_cookie, above, first_between}
+use Rattle.com_points.specs.Sinks.{Sink, is_cookie, without, above, first_between}
 use Rattle.com_points.specs.Kept.{Rising}
 
 pub not-both : (b : Bool) → b ≡ true → b ≡ false → ⊥

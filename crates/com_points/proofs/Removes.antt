@@ -1,6 +1,6 @@
 -- `unadvise` by itself, where the cells are given one by one.
 use Rattle.std.proofs.Common.{refl, ap, sym, subst, ◌∙◌}
-use Rattle.std.specs.Prelude.{◌≡◌, ℕ, zero, suc, ◌+◌, ℤ, pos, Bool, true, false, cond, List, [], ◌∷◌, ◌++◌, int_lt, Option, Some, None}
+use Rattle.std.specs.Prelude.{◌≡◌, ℕ, ◌+◌, ℤ, pos, Bool, true, false, cond, List, [], ◌∷◌, ◌++◌, int_lt, Option, None}
 use Rattle.std.specs.Int.{w64, int_wrapping_sub}
 use Rattle.std.specs.Ordering.{int_eq}
 use Rattle.com_base.specs.declared.hresult.HResult.{HResult}
@@ -19,7 +19,7 @@ use Rattle.com_body.specs.Operands.{truth}
 use Rattle.com_body.specs.BodySteps.{walk, body_step}
 use Rattle.com_points.specs.Bodies.{ok, no_connection, int, leave_with, look_in, move_down, unadvise_body}
 use Rattle.com_points.specs.Alone.{goes_on, alone}
-use Rattle.com_points.proofs.Walks.{at-cond, cond-both, kept}
+use Rattle.com_points.proofs.Walks.{kept}
 
 -- Register 0 is the cookie that is looked for.
 abbrev pub finding : ℕ → (v1 v2 : Value) → (n : ℤ) → FrameView

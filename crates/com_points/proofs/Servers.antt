@@ -2,7 +2,7 @@
 use Rattle.std.proofs.Common.{refl, sym, ap, subst, ◌∙◌, ◌⊎◌, inl, inr, eqb-true, arith}
 use Rattle.std.proofs.lemmas.Grind.{common_steps}
 use Rattle.std.proofs.lemmas.List.{length-append}
-use Rattle.std.specs.Prelude.{◌≡◌, ℕ, zero, suc, ◌+◌, ◌≤◌, ◌<◌, Bool, true, false, cond, ◌&&◌, ◌||◌, ◌==◌, nat_le, List, [], ◌∷◌, ◌++◌, length, Option, Some, None}
+use Rattle.std.specs.Prelude.{◌≡◌, ℕ, ◌+◌, ◌≤◌, ◌<◌, Bool, true, false, cond, ◌&&◌, ◌||◌, ◌==◌, nat_le, List, [], ◌∷◌, ◌++◌, length, Option, Some, None}
 use Rattle.com_base.specs.declared.hresult.HResult.{HResult}
 use Rattle.com_base.specs.declared.value.Mode.{Mode}
 use Rattle.com_base.specs.declared.value.Mode.TheVariants as mode
@@ -25,7 +25,6 @@ use Rattle.com_model.specs.Sight.{Sight, sight}
 use Rattle.com_safety.proofs.Facts.{Fact, source-fact}
 use Rattle.com_safety.proofs.Sources.{next-source}
 use Rattle.com_safety.proofs.Ready.{legal-one-stack}
-use Rattle.com_safety.proofs.Small.{not-both}
 use Rattle.com_points.specs.Servers.{Stands, OneLane}
 
 -- ---- an STA is new when it is made
@@ -155,7 +154,7 @@ one-server s h l m a q t u v = by-sorts s h l m a (lane_sort s l) (lane_sort s m
 
 -- ---- open bodies
 
-serving-stands : (s : Scenario) (h : List Entry) (l c o a : ℕ) (os : List Opener) → InServing s h l os → Stands (Enters c o a) os → is_sta a ≡ true → serves s h l a ≡ true
+pub serving-stands : (s : Scenario) (h : List Entry) (l c o a : ℕ) (os : List Opener) → InServing s h l os → Stands (Enters c o a) os → is_sta a ≡ true → serves s h l a ≡ true
 serving-stands s h l c o a [] p m t = absurd m
 serving-stands s h l c o a (Enters d x b ∷ os) p (inl e) t = subst (λ (k : ℕ). is_sta k ≡ true → serves s h l k ≡ true) (same-place e) p.0 t
   where
@@ -173,7 +172,7 @@ serving-stands s h l c o a (Waits n ∷ os) p (inl e) t = absurd (no-body e)
     no-body e = cc
 serving-stands s h l c o a (Waits n ∷ os) p (inr m) t = serving-stands s h l c o a os p m t
 
-prefix-here : (P : List Entry → Type 0) (h : List Entry) → EachPrefix P h → P h
+pub prefix-here : (P : List Entry → Type 0) (h : List Entry) → EachPrefix P h → P h
 prefix-here P [] p = p
 prefix-here P (e ∷ h) p = p.1
 

@@ -1,6 +1,5 @@
 -- One entry of a lane whose innermost opener is a body.
 use Rattle.std.proofs.Common.{refl, sym, ap, subst, ◌∙◌, eqb-true}
-use Rattle.std.proofs.lemmas.Bool.{false_from_ne_true}
 use Rattle.std.specs.Prelude.{◌≡◌, ℕ, zero, suc, pos, Bool, true, false, cond, ◌==◌, List, [], ◌∷◌, fold, replicate, Option, Some, None, option_map}
 use Rattle.com_base.specs.declared.hresult.HResult.{HResult}
 use Rattle.com_base.specs.declared.value.RefValue.{RefValue}
@@ -27,15 +26,14 @@ use Rattle.com_model.specs.declared.keeps.Opener.{Opener}
 use Rattle.com_model.specs.declared.keeps.Opener.TheVariants.{Enters}
 use Rattle.com_model.specs.Apartments.{ends_sta}
 use Rattle.com_model.specs.Objects.{class_of, named, finals}
-use Rattle.com_model.specs.Calls.{issue, is_marshalled}
+use Rattle.com_model.specs.Calls.{issue}
 use Rattle.com_model.specs.declared.keeps.Issue.{Issue}
 use Rattle.com_model.specs.Issue.{call_refusal}
 use Rattle.com_model.specs.Frames.{Scene, scene, act_by, action_of, is_leave, value_reference, to_place, Actor, Body, Script, Nobody, actor, actor_in, outcome, unless_over, unless_final, Write, ToRegister, ToSlot, ToLink, ToBuffer, to_answer, to_destination, writes, written, with_frame, with_link, wants, acted, arrived, cut_links, acting, scene_after, act}
 use Rattle.com_model.specs.Deeds.{deed_of, called, left_by, left_as}
 use Rattle.com_model.specs.Sight.{Sight, sight}
-use Rattle.com_model.specs.Rules.{legal, next, next_by, lane_next, stepped, ticks, no_lane_can, tick_time}
+use Rattle.com_model.specs.Rules.{legal, next, next_by, stepped, no_lane_can, tick_time}
 use Rattle.com_model.proofs.Given.{Given}
-use Rattle.com_balance.proofs.Arguments.{put-other}
 use Rattle.com_safety.proofs.Small.{same-number}
 use Rattle.com_points.specs.Alone.{in_frame, in_cells}
 use Rattle.com_points.specs.Steps.{step_of, IsOut, IsLeave, result_of, StepsBy, OwnStep, acts_on, CellsStay}

@@ -1,6 +1,6 @@
 -- `advise` by itself, where the cells are given one by one.
 use Rattle.std.proofs.Common.{refl, ap, ◌∙◌}
-use Rattle.std.specs.Prelude.{◌≡◌, ℕ, zero, suc, ◌+◌, ℤ, pos, Bool, true, false, cond, List, [], ◌∷◌, ◌++◌, slice_set, Option, Some, None}
+use Rattle.std.specs.Prelude.{◌≡◌, ℕ, ◌+◌, ℤ, pos, Bool, true, false, cond, List, [], ◌∷◌, ◌++◌, slice_set, Option, Some, None}
 use Rattle.std.specs.Int.{w64, int_wrapping_add}
 use Rattle.std.specs.Ordering.{int_eq}
 use Rattle.com_base.specs.declared.value.RefValue.{RefValue}

@@ -1,8 +1,7 @@
 -- What the body step does from one place of a source's body to the next, where the cells are given one by one.
 use Rattle.std.proofs.Common.{refl, ap, ◌∙◌}
-use Rattle.std.specs.Prelude.{◌≡◌, ℕ, zero, suc, ◌+◌, ℤ, pos, Bool, true, false, cond, List, [], ◌∷◌, ◌++◌, int_lt, slice_index_or, slice_set, Option, Some, None}
-use Rattle.std.specs.Int.{w64, int_wrapping_add, int_wrapping_sub}
-use Rattle.std.specs.Ordering.{int_eq}
+use Rattle.std.specs.Prelude.{◌≡◌, ℕ, ◌+◌, ℤ, pos, Bool, true, false, cond, List, [], ◌∷◌, ◌++◌, int_lt, slice_index_or, slice_set, Option, Some, None}
+use Rattle.std.specs.Int.{w64, int_wrapping_add}
 use Rattle.com_base.specs.declared.value.RefValue.{RefValue}
 use Rattle.com_base.specs.declared.value.Value.{Value}
 use Rattle.com_base.specs.declared.value.Value.TheVariants as value
@@ -10,16 +9,14 @@ use Rattle.com_body.specs.declared.statements.Stmt.{Stmt}
 use Rattle.com_body.specs.declared.statements.Stmt.TheVariants as stmt
 use Rattle.com_body.specs.declared.operands.Place.TheVariants as place
 use Rattle.com_body.specs.declared.operands.Arg.TheVariants as arg
-use Rattle.com_body.specs.declared.operands.Given.TheVariants as given
 use Rattle.com_body.specs.declared.operands.Destination.TheVariants as destination
-use Rattle.com_body.specs.declared.actions.Action.{Action}
 use Rattle.com_body.specs.declared.actions.Action.TheVariants as action
 use Rattle.com_body.specs.declared.frame.Cells.{Cells}
 use Rattle.com_body.specs.declared.frame.Outcome.{Outcome}
-use Rattle.com_body.specs.Frames.{FrameView, no_number, entered, moved}
+use Rattle.com_body.specs.Frames.{FrameView, no_number}
 use Rattle.com_body.specs.Operands.{truth}
 use Rattle.com_body.specs.BodySteps.{walk, body_step}
-use Rattle.com_points.specs.Bodies.{ok, e_pointer, no_connection, advise_limit, int, register, leave_with, leave_register, take_place, look_in, move_down, look_at, send_event, event_round, advise_body, unadvise_body, fire_body}
+use Rattle.com_points.specs.Bodies.{ok, int, register, leave_register, look_at, send_event, event_round, fire_body}
 use Rattle.com_points.specs.Alone.{goes_on, alone}
 
 -- ---- choices

@@ -7,3 +7,5 @@ pub mod Rounds
 pub mod Histories
 pub mod Steps
 pub mod Servers
+pub mod Runs
+pub mod Sourced

@@ -27,7 +27,7 @@ use Rattle.com_model.specs.Calls.{issue, is_marshalled}
 use Rattle.com_model.specs.declared.keeps.Issue.{Issue}
 use Rattle.com_model.specs.Books.{books}
 use Rattle.com_model.specs.Deeds.{object_in}
-use Rattle.com_model.specs.Frames.{Scene, scene, Actor, Body, Script, Nobody, actor_in, value_reference}
+use Rattle.com_model.specs.Frames.{Scene, scene, Actor, Body, Nobody, actor_in, value_reference}
 use Rattle.com_model.specs.Lists.{is_number}
 use Rattle.com_model.specs.Values.{sent_result}
 use Rattle.com_points.specs.Alone.{in_frame, in_cells, alone}

@@ -12,10 +12,13 @@ ghost use Rattle.com_model.specs.declared.scenario.Scenario.{Scenario};
 ghost use Rattle.com_model.specs.Formed.{Formed};
 ghost use Rattle.com_model.specs.Rules.{legal};
 ghost use Rattle.com_points.specs.Alone.{alone};
+ghost use Rattle.com_points.specs.Sourced.{SourceRuns, SinksAfter};
+ghost use Rattle.com_points.specs.Sources.{IsSource};
 ghost use Rattle.com_points.specs.Steps.{OwnStep, GoesAlone, CellsStay, FramesStay, BackWrites};
 ghost use Rattle.com_points.specs.Bodies.{ok, e_pointer, no_connection, advise_limit, advise_body, unadvise_body, fire_body};
 ghost use Rattle.com_points.specs.Kept.{Keeps};
 ghost use Rattle.com_points.specs.Rounds.{number, Leaves, AtRound, Begins, Fires};
+ghost use Rattle.com_points.specs.Runs.{StillAlone, LeavesAlone};
 ghost use Rattle.com_points.specs.Servers.{OneLane};
 ghost use Rattle.com_points.specs.Sinks.{Sink, is_cookie, has_cookie, without, first_between};
 
@@ -68,4 +71,21 @@ pub fn own_steps()
 /// in an STA, so its bodies run one above another, and no other lane comes between two entries of a body that makes no call.
 pub fn one_lane()
     ensures { (s : Scenario) (h : List Entry) → Formed s → legal s h → OneLane h }
+{}
+
+/// In every legal history of a formed scenario a call on an object that is not agile, entered in an STA, whose body comes to its
+/// Leave by itself, with no call on the way, does so in the history too, whatever other lanes do meanwhile: while it is on top it
+/// has what is left of that (`still`), and its Leave has that answer and result, and leaves those cells (`leaves`). So `advise`
+/// and `unadvise` change the sinks of a source in one piece.
+pub fn runs_alone()
+    ensures still { (s : Scenario) (h : List Entry) → Formed s → legal s h → StillAlone s h }
+    ensures leaves { (s : Scenario) (h : List Entry) (e : Entry) → Formed s → legal s (e ∷ h) → LeavesAlone s h e }
+{}
+
+/// The calls of a source run these bodies, and its objects are not agile (`bodies`). In every legal history of a formed scenario
+/// the Leave of such a call, entered in an STA, has the answer to which its body comes by itself, and leaves the sinks to which it
+/// comes (`sinks`); what `advise` and `unadvise` come to, `advising` and `unadvising` say.
+pub fn source_calls()
+    ensures bodies { (s : Scenario) (class iface : ℕ) → IsSource s class iface → SourceRuns s class iface }
+    ensures sinks { (s : Scenario) (h : List Entry) (e : Entry) → Formed s → legal s (e ∷ h) → SinksAfter s h e }
 {}
