@@ -10,6 +10,7 @@ use Rattle.com_body.specs.declared.actions.Action.TheVariants as action
 use Rattle.com_body.specs.declared.frame.Cells.{Cells}
 use Rattle.com_body.specs.declared.frame.Outcome.{Outcome}
 use Rattle.com_body.specs.Frames.{FrameView, entered}
+use Rattle.com_model.specs.Frames.{new_cells}
 use Rattle.com_points.specs.Bodies.{ok, e_pointer, no_connection, advise_limit, advise_body}
 use Rattle.com_points.specs.Alone.{alone}
 use Rattle.com_points.specs.Sinks.{Sink, is_cookie, without, has_cookie}
@@ -22,6 +23,10 @@ use Rattle.com_points.proofs.Lists.{not-both, next-cookie, not-zero, rising-more
 
 abbrev pub advised-by : Option RefValue → Cells → Outcome
 advised-by held c = alone advise_body 1 (entered (value.Ref held ∷ [])) c
+
+-- A new object keeps no sinks.
+pub fresh-keeps : Keeps new_cells [] 0
+fresh-keeps = record { rest = pos 0 ∷ pos 0 ∷ pos 0 ∷ []; cells = refl; few = omega arith; rising = omega arith; fits = omega arith }
 
 -- Null is refused.
 pub advise-null : (c : Cells) (ps : List Sink) (m : ℕ) → Keeps c ps m → Leaves (advised-by None c) e_pointer None ps m

@@ -9,3 +9,5 @@ mod Framed
 mod Servers
 mod Runs
 mod Sourced
+mod Fitting
+mod Cookies

@@ -94,7 +94,7 @@ pub record Same (s : Scenario) (h : List Entry) (e : Entry) (c o : ℕ) : Type 0
   pub given : given_to (e ∷ h) c ≡ given_to h c
   pub begun : began s (e ∷ h) c ≡ began s h c
 
-stays-same : (s : Scenario) (h : List Entry) (e : Entry) (l c o a : ℕ) → Formed s → legal s (e ∷ h) → Among (Enters c o a) (openers h l) → Same s h e c o
+pub stays-same : (s : Scenario) (h : List Entry) (e : Entry) (l c o a : ℕ) → Formed s → legal s (e ∷ h) → Among (Enters c o a) (openers h l) → Same s h e c o
 stays-same s h e l c o a f q m = record {
   issued = issue-stays s h e c q (call-low s h l c o a q.0 m);
   class = same-class s h e o f q (open-made s h f q.0 l c o a m);

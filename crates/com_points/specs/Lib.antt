@@ -9,3 +9,4 @@ pub mod Steps
 pub mod Servers
 pub mod Runs
 pub mod Sourced
+pub mod Fitting

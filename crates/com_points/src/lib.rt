@@ -1,7 +1,7 @@
 //! Event sources after IConnectionPoint: what their bodies do, stated on functions that do nothing.
 #![tactic(auto)]
 
-ghost use Rattle.std.specs.Prelude.{◌≡◌, ℕ, ◌+◌, ◌≤◌, ◌<◌, ◌^◌, ℤ, pos, int_lt, true, false, length, List, [], ◌∷◌, ◌++◌, Some, None};
+ghost use Rattle.std.specs.Prelude.{◌≡◌, ◌↔◌, ℕ, ◌+◌, ◌≤◌, ◌<◌, ◌^◌, ℤ, pos, int_lt, true, false, length, List, [], ◌∷◌, ◌++◌, Some, None};
 ghost use Rattle.com_base.specs.declared.value.RefValue.{RefValue};
 ghost use Rattle.com_base.specs.declared.value.Value.{Value};
 ghost use Rattle.com_base.specs.declared.value.Value.TheVariants as value;
@@ -10,12 +10,14 @@ ghost use Rattle.com_body.specs.Frames.{FrameView, entered, with_register};
 ghost use Rattle.com_model.specs.declared.deeds.Entry.{Entry};
 ghost use Rattle.com_model.specs.declared.scenario.Scenario.{Scenario};
 ghost use Rattle.com_model.specs.Formed.{Formed};
+ghost use Rattle.com_model.specs.Frames.{new_cells};
 ghost use Rattle.com_model.specs.Rules.{legal};
 ghost use Rattle.com_points.specs.Alone.{alone};
 ghost use Rattle.com_points.specs.Sourced.{SourceRuns, SinksAfter};
 ghost use Rattle.com_points.specs.Sources.{IsSource};
 ghost use Rattle.com_points.specs.Steps.{OwnStep, GoesAlone, CellsStay, FramesStay, BackWrites};
 ghost use Rattle.com_points.specs.Bodies.{ok, e_pointer, no_connection, advise_limit, advise_body, unadvise_body, fire_body};
+ghost use Rattle.com_points.specs.Fitting.{GivenFit};
 ghost use Rattle.com_points.specs.Kept.{Keeps};
 ghost use Rattle.com_points.specs.Rounds.{number, Leaves, AtRound, Begins, Fires};
 ghost use Rattle.com_points.specs.Runs.{StillAlone, LeavesAlone};
@@ -25,17 +27,21 @@ ghost use Rattle.com_points.specs.Sinks.{Sink, is_cookie, has_cookie, without, f
 /// What `advise` does by itself, where the cells keep some sinks and `last` is the cookie that was given last.
 ///
 /// Null is refused with E_POINTER, and then a fifth sink with CONNECT_E_ADVISELIMIT; the sinks stay as they were. Any other
-/// sink is taken behind the others under a new cookie, one more than the last one, and the cookie is the result.
+/// sink is taken behind the others under a new cookie, one more than the last one, and the cookie is the result. The cells of a
+/// new object keep no sinks (`fresh`).
 pub fn advising()
+    ensures fresh { Keeps new_cells [] 0 }
     ensures null { (c : Cells) (sinks : List Sink) (last : ℕ) → Keeps c sinks last → Leaves (alone advise_body 1 (entered (value.Ref None ∷ [])) c) e_pointer None sinks last }
     ensures full { (c : Cells) (sinks : List Sink) (last : ℕ) (sink : RefValue) → Keeps c sinks last → length sinks ≡ 4 → Leaves (alone advise_body 1 (entered (value.Ref (Some sink) ∷ [])) c) advise_limit None sinks last }
     ensures taken { (c : Cells) (sinks : List Sink) (last : ℕ) (sink : RefValue) → Keeps c sinks last → length sinks < 4 → last + 1 < 2 ^ 63 → Leaves (alone advise_body 1 (entered (value.Ref (Some sink) ∷ [])) c) ok (Some (number (last + 1))) (sinks ++ (record { cookie = last + 1; held = Some sink } ∷ [])) (last + 1) }
 {}
 
 /// What `unadvise` does by itself: the sink with the cookie goes, and the others keep their order. Where no sink has it the
-/// answer is CONNECT_E_NOCONNECTION, and the sinks stay as they were.
+/// answer is CONNECT_E_NOCONNECTION, and the sinks stay as they were. In the range of 64 bits a number is a cookie where it is equal
+/// to it (`cookie`).
 pub fn unadvising()
     ensures removed { (c : Cells) (sinks : List Sink) (last : ℕ) (n : ℤ) → Keeps c sinks last → int_lt (pos 0) n ≡ true → has_cookie n sinks ≡ true → Leaves (alone unadvise_body 4 (entered (value.Int n ∷ [])) c) ok None (without n sinks) last }
+    ensures cookie { (n cookie : ℕ) → n < 2 ^ 63 → cookie < 2 ^ 63 → (is_cookie (pos n) cookie ≡ true) ↔ (n ≡ cookie) }
     ensures none { (c : Cells) (sinks : List Sink) (last : ℕ) (n : ℤ) → Keeps c sinks last → is_cookie n 0 ≡ false → (int_lt (pos 0) n ≡ true → has_cookie n sinks ≡ false) → Leaves (alone unadvise_body 4 (entered (value.Int n ∷ [])) c) no_connection None sinks last }
 {}
 
@@ -88,4 +94,10 @@ pub fn runs_alone()
 pub fn source_calls()
     ensures bodies { (s : Scenario) (class iface : ℕ) → IsSource s class iface → SourceRuns s class iface }
     ensures sinks { (s : Scenario) (h : List Entry) (e : Entry) → Formed s → legal s (e ∷ h) → SinksAfter s h e }
+{}
+
+/// In every legal history of a formed scenario a call whose body is open was entered with as many values as its method has
+/// parameters, each of its kind. So `advise` has one reference, which may be null, and `unadvise` and `fire` have one number.
+pub fn given_values()
+    ensures { (s : Scenario) (h : List Entry) → Formed s → legal s h → GivenFit s h }
 {}

@@ -1,4 +1,4 @@
-use Rattle.com_points.proofs.Advised.{advise-null, advise-full, advise-taken}
+use Rattle.com_points.proofs.Advised.{fresh-keeps, advise-null, advise-full, advise-taken}
 use Rattle.com_points.proofs.advising.Goals as goal
 
 pub returns-clause-null : goal.returns-clause-null
@@ -9,3 +9,6 @@ returns-clause-full c = λ d sinks last sink k q. advise-full sink d sinks last 
 
 pub returns-clause-taken : goal.returns-clause-taken
 returns-clause-taken c = λ d sinks last sink k q f. advise-taken sink d sinks last k q f
+
+pub returns-clause-fresh : goal.returns-clause-fresh
+returns-clause-fresh c = fresh-keeps

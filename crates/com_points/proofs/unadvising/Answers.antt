@@ -1,3 +1,4 @@
+use Rattle.com_points.proofs.Cookies.{cookie-is}
 use Rattle.com_points.proofs.Advised.{unadvise-removed, unadvise-none}
 use Rattle.com_points.proofs.unadvising.Goals as goal
 
@@ -6,3 +7,6 @@ returns-clause-removed c = λ d sinks last n k t h. unadvise-removed n d sinks l
 
 pub returns-clause-none : goal.returns-clause-none
 returns-clause-none c = λ d sinks last n k z f. unadvise-none n d sinks last k z f
+
+pub returns-clause-cookie : goal.returns-clause-cookie
+returns-clause-cookie c = cookie-is
