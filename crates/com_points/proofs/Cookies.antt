@@ -2,7 +2,7 @@
 use Rattle.std.proofs.Common.{sym, ◌∙◌, arith}
 use Rattle.std.proofs.lemmas.Bool.Decides.{Decides-int_eq}
 use Rattle.std.proofs.lemmas.Int.{wrapping_sub_is, int_wrap_fits, fits_signed_from_abs, ints}
-use Rattle.std.specs.Prelude.{◌≡◌, ◌↔◌, ℕ, ◌<◌, ◌^◌, ℤ, pos, ◌-ℤ◌, true, FitsSigned}
+use Rattle.std.specs.Prelude.{◌≡◌, ◌↔◌, ℕ, ◌<◌, ◌^◌, pos, ◌-ℤ◌, true, FitsSigned}
 use Rattle.std.specs.Int.{w64, int_wrapping_sub}
 use Rattle.com_points.specs.Sinks.{is_cookie}
 
