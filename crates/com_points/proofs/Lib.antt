@@ -1,0 +1,13 @@
+mod Walks
+mod Takes
+mod Removes
+mod Lists
+mod Fired
+mod Advised
+mod Stepped
+mod Framed
+mod Servers
+mod Runs
+mod Sourced
+mod Fitting
+mod Cookies

@@ -1,0 +1,12 @@
+pub mod Bodies
+pub mod Sources
+pub mod Sinks
+pub mod Alone
+pub mod Kept
+pub mod Rounds
+pub mod Histories
+pub mod Steps
+pub mod Servers
+pub mod Runs
+pub mod Sourced
+pub mod Fitting
