@@ -60,9 +60,9 @@ pub round_said : (text a b c d longer : List ℕ) (g h : Lcg) (class argument : 
     → d ≡ c ++ decimal (argument % 1000) → longer ≡ d ++ codes " -> r1\nrelease s0\n" → longer ≡ text ++ round_text g
 round_said text a b c d longer g h class argument is_class is_h is_argument ea eb ec ed el =
     el ∙ ap (λ (t : List ℕ). t ++ codes " -> r1\nrelease s0\n")
-      (ed ∙ ap (λ (t : List ℕ). t ++ decimal (argument % 1000))
-      (ec ∙ ap (λ (t : List ℕ). t ++ codes " ICounter\ncall s0 ICounter.add ")
-      (eb ∙ ap (λ (t : List ℕ). t ++ decimal (1 + class % 5)) ea)))
+    (ed ∙ ap (λ (t : List ℕ). t ++ decimal (argument % 1000))
+    (ec ∙ ap (λ (t : List ℕ). t ++ codes " ICounter\ncall s0 ICounter.add ")
+    (eb ∙ ap (λ (t : List ℕ). t ++ decimal (1 + class % 5)) ea)))
     ∙ round_behind text class argument
     ∙ ap (λ (x : ℕ). text ++ round_of x argument) is_class
     ∙ ap (λ (x : ℕ). text ++ round_of (word g) x) (is_argument ∙ ap word is_h)

@@ -2,15 +2,16 @@
 #![tactic(auto)]
 
 ghost use Rattle.std.specs.Prelude.{◌≡◌, ◌++◌, IfOk, OnOk, decimal};
-ghost use Rattle.com_gen.specs.Loads.{word, behind, apartment_text, round_text, behind_round, rounds_text, behind_rounds};
-ghost use Rattle.com_gen.specs.Loads.{script_text, behind_script, scripts_text, behind_scripts, head_text, seeded, load_text};
+ghost use Rattle.com_gen.specs.Loads.{word, behind, seeded, head_text, load_text, apartment_text};
+ghost use Rattle.com_gen.specs.Loads.{round_text, behind_round, rounds_text, behind_rounds};
+ghost use Rattle.com_gen.specs.Loads.{script_text, behind_script, scripts_text, behind_scripts};
 
 mod numbers;
 #[cfg(test)]
 mod tests;
 
-pub use com_base::Memory;
 use com_base::ByteList;
+pub use com_base::Memory;
 use itoa::Buffer;
 pub use numbers::number_of;
 use rand_core::SeedableRng;
@@ -27,8 +28,9 @@ const ROUNDS: u32 = 400;
 /// No text is as long as this, in bytes.
 const ROOM: usize = 400_000;
 
-/// The text of a number's scenario: five classes, one of each model, and eight threads. Each thread goes into an apartment, and
-/// then 400 times makes an object, calls it and releases it; kinds of apartments, classes and arguments are drawn.
+/// The text of a number's scenario: five classes, one of each model, and eight threads. Each thread goes into
+/// an apartment, and then 400 times makes an object, calls it and releases it; kinds of apartments, classes
+/// and arguments are drawn.
 ///
 /// The only error is want of memory.
 pub fn generate(alloc: Global, number: u32) -> Result<ByteList, Memory>

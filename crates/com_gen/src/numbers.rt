@@ -8,7 +8,8 @@ const GREATEST: u32 = 1_000_000;
 /// No word of a number has more digits.
 const LONGEST: usize = 7;
 
-/// The number of a text that a word spells: one to seven decimal digits with a value of 1 to 1,000,000. Leading zeros are taken.
+/// The number of a text that a word spells: one to seven decimal digits with a value of 1 to 1,000,000.
+/// Leading zeros are taken.
 #[tactic(auto, unfolding(crate::specs::Numbers::number_of))]
 pub fn number_of(word: &[u8]) -> Option<u32>
     ensures value { result ≡ number_of word.now }
