@@ -230,6 +230,7 @@ complete_cause status.ReadFault code sides bytes e cause told calm_source calm_s
 complete_cause status.WriteFault code sides bytes e cause told calm_source calm_sink = absurd (calm_sink cause.rose)
 complete_cause status.Stuck code sides bytes e cause told calm_source calm_sink = written_complete status.Stuck code sides bytes e cause.1 told
 complete_cause status.Budget code sides bytes e cause told calm_source calm_sink = written_complete status.Budget code sides bytes e cause.1 told
+complete_cause status.Differs code sides bytes e cause told calm_source calm_sink = absurd cause
 complete_cause status.Memory code sides bytes e cause told calm_source calm_sink = inr e
 
 pub completes : Completes

@@ -1,2 +1,4 @@
 pub mod Causes
+pub mod LoadCauses
 pub mod ReplyCauses
+pub mod Words

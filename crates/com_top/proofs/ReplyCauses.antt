@@ -19,6 +19,7 @@ whole_cause status.ReadFault code sides bytes e cause told calm_source calm_sink
 whole_cause status.WriteFault code sides bytes e cause told calm_source calm_sink = absurd (calm_sink cause.0)
 whole_cause status.Stuck code sides bytes e cause told calm_source calm_sink = absurd cause
 whole_cause status.Budget code sides bytes e cause told calm_source calm_sink = absurd cause
+whole_cause status.Differs code sides bytes e cause told calm_source calm_sink = absurd cause
 whole_cause status.Memory code sides bytes e cause told calm_source calm_sink = inr e
 
 pub replies_whole : RepliesWhole

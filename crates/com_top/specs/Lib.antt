@@ -1,3 +1,4 @@
 pub mod Inputs
 pub mod Statuses
 pub mod Replies
+pub mod Loading

@@ -62,6 +62,7 @@ HasReplyCause status.ReadFault sides = IsReadFault sides
 HasReplyCause status.WriteFault sides = Rose sides.write_faults sides.write_faults_after × RepliesPart sides
 HasReplyCause status.Stuck sides = ⊥
 HasReplyCause status.Budget sides = ⊥
+HasReplyCause status.Differs sides = ⊥
 HasReplyCause status.Memory sides = sides.held_after ≡ sides.held
 
 -- The number is that of a status that has its cause.

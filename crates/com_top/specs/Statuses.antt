@@ -18,6 +18,7 @@ code_of status.ReadFault = 3
 code_of status.WriteFault = 4
 code_of status.Stuck = 5
 code_of status.Budget = 6
+code_of status.Differs = 7
 code_of status.Memory = 9
 
 -- The words that ask for a replay.
@@ -25,7 +26,7 @@ abbrev pub IsReplay : List (List ℕ) → Type 0
 IsReplay words = words ≡ codes "replay" ∷ []
 
 abbrev pub usage_line : List ℕ
-usage_line = codes "usage: comrun replay|objref\n"
+usage_line = codes "usage: comrun replay|load N|objref\n"
 
 abbrev pub read_fault_line : List ℕ
 read_fault_line = codes "read fault\n"
@@ -87,6 +88,7 @@ HasCause status.ReadFault sides = IsReadFault sides
 HasCause status.WriteFault sides = IsWriteFault sides
 HasCause status.Stuck sides = IsDone status.Stuck sides
 HasCause status.Budget sides = IsDone status.Budget sides
+HasCause status.Differs sides = ⊥
 HasCause status.Memory sides = (sides.held_after ≡ sides.held) ⊎ WritesPart sides
 
 -- The number is that of a status that has its cause.

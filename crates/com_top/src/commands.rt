@@ -1,15 +1,18 @@
 //! The commands.
-ghost use Rattle.std.specs.Prelude.{◌≡◌, ◌⊎◌, ◌≤◌, ◌∷◌, [], ℕ, List, OnOk, IsTrue, ◌↔◌, map, string_bytes};
+ghost use Rattle.std.specs.Prelude.{◌≡◌, ◌⊎◌, ◌≤◌, ◌∷◌, [], ℕ, List, OnOk, IfSome, IsTrue, ◌↔◌, Some, None, map, string_bytes};
 ghost use Rattle.std.specs.Prelude.{codes};
 ghost use Rattle.com_io.specs.Faults.{Rose};
 ghost use Rattle.com_io.specs.Told.{Gains, GainsPrefix};
 ghost use Rattle.com_top.specs.declared.inputs.Input.TheVariants as input;
+ghost use Rattle.com_top.specs.Loading.{HasLoadCause, Loads, load_number};
 ghost use Rattle.com_top.specs.Replies.{HasReplyCause, IsObjRefWord, Replies, status_for};
 ghost use Rattle.com_top.specs.Statuses.{Answers, HasCause, IsAnswered, IsReplay, IsSaid, Says, Sides};
 ghost use Rattle.com_top.specs.Statuses.{usage_line};
 
 use crate::inputs::{Input, input_of, refused_line};
+use crate::loads::loaded;
 use crate::statuses::{Status, status_at};
+use com_gen::number_of;
 use com_io::{ReadAllError, Sink, Source, read_all, write_all};
 use com_model::Scenario;
 use com_objref::show;
@@ -22,8 +25,9 @@ use std::alloc::Global;
 const LONGEST_DIGITS: usize = 1_048_576;
 
 /// Does what the words ask for: `replay` reads a scenario from the source and writes its history and report
-/// to the sink, or the line of the refusal; `objref` reads hexadecimal text and shows the OBJREF that it
-/// spells. The answer is the exit status.
+/// to the sink, or the line of the refusal; `load` and a number replay the scenario of that number, and show
+/// how it ended; `objref` reads hexadecimal text and shows the OBJREF that it spells. The answer is the exit
+/// status.
 ///
 /// Status 1 comes exactly for other words, unless the line that says so cannot be written; then nothing was
 /// read.
@@ -53,8 +57,12 @@ pub fn com_main<S: Source, K: Sink>(
       write_faults = K.faults_of sink.old;
       write_faults_after = K.faults_of sink.new;
     }) }
+    ensures load { (n : ℕ) → load_number (map string_bytes words.now) ≡ Some n
+        → Loads result n (K.held sink.old) (K.held sink.new) (K.faults_of sink.old) (K.faults_of sink.new) }
+    ensures load_reads_none { (n : ℕ) → load_number (map string_bytes words.now) ≡ Some n → source.new ≡ source.old }
     ensures usage { (IsReplay (map string_bytes words.now) → ⊥)
         → (IsObjRefWord (map string_bytes words.now) → ⊥)
+        → load_number (map string_bytes words.now) ≡ None
         → IsSaid result 1 usage_line (K.held sink.old) (K.held sink.new)
         (K.faults_of sink.old) (K.faults_of sink.new) }
     ensures unread { (IsReplay (map string_bytes words.now) → ⊥)
@@ -66,7 +74,10 @@ pub fn com_main<S: Source, K: Sink>(
     if asks(words, "objref") {
         return objref_main(alloc, source, sink);
     }
-    say(b"usage: comrun replay|objref\n", Status::Usage, sink).code()
+    match load_number(words) {
+        Some(number) => load_main(alloc, number, sink),
+        None => say(b"usage: comrun replay|load N|objref\n", Status::Usage, sink).code(),
+    }
 }
 
 /// Reads a scenario from the source, and writes its history and report to the sink. An input that is too
@@ -154,6 +165,27 @@ fn run_any<K: Sink>(alloc: Global, scenario: Scenario, sink: &mut K) -> Status
     }
 }
 
+/// Replays the scenario of a number, and writes the number and the last two lines of its report. The answer is
+/// the exit status: each has its cause.
+pub fn load_main<K: Sink>(alloc: Global, number: u32, sink: &mut K) -> u8
+    ensures { Loads result number (K.held sink.old) (K.held sink.new)
+        (K.faults_of sink.old) (K.faults_of sink.new) }
+{
+    load(alloc, number, sink).code()
+}
+
+#[tactic(auto, using(crate::proofs::LoadCauses::loaded_said))]
+fn load<K: Sink>(alloc: Global, number: u32, sink: &mut K) -> Status
+    ensures { HasLoadCause result number (K.held sink.old) (K.held sink.new)
+        (K.faults_of sink.old) (K.faults_of sink.new) }
+{
+    let reply = match loaded(alloc, number) {
+        Ok(reply) => reply,
+        Err(_) => return Status::Memory,
+    };
+    say(reply.text.as_slice(), reply.status, sink)
+}
+
 /// Reads hexadecimal text from the source, and shows the fields of the OBJREF that it spells, or its first
 /// fault. The answer is the exit status: each has its cause.
 pub fn objref_main<S: Source, K: Sink>(alloc: Global, source: &mut S, sink: &mut K) -> u8
@@ -210,6 +242,25 @@ fn asks(words: &[String], wanted: &str) -> bool
         [word] => is_word(word.as_str(), wanted),
         _ => false,
     }
+}
+
+// The number of the words `load` and a number.
+fn load_number(words: &[String]) -> Option<u32>
+    ensures { result ≡ load_number (map string_bytes words.now) }
+{
+    if words.len() != 2 {
+        return None;
+    }
+    number_behind(words[0].as_str(), words[1].as_str())
+}
+
+fn number_behind(word: &str, number: &str) -> Option<u32>
+    ensures { result ≡ load_number (word.now ∷ number.now ∷ []) }
+{
+    if !is_word(word, "load") {
+        return None;
+    }
+    number_of(number.as_bytes())
 }
 
 fn is_word(word: &str, wanted: &str) -> bool

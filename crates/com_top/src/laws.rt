@@ -1,4 +1,5 @@
 //! What follows from the causes of the statuses.
+ghost use Rattle.com_top.specs.Loading.{LoadsAreWhole};
 ghost use Rattle.com_top.specs.Replies.{RepliesWhole};
 ghost use Rattle.com_top.specs.Statuses.{Completes, FirstFormCompletes};
 
@@ -19,4 +20,10 @@ pub fn first_form_completeness()
 /// of the reply to them and the sink gained its whole text; or memory wanted.
 pub fn objref_completeness()
     ensures { RepliesWhole }
+{}
+
+/// Completeness of `load`: where no count of faults rose, the sink gained the whole text, and the status is that of the end of the
+/// history: 0, 5 or 6; or memory wanted.
+pub fn load_completeness()
+    ensures { LoadsAreWhole }
 {}

@@ -4,10 +4,11 @@
 mod commands;
 mod inputs;
 mod laws;
+mod loads;
 mod statuses;
 
 pub use com_base::Memory;
-pub use commands::{com_main, objref_main, replay_main};
+pub use commands::{com_main, load_main, objref_main, replay_main};
 pub use inputs::{Input, input_of};
-pub use laws::{completeness, first_form_completeness, objref_completeness};
+pub use laws::{completeness, first_form_completeness, load_completeness, objref_completeness};
 pub use statuses::Status;

@@ -3,6 +3,7 @@ ghost use Rattle.std.specs.Prelude.{◌≡◌};
 ghost use Rattle.com_top.specs.Statuses.{code_of};
 ghost use Rattle.com_top.specs.Inputs.{status_at};
 
+use com_base::ByteList;
 use com_model::Ended;
 
 /// How a command ended.
@@ -22,6 +23,8 @@ pub enum Status {
     Stuck,
     /// The whole text was written, and its history has as many entries as it may have, and is neither finished nor stuck.
     Budget,
+    /// The trace differs from the only legal line in some place.
+    Differs,
     /// Want of memory.
     Memory,
 }
@@ -39,6 +42,7 @@ impl Status {
             Status::WriteFault => 4,
             Status::Stuck => 5,
             Status::Budget => 6,
+            Status::Differs => 7,
             Status::Memory => 9,
         }
     }
@@ -53,4 +57,11 @@ pub fn status_at(ended: Ended) -> Status
         Ended::Stuck => Status::Stuck,
         Ended::Budget => Status::Budget,
     }
+}
+
+/// An exit status, and the text that goes with it.
+#[derive(Debug, Drop)]
+pub struct Reply {
+    pub status: Status,
+    pub text: ByteList,
 }

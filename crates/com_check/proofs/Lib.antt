@@ -1,0 +1,4 @@
+pub mod Beside
+pub mod Cutting
+pub mod Judging
+pub mod Values

@@ -1,0 +1,21 @@
+//! The text of one number, as a program of the generator's reference code draws it.
+use crate::generate;
+use std::test::Fail;
+
+const FRONT: &[u8] =
+    b"thread\ninit mta\ncreate s0 N5 ICounter\ncall s0 ICounter.add 417 -> r1\nrelease s0\ncreate s0 N5 ICounter\ncall s0 ICounter.add 235 -> r1\nrelease s0\ncreate s0 N1 ICounter\n";
+
+const BACK: &[u8] =
+    b"create s0 N4 ICounter\ncall s0 ICounter.add 739 -> r1\nrelease s0\ncreate s0 N3 ICounter\ncall s0 ICounter.add 509 -> r1\nrelease s0\nend\n";
+
+const HEAD: usize = 342;
+
+#[test]
+fn the_first_text_is_that_of_the_reference_code(rt: HostRuntime) -> Result<(), Fail> {
+    let text = generate(rt.alloc(), 1)?;
+    let bytes = text.as_slice();
+    assert_eq!(rt; bytes.len(), 204_912);
+    assert_eq!(rt; &bytes[HEAD..HEAD + FRONT.len()], FRONT);
+    assert_eq!(rt; &bytes[bytes.len() - BACK.len()..], BACK);
+    Ok(())
+}
