@@ -291,7 +291,7 @@ picked s st h l d cs f p q c = record {
   rise = rise-some (dies_in s (after s st l d)) 0 cs (objects_in (after s st l d)) c.rise;
   each = λ o a b. member-falls (dies_in s (after s st l d)) o cs st.fallen
       (λ m. differ (is_member o cs) (λ i. not-both (dies_in s st o) (sym (members s st h o p) ∙ m) (c.alive o i)))
-      (λ w n. c.all o (fresh s st h l d o f p q w n));
+      (λ w n. c.all o b (fresh s st h l d o f p q w n));
 }
 
 fallen-next : (s : Scenario) (st su : State) (h : List Entry) (l : ℕ) (d : Deed) → Step s st su h l d → su.fallen ≡ fallen_more (dies_in s su) (objects_in su) st.fallen

@@ -1,5 +1,5 @@
 -- Which objects can fall by an entry, and what a list of those has.
-use Rattle.std.specs.Prelude.{◌≡◌, ℕ, ◌<◌, true, false, ◌==◌, List, [], ◌∷◌, ◌++◌, ◌⊎◌, Some, filter}
+use Rattle.std.specs.Prelude.{◌≡◌, ℕ, ◌<◌, ◌≤◌, true, false, ◌==◌, List, [], ◌∷◌, ◌++◌, ◌⊎◌, Some, filter}
 use Rattle.com_model.specs.declared.deeds.Deed.{Deed}
 use Rattle.com_model.specs.declared.keeps.Opener.{Opener}
 use Rattle.com_model.specs.declared.keeps.Opener.TheVariants.{Enters}
@@ -30,10 +30,10 @@ pub record LeavesBody (st : State) (l : ℕ) (d : Deed) (o : ℕ) : Type 0 where
 abbrev pub MayFall : Scenario → State → (lane : ℕ) → Deed → ℕ → Type 0
 MayFall s st l d o = LosesLast s st (after s st l d) o ⊎ (LeavesBody st l d o ⊎ (objects_in st < o))
 
--- A list of candidates by number: all that may fall, and none that was dying before.
+-- A list of candidates by number: all objects that may fall, and none that was dying before.
 pub record Candidates (s : Scenario) (st : State) (l : ℕ) (d : Deed) (cs : List ℕ) : Type 0 where
   pub rise : Rise 0 cs (objects_in (after s st l d))
-  pub all : (o : ℕ) → MayFall s st l d o → is_member o cs ≡ true
+  pub all : (o : ℕ) → o ≤ objects_in (after s st l d) → MayFall s st l d o → is_member o cs ≡ true
   pub alive : (o : ℕ) → is_member o cs ≡ true → dies_in s st o ≡ false
 
 -- Those of the candidates that are dying after the entry.
