@@ -1,6 +1,6 @@
 -- Steps of a chain, and the least lane of a list.
-use Rattle.std.proofs.Common.{subst, sym, ap, ◌∙◌, arith}
-use Rattle.std.specs.Prelude.{◌≡◌, refl, ℕ, zero, suc, ◌+◌, ◌-◌, ◌<◌, ◌≤◌, Bool, true, false, cond, List, [], ◌∷◌, ◌++◌, length, Option, Some, None}
+use Rattle.std.proofs.Common.{sym, ap, ◌∙◌, arith}
+use Rattle.std.specs.Prelude.{◌≡◌, refl, ℕ, suc, ◌+◌, ◌-◌, ◌<◌, ◌≤◌, Bool, true, false, cond, List, [], ◌∷◌, ◌++◌, length, Option, Some, None}
 use Rattle.std.proofs.lemmas.List.{length-append}
 use Rattle.com_model.specs.Lists.{is_member, least, lesser}
 use Rattle.com_waits.specs.declared.reasons.Wait.{Wait}

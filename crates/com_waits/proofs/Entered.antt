@@ -1,7 +1,6 @@
 -- A call that was entered and has no answer stands open where it was entered.
-use Rattle.std.proofs.Common.{subst, sym, ap, ◌∙◌, inl, inr, eqb-true}
+use Rattle.std.proofs.Common.{subst, sym, ap, inl, inr, eqb-true}
 use Rattle.std.specs.Prelude.{◌≡◌, refl, ℕ, Bool, true, false, cond, ◌==◌, List, [], ◌∷◌, Option, Some, None}
-use Rattle.com_base.specs.declared.hresult.HResult.{HResult}
 use Rattle.com_base.specs.declared.value.Value.{Value}
 use Rattle.com_model.specs.declared.deeds.Deed.{Deed}
 use Rattle.com_model.specs.declared.deeds.Deed.TheVariants as deed
@@ -9,7 +8,7 @@ use Rattle.com_model.specs.declared.deeds.Entry.{Entry}
 use Rattle.com_model.specs.declared.keeps.Admission.{Admission}
 use Rattle.com_model.specs.declared.keeps.Ending.{Ending}
 use Rattle.com_model.specs.declared.keeps.Opener.{Opener}
-use Rattle.com_model.specs.declared.keeps.Opener.TheVariants.{Pumps, Waits, Enters}
+use Rattle.com_model.specs.declared.keeps.Opener.TheVariants.{Enters}
 use Rattle.com_model.specs.declared.scenario.Scenario.{Scenario}
 use Rattle.com_model.specs.Lists.{or_else, where_true}
 use Rattle.com_model.specs.Openers.{Closer, EndsPump, Backs, Leaves, Effect, Opens, Closes, Keeps, effect, opened, matches, fits, openers}

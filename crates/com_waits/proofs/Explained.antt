@@ -1,6 +1,6 @@
 -- What is computed of a stuck history is its explanation; and a history that has ended otherwise has none.
-use Rattle.std.proofs.Common.{subst, sym, ap, ◌∙◌}
-use Rattle.std.specs.Prelude.{◌≡◌, refl, ℕ, Bool, true, false, cond, not, ◌==◌, ◌&&◌, nat_le, List, Option, Some, None, is_none, length}
+use Rattle.std.proofs.Common.{sym, ap, ◌∙◌}
+use Rattle.std.specs.Prelude.{◌≡◌, refl, ℕ, Bool, true, false, cond, not, ◌==◌, ◌&&◌, nat_le, List, Some, None, is_none, length}
 use Rattle.com_model.specs.declared.counts.Ended.{Ended}
 use Rattle.com_model.specs.declared.counts.Ended.TheVariants as ended
 use Rattle.com_model.specs.declared.deeds.Entry.{Entry}
@@ -10,7 +10,6 @@ use Rattle.com_model.specs.Formed.{Formed}
 use Rattle.com_model.specs.Sight.{sight}
 use Rattle.com_model.specs.Rules.{legal, no_lane_can, tick_time}
 use Rattle.com_model.specs.Ends.{ended_as, finished, limit, stuck}
-use Rattle.com_waits.specs.declared.reasons.Wait.{Wait}
 use Rattle.com_waits.specs.declared.reasons.Waits.{Waits}
 use Rattle.com_waits.specs.Reasons.{pool_lane, waits_of}
 use Rattle.com_waits.specs.Chains.{explained, explanation, explanation_of}

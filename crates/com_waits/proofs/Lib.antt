@@ -7,3 +7,7 @@ pub mod Seen
 pub mod Explained
 pub mod Walking
 pub mod Chained
+pub mod Homes
+pub mod Lasting
+pub mod Over
+pub mod Served

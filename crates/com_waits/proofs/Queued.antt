@@ -1,7 +1,7 @@
 -- A posted call that stands on top of a lane of a stuck history stands in the inbox of its target's apartment.
 use Rattle.std.proofs.Common.{subst, sym, ap, ◌∙◌, inl, eqb-true, arith}
 use Rattle.std.proofs.lemmas.Grind.{common_steps}
-use Rattle.std.specs.Prelude.{◌≡◌, refl, ℕ, zero, suc, ◌+◌, ℤ, pos, negsuc, ◌≤◌, Bool, true, false, cond, not, ◌==◌, ◌&&◌, ◌||◌, nat_le, nat_lt, List, [], ◌∷◌, ◌++◌, Option, Some, None, filter, filter_map, is_none, is_some, min}
+use Rattle.std.specs.Prelude.{◌≡◌, refl, ℕ, zero, suc, ◌+◌, pos, negsuc, ◌≤◌, Bool, true, false, cond, not, ◌==◌, ◌&&◌, ◌||◌, nat_le, nat_lt, List, [], ◌∷◌, ◌++◌, Option, Some, None, filter, filter_map, is_none, is_some}
 use Rattle.std.specs.List.{cons_option}
 use Rattle.std.proofs.lemmas.Bool.{false_from_ne_true}
 use Rattle.std.proofs.lemmas.List.Elements.{filter_map-append}
@@ -18,16 +18,16 @@ use Rattle.com_model.specs.declared.keeps.Opener.TheVariants.{Waits}
 use Rattle.com_model.specs.declared.keeps.Phase.{Phase}
 use Rattle.com_model.specs.declared.keeps.Phase.TheVariants.{Unposted, Queued, Judged, Delayed, GivenUp}
 use Rattle.com_model.specs.declared.scenario.Scenario.{Scenario}
-use Rattle.com_model.specs.Lists.{or_else, where_true, first, is_member, least, lesser, one_to}
+use Rattle.com_model.specs.Lists.{or_else, where_true, is_member, least, lesser, one_to}
 use Rattle.com_model.specs.Openers.{openers}
 use Rattle.com_model.specs.Objects.{named}
-use Rattle.com_model.specs.Calls.{admitted, calls, issue, issue_or, issues, is_post, lane_of, route_of, target}
-use Rattle.com_model.specs.Clock.{clock, rules_of}
-use Rattle.com_model.specs.Endings.{EndsCall, EndsNone, can_be_cut, end_effect, ending, ends, filtered}
-use Rattle.com_model.specs.Waiting.{PostEffect, Posts, Judges, Delays, GivesUp, PostsNone, inbox, is_queued, phase, phase_after, post_effect, posted_last, postings, retries, waits_in}
+use Rattle.com_model.specs.Calls.{admitted, calls, issue, issue_or, issues, is_post, route_of, target}
+use Rattle.com_model.specs.Clock.{clock}
+use Rattle.com_model.specs.Endings.{can_be_cut, end_effect, ending, ends, filtered}
+use Rattle.com_model.specs.Waiting.{PostEffect, Posts, Judges, Delays, GivesUp, PostsNone, inbox, is_queued, phase, phase_after, post_effect, posted_last, postings, waits_in}
 use Rattle.com_model.specs.Formed.{Formed}
-use Rattle.com_model.specs.Sight.{Sight, sight}
-use Rattle.com_model.specs.Rules.{legal, posted_again, retried, tick_time, time_of, time_waited}
+use Rattle.com_model.specs.Sight.{sight}
+use Rattle.com_model.specs.Rules.{legal, posted_again, retried, time_of, time_waited}
 use Rattle.com_safety.proofs.Small.{and-both, and-left, cond-when, not-both, same-number}
 use Rattle.com_safety.proofs.Posted.{NewOut, next-new}
 use Rattle.com_balance.proofs.Counts.{Among}

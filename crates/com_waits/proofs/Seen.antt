@@ -3,7 +3,6 @@ use Rattle.std.proofs.Common.{subst, sym, ap, ap₂, ◌∙◌, inl, eqb-true, a
 use Rattle.std.proofs.lemmas.Grind.{common_steps}
 use Rattle.std.specs.List.{cons_option}
 use Rattle.std.specs.Prelude.{◌≡◌, refl, ℕ, ◌≤◌, Bool, true, false, cond, ◌==◌, ◌||◌, nat_le, List, [], ◌∷◌, Option, Some, None, filter_map, is_none, is_some, option_map}
-use Rattle.com_model.specs.declared.deeds.Deed.{Deed}
 use Rattle.com_model.specs.declared.deeds.Entry.{Entry}
 use Rattle.com_model.specs.declared.keeps.Admission.{Admission}
 use Rattle.com_model.specs.declared.keeps.Opener.{Opener}
@@ -17,10 +16,10 @@ use Rattle.com_model.specs.Objects.{named}
 use Rattle.com_model.specs.Calls.{admitted, target}
 use Rattle.com_model.specs.Waiting.{inbox}
 use Rattle.com_model.specs.Formed.{Formed}
-use Rattle.com_model.specs.Sight.{Sight, sight}
-use Rattle.com_model.specs.Rules.{admission, admits_next, legal, top}
+use Rattle.com_model.specs.Sight.{sight}
+use Rattle.com_model.specs.Rules.{admission, admits_next, legal}
 use Rattle.com_model.specs.Ends.{stuck}
-use Rattle.com_safety.proofs.Small.{not-both, differ}
+use Rattle.com_safety.proofs.Small.{not-both}
 use Rattle.com_balance.proofs.Counts.{Among}
 use Rattle.com_balance.proofs.Arrivals.{WaitsTop}
 use Rattle.com_balance.proofs.Bases.{first-among}
@@ -155,7 +154,7 @@ rings-exhaust s h f p t ls r = let k : Found (is_at_pool s h) = any-found (is_at
 
 -- ---- a call on top
 
-rule-of : (s : Scenario) (h : List Entry) (l : ℕ) → AtTop s h l → NoRule s (sight s h) l
+pub rule-of : (s : Scenario) (h : List Entry) (l : ℕ) → AtTop s h l → NoRule s (sight s h) l
 rule-of s h l (at_none e r) = r
 rule-of s h l (at_pump n os e r) = r
 rule-of s h l (at_call c os e r) = r

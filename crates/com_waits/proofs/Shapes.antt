@@ -1,7 +1,7 @@
 -- The shape of what is open in a lane: a pump stands at the bottom, a call waits above calls that were issued before it, and a body
 -- of a call that was not posted stands on the Out of its call.
-use Rattle.std.proofs.Common.{subst, sym, ap, ◌∙◌, ◌⊎◌, inl, inr, eqb-true, arith}
-use Rattle.std.specs.Prelude.{◌≡◌, refl, ℕ, ◌+◌, ◌≤◌, ◌<◌, Bool, true, false, cond, ◌==◌, List, [], ◌∷◌, Option, Some, None, is_none}
+use Rattle.std.proofs.Common.{subst, sym, ◌⊎◌, inl, inr, eqb-true, arith}
+use Rattle.std.specs.Prelude.{◌≡◌, refl, ℕ, ◌+◌, ◌≤◌, ◌<◌, true, false, ◌==◌, List, [], ◌∷◌, Option, Some}
 use Rattle.com_base.specs.declared.value.Value.{Value}
 use Rattle.com_model.specs.declared.deeds.Deed.{Deed}
 use Rattle.com_model.specs.declared.deeds.Deed.TheVariants as deed
@@ -11,19 +11,17 @@ use Rattle.com_model.specs.declared.keeps.Opener.{Opener}
 use Rattle.com_model.specs.declared.keeps.Opener.TheVariants.{Pumps, Waits, Enters}
 use Rattle.com_model.specs.declared.scenario.Scenario.{Scenario}
 use Rattle.com_model.specs.Lists.{first, without_first}
-use Rattle.com_model.specs.Tables.{LaneSort, Thread, lane_sort}
-use Rattle.com_model.specs.Openers.{Effect, Opens, Closes, Keeps, effect, effect_on, opened, openers}
+use Rattle.com_model.specs.Openers.{effect, opened, openers}
 use Rattle.com_model.specs.Apartments.{next_sta}
 use Rattle.com_model.specs.Objects.{objects}
 use Rattle.com_model.specs.Calls.{issue, calls, is_post, route_of}
 use Rattle.com_model.specs.Formed.{Formed}
-use Rattle.com_model.specs.Sight.{Sight, sight}
-use Rattle.com_model.specs.Rules.{packet_left, next, legal}
+use Rattle.com_model.specs.Sight.{sight}
+use Rattle.com_model.specs.Rules.{next, legal}
 use Rattle.com_model.specs.Safe.{maker, MadeOnTop}
 use Rattle.com_model.proofs.Scenes.{GoodOpeners}
 use Rattle.com_model.proofs.Kept.{legal-kept}
-use Rattle.com_safety.proofs.Small.{same-number}
-use Rattle.com_safety.proofs.Sources.{Source, next-source}
+use Rattle.com_safety.proofs.Sources.{next-source}
 use Rattle.com_safety.proofs.OnTop.{made-on-top}
 use Rattle.com_balance.proofs.Counts.{Among}
 use Rattle.com_balance.proofs.Steps.{waits-number}

@@ -1,7 +1,7 @@
 -- What a stuck history says of each lane: none of the rules applies.
 use Rattle.std.proofs.Common.{subst, sym, ap, ◌∙◌, eqb-true, arith}
 use Rattle.std.proofs.lemmas.Grind.{common_steps}
-use Rattle.std.specs.Prelude.{◌≡◌, refl, ℕ, zero, suc, ◌≤◌, Bool, true, false, cond, not, ◌==◌, ◌&&◌, ◌||◌, nat_le, List, [], ◌∷◌, ◌++◌, Option, Some, None, is_none, is_some, option_map, option_and_then}
+use Rattle.std.specs.Prelude.{◌≡◌, refl, ℕ, zero, suc, ◌≤◌, Bool, true, false, cond, not, ◌==◌, ◌&&◌, ◌||◌, nat_le, List, [], ◌∷◌, ◌++◌, Option, Some, None, is_none, is_some, option_map}
 use Rattle.com_body.specs.declared.actions.Action.{Action}
 use Rattle.com_model.specs.declared.deeds.Deed.{Deed}
 use Rattle.com_model.specs.declared.deeds.Deed.TheVariants as deed
@@ -9,14 +9,14 @@ use Rattle.com_model.specs.declared.deeds.Entry.{Entry}
 use Rattle.com_model.specs.declared.keeps.Opener.{Opener}
 use Rattle.com_model.specs.declared.keeps.Opener.TheVariants.{Pumps, Waits, Enters}
 use Rattle.com_model.specs.declared.scenario.Scenario.{Scenario}
-use Rattle.com_model.specs.Lists.{or_else, where_true, first, one_to, any_of}
-use Rattle.com_model.specs.Tables.{LaneSort, NoLane, lane_sort, lanes}
+use Rattle.com_model.specs.Lists.{or_else, first, one_to, any_of}
+use Rattle.com_model.specs.Tables.{lane_sort, lanes}
 use Rattle.com_model.specs.Openers.{Effect, Keeps, effect, opened, openers}
 use Rattle.com_model.specs.Objects.{class_of}
 use Rattle.com_model.specs.Calls.{issue}
 use Rattle.com_model.specs.Frames.{actor, act_by, act, issued_body, scene}
 use Rattle.com_model.specs.Sight.{Sight, sight}
-use Rattle.com_model.specs.Rules.{top, rule_final, rule_own, rule_answer, rule_bound, rule_inbox, rule_retry, rule_again, rule_pending, rule_word, rule_script, ruled, stepped, lane_next, can_step, no_lane_can, tick_time, ticks, next_by, next, legal}
+use Rattle.com_model.specs.Rules.{rule_final, rule_own, rule_answer, rule_bound, rule_inbox, rule_retry, rule_again, rule_pending, rule_word, rule_script, ruled, stepped, lane_next, can_step, no_lane_can, tick_time, next, legal}
 use Rattle.com_model.specs.Deeds.{deed_of}
 use Rattle.com_model.specs.Ends.{finished_by, stuck}
 use Rattle.com_safety.proofs.Small.{and-left, and-right, neither, not-true, none-of}

@@ -1,7 +1,6 @@
 -- What stands on top of each lane of a stuck history; and every cycle has a step to the pool.
 use Rattle.std.proofs.Common.{subst, sym, ap, ◌∙◌, inl, inr, arith}
-use Rattle.std.proofs.lemmas.Grind.{common_steps}
-use Rattle.std.specs.Prelude.{◌≡◌, refl, ℕ, zero, suc, ◌≤◌, ◌<◌, Bool, true, false, cond, not, ◌==◌, ◌&&◌, List, [], ◌∷◌, Option, Some, None, is_none, is_some, option_map, option_and_then}
+use Rattle.std.specs.Prelude.{◌≡◌, refl, ℕ, zero, suc, ◌≤◌, ◌<◌, Bool, true, false, not, ◌&&◌, List, [], ◌∷◌, Option, Some, None, is_none, option_map, option_and_then}
 use Rattle.com_model.specs.declared.deeds.Deed.{Deed}
 use Rattle.com_model.specs.declared.deeds.Entry.{Entry}
 use Rattle.com_model.specs.declared.keeps.Admission.{Admission}
@@ -14,24 +13,23 @@ use Rattle.com_model.specs.Lists.{first, where_true, any_of, is_member}
 use Rattle.com_model.specs.Tables.{lanes}
 use Rattle.com_model.specs.Apartments.{mta}
 use Rattle.com_model.specs.Openers.{openers}
-use Rattle.com_model.specs.Calls.{admitted, issue, is_post, lane_of, route_of}
+use Rattle.com_model.specs.Calls.{admitted, issue, is_post, route_of}
 use Rattle.com_model.specs.Endings.{Answer, answer_of, ending}
 use Rattle.com_model.specs.Waiting.{inbox}
 use Rattle.com_model.specs.Formed.{Formed}
 use Rattle.com_model.specs.Sight.{Sight, sight}
 use Rattle.com_model.specs.Rules.{admission, answered, due_of, enters_itself, legal, packet_left, waiting_call}
 use Rattle.com_model.specs.Ends.{stuck}
-use Rattle.com_safety.proofs.Small.{not-both, or-left, neither}
+use Rattle.com_safety.proofs.Small.{not-both, neither}
 use Rattle.com_balance.proofs.Counts.{Among}
 use Rattle.com_balance.proofs.Answered.{lane-low}
 use Rattle.com_balance.proofs.Bases.{first-among}
 use Rattle.com_balance.proofs.Directs.{waits-issued}
-use Rattle.com_waits.specs.declared.reasons.Why.{Why}
 use Rattle.com_waits.specs.declared.reasons.Why.TheVariants as reason
-use Rattle.com_waits.specs.Reasons.{pool_lane, why, why_at, why_at_call}
+use Rattle.com_waits.specs.Reasons.{pool_lane, why_at, why_at_call}
 use Rattle.com_waits.specs.Chains.{lane_named}
 use Rattle.com_waits.specs.Laws.{TopWaits, TopsWait, leads, RunsTo, IsRing, is_pool, is_at_pool, RingsReachPool}
-use Rattle.com_waits.proofs.Stills.{Still, stuck-still, NoRule, AtTop, at_none, at_pump, at_call, at-top, clock-bare}
+use Rattle.com_waits.proofs.Stills.{stuck-still, NoRule, AtTop, at_none, at_pump, at_call, at-top, clock-bare}
 use Rattle.com_waits.proofs.Shapes.{Under, Seat, Shape, under-enter, legal-shape}
 use Rattle.com_waits.proofs.Entered.{OpenAt, legal-entered}
 

@@ -1,9 +1,9 @@
 -- Steps of the walks over entries, from the newest on.
-use Rattle.std.proofs.Common.{subst, sym, ap, ◌∙◌, length, drop, append-nil, arith}
+use Rattle.std.proofs.Common.{subst, sym, ap, ◌∙◌, drop, arith}
 use Rattle.std.proofs.lemmas.List.{reverse-append}
 use Rattle.std.proofs.lemmas.List.Elements.{filter_map-append}
 use Rattle.std.specs.List.{cons_option}
-use Rattle.std.specs.Prelude.{◌≡◌, refl, ℕ, zero, suc, ◌+◌, Bool, true, false, cond, ◌==◌, List, [], ◌∷◌, ◌++◌, Option, Some, None, option_map, reverse}
+use Rattle.std.specs.Prelude.{◌≡◌, refl, ℕ, zero, suc, ◌+◌, Bool, true, false, cond, ◌==◌, List, [], ◌∷◌, ◌++◌, Option, Some, None, option_map}
 use Rattle.com_model.specs.declared.deeds.Entry.{Entry}
 use Rattle.com_model.specs.declared.keeps.Admission.{Admission}
 use Rattle.com_model.specs.declared.keeps.Issue.{Issue}
@@ -18,7 +18,7 @@ use Rattle.com_waits.specs.declared.walks.Passed.TheVariants as passed
 use Rattle.com_waits.specs.declared.reasons.Why.{Why}
 use Rattle.com_waits.specs.declared.reasons.Wait.{Wait}
 use Rattle.com_waits.specs.Reasons.{wait_of}
-use Rattle.com_waits.specs.Walks.{apartment_in, change_by, change_of, lane_in, object_in, opens_at, passed_by, row_of, seen, seen_waits, told}
+use Rattle.com_waits.specs.Walks.{apartment_in, change_by, change_of, lane_in, object_in, passed_by, row_of, seen, seen_waits, told}
 
 pub told_more : (xs : List Entry) (e : Entry) → told (xs ++ e ∷ []) ≡ e ∷ told xs
 told_more xs e = reverse-append xs (e ∷ [])

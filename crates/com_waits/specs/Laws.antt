@@ -5,7 +5,7 @@ use Rattle.com_model.specs.declared.keeps.Opener.{Opener}
 use Rattle.com_model.specs.declared.keeps.Opener.TheVariants as opener
 use Rattle.com_model.specs.declared.scenario.Scenario.{Scenario}
 use Rattle.com_model.specs.Lists.{any_of, first, is_empty, is_member}
-use Rattle.com_model.specs.Tables.{LaneSort, Pool, lane_sort}
+use Rattle.com_model.specs.Tables.{Pool, lane_sort}
 use Rattle.com_model.specs.Apartments.{mta}
 use Rattle.com_model.specs.Openers.{openers}
 use Rattle.com_model.specs.Calls.{admitted, issue, is_post, route_of, target}
@@ -38,6 +38,10 @@ CallsWait s h = (l c : ℕ) → first (openers h l) ≡ Some (opener.Waits c) �
 -- Something is open in the lane.
 abbrev pub IsOpen : List Entry → ℕ → Type 0
 IsOpen h l = is_some (first (openers h l)) ≡ true
+
+-- Each lane with an opener has a reason.
+abbrev pub HasReasons : Scenario → List Entry → Type 0
+HasReasons s h = (l : ℕ) → IsOpen h l → is_some (why s h l) ≡ true
 
 -- The lane for which a lane waits.
 abbrev pub leads : Scenario → List Entry → ℕ → Option ℕ
@@ -78,3 +82,7 @@ PoolExhausts s h = (l : ℕ) → is_at_pool s h l ≡ true → IsExhausted s h
 
 abbrev pub RingsExhaust : Scenario → List Entry → Type 0
 RingsExhaust s h = (ls : List ℕ) → IsRing s h ls → IsExhausted s h
+
+-- Where a lane waits for another one, and not for a message, the pool is exhausted.
+abbrev pub CallsExhaust : Scenario → List Entry → Type 0
+CallsExhaust s h = (l m : ℕ) → leads s h l ≡ Some m → IsExhausted s h

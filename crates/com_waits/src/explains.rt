@@ -84,11 +84,7 @@ pub fn explain(
 
 // Why the lanes of a scenario's stuck history wait.
 #[tactic(auto, using(crate::proofs::Explained::stuck_rows))]
-fn explain_stuck(
-    alloc: Global,
-    scenario: &Scenario,
-    history: &[Entry],
-) -> Result<Waits, Memory>
+fn explain_stuck(alloc: Global, scenario: &Scenario, history: &[Entry]) -> Result<Waits, Memory>
     ensures { IfOk result (λ waits. Formed scenario.now → legal scenario.now (told history.now)
         → stuck scenario.now (told history.now) ≡ true → waits ≡ explanation scenario.now (told history.now)) }
 {

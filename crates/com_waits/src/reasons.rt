@@ -8,15 +8,9 @@ pub enum Why {
     /// It pumps, and waits for a message.
     Message,
     /// It waits for the body of a call, which was entered in this lane.
-    Body {
-        call: u32,
-        lane: u32,
-    },
+    Body { call: u32, lane: u32 },
     /// It waits for a lane of the pool that enters a call; the lane is the least of them.
-    Pool {
-        call: u32,
-        lane: u32,
-    },
+    Pool { call: u32, lane: u32 },
 }
 
 /// A lane, and why it waits.

@@ -234,12 +234,7 @@ fn reason_of(history: &[Entry], lane: u32, pool: u32) -> Option<Why>
 }
 
 // Puts the row of a lane behind the rows, where it waits. The only error is want of memory.
-fn push_row(
-    rows: &mut Vec<Wait>,
-    history: &[Entry],
-    lane: u32,
-    pool: u32,
-) -> Result<(), Memory>
+fn push_row(rows: &mut Vec<Wait>, history: &[Entry], lane: u32, pool: u32) -> Result<(), Memory>
     ensures { OnOk result (rows.new.items ≡ rows.old.items ++ row_of lane (seen pool (told history.now) lane)) }
 {
     match reason_of(history, lane, pool) {
