@@ -2,10 +2,8 @@
 -- not ended.
 use Rattle.std.proofs.Common.{subst, sym, ap, ◌∙◌, ◌⊎◌, inl, inr, eqb-true, arith}
 use Rattle.std.proofs.lemmas.Grind.{common_steps}
-use Rattle.std.proofs.lemmas.List.{length-append}
-use Rattle.std.specs.Prelude.{◌≡◌, refl, ℕ, zero, suc, ◌+◌, ◌≤◌, ◌<◌, Bool, true, false, not, cond, ◌==◌, ◌&&◌, ◌||◌, nat_le, List, [], ◌∷◌, length, filter, Option, Some, None, Result, Ok, Err}
+use Rattle.std.specs.Prelude.{◌≡◌, refl, ℕ, suc, ◌+◌, ◌≤◌, ◌<◌, Bool, true, false, not, cond, ◌==◌, ◌&&◌, ◌||◌, nat_le, List, [], ◌∷◌, filter, Option, Some, None, Ok, Err}
 use Rattle.com_base.specs.declared.hresult.HResult.{HResult}
-use Rattle.com_base.specs.declared.value.Value.{Value}
 use Rattle.com_body.specs.declared.operands.Asked.{Asked}
 use Rattle.com_body.specs.declared.actions.Action.{Action}
 use Rattle.com_body.specs.declared.actions.Action.TheVariants as action
@@ -23,13 +21,12 @@ use Rattle.com_model.specs.declared.keeps.Making.{Making}
 use Rattle.com_model.specs.declared.keeps.Opener.{Opener}
 use Rattle.com_model.specs.declared.keeps.Opener.TheVariants.{Pumps, Waits, Enters}
 use Rattle.com_model.specs.declared.scenario.Scenario.{Scenario}
-use Rattle.com_model.specs.Answers.{S_OK}
 use Rattle.com_model.specs.Lists.{first, is_number, number_or_zero, or_else, where_true}
 use Rattle.com_model.specs.Tables.{LaneSort, Thread, Host, Pool, NoLane, class_number, interface_number, lane_sort}
-use Rattle.com_model.specs.Openers.{Effect, Opens, effect, effect_on, entered_apartment, openers}
-use Rattle.com_model.specs.Apartments.{HomeEffect, Initialises, Uninitialises, Remains, count_after, ended, ends_sta, home, home_after, home_by_sort, home_effect, host_sta, init_count, is_sta, main_sta, mta, neutral, next_sta, or_host, running, stas, thread_home}
+use Rattle.com_model.specs.Openers.{Opens, effect, effect_on, entered_apartment, openers}
+use Rattle.com_model.specs.Apartments.{Initialises, Uninitialises, Remains, ended, ends_sta, home, home_by_sort, home_effect, host_sta, is_sta, main_sta, mta, neutral, next_sta, or_host, running, stas, thread_home}
 use Rattle.com_model.specs.Objects.{agile, asked_number, disconnects, made_or, makes, making, named, owner}
-use Rattle.com_model.specs.Calls.{admitted, issue, lane_of}
+use Rattle.com_model.specs.Calls.{issue, lane_of}
 use Rattle.com_model.specs.Books.{books, kept, made_by, most, rows}
 use Rattle.com_model.specs.Formed.{Formed}
 use Rattle.com_model.specs.Deeds.{created, created_of, creator, deed_of, made_as, placing}
@@ -38,7 +35,7 @@ use Rattle.com_model.specs.Places.{Ground, all_places, ground}
 use Rattle.com_model.specs.Endings.{ending, is_leave}
 use Rattle.com_model.specs.Safe.{Either, InApartment}
 use Rattle.com_model.specs.Sight.{Sight, sight}
-use Rattle.com_model.specs.Rules.{after_script, legal, packet_left}
+use Rattle.com_model.specs.Rules.{legal, packet_left}
 use Rattle.com_model.proofs.Given.{cond-of}
 use Rattle.com_model.proofs.Comes.{first-filter}
 use Rattle.com_safety.proofs.Small.{neither, not-both, not-true, same-number}

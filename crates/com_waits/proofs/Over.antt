@@ -1,7 +1,6 @@
 -- A thread that has made its End has no home; and a call of route post is not one to the neutral apartment.
 use Rattle.std.proofs.Common.{subst, sym, ap, ◌∙◌, ◌⊎◌, inl, inr, eqb-true, arith}
-use Rattle.std.proofs.lemmas.Grind.{common_steps}
-use Rattle.std.specs.Prelude.{◌≡◌, refl, ℕ, zero, suc, ◌+◌, ◌≤◌, ◌<◌, Bool, true, false, not, cond, ◌==◌, ◌&&◌, ◌||◌, nat_le, length, List, [], ◌∷◌, Option, Some, None, option_map}
+use Rattle.std.specs.Prelude.{◌≡◌, refl, ℕ, zero, suc, ◌+◌, ◌≤◌, Bool, true, false, not, cond, ◌==◌, ◌&&◌, ◌||◌, nat_le, length, List, [], ◌∷◌, Option, Some, None, option_map}
 use Rattle.com_base.specs.declared.hresult.HResult.{HResult}
 use Rattle.com_base.specs.declared.value.RefValue.{RefValue}
 use Rattle.com_model.specs.declared.deeds.Deed.{Deed}
@@ -17,22 +16,22 @@ use Rattle.com_model.specs.declared.keeps.Phase.TheVariants.{Unposted, Queued, J
 use Rattle.com_model.specs.declared.keeps.Word.{Word}
 use Rattle.com_model.specs.declared.scenario.Scenario.{Scenario}
 use Rattle.com_model.specs.Answers.{S_OK, is_failure, RPC_E_OUT_OF_RESOURCES, RPC_E_SERVER_CANTUNMARSHAL_DATA}
-use Rattle.com_model.specs.Lists.{first, is_number, number_or_zero, or_else, where_true}
+use Rattle.com_model.specs.Lists.{first, is_number, number_or_zero, where_true}
 use Rattle.com_model.specs.Tables.{LaneSort, Thread, Host, Pool, NoLane, lane_sort}
 use Rattle.com_model.specs.Openers.{openers}
 use Rattle.com_model.specs.Apartments.{HomeEffect, Initialises, Uninitialises, Remains, count_after, home_effect, init_count, is_end, neutral, over, next_sta, thread_home}
-use Rattle.com_model.specs.Objects.{named, objects}
+use Rattle.com_model.specs.Objects.{named}
 use Rattle.com_model.specs.Calls.{calls, issue, issue_or, issues, is_post, object_of, route_for, route_of, target}
 use Rattle.com_model.specs.Endings.{Answer}
 use Rattle.com_model.specs.Formed.{Formed}
 use Rattle.com_model.specs.Deeds.{owned_by, route_to, uninitialised}
 use Rattle.com_model.specs.Sight.{Sight, sight}
 use Rattle.com_model.specs.Waiting.{bound_reached, mark_of, not_asked}
-use Rattle.com_model.specs.Rules.{admission, admits_next, after_script, answered, arguments_gone, asked_on, call_sort, due_of, enters_itself, is_handled_in, is_script_turn, legal, next, next_by, own_call, packet_left, posted_again, posted_to_sta, pumped, retried, rule_again, rule_answer, rule_bound, rule_final, rule_inbox, rule_own, rule_pending, rule_retry, rule_script, rule_word, ruled, scripted, stepped, takes_word, top, verdict_on}
+use Rattle.com_model.specs.Rules.{admission, admits_next, answered, arguments_gone, asked_on, call_sort, due_of, enters_itself, is_handled_in, is_script_turn, legal, next, next_by, own_call, packet_left, posted_again, posted_to_sta, pumped, retried, rule_again, rule_answer, rule_bound, rule_final, rule_inbox, rule_own, rule_pending, rule_retry, rule_script, rule_word, ruled, scripted, stepped, takes_word, top, verdict_on}
 use Rattle.com_model.specs.Safe.{maker, MadeOnTop}
 use Rattle.com_model.proofs.Given.{Given, given-or, given-where, given-map, given-then, cond-of}
 use Rattle.com_model.proofs.Kept.{legal-kept}
-use Rattle.com_safety.proofs.Small.{and-left, and-right, differ, not-both}
+use Rattle.com_safety.proofs.Small.{and-left, and-right, not-both}
 use Rattle.com_safety.proofs.Sources.{Source, by_body, by_script, by_end, by_final, by_own, by_answer, by_inbox, by_retry, by_again, by_rest, IsRest, next-source}
 use Rattle.com_safety.proofs.Acted.{ActionSort, action_sort, OfAction, deed-acted}
 use Rattle.com_safety.proofs.Facts.{IsRuled, admission-ruled, answered-ruled}
@@ -44,7 +43,7 @@ use Rattle.com_balance.proofs.Steps.{made-or-new}
 use Rattle.com_balance.proofs.Makings.{same-named}
 use Rattle.com_balance.proofs.Directs.{issue-stays}
 use Rattle.com_waits.proofs.Homes.{HomeStep, remains, again, to_mta, makes_one, lowers, leaves, next-home, home-of-own, home-of-other}
-use Rattle.com_waits.proofs.Lasting.{none-and-some, either-lane, at-lane}
+use Rattle.com_waits.proofs.Lasting.{none-and-some, either-lane}
 
 -- ---- where a thread has a home, its count is not 0
 

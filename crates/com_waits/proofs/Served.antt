@@ -1,8 +1,7 @@
 -- Each lane of a stuck history in which something is open has a reason; and where one waits for another, the pool is exhausted.
-use Rattle.std.proofs.Common.{subst, sym, ap, ◌∙◌, inl, inr, eqb-true, arith}
+use Rattle.std.proofs.Common.{subst, sym, ap, ◌∙◌, inl, eqb-true, arith}
 use Rattle.std.proofs.lemmas.Grind.{common_steps}
-use Rattle.std.specs.Prelude.{◌≡◌, refl, ℕ, zero, suc, ◌+◌, ◌≤◌, ◌<◌, Bool, true, false, not, cond, ◌==◌, ◌&&◌, nat_le, List, [], ◌∷◌, Option, Some, None, is_some, option_and_then}
-use Rattle.com_model.specs.declared.deeds.Deed.{Deed}
+use Rattle.std.specs.Prelude.{◌≡◌, refl, ℕ, zero, suc, ◌+◌, ◌≤◌, ◌<◌, Bool, true, false, cond, ◌==◌, ◌&&◌, nat_le, List, [], ◌∷◌, Option, Some, None, is_some, option_and_then}
 use Rattle.com_model.specs.declared.deeds.Entry.{Entry}
 use Rattle.com_model.specs.declared.deeds.Route.{Route}
 use Rattle.com_model.specs.declared.deeds.Route.TheVariants as route
@@ -16,30 +15,26 @@ use Rattle.com_model.specs.Openers.{openers}
 use Rattle.com_model.specs.Apartments.{ended, home, home_by_sort, host_sta, is_sta, mta, neutral, next_sta, over, thread_home}
 use Rattle.com_model.specs.Objects.{named}
 use Rattle.com_model.specs.Calls.{admitted, calls, is_marshalled, is_post, issue, route_of, target}
-use Rattle.com_model.specs.Endings.{ending}
 use Rattle.com_model.specs.Waiting.{inbox}
 use Rattle.com_model.specs.Formed.{Formed}
-use Rattle.com_model.specs.Sight.{Sight, sight}
+use Rattle.com_model.specs.Sight.{sight}
 use Rattle.com_model.specs.Rules.{admission, admits_next, admits_sta, is_open_to_calls, is_script_turn, legal, scripted, top}
 use Rattle.com_model.specs.Ends.{stuck}
 use Rattle.com_model.proofs.Kept.{legal-kept}
 use Rattle.com_safety.proofs.Small.{not-both, same-number}
 use Rattle.com_balance.proofs.Counts.{Among}
-use Rattle.com_balance.proofs.Arrivals.{WaitsTop}
 use Rattle.com_balance.proofs.Bases.{first-among}
 use Rattle.com_balance.proofs.Directs.{waits-issued}
-use Rattle.com_release.proofs.Arrived.{waits-top}
 use Rattle.com_release.proofs.Lives.{legal-live}
 use Rattle.com_waits.specs.declared.reasons.Why.{Why}
 use Rattle.com_waits.specs.declared.reasons.Why.TheVariants as reason
 use Rattle.com_waits.specs.Reasons.{pool_lane, why, why_at, why_at_call}
 use Rattle.com_waits.specs.Chains.{lane_named}
-use Rattle.com_waits.specs.Laws.{CallsExhaust, HasReasons, IsExhausted, IsOpen, is_at_pool, is_pool, leads}
-use Rattle.com_waits.proofs.Stills.{Still, stuck-still, NoRule, AtTop, at_none, at_pump, at_call, at-top}
-use Rattle.com_waits.proofs.Tops.{Later, call-waits, in-range, is-posted, map-none, not-answered, step-later, top-stands, where-none}
+use Rattle.com_waits.specs.Laws.{CallsExhaust, HasReasons, IsOpen, is_at_pool, is_pool, leads}
+use Rattle.com_waits.proofs.Stills.{stuck-still, NoRule, AtTop, at_none, at_pump, at_call, at-top}
+use Rattle.com_waits.proofs.Tops.{Later, is-posted, map-none, not-answered, step-later, top-stands, where-none}
 use Rattle.com_waits.proofs.Queued.{in-inbox}
-use Rattle.com_waits.proofs.Seen.{pool-exhausts, rule-of}
-use Rattle.com_waits.proofs.Homes.{HomesBy, legal-homes}
+use Rattle.com_waits.proofs.Seen.{pool-exhausts}
 use Rattle.com_waits.proofs.Lasting.{HomeOf, live-lasting, sta-home}
 use Rattle.com_waits.proofs.Over.{legal-neutral, legal-over}
 

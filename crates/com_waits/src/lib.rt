@@ -10,6 +10,8 @@ mod walks;
 
 pub use com_base::Memory;
 pub use explains::{LaneNumbers, confirms, explain, explain_by, lane_numbers};
-pub use laws::{calls_wait, cycles_reach_the_pool, each_has_a_reason, the_pool_is_exhausted, tops_wait};
+pub use laws::{
+    calls_wait, cycles_reach_the_pool, each_has_a_reason, the_pool_is_exhausted, tops_wait,
+};
 pub use reasons::{Wait, Waits, Why};
 pub use texts::text_of;
