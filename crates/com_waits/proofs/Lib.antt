@@ -1,0 +1,13 @@
+pub mod Stills
+pub mod Shapes
+pub mod Entered
+pub mod Tops
+pub mod Queued
+pub mod Seen
+pub mod Explained
+pub mod Walking
+pub mod Chained
+pub mod Homes
+pub mod Lasting
+pub mod Over
+pub mod Served
