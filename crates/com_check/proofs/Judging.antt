@@ -42,14 +42,14 @@ one_line a b same = cc
 
 -- The found line beside the line of the entry that was made.
 pub turn_compared : (version lane : ℕ) (old new : CoreView) (e : Entry) (found line : List ℕ) (t : Option Judged) → Makes lane old new e
-    → named found ≡ Some lane → line ≡ entry_line version new.entries e → IsCompared new.entries found line t → IsTurn version old new found t
+    → named found ≡ Some lane → line ≡ entry_line version new.parts.entries e → IsCompared new.parts.entries found line t → IsTurn version old new found t
 turn_compared version lane old new e found line None made names is same = record {
   entry = e;
   grows = record { one = made.one; tells = made.tells };
   line = same ∙ is;
 }
 turn_compared version lane old new e found line (Some j) made names is other =
-    let behind : entry_line version new.entries e ≡ entry_line version (old.entries + 1) e = ap (λ (n : ℕ). entry_line version n e) made.one in
+    let behind : entry_line version new.parts.entries e ≡ entry_line version (old.parts.entries + 1) e = ap (λ (n : ℕ). entry_line version n e) made.one in
     record {
       legal = Some line;
       answer = other.1 ∙ ap (λ (n : ℕ). judged.Differs n found line) made.one;
@@ -59,7 +59,7 @@ turn_compared version lane old new e found line (Some j) made names is other =
 
 -- A found line that names no lane with a next entry.
 pub turn_without : (version : ℕ) (core : CoreView) (found : List ℕ) (j : Judged)
-    → j ≡ judged.Differs (core.entries + 1) found (codes "none") → IsTurn version core core found (Some j)
+    → j ≡ judged.Differs (core.parts.entries + 1) found (codes "none") → IsTurn version core core found (Some j)
 turn_without version core found j is = record {
   legal = None;
   answer = is;
@@ -72,16 +72,16 @@ turn_without version core found j is = record {
 -- A history stands behind the lines that were judged so far.
 pub record Sofar (version limit : ℕ) (trace : List ℕ) (core : CoreView) (rest : List ℕ) : Type 0 where
   pub history : List Entry
-  pub entries_are : core.entries ≡ length history
+  pub entries_are : core.parts.entries ≡ length history
   pub clock_is : core.clock ≡ clock history
-  pub few : core.entries ≤ limit
+  pub few : core.parts.entries ≤ limit
   pub parts : lines_of trace ≡ history_lines version history ++ lines_of rest
 
 nothing_yet : (version : ℕ) (lines : List (List ℕ)) → lines ≡ history_lines version [] ++ lines
 unfolding history_lines
 nothing_yet version lines = refl
 
-pub first_sofar : (version limit : ℕ) (trace : List ℕ) (core : CoreView) → core.entries ≡ 0 → core.clock ≡ 0 → Sofar version limit trace core trace
+pub first_sofar : (version limit : ℕ) (trace : List ℕ) (core : CoreView) → core.parts.entries ≡ 0 → core.clock ≡ 0 → Sofar version limit trace core trace
 first_sofar version limit trace core none still = record {
   history = [];
   entries_are = none;
@@ -99,24 +99,24 @@ longer version n h e found behind is count =
     ∙ sym (append_assoc (history_lines version h) (entry_line version (length h + 1) e ∷ []) behind)
 
 pub more_sofar : (version limit : ℕ) (trace : List ℕ) (old new : CoreView) (rest found behind : List ℕ) → Sofar version limit trace old rest
-    → lines_of rest ≡ found ∷ lines_of behind → IsEntry version old new found → old.entries < limit → Sofar version limit trace new behind
+    → lines_of rest ≡ found ∷ lines_of behind → IsEntry version old new found → old.parts.entries < limit → Sofar version limit trace new behind
 more_sofar version limit trace old new rest found behind s cut made below =
-    let count : new.entries ≡ length s.history + 1 = made.grows.one ∙ ap (λ (k : ℕ). k + 1) s.entries_are in
+    let count : new.parts.entries ≡ length s.history + 1 = made.grows.one ∙ ap (λ (k : ℕ). k + 1) s.entries_are in
     record {
       history = made.entry ∷ s.history;
       entries_are = omega (arith, count);
       clock_is = made.grows.tells ∙ ap (λ (t : ℕ). ticked made.entry.deed t) s.clock_is;
       few = omega (arith, made.grows.one, below);
       parts = s.parts ∙ ap (λ (ls : List (List ℕ)). history_lines version s.history ++ ls) cut
-          ∙ longer version new.entries s.history made.entry found (lines_of behind) made.line count;
+          ∙ longer version new.parts.entries s.history made.entry found (lines_of behind) made.line count;
     }
 
 fewer_left : (limit n m : ℕ) → n < limit → m ≡ n + 1 → limit - m < limit - n
 fewer_left limit n m below one = omega (arith, below, one)
 
-pub fewer : (version limit : ℕ) (old new : CoreView) (found : List ℕ) → IsEntry version old new found → old.entries < limit
-    → limit - new.entries < limit - old.entries
-fewer version limit old new found made below = fewer_left limit old.entries new.entries below made.grows.one
+pub fewer : (version limit : ℕ) (old new : CoreView) (found : List ℕ) → IsEntry version old new found → old.parts.entries < limit
+    → limit - new.parts.entries < limit - old.parts.entries
+fewer version limit old new found made below = fewer_left limit old.parts.entries new.parts.entries below made.grows.one
 
 history_length : (version : ℕ) (h : List Entry) → length (history_lines version h) ≡ length h
 unfolding history_lines
@@ -127,7 +127,7 @@ history_length version (e ∷ h) =
 
 -- A line that differs in the place of an entry.
 pub judged_other : (version limit : ℕ) (trace : List ℕ) (core : CoreView) (rest found behind : List ℕ) (j : Judged) → Sofar version limit trace core rest
-    → lines_of rest ≡ found ∷ lines_of behind → core.entries < limit → IsOther version (core.entries + 1) found j → IsJudged version limit trace j
+    → lines_of rest ≡ found ∷ lines_of behind → core.parts.entries < limit → IsOther version (core.parts.entries + 1) found j → IsJudged version limit trace j
 judged_other version limit trace core rest found behind j s cut below other =
     subst (λ (x : Judged). IsJudged version limit trace x) (sym other.answer) (record {
       before = history_lines version s.history;
@@ -152,14 +152,14 @@ no_lines rest none = rw none refl
 
 -- A trace that has ended in the place of an entry.
 pub judged_early : (version limit : ℕ) (trace : List ℕ) (core : CoreView) (rest : List ℕ) (j : Judged) → Sofar version limit trace core rest
-    → rest ≡ [] → core.entries < limit → IsEarly version core j → IsJudged version limit trace j
+    → rest ≡ [] → core.parts.entries < limit → IsEarly version core j → IsJudged version limit trace j
 judged_early version limit trace core rest j s none below early =
     subst (λ (x : Judged). IsJudged version limit trace x) (sym early.answer) (record {
       before = history_lines version s.history;
       rest = [];
       parts = s.parts ∙ ap (λ (ls : List (List ℕ)). history_lines version s.history ++ ls) (no_lines rest none);
       place = omega (arith, s.entries_are, history_length version s.history);
-      legal_line = Some (entry_line version (core.entries + 1) early.entry);
+      legal_line = Some (entry_line version (core.parts.entries + 1) early.entry);
       differ = λ same. cc;
       found_is = refl;
       legal_is = refl;
@@ -175,16 +175,16 @@ judged_early version limit trace core rest j s none below early =
       });
     })
 
-report_is : (core : CoreView) (h : List Entry) (counts : List Counts) (x : Ended) → core.entries ≡ length h → core.clock ≡ clock h
-    → lines_of (report_text counts core.entries core.clock x) ≡ report_lines h counts x
+report_is : (core : CoreView) (h : List Entry) (counts : List Counts) (x : Ended) → core.parts.entries ≡ length h → core.clock ≡ clock h
+    → lines_of (report_text counts core.parts.entries core.clock x) ≡ report_lines h counts x
 unfolding report_lines
 report_is core h counts x entries time =
     ap (λ (n : ℕ). lines_of (report_text counts n core.clock x)) entries ∙ ap (λ (t : ℕ). lines_of (report_text counts (length h) t x)) time
 
 -- What a trace has left beside the report.
 told_judged : (version limit : ℕ) (trace : List ℕ) (core : CoreView) (x : Ended) (rest : List ℕ) (j : Judged) (s : Sofar version limit trace core rest)
-    → (x ≡ ended.Budget → core.entries ≡ limit) → (counts : List Counts)
-    → IsReported core.entries (report_lines s.history counts x) (lines_of rest) j → IsJudged version limit trace j
+    → (x ≡ ended.Budget → core.parts.entries ≡ limit) → (counts : List Counts)
+    → IsReported core.parts.entries (report_lines s.history counts x) (lines_of rest) j → IsJudged version limit trace j
 told_judged version limit trace core x rest judged.Agrees s budget counts same = record {
   history = s.history;
   counts = counts;
@@ -218,10 +218,10 @@ told_judged version limit trace core x rest (judged.Differs line found legal) s 
 }
 
 pub judged_told : (version limit : ℕ) (trace : List ℕ) (core : CoreView) (x : Ended) (rest : List ℕ) (j : Judged) → Sofar version limit trace core rest
-    → (x ≡ ended.Budget → core.entries ≡ limit) → IsToldBy core x rest j → IsJudged version limit trace j
+    → (x ≡ ended.Budget → core.parts.entries ≡ limit) → IsToldBy core x rest j → IsJudged version limit trace j
 judged_told version limit trace core x rest j s budget told =
     told_judged version limit trace core x rest j s budget told.counts
-    (subst (λ (ls : List (List ℕ)). IsReported core.entries ls (lines_of rest) j)
+    (subst (λ (ls : List (List ℕ)). IsReported core.parts.entries ls (lines_of rest) j)
     (report_is core s.history told.counts x s.entries_are s.clock_is) told.reported)
 
 -- ---- single steps
@@ -230,20 +230,20 @@ pub grows_by : (lane : ℕ) (old new : CoreView) (e : Entry) → Makes lane old 
 grows_by lane old new e made = record { one = made.one; tells = made.tells }
 
 -- The trace ended where this entry was made.
-pub early_by : (version : ℕ) (old new : CoreView) (e : Entry) (line : List ℕ) (j : Judged) → Grows old new e → line ≡ entry_line version new.entries e
-    → j ≡ judged.Differs new.entries (codes "none") line → IsEarly version old j
+pub early_by : (version : ℕ) (old new : CoreView) (e : Entry) (line : List ℕ) (j : Judged) → Grows old new e → line ≡ entry_line version new.parts.entries e
+    → j ≡ judged.Differs new.parts.entries (codes "none") line → IsEarly version old j
 early_by version old new e line j grows is answer = record {
   entry = e;
-  answer = answer ∙ ap (λ (l : List ℕ). judged.Differs new.entries (codes "none") l) is
+  answer = answer ∙ ap (λ (l : List ℕ). judged.Differs new.parts.entries (codes "none") l) is
       ∙ ap (λ (n : ℕ). judged.Differs n (codes "none") (entry_line version n e)) grows.one;
 }
 
 -- What was left was compared with this report.
 pub told_by : (core : CoreView) (x : Ended) (rest : List ℕ) (j : Judged) (counts : List Counts) (text : List ℕ)
-    → text ≡ report_text counts core.entries core.clock x → IsReported core.entries (lines_of text) (lines_of rest) j → IsToldBy core x rest j
+    → text ≡ report_text counts core.parts.entries core.clock x → IsReported core.parts.entries (lines_of text) (lines_of rest) j → IsToldBy core x rest j
 told_by core x rest j counts text is reported = record {
   counts = counts;
-  reported = subst (λ (t : List ℕ). IsReported core.entries (lines_of t) (lines_of rest) j) is reported;
+  reported = subst (λ (t : List ℕ). IsReported core.parts.entries (lines_of t) (lines_of rest) j) is reported;
 }
 
 -- A line that was written without its end.
@@ -266,9 +266,9 @@ judged_of v w n m trace j version limits is =
 
 -- The found line beside the line of the entry that was made, through what has kept the core.
 pub turn_settled : (version lane : ℕ) (old core written new : CoreView) (e : Entry) (found line : List ℕ) (t : Option Judged) → Makes lane old core e
-    → named found ≡ Some lane → written ≡ core → line ≡ entry_line version core.entries e → IsCompared written.entries found line t → new ≡ written
+    → named found ≡ Some lane → written ≡ core → line ≡ entry_line version core.parts.entries e → IsCompared written.parts.entries found line t → new ≡ written
     → IsTurn version old new found t
 turn_settled version lane old core written new e found line t made names kept is compared same =
     subst (λ (x : CoreView). IsTurn version old x found t) (sym (same ∙ kept))
     (turn_compared version lane old core e found line t made names is
-    (subst (λ (x : CoreView). IsCompared x.entries found line t) kept compared))
+    (subst (λ (x : CoreView). IsCompared x.parts.entries found line t) kept compared))

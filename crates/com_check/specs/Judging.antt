@@ -105,7 +105,7 @@ IsJudged version limit trace (judged.Differs line found legal) = Differs version
 
 -- An entry was made: one more, with the clock that it tells.
 pub record Grows (old new : CoreView) (e : Entry) : Type 0 where
-  pub one : new.entries ≡ old.entries + 1
+  pub one : new.parts.entries ≡ old.parts.entries + 1
   pub tells : new.clock ≡ ticked e.deed old.clock
 
 -- The next entry of a lane was made, or nothing has changed.
@@ -117,7 +117,7 @@ IsNextOf lane old new (Some e) = Makes lane old new e
 pub record IsEntry (version : ℕ) (old new : CoreView) (found : List ℕ) : Type 0 where
   pub entry : Entry
   pub grows : Grows old new entry
-  pub line : found ≡ entry_line version new.entries entry
+  pub line : found ≡ entry_line version new.parts.entries entry
 
 -- The found line differs from the legal line, where there is one.
 pub record IsOther (version place : ℕ) (found : List ℕ) (j : Judged) : Type 0 where
@@ -133,12 +133,12 @@ IsCompared place found line (Some j) = (found ≢ line) × (j ≡ judged.Differs
 
 abbrev pub IsTurn : (version : ℕ) → CoreView → CoreView → List ℕ → Option Judged → Type 0
 IsTurn version old new found None = IsEntry version old new found
-IsTurn version old new found (Some j) = IsOther version (old.entries + 1) found j
+IsTurn version old new found (Some j) = IsOther version (old.parts.entries + 1) found j
 
 -- The trace has ended in the place of an entry.
 pub record IsEarly (version : ℕ) (old : CoreView) (j : Judged) : Type 0 where
   pub entry : Entry
-  pub answer : j ≡ judged.Differs (old.entries + 1) (codes "none") (entry_line version (old.entries + 1) entry)
+  pub answer : j ≡ judged.Differs (old.parts.entries + 1) (codes "none") (entry_line version (old.parts.entries + 1) entry)
 
 -- Lines of a report were compared with those that a trace has left, behind so many lines.
 pub record DiffersIn (before : ℕ) (report trace : List (List ℕ)) (line : ℕ) (found legal : List ℕ) : Type 0 where
@@ -159,4 +159,4 @@ IsReported before report trace (judged.Differs line found legal) = DiffersIn bef
 -- What a trace has left was judged beside the report of a core whose history has ended so.
 pub record IsToldBy (core : CoreView) (x : Ended) (rest : List ℕ) (j : Judged) : Type 0 where
   pub counts : List Counts
-  pub reported : IsReported core.entries (lines_of (report_text counts core.entries core.clock x)) (lines_of rest) j
+  pub reported : IsReported core.parts.entries (lines_of (report_text counts core.parts.entries core.clock x)) (lines_of rest) j

@@ -155,7 +155,7 @@ impl Judge {
     pub fn new(alloc: Global, scenario: Scenario) -> Result<Judge, Memory>
         ensures version { IfOk result (λ judge. judge.version ≡ scenario.version) }
         ensures limit { IfOk result (λ judge. judge.limit ≡ limit scenario) }
-        ensures entries { IfOk result (λ judge. judge.core.entries ≡ 0) }
+        ensures entries { IfOk result (λ judge. judge.core.parts.entries ≡ 0) }
         ensures clock { IfOk result (λ judge. judge.core.clock ≡ 0) }
     {
         let version = scenario.version;
@@ -177,7 +177,7 @@ impl Judge {
         ensures version { self.new.version ≡ self.old.version }
         ensures limit { self.new.limit ≡ self.old.limit }
         ensures line { OnOk result (self.new.line
-            ≡ entry_line self.old.version self.old.core.entries entry.now) }
+            ≡ entry_line self.old.version self.old.core.parts.entries entry.now) }
     {
         self.line.clear();
         let place = self.core.entries();
@@ -191,7 +191,7 @@ impl Judge {
     #[tactic(auto, using(crate::proofs::Judging::turn_without))]
     fn no_entry(&self, alloc: Global, found: &[u8]) -> Result<Option<Judged>, Memory>
         requires limit { self.now.limit ≤ 1_000_000 }
-        requires below { self.now.core.entries < self.now.limit }
+        requires below { self.now.core.parts.entries < self.now.limit }
         ensures { IfOk result (λ turn. IsTurn self.now.version self.now.core self.now.core found.now turn) }
     {
         let judged = differs(alloc, self.core.entries() + 1, found, NO_LINE)?;
@@ -204,7 +204,7 @@ impl Judge {
         ensures version { self.new.version ≡ self.old.version }
         ensures limit { self.new.limit ≡ self.old.limit }
         ensures compared { IfOk result (λ turn.
-            IsCompared self.old.core.entries found.now self.old.line turn) }
+            IsCompared self.old.core.parts.entries found.now self.old.line turn) }
     {
         if found == self.line.as_slice() {
             self.last = last_after(lane, self.last);
@@ -243,7 +243,7 @@ impl Judge {
         servants: &mut Vec<Box<dyn Servant + Send>>,
     ) -> Result<Option<Judged>, Memory>
         requires limit { self.old.limit ≤ 1_000_000 }
-        requires below { self.old.core.entries < self.old.limit }
+        requires below { self.old.core.parts.entries < self.old.limit }
         requires row { map kind_of servants.old.items ≡ row }
         ensures turn { IfOk result (λ turn.
             IsTurn self.old.version self.old.core self.new.core found.now turn) }
@@ -279,7 +279,7 @@ impl Judge {
     /// Judges what a trace has left where the history has ended so: it is to be the report. The only error is
     /// want of memory.
     fn told(&self, alloc: Global, ended: Ended, rest: &[u8]) -> Result<Judged, Memory>
-        requires { self.now.core.entries ≤ 1_000_000 }
+        requires { self.now.core.parts.entries ≤ 1_000_000 }
         ensures { IfOk result (λ j. IsToldBy self.now.core ended rest.now j) }
     {
         let counts = all_counts(alloc, &self.core)?;
@@ -306,7 +306,7 @@ impl Judge {
         trace: &[u8],
     ) -> Result<Judged, Memory>
         requires limit { self.old.limit ≤ 1_000_000 }
-        requires entries { self.old.core.entries ≡ 0 }
+        requires entries { self.old.core.parts.entries ≡ 0 }
         requires clock { self.old.core.clock ≡ 0 }
         requires row { map kind_of servants.old.items ≡ row }
         ensures { IfOk result (λ j. IsJudged self.old.version self.old.limit trace.now j) }

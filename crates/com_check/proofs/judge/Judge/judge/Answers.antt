@@ -14,7 +14,7 @@ returns-in-Some g c =
 
 pub returns-then-is_empty : goal.returns-then-is_empty
 returns-then-is_empty g c =
-    let below : c.lines.self.core.entries < c.lines.self.limit = first_of (search rules, grind (arith, common_steps)) in
+    let below : c.lines.self.core.parts.entries < c.lines.self.limit = first_of (search rules, grind (arith, common_steps)) in
     let none : c.lines.rest.now ≡ [] = first_of (search rules, grind (arith, common_steps)) in
     IfOk-weaker c.early.result _ _
     (λ j early. judged_early _ _ _ _ _ j c.lines.invariant.sofar none (omega (arith, below, c.lines.invariant.limit))
@@ -23,7 +23,7 @@ returns-then-is_empty g c =
 
 pub returns-in-Some-2 : goal.returns-in-Some-2
 returns-in-Some-2 g c =
-    let below : c.lines.self.core.entries < c.lines.self.limit = first_of (search rules, grind (arith, common_steps)) in
+    let below : c.lines.self.core.parts.entries < c.lines.self.limit = first_of (search rules, grind (arith, common_steps)) in
     let other = rw c.in-Some-2.is at c.in_ok-judged.ensures.turn in
     judged_other _ _ _ _ _ _ _ _ c.lines.invariant.sofar c.split_line.ensures.lines (omega (arith, below, c.lines.invariant.limit))
-    (subst (λ (v : ℕ). IsOther v (c.lines.self.core.entries + 1) c.split_line.result.0.now c.in-Some-2.judged) c.lines.invariant.version other)
+    (subst (λ (v : ℕ). IsOther v (c.lines.self.core.parts.entries + 1) c.split_line.result.0.now c.in-Some-2.judged) c.lines.invariant.version other)

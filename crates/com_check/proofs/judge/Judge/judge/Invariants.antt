@@ -12,4 +12,4 @@ invariant-lines g l = record {
 }
 
 abbrev pub decreases-lines : goal.decreases-lines
-decreases-lines g l = l.self.limit - l.self.core.entries
+decreases-lines g l = l.self.limit - l.self.core.parts.entries
