@@ -8,7 +8,7 @@ const FRONT: &[u8] =
 const BACK: &[u8] =
     b"create s0 N4 ICounter\ncall s0 ICounter.add 739 -> r1\nrelease s0\ncreate s0 N3 ICounter\ncall s0 ICounter.add 509 -> r1\nrelease s0\nend\n";
 
-const HEAD: usize = 342;
+const HEAD: usize = 336;
 
 #[test]
 fn the_first_text_is_that_of_the_reference_code(rt: HostRuntime) -> Result<(), Fail> {
