@@ -253,10 +253,10 @@ core_first s p b entered fallen clock f w h c n e = record {
 }
 
 -- After a lane's next entry the parts are those of the state after it, if the books are.
-pub core_later : (s : Scenario) (st : State) (p q : PartTables) (b : Books) (u : Held) (entered more fallen later : List ℕ) (clock l : ℕ) (d : Deed)
-    → IsCore s st p b entered fallen clock → MakesNext s st p q u entered more fallen later clock l d → BooksLater s st l d u
+pub core_later : (s : Scenario) (st : State) (p q : PartTables) (b : Books) (w u : Held) (entered more fallen later : List ℕ) (clock l : ℕ) (d : Deed)
+    → IsCore s st p b entered fallen clock → MakesNext s st p q w u entered more fallen later clock l d → BooksLater s st l d u
     → IsCore s (after s st l d) q (books_held u) more later (ticked d clock)
-core_later s st p q b u entered more fallen later clock l d k m w =
+core_later s st p q b x u entered more fallen later clock l d k m w =
     let v : Entry = record { lane = l; deed = d } in
     let bodies : CountsBodies s (after s st l d) more =
     subst (λ (xs : List ℕ). CountsBodies s (after s st l d) xs) (sym (m.counts ∙ ap (λ (a : Actor). entered_after d a entered) m.given.acts))
@@ -283,7 +283,7 @@ steps_stand lane old new e k m same tells w =
     let su : State = after old.scenario (core_state old) lane e.deed in
     let b : Books = books_held new.held in
     let later : IsCore old.scenario su new.parts b new.entered new.fallen (ticked e.deed old.clock) =
-    core_later old.scenario (core_state old) old.parts new.parts (books_held old.held) new.held old.entered new.entered old.fallen new.fallen old.clock lane e.deed k m w in
+    core_later old.scenario (core_state old) old.parts new.parts (books_held old.held) old.held new.held old.entered new.entered old.fallen new.fallen old.clock lane e.deed k m w in
     let here : IsCore old.scenario su new.parts b new.entered new.fallen new.clock =
     subst (λ (t : ℕ). IsCore old.scenario su new.parts b new.entered new.fallen t) (sym tells) later in
     let read : state_read old.scenario new.parts b new.fallen new.clock ≡ su = core_read old.scenario su new.parts b new.entered new.fallen new.clock here in (

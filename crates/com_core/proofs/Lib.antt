@@ -12,3 +12,7 @@ pub mod Keeping
 pub mod Ticking
 pub mod Turned
 pub mod Tied
+pub mod Booking
+pub mod Kept
+pub mod Counted
+pub mod Served

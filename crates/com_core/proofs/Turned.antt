@@ -1,6 +1,6 @@
 -- A turn that is read from the parts is the next entry of the state that they are, with all that its change rests on.
 use Rattle.std.proofs.Common.{◌≡◌, ℕ, ◌+◌, ◌<◌, ◌≤◌, ◌^◌, ap, sym, ◌∙◌, subst, arith}
-use Rattle.std.specs.Prelude.{Bool, List, Option, Some, None, is_some, length}
+use Rattle.std.specs.Prelude.{Bool, List, [], Option, Some, None, is_some, length, refl}
 use Rattle.com_books.specs.Changes.{Books}
 use Rattle.com_calls.specs.declared.rows.Issued.{Issued}
 use Rattle.com_calls.specs.Kept.{IsNamed}
@@ -27,12 +27,13 @@ use Rattle.com_view.specs.Reads.{Reads}
 use Rattle.com_view.specs.Seen.{Seen, filter_seen}
 use Rattle.com_view.proofs.Sights.{reads_state as sight_read}
 use Rattle.com_turns.specs.declared.turns.Turn.{Turn}
-use Rattle.com_turns.specs.Turns.{IsIssued, IsTurn, actor_later}
+use Rattle.com_turns.specs.Turns.{IsIssued, IsTurn, actor_later, carried_with}
 use Rattle.com_turns.proofs.Stands.{acting_stands, after_stands, filtered_stands, next_stands, step_stands}
 use Rattle.com_ledger.specs.Books.{Held}
 use Rattle.com_core.specs.Changes.{sent_by}
 use Rattle.com_core.specs.Making.{Changed, IsCore, MakesNext}
 use Rattle.com_core.specs.Stands.{IsGiven, IsReached, IsSent, Stands, seen_by}
+use Rattle.com_core.proofs.Booking.{booked_later}
 use Rattle.com_core.proofs.Entries.{reads_state}
 
 abbrev issuing_by : Scenario → Sight → ℕ → Deed → Issuing
@@ -89,47 +90,60 @@ turn_given s st p b fallen clock l t follows filtered r h n k f g =
     }
 
 -- Where a turn was made and all but the books has changed by it, that was the next entry of the state.
-pub next_made : (s : Scenario) (st : State) (p q : PartTables) (b : Books) (u : Held) (entered more fallen later : List ℕ) (clock l : ℕ) (t : Turn)
+pub next_made : (s : Scenario) (st : State) (p q : PartTables) (b : Books) (w u : Held) (entered more fallen later : List ℕ) (clock l : ℕ) (t : Turn)
     → IsTurn (seen_by s p fallen clock) b l t → IsNamed p.objects p.calls → p.entries ≤ 1_000_000
-    → Changed s p q u entered more fallen later clock (record { lane = l; deed = t.doing.deed }) (acting_of t.acting) t.outcome (sent_by t.doing.issued)
-    → IsCore s st p b entered fallen clock → 1 ≤ l → l ≤ lanes s → MakesNext s st p q u entered more fallen later clock l t.doing.deed
-next_made s st p q b u entered more fallen later clock l t k n w m c low high =
+    → Changed s p q w u entered more fallen later clock (record { lane = l; deed = t.doing.deed }) (acting_of t.acting) t.outcome t.doing.carried (sent_by t.doing.issued)
+    → IsCore s st p b entered fallen clock → 1 ≤ l → l ≤ lanes s → MakesNext s st p q w u entered more fallen later clock l t.doing.deed
+next_made s st p q b v u entered more fallen later clock l t k n w m c low high =
     let few_entries : st.entries ≤ 1_000_000 = subst (λ (i : ℕ). i ≤ 1_000_000) c.stands.entries w in
     let follows : m.follows ≡ actor_later (seen_by s p fallen clock) l t.doing.deed =
     m.acts_after (few_openers s st p b fallen clock l c.reached c.stands few_entries) (lane_there s st p b fallen clock l c.reached c.stands high) in
+    let d : Deed = t.doing.deed in
+    let next : next_of s st l ≡ Some d = turn_next s st p b fallen clock l t c.reached c.stands n low high k in
+    let given : IsGiven s st (record { lane = l; deed = d }) (acting_of t.acting) t.outcome m.follows m.filtered (sent_by t.doing.issued) =
+    turn_given s st p b fallen clock l t m.follows m.filtered c.reached c.stands n k follows m.filter_is in
+    let reads : Reads (seen_by s p fallen clock) b st = reads_state s st p b fallen clock c.reached c.stands n in
     record {
       acting = acting_of t.acting;
       step = t.outcome;
       follows = m.follows;
       filtered = m.filtered;
       sent = sent_by t.doing.issued;
-      next = turn_next s st p b fallen clock l t c.reached c.stands n low high k;
-      given = turn_given s st p b fallen clock l t m.follows m.filtered c.reached c.stands n k follows m.filter_is;
+      next = next;
+      given = given;
       becomes = m.becomes;
       counts = m.counts;
       settles = m.settles;
+      tied = booked_later s st p b fallen clock l d (acting_of t.acting) t.outcome m.follows m.filtered (sent_by t.doing.issued) m.home m.running t.doing.carried v u
+          c.reached c.stands reads next given m.home_is m.running_is
+          (k.carried ∙ ap (λ (y : Sight). carried_with s b (y.act l) d) (sight_read (seen_by s p fallen clock) b st reads)) m.booked;
     }
 
 -- The same of the clock's entry, where the clock goes on.
-pub tick_made : (s : Scenario) (st : State) (p q : PartTables) (b : Books) (u : Held) (entered more fallen later : List ℕ) (clock t : ℕ)
+pub tick_made : (s : Scenario) (st : State) (p q : PartTables) (b : Books) (w u : Held) (entered more fallen later : List ℕ) (clock t : ℕ)
     → IsNamed p.objects p.calls → p.entries ≤ 1_000_000 → next_wait p.calls clock ≡ Some t
-    → Changed s p q u entered more fallen later clock (record { lane = 0; deed = deed.Tick t }) Nobody None None
-    → IsCore s st p b entered fallen clock → standing_of s st ≡ standing.Ticks → MakesNext s st p q u entered more fallen later clock 0 (deed.Tick t)
-tick_made s st p q b u entered more fallen later clock t n w e m c g =
+    → Changed s p q w u entered more fallen later clock (record { lane = 0; deed = deed.Tick t }) Nobody None [] None
+    → IsCore s st p b entered fallen clock → standing_of s st ≡ standing.Ticks → MakesNext s st p q w u entered more fallen later clock 0 (deed.Tick t)
+tick_made s st p q b v u entered more fallen later clock t n w e m c g =
     let few_entries : st.entries ≤ 1_000_000 = subst (λ (i : ℕ). i ≤ 1_000_000) c.stands.entries w in
     let reads : Reads (seen_by s p fallen clock) b st = reads_state s st p b fallen clock c.reached c.stands n in
     let follows : m.follows ≡ actor_after s st (record { lane = 0; deed = deed.Tick t }) =
     m.acts_after (few_openers s st p b fallen clock 0 c.reached c.stands few_entries) (lane_there s st p b fallen clock 0 c.reached c.stands (omega arith))
     ∙ after_stands (seen_by s p fallen clock) b st 0 (deed.Tick t) reads in
+    let next : next_of s st 0 ≡ Some (deed.Tick t) = tick_next s st p b fallen clock t c.stands g e in
+    let given : IsGiven s st (record { lane = 0; deed = deed.Tick t }) Nobody None m.follows m.filtered None =
+    subst (λ (f : Bool). IsGiven s st (record { lane = 0; deed = deed.Tick t }) Nobody None m.follows f None) (sym m.filter_is) (clock_given s st t m.follows c.reached follows) in
     record {
       acting = Nobody;
       step = None;
       follows = m.follows;
       filtered = m.filtered;
       sent = None;
-      next = tick_next s st p b fallen clock t c.stands g e;
-      given = subst (λ (f : Bool). IsGiven s st (record { lane = 0; deed = deed.Tick t }) Nobody None m.follows f None) (sym m.filter_is) (clock_given s st t m.follows c.reached follows);
+      next = next;
+      given = given;
       becomes = m.becomes;
       counts = m.counts;
       settles = m.settles;
+      tied = booked_later s st p b fallen clock 0 (deed.Tick t) Nobody None m.follows m.filtered None m.home m.running [] v u
+          c.reached c.stands reads next given m.home_is m.running_is refl m.booked;
     }

@@ -1,10 +1,11 @@
 -- What a contract sees of a core.
-use Rattle.std.specs.Prelude.{◌≡◌, ℕ, ◌+◌, Bool, List}
+use Rattle.std.specs.Prelude.{◌≡◌, ℕ, ◌+◌, Bool, false, List}
 use Rattle.com_ledger.specs.Books.{Held, books_held}
 use Rattle.com_model.specs.declared.deeds.Entry.{Entry}
 use Rattle.com_model.specs.declared.scenario.Scenario.{Scenario}
 use Rattle.com_model.specs.Clock.{ticked}
 use Rattle.com_ledger.specs.Ties.{Ties}
+use Rattle.com_model.specs.Formed.{Formed}
 use Rattle.com_model.specs.State.{State, first_tables}
 use Rattle.com_parts.specs.Tables.{PartTables}
 use Rattle.com_core.specs.Making.{IsCore, MakesNext}
@@ -35,11 +36,20 @@ pub record Makes (lane : ℕ) (old new : CoreView) (e : Entry) : Type 0 where
 abbrev pub IsWhole : CoreView → Type 0
 IsWhole c = IsCore c.scenario (core_state c) c.parts (books_held c.held) c.entered c.fallen c.clock
 
--- The entry is the next one of its lane in the core's state, and the parts have become what they are in the state after it: all
--- but the books.
+-- The entry is the next one of its lane in the core's state, and all has become what it is in the state after it: the books, where
+-- the ledger was tied to the state.
 abbrev pub Steps : (lane : ℕ) → (old new : CoreView) → Entry → Type 0
 Steps lane old new e =
-    MakesNext old.scenario (core_state old) old.parts new.parts new.held old.entered new.entered old.fallen new.fallen old.clock lane e.deed
+    MakesNext old.scenario (core_state old) old.parts new.parts old.held new.held old.entered new.entered old.fallen new.fallen old.clock lane e.deed
+
+-- A core is whole, and its ledger is tied to its state.
+pub record IsKept (c : CoreView) : Type 0 where
+  pub whole : IsWhole c
+  pub ties : Ties c.scenario (core_state c) c.held
+
+-- So is every core of a formed scenario, where no change was left half done.
+abbrev pub KeptUnless : CoreView → Type 0
+KeptUnless c = c.broken ≡ false → Formed c.scenario → IsKept c
 
 -- A core before its first entry: its state is the first one of the scenario, its parts are those of it, and so are its books.
 pub record IsFirst (s : Scenario) (c : CoreView) : Type 0 where

@@ -1,13 +1,13 @@
 //! The change of a core by an entry.
 
-ghost use Rattle.std.specs.Prelude.{◌≡◌, ℕ, ◌+◌, ◌<◌, ◌^◌, All, IfOk, OnOk, false, is_some, length, map, slice_index_or, ◌≤◌};
+ghost use Rattle.std.specs.Prelude.{◌≡◌, ℕ, ◌+◌, ◌<◌, ◌^◌, All, IfOk, OnErr, OnOk, false, is_some, length, map, slice_index_or, ◌≤◌};
 ghost use Rattle.com_calls.specs.Kept.{IsNamed};
-ghost use Rattle.com_core.specs.Making.{Changed, IsCore, MakesNext};
+ghost use Rattle.com_core.specs.Making.{BookedBy, Changed, IsCore, MakesNext};
 ghost use Rattle.com_drive.specs.declared.runtime.Standing.TheVariants as standing;
 ghost use Rattle.com_drive.specs.Standings.{standing_of};
 ghost use Rattle.com_ledger.specs.Books.{books_held};
 ghost use Rattle.com_model.specs.Tables.{lanes};
-ghost use Rattle.com_turns.specs.Turns.{IsTurn, actor_later};
+ghost use Rattle.com_turns.specs.Turns.{IsTurn, actor_later, kind_seen, one_served};
 ghost use Rattle.com_core.specs.Bodies.{entered_after};
 ghost use Rattle.com_core.specs.Changes.{Becomes, Settles, sent_by};
 ghost use Rattle.com_core.specs.Sound.{Few, Most, Sound, SoundUnless};
@@ -111,6 +111,8 @@ impl Running {
         ensures moves { OnOk result (self.new.moves ≡ moves_stepped
             (ground_at glance.home self.old.parts.objects self.old.parts.calls.tables) self.old.parts.scene
             (acting_of acting) outcome.now (acting_of glance.after) entry.now) }
+        ensures booked { OnOk result (BookedBy scenario.now self.old.parts glance.home glance.running carried.now entry.now
+            (acting_of acting) outcome.now (acting_of glance.after) self.old.ledger self.new.ledger) }
         ensures parts { self.new.parts ≡ self.old.parts }
         ensures entered { self.new.entered ≡ self.old.entered }
         ensures fallen { self.new.fallen ≡ self.old.fallen }
@@ -135,7 +137,9 @@ impl Running {
             classes: &scenario.classes,
             carried,
         };
-        self.ledger.apply(entry, context, &self.moves)
+        self.ledger.apply(entry, context, &self.moves)?;
+        self.ledger.tells();
+        Ok(())
     }
 
     // The parts after the entry. The only error is want of memory.
@@ -224,6 +228,8 @@ impl Running {
         ensures fallen { OnOk result (Settles self.new.parts.objects (holders_of self.new.ledger.tables) self.new.entered
             self.old.fallen self.new.ledger.touched entry.now.deed (acting_of acting) self.new.fallen) }
         ensures clock { OnOk result (self.new.clock ≡ ticked entry.now.deed self.old.clock) }
+        ensures booked { OnOk result (BookedBy scenario.now self.old.parts glance.home glance.running carried.now entry.now
+            (acting_of acting) outcome (acting_of glance.after) self.old.ledger self.new.ledger) }
         ensures broken { self.new.broken ≡ self.old.broken }
     {
         self.change_holders(scenario, glance, acting, &outcome, carried, entry)?;
@@ -250,10 +256,11 @@ impl Running {
         ensures sound { SoundUnless self.new.broken self.new.parts self.new.entered }
         ensures entries { OnOk result (self.new.parts.entries ≡ self.old.parts.entries + 1) }
         ensures clock { OnOk result (self.new.clock ≡ ticked entry.now.deed self.old.clock) }
-        ensures changed { OnOk result (Changed scenario.now self.old.parts self.new.parts self.new.ledger self.old.entered
-            self.new.entered self.old.fallen self.new.fallen self.old.clock entry.now (acting_of acting) outcome
-            (sent_by issued)) }
+        ensures changed { OnOk result (Changed scenario.now self.old.parts self.new.parts self.old.ledger self.new.ledger
+            self.old.entered self.new.entered self.old.fallen self.new.fallen self.old.clock entry.now (acting_of acting)
+            outcome carried.now (sent_by issued)) }
         ensures whole { OnOk result (self.new.broken ≡ false) }
+        ensures err { OnErr result (self.new.broken ≡ false → self.new ≡ self.old) }
     {
         if self.parts.entries() >= 1_000_000 {
             return Err(unproved());
@@ -286,9 +293,10 @@ impl Running {
             (books_held self.old.ledger) self.old.fallen self.old.clock) self.old.parts (books_held self.old.ledger)
             self.old.entered self.old.fallen self.old.clock → 1 ≤ lane → lane ≤ lanes scenario.now
             → MakesNext scenario.now (state_read scenario.now self.old.parts (books_held self.old.ledger) self.old.fallen
-            self.old.clock) self.old.parts self.new.parts self.new.ledger self.old.entered self.new.entered
-            self.old.fallen self.new.fallen self.old.clock lane entry.deed) }
+            self.old.clock) self.old.parts self.new.parts self.old.ledger self.new.ledger self.old.entered
+            self.new.entered self.old.fallen self.new.fallen self.old.clock lane entry.deed) }
         ensures unbroken { OnOk result (self.new.broken ≡ false) }
+        ensures err { OnErr result (self.new.broken ≡ false → self.new ≡ self.old) }
     {
         let Turn {
             acting,
@@ -329,6 +337,8 @@ impl Running {
         ensures turn { IfOk result (λ made. IsTurn (seen_by scenario.now self.now.parts self.now.fallen self.now.clock)
             (books_held self.now.ledger) lane made) }
         ensures row { map kind_of servants.new.items ≡ row }
+        ensures served { OnOk result (map stepped servants.new.items ≡ one_served (kind_seen (seen_by scenario.now
+            self.now.parts self.now.fallen self.now.clock) lane) (map stepped servants.old.items)) }
     {
         let view = self.view(scenario);
         match next_turn(&view, &self.ledger, alloc, lane, servants)? {
@@ -357,10 +367,14 @@ impl Running {
             (books_held self.old.ledger) self.old.fallen self.old.clock) self.old.parts (books_held self.old.ledger)
             self.old.entered self.old.fallen self.old.clock → 1 ≤ lane → lane ≤ lanes scenario.now
             → MakesNext scenario.now (state_read scenario.now self.old.parts (books_held self.old.ledger) self.old.fallen
-            self.old.clock) self.old.parts self.new.parts self.new.ledger self.old.entered self.new.entered
-            self.old.fallen self.new.fallen self.old.clock lane entry.deed) }
+            self.old.clock) self.old.parts self.new.parts self.old.ledger self.new.ledger self.old.entered
+            self.new.entered self.old.fallen self.new.fallen self.old.clock lane entry.deed) }
         ensures unbroken { OnOk result (self.new.broken ≡ false) }
+        ensures err { OnErr result (self.new.broken ≡ false → self.new ≡ self.old) }
+        ensures was { OnOk result (self.old.broken ≡ false) }
         ensures row { map kind_of servants.new.items ≡ row }
+        ensures served { OnOk result (map stepped servants.new.items ≡ one_served (kind_seen (seen_by scenario.now
+            self.old.parts self.old.fallen self.old.clock) lane) (map stepped servants.old.items)) }
     {
         if self.broken {
             return Err(Memory);
@@ -384,9 +398,11 @@ impl Running {
             self.old.entered self.old.fallen self.old.clock → standing_of scenario.now (state_read scenario.now
             self.old.parts (books_held self.old.ledger) self.old.fallen self.old.clock) ≡ standing.Ticks
             → MakesNext scenario.now (state_read scenario.now self.old.parts (books_held self.old.ledger) self.old.fallen
-            self.old.clock) self.old.parts self.new.parts self.new.ledger self.old.entered self.new.entered
-            self.old.fallen self.new.fallen self.old.clock 0 entry.deed) }
+            self.old.clock) self.old.parts self.new.parts self.old.ledger self.new.ledger self.old.entered
+            self.new.entered self.old.fallen self.new.fallen self.old.clock 0 entry.deed) }
         ensures unbroken { OnOk result (self.new.broken ≡ false) }
+        ensures err { OnErr result (self.new.broken ≡ false → self.new ≡ self.old) }
+        ensures was { OnOk result (self.old.broken ≡ false) }
     {
         if self.broken {
             return Err(Memory);

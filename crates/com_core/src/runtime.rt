@@ -1,13 +1,18 @@
 //! A runtime that makes one entry at a time.
 
-ghost use Rattle.std.specs.Prelude.{◌≡◌, ◌<◌, ◌≤◌, ◌^◌, ◌∷◌, [], IfOk, IfSome, OnOk, false, length, map};
+ghost use Rattle.std.specs.Prelude.{◌≡◌, ◌<◌, ◌≤◌, ◌^◌, ◌∷◌, [], IfOk, IfSome, OnErr, OnOk, false, length, map};
 ghost use Rattle.com_books.specs.Changes.{Books};
 ghost use Rattle.com_core.specs.Beginning.{BeginsParts};
 ghost use Rattle.com_core.specs.Seen.{IsFirst, IsWhole, Makes, Steps, core_state};
 ghost use Rattle.com_drive.specs.declared.runtime.Standing.TheVariants as standing;
 ghost use Rattle.com_core.specs.Stands.{IsReached};
 ghost use Rattle.com_drive.specs.Standings.{can_step_in, standing_of};
+ghost use Rattle.com_drive.specs.Reports.{counts_in};
+ghost use Rattle.com_drive.specs.Turns.{IsNext, served_in};
+ghost use Rattle.com_ledger.specs.Books.{books_held};
 ghost use Rattle.com_ledger.specs.Ties.{IsNew};
+ghost use Rattle.com_model.specs.Ends.{state_of};
+ghost use Rattle.com_model.specs.Lists.{is_member};
 ghost use Rattle.com_model.specs.Formed.{Formed};
 ghost use Rattle.com_model.specs.State.{objects_in};
 ghost use Rattle.com_model.specs.Tables.{lanes};
@@ -16,7 +21,7 @@ ghost use Rattle.com_servant.specs.Rows.{row};
 use crate::running::{Running, unproved};
 use crate::standing::standing_of;
 use com_base::Memory;
-use com_drive::Standing;
+use com_drive::{Runtime, Standing};
 use com_model::{Counts, Entry, ObjectState, Scenario};
 use com_servant::Servant;
 use com_view::References;
@@ -35,7 +40,7 @@ pub struct Core {
 
 impl Model for Core {
     ghost use Rattle.std.specs.Prelude.{◌≡◌, ◌<◌, ◌^◌, length};
-    ghost use Rattle.com_core.specs.Seen.{CoreView};
+    ghost use Rattle.com_core.specs.Seen.{CoreView, KeptUnless};
     ghost use Rattle.com_core.specs.Sound.{Few, SoundUnless};
     ghost use Rattle.com_model.specs.Tables.{lanes};
 
@@ -52,7 +57,15 @@ impl Model for Core {
     } };
 
     ghost invariant = { λ c. SoundUnless c.running.broken c.running.parts c.running.entered × Few c.running.parts
-        × (c.count ≡ lanes c.scenario) × (length c.scenario.threads < 2 ^ 32) };
+        × (c.count ≡ lanes c.scenario) × (length c.scenario.threads < 2 ^ 32) × KeptUnless (record {
+      scenario = c.scenario;
+      parts = c.running.parts;
+      held = c.running.ledger;
+      entered = c.running.entered;
+      fallen = c.running.fallen;
+      clock = c.running.clock;
+      broken = c.running.broken;
+    }) };
 }
 
 // How many lanes a scenario has: one for each thread, the host's, and the pool's. `None` only where a number of 32 bits does
@@ -150,7 +163,9 @@ impl Core {
     }
 
     // Whether an object is connected, or else whether it was released.
-    fn state(&self, object: u32) -> ObjectState {
+    fn state(&self, object: u32) -> ObjectState
+        ensures { result ≡ state_of (is_member object self.now.parts.objects.finaled) ((books_held self.now.held).live object) }
+    {
         if self.running.parts.objects().is_released(object) {
             return ObjectState::Released;
         }
@@ -162,7 +177,10 @@ impl Core {
     }
 
     /// What a report counts of an object, from 1 to `objects`.
-    pub fn counts(&self, object: u32) -> Counts {
+    pub fn counts(&self, object: u32) -> Counts
+        ensures { IsReached self.now.scenario (core_state self.now) → self.now.broken ≡ false
+            → result ≡ counts_in self.now.scenario (core_state self.now) object }
+    {
         let numbers = self.running.ledger.counts(object);
         Counts {
             class: self.running.parts.objects().class(object),
@@ -191,10 +209,21 @@ impl Core {
         ensures entry { IfOk result (λ entry. Makes lane self.old self.new entry) }
         ensures next { IfOk result (λ entry. IsWhole self.old → 1 ≤ lane → lane ≤ lanes self.old.scenario
             → Steps lane self.old self.new entry) }
+        ensures follows { IfOk result (λ entry. Formed self.old.scenario
+            → IsNext self.old.scenario (core_state self.old) lane entry (core_state self.new)) }
         ensures whole { OnOk result (self.new.broken ≡ false) }
+        ensures err { OnErr result (self.new.broken ≡ false → self.new ≡ self.old) }
         ensures scenario { self.new.scenario ≡ self.old.scenario }
         ensures row { map kind_of servants.new.items ≡ row }
+        ensures served { OnOk result (1 ≤ lane → map stepped servants.new.items
+            ≡ served_in self.old.scenario (core_state self.old) lane (map stepped servants.old.items)) }
     {
+        if lane == 0 {
+            return Err(unproved());
+        }
+        if lane > self.count {
+            return Err(unproved());
+        }
         self.running.step(&self.scenario, alloc, lane, servants)
     }
 
@@ -202,11 +231,81 @@ impl Core {
     /// where it came while the entry was being made, the runtime makes no more entries.
     pub fn tick(&mut self) -> Result<Entry, Memory>
         ensures entry { IfOk result (λ entry. Makes 0 self.old self.new entry) }
+        ensures whole { OnOk result (self.new.broken ≡ false) }
+        ensures err { OnErr result (self.new.broken ≡ false → self.new ≡ self.old) }
+        ensures scenario { self.new.scenario ≡ self.old.scenario }
+    {
+        if self.standing() != Standing::Ticks {
+            return Err(unproved());
+        }
+        self.make_tick()
+    }
+
+    // The clock's entry, where the clock goes on.
+    fn make_tick(&mut self) -> Result<Entry, Memory>
+        requires due { IsReached self.old.scenario (core_state self.old)
+            → standing_of self.old.scenario (core_state self.old) ≡ standing.Ticks }
+        ensures entry { IfOk result (λ entry. Makes 0 self.old self.new entry) }
+        ensures follows { IfOk result (λ entry. Formed self.old.scenario
+            → IsNext self.old.scenario (core_state self.old) 0 entry (core_state self.new)) }
         ensures next { IfOk result (λ entry. IsWhole self.old
             → standing_of self.old.scenario (core_state self.old) ≡ standing.Ticks → Steps 0 self.old self.new entry) }
         ensures whole { OnOk result (self.new.broken ≡ false) }
+        ensures err { OnErr result (self.new.broken ≡ false → self.new ≡ self.old) }
         ensures scenario { self.new.scenario ≡ self.old.scenario }
     {
         self.running.tick(&self.scenario)
+    }
+}
+
+impl Runtime for Core {
+    ghost scenario = { λ c. c.scenario };
+    ghost state = { λ c. core_state c };
+    ghost broken = { λ c. c.broken };
+
+    fn lanes(&self) -> u32 {
+        Core::lanes(self)
+    }
+
+    #[tactic(auto, using(crate::proofs::Kept::is_reached))]
+    fn can_step(&self, lane: u32) -> bool {
+        Core::can_step(self, lane)
+    }
+
+    #[tactic(auto, using(crate::proofs::Kept::is_reached))]
+    fn standing(&self) -> Standing {
+        Core::standing(self)
+    }
+
+    fn entries(&self) -> u64 {
+        Core::entries(self)
+    }
+
+    fn clock(&self) -> u64 {
+        Core::clock(self)
+    }
+
+    fn objects(&self) -> u32 {
+        Core::objects(self)
+    }
+
+    #[tactic(auto, using(crate::proofs::Kept::is_reached))]
+    fn counts(&self, object: u32) -> Counts {
+        Core::counts(self, object)
+    }
+
+    #[tactic(auto, using(crate::proofs::Kept::is_formed))]
+    fn step(
+        &mut self,
+        alloc: Global,
+        lane: u32,
+        servants: &mut Vec<Box<dyn Servant + Send>>,
+    ) -> Result<Entry, Memory> {
+        Core::step(self, alloc, lane, servants)
+    }
+
+    #[tactic(auto, using(crate::proofs::Kept::is_formed))]
+    fn tick(&mut self) -> Result<Entry, Memory> {
+        self.make_tick()
     }
 }

@@ -76,6 +76,7 @@ pub trait Runtime {
         requires above { 1 ≤ object }
         requires below { object ≤ objects_in (state self.now) }
         requires reached { Reached (scenario self.now) (state self.now) }
+        requires whole { broken self.now ≡ false }
         ensures { result ≡ counts_in (scenario self.now) (state self.now) object };
 
     /// Makes the next entry of a lane that can step. Where a body runs in the lane, the servant of its class's kind computes the

@@ -225,6 +225,7 @@ impl Stream {
     ) -> Result<Replayed, ReplayError>
         requires scenario { C.scenario runtime.now ≡ scenario.now }
         requires reached { Reached scenario.now (C.state runtime.now) }
+        requires whole { C.broken runtime.now ≡ false }
         ensures ok { OnOk result (Gains (K.held sink.old) (K.held sink.new) (self.old.lines
             ++ report_text (all_counts_in scenario.now (C.state runtime.now)) (C.state runtime.now).entries (C.state runtime.now).clock ended)) }
         ensures answer { IfOk result (λ replayed. replayed

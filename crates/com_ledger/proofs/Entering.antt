@@ -10,6 +10,7 @@ use Rattle.com_holders.specs.Places.{Counts}
 use Rattle.com_holders.specs.Stands.{Tells}
 use Rattle.com_holders.specs.Tables.{Tables, books_of, owns_of}
 use Rattle.com_model.specs.declared.deeds.Deed.{Deed}
+use Rattle.com_model.specs.declared.deeds.Deed.TheVariants as deed
 use Rattle.com_model.specs.declared.keeps.Issue.{Issue}
 use Rattle.com_model.specs.declared.keeps.Making.{Making}
 use Rattle.com_model.specs.declared.scenario.Scenario.{Scenario}
@@ -29,8 +30,10 @@ use Rattle.com_ledger.specs.Calls.{arguments_in, result_in}
 use Rattle.com_ledger.specs.Books.{AreMade, Brought, Gained, Taken, Cut, Exchanged, books_with}
 use Rattle.com_ledger.specs.Entries.{Around, Tally, tally, books_tallied, left_by, entered, ends_holder, brings_to, Given, Closed, Applied}
 use Rattle.com_ledger.specs.Moving.{plus, AllBelow, Ended}
+use Rattle.com_ledger.specs.Owners.{AsOwned}
 use Rattle.com_ledger.proofs.Cutting.{same_rows, ends_cut}
 use Rattle.com_ledger.proofs.Gaining.{brought_none, same_owners}
+use Rattle.com_ledger.proofs.Owning.{grown_none, grown_then, owned_same, owned_then}
 use Rattle.com_ledger.proofs.Packed.{with_calls, rows_beside}
 use Rattle.com_ledger.proofs.Placed.{same_counts}
 
@@ -68,6 +71,11 @@ as-many d calls later l none same =
 pub clash : true ≡ false → ⊥
 clash e = cc
 
+-- A deed that ends a holder makes no object.
+ender_makes_none : (left : ℕ → Bool) (d : Deed) → ends_holder left d ≡ true → makes d ≡ None
+ender_makes_none left (deed.Made o a k i hr) e = absurd (clash (sym e))
+ender_makes_none left d e = refl
+
 module _ (s : Scenario) (x : Option Action) (g : Around) (d : Deed) (t u : Tables) (calls later : List CallPackets) (xs ys : List Move) where
   abbrev pub expected : (ℕ → ℕ → Bool) → Books
   expected owned = cond (ends_holder (left_by g.calls) d) (books_with t calls) (entered s x g owned d (books_with t calls))
@@ -85,6 +93,7 @@ module _ (s : Scenario) (x : Option Action) (g : Around) (d : Deed) (t u : Table
     none = λ takes. absurd (clash (sym takes ∙ gives));
     below = below;
     owns = λ y c h. brought.owns y c;
+    objects = grown_none g.classes (makes d) t u plain.makes_none (brought.made, brought.owns);
     counts = λ n places b made counts. brought.counts n places b counts;
     calls = many;
     books = books
@@ -109,6 +118,7 @@ module _ (s : Scenario) (x : Option Action) (g : Around) (d : Deed) (t u : Table
     none = λ y. refl;
     below = λ n h. tt;
     owns = λ y c h. ap (λ (v : Tables). owns_of v.objects y c) eu;
+    objects = grown_none g.classes (makes d) t u (ender_makes_none (left_by g.calls) d takes) (owned_same t u (same_rows t u (ap (λ (v : Tables). v.objects) eu) (ap (λ (v : Tables). v.proxies) eu)));
     counts = λ n places b made counts. (brought_none t u (same_rows t u (ap (λ (v : Tables). v.objects) eu) (ap (λ (v : Tables). v.proxies) eu))).counts n places b counts;
     calls = λ l. as-many d calls later l (quiet l) ec;
     books = ap (λ (v : Tables). books_with v later) eu ∙ ap (λ (c : List CallPackets). books_with t c) ec
@@ -169,12 +179,14 @@ module _ (s : Scenario) (x : Option Action) (g : Around) (d : Deed) (t t1 t2 t3 
   pub applied : Given g (λ owned. cond ender (books_with t calls) (whole owned (books_with t calls))) d (tally t calls) [] (tally t1 later-calls) brought
       → Exchanged brought gained t1 t2
       → ((owned : ℕ → ℕ → Bool) → Closed (cond ender (whole owned (books_with t2 later-calls)) (books_with t2 later-calls)) (tally t2 later-calls) (tally t3 later-calls))
-      → ((n : ℕ) (later : ℕ → ℕ → ℕ) → AllBelow n lost → Counts n (plus later lost) t3 → Ended n later t3 t4)
+      → AsOwned t3 t4 → ((n : ℕ) (later : ℕ → ℕ → ℕ) → AllBelow n lost → Counts n (plus later lost) t3 → Ended n later t3 t4)
       → Applied (λ owned. whole owned (books_with t calls)) g d gained lost (tally t calls) (tally t4 later-calls)
-  applied given exchanged closed ends-all = record {
+  applied given exchanged closed last ends-all = record {
     calls = given.calls;
     owned = owns_of t1.objects;
     owns = given.owns;
+    exact = λ y c. sym (later-owned.1 y c);
+    objects = grown_then g.classes (makes d) t t1 t4 given.objects later-owned;
     counts = λ n places later low gs ls made counts same. (at-end n places later low gs ls made counts same).counts;
     books = λ n places later low gs ls made counts same.
         let xs : ℕ → List ℕ = arguments_in later-calls in
@@ -185,6 +197,9 @@ module _ (s : Scenario) (x : Option Action) (g : Around) (d : Deed) (t t1 t2 t3 
         ∙ by-kind n places later low gs made counts (λ c y. omega (arith, same c y)) ender refl;
   }
     where
+      later-owned : AsOwned t1 t4
+      later-owned = owned_then t1 t2 t4 exchanged.objects (owned_then t2 t3 t4 (owned_same t2 t3 (closed (owns_of t1.objects)).places) last)
+
       all-brought : (n : ℕ) → brings_to g.apartment d < n → AllBelow n brought
       all-brought n low = subst (λ (l : List Move). AllBelow n l) (sym given.written) (given.below n low)
 

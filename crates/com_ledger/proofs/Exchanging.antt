@@ -9,6 +9,8 @@ use Rattle.com_refs.proofs.Ends.{ends_again}
 use Rattle.com_ledger.specs.Books.{Exchanged}
 use Rattle.com_ledger.specs.Moving.{moves_at, plus, AllBelow, Ended}
 use Rattle.com_ledger.proofs.Gaining.{moves_append, below_right}
+use Rattle.com_ledger.specs.Owners.{AsOwned}
+use Rattle.com_ledger.proofs.Owning.{owned_then}
 use Rattle.com_ledger.proofs.Placed.{same_counts}
 
 pub whole_taken : (ms : List Move) (k : ℕ) → length ms ≤ k → take k ms ≡ ms
@@ -17,9 +19,10 @@ whole_taken [] (suc k) h = refl
 whole_taken (m ∷ ms) zero h = absurd (omega (arith, h))
 whole_taken (m ∷ ms) (suc k) h = ap (λ (l : List Move). m ∷ l) (whole_taken ms k (omega (arith, h)))
 
-pub exchanged_kept : (brought rest gained : List Move) (t u : Tables) → brought ++ rest ≡ gained → books_of u ≡ books_of t
+pub exchanged_kept : (brought rest gained : List Move) (t u : Tables) → brought ++ rest ≡ gained → AsOwned t u → books_of u ≡ books_of t
     → ((n : ℕ) (places : ℕ → ℕ → ℕ) → AllBelow n rest → Counts n places t → Counts n (plus places rest) u) → Exchanged brought gained t u
-exchanged_kept brought rest gained t u e same grown = record {
+exchanged_kept brought rest gained t u e owned same grown = record {
+  objects = owned;
   none = λ empty. same;
   counts = λ n places bs gs counts.
       same_counts n (plus (plus places brought) rest) (plus places gained) u (λ c x. omega (arith, moves_append brought rest c x, ap (λ (l : List Move). moves_at l c x) e))
@@ -27,10 +30,11 @@ exchanged_kept brought rest gained t u e same grown = record {
   books = λ n places later bs gs counts le. ap (λ (b : Books). ends n later b) same;
 }
 
-pub exchanged_again : (brought gained : List Move) (t v u : Tables) → (brought ≡ [] → ⊥) → books_of v ≡ books_of t
+pub exchanged_again : (brought gained : List Move) (t v u : Tables) → (brought ≡ [] → ⊥) → AsOwned t v → AsOwned v u → books_of v ≡ books_of t
     → ((n : ℕ) (places : ℕ → ℕ → ℕ) → AllBelow n gained → Counts n places t → Counts n (plus places gained) v)
     → ((n : ℕ) (later : ℕ → ℕ → ℕ) → AllBelow n brought → Counts n (plus later brought) v → Ended n later v u) → Exchanged brought gained t u
-exchanged_again brought gained t v u some same grown ends-all = record {
+exchanged_again brought gained t v u some first then same grown ends-all = record {
+  objects = owned_then t v u first then;
   none = λ empty. absurd (some empty);
   counts = λ n places bs gs counts. (last n places bs gs counts).counts;
   books = λ n places later bs gs counts le.

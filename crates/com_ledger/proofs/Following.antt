@@ -157,7 +157,7 @@ pub owns-made : (s : Scenario) (m : Option Making) (o a : ℕ) (x : Option Makin
 owns-made s None o a x = refl
 owns-made s (Some m) o a x = elim (eqb m.object o) as (λ b. cond b (is_agile_class s m.class || eqb a m.apartment) (is_agile_class s (number_or_zero (option_map (λ (k : Making). k.class) x)) || eqb a (number_or_zero (option_map (λ (k : Making). k.apartment) x))) ≡ (is_agile_class s (number_or_zero (option_map (λ (k : Making). k.class) (cond b (Some m) x))) || eqb a (number_or_zero (option_map (λ (k : Making). k.apartment) (cond b (Some m) x))))) [ true ↦ refl | false ↦ refl ]
 
-objects-tie : (s : Scenario) (st su : State) (h : List Entry) (e : Entry) (w u : Held) → StandsFor s st h → StandsFor s su (e ∷ h) → ObjectsTie s st w → ObjectsGrow s e.deed w u → ObjectsTie s su u
+pub objects-tie : (s : Scenario) (st su : State) (h : List Entry) (e : Entry) (w u : Held) → StandsFor s st h → StandsFor s su (e ∷ h) → ObjectsTie s st w → ObjectsGrow s e.deed w u → ObjectsTie s su u
 objects-tie s st su h e w u p q t g = record {
   number = g.number ∙ ap (one_more (makes e.deed)) (t.number ∙ p.objects.number) ∙ sym q.objects.number;
   owns = λ o a.

@@ -26,6 +26,7 @@ use Rattle.com_ledger.specs.declared.calls.CallPackets.{CallPackets}
 use Rattle.com_ledger.specs.Calls.{call_at, arguments_of, arguments_in, result_in, number_of}
 use Rattle.com_ledger.specs.Books.{Gained, Made, Marshalled, books_with, moved_to, with_arguments, with_answer}
 use Rattle.com_ledger.specs.Entries.{Around, tally, left_by, ends_holder, brings_to, Carries, Given, Gives, RowsOf, MakesOrNone, is_of_reference}
+use Rattle.com_ledger.specs.Owners.{Grown}
 use Rattle.com_ledger.proofs.Cutting.{same_rows}
 use Rattle.com_ledger.proofs.Gaining.{brought_none}
 use Rattle.com_ledger.proofs.Entering.{IsPlain, clash, expected, given_by, given_gained, given_later}
@@ -53,14 +54,15 @@ new-books b x y a o i false = ap (λ (l : ℕ → Bool). record (changed (with_c
 
 pub given_made : (s : Scenario) (x : Option Action) (g : Around) (o w k i : ℕ) (hr : HResult) (t u : Tables) (calls : List CallPackets) (xs ys : List Move)
     → let d : Deed = deed.Made (Some o) (Some w) (asked.Number k) (asked.Number i) hr in
-    Made g.apartment (record { object = o; iface = i }) t u → ys ≡ xs ++ moved_to g.apartment (record { object = o; iface = i }) ∷ []
+    Made g.apartment (record { object = o; iface = i }) t u → ys ≡ xs ++ moved_to g.apartment (record { object = o; iface = i }) ∷ [] → Grown g.classes (Some (record { object = o; apartment = w; class = k })) t u
     → Given g (expected s x g d t u calls calls xs ys) d (tally t calls) xs (tally u calls) ys
-given_made s x g o w k i hr t u calls xs ys = λ made written. record {
+given_made s x g o w k i hr t u calls xs ys = λ made written grown. record {
   moves = moved_to g.apartment (record { object = o; iface = i }) ∷ [];
   written = written;
   none = λ yes. absurd (clash (sym yes));
   below = λ n h. (h, tt);
   owns = λ z c h. elim h [ inl none ↦ absurd (cc) | inr le ↦ made.owns z c le ];
+  objects = grown;
   counts = λ n places below all counts. made.counts n places below.0 all counts;
   calls = λ l. omega arith;
   books = ap (λ (b : Books). with_calls b (arguments_in calls) (result_in calls)) made.books ∙ new-books (books_of t) (arguments_in calls) (result_in calls) g.apartment o i (owns_of u.objects o g.apartment);
@@ -152,8 +154,8 @@ pub gives_nothing : (g : Around) (d : Deed) (t : Tables) (calls : List CallPacke
     → ((s : Scenario) (x : Option Action) (left : ℕ → Bool) (b : Books) → rows s x left b g.apartment d ≡ []) → Gives g d (tally t calls) xs (tally t calls) xs
 gives_nothing g d t calls xs gives plain keeps quiet none = λ s x carries. given_none s x g d t calls xs (gives (left_by g.calls)) plain keeps quiet (none s x (left_by g.calls) (books_with t calls))
 
-pub gives_made : (g : Around) (o w : Option ℕ) (k i : Asked) (hr : HResult) (t u : Tables) (calls : List CallPackets) (xs ys : List Move) → MakesOrNone g.apartment o w k i t u xs ys → Gives g (deed.Made o w k i hr) (tally t calls) xs (tally u calls) ys
-gives_made g (Some o) (Some w) (asked.Number k) (asked.Number i) hr t u calls xs ys m = λ s x carries. given_made s x g o w k i hr t u calls xs ys m.0 m.1
+pub gives_made : (g : Around) (o w : Option ℕ) (k i : Asked) (hr : HResult) (t u : Tables) (calls : List CallPackets) (xs ys : List Move) → MakesOrNone g.classes g.apartment o w k i t u xs ys → Gives g (deed.Made o w k i hr) (tally t calls) xs (tally u calls) ys
+gives_made g (Some o) (Some w) (asked.Number k) (asked.Number i) hr t u calls xs ys m = λ s x carries. given_made s x g o w k i hr t u calls xs ys m.0 m.1 m.2
 gives_made g None w k i hr t u calls xs ys m =
     subst (λ (v : Tables). Gives g (deed.Made None w k i hr) (tally t calls) xs (tally v calls) ys) (sym m.0)
     (subst (λ (l : List Move). Gives g (deed.Made None w k i hr) (tally t calls) xs (tally t calls) l) (sym m.1)

@@ -1,5 +1,7 @@
+pub mod Applying
 pub mod Changing
 pub mod Climbing
+pub mod Counted
 pub mod Closing
 pub mod Cutting
 pub mod Ending
@@ -12,12 +14,15 @@ pub mod Listed
 pub mod Losing
 pub mod Lowest
 pub mod Makings
+pub mod Owning
 pub mod Packed
 pub mod Placed
 pub mod Reading
+pub mod Rising
 pub mod Rowing
 pub mod Rowless
 pub mod Tied
 pub mod Touched
 pub mod Unheld
+pub mod Unholding
 pub mod Within

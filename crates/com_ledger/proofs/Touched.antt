@@ -167,7 +167,7 @@ module _ (t u : Tables) (gone : ℕ → Bool) (books : books_of u ≡ cut (λ x.
 
 -- ---- rows that take no holder away
 
-more-by : (t u : Tables) (x : ℕ) → (books_of u).live x ≡ (books_of t).live x → direct_in t x ≤ direct_in u x → direct_in t x + outside_of t x ≤ direct_in u x + outside_of u x → holders_of t x ≤ holders_of u x
+pub more-by : (t u : Tables) (x : ℕ) → (books_of u).live x ≡ (books_of t).live x → direct_in t x ≤ direct_in u x → direct_in t x + outside_of t x ≤ direct_in u x + outside_of u x → holders_of t x ≤ holders_of u x
 more-by t u x live direct all = above ((books_of t).live x) ((books_of u).live x) (sym live) _ _ _ _ direct all
   where
     clash : false ≡ true → ⊥

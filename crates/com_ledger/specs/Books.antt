@@ -11,7 +11,8 @@ use Rattle.com_moves.specs.declared.moves.Move.{Move}
 use Rattle.com_refs.specs.Ends.{ends, Totals}
 use Rattle.com_ledger.specs.declared.calls.CallPackets.{CallPackets}
 use Rattle.com_ledger.specs.Calls.{arguments_in, result_in}
-use Rattle.com_ledger.specs.Moving.{plus, AllBelow}
+use Rattle.com_ledger.specs.Moving.{plus, AllBelow, HoldsMore}
+use Rattle.com_ledger.specs.Owners.{AsOwned}
 
 -- Who holds references, as tables; the packets of each call; and the objects that lost their last holder in the last entry.
 pub record Held : Type 0 where
@@ -58,6 +59,7 @@ pub record Cut (gone : ℕ → Bool) (t u : Tables) : Type 0 where
 
 -- What the row brought, and all that comes to places, is held once.
 pub record Exchanged (brought gained : List Move) (t u : Tables) : Type 0 where
+  pub objects : AsOwned t u
   pub none : brought ≡ [] → books_of u ≡ books_of t
   pub counts : (n : ℕ) (places : ℕ → ℕ → ℕ) → AllBelow n brought → AllBelow n gained → Counts n (plus places brought) t → Counts n (plus places gained) u
   pub books : (n : ℕ) (places later : ℕ → ℕ → ℕ) → AllBelow n brought → AllBelow n gained → Counts n (plus places brought) t → ((c x : ℕ) → later c x ≤ plus places gained c x) → ends n later (books_of u) ≡ ends n later (books_of t)
@@ -84,3 +86,7 @@ pub record Made (apartment : ℕ) (held : RefValue) (t u : Tables) : Type 0 wher
   pub owns : (x c : ℕ) → x ≤ length t.objects → owns_of u.objects x c ≡ owns_of t.objects x c
   pub counts : (n : ℕ) (places : ℕ → ℕ → ℕ) → apartment < n → AreMade (length t.objects) places → Counts n places t → Counts n (plus places (moved_to apartment held ∷ [])) u
   pub books : books_of u ≡ made_live held.object (changed (books_of t) (change (owns_of u.objects) (books_of t) (Makes apartment held.object held.iface)))
+
+-- No object has fewer holders, where places are counted and none holds an object that was not made.
+abbrev pub KeepsHeld : ℕ → (t u : Tables) → Type 0
+KeepsHeld a t u = (n : ℕ) (places : ℕ → ℕ → ℕ) → a < n → AreMade (length t.objects) places → Counts n places t → HoldsMore t u

@@ -8,6 +8,7 @@ use Rattle.com_body.specs.declared.operands.Asked.{Asked}
 use Rattle.com_body.specs.declared.operands.Asked.TheVariants as asked
 use Rattle.com_books.specs.Changes.{Books, entered_rows}
 use Rattle.com_books.specs.Counting.{count_if}
+use Rattle.com_classes.specs.Tables.{Tables as ClassTables}
 use Rattle.com_holders.specs.Places.{Counts, SamePlaces}
 use Rattle.com_holders.specs.Tables.{Tables, owns_of}
 use Rattle.com_model.specs.declared.deeds.Deed.{Deed}
@@ -16,28 +17,31 @@ use Rattle.com_model.specs.declared.scenario.Scenario.{Scenario}
 use Rattle.com_model.specs.Books.{rows, kept, out_values}
 use Rattle.com_model.specs.Calls.{issues}
 use Rattle.com_model.specs.Endings.{is_leave}
-use Rattle.com_model.specs.Lists.{from_one}
+use Rattle.com_model.specs.Lists.{from_one, number_or_zero}
 use Rattle.com_model.specs.Objects.{makes}
+use Rattle.com_model.specs.State.{State, books_in, running_in, sight_of}
 use Rattle.com_model.specs.Values.{carried, result_list}
 use Rattle.com_moves.specs.declared.moves.Move.{Move}
 use Rattle.com_quiet.specs.Ends.{connected}
 use Rattle.com_refs.specs.Ends.{ends}
-use Rattle.com_state.specs.Parts.{CallTables, ObjectTables, named_at}
+use Rattle.com_state.specs.Parts.{CallTables, ObjectTables, calls_of, named_at, objects_of}
 use Rattle.com_ledger.specs.declared.calls.CallPackets.{CallPackets}
 use Rattle.com_ledger.specs.Books.{AreMade, Gained, Made, books_with, moved_to}
 use Rattle.com_ledger.specs.Calls.{call_at}
-use Rattle.com_ledger.specs.Moving.{plus, AllBelow}
+use Rattle.com_ledger.specs.Moving.{plus, AllBelow, HoldsMore, Touches}
+use Rattle.com_ledger.specs.Owners.{Grown}
 
--- What an entry's change rests on beside the entry: the tables of calls and of objects, the references that a marshalled Out or Leave
--- carries, and the apartment in which the lane runs.
+-- What an entry's change rests on beside the entry: the tables of calls and of objects, the classes, the references that a marshalled
+-- Out or Leave carries, and the apartment in which the lane runs.
 pub record Around : Type 0 where
   pub calls : CallTables
   pub objects : ObjectTables
+  pub classes : ClassTables
   pub carried : List RefValue
   pub apartment : ℕ
 
-abbrev pub around : CallTables → ObjectTables → List RefValue → ℕ → Around
-around calls objects carried apartment = record { calls = calls; objects = objects; carried = carried; apartment = apartment }
+abbrev pub around : CallTables → ObjectTables → ClassTables → List RefValue → ℕ → Around
+around calls objects classes carried apartment = record { calls = calls; objects = objects; classes = classes; carried = carried; apartment = apartment }
 
 -- Who holds references, and the packets of each call.
 pub record Tally : Type 0 where
@@ -59,6 +63,15 @@ abbrev pub Carries : Scenario → Option Action → Books → Deed → List RefV
 Carries s x b (deed.Out c o i m r k (Some bytes)) rs = rs ≡ carried (out_values s b true x)
 Carries s x b (deed.Leave c hr v (Some bytes)) rs = rs ≡ carried (result_list v)
 Carries s x b _ rs = Unit {0}
+
+-- What an entry rests on is that of the state before it: its calls and objects, the classes of the scenario, the apartment in which the
+-- entry's lane runs, and what the entry carries.
+pub record StandsAround (s : Scenario) (st : State) (l : ℕ) (d : Deed) (g : Around) : Type 0 where
+  pub calls : g.calls ≡ calls_of st
+  pub objects : g.objects ≡ objects_of st
+  pub classes : g.classes ≡ s.classes
+  pub apartment : g.apartment ≡ number_or_zero (running_in s st l)
+  pub carried : Carries s ((sight_of s st).act l) (books_in st) d g.carried
 
 -- The books with the rows of the entry, with what it keeps of packets, and which objects it connects.
 abbrev pub entered : Scenario → Option Action → Around → (owned : ℕ → ℕ → Bool) → Deed → Books → Books
@@ -88,6 +101,10 @@ abbrev pub brings_to : ℕ → Deed → ℕ
 brings_to a (deed.Enter c o y t vs) = y
 brings_to a _ = a
 
+-- The row of a deed leaves no object fewer holders, where places are counted and none holds an object that was not made.
+abbrev pub KeepsHeldBy : (apartment : ℕ) → Deed → (t u : Tables) → Type 0
+KeepsHeldBy a d t u = (n : ℕ) (places : ℕ → ℕ → ℕ) → brings_to a d < n → AreMade (length t.objects) places → Counts n places t → HoldsMore t u
+
 -- The row of a deed was entered, but for one that ends a holder: the books are with it, and it brought these places.
 pub record Given (g : Around) (e : (ℕ → ℕ → Bool) → Books) (d : Deed) (w : Tally) (before : List Move) (v : Tally) (after : List Move) : Type 0 where
   pub moves : List Move
@@ -95,6 +112,7 @@ pub record Given (g : Around) (e : (ℕ → ℕ → Bool) → Books) (d : Deed) 
   pub none : ends_holder (left_by g.calls) d ≡ true → moves ≡ []
   pub below : (n : ℕ) → brings_to g.apartment d < n → AllBelow n moves
   pub owns : (x c : ℕ) → (makes d ≡ None) ⊎ (x ≤ length w.tables.objects) → owns_of v.tables.objects x c ≡ owns_of w.tables.objects x c
+  pub objects : Grown g.classes (makes d) w.tables v.tables
   pub counts : (n : ℕ) (places : ℕ → ℕ → ℕ) → AllBelow n moves → AreMade (length w.tables.objects) places → Counts n places w.tables → Counts n (plus places moves) v.tables
   pub calls : (l : ℕ) → length v.calls ≡ count_if (is_some (issues l d)) + length w.calls
   pub books : books_tallied v ≡ e (owns_of v.tables.objects)
@@ -127,18 +145,22 @@ GivesUp number t u = (s : Scenario) (x : Option Action) (g : Around) (owned : �
     → left_by g.calls c ≡ false → (call_at calls c).result ≡ number → Closed (entered s x g owned (deed.Back c hr v) (books_with t calls)) (tally t calls) (tally u calls)
 
 -- The row of a new object, or none.
-abbrev pub MakesOrNone : (apartment : ℕ) → (object owner : Option ℕ) → (class iface : Asked) → (before after : Tables) → (written more : List Move) → Type 0
-MakesOrNone a (Some o) (Some w) (asked.Number k) (asked.Number i) t u xs ys =
+abbrev pub MakesOrNone : ClassTables → (apartment : ℕ) → (object owner : Option ℕ) → (class iface : Asked) → (before after : Tables) → (written more : List Move) → Type 0
+MakesOrNone classes a (Some o) (Some w) (asked.Number k) (asked.Number i) t u xs ys =
     Made a (record { object = o; iface = i }) t u × (ys ≡ xs ++ moved_to a (record { object = o; iface = i }) ∷ [])
-MakesOrNone a None w k i t u xs ys = (u ≡ t) × (ys ≡ xs)
-MakesOrNone a (Some o) w k i t u xs ys = ⊥
+    × Grown classes (Some (record { object = o; apartment = w; class = k })) t u
+MakesOrNone classes a None w k i t u xs ys = (u ≡ t) × (ys ≡ xs)
+MakesOrNone classes a (Some o) w k i t u xs ys = ⊥
 
 -- An entry was applied: where the places are counted, and those that are lost and gained are counted off and on, the places after it
--- are counted, and the books are those with the entry's rows, at the entry's end.
+-- are counted, and the books are those with the entry's rows, at the entry's end. What owns objects is exact for those after it: one
+-- that it makes is owned as its making says.
 pub record Applied (e : (ℕ → ℕ → Bool) → Books) (g : Around) (d : Deed) (gained lost : List Move) (w v : Tally) : Type 0 where
   pub calls : (l : ℕ) → length v.calls ≡ count_if (is_some (issues l d)) + length w.calls
   pub owned : ℕ → ℕ → Bool
   pub owns : (x c : ℕ) → (makes d ≡ None) ⊎ (x ≤ length w.tables.objects) → owned x c ≡ owns_of w.tables.objects x c
+  pub exact : (x c : ℕ) → owned x c ≡ owns_of v.tables.objects x c
+  pub objects : Grown g.classes (makes d) w.tables v.tables
   pub counts : (n : ℕ) (places later : ℕ → ℕ → ℕ) → brings_to g.apartment d < n → AllBelow n gained → AllBelow n lost → AreMade (length w.tables.objects) places
       → Counts n places w.tables → ((c x : ℕ) → plus later lost c x ≡ plus places gained c x) → Counts n later v.tables
   pub books : (n : ℕ) (places later : ℕ → ℕ → ℕ) → brings_to g.apartment d < n → AllBelow n gained → AllBelow n lost → AreMade (length w.tables.objects) places
@@ -146,3 +168,10 @@ pub record Applied (e : (ℕ → ℕ → Bool) → Books) (g : Around) (d : Deed
 
 abbrev pub Applies : Around → Deed → (gained lost : List Move) → Tally → Tally → Type 0
 Applies g d gained lost w v = (s : Scenario) (x : Option Action) → Carries s x (books_tallied w) d g.carried → Applied (λ owned. entered s x g owned d (books_tallied w)) g d gained lost w v
+
+-- An entry was applied: where the places are counted, and those that are lost and gained are counted off and on, each object that had
+-- a holder before it and has none after it is among those that were written down.
+abbrev pub Loses : Around → Deed → (gained lost : List Move) → (w v : Tally) → (touched : List ℕ) → Type 0
+Loses g d gained lost w v touched = (s : Scenario) (x : Option Action) → Carries s x (books_tallied w) d g.carried
+    → (n : ℕ) (places later : ℕ → ℕ → ℕ) → brings_to g.apartment d < n → AllBelow n gained → AllBelow n lost → AreMade (length w.tables.objects) places
+    → Counts n places w.tables → ((c x : ℕ) → plus later lost c x ≡ plus places gained c x) → Touches w.tables v.tables [] touched

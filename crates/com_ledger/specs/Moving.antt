@@ -31,6 +31,14 @@ pub record Touches (t u : Tables) (before after : List ℕ) : Type 0 where
   pub kept : (o : ℕ) → is_member o before ≡ true → is_member o after ≡ true
   pub all : (o : ℕ) → 0 < holders_of t o → holders_of u o ≡ 0 → is_member o after ≡ true
 
+-- No object has fewer holders than before.
+abbrev pub HoldsMore : (t u : Tables) → Type 0
+HoldsMore t u = (o : ℕ) → holders_of t o ≤ holders_of u o
+
+-- What lost its last holder was written down, where places are counted.
+abbrev pub TouchesCounted : (t u : Tables) → (before after : List ℕ) → Type 0
+TouchesCounted t u xs ys = (n : ℕ) (places : ℕ → ℕ → ℕ) → Counts n places t → Touches t u xs ys
+
 -- Each number is at least the first one given, and above those before it.
 abbrev pub Climbs : (low : ℕ) → List ℕ → Type 0
 Climbs low [] = Unit {0}

@@ -1,6 +1,6 @@
 -- What ties a ledger to a state: its books are the state's, its tables count the state's places, and its
 -- objects and calls are the state's.
-use Rattle.std.specs.Prelude.{◌≡◌, ◌<◌, ◌≤◌, ◌⊎◌, ℕ, ◌+◌, Bool, true, false, ◌==◌, ◌||◌, if◌then◌else◌, List, [], length, Option, Some, None}
+use Rattle.std.specs.Prelude.{◌≡◌, ◌<◌, ◌≤◌, ◌⊎◌, ℕ, ◌+◌, Bool, true, false, ◌==◌, if◌then◌else◌, List, [], length, Option, Some, None}
 use Rattle.com_books.specs.Changes.{Books, entered_rows}
 use Rattle.com_books.specs.Counting.{count_if}
 use Rattle.com_holders.specs.Places.{Counts}
@@ -14,12 +14,12 @@ use Rattle.com_model.specs.Lists.{is_member, number_or_zero}
 use Rattle.com_model.specs.Objects.{makes, one_more}
 use Rattle.com_model.specs.Places.{places}
 use Rattle.com_model.specs.State.{State, after, books_in, ending_in, ground_in, issued_by, named_in, next_sta_in, objects_in, owns_in, running_in, scene_in, sight_of}
-use Rattle.com_model.specs.Tables.{is_agile_class}
 use Rattle.com_moves.specs.declared.moves.Move.{Move}
 use Rattle.com_quiet.specs.Ends.{books_entered, connected}
 use Rattle.com_refs.specs.Ends.{ends, Totals}
 use Rattle.com_ledger.specs.Books.{Held, books_held}
 use Rattle.com_ledger.specs.Moving.{plus, AllBelow}
+use Rattle.com_ledger.specs.Owners.{owns_by}
 
 -- The places of a state, by apartment and object, and the holders of an object.
 abbrev pub places_at : Scenario → State → (apartment object : ℕ) → ℕ
@@ -39,8 +39,7 @@ owner_after None o x = x
 owner_after (Some m) o x = if m.object == o then m.apartment else x
 
 abbrev pub owns_after : Scenario → Option Making → (object apartment : ℕ) → Bool → Bool
-owns_after s None o a x = x
-owns_after s (Some m) o a x = if m.object == o then is_agile_class s m.class || a == m.apartment else x
+owns_after s m o a x = owns_by s.classes m o a x
 
 -- A made object is one more.
 pub record ObjectsGrow (s : Scenario) (d : Deed) (w u : Held) : Type 0 where

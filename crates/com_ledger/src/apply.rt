@@ -1,12 +1,14 @@
 //! The change of the books by an entry.
-ghost use Rattle.std.specs.Prelude.{◌≡◌, ◌≤◌, [], false, if◌then◌else◌, IsTrue, OnOk, List, length, take};
-ghost use Rattle.com_holders.specs.Places.{SamePlaces};
+ghost use Rattle.std.specs.Prelude.{◌≡◌, ◌≤◌, ℕ, [], false, if◌then◌else◌, IsTrue, OnOk, List, length, take};
+ghost use Rattle.com_holders.specs.Places.{Counts, SamePlaces};
 ghost use Rattle.com_holders.specs.Tables.{books_of};
 ghost use Rattle.com_model.specs.Lists.{number_or_zero};
 ghost use Rattle.com_moves.specs.declared.moves.Move.{Move};
 ghost use Rattle.com_moves.specs.Steps.{movings_of};
 ghost use Rattle.com_ledger.specs.Books.{Exchanged};
-ghost use Rattle.com_ledger.specs.Entries.{Gives, Closes, Applies, around, tally, is_of_reference};
+ghost use Rattle.com_objects.specs.Settled.{Rise};
+ghost use Rattle.com_ledger.specs.Entries.{Gives, Closes, Applies, KeepsHeldBy, Loses, around, tally, is_of_reference};
+ghost use Rattle.com_ledger.specs.Moving.{plus, AllBelow, Climbs, HoldsMore, Touches, TouchesCounted};
 
 use crate::context::Context;
 use crate::ends::{end_connection, end_cookie, end_home, end_packet, give_up};
@@ -58,13 +60,33 @@ fn take(
     brought: &[Move],
     gained: &[Move],
 ) -> Result<(), Memory>
-    ensures { OnOk result (Exchanged brought.now gained.now refs.old refs.new) }
+    ensures exchanged { OnOk result (Exchanged brought.now gained.now refs.old refs.new) }
+    ensures touched { OnOk result ((n : ℕ) (places : ℕ → ℕ → ℕ) → AllBelow n brought.now → AllBelow n gained.now → Counts n (plus places brought.now) refs.old → Touches refs.old refs.new touched.old.items touched.new.items) }
+    ensures climbs { OnOk result (Climbs 0 touched.old.items → Climbs 0 touched.new.items) }
 {
     if stands_first(brought, gained) {
         return gain_all(refs, &gained[brought.len()..]);
     }
     gain_all(refs, gained)?;
     lose_all(refs, touched, brought)
+}
+
+// Whether objects, which stand by number, are among those that were made.
+fn are_made(touched: &[u32], objects: u32) -> bool
+    ensures { IsTrue result → Climbs 0 touched.now → Rise 0 touched.now objects }
+{
+    if touched.len() == 0 {
+        return true;
+    }
+    let least = touched[0];
+    if least == 0 {
+        return false;
+    }
+    let most = touched[touched.len() - 1];
+    if most > objects {
+        return false;
+    }
+    true
 }
 
 impl Keeping {
@@ -82,6 +104,7 @@ impl Keeping {
         ensures books { books_of self.new.refs ≡ books_of self.old.refs }
         ensures calls { self.new.calls ≡ self.old.calls }
         ensures brought { self.new.brought.items ≡ self.old.brought.items }
+        ensures touched { self.new.touched.items ≡ self.old.touched.items }
     {
         let arguments = self.arguments_of(deed);
         let gains = arguments
@@ -106,7 +129,9 @@ impl Keeping {
         context: Context<'_>,
         apartment: u32,
     ) -> Result<(), Memory>
-        ensures { OnOk result (Gives (around context.entry.calls.now.tables context.entry.objects.now context.entry.carried.now apartment) deed.now (tally self.old.refs self.old.calls) self.old.brought.items (tally self.new.refs self.new.calls) self.new.brought.items) }
+        ensures gives { OnOk result (Gives (around context.entry.calls.now.tables context.entry.objects.now context.entry.classes.now context.entry.carried.now apartment) deed.now (tally self.old.refs self.old.calls) self.old.brought.items (tally self.new.refs self.new.calls) self.new.brought.items) }
+        ensures more { OnOk result (KeepsHeldBy apartment deed.now self.old.refs self.new.refs) }
+        ensures touched { self.new.touched.items ≡ self.old.touched.items }
     {
         match deed {
             Deed::Made {
@@ -164,7 +189,9 @@ impl Keeping {
         context: Context<'_>,
         apartment: u32,
     ) -> Result<(), Memory>
-        ensures { OnOk result (is_of_reference deed.now ≡ false → Gives (around context.entry.calls.now.tables context.entry.objects.now context.entry.carried.now apartment) deed.now (tally self.old.refs self.old.calls) self.old.brought.items (tally self.new.refs self.new.calls) self.new.brought.items) }
+        ensures gives { OnOk result (is_of_reference deed.now ≡ false → Gives (around context.entry.calls.now.tables context.entry.objects.now context.entry.classes.now context.entry.carried.now apartment) deed.now (tally self.old.refs self.old.calls) self.old.brought.items (tally self.new.refs self.new.calls) self.new.brought.items) }
+        ensures more { OnOk result (HoldsMore self.old.refs self.new.refs) }
+        ensures touched { self.new.touched.items ≡ self.old.touched.items }
     {
         match deed {
             Deed::Out { call, bytes, .. } => {
@@ -196,7 +223,9 @@ impl Keeping {
 
     // The row of an entry that ends a holder which is no place: a packet, a cookie, or all of a connection.
     fn enter_end(&mut self, deed: &Deed, context: Context<'_>, apartment: u32) -> Result<(), Memory>
-        ensures closes { OnOk result (Closes (around context.entry.calls.now.tables context.entry.objects.now context.entry.carried.now apartment) deed.now (tally self.old.refs self.old.calls) (tally self.new.refs self.old.calls)) }
+        ensures closes { OnOk result (Closes (around context.entry.calls.now.tables context.entry.objects.now context.entry.classes.now context.entry.carried.now apartment) deed.now (tally self.old.refs self.old.calls) (tally self.new.refs self.old.calls)) }
+        ensures touched { OnOk result (TouchesCounted self.old.refs self.new.refs self.old.touched.items self.new.touched.items) }
+        ensures climbs { OnOk result (Climbs 0 self.old.touched.items → Climbs 0 self.new.touched.items) }
         ensures calls { self.new.calls ≡ self.old.calls }
     {
         let refs = &mut self.refs;
@@ -222,7 +251,9 @@ impl Keeping {
     // The whole change by an entry: first the row that gives, then what comes to places, then the row that ends a holder, and then
     // what leaves places.
     fn change(&mut self, entry: &Entry, context: Context<'_>, moves: &Moves) -> Result<(), Memory>
-        ensures { OnOk result ((gained lost : List Move) → movings_of gained ≡ moves.now.gained → movings_of lost ≡ moves.now.lost → Applies (around context.entry.calls.now.tables context.entry.objects.now context.entry.carried.now (number_or_zero context.entry.running)) entry.now.deed gained lost (tally self.old.refs self.old.calls) (tally self.new.refs self.new.calls)) }
+        ensures applies { OnOk result ((gained lost : List Move) → movings_of gained ≡ moves.now.gained → movings_of lost ≡ moves.now.lost → Applies (around context.entry.calls.now.tables context.entry.objects.now context.entry.classes.now context.entry.carried.now (number_or_zero context.entry.running)) entry.now.deed gained lost (tally self.old.refs self.old.calls) (tally self.new.refs self.new.calls)) }
+        ensures touched { OnOk result ((gained lost : List Move) → movings_of gained ≡ moves.now.gained → movings_of lost ≡ moves.now.lost → Loses (around context.entry.calls.now.tables context.entry.objects.now context.entry.classes.now context.entry.carried.now (number_or_zero context.entry.running)) entry.now.deed gained lost (tally self.old.refs self.old.calls) (tally self.new.refs self.new.calls) self.new.touched.items) }
+        ensures rise { OnOk result (Rise 0 self.new.touched.items (length self.new.refs.objects)) }
     {
         self.touched.clear();
         self.brought.clear();
@@ -236,7 +267,11 @@ impl Keeping {
             moves.gained(),
         )?;
         self.enter_end(&entry.deed, context, apartment)?;
-        lose_all(&mut self.refs, &mut self.touched, moves.lost())
+        lose_all(&mut self.refs, &mut self.touched, moves.lost())?;
+        if !are_made(self.touched.as_slice(), self.refs.objects()) {
+            return Err(unproved());
+        }
+        Ok(())
     }
 }
 
@@ -245,14 +280,17 @@ impl Ledger {
     /// want of memory, or of a fact that is not proved here.
     ///
     /// Where places are counted, and those that are lost and gained are counted off and on, the places after the entry are counted, and
-    /// the books are those with the entry's rows, at the entry's end.
+    /// the books are those with the entry's rows, at the entry's end. Each object that had a holder before the entry and has none after
+    /// it is written down, by number, and none that was not made.
     pub fn apply(
         &mut self,
         entry: &Entry,
         context: Context<'_>,
         moves: &Moves,
     ) -> Result<(), Memory>
-        ensures { OnOk result ((gained lost : List Move) → movings_of gained ≡ moves.now.gained → movings_of lost ≡ moves.now.lost → Applies (around context.entry.calls.now.tables context.entry.objects.now context.entry.carried.now (number_or_zero context.entry.running)) entry.now.deed gained lost (tally self.old.tables self.old.calls) (tally self.new.tables self.new.calls)) }
+        ensures applies { OnOk result ((gained lost : List Move) → movings_of gained ≡ moves.now.gained → movings_of lost ≡ moves.now.lost → Applies (around context.entry.calls.now.tables context.entry.objects.now context.entry.classes.now context.entry.carried.now (number_or_zero context.entry.running)) entry.now.deed gained lost (tally self.old.tables self.old.calls) (tally self.new.tables self.new.calls)) }
+        ensures touched { OnOk result ((gained lost : List Move) → movings_of gained ≡ moves.now.gained → movings_of lost ≡ moves.now.lost → Loses (around context.entry.calls.now.tables context.entry.objects.now context.entry.classes.now context.entry.carried.now (number_or_zero context.entry.running)) entry.now.deed gained lost (tally self.old.tables self.old.calls) (tally self.new.tables self.new.calls) self.new.touched) }
+        ensures rise { OnOk result (Rise 0 self.new.touched (length self.new.tables.objects)) }
     {
         self.keeping.change(entry, context, moves)
     }

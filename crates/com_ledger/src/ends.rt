@@ -4,6 +4,7 @@ ghost use Rattle.com_model.specs.declared.deeds.Deed.TheVariants as deed;
 ghost use Rattle.com_base.specs.declared.hresult.HResult.{HResult};
 ghost use Rattle.com_state.specs.Parts.{ObjectTables};
 ghost use Rattle.com_ledger.specs.Entries.{ClosesTables, GivesUp};
+ghost use Rattle.com_ledger.specs.Moving.{Climbs, TouchesCounted};
 
 use crate::rows::{disconnect, drop_packet, end_apartment, revoke};
 use com_base::{HResult, Memory};
@@ -16,7 +17,9 @@ pub fn end_packet(
     touched: &mut Vec<u32>,
     packet: Option<u32>,
 ) -> Result<(), Memory>
-    ensures { OnOk result ((objects : ObjectTables) (hr : HResult) → ClosesTables objects (deed.DropPacket packet hr) refs.old refs.new) }
+    ensures row { OnOk result ((objects : ObjectTables) (hr : HResult) → ClosesTables objects (deed.DropPacket packet hr) refs.old refs.new) }
+    ensures touched { OnOk result (TouchesCounted refs.old refs.new touched.old.items touched.new.items) }
+    ensures climbs { OnOk result (Climbs 0 touched.old.items → Climbs 0 touched.new.items) }
 {
     let Some(packet) = packet else {
         return Ok(());
@@ -33,7 +36,9 @@ pub fn end_cookie(
     cookie: &i64,
     hr: HResult,
 ) -> Result<(), Memory>
-    ensures { OnOk result ((objects : ObjectTables) → ClosesTables objects (deed.Revoke cookie.now hr) refs.old refs.new) }
+    ensures row { OnOk result ((objects : ObjectTables) → ClosesTables objects (deed.Revoke cookie.now hr) refs.old refs.new) }
+    ensures touched { OnOk result (TouchesCounted refs.old refs.new touched.old.items touched.new.items) }
+    ensures climbs { OnOk result (Climbs 0 touched.old.items → Climbs 0 touched.new.items) }
 {
     if hr.0 != 0 {
         return Ok(());
@@ -46,7 +51,9 @@ pub fn end_cookie(
 
 /// The row of a result's packet that is given up: the answer of its call is not its body's.
 pub fn give_up(refs: &mut Refs, touched: &mut Vec<u32>, number: u32) -> Result<(), Memory>
-    ensures { OnOk result (GivesUp number refs.old refs.new) }
+    ensures row { OnOk result (GivesUp number refs.old refs.new) }
+    ensures touched { OnOk result (TouchesCounted refs.old refs.new touched.old.items touched.new.items) }
+    ensures climbs { OnOk result (Climbs 0 touched.old.items → Climbs 0 touched.new.items) }
 {
     if number == 0 {
         return Ok(());
@@ -63,7 +70,9 @@ pub fn end_connection(
     object: Option<u32>,
     hr: HResult,
 ) -> Result<(), Memory>
-    ensures { OnOk result ((objects : ObjectTables) → ClosesTables objects (deed.Disconnect object hr) refs.old refs.new) }
+    ensures row { OnOk result ((objects : ObjectTables) → ClosesTables objects (deed.Disconnect object hr) refs.old refs.new) }
+    ensures touched { OnOk result (TouchesCounted refs.old refs.new touched.old.items touched.new.items) }
+    ensures climbs { OnOk result (Climbs 0 touched.old.items → Climbs 0 touched.new.items) }
 {
     let Some(object) = object else {
         return Ok(());
@@ -82,7 +91,9 @@ pub fn end_home(
     home: Option<u32>,
     count: u32,
 ) -> Result<(), Memory>
-    ensures { OnOk result (ClosesTables objects.now (deed.Uninit home count) refs.old refs.new) }
+    ensures row { OnOk result (ClosesTables objects.now (deed.Uninit home count) refs.old refs.new) }
+    ensures touched { OnOk result (TouchesCounted refs.old refs.new touched.old.items touched.new.items) }
+    ensures climbs { OnOk result (Climbs 0 touched.old.items → Climbs 0 touched.new.items) }
 {
     let Some(home) = home else {
         return Ok(());

@@ -5,9 +5,10 @@ ghost use Rattle.com_base.specs.declared.value.RefValue.{RefValue};
 ghost use Rattle.com_model.specs.declared.deeds.Deed.TheVariants as deed;
 ghost use Rattle.com_model.specs.Books.{back_rows};
 ghost use Rattle.com_moves.specs.declared.moves.Move.{Move};
-ghost use Rattle.com_ledger.specs.Books.{Gained};
+ghost use Rattle.com_ledger.specs.Books.{Gained, KeepsHeld};
 ghost use Rattle.com_ledger.specs.Calls.{number_of};
 ghost use Rattle.com_ledger.specs.Entries.{RowsOf, MakesOrNone};
+ghost use Rattle.com_ledger.specs.Moving.{HoldsMore};
 
 use crate::making::make;
 use crate::rows::{get, marshal, query, register, unmarshal, unproved};
@@ -40,7 +41,8 @@ pub fn enter_made(
     class: Asked,
     iface: Asked,
 ) -> Result<(), Memory>
-    ensures { OnOk result (MakesOrNone apartment object owner class iface refs.old refs.new brought.old.items brought.new.items) }
+    ensures row { OnOk result (MakesOrNone classes.now apartment object owner class iface refs.old refs.new brought.old.items brought.new.items) }
+    ensures more { OnOk result (KeepsHeld apartment refs.old refs.new) }
 {
     let Some(object) = object else {
         return Ok(());
@@ -67,7 +69,8 @@ pub fn enter_query(
     iface: Asked,
     hr: HResult,
 ) -> Result<(), Memory>
-    ensures { OnOk result (RowsOf apartment (deed.Query object iface hr) refs.old refs.new brought.old.items brought.new.items) }
+    ensures row { OnOk result (RowsOf apartment (deed.Query object iface hr) refs.old refs.new brought.old.items brought.new.items) }
+    ensures more { OnOk result (HoldsMore refs.old refs.new) }
 {
     let Some(object) = object else {
         return Ok(());
@@ -89,7 +92,8 @@ pub fn enter_unmarshal(
     apartment: u32,
     packet: Option<u32>,
 ) -> Result<(), Memory>
-    ensures { OnOk result ((held : Option RefValue) (n : ℕ) (hr : HResult) → RowsOf apartment (deed.Unmarshal packet held n hr) refs.old refs.new brought.old.items brought.new.items) }
+    ensures row { OnOk result ((held : Option RefValue) (n : ℕ) (hr : HResult) → RowsOf apartment (deed.Unmarshal packet held n hr) refs.old refs.new brought.old.items brought.new.items) }
+    ensures more { OnOk result (HoldsMore refs.old refs.new) }
 {
     match packet {
         None => Ok(()),
@@ -105,7 +109,8 @@ pub fn enter_marshal(
     mode: MarshalMode,
     held: Option<RefValue>,
 ) -> Result<(), Memory>
-    ensures { OnOk result ((n : ℕ) (hr : HResult) (bytes : Option (List ℕ)) (brought : List Move) → RowsOf apartment (deed.Marshal packet mode held n hr bytes) refs.old refs.new brought brought) }
+    ensures row { OnOk result ((n : ℕ) (hr : HResult) (bytes : Option (List ℕ)) (brought : List Move) → RowsOf apartment (deed.Marshal packet mode held n hr bytes) refs.old refs.new brought brought) }
+    ensures more { OnOk result (HoldsMore refs.old refs.new) }
 {
     let Some(_) = packet else {
         return Ok(());
@@ -122,7 +127,8 @@ pub fn enter_register(
     cookie: Option<u32>,
     held: Option<RefValue>,
 ) -> Result<(), Memory>
-    ensures { OnOk result ((a : ℕ) (hr : HResult) (brought : List Move) → RowsOf a (deed.Register cookie held hr) refs.old refs.new brought brought) }
+    ensures row { OnOk result ((a : ℕ) (hr : HResult) (brought : List Move) → RowsOf a (deed.Register cookie held hr) refs.old refs.new brought brought) }
+    ensures more { OnOk result (HoldsMore refs.old refs.new) }
 {
     let Some(_) = cookie else {
         return Ok(());
@@ -141,7 +147,8 @@ pub fn enter_get(
     cookie: &i64,
     held: Option<RefValue>,
 ) -> Result<(), Memory>
-    ensures { OnOk result ((n : ℕ) (hr : HResult) → RowsOf apartment (deed.Get cookie.now held n hr) refs.old refs.new brought.old.items brought.new.items) }
+    ensures row { OnOk result ((n : ℕ) (hr : HResult) → RowsOf apartment (deed.Get cookie.now held n hr) refs.old refs.new brought.old.items brought.new.items) }
+    ensures more { OnOk result (HoldsMore refs.old refs.new) }
 {
     match held {
         None => Ok(()),
@@ -156,7 +163,8 @@ pub fn enter_back(
     apartment: u32,
     number: u32,
 ) -> Result<(), Memory>
-    ensures { OnOk result (Gained apartment (back_rows apartment true (number_of number)) refs.old refs.new brought.old.items brought.new.items) }
+    ensures row { OnOk result (Gained apartment (back_rows apartment true (number_of number)) refs.old refs.new brought.old.items brought.new.items) }
+    ensures more { OnOk result (HoldsMore refs.old refs.new) }
 {
     if number == 0 {
         return Ok(());

@@ -22,6 +22,7 @@ ghost use Rattle.com_quiet.specs.Ends.{books_entered, connected};
 ghost use Rattle.com_refs.specs.Counts.{holders_of};
 ghost use Rattle.com_refs.specs.Ends.{ends, Totals};
 ghost use Rattle.com_ledger.specs.Books.{Held};
+ghost use Rattle.com_ledger.specs.Entries.{Applies, Around, StandsAround, tally};
 ghost use Rattle.com_ledger.specs.Moving.{plus, AllBelow, Touches};
 ghost use Rattle.com_ledger.specs.Ties.{AllTouched, AppliedAs, EndedAt, EntryEnds, IsNew, OwnersGrow, OwnersTie, Ties, holders_at, places_at};
 
@@ -80,6 +81,12 @@ pub fn entries_reach()
     ensures running { (s : Scenario) (st : State) (h : List Entry) (l : ℕ) (d : Deed) → Formed s → StandsFor s st h → next_of s st l ≡ Some d → number_or_zero (running_in s st l) < next_sta_in (after s st l d) }
     ensures enters { (s : Scenario) (st : State) (h : List Entry) (l c o a : ℕ) (t : Option ℕ) (vs : List Value) → Formed s → StandsFor s st h → next_of s st l ≡ Some (deed.Enter c o a t vs) → a < next_sta_in (after s st l (deed.Enter c o a t vs)) }
     ensures entered { (s : Scenario) (st : State) (h : List Entry) (l : ℕ) (d : Deed) (x : Option Action) (left : ℕ → Bool) (b : Books) (a : ℕ) (owned : ℕ → ℕ → Bool) → Formed s → StandsFor s st h → next_of s st l ≡ Some d → x ≡ (sight_of s st).act l → ((c : ℕ) → left c ≡ is_leave (ending_in st c)) → b ≡ books_in st → a ≡ number_or_zero (running_in s st l) → (makes d ≡ None → (o c : ℕ) → owned o c ≡ owns_in s (after s st l d) o c) → ((m : Making) → makes d ≡ Some m → owned m.object a ≡ owns_in s (after s st l d) m.object a) → connected d (named_in st) (kept b d (entered_rows owned b (rows s x left b a d))) ≡ books_entered s st (after s st l d) (record { lane = l; deed = d }) }
+{}
+
+/// Where a ledger is tied to the state before a lane's next entry, and the entry was applied to it beside
+/// what the state has, with the moves of the entry, it is tied to the state after the entry.
+pub fn applied_ties()
+    ensures { (s : Scenario) (st : State) (h : List Entry) (l : ℕ) (d : Deed) (g : Around) (gained lost : List Move) (w u : Held) → Formed s → StandsFor s st h → next_of s st l ≡ Some d → movings_of gained ≡ (moves_in s st (record { lane = l; deed = d })).gained → movings_of lost ≡ (moves_in s st (record { lane = l; deed = d })).lost → Ties s st w → StandsAround s st l d g → ((n : ℕ) (places : ℕ → ℕ → ℕ) → Counts n places u.tables → Totals n places u.tables) → Applies g d gained lost (tally w.tables w.calls) (tally u.tables u.calls) → Ties s (after s st l d) u }
 {}
 
 /// The owner of each object is the apartment that its making names: before the first entry (`first`), and

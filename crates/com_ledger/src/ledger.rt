@@ -1,6 +1,9 @@
 //! Who holds references, and the packets of each call.
-ghost use Rattle.std.specs.Prelude.{◌≡◌, ◌<◌, ◌↔◌, [], IsTrue};
+ghost use Rattle.std.specs.Prelude.{◌≡◌, ◌+◌, ◌<◌, ◌↔◌, ℕ, [], IsTrue, sum_by};
+ghost use Rattle.com_books.specs.Counting.{sum_below};
+ghost use Rattle.com_holders.specs.Tables.{books_of, direct_in};
 ghost use Rattle.com_refs.specs.Counts.{holders_of};
+ghost use Rattle.com_refs.specs.Numbers.{Within, in_cookie, in_normal, in_table};
 
 use crate::keeping::Keeping;
 use com_refs::Numbers;
@@ -53,8 +56,14 @@ impl Ledger {
         self.keeping.refs.is_held(object)
     }
 
-    /// The numbers of a report for an object.
-    pub fn counts(&self, object: u32) -> Numbers {
+    /// The numbers of a report for an object, over all apartments with a place and all interfaces of all sets.
+    pub fn counts(&self, object: u32) -> Numbers
+        ensures direct { result.direct ≡ direct_in self.now.tables object }
+        ensures proxies { (n m : ℕ) → Within n m self.now.tables → result.proxies ≡ sum_below n (λ a. sum_below m ((books_of self.now.tables).proxy a object)) }
+        ensures packets { result.packets ≡ sum_by (in_normal object) (books_of self.now.tables).packets }
+        ensures tables { (n m : ℕ) → Within n m self.now.tables → result.tables ≡ sum_by (in_table object) (books_of self.now.tables).packets + sum_by (in_cookie object) (books_of self.now.tables).cookies }
+        ensures stub { (n m : ℕ) → Within n m self.now.tables → result.stub ≡ sum_below m ((books_of self.now.tables).stub object) }
+    {
         self.keeping.refs.numbers(object)
     }
 }

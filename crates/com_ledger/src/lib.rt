@@ -28,6 +28,7 @@ pub use com_base::Memory;
 pub use com_refs::Numbers;
 pub use context::Context;
 pub use laws::{
-    entries_reach, entries_tie, holders_tie, losses_touched, new_ledger_ties, owners_tie,
+    applied_ties, entries_reach, entries_tie, holders_tie, losses_touched, new_ledger_ties,
+    owners_tie,
 };
 pub use ledger::Ledger;

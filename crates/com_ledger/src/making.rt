@@ -1,7 +1,9 @@
 //! The row of a new object.
-ghost use Rattle.std.specs.Prelude.{◌≡◌, ◌+◌, ◌<◌, ◌≤◌, ◌^◌, ◌++◌, ◌∷◌, [], true, IsTrue, OnOk, length};
+ghost use Rattle.std.specs.Prelude.{◌≡◌, ◌+◌, ◌<◌, ◌≤◌, ◌^◌, ◌++◌, ◌∷◌, [], true, IsTrue, OnOk, Some, length};
 ghost use Rattle.com_holders.specs.Steps.{among};
-ghost use Rattle.com_ledger.specs.Books.{Made, moved_to};
+ghost use Rattle.com_model.specs.Tables.{has_agile_model};
+ghost use Rattle.com_ledger.specs.Books.{KeepsHeld, Made, moved_to};
+ghost use Rattle.com_ledger.specs.Owners.{Grown};
 
 use crate::rows::{MOST_GIVEN, bring, unproved};
 use com_base::{Memory, RefValue};
@@ -48,6 +50,13 @@ fn can_make(refs: &Refs, set: &[u16], held: RefValue) -> bool
     set.len() <= 17 && is_among(set, held.iface)
 }
 
+// Whether every apartment owns the objects of the class.
+fn are_agile(class: &Class) -> bool
+    ensures { result ≡ has_agile_model (Some class.now) }
+{
+    is_agile(class.model)
+}
+
 /// An object is made, and the apartment has a place of it.
 pub fn make(
     refs: &mut Refs,
@@ -61,6 +70,8 @@ pub fn make(
 ) -> Result<(), Memory>
     ensures brought { OnOk result (brought.new.items ≡ brought.old.items ++ moved_to apartment held ∷ []) }
     ensures made { OnOk result (Made apartment held refs.old refs.new) }
+    ensures grown { OnOk result (Grown classes.now (Some (record { object = held.object; apartment = owner; class = class })) refs.old refs.new) }
+    ensures more { OnOk result (KeepsHeld apartment refs.old refs.new) }
 {
     let Some(class) = classes.class(class) else {
         return Err(unproved());
@@ -73,10 +84,11 @@ pub fn make(
     refs.made(
         held.object,
         owner,
-        is_agile(class.model),
+        are_agile(class),
         apartment,
         held.iface,
         set.as_slice(),
     )?;
+    refs.tells();
     bring(brought, apartment, held)
 }

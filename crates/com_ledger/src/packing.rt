@@ -6,6 +6,7 @@ ghost use Rattle.com_model.specs.Endings.{is_leave};
 ghost use Rattle.com_model.specs.Lists.{put, from_one};
 ghost use Rattle.com_ledger.specs.Books.{Gained, Marshalled, books_with, with_arguments, with_answer};
 ghost use Rattle.com_ledger.specs.Calls.{arguments_of};
+ghost use Rattle.com_ledger.specs.Moving.{HoldsMore};
 
 use crate::calls::{CallPackets, CallTable};
 use crate::rows::{MOST_GIVEN, marshal, unmarshal, unproved};
@@ -17,7 +18,8 @@ use com_refs::Refs;
 
 // A packet for each reference, in order.
 fn marshal_all(refs: &mut Refs, apartment: u32, carried: &[RefValue]) -> Result<(), Memory>
-    ensures { OnOk result (Marshalled (marshal_all apartment carried.now) refs.old refs.new) }
+    ensures rows { OnOk result (Marshalled (marshal_all apartment carried.now) refs.old refs.new) }
+    ensures more { OnOk result (HoldsMore refs.old refs.new) }
 {
     for held in carried {
         marshal(refs, apartment, *held, MarshalMode::Normal)?;
@@ -29,6 +31,7 @@ fn marshal_all(refs: &mut Refs, apartment: u32, carried: &[RefValue]) -> Result<
 fn pack(refs: &mut Refs, apartment: u32, carried: &[RefValue]) -> Result<(u32, u32), Memory>
     ensures fits { IfOk result (λ packed. packed.0 + packed.1 < 2 ^ 32) }
     ensures rows { OnOk result (Marshalled (marshal_all apartment carried.now) refs.old refs.new) }
+    ensures more { OnOk result (HoldsMore refs.old refs.new) }
     ensures first { IfOk result (λ packed. packed.0 ≡ length (books_of refs.old).packets + 1) }
     ensures count { IfOk result (λ packed. packed.1 ≡ length (books_of refs.new).packets - length (books_of refs.old).packets) }
 {
@@ -50,6 +53,7 @@ pub fn issue(
     carried: &[RefValue],
 ) -> Result<(), Memory>
     ensures rows { OnOk result (Marshalled (marshal_all apartment carried.now) refs.old refs.new) }
+    ensures more { OnOk result (HoldsMore refs.old refs.new) }
     ensures calls { OnOk result (length calls.new ≡ length calls.old + 1) }
     ensures books { OnOk result (books_with refs.new calls.new ≡ with_arguments call (books_with refs.old calls.old) (entered_rows (owns_of refs.old.objects) (books_with refs.old calls.old) (marshal_all apartment carried.now))) }
 {
@@ -72,6 +76,7 @@ pub fn reply(
     carried: &[RefValue],
 ) -> Result<(), Memory>
     ensures rows { OnOk result (Marshalled (marshal_all apartment carried.now) refs.old refs.new) }
+    ensures more { OnOk result (HoldsMore refs.old refs.new) }
     ensures calls { OnOk result (length calls.new ≡ length calls.old) }
     ensures books { OnOk result (books_with refs.new calls.new ≡ with_answer call (books_with refs.old calls.old) (entered_rows (owns_of refs.old.objects) (books_with refs.old calls.old) (marshal_all apartment carried.now))) }
 {
@@ -91,7 +96,8 @@ pub fn read_all(
     packets: CallPackets,
 ) -> Result<(), Memory>
     requires { packets.first + packets.count < 2 ^ 32 }
-    ensures { OnOk result (Gained apartment (map (λ p. Unmarshals apartment p) (arguments_of packets)) refs.old refs.new brought.old.items brought.new.items) }
+    ensures rows { OnOk result (Gained apartment (map (λ p. Unmarshals apartment p) (arguments_of packets)) refs.old refs.new brought.old.items brought.new.items) }
+    ensures more { OnOk result (HoldsMore refs.old refs.new) }
 {
     for place in 0..packets.count {
         unmarshal(refs, brought, apartment, packets.first + place)?;

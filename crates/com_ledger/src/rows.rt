@@ -7,6 +7,7 @@ ghost use Rattle.com_holders.specs.Tables.{offers, owns_of};
 ghost use Rattle.com_model.specs.Deeds.{cookie_number};
 ghost use Rattle.com_state.specs.Parts.{named_at};
 ghost use Rattle.com_ledger.specs.Books.{Rowed, Gained, Taken, Cut, moved_to};
+ghost use Rattle.com_ledger.specs.Moving.{Climbs, HoldsMore, Touches, TouchesCounted};
 
 use crate::touching::{touch, touch_if};
 use com_base::{MarshalMode, Memory, RefValue};
@@ -67,6 +68,7 @@ pub fn query(
     ensures places { OnOk result (OneMore refs.old refs.new apartment held.object (owns_of refs.old.objects held.object apartment)) }
     ensures brought { OnOk result (brought.new.items ≡ brought.old.items ++ moved_to apartment held ∷ []) }
     ensures gained { OnOk result (Gained apartment (Asks apartment held.object held.iface ∷ []) refs.old refs.new brought.old.items brought.new.items) }
+    ensures more { OnOk result (HoldsMore refs.old refs.new) }
 {
     if !is_few(refs) {
         return Err(unproved());
@@ -85,6 +87,7 @@ pub fn marshal(
     mode: MarshalMode,
 ) -> Result<(), Memory>
     ensures row { OnOk result (Rowed refs.old refs.new (Marshals apartment mode held.object held.iface)) }
+    ensures more { OnOk result (HoldsMore refs.old refs.new) }
     ensures places { OnOk result (SamePlaces refs.old refs.new) }
 {
     if !refs.connected(held.object) {
@@ -106,7 +109,8 @@ pub fn unmarshal(
     apartment: u32,
     number: u32,
 ) -> Result<(), Memory>
-    ensures { OnOk result (Gained apartment (Unmarshals apartment number ∷ []) refs.old refs.new brought.old.items brought.new.items) }
+    ensures row { OnOk result (Gained apartment (Unmarshals apartment number ∷ []) refs.old refs.new brought.old.items brought.new.items) }
+    ensures more { OnOk result (HoldsMore refs.old refs.new) }
 {
     if !is_few(refs) {
         return Err(unproved());
@@ -127,11 +131,17 @@ pub fn unmarshal(
 
 /// A packet ends; one that has ended stays so.
 pub fn drop_packet(refs: &mut Refs, touched: &mut Vec<u32>, number: u32) -> Result<(), Memory>
-    ensures { OnOk result (Taken (Drops number) refs.old refs.new) }
+    ensures row { OnOk result (Taken (Drops number) refs.old refs.new) }
+    ensures touched { OnOk result (TouchesCounted refs.old refs.new touched.old.items touched.new.items) }
+    ensures climbs { OnOk result (Climbs 0 touched.old.items → Climbs 0 touched.new.items) }
 {
     refs.rests();
+    refs.tells();
     match refs.drop_packet(number) {
-        Ok(lost) => touch_if(touched, lost),
+        Ok(lost) => {
+            refs.tells();
+            touch_if(touched, lost)
+        }
         Err(_) => Ok(()),
     }
 }
@@ -139,6 +149,7 @@ pub fn drop_packet(refs: &mut Refs, touched: &mut Vec<u32>, number: u32) -> Resu
 /// A cookie of a reference; what is not connected gets none.
 pub fn register(refs: &mut Refs, held: RefValue) -> Result<(), Memory>
     ensures row { OnOk result (Rowed refs.old refs.new (Registers held.object held.iface)) }
+    ensures more { OnOk result (HoldsMore refs.old refs.new) }
     ensures places { OnOk result (SamePlaces refs.old refs.new) }
 {
     if !refs.connected(held.object) {
@@ -161,7 +172,8 @@ pub fn get(
     cookie: i64,
     held: RefValue,
 ) -> Result<(), Memory>
-    ensures { OnOk result (Gained apartment (Takes apartment held.object held.iface ∷ []) refs.old refs.new brought.old.items brought.new.items) }
+    ensures row { OnOk result (Gained apartment (Takes apartment held.object held.iface ∷ []) refs.old refs.new brought.old.items brought.new.items) }
+    ensures more { OnOk result (HoldsMore refs.old refs.new) }
 {
     if !is_few(refs) {
         return Err(unproved());
@@ -177,20 +189,28 @@ pub fn get(
 
 /// A cookie ends; one that has ended stays so.
 pub fn revoke(refs: &mut Refs, touched: &mut Vec<u32>, cookie: i64) -> Result<(), Memory>
-    ensures { OnOk result (Taken (Revokes (cookie_number cookie)) refs.old refs.new) }
+    ensures row { OnOk result (Taken (Revokes (cookie_number cookie)) refs.old refs.new) }
+    ensures touched { OnOk result (TouchesCounted refs.old refs.new touched.old.items touched.new.items) }
+    ensures climbs { OnOk result (Climbs 0 touched.old.items → Climbs 0 touched.new.items) }
 {
     let _count = refs.cookies();
     refs.rests();
+    refs.tells();
     let number = cookie_number(cookie);
     match refs.revoke(number) {
-        Ok(lost) => touch_if(touched, lost),
+        Ok(lost) => {
+            refs.tells();
+            touch_if(touched, lost)
+        }
         Err(_) => Ok(()),
     }
 }
 
 /// An object is disconnected: only its direct places hold it then.
 pub fn disconnect(refs: &mut Refs, touched: &mut Vec<u32>, object: u32) -> Result<(), Memory>
-    ensures { OnOk result (Cut (λ x. x == object) refs.old refs.new) }
+    ensures cut { OnOk result (Cut (λ x. x == object) refs.old refs.new) }
+    ensures touched { OnOk result (Touches refs.old refs.new touched.old.items touched.new.items) }
+    ensures climbs { OnOk result (Climbs 0 touched.old.items → Climbs 0 touched.new.items) }
 {
     if !refs.connected(object) {
         return Ok(());
@@ -210,7 +230,9 @@ pub fn end_apartment(
     apartment: u32,
 ) -> Result<(), Memory>
     requires { 0 < apartment }
-    ensures { OnOk result (Cut (λ x. named_at objects.now x == apartment) refs.old refs.new) }
+    ensures cut { OnOk result (Cut (λ x. named_at objects.now x == apartment) refs.old refs.new) }
+    ensures touched { OnOk result (Touches refs.old refs.new touched.old.items touched.new.items) }
+    ensures climbs { OnOk result (Climbs 0 touched.old.items → Climbs 0 touched.new.items) }
 {
     for place in 0..objects.len() {
         if objects.owner(place + 1) == apartment {

@@ -2,7 +2,7 @@
 use Rattle.std.proofs.Common.{◌≡◌, ℕ, zero, suc, Bool, true, false, eqb, cond, not, ◌&&◌, ◌||◌, ◌+◌, ◌<◌, ◌≤◌, List, [], ◌∷◌, ◌++◌, length, refl, sym, ap, ◌∙◌, arith, eqb-true}
 use Rattle.std.proofs.lemmas.Bool.{false_from_ne_true, eqb-false}
 use Rattle.std.proofs.lemmas.Grind.{common_steps}
-use Rattle.std.specs.Prelude.{map, sum_by, Option, Some, None}
+use Rattle.std.specs.Prelude.{map, sum_by, Option, Some, None, slice_index_or}
 use Rattle.com_base.specs.declared.value.RefValue.{RefValue}
 use Rattle.com_packets.specs.declared.Packet as P
 use Rattle.com_proxy.specs.declared.ProxyRow.{ProxyRow}
@@ -10,7 +10,7 @@ use Rattle.com_slots.specs.Table.{held_in}
 use Rattle.com_stub.specs.StubRows.{is_connected}
 use Rattle.com_books.specs.Counting.{count_if}
 use Rattle.com_books.specs.Changes.{Books, held_outside, packet_holds, cookie_holds, changed, change, ToProxy, Same, Makes}
-use Rattle.com_holders.specs.Tables.{Tables, books_of, packet_read, cookie_read, owns_of, object_in, direct_in}
+use Rattle.com_holders.specs.Tables.{Tables, books_of, packet_read, cookie_read, owns_of, no_object, object_in, direct_in}
 use Rattle.com_holders.specs.Places.{OneMore, locals_of, has_row}
 use Rattle.com_holders.specs.Stands.{Known}
 use Rattle.com_holders.specs.Steps.{made_live}
@@ -133,3 +133,25 @@ here_live t o b e = live_connected t o (ap (λ (c : Books). c.live o) e ∙ grin
 pub same_owner : (os us : List ObjectRow) (r : ObjectRow) (x a : ℕ) → us ≡ os ++ r ∷ [] → x ≤ length os → owns_of us x a ≡ owns_of os x a
 unfolding owns_of
 same_owner os us r x a e h = let is : object_in us x ≡ object_in os x = ap (λ us. object_in us x) e ∙ object_before os r x h in rw is refl
+
+row_new : (os : List ObjectRow) (r : ObjectRow) (k : ℕ) → slice_index_or (os ++ r ∷ []) k no_object ≡ cond (eqb k (length os)) r (slice_index_or os k no_object)
+row_new [] r zero = refl
+row_new [] r (suc k) = grind (arith, common_steps)
+row_new (o ∷ os) r zero = grind (arith, common_steps)
+row_new (o ∷ os) r (suc k) = row_new os r k ∙ ap (λ (b : Bool). cond b r (slice_index_or os k no_object)) (grind (arith, common_steps))
+
+-- Who owns each object once one more is made.
+pub owner_new : (os us : List ObjectRow) (r : ObjectRow) (o x a : ℕ) → us ≡ os ++ r ∷ [] → o ≡ length os + 1 → owns_of us x a ≡ cond (eqb x o) (r.agile || eqb r.owner a) (owns_of os x a)
+unfolding owns_of
+owner_new os us r o zero a e n =
+    let other : eqb 0 o ≡ false = grind (arith, common_steps, n) in
+    ap (λ (b : Bool). cond b (r.agile || eqb r.owner a) (no_object.agile || eqb no_object.owner a)) (sym other)
+owner_new os us r o (suc k) a e n =
+    let same : eqb k (length os) ≡ eqb (suc k) o = grind (arith, common_steps, n) in
+    ap (λ (l : List ObjectRow). (slice_index_or l k no_object).agile || eqb (slice_index_or l k no_object).owner a) e
+    ∙ ap (λ (x : ObjectRow). x.agile || eqb x.owner a) (row_new os r k ∙ ap (λ (b : Bool). cond b r (slice_index_or os k no_object)) same)
+    ∙ split (eqb (suc k) o)
+  where
+    split : (b : Bool) → ((cond b r (slice_index_or os k no_object)).agile || eqb (cond b r (slice_index_or os k no_object)).owner a) ≡ cond b (r.agile || eqb r.owner a) ((slice_index_or os k no_object).agile || eqb (slice_index_or os k no_object).owner a)
+    split true = refl
+    split false = refl

@@ -338,6 +338,8 @@ impl Refs {
         requires few { self.old.issued + 1 < 2 ^ 28 }
         ensures row { OnOk result (books_of self.new ≡ changed (made_live object (books_of self.old)) (change (owns_of self.new.objects) (made_live object (books_of self.old)) (Makes apartment object iface))) }
         ensures owns { OnOk result ((x c : ℕ) → x ≤ length self.old.objects → owns_of self.new.objects x c ≡ owns_of self.old.objects x c) }
+        ensures whose { OnOk result ((x c : ℕ) → owns_of self.new.objects x c ≡ (if x == object then agile || owner == c else owns_of self.old.objects x c)) }
+        ensures made { OnOk result (length self.new.objects ≡ length self.old.objects + 1) }
         ensures direct { OnOk result ((x : ℕ) → direct_in self.new x ≡ direct_in self.old x + count_if (owns_of self.new.objects object apartment && x == object)) }
         ensures elsewhere { OnOk result ((c x : ℕ) → places_in self.new c x ≡ places_in self.old c x + count_if (not (owns_of self.new.objects object apartment) && (c == apartment && x == object))) }
         ensures offers { OnOk result ((x j : ℕ) → offers self.new x j ≡ (offers self.old x j || (x == object && among j set.now))) }
@@ -367,6 +369,8 @@ impl Refs {
         requires room { 2 ≤ self.old.spare }
         ensures row { books_of self.new ≡ changed (made_live object (books_of self.old)) (change (owns_of self.new.objects) (made_live object (books_of self.old)) (Makes apartment object iface)) }
         ensures owns { (x c : ℕ) → x ≤ length self.old.objects → owns_of self.new.objects x c ≡ owns_of self.old.objects x c }
+        ensures whose { (x c : ℕ) → owns_of self.new.objects x c ≡ (if x == object then agile || owner == c else owns_of self.old.objects x c) }
+        ensures made { length self.new.objects ≡ length self.old.objects + 1 }
         ensures direct { (x : ℕ) → direct_in self.new x ≡ direct_in self.old x + count_if (owns_of self.new.objects object apartment && x == object) }
         ensures elsewhere { (c x : ℕ) → places_in self.new c x ≡ places_in self.old c x + count_if (not (owns_of self.new.objects object apartment) && (c == apartment && x == object)) }
         ensures offers { (x j : ℕ) → offers self.new x j ≡ (offers self.old x j || (x == object && among j set.now)) }

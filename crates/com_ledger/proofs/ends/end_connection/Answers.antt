@@ -7,8 +7,8 @@ use Rattle.com_ledger.specs.Entries.{Closed, entered, tally}
 use Rattle.com_ledger.proofs.Closing.{closed_disconnect}
 use Rattle.com_ledger.proofs.ends.end_connection.Goals as goal
 
-pub returns : goal.returns
-returns c = on_ok_weaker c.disconnect.result (λ f. λ objects s x g owned calls same.
+pub returns-clause-row : goal.returns-clause-row
+returns-clause-row c = on_ok_weaker c.disconnect.result (λ f. λ objects s x g owned calls same.
     subst (λ (o : Option ℕ). Closed (entered s x g owned (deed.Disconnect o c.args.hr) (books_with c.args.refs.now calls)) (tally c.args.refs.now calls) (tally c.disconnect.new.refs calls)) (sym c.in-Some.is)
     (closed_disconnect s x g owned calls c.args.refs.now c.disconnect.new.refs c.in-Some.object c.args.hr c.if-hr-ne0.false f))
-    c.disconnect.ensures
+    c.disconnect.ensures.cut

@@ -12,8 +12,8 @@ use Rattle.com_ledger.proofs.ends.end_home.Goals as goal
 is-sta : (a : ℕ) → 2 ≤ a → nat_le 2 a ≡ true
 is-sta a h = grind (arith, nat_tests, h)
 
-pub returns : goal.returns
-returns c =
+pub returns-clause-row : goal.returns-clause-row
+returns-clause-row c =
     let t = c.args.refs.now in
     let u = c.end_apartment.new.refs in
     let a = c.in-Some.home in
@@ -23,4 +23,4 @@ returns c =
     subst (λ (n : ℕ). Closed (entered s x g owned (deed.Uninit c.args.home n) (books_with t calls)) (tally t calls) (tally u calls)) (sym zero-left)
     (subst (λ (o : Option ℕ). Closed (entered s x g owned (deed.Uninit o 0) (books_with t calls)) (tally t calls) (tally u calls)) (sym c.in-Some.is)
     (closed_uninit s x g owned calls t u a (is-sta a sta) (subst (λ (os : ObjectTables). Cut (λ y. eqb (named_at os y) a) t u) (sym same) f))))
-    c.end_apartment.ensures
+    c.end_apartment.ensures.cut

@@ -5,16 +5,16 @@ use Rattle.com_ledger.proofs.Losing.{on_ok_both}
 use Rattle.com_ledger.proofs.Rowless.{no_some, gained_as, gained_nil, marshal_none, marshal_unheld, marshal_one}
 use Rattle.com_ledger.proofs.entries.enter_marshal.Goals as goal
 
-pub returns-in_default : goal.returns-in_default
-returns-in_default c = λ n hr bytes brought s x left b.
+pub returns-in_default-clause-row : goal.returns-in_default-clause-row
+returns-in_default-clause-row c = λ n hr bytes brought s x left b.
     gained_nil c.args.apartment _ c.args.refs.now brought (marshal_none s x left b c.args.apartment c.args.packet c.args.mode c.args.held n hr bytes (no_some c.args.packet c.in_default.not-Some))
 
-pub returns-in-None : goal.returns-in-None
-returns-in-None c = λ n hr bytes brought s x left b.
+pub returns-in-None-clause-row : goal.returns-in-None-clause-row
+returns-in-None-clause-row c = λ n hr bytes brought s x left b.
     gained_nil c.args.apartment _ c.args.refs.now brought (marshal_unheld s x left b c.args.apartment c.args.packet c.args.mode c.args.held n hr bytes c.in-None.is)
 
-pub returns-in-Some-held : goal.returns-in-Some-held
-returns-in-Some-held c = on_ok_both c.marshal.result (λ row same. λ n hr bytes brought s x left b.
+pub returns-in-Some-held-clause-row : goal.returns-in-Some-held-clause-row
+returns-in-Some-held-clause-row c = on_ok_both c.marshal.result (λ row same. λ n hr bytes brought s x left b.
     gained_as c.args.apartment _ _ c.args.refs.now c.marshal.new.refs brought brought
     (marshal_one s x left b c.args.apartment c.args.packet c.args.mode c.args.held n hr bytes _ c.in-Some-held.held c.in-Some.is c.in-Some-held.is)
     (gained_same c.args.apartment (Marshals c.args.apartment c.args.mode c.in-Some-held.held.object c.in-Some-held.held.iface) c.args.refs.now c.marshal.new.refs brought brought same row refl))

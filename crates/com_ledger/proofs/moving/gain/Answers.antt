@@ -7,3 +7,6 @@ returns-clause-places c = λ n places below counts. gained n places _ _ c.args.m
 
 pub returns-clause-more : goal.returns-clause-more
 returns-clause-more c = λ o. more-held _ _ _ _ _ o c.in_ok-share.ensures.places c.share.ensures.books
+
+pub returns-clause-objects : goal.returns-clause-objects
+returns-clause-objects c = (c.in_ok-share.ensures.places.made, c.in_ok-share.ensures.places.owns)

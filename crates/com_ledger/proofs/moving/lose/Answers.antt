@@ -22,3 +22,6 @@ returns-clause-touched c = λ n later below counts.
     (others-held n before later _ _ _ _ _ c.release-lost.ensures.places was now (c.rests.ensures n before (c.tells.ensures.tells n before counts) was)
     (c.release-lost.ensures.books n later below (c.tells-2.ensures.tells n later less) now))
     c.release-lost.ensures.lost.1 c.in_ok-touch_where.ensures.members
+
+pub returns-clause-objects : goal.returns-clause-objects
+returns-clause-objects c = (c.release-lost.ensures.places.made, c.release-lost.ensures.places.owns)

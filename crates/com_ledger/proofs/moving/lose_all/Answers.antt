@@ -1,5 +1,7 @@
+use Rattle.std.proofs.Common.{refl}
 use Rattle.com_moves.specs.declared.moves.Move.{Move}
 use Rattle.com_ledger.proofs.Unheld.{touched-none, touched-next}
+use Rattle.com_ledger.proofs.Owning.{owned_then}
 use Rattle.com_ledger.proofs.Placed.{ended_none, ended_next, ended_all, drop_none}
 use Rattle.com_ledger.proofs.moving.lose_all.Goals as goal
 
@@ -8,6 +10,7 @@ no_move = record { apartment = 0; reference = record { object = 0; iface = 0 } }
 
 pub loop-moved-init : goal.loop-moved-init
 loop-moved-init c = record {
+  objects = (refl, λ x a. refl);
   ended = ended_none c.args.lost.now c.args.refs.now c.tells.ensures.tells c.tells.ensures.totals c.rests.ensures;
   touched = touched-none c.args.lost.now c.args.refs.now c.args.touched.now.items;
   climbs = λ m. m;
@@ -15,6 +18,7 @@ loop-moved-init c = record {
 
 pub loop-moved-preserved : goal.loop-moved-preserved
 loop-moved-preserved c = record {
+  objects = owned_then c.args.refs.now c.loop-moved.refs c.lose.new.refs c.loop-moved.invariant.objects c.in_ok-lose.ensures.objects;
   ended = ended_next c.args.lost.now c.loop-moved.moved-index no_move
       c.args.refs.now c.loop-moved.refs c.lose.new.refs c.loop-moved-test.true c.loop-moved.invariant.ended c.in_ok-lose.ensures.ended;
   touched = touched-next c.args.lost.now c.loop-moved.moved-index no_move
@@ -22,6 +26,9 @@ loop-moved-preserved c = record {
       c.loop-moved-test.true c.loop-moved.invariant.ended c.loop-moved.invariant.touched c.in_ok-lose.ensures.touched;
   climbs = λ m. c.in_ok-lose.ensures.climbs (c.loop-moved.invariant.climbs m);
 }
+
+pub returns-clause-objects : goal.returns-clause-objects
+returns-clause-objects c = c.loop-moved.invariant.objects
 
 pub returns-clause-ended : goal.returns-clause-ended
 returns-clause-ended c = ended_all c.args.lost.now c.loop-moved.moved-index c.args.refs.now c.loop-moved.refs (drop_none c.args.lost.now c.loop-moved.moved-index c.loop-moved-test.false) c.loop-moved.invariant.ended

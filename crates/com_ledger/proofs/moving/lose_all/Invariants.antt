@@ -1,10 +1,12 @@
 use Rattle.com_ledger.specs.Moving.{Climbs}
+use Rattle.com_ledger.specs.Owners.{AsOwned}
 use Rattle.com_ledger.proofs.Unheld.{TouchedSome}
 use Rattle.com_ledger.proofs.Placed.{EndedSome}
 use Rattle.com_ledger.proofs.moving.lose_all.Given as goal
 
 abbrev pub invariant-loop-moved : goal.invariant-loop-moved
 invariant-loop-moved l = record {
+  objects : AsOwned l.initial.refs l.refs;
   ended : EndedSome l.lost l.moved-index l.initial.refs l.refs;
   touched : TouchedSome l.lost l.initial.refs l.refs l.initial.touched.items l.touched.items;
   climbs : Climbs 0 l.initial.touched.items → Climbs 0 l.touched.items;

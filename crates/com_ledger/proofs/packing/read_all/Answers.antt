@@ -5,13 +5,18 @@ use Rattle.com_ledger.proofs.Packed.{read_rows, read_none, read_next}
 use Rattle.com_ledger.proofs.packing.read_all.Goals as goal
 
 pub loop-place-init : goal.loop-place-init
-loop-place-init c = read_none c.args.apartment c.args.packets.first c.args.refs.now c.args.brought.now.items
+loop-place-init c = record { rows = read_none c.args.apartment c.args.packets.first c.args.refs.now c.args.brought.now.items; more = λ o. omega arith }
 
 pub loop-place-preserved : goal.loop-place-preserved
-loop-place-preserved c =
-    read_next c.args.apartment c.args.packets.first c.loop-place.place c.args.refs.now c.loop-place.refs c.unmarshal.new.refs _ _ _ c.loop-place.invariant c.in_ok-unmarshal.ensures
+loop-place-preserved c = record {
+  rows = read_next c.args.apartment c.args.packets.first c.loop-place.place c.args.refs.now c.loop-place.refs c.unmarshal.new.refs _ _ _ c.loop-place.invariant.rows c.in_ok-unmarshal.ensures.row;
+  more = λ o. omega (arith, c.loop-place.invariant.more o, c.in_ok-unmarshal.ensures.more o);
+}
 
-pub returns : goal.returns
-returns c =
+pub returns-clause-rows : goal.returns-clause-rows
+returns-clause-rows c =
     let all : c.loop-place.place ≡ c.args.packets.count = omega arith in
-    subst (λ (n : ℕ). Gained c.args.apartment (read_rows c.args.apartment (numbers_from c.args.packets.first n)) c.args.refs.now c.loop-place.refs c.args.brought.now.items c.loop-place.brought.items) all c.loop-place.invariant
+    subst (λ (n : ℕ). Gained c.args.apartment (read_rows c.args.apartment (numbers_from c.args.packets.first n)) c.args.refs.now c.loop-place.refs c.args.brought.now.items c.loop-place.brought.items) all c.loop-place.invariant.rows
+
+pub returns-clause-more : goal.returns-clause-more
+returns-clause-more c = c.loop-place.invariant.more

@@ -1,7 +1,12 @@
 use Rattle.std.proofs.Common.{nat_le, ◌&&◌, eqb}
 use Rattle.com_state.specs.Parts.{named_at}
 use Rattle.com_ledger.specs.Books.{Cut}
+use Rattle.com_ledger.specs.Moving.{Climbs, Touches}
 use Rattle.com_ledger.proofs.rows.end_apartment.Given as goal
 
 abbrev pub invariant-loop-place : goal.invariant-loop-place
-invariant-loop-place l = Cut (λ x. nat_le x l.place && eqb (named_at l.objects x) l.apartment) l.initial.refs l.refs
+invariant-loop-place l = record {
+  cut : Cut (λ x. nat_le x l.place && eqb (named_at l.objects x) l.apartment) l.initial.refs l.refs;
+  touched : Touches l.initial.refs l.refs l.initial.touched.items l.touched.items;
+  climbs : Climbs 0 l.initial.touched.items → Climbs 0 l.touched.items;
+}

@@ -5,6 +5,8 @@ use Rattle.com_base.specs.declared.value.RefValue.{RefValue}
 use Rattle.com_books.specs.Changes.{Takes}
 use Rattle.com_ledger.specs.Books.{Gained}
 use Rattle.com_ledger.proofs.Gaining.{gained_one}
+use Rattle.com_ledger.proofs.Losing.{on_ok}
+use Rattle.com_ledger.proofs.Touched.{took-more}
 use Rattle.com_ledger.proofs.rows.get.Goals as goal
 
 is-this : (found held : RefValue) (other : Bool) → other ≡ not (eqb found.object held.object && eqb found.iface held.iface) → other ≡ false → found ≡ held
@@ -14,8 +16,8 @@ is-this found held other e f =
     let ei : found.iface ≡ held.iface = eqb-true found.iface held.iface (grind (arith, common_steps, both)) in
     ap (λ o. record { object = o; iface = found.iface }) eo ∙ ap (λ i. record { object = held.object; iface = i }) ei
 
-pub returns : goal.returns
-returns c =
+pub returns-clause-row : goal.returns-clause-row
+returns-clause-row c =
     let a = c.args.apartment in
     let found : RefValue = c.in-Ok.found in
     let same : found ≡ c.args.held = is-this found c.args.held c.ne.result c.ne.ensures c.if-ne.false in
@@ -23,3 +25,7 @@ returns c =
     (λ w. subst (λ (r : RefValue). Gained a (Takes a r.object r.iface ∷ []) c.args.refs.now c.get.new.self c.args.brought.now.items c.bring.new.brought.items) same
     (gained_one a (Takes a found.object found.iface) c.args.refs.now c.get.new.self found c.args.brought.now.items c.bring.new.brought.items c.in-Ok.ensures.places c.in-Ok.ensures.row w))
     c.bring.ensures
+
+pub returns-clause-more : goal.returns-clause-more
+returns-clause-more c = on_ok c.bring.result
+    (λ x. took-more c.args.refs.now c.get.new.self c.args.apartment c.in-Ok.found.object c.in-Ok.found.iface _ c.in-Ok.ensures.row c.in-Ok.ensures.places x)

@@ -1,6 +1,8 @@
 use Rattle.std.proofs.lemmas.Result.{on_ok_weaker}
 use Rattle.com_books.specs.Changes.{Asks}
 use Rattle.com_ledger.proofs.Gaining.{gained_one}
+use Rattle.com_ledger.proofs.Losing.{on_ok}
+use Rattle.com_ledger.proofs.Touched.{asked-more}
 use Rattle.com_ledger.proofs.rows.query.Goals as goal
 
 pub returns-in-Ok-clause-gained : goal.returns-in-Ok-clause-gained
@@ -8,3 +10,7 @@ returns-in-Ok-clause-gained c =
     on_ok_weaker c.bring.result
     (gained_one c.args.apartment (Asks c.args.apartment c.args.held.object c.args.held.iface) c.args.refs.now c.query.new.self c.args.held _ _ c.in-Ok.ensures.places c.in-Ok.ensures.row)
     c.bring.ensures
+
+pub returns-in-Ok-clause-more : goal.returns-in-Ok-clause-more
+returns-in-Ok-clause-more c = on_ok c.bring.result
+    (λ x. asked-more c.args.refs.now c.query.new.self c.args.apartment c.args.held.object c.args.held.iface _ c.in-Ok.ensures.row c.in-Ok.ensures.places x)

@@ -8,7 +8,7 @@ use Rattle.com_holders.specs.Tables.{owns_of, books_of, object_in, direct_in}
 use Rattle.com_holders.proofs.Enrolls.{direct_new}
 use Rattle.com_refs.specs.Counts.{hold_more}
 use Rattle.com_refs.proofs.Counteds.{more_length}
-use Rattle.com_refs.proofs.Makings.{made_but, made_counted, here_live, same_owner}
+use Rattle.com_refs.proofs.Makings.{made_but, made_counted, here_live, owner_new, same_owner}
 use Rattle.com_refs.proofs.Refs.hold_made.Goals as goal
 
 pub place-requires-clause-live : goal.place-requires-clause-live
@@ -69,3 +69,15 @@ returns-clause-offers c =
     let new : c.args.object ≡ length t.objects + 1 = rw (← c.self.view_is) at c.requires.new in
     λ x j. rw (← c.self.view_is)
     (c.place.ensures.offers x j ∙ c.add_object.ensures.offers x j ∙ ap (λ k. has_counter t.counters x j || (eqb x k && among j c.args.set.now)) (sym new))
+
+pub returns-clause-whose : goal.returns-clause-whose
+returns-clause-whose c =
+    let t = c.self.inside.holders in
+    let new : c.args.object ≡ length t.objects + 1 = rw (← c.self.view_is) at c.requires.new in
+    λ x d. rw (← c.self.view_is) (c.place.ensures.places.owns x d ∙ owner_new t.objects c.add_object.new.self.objects _ c.args.object x d c.add_object.ensures.objects new)
+
+pub returns-clause-made : goal.returns-clause-made
+returns-clause-made c =
+    let t = c.self.inside.holders in
+    let len : length c.add_object.new.self.objects ≡ length t.objects + 1 = ap (λ os. length os) c.add_object.ensures.objects ∙ grind (arith, common_steps) in
+    rw (← c.self.view_is) (c.place.ensures.places.made ∙ len)

@@ -1,4 +1,4 @@
-use Rattle.std.proofs.Common.{◌≡◌, eqb, not, ◌&&◌, ◌||◌, ◌+◌, ap, ◌∙◌, subst, length, ◌≤◌}
+use Rattle.std.proofs.Common.{◌≡◌, cond, eqb, not, ◌&&◌, ◌||◌, ◌+◌, ap, ◌∙◌, subst, length, ◌≤◌}
 use Rattle.com_stub.specs.CounterRows.{has_counter}
 use Rattle.com_books.specs.Counting.{count_if}
 use Rattle.com_books.specs.Changes.{Books, changed, change, Makes}
@@ -28,3 +28,10 @@ returns-clause-elsewhere c = λ d x. c.hold_made.ensures.elsewhere d x
 pub returns-clause-offers : goal.returns-clause-offers
 returns-clause-offers c = λ x j. c.hold_made.ensures.offers x j
     ∙ ap (λ cs. has_counter cs x j || (eqb x c.args.object && among j c.args.set.now)) (ap (λ (u : Tables). u.counters) c.reserve.ensures.same)
+
+pub returns-clause-whose : goal.returns-clause-whose
+returns-clause-whose c = λ x d. c.hold_made.ensures.whose x d
+    ∙ ap (λ os. cond (eqb x c.args.object) (c.args.agile || eqb c.args.owner d) (owns_of os x d)) (ap (λ (u : Tables). u.objects) c.reserve.ensures.same)
+
+pub returns-clause-made : goal.returns-clause-made
+returns-clause-made c = c.hold_made.ensures.made ∙ ap (λ os. length os + 1) (ap (λ (u : Tables). u.objects) c.reserve.ensures.same)

@@ -8,37 +8,37 @@ use Rattle.com_ledger.proofs.Giving.{given_out, given_leave, given_enter, gives_
 use Rattle.com_ledger.proofs.Losing.{on_ok_three}
 use Rattle.com_ledger.proofs.keeping.Keeping.enter_call.Goals as goal
 
-pub returns-in-Out : goal.returns-in-Out
-returns-in-Out c = on_ok_three c.issue.result (λ packed books many. λ other.
-    subst (λ (d : Deed). Gives (around c.args.context.calls.now.tables c.args.context.objects.now c.args.context.carried.now c.args.apartment) d (tally c.args.self.now.refs c.args.self.now.calls) c.args.self.now.brought.items (tally c.issue.new.refs c.issue.new.calls) c.args.self.now.brought.items) (sym c.in-Out.is)
-    (λ s x carries. given_out s x (around c.args.context.calls.now.tables c.args.context.objects.now c.args.context.carried.now c.args.apartment) c.in-Out.call c.in-Out.object c.in-Out.iface c.in-Out.method c.in-Out.route c.in-Out.cause c.in-Out.bytes c.args.self.now.refs c.issue.new.refs c.args.self.now.calls c.issue.new.calls c.args.self.now.brought.items c.carried_in-carried.result.now
+pub returns-in-Out-clause-gives : goal.returns-in-Out-clause-gives
+returns-in-Out-clause-gives c = on_ok_three c.issue.result (λ packed books many. λ other.
+    subst (λ (d : Deed). Gives (around c.args.context.calls.now.tables c.args.context.objects.now c.args.context.classes.now c.args.context.carried.now c.args.apartment) d (tally c.args.self.now.refs c.args.self.now.calls) c.args.self.now.brought.items (tally c.issue.new.refs c.issue.new.calls) c.args.self.now.brought.items) (sym c.in-Out.is)
+    (λ s x carries. given_out s x (around c.args.context.calls.now.tables c.args.context.objects.now c.args.context.classes.now c.args.context.carried.now c.args.apartment) c.in-Out.call c.in-Out.object c.in-Out.iface c.in-Out.method c.in-Out.route c.in-Out.cause c.in-Out.bytes c.args.self.now.refs c.issue.new.refs c.args.self.now.calls c.issue.new.calls c.args.self.now.brought.items c.carried_in-carried.result.now
     carries (c.carried_in-carried.ensures ∙ ap (λ (w : Bool). cond w c.args.context.carried.now []) c.is_some.ensures) packed books many))
     c.issue.ensures.rows c.issue.ensures.books c.issue.ensures.calls
 
-pub returns-in-Enter : goal.returns-in-Enter
-returns-in-Enter c = on_ok_weaker c.read_all.result (λ f. λ other.
-    subst (λ (d : Deed). Gives (around c.args.context.calls.now.tables c.args.context.objects.now c.args.context.carried.now c.args.apartment) d (tally c.args.self.now.refs c.args.self.now.calls) c.args.self.now.brought.items (tally c.read_all.new.refs c.args.self.now.calls) c.read_all.new.brought.items) (sym c.in-Enter.is)
-    (λ s x carries. given_enter s x (around c.args.context.calls.now.tables c.args.context.objects.now c.args.context.carried.now c.args.apartment) c.in-Enter.call c.in-Enter.object c.in-Enter.apartment c.in-Enter.call_type c.in-Enter.values c.args.self.now.refs c.read_all.new.refs c.args.self.now.calls c.get-packets.result c.args.self.now.brought.items c.read_all.new.brought.items c.get-packets.ensures.row f))
-    c.read_all.ensures
+pub returns-in-Enter-clause-gives : goal.returns-in-Enter-clause-gives
+returns-in-Enter-clause-gives c = on_ok_weaker c.read_all.result (λ f. λ other.
+    subst (λ (d : Deed). Gives (around c.args.context.calls.now.tables c.args.context.objects.now c.args.context.classes.now c.args.context.carried.now c.args.apartment) d (tally c.args.self.now.refs c.args.self.now.calls) c.args.self.now.brought.items (tally c.read_all.new.refs c.args.self.now.calls) c.read_all.new.brought.items) (sym c.in-Enter.is)
+    (λ s x carries. given_enter s x (around c.args.context.calls.now.tables c.args.context.objects.now c.args.context.classes.now c.args.context.carried.now c.args.apartment) c.in-Enter.call c.in-Enter.object c.in-Enter.apartment c.in-Enter.call_type c.in-Enter.values c.args.self.now.refs c.read_all.new.refs c.args.self.now.calls c.get-packets.result c.args.self.now.brought.items c.read_all.new.brought.items c.get-packets.ensures.row f))
+    c.read_all.ensures.rows
 
-pub returns-in-Leave : goal.returns-in-Leave
-returns-in-Leave c = on_ok_three c.reply.result (λ packed books many. λ other.
-    subst (λ (d : Deed). Gives (around c.args.context.calls.now.tables c.args.context.objects.now c.args.context.carried.now c.args.apartment) d (tally c.args.self.now.refs c.args.self.now.calls) c.args.self.now.brought.items (tally c.reply.new.refs c.reply.new.calls) c.args.self.now.brought.items) (sym c.in-Leave.is)
-    (λ s x carries. given_leave s x (around c.args.context.calls.now.tables c.args.context.objects.now c.args.context.carried.now c.args.apartment) c.in-Leave.call c.in-Leave.hr c.in-Leave.value c.in-Leave.bytes c.args.self.now.refs c.reply.new.refs c.args.self.now.calls c.reply.new.calls c.args.self.now.brought.items c.carried_in-carried-in-Leave.result.now
+pub returns-in-Leave-clause-gives : goal.returns-in-Leave-clause-gives
+returns-in-Leave-clause-gives c = on_ok_three c.reply.result (λ packed books many. λ other.
+    subst (λ (d : Deed). Gives (around c.args.context.calls.now.tables c.args.context.objects.now c.args.context.classes.now c.args.context.carried.now c.args.apartment) d (tally c.args.self.now.refs c.args.self.now.calls) c.args.self.now.brought.items (tally c.reply.new.refs c.reply.new.calls) c.args.self.now.brought.items) (sym c.in-Leave.is)
+    (λ s x carries. given_leave s x (around c.args.context.calls.now.tables c.args.context.objects.now c.args.context.classes.now c.args.context.carried.now c.args.apartment) c.in-Leave.call c.in-Leave.hr c.in-Leave.value c.in-Leave.bytes c.args.self.now.refs c.reply.new.refs c.args.self.now.calls c.reply.new.calls c.args.self.now.brought.items c.carried_in-carried-in-Leave.result.now
     carries (c.carried_in-carried-in-Leave.ensures ∙ ap (λ (w : Bool). cond w c.args.context.carried.now []) c.is_some-in-Leave.ensures) packed books many))
     c.reply.ensures.rows c.reply.ensures.books c.reply.ensures.calls
 
-pub returns-then-not-is_left : goal.returns-then-not-is_left
-returns-then-not-is_left c = λ other.
-    subst (λ (d : Deed). Gives (around c.args.context.calls.now.tables c.args.context.objects.now c.args.context.carried.now c.args.apartment) d (tally c.args.self.now.refs c.args.self.now.calls) c.args.self.now.brought.items (tally c.args.self.now.refs c.args.self.now.calls) c.args.self.now.brought.items) (sym c.in-Back.is)
-    (gives_later (around c.args.context.calls.now.tables c.args.context.objects.now c.args.context.carried.now c.args.apartment) (deed.Back c.in-Back.call c.in-Back.hr c.in-Back.value) c.args.self.now.refs c.args.self.now.calls c.args.self.now.brought.items (ap (λ (w : Bool). not w) (sym c.is_left.ensures ∙ c.if-not-is_left.true)) (λ l. refl))
+pub returns-then-not-is_left-clause-gives : goal.returns-then-not-is_left-clause-gives
+returns-then-not-is_left-clause-gives c = λ other.
+    subst (λ (d : Deed). Gives (around c.args.context.calls.now.tables c.args.context.objects.now c.args.context.classes.now c.args.context.carried.now c.args.apartment) d (tally c.args.self.now.refs c.args.self.now.calls) c.args.self.now.brought.items (tally c.args.self.now.refs c.args.self.now.calls) c.args.self.now.brought.items) (sym c.in-Back.is)
+    (gives_later (around c.args.context.calls.now.tables c.args.context.objects.now c.args.context.classes.now c.args.context.carried.now c.args.apartment) (deed.Back c.in-Back.call c.in-Back.hr c.in-Back.value) c.args.self.now.refs c.args.self.now.calls c.args.self.now.brought.items (ap (λ (w : Bool). not w) (sym c.is_left.ensures ∙ c.if-not-is_left.true)) (λ l. refl))
 
-pub returns-else-not-is_left : goal.returns-else-not-is_left
-returns-else-not-is_left c = on_ok_weaker c.enter_back.result (λ f. λ other.
-    subst (λ (d : Deed). Gives (around c.args.context.calls.now.tables c.args.context.objects.now c.args.context.carried.now c.args.apartment) d (tally c.args.self.now.refs c.args.self.now.calls) c.args.self.now.brought.items (tally c.enter_back.new.refs c.args.self.now.calls) c.enter_back.new.brought.items) (sym c.in-Back.is)
-    (gives_back (around c.args.context.calls.now.tables c.args.context.objects.now c.args.context.carried.now c.args.apartment) c.in-Back.call c.in-Back.hr c.in-Back.value c.args.self.now.refs c.enter_back.new.refs c.args.self.now.calls c.get-number.result.result c.args.self.now.brought.items c.enter_back.new.brought.items
+pub returns-else-not-is_left-clause-gives : goal.returns-else-not-is_left-clause-gives
+returns-else-not-is_left-clause-gives c = on_ok_weaker c.enter_back.result (λ f. λ other.
+    subst (λ (d : Deed). Gives (around c.args.context.calls.now.tables c.args.context.objects.now c.args.context.classes.now c.args.context.carried.now c.args.apartment) d (tally c.args.self.now.refs c.args.self.now.calls) c.args.self.now.brought.items (tally c.enter_back.new.refs c.args.self.now.calls) c.enter_back.new.brought.items) (sym c.in-Back.is)
+    (gives_back (around c.args.context.calls.now.tables c.args.context.objects.now c.args.context.classes.now c.args.context.carried.now c.args.apartment) c.in-Back.call c.in-Back.hr c.in-Back.value c.args.self.now.refs c.enter_back.new.refs c.args.self.now.calls c.get-number.result.result c.args.self.now.brought.items c.enter_back.new.brought.items
     (ap (λ (r : CallPackets). r.result) c.get-number.ensures.row) (sym c.is_left.ensures ∙ c.if-not-is_left.false) f))
-    c.enter_back.ensures
+    c.enter_back.ensures.row
 
-pub returns-in_default : goal.returns-in_default
-returns-in_default c = λ other. gives_other (around c.args.context.calls.now.tables c.args.context.objects.now c.args.context.carried.now c.args.apartment) c.args.deed.now c.args.self.now.refs c.args.self.now.calls c.args.self.now.brought.items other c.in_default.not-Out c.in_default.not-Enter c.in_default.not-Leave c.in_default.not-Back
+pub returns-in_default-clause-gives : goal.returns-in_default-clause-gives
+returns-in_default-clause-gives c = λ other. gives_other (around c.args.context.calls.now.tables c.args.context.objects.now c.args.context.classes.now c.args.context.carried.now c.args.apartment) c.args.deed.now c.args.self.now.refs c.args.self.now.calls c.args.self.now.brought.items other c.in_default.not-Out c.in_default.not-Enter c.in_default.not-Leave c.in_default.not-Back
