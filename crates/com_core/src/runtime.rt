@@ -257,12 +257,10 @@ impl Runtime for Core {
         Core::lanes(self)
     }
 
-    #[tactic(auto, using(crate::proofs::Kept::is_reached))]
     fn can_step(&self, lane: u32) -> bool {
         Core::can_step(self, lane)
     }
 
-    #[tactic(auto, using(crate::proofs::Kept::is_reached))]
     fn standing(&self) -> Standing {
         Core::standing(self)
     }
@@ -279,12 +277,10 @@ impl Runtime for Core {
         Core::objects(self)
     }
 
-    #[tactic(auto, using(crate::proofs::Kept::is_reached))]
     fn counts(&self, object: u32) -> Counts {
         Core::counts(self, object)
     }
 
-    #[tactic(auto, using(crate::proofs::Kept::is_formed))]
     fn step(
         &mut self,
         alloc: Global,
@@ -294,7 +290,6 @@ impl Runtime for Core {
         Core::step(self, alloc, lane, servants)
     }
 
-    #[tactic(auto, using(crate::proofs::Kept::is_formed))]
     fn tick(&mut self) -> Result<Entry, Memory> {
         self.make_tick()
     }
