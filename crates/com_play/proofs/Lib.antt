@@ -1,1 +1,1 @@
-pub mod Sofar
+pub mod Servants

@@ -1,81 +1,24 @@
 //! The replay of any scenario: the one history of its schedule, the lines of it, and the report.
 #![tactic(auto)]
 
-ghost use Rattle.std.specs.Prelude.{◌≡◌, ◌≤◌, [], ◌∷◌, ◌++◌, IfOk, OnOk, OnErr, IsTrue, Err, map};
+ghost use Rattle.std.specs.Prelude.{◌≡◌, ◌≤◌, [], ◌∷◌, ◌++◌, false, IfOk, OnOk, IsTrue, Err, map};
 ghost use Rattle.com_io.specs.Faults.{Rose};
 ghost use Rattle.com_servant.specs.Rows.{row};
-ghost use Rattle.com_model.specs.Ends.{limit};
 ghost use Rattle.com_drive.specs.declared.lines.ReplayError.TheVariants as replay_error;
-ghost use Rattle.com_play.specs.Playing.{IsPlayed, IsBegun, end_of};
+ghost use Rattle.com_drive.specs.Replays.{whole_text, IsReplay};
+ghost use Rattle.com_io.specs.Told.{Gains, GainsPrefix};
+ghost use Rattle.com_model.specs.Formed.{Formed};
+ghost use Rattle.com_model.specs.State.{first_tables};
 
-mod machine;
-mod player;
-mod runtime;
-mod schedule;
-
-use com_base::{Memory, Rows};
+use com_base::Memory;
 use com_body::Native;
 use com_core::Core;
-pub use com_drive::{ReplayError, Replayed, Standing, Step};
+use com_drive::{Runtime, drive};
+pub use com_drive::{ReplayError, Replayed};
 use com_io::Sink;
-use com_model::{Ended, Scenario};
+use com_model::Scenario;
 use com_servant::{Counter, Interpreter, Latch, Relay, Servant};
-pub use machine::Machine;
-pub use player::{Course, Player};
 use std::alloc::{AllocError, Global};
-
-/// Makes the history of a machine that has made no entry, entry by entry, and writes its lines and the report to the sink. The row
-/// has one servant of each kind, in the order of the kinds.
-///
-/// `WriteFault` comes only where the sink's count of faults rose in this call, and `Memory` is want of memory. On an error what was
-/// written is the front of a history's lines and report.
-pub fn drive<M: Machine, K: Sink>(
-    alloc: Global,
-    course: &Course,
-    machine: &mut M,
-    servants: &mut Vec<Box<dyn Servant + Send>>,
-    sink: &mut K,
-) -> Result<Replayed, ReplayError>
-    requires limit { course.now.limit ≤ 1_000_000 }
-    requires row { map kind_of servants.old.items ≡ row }
-    ensures played { IfOk result (λ replayed. IsPlayed course.now.version course.now.limit replayed (K.held sink.old) (K.held sink.new)) }
-    ensures begun { OnErr result (IsBegun course.now.version course.now.limit (K.held sink.old) (K.held sink.new)) }
-    ensures fault { result ≡ Err replay_error.WriteFault → Rose (K.faults_of sink.old) (K.faults_of sink.new) }
-    ensures counts { K.faults_of sink.old ≤ K.faults_of sink.new }
-{
-    let mut player = Player::new(alloc);
-    'turns: loop {
-        let step = player.step(alloc, course, machine, servants, sink)?;
-        if let Some(ended) = end_of(step) {
-            return player.finish(alloc, machine, ended, sink);
-        }
-    }
-}
-
-// The end that a step has found, where it has found one.
-fn end_of(step: Step) -> Option<Ended>
-    ensures { result ≡ end_of step }
-{
-    match step {
-        Step::Made(_) => None,
-        Step::Over(ended) => Some(ended),
-    }
-}
-
-/// What a scenario's history follows. The only error is want of memory.
-fn course_of(alloc: Global, scenario: &Scenario) -> Result<Course, Memory>
-    ensures { IfOk result (λ course. (course.version ≡ scenario.now.version) × (course.limit ≡ limit scenario.now)) }
-{
-    let mut picks = Vec::new(alloc);
-    for pick in scenario.picks.as_slice() {
-        picks.push(*pick)?;
-    }
-    Ok(Course {
-        version: scenario.version,
-        limit: scenario.limit(),
-        picks: Rows::from_vec(picks),
-    })
-}
 
 // A value in a box. The only error is want of memory.
 fn boxed<T: Drop>(alloc: Global, value: T) -> Result<Box<T>, Memory>
@@ -111,17 +54,21 @@ fn unproved() -> Memory {
     AllocError
 }
 
-// Makes the history of a machine by four servants that have made no step.
-#[tactic(auto, using(crate::proofs::Sofar::nothing_begun))]
-fn serve<M: Machine, K: Sink>(
+// Makes the one history of a scenario on a runtime that has made no entry, by servants that have made no step.
+#[tactic(auto, using(com_io::proofs::Passing::prefix_of_none))]
+fn serve<C: Runtime, K: Sink>(
     alloc: Global,
-    course: &Course,
-    machine: &mut M,
+    scenario: &Scenario,
+    runtime: &mut C,
     sink: &mut K,
 ) -> Result<Replayed, ReplayError>
-    requires { course.now.limit ≤ 1_000_000 }
-    ensures played { IfOk result (λ replayed. IsPlayed course.now.version course.now.limit replayed (K.held sink.old) (K.held sink.new)) }
-    ensures begun { OnErr result (IsBegun course.now.version course.now.limit (K.held sink.old) (K.held sink.new)) }
+    requires formed { Formed scenario.now }
+    requires scenario { C.scenario runtime.old ≡ scenario.now }
+    requires first { C.state runtime.old ≡ first_tables scenario.now }
+    requires whole { C.broken runtime.old ≡ false }
+    ensures ok { OnOk result (Gains (K.held sink.old) (K.held sink.new) (whole_text scenario.now)) }
+    ensures answer { IfOk result (λ replayed. IsReplay scenario.now replayed) }
+    ensures prefix { GainsPrefix (K.held sink.old) (K.held sink.new) (whole_text scenario.now) }
     ensures fault { result ≡ Err replay_error.WriteFault → Rose (K.faults_of sink.old) (K.faults_of sink.new) }
     ensures counts { K.faults_of sink.old ≤ K.faults_of sink.new }
 {
@@ -138,25 +85,27 @@ fn serve<M: Machine, K: Sink>(
     )?;
     add(&mut servants, boxed(alloc, Relay::new())?, Native::Relay)?;
     add(&mut servants, boxed(alloc, Latch::new())?, Native::Latch)?;
-    drive(alloc, course, machine, &mut servants, sink)
+    drive(alloc, scenario, runtime, &mut servants, sink)
 }
 
-/// Makes the one history of a scenario, entry by entry, and writes its lines and the report to the sink.
+/// Makes the one history of a scenario's schedule, entry by entry, and writes its lines and the report to the sink: exactly the text
+/// and the report of that history (`ok`). The answer is how it ended, how many entries it has and its time (`answer`).
 ///
-/// `WriteFault` comes only where the sink's count of faults rose in this call, and `Memory` is want of memory. On an error what was
-/// written is the front of a history's lines and report.
-#[tactic(auto, using(crate::proofs::Sofar::nothing_begun, crate::proofs::Sofar::few_entries))]
+/// `WriteFault` comes only where the sink's count of faults rose in this call, and `Memory` is want of memory. Whatever is answered,
+/// what was written is a prefix of that text (`prefix`).
+#[tactic(auto, using(com_io::proofs::Passing::prefix_of_none))]
 pub fn play<K: Sink>(
     alloc: Global,
     scenario: Scenario,
     sink: &mut K,
 ) -> Result<Replayed, ReplayError>
-    ensures played { IfOk result (λ replayed. IsPlayed scenario.version (limit scenario) replayed (K.held sink.old) (K.held sink.new)) }
-    ensures begun { OnErr result (IsBegun scenario.version (limit scenario) (K.held sink.old) (K.held sink.new)) }
+    requires { Formed scenario }
+    ensures ok { OnOk result (Gains (K.held sink.old) (K.held sink.new) (whole_text scenario)) }
+    ensures answer { IfOk result (λ replayed. IsReplay scenario replayed) }
+    ensures prefix { GainsPrefix (K.held sink.old) (K.held sink.new) (whole_text scenario) }
     ensures fault { result ≡ Err replay_error.WriteFault → Rose (K.faults_of sink.old) (K.faults_of sink.new) }
     ensures counts { K.faults_of sink.old ≤ K.faults_of sink.new }
 {
-    let course = course_of(alloc, &scenario)?;
-    let mut core = Core::new(alloc, scenario)?;
-    serve(alloc, &course, &mut core, sink)
+    let mut core = Core::new(alloc, &scenario)?;
+    serve(alloc, &scenario, &mut core, sink)
 }

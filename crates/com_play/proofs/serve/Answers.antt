@@ -1,5 +1,5 @@
 use Rattle.std.proofs.Common.{map, ap, refl}
-use Rattle.com_play.proofs.Sofar.{row_of}
+use Rattle.com_play.proofs.Servants.{row_of}
 use Rattle.com_play.proofs.serve.Goals as goal
 
 pub drive-requires-clause-row : goal.drive-requires-clause-row
