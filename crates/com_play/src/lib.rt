@@ -52,7 +52,7 @@ fn add(
 /// and the report of that history (`ok`). The answer is how it ended, how many entries it has and its time (`answer`).
 ///
 /// The row has one servant of each kind, in the order of the kinds. Each entry that a body made is a step of the servant of its
-/// class's kind (`served`).
+/// class's kind (`served`), and every place keeps its kind (`row`).
 ///
 /// `WriteFault` comes only where the sink's count of faults rose in this call, and `Memory` is want of memory. Whatever is answered,
 /// what was written is a prefix of that text (`prefix`); after either, servants may have counted steps.
@@ -70,6 +70,7 @@ pub fn replay<K: Sink>(
     ensures prefix { GainsPrefix (K.held sink.old) (K.held sink.new) (whole_text (arc_value scenario)) }
     ensures served { OnOk result (map stepped servants.new.items
         ≡ whole_served (arc_value scenario) (map stepped servants.old.items)) }
+    ensures row { map kind_of servants.new.items ≡ row }
     ensures fault { result ≡ Err replay_error.WriteFault → Rose (K.faults_of sink.old) (K.faults_of sink.new) }
     ensures counts { K.faults_of sink.old ≤ K.faults_of sink.new }
 {

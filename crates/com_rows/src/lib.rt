@@ -1,4 +1,4 @@
-//! Worked cases over memory, from bytes to bytes, and by servants.
+//! Worked cases over memory, from bytes to bytes, and by servants and streams.
 #![tactic(auto)]
 
 #[cfg(test)]
