@@ -1,13 +1,14 @@
 -- The next entry of a lane, by the tables of a runtime.
 use Rattle.std.proofs.Common.{◌≡◌, ℕ, zero, suc, ◌<◌, ◌≤◌, Bool, true, false, cond, List, [], Option, Some, None, refl, sym, ◌∙◌, ap, subst, arith}
 use Rattle.std.proofs.lemmas.Bool.{false_from_ne_true}
-use Rattle.std.specs.Prelude.{is_some, option_map}
+use Rattle.std.proofs.lemmas.Grind.{common_steps}
+use Rattle.std.specs.Prelude.{is_some, option_map, ◌==◌}
 use Rattle.com_model.specs.declared.deeds.Deed.{Deed}
 use Rattle.com_model.specs.declared.deeds.Deed.TheVariants as deed
 use Rattle.com_model.specs.declared.deeds.Entry.{Entry}
 use Rattle.com_model.specs.declared.scenario.Scenario.{Scenario}
-use Rattle.com_model.specs.Ends.{Turn}
-use Rattle.com_model.specs.Rules.{lane_next, next, next_by, tick_time}
+use Rattle.com_model.specs.Ends.{Turn, last_after}
+use Rattle.com_model.specs.Rules.{lane_next, next, next_by, tick_time, ticks}
 use Rattle.com_model.specs.Sight.{Sight}
 use Rattle.com_model.specs.State.{State, next_of, sight_of}
 use Rattle.com_model.specs.Tables.{LaneSort, Thread, Host, Pool, NoLane, lane_sort, lanes}
@@ -42,9 +43,11 @@ no-deed : (x : Option Deed) → is_some x ≡ false → x ≡ None
 no-deed None e = refl
 no-deed (Some d) e = cc
 
+not-zero : (n : ℕ) → 1 ≤ n → (n == 0) ≡ false
+not-zero n h = grind (arith, common_steps, h)
+
 by-sort : (s : Scenario) (v : Sight) (sort : LaneSort) (l : ℕ) → 1 ≤ l → lane_next s v l ≡ None → next_by s v sort l ≡ None
-by-sort s v NoLane zero p e = absurd (omega (arith, p))
-by-sort s v NoLane (suc l) p e = refl
+by-sort s v NoLane l p e = ap (λ (b : Bool). cond b (ticks s v) None) (not-zero l p)
 by-sort s v Thread l p e = e
 by-sort s v Host l p e = e
 by-sort s v Pool l p e = e
@@ -75,3 +78,13 @@ clock_scheduled s st new last e t p = record {
   turn = ap lane_of_turn (turn_ticks s st [] last (sym t)) ∙ ap (λ (k : ℕ). Some k) (sym p.by);
   next = subst (λ (k : ℕ). IsNext s st k e new) (sym p.by) p;
 }
+
+-- ---- the last lane
+
+pub last_clock : (l last : ℕ) → l ≡ 0 → last ≡ last_after l last
+last_clock zero last e = refl
+last_clock (suc l) last e = absurd (omega (arith, e))
+
+pub last_other : (l last : ℕ) → (l ≡ 0 → ⊥) → l ≡ last_after l last
+last_other zero last p = absurd (p refl)
+last_other (suc l) last p = refl

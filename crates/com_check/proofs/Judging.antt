@@ -1,7 +1,7 @@
 -- Judging a trace: what its steps make of what was known.
-use Rattle.std.proofs.Common.{◌≡◌, ◌≢◌, ℕ, ◌+◌, ◌-◌, ◌^◌, ◌<◌, ◌≤◌, refl, sym, ◌∙◌, ap, subst, append_assoc, append-nil, length-append, arith, List, [], ◌∷◌, ◌++◌, length, take, Bool, true, Option, Some, None}
+use Rattle.std.proofs.Common.{◌≡◌, ℕ, zero, suc, ◌+◌, ◌-◌, ◌^◌, ◌<◌, ◌≤◌, refl, sym, ◌∙◌, ap, subst, append_assoc, append-nil, length-append, arith, List, [], ◌∷◌, ◌++◌, length, take, Bool, true, Option, Some, None}
 use Rattle.std.proofs.lemmas.Grind.{common_steps}
-use Rattle.std.specs.Prelude.{codes, cond, if◌then◌else◌, is_some, nat_le, option_map, option_and_then, ◌==◌}
+use Rattle.std.specs.Prelude.{MatchOption, codes, cond, if◌then◌else◌, is_some, nat_le, option_map, option_and_then, ◌==◌}
 use Rattle.com_model.specs.declared.counts.Counts.{Counts}
 use Rattle.com_model.specs.declared.counts.Ended.{Ended}
 use Rattle.com_model.specs.declared.deeds.Deed.{Deed}
@@ -31,7 +31,7 @@ use Rattle.com_check.specs.declared.judged.Judged.TheVariants as judged
 use Rattle.com_check.specs.Fronts.{named, IsNoLane}
 use Rattle.com_check.specs.Lines.{lines_of}
 use Rattle.com_check.specs.Judging.{Differs, IsJudged, IsText, Unended, entry_line, entry_of, history_lines, lane_due, lane_of_turn, last_lane, legal_line, line_due, report_lines, shown}
-use Rattle.com_check.specs.Turning.{IsCompared, IsEntry, IsOther, IsReported, IsScheduled, IsTold, IsTurn, entry_in, lane_in, line_in}
+use Rattle.com_check.specs.Turning.{IsCompared, IsEntry, IsNextOf, IsOther, IsReported, IsScheduled, IsTold, IsTurn, entry_in, lane_in, line_in}
 use Rattle.com_check.proofs.Entries.{entry_made, none_above}
 use Rattle.com_check.proofs.Histories.{history_length, nothing_told}
 
@@ -81,15 +81,15 @@ not_none a same = cc
 
 -- The found line beside that of the entry that was made.
 pub turn_compared : (s : Scenario) (st new : State) (last last_new lane n : ℕ) (e : Entry) (found line : List ℕ) (t : Option Judged) → named found ≡ Some lane
-    → IsNext s st lane e new → n ≡ st.entries + 1 → line ≡ entry_line s.version n e → IsCompared n found line t
-    → (t ≡ None → last_new ≡ last_after lane last) → IsTurn s st last found t new last_new
-turn_compared s st new last last_new lane n e found line None names p count is same follows = record {
+    → IsNext s st lane e new → n ≡ st.entries + 1 → line ≡ entry_line s.version n e → IsCompared n lane found line last t last_new
+    → IsTurn s st last found t new last_new
+turn_compared s st new last last_new lane n e found line None names p count is same = record {
   entry = e;
   next = subst (λ (k : ℕ). IsNext s st k e new) (sym p.by) p;
-  line = same ∙ is ∙ ap (λ (k : ℕ). entry_line s.version k e) count;
-  follows = follows refl ∙ ap (λ (k : ℕ). last_after k last) (sym p.by);
+  line = same.0 ∙ is ∙ ap (λ (k : ℕ). entry_line s.version k e) count;
+  follows = same.1 ∙ ap (λ (k : ℕ). last_after k last) (sym p.by);
 }
-turn_compared s st new last last_new lane n e found line (Some j) names p count is other follows =
+turn_compared s st new last last_new lane n e found line (Some j) names p count is other =
     let legal : Some line ≡ line_in s st last (Some found) =
     ap (λ (x : List ℕ). Some x) (is ∙ ap (λ (k : ℕ). entry_line s.version k e) count) ∙ sym (line_made s st new last lane (Some found) e names p) in
     record {
@@ -97,6 +97,14 @@ turn_compared s st new last last_new lane n e found line (Some j) names p count 
           ∙ ap (λ (x : Option (List ℕ)). judged.Differs (st.entries + 1) found (shown x)) legal;
       differ = λ same. other.0 (one_line found line (same ∙ sym legal));
     }
+
+-- The same, where the last lane is known by an equation.
+pub turn_settled : (s : Scenario) (st new : State) (last old last_new lane n : ℕ) (e : Entry) (found line : List ℕ) (t : Option Judged) → named found ≡ Some lane
+    → IsNext s st lane e new → n ≡ st.entries + 1 → line ≡ entry_line s.version n e → old ≡ last → IsCompared n lane found line old t last_new
+    → IsTurn s st last found t new last_new
+turn_settled s st new last old last_new lane n e found line t names p count is kept same =
+    turn_compared s st new last last_new lane n e found line t names p count is
+    (subst (λ (k : ℕ). IsCompared n lane found line k t last_new) kept same)
 
 turn_none : (s : Scenario) (st new : State) (last last_new n : ℕ) (found : List ℕ) (t : Option Judged) → n ≡ st.entries → line_in s st last (Some found) ≡ None
     → t ≡ Some (judged.Differs (n + 1) found (codes "none")) → IsTurn s st last found t new last_new
@@ -122,14 +130,14 @@ few_lanes s st lane r high = few s.pool (length s.threads) lane r.0.pool.1 r.0.t
 
 unnamed : (s : Scenario) (st : State) (last : ℕ) (found : List ℕ) (x : Option ℕ) → Reached s st → named found ≡ x → IsNoLane x
     → line_in s st last (Some found) ≡ None
-unnamed s st last found None r e no = no_lane s st last (Some found) e
-unnamed s st last found (Some lane) r e no = no_line s st last lane (Some found) e (none_above s st lane r (few_lanes s st lane r no))
+unnamed s st last found None r e p = no_lane s st last (Some found) e
+unnamed s st last found (Some lane) r e p = no_line s st last lane (Some found) e (none_above s st lane r (few_lanes s st lane r p))
 
 -- The found line names no lane.
 pub turn_unnamed : (s : Scenario) (st new : State) (last last_new n : ℕ) (found : List ℕ) (t : Option Judged) → Reached s st → IsNoLane (named found)
     → n ≡ st.entries → t ≡ Some (judged.Differs (n + 1) found (codes "none")) → IsTurn s st last found t new last_new
-turn_unnamed s st new last last_new n found t r no count is =
-    turn_none s st new last last_new n found t count (unnamed s st last found (named found) r refl no) is
+turn_unnamed s st new last last_new n found t r p count is =
+    turn_none s st new last last_new n found t count (unnamed s st last found (named found) r refl p) is
 
 -- The trace has ended in the place of the schedule's entry.
 pub early_by : (s : Scenario) (st new : State) (last n : ℕ) (e : Entry) (line : List ℕ) (j : Judged) → IsScheduled s st last e new → n ≡ st.entries + 1
@@ -369,3 +377,19 @@ below_at r s trace st last rest e p goes = subst (λ (x : Scenario). st.entries 
 
 pub goes_at : (r s : Scenario) (st : State) → r ≡ s → ended_now s st ≡ None → ended_now r st ≡ None
 goes_at r s st e goes = subst (λ (x : Scenario). ended_now x st ≡ None) (sym e) goes
+
+-- ---- what is known where a pattern was not met
+
+pub when_none : (P : Type 0) (Q : ℕ → Type 0) (o : Option ℕ) → ((x : ℕ) → o ≡ Some x → ⊥) → MatchOption o P Q → P
+when_none P Q None n p = p
+when_none P Q (Some x) n p = absurd (n x refl)
+
+pub when_not_next : (s : Scenario) (st new : State) (l : ℕ) (o : Option Entry) → ((x : Entry) → o ≡ Some x → ⊥) → IsNextOf s st l o new
+    → entry_in s st l ≡ None
+when_not_next s st new l None n p = p
+when_not_next s st new l (Some e) n p = absurd (n e refl)
+
+pub when_on : (r s : Scenario) (st new : State) (last last_new : ℕ) (found : List ℕ) (t : Option Judged) → r ≡ s → ((x : Judged) → t ≡ Some x → ⊥)
+    → IsTurn r st last found t new last_new → IsEntry s st last found new last_new
+when_on r s st new last last_new found None e n p = subst (λ (x : Scenario). IsEntry x st last found new last_new) e p
+when_on r s st new last last_new found (Some j) e n p = absurd (n j refl)

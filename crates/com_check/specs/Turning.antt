@@ -55,10 +55,10 @@ pub record IsOther (s : Scenario) (st : State) (last : ℕ) (found : Option (Lis
   pub answer : j ≡ judged.Differs (st.entries + 1) (shown found) (shown (line_in s st last found))
   pub differ : found ≢ line_in s st last found
 
--- The found line is this one; or else that is what is answered.
-abbrev pub IsCompared : (place : ℕ) → (found line : List ℕ) → Option Judged → Type 0
-IsCompared place found line None = found ≡ line
-IsCompared place found line (Some j) = (found ≢ line) × (j ≡ judged.Differs place found line)
+-- The found line is that of the lane's entry, and the lane is the last one, if it is not the clock's; or else the line differs.
+abbrev pub IsCompared : (place lane : ℕ) → (found line : List ℕ) → (last : ℕ) → Option Judged → (last_new : ℕ) → Type 0
+IsCompared place lane found line last None last_new = (found ≡ line) × (last_new ≡ last_after lane last)
+IsCompared place lane found line last (Some j) last_new = (found ≢ line) × (j ≡ judged.Differs place found line)
 
 abbrev pub IsTurn : Scenario → State → (last : ℕ) → (found : List ℕ) → Option Judged → State → (last_new : ℕ) → Type 0
 IsTurn s st last found None new last_new = IsEntry s st last found new last_new

@@ -21,6 +21,14 @@ use com_report::{line, report};
 use com_servant::Servant;
 use std::alloc::Global;
 
+/// The last lane but the clock's, behind an entry of a lane.
+#[tactic(auto, using(crate::proofs::Entries::last_clock, crate::proofs::Entries::last_other))]
+fn last_after(lane: u32, last: u32) -> u32
+    ensures { result ≡ last_after lane last }
+{
+    if lane == 0 { last } else { lane }
+}
+
 /// Makes the clock's entry, where the clock goes on. The only error is want of memory.
 #[tactic(auto, using(crate::proofs::Entries::no_tick, com_drive::proofs::Turning::not_finished, com_drive::proofs::Turning::not_stuck))]
 fn clock_entry<C: Runtime>(runtime: &mut C, standing: Standing) -> Result<Option<Entry>, Memory>
@@ -178,7 +186,8 @@ impl Judge {
         Ok(())
     }
 
-    /// What a found line is beside the line that was written for an entry of this lane.
+    /// What a found line is beside the line that was written for an entry of this lane. The only error is want
+    /// of memory.
     fn compared(
         &mut self,
         alloc: Global,
@@ -186,13 +195,10 @@ impl Judge {
         lane: u32,
         found: &[u8],
     ) -> Result<Option<Judged>, Memory>
-        ensures compared { IfOk result (λ turn. IsCompared place found.now self.old.line turn) }
-        ensures follows { IfOk result (λ turn. turn ≡ None → self.new.last ≡ last_after lane self.old.last) }
+        ensures { IfOk result (λ turn. IsCompared place lane found.now self.old.line self.old.last turn self.new.last) }
     {
         if found == self.line.as_slice() {
-            if lane != 0 {
-                self.last = lane;
-            }
+            self.last = last_after(lane, self.last);
             return Ok(None);
         }
         let judged = differs(alloc, place, found, self.line.as_slice())?;
@@ -263,7 +269,7 @@ impl Judge {
 
 /// Judges a trace on a runtime of a formed scenario that has made no entry. The row has one servant of each
 /// kind, in the order of the kinds. The only error is want of memory.
-pub fn judge<C: Runtime>(
+pub fn judge_trace<C: Runtime>(
     alloc: Global,
     scenario: &Scenario,
     runtime: &mut C,

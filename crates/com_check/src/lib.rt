@@ -21,7 +21,7 @@ use com_core::Core;
 use com_model::Scenario;
 use com_servant::{Counter, Interpreter, Latch, Relay, Servant};
 pub use cut::{Cut, cut_text};
-pub use judge::judge;
+pub use judge::judge_trace;
 pub use judged::Judged;
 pub use laws::{agrees_with_text, judged_alone};
 use std::alloc::{AllocError, Global};
@@ -93,5 +93,5 @@ pub fn check(alloc: Global, scenario: Arc<Scenario>, trace: &[u8]) -> Result<Jud
     )?;
     add(&mut servants, boxed(alloc, Relay::new())?, Native::Relay)?;
     add(&mut servants, boxed(alloc, Latch::new())?, Native::Latch)?;
-    judge(alloc, &*scenario, &mut core, &mut servants, trace)
+    judge_trace(alloc, &*scenario, &mut core, &mut servants, trace)
 }

@@ -2,7 +2,7 @@ use Rattle.std.proofs.Common.{◌≡◌, ◌-◌, false, map}
 use Rattle.com_model.specs.Ends.{limit}
 use Rattle.com_servant.specs.Rows.{row}
 use Rattle.com_check.proofs.Judging.{Sofar}
-use Rattle.com_check.proofs.judge.judge.Given as goal
+use Rattle.com_check.proofs.judge.judge_trace.Given as goal
 
 abbrev pub invariant-lines : goal.invariant-lines
 invariant-lines g l = record {
