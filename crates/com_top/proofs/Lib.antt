@@ -1,4 +1,6 @@
 pub mod Causes
+pub mod CheckCauses
 pub mod LoadCauses
 pub mod ReplyCauses
+pub mod Responding
 pub mod Words

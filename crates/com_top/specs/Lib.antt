@@ -1,4 +1,6 @@
 pub mod Inputs
 pub mod Statuses
+pub mod Responses
 pub mod Replies
+pub mod Checking
 pub mod Loading

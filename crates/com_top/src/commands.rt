@@ -4,17 +4,21 @@ ghost use Rattle.std.specs.Prelude.{codes};
 ghost use Rattle.com_io.specs.Faults.{Rose};
 ghost use Rattle.com_io.specs.Told.{Gains, GainsPrefix};
 ghost use Rattle.com_top.specs.declared.inputs.Input.TheVariants as input;
+ghost use Rattle.com_top.specs.Checking.{IsCheckWord, IsReply, question_of};
 ghost use Rattle.com_top.specs.Loading.{HasLoadCause, Loads, load_number};
 ghost use Rattle.com_model.specs.Formed.{Formed};
 ghost use Rattle.com_top.specs.Inputs.{IsFormed};
 ghost use Rattle.com_top.specs.Replies.{HasReplyCause, IsObjRefWord, Replies, status_for};
+ghost use Rattle.com_top.specs.Responses.{Causes, Responds};
 ghost use Rattle.com_top.specs.Statuses.{Answers, HasCause, IsAnswered, IsReplay, IsSaid, Says, sides_of, usage_line};
 
+use crate::checks::checked;
 use crate::inputs::{Input, input_of, refused_line};
 use crate::loads::loaded;
+use crate::sides::{read_input, say};
 use crate::statuses::{Status, status_at};
 use com_gen::number_of;
-use com_io::{ReadAllError, Sink, Source, read_all, write_all};
+use com_io::{ReadAllError, Sink, Source, read_all};
 use com_model::Scenario;
 use com_objref::show;
 use com_play::{ReplayError, play};
@@ -24,10 +28,14 @@ use std::alloc::Global;
 // The longest text of digits, in bytes.
 const LONGEST_DIGITS: usize = 1_048_576;
 
+// The longest text of a scenario with a trace, in bytes.
+const LONGEST_TRACE: usize = 67_108_864;
+
 /// Does what the words ask for: `replay` reads a scenario from the source and writes its history and report
-/// to the sink, or the line of the refusal; `load` and a number replay the scenario of that number, and show
-/// how it ended; `objref` reads hexadecimal text and shows the OBJREF that it spells. The answer is the exit
-/// status.
+/// to the sink, or the line of the refusal; `check` reads a scenario with a trace, and says whether the trace
+/// agrees with the rules, or which line differs; `load` and a number replay the scenario of that number, and
+/// show how it ended; `objref` reads hexadecimal text and shows the OBJREF that it spells. The answer is the
+/// exit status.
 ///
 /// Status 1 comes exactly for other words, unless the line that says so cannot be written; then nothing was
 /// read.
@@ -41,16 +49,20 @@ pub fn com_main<S: Source, K: Sink>(
         source.old source.new sink.old sink.new) }
     ensures objref { IsObjRefWord (map string_bytes words.now) → Replies result (sides_of S.left S.faults_of K.held K.faults_of
         source.old source.new sink.old sink.new) }
+    ensures check { IsCheckWord (map string_bytes words.now) → Responds question_of IsReply result
+        (sides_of S.left S.faults_of K.held K.faults_of source.old source.new sink.old sink.new) }
     ensures load { (n : ℕ) → load_number (map string_bytes words.now) ≡ Some n
         → Loads result n (K.held sink.old) (K.held sink.new) (K.faults_of sink.old) (K.faults_of sink.new) }
     ensures load_reads_none { (n : ℕ) → load_number (map string_bytes words.now) ≡ Some n → source.new ≡ source.old }
     ensures usage { (IsReplay (map string_bytes words.now) → ⊥)
         → (IsObjRefWord (map string_bytes words.now) → ⊥)
+        → (IsCheckWord (map string_bytes words.now) → ⊥)
         → load_number (map string_bytes words.now) ≡ None
         → IsSaid result 1 usage_line (K.held sink.old) (K.held sink.new)
         (K.faults_of sink.old) (K.faults_of sink.new) }
     ensures unread { (IsReplay (map string_bytes words.now) → ⊥)
-        → (IsObjRefWord (map string_bytes words.now) → ⊥) → source.new ≡ source.old }
+        → (IsObjRefWord (map string_bytes words.now) → ⊥)
+        → (IsCheckWord (map string_bytes words.now) → ⊥) → source.new ≡ source.old }
 {
     if asks(words, "replay") {
         return replay_main(alloc, source, sink);
@@ -58,9 +70,17 @@ pub fn com_main<S: Source, K: Sink>(
     if asks(words, "objref") {
         return objref_main(alloc, source, sink);
     }
+    if asks(words, "check") {
+        return check_main(alloc, source, sink);
+    }
     match load_number(words) {
         Some(number) => load_main(alloc, number, sink),
-        None => say(b"usage: comrun replay|load N|objref\n", Status::Usage, sink).code(),
+        None => say(
+            b"usage: comrun replay|check|load N|objref\n",
+            Status::Usage,
+            sink,
+        )
+        .code(),
     }
 }
 
@@ -118,6 +138,31 @@ fn run<K: Sink>(alloc: Global, scenario: Scenario, sink: &mut K) -> Status
         Ok(replayed) => status_at(replayed.ended),
         Err(ReplayError::WriteFault) => Status::WriteFault,
         Err(ReplayError::Memory) => Status::Memory,
+    }
+}
+
+/// Reads a scenario's text, the line `trace` and a trace from the source, and says whether the trace agrees
+/// with the rules: it is the text and the report of a history; or else its first line that differs, with the
+/// only line that may stand there. An input that is too long, whose text is no scenario or that has no line
+/// `trace` is refused. The answer is the exit status: each has its cause.
+pub fn check_main<S: Source, K: Sink>(alloc: Global, source: &mut S, sink: &mut K) -> u8
+    ensures { Responds question_of IsReply result (sides_of S.left S.faults_of K.held K.faults_of
+        source.old source.new sink.old sink.new) }
+{
+    check_input(alloc, source, sink).code()
+}
+
+fn check_input<S: Source, K: Sink>(alloc: Global, source: &mut S, sink: &mut K) -> Status
+    ensures { Causes question_of IsReply result (sides_of S.left S.faults_of K.held K.faults_of
+        source.old source.new sink.old sink.new) }
+{
+    let text = match read_input(alloc, LONGEST_TRACE, source, sink) {
+        Ok(text) => text,
+        Err(status) => return status,
+    };
+    match checked(alloc, text.as_slice()) {
+        Ok(reply) => say(reply.text.as_slice(), reply.status, sink),
+        Err(_) => Status::Memory,
     }
 }
 
@@ -207,15 +252,4 @@ fn is_word(word: &str, wanted: &str) -> bool
     ensures { IsTrue result ↔ (word.now ≡ wanted.now) }
 {
     word == wanted
-}
-
-// Writes one line, and answers the status that it goes with, or that it could not be written.
-fn say<K: Sink>(line: &[u8], status: Status, sink: &mut K) -> Status
-    ensures said { Says result status line.now (K.held sink.old) (K.held sink.new)
-        (K.faults_of sink.old) (K.faults_of sink.new) }
-{
-    match write_all(sink, line) {
-        Ok(()) => status,
-        Err(_) => Status::WriteFault,
-    }
 }

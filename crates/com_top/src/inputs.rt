@@ -1,5 +1,7 @@
 //! What an input is, and the line of a fault.
 ghost use Rattle.std.specs.Prelude.{◌≡◌, ◌++◌, IfOk, OnOk, decimal};
+ghost use Rattle.com_model.specs.Formed.{Formed};
+ghost use Rattle.com_scenario.specs.Scenarios.{reading};
 ghost use Rattle.com_top.specs.Inputs.{IsFormed, input_of, refused_line};
 
 use com_base::{ByteList, Memory};
@@ -29,24 +31,32 @@ pub fn input_of(alloc: Global, text: &[u8]) -> Result<Input, Memory>
     if is_too_long(alloc, text)? {
         return Ok(Input::TooLong);
     }
-    let scenario = match parse(alloc, text) {
-        Ok(scenario) => scenario,
+    match read_scenario(alloc, text)? {
+        Ok(scenario) => Ok(Input::Runs(scenario)),
+        Err(fault) => Ok(Input::Faulty(fault)),
+    }
+}
+
+/// The scenario that a text spells, or its first fault. The only error is want of memory.
+pub fn read_scenario(alloc: Global, text: &[u8]) -> Result<Result<Scenario, Fault>, Memory>
+    ensures value { IfOk result (λ read. read ≡ reading text.now) }
+    ensures formed { IfOk result (λ read. IfOk read (λ scenario. Formed scenario)) }
+{
+    match parse(alloc, text) {
+        Ok(scenario) => Ok(Ok(scenario)),
         Err(
             ScenarioError::Fault {
                 number,
                 line,
                 column,
             },
-        ) => {
-            return Ok(Input::Faulty(Fault {
-                number,
-                line,
-                column,
-            }));
-        }
-        Err(ScenarioError::Memory) => return Err(AllocError),
-    };
-    Ok(Input::Runs(scenario))
+        ) => Ok(Err(Fault {
+            number,
+            line,
+            column,
+        })),
+        Err(ScenarioError::Memory) => Err(AllocError),
+    }
 }
 
 /// The line of a fault: its line, its column and its number. The only error is want of memory.
