@@ -22,7 +22,7 @@ use Rattle.com_top.specs.declared.statuses.Status.TheVariants as status
 use Rattle.com_top.specs.Inputs.{input_of, refused_line, status_at, too_long_line, IsAnswer, IsHistory}
 use Rattle.com_top.specs.Statuses.{Completes, GainsFront, HasCause, IsAnswered, IsComplete, IsReplayed, IsText, IsWritten, Says, ScenariosReplay, Sides, code_of}
 
-too_long_input : (bytes : List ℕ) → 16777216 < length bytes → input_of bytes ≡ input.TooLong
+pub too_long_input : (bytes : List ℕ) → 16777216 < length bytes → input_of bytes ≡ input.TooLong
 unfolding input_of
 too_long_input bytes h = rw (longer_than_all bytes h) refl
 

@@ -2,7 +2,6 @@
 use Rattle.std.specs.Prelude.{◌≡◌, ℕ, List, [], ◌∷◌, Result, Ok, Err, length, nat_lt, drop, take, if◌then◌else◌, codes}
 use Rattle.com_read_operands.specs.declared.faults.Fault.{Fault}
 use Rattle.com_model.specs.declared.scenario.Scenario.{Scenario}
-use Rattle.com_model.specs.Ends.{limit}
 use Rattle.com_text.specs.Scanning.{lines_of}
 use Rattle.com_scenario.specs.Scenarios.{reading}
 use Rattle.com_check.specs.declared.cut.Cut.{Cut}
@@ -56,7 +55,7 @@ status_of (judged.Differs line found legal) = status.Differs
 -- A scenario's trace was judged.
 pub record IsVerdict (scenario : Scenario) (trace : List ℕ) (s : Status) (text : List ℕ) : Type 0 where
   pub verdict : Judged
-  pub is : IsJudged scenario.version (limit scenario) trace verdict
+  pub is : IsJudged scenario trace verdict
   pub status_is : s ≡ status_of verdict
   pub written : text ≡ judged_text verdict
 

@@ -28,7 +28,7 @@ abbrev pub IsReplay : List (List ℕ) → Type 0
 IsReplay words = words ≡ codes "replay" ∷ []
 
 abbrev pub usage_line : List ℕ
-usage_line = codes "usage: comrun replay|check|load N|objref\n"
+usage_line = codes "usage: comrun replay|check|load N|objref|waits\n"
 
 abbrev pub read_fault_line : List ℕ
 read_fault_line = codes "read fault\n"

@@ -3,7 +3,7 @@ ghost use Rattle.std.specs.Prelude.{◌≡◌, ◌<◌, ◌-◌, ◌^◌, IfOk, 
 ghost use Rattle.com_model.specs.Formed.{Formed};
 ghost use Rattle.com_top.specs.Checking.{IsReply, asked_of, status_of, with_trace, without_trace, Faulty};
 
-use crate::inputs::{read_scenario, refused_line};
+use crate::inputs::{read_scenario, refused};
 use crate::statuses::{Reply, Status};
 use com_base::Memory;
 use com_check::{Cut, Judged, check, cut_text};
@@ -62,17 +62,6 @@ fn judged(alloc: Global, read: Result<Scenario, Fault>, trace: &[u8]) -> Result<
         }
         Err(fault) => refused(alloc, fault),
     }
-}
-
-// The line of a fault.
-fn refused(alloc: Global, fault: Fault) -> Result<Reply, Memory>
-    ensures { IfOk result (λ reply. IsReply (Faulty fault) reply.status reply.text) }
-{
-    let text = refused_line(alloc, fault)?;
-    Ok(Reply {
-        status: Status::Refused,
-        text,
-    })
 }
 
 fn status_of(judged: &Judged) -> Status

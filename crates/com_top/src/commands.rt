@@ -5,14 +5,16 @@ ghost use Rattle.com_io.specs.Faults.{Rose};
 ghost use Rattle.com_io.specs.Told.{Gains, GainsPrefix};
 ghost use Rattle.com_top.specs.declared.inputs.Input.TheVariants as input;
 ghost use Rattle.com_top.specs.Checking.{IsCheckWord, IsReply, question_of};
+ghost use Rattle.com_top.specs.Explaining.{IsExplained, IsWaitsWord};
 ghost use Rattle.com_top.specs.Loading.{HasLoadCause, Loads, load_number};
 ghost use Rattle.com_model.specs.Formed.{Formed};
-ghost use Rattle.com_top.specs.Inputs.{IsFormed};
+ghost use Rattle.com_top.specs.Inputs.{IsFormed, input_of};
 ghost use Rattle.com_top.specs.Replies.{HasReplyCause, IsObjRefWord, Replies, status_for};
 ghost use Rattle.com_top.specs.Responses.{Causes, Responds};
 ghost use Rattle.com_top.specs.Statuses.{Answers, HasCause, IsAnswered, IsReplay, IsSaid, Says, sides_of, usage_line};
 
 use crate::checks::checked;
+use crate::explaining::explained;
 use crate::inputs::{Input, input_of, refused_line};
 use crate::loads::loaded;
 use crate::sides::{read_input, say};
@@ -34,8 +36,8 @@ const LONGEST_TRACE: usize = 67_108_864;
 /// Does what the words ask for: `replay` reads a scenario from the source and writes its history and report
 /// to the sink, or the line of the refusal; `check` reads a scenario with a trace, and says whether the trace
 /// agrees with the rules, or which line differs; `load` and a number replay the scenario of that number, and
-/// show how it ended; `objref` reads hexadecimal text and shows the OBJREF that it spells. The answer is the
-/// exit status.
+/// show how it ended; `objref` reads hexadecimal text and shows the OBJREF that it spells; `waits` reads a
+/// scenario, and says why its history is stuck, or that it is not. The answer is the exit status.
 ///
 /// Status 1 comes exactly for other words, unless the line that says so cannot be written; then nothing was
 /// read.
@@ -51,18 +53,22 @@ pub fn com_main<S: Source, K: Sink>(
         source.old source.new sink.old sink.new) }
     ensures check { IsCheckWord (map string_bytes words.now) → Responds question_of IsReply result
         (sides_of S.left S.faults_of K.held K.faults_of source.old source.new sink.old sink.new) }
+    ensures waits { IsWaitsWord (map string_bytes words.now) → Responds input_of IsExplained result
+        (sides_of S.left S.faults_of K.held K.faults_of source.old source.new sink.old sink.new) }
     ensures load { (n : ℕ) → load_number (map string_bytes words.now) ≡ Some n
         → Loads result n (K.held sink.old) (K.held sink.new) (K.faults_of sink.old) (K.faults_of sink.new) }
     ensures load_reads_none { (n : ℕ) → load_number (map string_bytes words.now) ≡ Some n → source.new ≡ source.old }
     ensures usage { (IsReplay (map string_bytes words.now) → ⊥)
         → (IsObjRefWord (map string_bytes words.now) → ⊥)
         → (IsCheckWord (map string_bytes words.now) → ⊥)
+        → (IsWaitsWord (map string_bytes words.now) → ⊥)
         → load_number (map string_bytes words.now) ≡ None
         → IsSaid result 1 usage_line (K.held sink.old) (K.held sink.new)
         (K.faults_of sink.old) (K.faults_of sink.new) }
     ensures unread { (IsReplay (map string_bytes words.now) → ⊥)
         → (IsObjRefWord (map string_bytes words.now) → ⊥)
-        → (IsCheckWord (map string_bytes words.now) → ⊥) → source.new ≡ source.old }
+        → (IsCheckWord (map string_bytes words.now) → ⊥)
+        → (IsWaitsWord (map string_bytes words.now) → ⊥) → source.new ≡ source.old }
 {
     if asks(words, "replay") {
         return replay_main(alloc, source, sink);
@@ -73,10 +79,13 @@ pub fn com_main<S: Source, K: Sink>(
     if asks(words, "check") {
         return check_main(alloc, source, sink);
     }
+    if asks(words, "waits") {
+        return waits_main(alloc, source, sink);
+    }
     match load_number(words) {
         Some(number) => load_main(alloc, number, sink),
         None => say(
-            b"usage: comrun replay|check|load N|objref\n",
+            b"usage: comrun replay|check|load N|objref|waits\n",
             Status::Usage,
             sink,
         )
@@ -152,6 +161,7 @@ pub fn check_main<S: Source, K: Sink>(alloc: Global, source: &mut S, sink: &mut 
     check_input(alloc, source, sink).code()
 }
 
+#[tactic(auto, using(crate::proofs::CheckCauses::check_unread, crate::proofs::CheckCauses::check_said))]
 fn check_input<S: Source, K: Sink>(alloc: Global, source: &mut S, sink: &mut K) -> Status
     ensures { Causes question_of IsReply result (sides_of S.left S.faults_of K.held K.faults_of
         source.old source.new sink.old sink.new) }
@@ -161,6 +171,31 @@ fn check_input<S: Source, K: Sink>(alloc: Global, source: &mut S, sink: &mut K) 
         Err(status) => return status,
     };
     match checked(alloc, text.as_slice()) {
+        Ok(reply) => say(reply.text.as_slice(), reply.status, sink),
+        Err(_) => Status::Memory,
+    }
+}
+
+/// Reads a scenario from the source, and says why its history is stuck: which lane waits for what, and the
+/// cycle in which lanes wait for each other; or that it is not stuck. An input that is too long or whose text
+/// is no scenario is refused. The answer is the exit status: each has its cause.
+pub fn waits_main<S: Source, K: Sink>(alloc: Global, source: &mut S, sink: &mut K) -> u8
+    ensures { Responds input_of IsExplained result (sides_of S.left S.faults_of K.held K.faults_of
+        source.old source.new sink.old sink.new) }
+{
+    waits_input(alloc, source, sink).code()
+}
+
+#[tactic(auto, using(crate::proofs::ExplainCauses::waits_unread, crate::proofs::ExplainCauses::waits_said))]
+fn waits_input<S: Source, K: Sink>(alloc: Global, source: &mut S, sink: &mut K) -> Status
+    ensures { Causes input_of IsExplained result (sides_of S.left S.faults_of K.held K.faults_of
+        source.old source.new sink.old sink.new) }
+{
+    let text = match read_input(alloc, LONGEST, source, sink) {
+        Ok(text) => text,
+        Err(status) => return status,
+    };
+    match explained(alloc, text.as_slice()) {
         Ok(reply) => say(reply.text.as_slice(), reply.status, sink),
         Err(_) => Status::Memory,
     }

@@ -2,8 +2,10 @@
 ghost use Rattle.std.specs.Prelude.{◌≡◌, ◌++◌, IfOk, OnOk, decimal};
 ghost use Rattle.com_model.specs.Formed.{Formed};
 ghost use Rattle.com_scenario.specs.Scenarios.{reading};
-ghost use Rattle.com_top.specs.Inputs.{IsFormed, input_of, refused_line};
+ghost use Rattle.com_top.specs.declared.statuses.Status.TheVariants as status;
+ghost use Rattle.com_top.specs.Inputs.{IsFormed, input_of, refused_line, too_long_line};
 
+use crate::statuses::{Reply, Status};
 use com_base::{ByteList, Memory};
 use com_model::Scenario;
 use com_read_operands::{Fault, ScenarioError};
@@ -73,6 +75,27 @@ pub fn refused_line(alloc: Global, fault: Fault) -> Result<ByteList, Memory>
     push_number(&mut line, fault.number as u64)?;
     line.push_all(b"\n")?;
     Ok(line)
+}
+
+/// The reply to a text that is no scenario: the line of its first fault. The only error is want of memory.
+pub fn refused(alloc: Global, fault: Fault) -> Result<Reply, Memory>
+    ensures { IfOk result (λ reply. (reply.status ≡ status.Refused) × (reply.text ≡ refused_line fault)) }
+{
+    let text = refused_line(alloc, fault)?;
+    Ok(Reply {
+        status: Status::Refused,
+        text,
+    })
+}
+
+/// The reply to an input that is too long. The only error is want of memory.
+pub fn too_long(alloc: Global) -> Result<Reply, Memory>
+    ensures { IfOk result (λ reply. (reply.status ≡ status.Refused) × (reply.text ≡ too_long_line)) }
+{
+    Ok(Reply {
+        status: Status::Refused,
+        text: ByteList::from_slice(alloc, b"refused 0 0 12\n")?,
+    })
 }
 
 fn push_number(line: &mut ByteList, number: u64) -> Result<(), Memory>

@@ -1,5 +1,7 @@
 //! What follows from the causes of the statuses.
 ghost use Rattle.com_top.specs.Checking.{IsReply, question_of};
+ghost use Rattle.com_top.specs.Explaining.{IsExplained};
+ghost use Rattle.com_top.specs.Inputs.{input_of};
 ghost use Rattle.com_top.specs.Loading.{LoadsAreWhole};
 ghost use Rattle.com_top.specs.Replies.{RepliesWhole};
 ghost use Rattle.com_top.specs.Responses.{RespondsWhole};
@@ -35,4 +37,11 @@ pub fn check_completeness()
 /// of the end of the history: 0, 5 or 6; or memory wanted.
 pub fn load_completeness()
     ensures { LoadsAreWhole }
+{}
+
+/// Completeness of `waits`: where the source tells its bytes and no count of faults rose, the status is that of
+/// the reply to them and the sink gained its whole text: 2 with the line of the refusal; 0 with why the history
+/// is stuck, or that it is not; or memory wanted.
+pub fn waits_completeness()
+    ensures { RespondsWhole input_of IsExplained }
 {}

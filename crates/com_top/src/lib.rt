@@ -3,16 +3,19 @@
 
 mod checks;
 mod commands;
+mod explaining;
 mod inputs;
 mod laws;
 mod loads;
+mod recording;
 mod sides;
 mod statuses;
 
 pub use com_base::Memory;
-pub use commands::{check_main, com_main, load_main, objref_main, replay_main};
+pub use commands::{check_main, com_main, load_main, objref_main, replay_main, waits_main};
 pub use inputs::{Input, input_of};
 pub use laws::{
     check_completeness, completeness, load_completeness, objref_completeness, scenarios_replay,
+    waits_completeness,
 };
 pub use statuses::Status;
