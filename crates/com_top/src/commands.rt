@@ -9,7 +9,7 @@ ghost use Rattle.com_top.specs.Explaining.{IsExplained, IsWaitsWord};
 ghost use Rattle.com_top.specs.Loading.{HasLoadCause, Loads, load_number};
 ghost use Rattle.com_model.specs.Formed.{Formed};
 ghost use Rattle.com_top.specs.Inputs.{IsFormed, input_of};
-ghost use Rattle.com_top.specs.Replies.{HasReplyCause, IsObjRefWord, Replies, status_for};
+ghost use Rattle.com_top.specs.Replies.{IsObjRefWord, IsShown, digits_of, status_for};
 ghost use Rattle.com_top.specs.Responses.{Causes, Responds};
 ghost use Rattle.com_top.specs.Statuses.{Answers, HasCause, IsAnswered, IsReplay, IsSaid, Says, sides_of, usage_line};
 
@@ -20,7 +20,7 @@ use crate::loads::loaded;
 use crate::sides::{read_input, say};
 use crate::statuses::{Status, status_at};
 use com_gen::number_of;
-use com_io::{ReadAllError, Sink, Source, read_all};
+use com_io::{Sink, Source};
 use com_model::Scenario;
 use com_objref::show;
 use com_play::{ReplayError, play};
@@ -49,7 +49,7 @@ pub fn com_main<S: Source, K: Sink>(
 ) -> u8
     ensures replay { IsReplay (map string_bytes words.now) → Answers result (sides_of S.left S.faults_of K.held K.faults_of
         source.old source.new sink.old sink.new) }
-    ensures objref { IsObjRefWord (map string_bytes words.now) → Replies result (sides_of S.left S.faults_of K.held K.faults_of
+    ensures objref { IsObjRefWord (map string_bytes words.now) → Responds digits_of IsShown result (sides_of S.left S.faults_of K.held K.faults_of
         source.old source.new sink.old sink.new) }
     ensures check { IsCheckWord (map string_bytes words.now) → Responds question_of IsReply result
         (sides_of S.left S.faults_of K.held K.faults_of source.old source.new sink.old sink.new) }
@@ -103,15 +103,14 @@ pub fn replay_main<S: Source, K: Sink>(alloc: Global, source: &mut S, sink: &mut
     replay_input(alloc, source, sink).code()
 }
 
+#[tactic(auto, using(crate::proofs::Causes::replay_unread, crate::proofs::Causes::replay_answered))]
 fn replay_input<S: Source, K: Sink>(alloc: Global, source: &mut S, sink: &mut K) -> Status
     ensures { HasCause result (sides_of S.left S.faults_of K.held K.faults_of
         source.old source.new sink.old sink.new) }
 {
-    let text = match read_all(alloc, source, LONGEST) {
+    let text = match read_input(alloc, LONGEST, source, sink) {
         Ok(text) => text,
-        Err(ReadAllError::ReadFault) => return say(b"read fault\n", Status::ReadFault, sink),
-        Err(ReadAllError::TooLong) => return answer(alloc, Input::TooLong, sink),
-        Err(ReadAllError::Memory) => return Status::Memory,
+        Err(status) => return status,
     };
     match input_of(alloc, text.as_slice()) {
         Ok(input) => answer(alloc, input, sink),
@@ -225,27 +224,25 @@ fn load<K: Sink>(alloc: Global, number: u32, sink: &mut K) -> Status
 /// Reads hexadecimal text from the source, and shows the fields of the OBJREF that it spells, or its first
 /// fault. The answer is the exit status: each has its cause.
 pub fn objref_main<S: Source, K: Sink>(alloc: Global, source: &mut S, sink: &mut K) -> u8
-    ensures { Replies result (sides_of S.left S.faults_of K.held K.faults_of
+    ensures { Responds digits_of IsShown result (sides_of S.left S.faults_of K.held K.faults_of
         source.old source.new sink.old sink.new) }
 {
     objref_input(alloc, source, sink).code()
 }
 
+#[tactic(auto, using(crate::proofs::ReplyCauses::objref_unread, crate::proofs::ReplyCauses::objref_said))]
 fn objref_input<S: Source, K: Sink>(alloc: Global, source: &mut S, sink: &mut K) -> Status
-    ensures { HasReplyCause result (sides_of S.left S.faults_of K.held K.faults_of
+    ensures { Causes digits_of IsShown result (sides_of S.left S.faults_of K.held K.faults_of
         source.old source.new sink.old sink.new) }
 {
-    let text = match read_all(alloc, source, LONGEST_DIGITS) {
+    let text = match read_input(alloc, LONGEST_DIGITS, source, sink) {
         Ok(text) => text,
-        Err(ReadAllError::ReadFault) => return say(b"read fault\n", Status::ReadFault, sink),
-        Err(ReadAllError::TooLong) => return say(b"refused 0 0 12\n", Status::Refused, sink),
-        Err(ReadAllError::Memory) => return Status::Memory,
+        Err(status) => return status,
     };
-    let shown = match show(alloc, text.as_slice()) {
-        Ok(shown) => shown,
-        Err(_) => return Status::Memory,
-    };
-    say(shown.text.as_slice(), status_for(shown.found), sink)
+    match show(alloc, text.as_slice()) {
+        Ok(shown) => say(shown.text.as_slice(), status_for(shown.found), sink),
+        Err(_) => Status::Memory,
+    }
 }
 
 fn status_for(found: bool) -> Status

@@ -3,7 +3,7 @@ ghost use Rattle.com_top.specs.Checking.{IsReply, question_of};
 ghost use Rattle.com_top.specs.Explaining.{IsExplained};
 ghost use Rattle.com_top.specs.Inputs.{input_of};
 ghost use Rattle.com_top.specs.Loading.{LoadsAreWhole};
-ghost use Rattle.com_top.specs.Replies.{RepliesWhole};
+ghost use Rattle.com_top.specs.Replies.{IsShown, digits_of};
 ghost use Rattle.com_top.specs.Responses.{RespondsWhole};
 ghost use Rattle.com_top.specs.Statuses.{Completes, ScenariosReplay};
 
@@ -23,7 +23,7 @@ pub fn scenarios_replay()
 /// Completeness of `objref`: where the source tells its bytes and no count of faults rose, the status is that
 /// of the reply to them and the sink gained its whole text; or memory wanted.
 pub fn objref_completeness()
-    ensures { RepliesWhole }
+    ensures { RespondsWhole digits_of IsShown }
 {}
 
 /// Completeness of `check`: where the source tells its bytes and no count of faults rose, the status is that of
