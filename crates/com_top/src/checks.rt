@@ -3,7 +3,7 @@ ghost use Rattle.std.specs.Prelude.{◌≡◌, ◌<◌, ◌-◌, ◌^◌, IfOk, 
 ghost use Rattle.com_model.specs.Formed.{Formed};
 ghost use Rattle.com_top.specs.Checking.{IsReply, asked_of, status_of, with_trace, without_trace, Faulty};
 
-use crate::inputs::{read_scenario, refused};
+use crate::inputs::{read_scenario, refused, shared};
 use crate::statuses::{Reply, Status};
 use com_base::Memory;
 use com_check::{Cut, Judged, check, cut_text};
@@ -53,7 +53,7 @@ fn judged(alloc: Global, read: Result<Scenario, Fault>, trace: &[u8]) -> Result<
 {
     match read {
         Ok(scenario) => {
-            let judged = check(alloc, scenario, trace)?;
+            let judged = check(alloc, shared(alloc, scenario)?, trace)?;
             let text = judged.text(alloc)?;
             Ok(Reply {
                 status: status_of(&judged),

@@ -4,14 +4,13 @@ ghost use Rattle.com_model.specs.Formed.{Formed};
 ghost use Rattle.com_top.specs.Explaining.{IsExplained, explanation};
 ghost use Rattle.com_top.specs.Inputs.{IsFormed, input_of};
 
-use crate::inputs::{Input, input_of, refused, too_long};
+use crate::inputs::{Input, input_of, refused, shared, too_long};
 use crate::recording::record;
 use crate::statuses::{Reply, Status};
 use com_base::{ByteList, Memory};
 use com_model::Scenario;
 use com_waits::{explain, text_of};
 use std::alloc::Global;
-use std::sync::Arc;
 
 /// The status and the text that answer an input of these bytes. The only error is want of memory.
 pub fn explained(alloc: Global, bytes: &[u8]) -> Result<Reply, Memory>
@@ -44,7 +43,7 @@ fn explanation(alloc: Global, scenario: Scenario) -> Result<ByteList, Memory>
     requires { Formed scenario }
     ensures { IfOk result (λ text. text ≡ explanation scenario) }
 {
-    let scenario = Arc::new(alloc, scenario)?;
+    let scenario = shared(alloc, scenario)?;
     let recorded = record(alloc, &scenario)?;
     let waits = explain(
         alloc,

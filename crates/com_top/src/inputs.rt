@@ -3,6 +3,7 @@ ghost use Rattle.std.specs.Prelude.{◌≡◌, ◌++◌, IfOk, OnOk, decimal};
 ghost use Rattle.com_model.specs.Formed.{Formed};
 ghost use Rattle.com_scenario.specs.Scenarios.{reading};
 ghost use Rattle.com_top.specs.declared.statuses.Status.TheVariants as status;
+ghost use Rattle.std.specs.Arc.{arc_value};
 ghost use Rattle.com_top.specs.Inputs.{IsFormed, input_of, refused_line, too_long_line};
 
 use crate::statuses::{Reply, Status};
@@ -12,6 +13,7 @@ use com_read_operands::{Fault, ScenarioError};
 use com_scenario::{is_too_long, parse};
 use itoa::Buffer;
 use std::alloc::{AllocError, Global};
+use std::sync::Arc;
 
 /// What an input of `replay` is.
 #[derive(Drop)]
@@ -59,6 +61,13 @@ pub fn read_scenario(alloc: Global, text: &[u8]) -> Result<Result<Scenario, Faul
         })),
         Err(ScenarioError::Memory) => Err(AllocError),
     }
+}
+
+/// A scenario that can be shared. The only error is want of memory.
+pub fn shared(alloc: Global, scenario: Scenario) -> Result<Arc<Scenario>, Memory>
+    ensures { IfOk result (λ shared. arc_value shared ≡ scenario) }
+{
+    Ok(Arc::new(alloc, scenario)?)
 }
 
 /// The line of a fault: its line, its column and its number. The only error is want of memory.

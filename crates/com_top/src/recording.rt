@@ -33,16 +33,16 @@ pub fn record(alloc: Global, scenario: &Arc<Scenario>) -> Result<Recorded, Memor
     let mut servants: Vec<Box<dyn Servant + Send>> = Vec::new(alloc);
     add(
         &mut servants,
-        Box::new(alloc, Interpreter::new())?,
+        boxed(alloc, Interpreter::new())?,
         Native::Bodies,
     )?;
     add(
         &mut servants,
-        Box::new(alloc, Counter::new())?,
+        boxed(alloc, Counter::new())?,
         Native::Counter,
     )?;
-    add(&mut servants, Box::new(alloc, Relay::new())?, Native::Relay)?;
-    add(&mut servants, Box::new(alloc, Latch::new())?, Native::Latch)?;
+    add(&mut servants, boxed(alloc, Relay::new())?, Native::Relay)?;
+    add(&mut servants, boxed(alloc, Latch::new())?, Native::Latch)?;
     record_by(alloc, &**scenario, &mut core, &mut servants)
 }
 
@@ -73,6 +73,13 @@ fn record_by<C: Runtime>(
             Step::Over(ended) => return Ok(Recorded { entries, ended }),
         }
     }
+}
+
+// A value in a box. The only error is want of memory.
+fn boxed<T: Drop>(alloc: Global, value: T) -> Result<Box<T>, Memory>
+    ensures { IfOk result (λ boxed. boxed.value ≡ value) }
+{
+    Ok(Box::new(alloc, value)?)
 }
 
 // Puts one servant more behind a row. Its kind is told to the proof alone. The only error is want of memory.
