@@ -1,10 +1,8 @@
 -- The causes of the statuses, from what the calls below answer.
-use Rattle.std.proofs.Common.{◌≡◌, ℕ, ◌<◌, ◌≤◌, inl, inr, ◌⊎◌, List, [], ◌∷◌, length, refl, sym, ◌∙◌, ap, Option, Some, None, Ok, Err, subst, Result, map, slice_index_or, ◌↔◌, arith}
+use Rattle.std.proofs.Common.{◌≡◌, ℕ, ◌<◌, inl, inr, ◌⊎◌, List, length, refl, sym, ◌∙◌, ap, Option, Some, None, subst}
 use Rattle.std.specs.Prelude.{⊤, true, is_some}
-use Rattle.com_io.specs.declared.whole.ReadAllError.{ReadAllError}
-use Rattle.com_io.specs.declared.whole.ReadAllError.TheVariants as read_all_error
 use Rattle.com_io.specs.Faults.{Rose}
-use Rattle.com_io.specs.Told.{Gains, GainsPrefix, IsAtEnd, IsWholeOf}
+use Rattle.com_io.specs.Told.{Gains, GainsPrefix, IsAtEnd}
 use Rattle.com_io.proofs.Passing.{prefix_of_none}
 use Rattle.com_read_operands.specs.declared.faults.Fault.{Fault}
 use Rattle.com_model.specs.declared.counts.Ended.{Ended}
@@ -169,15 +167,6 @@ replay_unread status.Stuck sides unread = absurd unread
 replay_unread status.Budget sides unread = absurd unread
 replay_unread status.Differs sides unread = absurd unread
 replay_unread status.Memory sides unread = inl unread
-
--- A list of one item.
-pub one_item : {X Y : Type 0} (f : X → Y) (xs : List X) (x : X) → 1 ≤ length xs → length xs < 2 → x ≡ slice_index_or xs 0 x → map f xs ≡ f x ∷ []
-one_item f [] x low high is = absurd (omega arith)
-one_item f (y ∷ []) x low high is = ap (λ z. f z ∷ []) (sym is)
-one_item f (y ∷ z ∷ xs) x low high is = absurd (omega arith)
-
-pub one_word : (words : List (List ℕ)) (word : List ℕ) → words ≡ word ∷ [] → (wanted : List ℕ) → (word ≡ wanted) ↔ (words ≡ wanted ∷ [])
-one_word words word is wanted = ((λ e. is ∙ ap (λ (w : List ℕ). w ∷ []) e), (λ e. cc))
 
 written_complete : (s : Status) (code : ℕ) (sides : Sides) (bytes : List ℕ) → code ≡ code_of s → IsWritten s sides → sides.left ≡ Some bytes
     → IsComplete code sides bytes ⊎ (code ≡ 9)

@@ -5,4 +5,3 @@ pub mod LoadCauses
 pub mod ReplyCauses
 pub mod Recording
 pub mod Responding
-pub mod Words

@@ -1,5 +1,5 @@
 -- What the command `check` answers for an input.
-use Rattle.std.specs.Prelude.{◌≡◌, ℕ, List, [], ◌∷◌, Result, Ok, Err, length, nat_lt, drop, take, if◌then◌else◌, codes}
+use Rattle.std.specs.Prelude.{◌≡◌, ℕ, List, Result, Ok, Err, length, nat_lt, drop, take, if◌then◌else◌}
 use Rattle.com_read_operands.specs.declared.faults.Fault.{Fault}
 use Rattle.com_model.specs.declared.scenario.Scenario.{Scenario}
 use Rattle.com_text.specs.Scanning.{lines_of}
@@ -13,10 +13,6 @@ use Rattle.com_check.specs.Judging.{IsJudged, judged_text}
 use Rattle.com_top.specs.declared.statuses.Status.{Status}
 use Rattle.com_top.specs.declared.statuses.Status.TheVariants as status
 use Rattle.com_top.specs.Inputs.{refused_line, too_long_line}
-
--- The words that ask for it.
-abbrev pub IsCheckWord : List (List ℕ) → Type 0
-IsCheckWord words = words ≡ codes "check" ∷ []
 
 -- The longest input, in bytes: a scenario's text and a trace.
 abbrev pub longest_trace : ℕ

@@ -1,5 +1,5 @@
 -- What the command `waits` answers for an input.
-use Rattle.std.specs.Prelude.{◌≡◌, List, [], ◌∷◌, ℕ, Some, codes}
+use Rattle.std.specs.Prelude.{◌≡◌, List, ℕ, Some}
 use Rattle.com_model.specs.declared.counts.Ended.{Ended}
 use Rattle.com_model.specs.declared.deeds.Entry.{Entry}
 use Rattle.com_model.specs.declared.scenario.Scenario.{Scenario}
@@ -13,10 +13,6 @@ use Rattle.com_top.specs.declared.inputs.Input.TheVariants as input
 use Rattle.com_top.specs.declared.statuses.Status.{Status}
 use Rattle.com_top.specs.declared.statuses.Status.TheVariants as status
 use Rattle.com_top.specs.Inputs.{refused_line, too_long_line}
-
--- The words that ask for it.
-abbrev pub IsWaitsWord : List (List ℕ) → Type 0
-IsWaitsWord words = words ≡ codes "waits" ∷ []
 
 -- Why the one history of a scenario is stuck: which lane waits for what, and the cycle; or that it is not.
 unfoldable pub explanation : Scenario → List ℕ

@@ -5,3 +5,5 @@ pub mod Replies
 pub mod Checking
 pub mod Explaining
 pub mod Loading
+pub mod Words
+pub mod Commands

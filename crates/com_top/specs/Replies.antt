@@ -1,14 +1,10 @@
 -- What the command `objref` answers for an input.
-use Rattle.std.specs.Prelude.{◌≡◌, ℕ, List, [], ◌∷◌, Bool, true, false, length, nat_lt}
-use Rattle.std.specs.Prelude.{if◌then◌else◌, codes}
+use Rattle.std.specs.Prelude.{◌≡◌, ℕ, List, Bool, true, false, length, nat_lt}
+use Rattle.std.specs.Prelude.{if◌then◌else◌}
 use Rattle.com_objref.specs.Shown.{shown_of}
 use Rattle.com_top.specs.declared.statuses.Status.{Status}
 use Rattle.com_top.specs.declared.statuses.Status.TheVariants as status
 use Rattle.com_top.specs.Inputs.{too_long_line}
-
--- The words that ask for it.
-abbrev pub IsObjRefWord : List (List ℕ) → Type 0
-IsObjRefWord words = words ≡ codes "objref" ∷ []
 
 -- The longest text of digits, in bytes.
 abbrev pub longest_digits : ℕ

@@ -1,5 +1,5 @@
 -- The exit statuses, and when each comes.
-use Rattle.std.specs.Prelude.{◌≡◌, ℕ, ◌⊎◌, List, [], ◌∷◌, Option, Some, codes}
+use Rattle.std.specs.Prelude.{◌≡◌, ℕ, ◌⊎◌, List, Option, Some, codes}
 use Rattle.com_io.specs.Faults.{Rose}
 use Rattle.com_io.specs.Told.{Gains, GainsPrefix, IsAtEnd}
 use Rattle.com_drive.specs.Replays.{whole_text}
@@ -22,10 +22,6 @@ code_of status.Stuck = 5
 code_of status.Budget = 6
 code_of status.Differs = 7
 code_of status.Memory = 9
-
--- The words that ask for a replay.
-abbrev pub IsReplay : List (List ℕ) → Type 0
-IsReplay words = words ≡ codes "replay" ∷ []
 
 abbrev pub usage_line : List ℕ
 usage_line = codes "usage: comrun replay|check|load N|objref|waits\n"

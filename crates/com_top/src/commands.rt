@@ -1,17 +1,16 @@
 //! The commands.
-ghost use Rattle.std.specs.Prelude.{◌≡◌, ◌⊎◌, ◌≤◌, ◌∷◌, [], ℕ, List, OnOk, IfSome, IsTrue, ◌↔◌, Some, None, map, string_bytes};
-ghost use Rattle.std.specs.Prelude.{codes};
-ghost use Rattle.com_io.specs.Faults.{Rose};
-ghost use Rattle.com_io.specs.Told.{Gains, GainsPrefix};
-ghost use Rattle.com_top.specs.declared.inputs.Input.TheVariants as input;
-ghost use Rattle.com_top.specs.Checking.{IsCheckWord, IsReply, question_of};
-ghost use Rattle.com_top.specs.Explaining.{IsExplained, IsWaitsWord};
-ghost use Rattle.com_top.specs.Loading.{HasLoadCause, Loads, load_number};
+ghost use Rattle.std.specs.Prelude.{◌≡◌, map, string_bytes};
 ghost use Rattle.com_model.specs.Formed.{Formed};
+ghost use Rattle.com_top.specs.declared.inputs.Input.TheVariants as input;
+ghost use Rattle.com_top.specs.Checking.{IsReply, question_of};
+ghost use Rattle.com_top.specs.Commands.{Answered, ReadsNone};
+ghost use Rattle.com_top.specs.Explaining.{IsExplained};
 ghost use Rattle.com_top.specs.Inputs.{IsFormed, input_of};
-ghost use Rattle.com_top.specs.Replies.{IsObjRefWord, IsShown, digits_of, status_for};
+ghost use Rattle.com_top.specs.Loading.{HasLoadCause, Loads};
+ghost use Rattle.com_top.specs.Replies.{IsShown, digits_of, status_for};
 ghost use Rattle.com_top.specs.Responses.{Causes, Responds};
-ghost use Rattle.com_top.specs.Statuses.{Answers, HasCause, IsAnswered, IsReplay, IsSaid, Says, sides_of, usage_line};
+ghost use Rattle.com_top.specs.Statuses.{Answers, HasCause, IsAnswered, IsSaid, sides_of, usage_line};
+ghost use Rattle.com_top.specs.Words.{command_of};
 
 use crate::checks::checked;
 use crate::explaining::explained;
@@ -19,7 +18,7 @@ use crate::inputs::{Input, input_of, refused_line};
 use crate::loads::loaded;
 use crate::sides::{read_input, say};
 use crate::statuses::{Status, status_at};
-use com_gen::number_of;
+use crate::words::{Command, command_of};
 use com_io::{Sink, Source};
 use com_model::Scenario;
 use com_objref::show;
@@ -47,50 +46,31 @@ pub fn com_main<S: Source, K: Sink>(
     source: &mut S,
     sink: &mut K,
 ) -> u8
-    ensures replay { IsReplay (map string_bytes words.now) → Answers result (sides_of S.left S.faults_of K.held K.faults_of
-        source.old source.new sink.old sink.new) }
-    ensures objref { IsObjRefWord (map string_bytes words.now) → Responds digits_of IsShown result (sides_of S.left S.faults_of K.held K.faults_of
-        source.old source.new sink.old sink.new) }
-    ensures check { IsCheckWord (map string_bytes words.now) → Responds question_of IsReply result
+    ensures answers { Answered (command_of (map string_bytes words.now)) result
         (sides_of S.left S.faults_of K.held K.faults_of source.old source.new sink.old sink.new) }
-    ensures waits { IsWaitsWord (map string_bytes words.now) → Responds input_of IsExplained result
-        (sides_of S.left S.faults_of K.held K.faults_of source.old source.new sink.old sink.new) }
-    ensures load { (n : ℕ) → load_number (map string_bytes words.now) ≡ Some n
-        → Loads result n (K.held sink.old) (K.held sink.new) (K.faults_of sink.old) (K.faults_of sink.new) }
-    ensures load_reads_none { (n : ℕ) → load_number (map string_bytes words.now) ≡ Some n → source.new ≡ source.old }
-    ensures usage { (IsReplay (map string_bytes words.now) → ⊥)
-        → (IsObjRefWord (map string_bytes words.now) → ⊥)
-        → (IsCheckWord (map string_bytes words.now) → ⊥)
-        → (IsWaitsWord (map string_bytes words.now) → ⊥)
-        → load_number (map string_bytes words.now) ≡ None
-        → IsSaid result 1 usage_line (K.held sink.old) (K.held sink.new)
-        (K.faults_of sink.old) (K.faults_of sink.new) }
-    ensures unread { (IsReplay (map string_bytes words.now) → ⊥)
-        → (IsObjRefWord (map string_bytes words.now) → ⊥)
-        → (IsCheckWord (map string_bytes words.now) → ⊥)
-        → (IsWaitsWord (map string_bytes words.now) → ⊥) → source.new ≡ source.old }
+    ensures unread { ReadsNone (command_of (map string_bytes words.now)) → source.new ≡ source.old }
 {
-    if asks(words, "replay") {
-        return replay_main(alloc, source, sink);
+    match command_of(words) {
+        Command::Replay => replay_main(alloc, source, sink),
+        Command::Check => check_main(alloc, source, sink),
+        Command::Load(number) => load_main(alloc, number, sink),
+        Command::ObjRef => objref_main(alloc, source, sink),
+        Command::Waits => waits_main(alloc, source, sink),
+        Command::Usage => usage(sink),
     }
-    if asks(words, "objref") {
-        return objref_main(alloc, source, sink);
-    }
-    if asks(words, "check") {
-        return check_main(alloc, source, sink);
-    }
-    if asks(words, "waits") {
-        return waits_main(alloc, source, sink);
-    }
-    match load_number(words) {
-        Some(number) => load_main(alloc, number, sink),
-        None => say(
-            b"usage: comrun replay|check|load N|objref|waits\n",
-            Status::Usage,
-            sink,
-        )
-        .code(),
-    }
+}
+
+// Writes the line of the usage.
+fn usage<K: Sink>(sink: &mut K) -> u8
+    ensures { IsSaid result 1 usage_line (K.held sink.old) (K.held sink.new)
+        (K.faults_of sink.old) (K.faults_of sink.new) }
+{
+    say(
+        b"usage: comrun replay|check|load N|objref|waits\n",
+        Status::Usage,
+        sink,
+    )
+    .code()
 }
 
 /// Reads a scenario from the source, and writes its history and report to the sink. An input that is too
@@ -249,39 +229,4 @@ fn status_for(found: bool) -> Status
     ensures { result ≡ status_for found }
 {
     if found { Status::Done } else { Status::Refused }
-}
-
-// Whether the words are the one word that is wanted.
-fn asks(words: &[String], wanted: &str) -> bool
-    ensures { IsTrue result ↔ (map string_bytes words.now ≡ wanted.now ∷ []) }
-{
-    match words {
-        [word] => is_word(word.as_str(), wanted),
-        _ => false,
-    }
-}
-
-// The number of the words `load` and a number.
-fn load_number(words: &[String]) -> Option<u32>
-    ensures { result ≡ load_number (map string_bytes words.now) }
-{
-    if words.len() != 2 {
-        return None;
-    }
-    number_behind(words[0].as_str(), words[1].as_str())
-}
-
-fn number_behind(word: &str, number: &str) -> Option<u32>
-    ensures { result ≡ load_number (word.now ∷ number.now ∷ []) }
-{
-    if !is_word(word, "load") {
-        return None;
-    }
-    number_of(number.as_bytes())
-}
-
-fn is_word(word: &str, wanted: &str) -> bool
-    ensures { IsTrue result ↔ (word.now ≡ wanted.now) }
-{
-    word == wanted
 }

@@ -10,6 +10,7 @@ mod loads;
 mod recording;
 mod sides;
 mod statuses;
+mod words;
 
 pub use com_base::Memory;
 pub use commands::{check_main, com_main, load_main, objref_main, replay_main, waits_main};
@@ -19,3 +20,4 @@ pub use laws::{
     waits_completeness,
 };
 pub use statuses::Status;
+pub use words::{Command, command_of};
