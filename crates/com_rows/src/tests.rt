@@ -103,7 +103,7 @@ fn other_words_are_usage_and_read_nothing(rt: HostRuntime) -> Result<(), Fail> {
     assert_eq!(rt; replay_main(rt.alloc(), &mut source, &mut sink), 2);
     assert_eq!(rt;
         sink.held(),
-        b"usage: comrun replay|load N|objref\nrefused 1 1 1\n".as_slice()
+        b"usage: comrun replay|check|load N|objref|waits\nrefused 1 1 1\n".as_slice()
     );
     Ok(())
 }

@@ -1,10 +1,8 @@
 -- The causes of the statuses, from what the calls below answer.
-use Rattle.std.proofs.Common.{◌≡◌, ℕ, ◌<◌, ◌≤◌, inl, inr, ◌⊎◌, List, [], ◌∷◌, length, refl, sym, ◌∙◌, ap, Option, Some, None, Ok, Err, subst, Result, map, slice_index_or, ◌↔◌, arith}
+use Rattle.std.proofs.Common.{◌≡◌, ℕ, ◌<◌, inl, inr, ◌⊎◌, List, length, refl, sym, ◌∙◌, ap, Option, Some, None, subst}
 use Rattle.std.specs.Prelude.{⊤, true, is_some}
-use Rattle.com_io.specs.declared.whole.ReadAllError.{ReadAllError}
-use Rattle.com_io.specs.declared.whole.ReadAllError.TheVariants as read_all_error
 use Rattle.com_io.specs.Faults.{Rose}
-use Rattle.com_io.specs.Told.{Gains, GainsPrefix, IsAtEnd, IsWholeOf}
+use Rattle.com_io.specs.Told.{Gains, GainsPrefix, IsAtEnd}
 use Rattle.com_io.proofs.Passing.{prefix_of_none}
 use Rattle.com_read_operands.specs.declared.faults.Fault.{Fault}
 use Rattle.com_model.specs.declared.counts.Ended.{Ended}
@@ -20,26 +18,12 @@ use Rattle.com_top.specs.declared.inputs.Input.TheVariants as input
 use Rattle.com_top.specs.declared.statuses.Status.{Status}
 use Rattle.com_top.specs.declared.statuses.Status.TheVariants as status
 use Rattle.com_top.specs.Inputs.{input_of, refused_line, status_at, too_long_line, IsAnswer, IsHistory}
-use Rattle.com_top.specs.Statuses.{Completes, GainsFront, HasCause, IsAnswered, IsComplete, IsReplayed, IsText, IsWritten, Says, ScenariosReplay, Sides, code_of}
+use Rattle.com_top.specs.Responses.{IsLonger, IsUnread, TellsFault}
+use Rattle.com_top.specs.Statuses.{Completes, GainsFront, HasCause, IsAnswered, IsComplete, IsReadFault, IsReplayed, IsText, IsWritten, Says, ScenariosReplay, Sides, code_of, read_fault_line}
 
-too_long_input : (bytes : List ℕ) → 16777216 < length bytes → input_of bytes ≡ input.TooLong
+pub too_long_input : (bytes : List ℕ) → 16777216 < length bytes → input_of bytes ≡ input.TooLong
 unfolding input_of
 too_long_input bytes h = rw (longer_than_all bytes h) refl
-
--- An input that was told and came with too many bytes is too long.
-pub told_too_long : (left : Option (List ℕ)) (answer : Result (List ℕ) ReadAllError)
-    → ((bytes : List ℕ) → left ≡ Some bytes → IsWholeOf 16777216 bytes answer) → answer ≡ Err read_all_error.TooLong
-    → (bytes : List ℕ) → left ≡ Some bytes → input_of bytes ≡ input.TooLong
-told_too_long left answer told is bytes e =
-    too_long_input bytes (subst (λ (a : Result (List ℕ) ReadAllError). IsWholeOf 16777216 bytes a) is (told bytes e))
-
--- An input that was told and read whole is what was read of it.
-pub told_whole : (left : Option (List ℕ)) (answer : Result (List ℕ) ReadAllError) (text : List ℕ) (i : Input)
-    → ((bytes : List ℕ) → left ≡ Some bytes → IsWholeOf 16777216 bytes answer) → answer ≡ Ok text → i ≡ input_of text
-    → (bytes : List ℕ) → left ≡ Some bytes → input_of bytes ≡ i
-told_whole left answer text i told is read bytes e =
-    let whole = subst (λ (a : Result (List ℕ) ReadAllError). IsWholeOf 16777216 bytes a) is (told bytes e) in
-    ap input_of (sym whole.0) ∙ sym read
 
 -- A line that was said answers the input that it is the line of.
 pub said_answers : (s wanted : Status) (i : Input) (line : List ℕ) (held held_after : Option (List ℕ)) (faults faults_after : ℕ)
@@ -146,14 +130,43 @@ answered_cause s i sides which read (inr (inr part)) =
     subst (λ (x : Status). HasCause x sides) (sym part.0)
     (inr (record { text = part.1.text; whose = inl (text_is i sides which part.1); gained = part.1.gained }))
 
--- A list of one item.
-pub one_item : {X Y : Type 0} (f : X → Y) (xs : List X) (x : X) → 1 ≤ length xs → length xs < 2 → x ≡ slice_index_or xs 0 x → map f xs ≡ f x ∷ []
-one_item f [] x low high is = absurd (omega arith)
-one_item f (y ∷ []) x low high is = ap (λ z. f z ∷ []) (sym is)
-one_item f (y ∷ z ∷ xs) x low high is = absurd (omega arith)
+-- An input that was read.
+pub replay_answered : (read : List ℕ) (s : Status) (i : Input) (sides : Sides) → ((bytes : List ℕ) → sides.left ≡ Some bytes → bytes ≡ read)
+    → IsAtEnd sides.left_after → i ≡ input_of read
+    → IsAnswered s i sides.held sides.held_after sides.write_faults sides.write_faults_after → HasCause s sides
+replay_answered read s i sides told end is answered =
+    answered_cause s i sides (λ bytes e. ap input_of (told bytes e) ∙ sym is) (is_read i sides end) answered
 
-pub one_word : (words : List (List ℕ)) (word : List ℕ) → words ≡ word ∷ [] → (wanted : List ℕ) → (word ≡ wanted) ↔ (words ≡ wanted ∷ [])
-one_word words word is wanted = ((λ e. is ∙ ap (λ (w : List ℕ). w ∷ []) e), (λ e. cc))
+-- An input that is longer than every limit is too long.
+longer_which : (sides : Sides) → IsLonger 16777216 sides.left → (bytes : List ℕ) → sides.left ≡ Some bytes → input_of bytes ≡ input.TooLong
+longer_which sides long bytes e = too_long_input bytes (long bytes e)
+
+-- An input that was not read.
+pub replay_unread : (s : Status) (sides : Sides) → IsUnread 16777216 s sides → HasCause s sides
+replay_unread status.Done sides unread = absurd unread
+replay_unread status.Usage sides unread = absurd unread
+replay_unread status.Refused sides (long, gained) = record {
+  input = input.TooLong;
+  which = longer_which sides long;
+  text = too_long_line;
+  answered = (refl, refl);
+  gained = gained;
+}
+replay_unread status.ReadFault sides unread = unread
+replay_unread status.WriteFault sides (rose, inl part) = record {
+  rose = rose;
+  part = record {
+    text = too_long_line;
+    whose = inl (record { input = input.TooLong; which = longer_which sides part.0; status = status.Refused; answered = (refl, refl) });
+    gained = part.1;
+  };
+}
+replay_unread status.WriteFault sides (rose, inr fault) =
+    record { rose = rose; part = record { text = read_fault_line; whose = inr (fault.0, refl); gained = fault.1 } }
+replay_unread status.Stuck sides unread = absurd unread
+replay_unread status.Budget sides unread = absurd unread
+replay_unread status.Differs sides unread = absurd unread
+replay_unread status.Memory sides unread = inl unread
 
 written_complete : (s : Status) (code : ℕ) (sides : Sides) (bytes : List ℕ) → code ≡ code_of s → IsWritten s sides → sides.left ≡ Some bytes
     → IsComplete code sides bytes ⊎ (code ≡ 9)

@@ -1,4 +1,7 @@
 pub mod Causes
+pub mod CheckCauses
+pub mod ExplainCauses
 pub mod LoadCauses
 pub mod ReplyCauses
-pub mod Words
+pub mod Recording
+pub mod Responding

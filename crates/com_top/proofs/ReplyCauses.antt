@@ -1,27 +1,41 @@
 -- The causes of the statuses of `objref`.
-use Rattle.std.proofs.Common.{◌≡◌, ℕ, ◌⊎◌, inl, inr, List, sym, ◌∙◌, ap, Some}
-use Rattle.com_io.specs.Faults.{Rose}
-use Rattle.com_io.specs.Told.{Gains}
+use Rattle.std.proofs.Common.{◌≡◌, ℕ, ◌<◌, ◌≤◌, List, length, refl, sym, ◌∙◌, ap, subst, Bool, Option, Some, true, false, nat_lt, arith}
+use Rattle.com_io.specs.Told.{IsAtEnd}
+use Rattle.com_objref.specs.declared.Shown.{Shown}
+use Rattle.com_objref.specs.Shown.{shown_of}
 use Rattle.com_top.specs.declared.statuses.Status.{Status}
-use Rattle.com_top.specs.declared.statuses.Status.TheVariants as status
-use Rattle.com_top.specs.Statuses.{Sides, code_of}
-use Rattle.com_top.specs.Replies.{HasReplyCause, RepliesWhole, reply_to}
+use Rattle.com_top.specs.Replies.{Digits, IsShown, Spells, TooMany, digits_of, status_for}
+use Rattle.com_top.specs.Responses.{Causes, IsUnread}
+use Rattle.com_top.specs.Statuses.{Says, Sides}
+use Rattle.com_top.proofs.Responding.{Concludes, said_causes, unread_causes}
 
-whole_cause : (s : Status) (code : ℕ) (sides : Sides) (bytes : List ℕ) → code ≡ code_of s → HasReplyCause s sides → sides.left ≡ Some bytes
-    → (Rose sides.read_faults sides.read_faults_after → ⊥) → (Rose sides.write_faults sides.write_faults_after → ⊥)
-    → ((code ≡ code_of (reply_to bytes).status) × Gains sides.held sides.held_after (reply_to bytes).output) ⊎ (code ≡ 9)
-whole_cause status.Done code sides bytes e cause told calm_source calm_sink =
-    let reply = cause.1 bytes told in inl (e ∙ ap code_of (sym reply.0), reply.1)
-whole_cause status.Usage code sides bytes e cause told calm_source calm_sink = absurd cause
-whole_cause status.Refused code sides bytes e cause told calm_source calm_sink =
-    let reply = cause bytes told in inl (e ∙ ap code_of (sym reply.0), reply.1)
-whole_cause status.ReadFault code sides bytes e cause told calm_source calm_sink = absurd (calm_source cause.rose)
-whole_cause status.WriteFault code sides bytes e cause told calm_source calm_sink = absurd (calm_sink cause.0)
-whole_cause status.Stuck code sides bytes e cause told calm_source calm_sink = absurd cause
-whole_cause status.Budget code sides bytes e cause told calm_source calm_sink = absurd cause
-whole_cause status.Differs code sides bytes e cause told calm_source calm_sink = absurd cause
-whole_cause status.Memory code sides bytes e cause told calm_source calm_sink = inr e
+too_many : (bytes : List ℕ) → 1048576 < length bytes → digits_of bytes ≡ TooMany
+unfolding digits_of
+too_many bytes h = let long : nat_lt 1048576 (length bytes) ≡ true = grind (arith, h) in rw long refl
 
-pub replies_whole : RepliesWhole
-replies_whole code sides bytes replies told calm_source calm_sink =
-    whole_cause replies.status code sides bytes replies.number replies.cause told calm_source calm_sink
+spelled : (bytes : List ℕ) → length bytes ≤ 1048576 → digits_of bytes ≡ Spells bytes
+unfolding digits_of
+spelled bytes h = let short : nat_lt 1048576 (length bytes) ≡ false = grind (arith, h) in rw short refl
+
+-- An input that was not read.
+pub objref_unread : (s : Status) (sides : Sides) → IsUnread 1048576 s sides → Causes digits_of IsShown s sides
+objref_unread s sides unread = unread_causes 1048576 digits_of IsShown TooMany s sides (too_many, (refl, refl)) unread
+
+shown_concludes : (found : Bool) (left : Option (List ℕ)) → IsAtEnd left → Concludes (status_for found) left
+shown_concludes true left end = end
+shown_concludes false left end = tt
+
+-- What was said of an input that was read.
+pub objref_said : (read : List ℕ) (shown : Shown) (result s : Status) (text : List ℕ) (sides : Sides) → length read ≤ 1048576
+    → ((bytes : List ℕ) → sides.left ≡ Some bytes → bytes ≡ read) → IsAtEnd sides.left_after
+    → shown ≡ shown_of read → s ≡ status_for shown.found → text ≡ shown.text
+    → Says result s text sides.held sides.held_after sides.write_faults sides.write_faults_after → Causes digits_of IsShown result sides
+objref_said read shown result s text sides short told end is status written said =
+    let goes : s ≡ status_for (shown_of read).found = status ∙ ap (λ (x : Shown). status_for x.found) is in
+    said_causes digits_of IsShown result s text sides
+    (subst (λ (x : Status). Concludes x sides.left_after) (sym goes) (shown_concludes (shown_of read).found sides.left_after end))
+    (record {
+      asked = Spells read;
+      which = λ bytes e. ap digits_of (told bytes e) ∙ spelled read short;
+      fits = (goes, written ∙ ap (λ (x : Shown). x.text) is);
+    }) said

@@ -1,4 +1,9 @@
 pub mod Inputs
 pub mod Statuses
+pub mod Responses
 pub mod Replies
+pub mod Checking
+pub mod Explaining
 pub mod Loading
+pub mod Words
+pub mod Commands

@@ -1,8 +1,6 @@
 -- What the command `load` answers for a number, and when each of its statuses comes.
-use Rattle.std.specs.Prelude.{◌≡◌, ℕ, ◌⊎◌, List, [], ◌∷◌, ◌++◌, Option, Some, None, Ok, length, if◌then◌else◌, codes, decimal}
-use Rattle.std.specs.Str.{bytes_eq}
+use Rattle.std.specs.Prelude.{◌≡◌, ℕ, ◌⊎◌, List, [], ◌++◌, Option, Some, Ok, length, codes, decimal}
 use Rattle.com_gen.specs.Loads.{load_text}
-use Rattle.com_gen.specs.Numbers.{number_of}
 use Rattle.com_io.specs.Faults.{Rose}
 use Rattle.com_io.specs.Told.{Gains, GainsPrefix}
 use Rattle.com_model.specs.declared.counts.Ended.{Ended}
@@ -15,13 +13,6 @@ use Rattle.com_top.specs.declared.statuses.Status.{Status}
 use Rattle.com_top.specs.declared.statuses.Status.TheVariants as status
 use Rattle.com_top.specs.Inputs.{status_at}
 use Rattle.com_top.specs.Statuses.{code_of}
-
--- The number that the words `load` and a number ask for.
-abbrev pub load_number : List (List ℕ) → Option ℕ
-load_number [] = None
-load_number (w ∷ []) = None
-load_number (w ∷ n ∷ []) = if bytes_eq w (codes "load") then number_of n else None
-load_number (w ∷ n ∷ x ∷ ws) = None
 
 -- What is printed: the number, and the last two lines of the report of a history with so many entries.
 abbrev pub load_lines : (number entries clock : ℕ) → Ended → List ℕ

@@ -1,5 +1,5 @@
 -- The exit statuses, and when each comes.
-use Rattle.std.specs.Prelude.{◌≡◌, ℕ, ◌⊎◌, List, [], ◌∷◌, Option, Some, codes}
+use Rattle.std.specs.Prelude.{◌≡◌, ℕ, ◌⊎◌, List, Option, Some, codes}
 use Rattle.com_io.specs.Faults.{Rose}
 use Rattle.com_io.specs.Told.{Gains, GainsPrefix, IsAtEnd}
 use Rattle.com_drive.specs.Replays.{whole_text}
@@ -23,12 +23,8 @@ code_of status.Budget = 6
 code_of status.Differs = 7
 code_of status.Memory = 9
 
--- The words that ask for a replay.
-abbrev pub IsReplay : List (List ℕ) → Type 0
-IsReplay words = words ≡ codes "replay" ∷ []
-
 abbrev pub usage_line : List ℕ
-usage_line = codes "usage: comrun replay|load N|objref\n"
+usage_line = codes "usage: comrun replay|check|load N|objref|waits\n"
 
 abbrev pub read_fault_line : List ℕ
 read_fault_line = codes "read fault\n"
@@ -44,6 +40,20 @@ pub record Sides : Type 0 where
   pub held_after : Option (List ℕ)
   pub write_faults : ℕ
   pub write_faults_after : ℕ
+
+-- They are made of what the source and the sink tell, each before and after the call.
+abbrev pub sides_of : {S K : Type 0} (left : S → Option (List ℕ)) (read_faults : S → ℕ)
+    (held : K → Option (List ℕ)) (write_faults : K → ℕ) (source source_after : S) (sink sink_after : K) → Sides
+sides_of left read_faults held write_faults source source_after sink sink_after = record {
+  left = left source;
+  left_after = left source_after;
+  read_faults = read_faults source;
+  read_faults_after = read_faults source_after;
+  held = held sink;
+  held_after = held sink_after;
+  write_faults = write_faults sink;
+  write_faults_after = write_faults sink_after;
+}
 
 -- The input was answered: it is one that has this status, and the sink gained the whole text that is written
 -- for it.

@@ -1,21 +1,25 @@
 //! The commands.
-ghost use Rattle.std.specs.Prelude.{◌≡◌, ◌⊎◌, ◌≤◌, ◌∷◌, [], ℕ, List, OnOk, IfSome, IsTrue, ◌↔◌, Some, None, map, string_bytes};
-ghost use Rattle.std.specs.Prelude.{codes};
-ghost use Rattle.com_io.specs.Faults.{Rose};
-ghost use Rattle.com_io.specs.Told.{Gains, GainsPrefix};
-ghost use Rattle.com_top.specs.declared.inputs.Input.TheVariants as input;
-ghost use Rattle.com_top.specs.Loading.{HasLoadCause, Loads, load_number};
+ghost use Rattle.std.specs.Prelude.{◌≡◌, map, string_bytes};
 ghost use Rattle.com_model.specs.Formed.{Formed};
-ghost use Rattle.com_top.specs.Inputs.{IsFormed};
-ghost use Rattle.com_top.specs.Replies.{HasReplyCause, IsObjRefWord, Replies, status_for};
-ghost use Rattle.com_top.specs.Statuses.{Answers, HasCause, IsAnswered, IsReplay, IsSaid, Says, Sides};
-ghost use Rattle.com_top.specs.Statuses.{usage_line};
+ghost use Rattle.com_top.specs.declared.inputs.Input.TheVariants as input;
+ghost use Rattle.com_top.specs.Checking.{IsReply, question_of};
+ghost use Rattle.com_top.specs.Commands.{Answered, ReadsNone};
+ghost use Rattle.com_top.specs.Explaining.{IsExplained};
+ghost use Rattle.com_top.specs.Inputs.{IsFormed, input_of};
+ghost use Rattle.com_top.specs.Loading.{HasLoadCause, Loads};
+ghost use Rattle.com_top.specs.Replies.{IsShown, digits_of, status_for};
+ghost use Rattle.com_top.specs.Responses.{Causes, Responds};
+ghost use Rattle.com_top.specs.Statuses.{Answers, HasCause, IsAnswered, IsSaid, sides_of, usage_line};
+ghost use Rattle.com_top.specs.Words.{command_of};
 
+use crate::checks::checked;
+use crate::explaining::explained;
 use crate::inputs::{Input, input_of, refused_line};
 use crate::loads::loaded;
+use crate::sides::{read_input, say};
 use crate::statuses::{Status, status_at};
-use com_gen::number_of;
-use com_io::{ReadAllError, Sink, Source, read_all, write_all};
+use crate::words::{Command, command_of};
+use com_io::{Sink, Source};
 use com_model::Scenario;
 use com_objref::show;
 use com_play::{ReplayError, play};
@@ -25,10 +29,14 @@ use std::alloc::Global;
 // The longest text of digits, in bytes.
 const LONGEST_DIGITS: usize = 1_048_576;
 
+// The longest text of a scenario with a trace, in bytes.
+const LONGEST_TRACE: usize = 67_108_864;
+
 /// Does what the words ask for: `replay` reads a scenario from the source and writes its history and report
-/// to the sink, or the line of the refusal; `load` and a number replay the scenario of that number, and show
-/// how it ended; `objref` reads hexadecimal text and shows the OBJREF that it spells. The answer is the exit
-/// status.
+/// to the sink, or the line of the refusal; `check` reads a scenario with a trace, and says whether the trace
+/// agrees with the rules, or which line differs; `load` and a number replay the scenario of that number, and
+/// show how it ended; `objref` reads hexadecimal text and shows the OBJREF that it spells; `waits` reads a
+/// scenario, and says why its history is stuck, or that it is not. The answer is the exit status.
 ///
 /// Status 1 comes exactly for other words, unless the line that says so cannot be written; then nothing was
 /// read.
@@ -38,84 +46,51 @@ pub fn com_main<S: Source, K: Sink>(
     source: &mut S,
     sink: &mut K,
 ) -> u8
-    ensures replay { IsReplay (map string_bytes words.now) → Answers result (record {
-      left = S.left source.old;
-      left_after = S.left source.new;
-      read_faults = S.faults_of source.old;
-      read_faults_after = S.faults_of source.new;
-      held = K.held sink.old;
-      held_after = K.held sink.new;
-      write_faults = K.faults_of sink.old;
-      write_faults_after = K.faults_of sink.new;
-    }) }
-    ensures objref { IsObjRefWord (map string_bytes words.now) → Replies result (record {
-      left = S.left source.old;
-      left_after = S.left source.new;
-      read_faults = S.faults_of source.old;
-      read_faults_after = S.faults_of source.new;
-      held = K.held sink.old;
-      held_after = K.held sink.new;
-      write_faults = K.faults_of sink.old;
-      write_faults_after = K.faults_of sink.new;
-    }) }
-    ensures load { (n : ℕ) → load_number (map string_bytes words.now) ≡ Some n
-        → Loads result n (K.held sink.old) (K.held sink.new) (K.faults_of sink.old) (K.faults_of sink.new) }
-    ensures load_reads_none { (n : ℕ) → load_number (map string_bytes words.now) ≡ Some n → source.new ≡ source.old }
-    ensures usage { (IsReplay (map string_bytes words.now) → ⊥)
-        → (IsObjRefWord (map string_bytes words.now) → ⊥)
-        → load_number (map string_bytes words.now) ≡ None
-        → IsSaid result 1 usage_line (K.held sink.old) (K.held sink.new)
-        (K.faults_of sink.old) (K.faults_of sink.new) }
-    ensures unread { (IsReplay (map string_bytes words.now) → ⊥)
-        → (IsObjRefWord (map string_bytes words.now) → ⊥) → source.new ≡ source.old }
+    ensures answers { Answered (command_of (map string_bytes words.now)) result
+        (sides_of S.left S.faults_of K.held K.faults_of source.old source.new sink.old sink.new) }
+    ensures unread { ReadsNone (command_of (map string_bytes words.now)) → source.new ≡ source.old }
 {
-    if asks(words, "replay") {
-        return replay_main(alloc, source, sink);
+    match command_of(words) {
+        Command::Replay => replay_main(alloc, source, sink),
+        Command::Check => check_main(alloc, source, sink),
+        Command::Load(number) => load_main(alloc, number, sink),
+        Command::ObjRef => objref_main(alloc, source, sink),
+        Command::Waits => waits_main(alloc, source, sink),
+        Command::Usage => usage(sink),
     }
-    if asks(words, "objref") {
-        return objref_main(alloc, source, sink);
-    }
-    match load_number(words) {
-        Some(number) => load_main(alloc, number, sink),
-        None => say(b"usage: comrun replay|load N|objref\n", Status::Usage, sink).code(),
-    }
+}
+
+// Writes the line of the usage.
+fn usage<K: Sink>(sink: &mut K) -> u8
+    ensures { IsSaid result 1 usage_line (K.held sink.old) (K.held sink.new)
+        (K.faults_of sink.old) (K.faults_of sink.new) }
+{
+    say(
+        b"usage: comrun replay|check|load N|objref|waits\n",
+        Status::Usage,
+        sink,
+    )
+    .code()
 }
 
 /// Reads a scenario from the source, and writes its history and report to the sink. An input that is too
 /// long or whose text is no scenario is refused by a line with the line, the column and the number of the
 /// fault. The answer is the exit status: each has its cause.
 pub fn replay_main<S: Source, K: Sink>(alloc: Global, source: &mut S, sink: &mut K) -> u8
-    ensures { Answers result (record {
-      left = S.left source.old;
-      left_after = S.left source.new;
-      read_faults = S.faults_of source.old;
-      read_faults_after = S.faults_of source.new;
-      held = K.held sink.old;
-      held_after = K.held sink.new;
-      write_faults = K.faults_of sink.old;
-      write_faults_after = K.faults_of sink.new;
-    }) }
+    ensures { Answers result (sides_of S.left S.faults_of K.held K.faults_of
+        source.old source.new sink.old sink.new) }
 {
     replay_input(alloc, source, sink).code()
 }
 
+#[tactic(auto, using(crate::proofs::Causes::replay_unread, crate::proofs::Causes::replay_answered))]
 fn replay_input<S: Source, K: Sink>(alloc: Global, source: &mut S, sink: &mut K) -> Status
-    ensures { HasCause result (record {
-      left = S.left source.old;
-      left_after = S.left source.new;
-      read_faults = S.faults_of source.old;
-      read_faults_after = S.faults_of source.new;
-      held = K.held sink.old;
-      held_after = K.held sink.new;
-      write_faults = K.faults_of sink.old;
-      write_faults_after = K.faults_of sink.new;
-    }) }
+    ensures { HasCause result (sides_of S.left S.faults_of K.held K.faults_of
+        source.old source.new sink.old sink.new) }
 {
-    let text = match read_all(alloc, source, LONGEST) {
+    let text = match read_input(alloc, LONGEST, source, sink) {
         Ok(text) => text,
-        Err(ReadAllError::ReadFault) => return say(b"read fault\n", Status::ReadFault, sink),
-        Err(ReadAllError::TooLong) => return answer(alloc, Input::TooLong, sink),
-        Err(ReadAllError::Memory) => return Status::Memory,
+        Err(status) => return status,
     };
     match input_of(alloc, text.as_slice()) {
         Ok(input) => answer(alloc, input, sink),
@@ -154,6 +129,57 @@ fn run<K: Sink>(alloc: Global, scenario: Scenario, sink: &mut K) -> Status
     }
 }
 
+/// Reads a scenario's text, the line `trace` and a trace from the source, and says whether the trace agrees
+/// with the rules: it is the text and the report of a history; or else its first line that differs, with the
+/// only line that may stand there. An input that is too long, whose text is no scenario or that has no line
+/// `trace` is refused. The answer is the exit status: each has its cause.
+pub fn check_main<S: Source, K: Sink>(alloc: Global, source: &mut S, sink: &mut K) -> u8
+    ensures { Responds question_of IsReply result (sides_of S.left S.faults_of K.held K.faults_of
+        source.old source.new sink.old sink.new) }
+{
+    check_input(alloc, source, sink).code()
+}
+
+#[tactic(auto, using(crate::proofs::CheckCauses::check_unread, crate::proofs::CheckCauses::check_said))]
+fn check_input<S: Source, K: Sink>(alloc: Global, source: &mut S, sink: &mut K) -> Status
+    ensures { Causes question_of IsReply result (sides_of S.left S.faults_of K.held K.faults_of
+        source.old source.new sink.old sink.new) }
+{
+    let text = match read_input(alloc, LONGEST_TRACE, source, sink) {
+        Ok(text) => text,
+        Err(status) => return status,
+    };
+    match checked(alloc, text.as_slice()) {
+        Ok(reply) => say(reply.text.as_slice(), reply.status, sink),
+        Err(_) => Status::Memory,
+    }
+}
+
+/// Reads a scenario from the source, and says why its history is stuck: which lane waits for what, and the
+/// cycle in which lanes wait for each other; or that it is not stuck. An input that is too long or whose text
+/// is no scenario is refused. The answer is the exit status: each has its cause.
+pub fn waits_main<S: Source, K: Sink>(alloc: Global, source: &mut S, sink: &mut K) -> u8
+    ensures { Responds input_of IsExplained result (sides_of S.left S.faults_of K.held K.faults_of
+        source.old source.new sink.old sink.new) }
+{
+    waits_input(alloc, source, sink).code()
+}
+
+#[tactic(auto, using(crate::proofs::ExplainCauses::waits_unread, crate::proofs::ExplainCauses::waits_said))]
+fn waits_input<S: Source, K: Sink>(alloc: Global, source: &mut S, sink: &mut K) -> Status
+    ensures { Causes input_of IsExplained result (sides_of S.left S.faults_of K.held K.faults_of
+        source.old source.new sink.old sink.new) }
+{
+    let text = match read_input(alloc, LONGEST, source, sink) {
+        Ok(text) => text,
+        Err(status) => return status,
+    };
+    match explained(alloc, text.as_slice()) {
+        Ok(reply) => say(reply.text.as_slice(), reply.status, sink),
+        Err(_) => Status::Memory,
+    }
+}
+
 /// Replays the scenario of a number, and writes the number and the last two lines of its report. The answer is
 /// the exit status: each has its cause.
 pub fn load_main<K: Sink>(alloc: Global, number: u32, sink: &mut K) -> u8
@@ -178,93 +204,29 @@ fn load<K: Sink>(alloc: Global, number: u32, sink: &mut K) -> Status
 /// Reads hexadecimal text from the source, and shows the fields of the OBJREF that it spells, or its first
 /// fault. The answer is the exit status: each has its cause.
 pub fn objref_main<S: Source, K: Sink>(alloc: Global, source: &mut S, sink: &mut K) -> u8
-    ensures { Replies result (record {
-      left = S.left source.old;
-      left_after = S.left source.new;
-      read_faults = S.faults_of source.old;
-      read_faults_after = S.faults_of source.new;
-      held = K.held sink.old;
-      held_after = K.held sink.new;
-      write_faults = K.faults_of sink.old;
-      write_faults_after = K.faults_of sink.new;
-    }) }
+    ensures { Responds digits_of IsShown result (sides_of S.left S.faults_of K.held K.faults_of
+        source.old source.new sink.old sink.new) }
 {
     objref_input(alloc, source, sink).code()
 }
 
+#[tactic(auto, using(crate::proofs::ReplyCauses::objref_unread, crate::proofs::ReplyCauses::objref_said))]
 fn objref_input<S: Source, K: Sink>(alloc: Global, source: &mut S, sink: &mut K) -> Status
-    ensures { HasReplyCause result (record {
-      left = S.left source.old;
-      left_after = S.left source.new;
-      read_faults = S.faults_of source.old;
-      read_faults_after = S.faults_of source.new;
-      held = K.held sink.old;
-      held_after = K.held sink.new;
-      write_faults = K.faults_of sink.old;
-      write_faults_after = K.faults_of sink.new;
-    }) }
+    ensures { Causes digits_of IsShown result (sides_of S.left S.faults_of K.held K.faults_of
+        source.old source.new sink.old sink.new) }
 {
-    let text = match read_all(alloc, source, LONGEST_DIGITS) {
+    let text = match read_input(alloc, LONGEST_DIGITS, source, sink) {
         Ok(text) => text,
-        Err(ReadAllError::ReadFault) => return say(b"read fault\n", Status::ReadFault, sink),
-        Err(ReadAllError::TooLong) => return say(b"refused 0 0 12\n", Status::Refused, sink),
-        Err(ReadAllError::Memory) => return Status::Memory,
+        Err(status) => return status,
     };
-    let shown = match show(alloc, text.as_slice()) {
-        Ok(shown) => shown,
-        Err(_) => return Status::Memory,
-    };
-    say(shown.text.as_slice(), status_for(shown.found), sink)
+    match show(alloc, text.as_slice()) {
+        Ok(shown) => say(shown.text.as_slice(), status_for(shown.found), sink),
+        Err(_) => Status::Memory,
+    }
 }
 
 fn status_for(found: bool) -> Status
     ensures { result ≡ status_for found }
 {
     if found { Status::Done } else { Status::Refused }
-}
-
-// Whether the words are the one word that is wanted.
-fn asks(words: &[String], wanted: &str) -> bool
-    ensures { IsTrue result ↔ (map string_bytes words.now ≡ wanted.now ∷ []) }
-{
-    match words {
-        [word] => is_word(word.as_str(), wanted),
-        _ => false,
-    }
-}
-
-// The number of the words `load` and a number.
-fn load_number(words: &[String]) -> Option<u32>
-    ensures { result ≡ load_number (map string_bytes words.now) }
-{
-    if words.len() != 2 {
-        return None;
-    }
-    number_behind(words[0].as_str(), words[1].as_str())
-}
-
-fn number_behind(word: &str, number: &str) -> Option<u32>
-    ensures { result ≡ load_number (word.now ∷ number.now ∷ []) }
-{
-    if !is_word(word, "load") {
-        return None;
-    }
-    number_of(number.as_bytes())
-}
-
-fn is_word(word: &str, wanted: &str) -> bool
-    ensures { IsTrue result ↔ (word.now ≡ wanted.now) }
-{
-    word == wanted
-}
-
-// Writes one line, and answers the status that it goes with, or that it could not be written.
-fn say<K: Sink>(line: &[u8], status: Status, sink: &mut K) -> Status
-    ensures said { Says result status line.now (K.held sink.old) (K.held sink.new)
-        (K.faults_of sink.old) (K.faults_of sink.new) }
-{
-    match write_all(sink, line) {
-        Ok(()) => status,
-        Err(_) => Status::WriteFault,
-    }
 }

@@ -1,6 +1,10 @@
 //! What follows from the causes of the statuses.
+ghost use Rattle.com_top.specs.Checking.{IsReply, question_of};
+ghost use Rattle.com_top.specs.Explaining.{IsExplained};
+ghost use Rattle.com_top.specs.Inputs.{input_of};
 ghost use Rattle.com_top.specs.Loading.{LoadsAreWhole};
-ghost use Rattle.com_top.specs.Replies.{RepliesWhole};
+ghost use Rattle.com_top.specs.Replies.{IsShown, digits_of};
+ghost use Rattle.com_top.specs.Responses.{RespondsWhole};
 ghost use Rattle.com_top.specs.Statuses.{Completes, ScenariosReplay};
 
 /// Completeness of a replay: where the source tells its bytes and no count of faults rose, the sink gained the
@@ -19,11 +23,25 @@ pub fn scenarios_replay()
 /// Completeness of `objref`: where the source tells its bytes and no count of faults rose, the status is that
 /// of the reply to them and the sink gained its whole text; or memory wanted.
 pub fn objref_completeness()
-    ensures { RepliesWhole }
+    ensures { RespondsWhole digits_of IsShown }
 {}
 
-/// Completeness of `load`: where no count of faults rose, the sink gained the whole text, and the status is that of the end of the
-/// history: 0, 5 or 6; or memory wanted.
+/// Completeness of `check`: where the source tells its bytes and no count of faults rose, the status is that of
+/// the reply to them and the sink gained its whole text: 2 with the line of the refusal; 0 where the trace
+/// agrees, and 7 with the first line that differs; or memory wanted.
+pub fn check_completeness()
+    ensures { RespondsWhole question_of IsReply }
+{}
+
+/// Completeness of `load`: where no count of faults rose, the sink gained the whole text, and the status is that
+/// of the end of the history: 0, 5 or 6; or memory wanted.
 pub fn load_completeness()
     ensures { LoadsAreWhole }
+{}
+
+/// Completeness of `waits`: where the source tells its bytes and no count of faults rose, the status is that of
+/// the reply to them and the sink gained its whole text: 2 with the line of the refusal; 0 with why the history
+/// is stuck, or that it is not; or memory wanted.
+pub fn waits_completeness()
+    ensures { RespondsWhole input_of IsExplained }
 {}

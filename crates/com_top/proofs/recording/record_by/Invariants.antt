@@ -1,0 +1,19 @@
+use Rattle.std.proofs.Common.{◌≡◌, ◌-◌, ◌≤◌, false, drop}
+use Rattle.com_model.specs.Tables.{lanes}
+use Rattle.com_model.specs.Ends.{limit}
+use Rattle.com_servant.specs.Rows.{row}
+use Rattle.com_drive.proofs.Driving.{mapped}
+use Rattle.com_top.proofs.Recording.{Recording}
+use Rattle.com_top.proofs.recording.record_by.Given as goal
+
+abbrev pub invariant-turns : goal.invariant-turns
+invariant-turns g l = record {
+  recording : Recording l.scenario (g.C.Runtime.state l.runtime) (drop l.stream.tried l.scenario.picks) l.stream.last l.entries.items;
+  same : g.C.Runtime.scenario l.runtime ≡ l.scenario;
+  last : l.stream.last ≤ lanes l.scenario;
+  whole : g.C.Runtime.broken l.runtime ≡ false;
+  kinds : mapped l.servants.items (λ b. (goal.Servant-dyn g (b.vtable, b.value)).kind_of b.value) ≡ row;
+}
+
+abbrev pub decreases-turns : goal.decreases-turns
+decreases-turns g l = limit l.scenario - (g.C.Runtime.state l.runtime).entries

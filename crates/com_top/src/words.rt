@@ -1,0 +1,57 @@
+//! What the words ask for.
+ghost use Rattle.std.specs.Prelude.{◌≡◌, map, string_bytes};
+ghost use Rattle.com_top.specs.Words.{command_of, of_two, of_word};
+
+use com_gen::number_of;
+
+/// What the words behind the program's name ask for.
+#[derive(Debug, Clone, Copy, PartialEq, Eq)]
+pub enum Command {
+    /// `replay`.
+    Replay,
+    /// `check`.
+    Check,
+    /// `load` and a number from 1 to 1,000,000.
+    Load(u32),
+    /// `objref`.
+    ObjRef,
+    /// `waits`.
+    Waits,
+    /// Any other words.
+    Usage,
+}
+
+/// The command that the words ask for.
+pub fn command_of(words: &[String]) -> Command
+    ensures { result ≡ command_of (map string_bytes words.now) }
+{
+    match words.len() {
+        1 => of_word(words[0].as_str()),
+        2 => of_two(words[0].as_str(), words[1].as_str()),
+        _ => Command::Usage,
+    }
+}
+
+fn of_word(word: &str) -> Command
+    ensures { result ≡ of_word word.now }
+{
+    match word {
+        "replay" => Command::Replay,
+        "check" => Command::Check,
+        "objref" => Command::ObjRef,
+        "waits" => Command::Waits,
+        _ => Command::Usage,
+    }
+}
+
+fn of_two(word: &str, number: &str) -> Command
+    ensures { result ≡ of_two word.now number.now }
+{
+    if word != "load" {
+        return Command::Usage;
+    }
+    match number_of(number.as_bytes()) {
+        Some(number) => Command::Load(number),
+        None => Command::Usage,
+    }
+}
