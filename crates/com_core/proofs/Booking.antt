@@ -1,6 +1,6 @@
 -- An entry that was applied to a ledger which is tied to a state leaves it tied to the state after the entry.
 use Rattle.std.proofs.Common.{◌≡◌, ℕ, refl, sym, ap, ◌∙◌, subst, ◌<◌, List, [], ◌∷◌}
-use Rattle.std.specs.Prelude.{Bool, Option, Some, None}
+use Rattle.std.specs.Prelude.{Bool, Option, Some}
 use Rattle.com_base.specs.declared.value.RefValue.{RefValue}
 use Rattle.com_body.specs.declared.actions.Action.{Action}
 use Rattle.com_body.specs.declared.frame.Outcome.{Outcome}
@@ -26,7 +26,7 @@ use Rattle.com_view.specs.Reads.{Reads}
 use Rattle.com_view.specs.Seen.{Seen, home_seen, running_seen}
 use Rattle.com_view.proofs.Sights.{reads_state as sight_read}
 use Rattle.com_ledger.specs.Books.{Held}
-use Rattle.com_ledger.specs.Entries.{Around, Carries, StandsAround, around, brings_to, tally}
+use Rattle.com_ledger.specs.Entries.{Around, Carries, StandsAround, around, brings_to}
 use Rattle.com_ledger.specs.Moving.{Touches}
 use Rattle.com_ledger.specs.Ties.{AllTouched, Ties, places_at}
 use Rattle.com_ledger.proofs.Applying.{applied-ties}
