@@ -1,5 +1,5 @@
 -- `advise` and `unadvise`, where the cells keep sinks.
-use Rattle.std.proofs.Common.{refl, sym, ap, subst, ◌∙◌, arith}
+use Rattle.std.proofs.Common.{refl, sym, ap, subst, ◌∙◌, ◌⊎◌, inl, inr, arith}
 use Rattle.std.proofs.lemmas.List.{length-append}
 use Rattle.std.specs.Prelude.{◌≡◌, ℕ, ◌+◌, ◌≤◌, ◌<◌, ◌^◌, ℤ, pos, Bool, true, false, cond, int_lt, List, [], ◌∷◌, ◌++◌, length, Option, Some, None}
 use Rattle.std.specs.Int.{w64, int_wrapping_add}
@@ -220,3 +220,62 @@ unadvise-none n c ps m k z f =
     let e : answers (unadvised n (cells_of ps m k.rest)) no_connection (cells_of ps m k.rest) = (unadvise-at n ps m k.rest k.few).1 z f in
     subst (λ (c : Cells). Leaves (unadvised n c) no_connection None ps m) (sym k.cells)
     (record { action = e.0; keeps = record { rest = k.rest; cells = e.1; few = k.few; rising = k.rising; fits = k.fits } })
+
+-- Whatever the number is: a sink goes and the answer is S_OK, or the sinks stay. A number that is 0 as a number of 64 bits is found
+-- at a free place, and then no sink goes.
+abbrev EitherIn : ℤ → List Sink → (m : ℕ) → List ℤ → Outcome → Type 0
+EitherIn n ps m ns r = answers r ok (cells_of (without n ps) m ns) ⊎ answers r no_connection (cells_of ps m ns)
+
+gone : (n : ℤ) (ps qs : List Sink) (m : ℕ) (ns : List ℤ) (r : Outcome) → answers r ok (cells_of qs m ns) → without n ps ≡ qs → EitherIn n ps m ns r
+gone n ps qs m ns r x e = inl (subst (λ (xs : List Sink). answers r ok (cells_of xs m ns)) (sym e) x)
+
+either-at : (n : ℤ) (ps : List Sink) (m : ℕ) (ns : List ℤ) → length ps ≤ 4 → EitherIn n ps m ns (unadvised n (cells_of ps m ns))
+either-at n [] m ns q =
+    removes (EitherIn n [] m ns) n (pos 0) (pos 0) (pos 0) (pos 0) (pos m) ns None None None None
+    (λ t t0 r x. gone n [] [] m ns r x refl)
+    (λ t u0 t1 r x. gone n [] [] m ns r x refl)
+    (λ t u0 u1 t2 r x. gone n [] [] m ns r x refl)
+    (λ t u0 u1 u2 t3 r x. gone n [] [] m ns r x refl)
+    (λ t u0 u1 u2 u3 r x. inr x)
+    (λ u r x. inr x)
+either-at n (a ∷ []) m ns q =
+    removes (EitherIn n (a ∷ []) m ns) n (pos a.cookie) (pos 0) (pos 0) (pos 0) (pos m) ns a.held None None None
+    (λ t t0 r x. gone n (a ∷ []) [] m ns r x (goes-here n a [] t0))
+    (λ t u0 t1 r x. gone n (a ∷ []) (a ∷ []) m ns r x (goes-later n a [] [] u0 refl))
+    (λ t u0 u1 t2 r x. gone n (a ∷ []) (a ∷ []) m ns r x (goes-later n a [] [] u0 refl))
+    (λ t u0 u1 u2 t3 r x. gone n (a ∷ []) (a ∷ []) m ns r x (goes-later n a [] [] u0 refl))
+    (λ t u0 u1 u2 u3 r x. inr x)
+    (λ u r x. inr x)
+either-at n (a ∷ b ∷ []) m ns q =
+    removes (EitherIn n (a ∷ b ∷ []) m ns) n (pos a.cookie) (pos b.cookie) (pos 0) (pos 0) (pos m) ns a.held b.held None None
+    (λ t t0 r x. gone n (a ∷ b ∷ []) (b ∷ []) m ns r x (goes-here n a (b ∷ []) t0))
+    (λ t u0 t1 r x. gone n (a ∷ b ∷ []) (a ∷ []) m ns r x (goes-later n a (b ∷ []) [] u0 (goes-here n b [] t1)))
+    (λ t u0 u1 t2 r x. gone n (a ∷ b ∷ []) (a ∷ b ∷ []) m ns r x (goes-later n a (b ∷ []) (b ∷ []) u0 (goes-later n b [] [] u1 refl)))
+    (λ t u0 u1 u2 t3 r x. gone n (a ∷ b ∷ []) (a ∷ b ∷ []) m ns r x (goes-later n a (b ∷ []) (b ∷ []) u0 (goes-later n b [] [] u1 refl)))
+    (λ t u0 u1 u2 u3 r x. inr x)
+    (λ u r x. inr x)
+either-at n (a ∷ b ∷ c ∷ []) m ns q =
+    removes (EitherIn n (a ∷ b ∷ c ∷ []) m ns) n (pos a.cookie) (pos b.cookie) (pos c.cookie) (pos 0) (pos m) ns a.held b.held c.held None
+    (λ t t0 r x. gone n (a ∷ b ∷ c ∷ []) (b ∷ c ∷ []) m ns r x (goes-here n a (b ∷ c ∷ []) t0))
+    (λ t u0 t1 r x. gone n (a ∷ b ∷ c ∷ []) (a ∷ c ∷ []) m ns r x (goes-later n a (b ∷ c ∷ []) (c ∷ []) u0 (goes-here n b (c ∷ []) t1)))
+    (λ t u0 u1 t2 r x. gone n (a ∷ b ∷ c ∷ []) (a ∷ b ∷ []) m ns r x (goes-later n a (b ∷ c ∷ []) (b ∷ []) u0 (goes-later n b (c ∷ []) [] u1 (goes-here n c [] t2))))
+    (λ t u0 u1 u2 t3 r x. gone n (a ∷ b ∷ c ∷ []) (a ∷ b ∷ c ∷ []) m ns r x (goes-later n a (b ∷ c ∷ []) (b ∷ c ∷ []) u0 (goes-later n b (c ∷ []) (c ∷ []) u1 (goes-later n c [] [] u2 refl))))
+    (λ t u0 u1 u2 u3 r x. inr x)
+    (λ u r x. inr x)
+either-at n (a ∷ b ∷ c ∷ d ∷ []) m ns q =
+    removes (EitherIn n (a ∷ b ∷ c ∷ d ∷ []) m ns) n (pos a.cookie) (pos b.cookie) (pos c.cookie) (pos d.cookie) (pos m) ns a.held b.held c.held d.held
+    (λ t t0 r x. gone n (a ∷ b ∷ c ∷ d ∷ []) (b ∷ c ∷ d ∷ []) m ns r x (goes-here n a (b ∷ c ∷ d ∷ []) t0))
+    (λ t u0 t1 r x. gone n (a ∷ b ∷ c ∷ d ∷ []) (a ∷ c ∷ d ∷ []) m ns r x (goes-later n a (b ∷ c ∷ d ∷ []) (c ∷ d ∷ []) u0 (goes-here n b (c ∷ d ∷ []) t1)))
+    (λ t u0 u1 t2 r x. gone n (a ∷ b ∷ c ∷ d ∷ []) (a ∷ b ∷ d ∷ []) m ns r x (goes-later n a (b ∷ c ∷ d ∷ []) (b ∷ d ∷ []) u0 (goes-later n b (c ∷ d ∷ []) (d ∷ []) u1 (goes-here n c (d ∷ []) t2))))
+    (λ t u0 u1 u2 t3 r x. gone n (a ∷ b ∷ c ∷ d ∷ []) (a ∷ b ∷ c ∷ []) m ns r x (goes-later n a (b ∷ c ∷ d ∷ []) (b ∷ c ∷ []) u0 (goes-later n b (c ∷ d ∷ []) (c ∷ []) u1 (goes-later n c (d ∷ []) [] u2 (goes-here n d [] t3)))))
+    (λ t u0 u1 u2 u3 r x. inr x)
+    (λ u r x. inr x)
+either-at n (a ∷ b ∷ c ∷ d ∷ e ∷ ps) m ns q = absurd (too-many a b c d e ps q)
+
+pub unadvise-either : (n : ℤ) (c : Cells) (ps : List Sink) (m : ℕ) → Keeps c ps m → Leaves (unadvised n c) ok None (without n ps) m ⊎ Leaves (unadvised n c) no_connection None ps m
+unadvise-either n c ps m k =
+    subst (λ (c : Cells). Leaves (unadvised n c) ok None (without n ps) m ⊎ Leaves (unadvised n c) no_connection None ps m) (sym k.cells) (by-answer (either-at n ps m k.rest k.few))
+  where
+    by-answer : EitherIn n ps m k.rest (unadvised n (cells_of ps m k.rest)) → Leaves (unadvised n (cells_of ps m k.rest)) ok None (without n ps) m ⊎ Leaves (unadvised n (cells_of ps m k.rest)) no_connection None ps m
+    by-answer (inl e) = inl (record { action = e.0; keeps = record { rest = k.rest; cells = e.1; few = omega (arith, length-without n ps, k.few); rising = rising-without 0 m n ps k.rising; fits = k.fits } })
+    by-answer (inr e) = inr (record { action = e.0; keeps = record { rest = k.rest; cells = e.1; few = k.few; rising = k.rising; fits = k.fits } })

@@ -162,7 +162,7 @@ legal-sent s (e ∷ h) q = λ c i p. sent-step s h e.lane c e.deed i (source-cal
 
 -- ---- what an open call was given
 
-among-in : (o : Opener) (os : List Opener) → Stands o os → Among o os
+pub among-in : (o : Opener) (os : List Opener) → Stands o os → Among o os
 among-in o [] m = absurd m
 among-in o (x ∷ os) (inl p) = inl p
 among-in o (x ∷ os) (inr p) = inr (among-in o os p)

@@ -11,3 +11,14 @@ mod Runs
 mod Sourced
 mod Fitting
 mod Cookies
+mod Between
+mod Placed
+mod Living
+mod Called
+mod Sitting
+mod Told
+mod Around
+mod Acts
+mod Passing
+mod Stepping
+mod Delivered

@@ -54,7 +54,7 @@ pub rising-more : (b last : ℕ) (held : Option RefValue) (xs : List Sink) → R
 rising-more b last held [] p = let q : b ≤ last = p in (omega (arith, q), omega arith)
 rising-more b last held (x ∷ xs) p = (p.0, rising-more x.cookie last held xs p.1)
 
-length-cons : (x : Sink) (xs : List Sink) → length (x ∷ xs) ≡ length xs + 1
+pub length-cons : (x : Sink) (xs : List Sink) → length (x ∷ xs) ≡ length xs + 1
 length-cons x xs = grind (arith, common_steps)
 
 pub length-without : (n : ℤ) (xs : List Sink) → length (without n xs) ≤ length xs

@@ -62,7 +62,7 @@ use Rattle.com_points.proofs.Stepped.{put-same, own-step, cells-stay}
 
 -- ---- what is said of a call that stays open
 
-call-low : (s : Scenario) (h : List Entry) (l c o a : ℕ) → legal s h → Among (Enters c o a) (openers h l) → c ≤ calls h
+pub call-low : (s : Scenario) (h : List Entry) (l c o a : ℕ) → legal s h → Among (Enters c o a) (openers h l) → c ≤ calls h
 call-low s h l c o a q m =
     elim (nat_lt (calls h) c) as (λ t. nat_lt (calls h) c ≡ t → c ≤ calls h) [
       | true ↦ λ t. let k : calls h < c = ltb-true (calls h) c t in absurd (both (admitted h c) (open-admitted s h q l c o a m) (admitted-past s h c q (omega (arith, k))))
@@ -73,14 +73,14 @@ call-low s h l c o a q m =
     both x p r = cc
 
 -- An Enter is of another call than those that are open.
-fresh : (s : Scenario) (h : List Entry) (e : Entry) (l c o a k x b : ℕ) (t : Option ℕ) (vs : List Value) → legal s (e ∷ h) → Among (Enters c o a) (openers h l) → e.deed ≡ deed.Enter k x b t vs → k ≡ c → ⊥
+pub fresh : (s : Scenario) (h : List Entry) (e : Entry) (l c o a k x b : ℕ) (t : Option ℕ) (vs : List Value) → legal s (e ∷ h) → Among (Enters c o a) (openers h l) → e.deed ≡ deed.Enter k x b t vs → k ≡ c → ⊥
 fresh s h e l c o a k x b t vs q m d same =
     both (admitted h k) (enter-fresh s h e.lane k x b e.deed q.1 (ap effect d)) (ap (admitted h) same ∙ open-admitted s h q.0 l c o a m)
   where
     both : (y : Option Admission) → y ≡ None → y ≡ Some (admission_in c l a) → ⊥
     both y p r = cc
 
-values-stay : (c : ℕ) (x : List Value) (d : Deed) → ((k o a : ℕ) (t : Option ℕ) (vs : List Value) → d ≡ deed.Enter k o a t vs → k ≡ c → ⊥) → enter_values d c x ≡ x
+pub values-stay : (c : ℕ) (x : List Value) (d : Deed) → ((k o a : ℕ) (t : Option ℕ) (vs : List Value) → d ≡ deed.Enter k o a t vs → k ≡ c → ⊥) → enter_values d c x ≡ x
 values-stay c x (deed.Enter k o a t vs) f = ap (λ (b : Bool). cond b vs x) (false_from_ne_true (k == c) (λ z. f k o a t vs refl (eqb-true k c z)))
 values-stay c x _ f = refl
 
@@ -131,16 +131,16 @@ abbrev lane-in : Option Admission → ℕ
 lane-in None = 0
 lane-in (Some y) = y.lane
 
-one-call : (s : Scenario) (h : List Entry) (l j c o a x b : ℕ) → legal s h → Among (Enters c o a) (openers h l) → Among (Enters c x b) (openers h j) → l ≡ j
+pub one-call : (s : Scenario) (h : List Entry) (l j c o a x b : ℕ) → legal s h → Among (Enters c o a) (openers h l) → Among (Enters c x b) (openers h j) → l ≡ j
 one-call s h l j c o a x b q m r = sym (ap lane-in (open-admitted s h q l c o a m)) ∙ ap lane-in (open-admitted s h q j c x b r)
 
-other-frame : (s : Scenario) (h : List Entry) (l j c o a : ℕ) → legal s h → Among (Enters c o a) (openers h l) → (l ≡ j → ⊥) → acts_for (actor_in s h j) c ≡ false
+pub other-frame : (s : Scenario) (h : List Entry) (l j c o a : ℕ) → legal s h → Among (Enters c o a) (openers h l) → (l ≡ j → ⊥) → acts_for (actor_in s h j) c ≡ false
 other-frame s h l j c o a q m n =
     actor-is (λ x. acts_for x c ≡ false) (lane_sort s j) j (openers h j)
     (λ k x b rest p. false_from_ne_true (c == k) (λ t. n (one-call s h l j c o a x b q m (subst (λ (y : ℕ). Among (Enters y x b) (openers h j)) (sym (eqb-true c k t)) (top-among k x b (openers h j) rest p)))))
     (λ p. refl) refl
 
-stands-in : (o : Opener) (os : List Opener) → Among o os → Stands o os
+pub stands-in : (o : Opener) (os : List Opener) → Among o os → Stands o os
 stands-in o [] m = absurd m
 stands-in o (x ∷ os) (inl p) = inl p
 stands-in o (x ∷ os) (inr p) = inr (stands-in o os p)
@@ -149,10 +149,10 @@ owned : (s : Scenario) (h : List Entry) (o a : ℕ) → agile s h o ≡ false �
 owned s h o a n (inl p) = absurd (not-both (agile s h o) p n)
 owned s h o a n (inr p) = p
 
-named-in : (s : Scenario) (h : List Entry) (l c o a : ℕ) → Formed s → legal s h → agile s h o ≡ false → Among (Enters c o a) (openers h l) → a ≡ named h o
+pub named-in : (s : Scenario) (h : List Entry) (l c o a : ℕ) → Formed s → legal s h → agile s h o ≡ false → Among (Enters c o a) (openers h l) → a ≡ named h o
 named-in s h l c o a f q n m = owned s h o a n (open-owned s h f q l c o a m)
 
-other-cells : (s : Scenario) (h : List Entry) (l j c o a : ℕ) → Formed s → legal s h → is_sta a ≡ true → agile s h o ≡ false → Among (Enters c o a) (openers h l) → (l ≡ j → ⊥) → acts_on (actor_in s h j) o ≡ false
+pub other-cells : (s : Scenario) (h : List Entry) (l j c o a : ℕ) → Formed s → legal s h → is_sta a ≡ true → agile s h o ≡ false → Among (Enters c o a) (openers h l) → (l ≡ j → ⊥) → acts_on (actor_in s h j) o ≡ false
 other-cells s h l j c o a f q sta g m n =
     actor-is (λ x. acts_on x o ≡ false) (lane_sort s j) j (openers h j)
     (λ k x b rest p. false_from_ne_true (o == x) (λ t.
@@ -161,17 +161,17 @@ other-cells s h l j c o a f q sta g m n =
     n (legal-one-lane s h f q l j c o k o a sta (stands-in (Enters c o a) (openers h l) m) (subst (λ (y : ℕ). Stands (Enters k o y) (openers h j)) z (stands-in (Enters k o b) (openers h j) r)))))
     (λ p. refl) refl
 
-no-begin : (c : ℕ) (d : Deed) → ((k o a : ℕ) (t : Option ℕ) (vs : List Value) → d ≡ deed.Enter k o a t vs → k ≡ c → ⊥) → ((k : ℕ) (hr : HResult) (v : Option Value) (bytes : Option (List ℕ)) → d ≡ deed.Leave k hr v bytes → k ≡ c → ⊥) → begins_or_ends d c ≡ false
+pub no-begin : (c : ℕ) (d : Deed) → ((k o a : ℕ) (t : Option ℕ) (vs : List Value) → d ≡ deed.Enter k o a t vs → k ≡ c → ⊥) → ((k : ℕ) (hr : HResult) (v : Option Value) (bytes : Option (List ℕ)) → d ≡ deed.Leave k hr v bytes → k ≡ c → ⊥) → begins_or_ends d c ≡ false
 no-begin c (deed.Enter k o a t vs) f g = false_from_ne_true (c == k) (λ z. f k o a t vs refl (sym (eqb-true c k z)))
 no-begin c (deed.Leave k hr v bytes) f g = false_from_ne_true (c == k) (λ z. g k hr v bytes refl (sym (eqb-true c k z)))
 no-begin c _ f g = refl
 
 -- A body that is open has no Final, and its STA does not end.
-no-final : (s : Scenario) (h : List Entry) (l o : ℕ) (d : Deed) → ReleasesOnce s h l d → (Dead s h o → ⊥) → Formed s → legal s h → is_number o (finals d) ≡ false
+pub no-final : (s : Scenario) (h : List Entry) (l o : ℕ) (d : Deed) → ReleasesOnce s h l d → (Dead s h o → ⊥) → Formed s → legal s h → is_number o (finals d) ≡ false
 no-final s h l o (deed.Final k) r n f q = false_from_ne_true (o == k) (λ t. n (dying-dead s h o f q (subst (λ (x : ℕ). is_dying s h x ≡ true) (sym (eqb-true o k t)) r.2)))
 no-final s h l o _ r n f q = refl
 
-no-end : (s : Scenario) (h : List Entry) (j a : ℕ) (d : Deed) → Fact s (sight s h) j d → ((b : ℕ) → home s h j ≡ Some b → is_sta b ≡ true → a ≡ b → ⊥) → is_number a (ends_sta d) ≡ false
+pub no-end : (s : Scenario) (h : List Entry) (j a : ℕ) (d : Deed) → Fact s (sight s h) j d → ((b : ℕ) → home s h j ≡ Some b → is_sta b ≡ true → a ≡ b → ⊥) → is_number a (ends_sta d) ≡ false
 no-end s h j a (deed.Uninit (Some b) zero) p n =
     elim (is_sta b) as (λ t. is_sta b ≡ t → is_number a (where_true t b) ≡ false) [
       | true ↦ λ t. false_from_ne_true (a == b) (λ z. n b (sym p) t (eqb-true a b z))
@@ -186,53 +186,59 @@ serves-open s h l c o a f q sta m =
     let w : Stacked s h = prefix-here (Stacked s) h (legal-one-stack s h f q).0 in
     serving-stands s h l c o a (openers h l) (w l).1 (stands-in (Enters c o a) (openers h l) m) sta
 
--- An entry of another lane leaves a body that is open there before and after it.
-other-lane : (s : Scenario) (h : List Entry) (e : Entry) (l c o a : ℕ) (i : Issue) (n : ℕ) → Formed s → legal s (e ∷ h) → (l ≡ e.lane → ⊥) → Among (Enters c o a) (openers h l) → Among (Enters c o a) (openers (e ∷ h) l)
-    → Sits s h c o a i n → Rest s h c o i n → Rest s (e ∷ h) c o i n
-other-lane s h e l c o a i n f q away m k p w =
+-- An entry of another lane leaves a body that is open there before and after it, and the cells of its object.
+pub other-scene : (s : Scenario) (h : List Entry) (e : Entry) (l c o a : ℕ) → Formed s → legal s (e ∷ h) → (l ≡ e.lane → ⊥) → Among (Enters c o a) (openers h l) → Among (Enters c o a) (openers (e ∷ h) l) → is_sta a ≡ true → agile s h o ≡ false
+    → ((scene s (e ∷ h)).bodies c ≡ (scene s h).bodies c) × ((scene s (e ∷ h)).cells o ≡ (scene s h).cells o)
+other-scene s h e l c o a f q away m k sta free =
     let frame : (scene s (e ∷ h)).bodies c ≡ (scene s h).bodies c =
     frames-stay s h e c (other-frame s h l e.lane c o a q.0 m away) (other-frame s (e ∷ h) l e.lane c o a q k away)
     (no-begin c e.deed (λ j x b t vs d z. fresh s h e l c o a j x b t vs q m d z)
     (λ j hr v bytes d z. let t : TopEnter (openers h e.lane) j = leave-top s h e.lane j e.deed hr v bytes q.1 d in
     away (one-call s h l e.lane c o a t.object t.apartment q.0 m (subst (λ (y : ℕ). Among (Enters y t.object t.apartment) (openers h e.lane)) z (top-among j t.object t.apartment (openers h e.lane) t.rest t.is))))) in
-    let place : a ≡ named h o = named-in s h l c o a f q.0 p.not_agile m in
+    let place : a ≡ named h o = named-in s h l c o a f q.0 free m in
     let ends : is_number a (ends_sta e.deed) ≡ false = no-end s h e.lane a e.deed (source-fact s (sight s h) e.lane e.deed (next-source s h e.lane e.deed q.1))
-    (λ b hm sta z. away (one-server s h l e.lane a q.0 p.sta (serves-open s h l c o a f q.0 p.sta m) (subst (λ (y : ℕ). serves s h e.lane y ≡ true) (sym z) (home-served s h e.lane b f q.0 hm sta)))) in
+    (λ b hm t z. away (one-server s h l e.lane a q.0 sta (serves-open s h l c o a f q.0 sta m) (subst (λ (y : ℕ). serves s h e.lane y ≡ true) (sym z) (home-served s h e.lane b f q.0 hm t)))) in
     let cells : (scene s (e ∷ h)).cells o ≡ (scene s h).cells o =
-    cells-stay s h e o (other-cells s h l e.lane c o a f q.0 p.sta p.not_agile m away)
+    cells-stay s h e o (other-cells s h l e.lane c o a f q.0 sta free m away)
     (no-final s h e.lane o e.deed (legal-released s (e ∷ h) q).1 (λ d. d.not_open l c a m) f q.0)
     (subst (λ (y : ℕ). is_number y (ends_sta e.deed) ≡ false) place ends) in
-    rest-stays s h e c o i n (stays-same s h e l c o a f q m) frame cells w
+    (frame, cells)
+
+other-lane : (s : Scenario) (h : List Entry) (e : Entry) (l c o a : ℕ) (i : Issue) (n : ℕ) → Formed s → legal s (e ∷ h) → (l ≡ e.lane → ⊥) → Among (Enters c o a) (openers h l) → Among (Enters c o a) (openers (e ∷ h) l)
+    → Sits s h c o a i n → Rest s h c o i n → Rest s (e ∷ h) c o i n
+other-lane s h e l c o a i n f q away m k p w =
+    let z : ((scene s (e ∷ h)).bodies c ≡ (scene s h).bodies c) × ((scene s (e ∷ h)).cells o ≡ (scene s h).cells o) = other-scene s h e l c o a f q away m k p.sta p.not_agile in
+    rest-stays s h e c o i n (stays-same s h e l c o a f q m) z.0 z.1 w
 
 -- ---- entries of the own lane
 
-abbrev alone-by : List Stmt → ℕ → Outcome → Action → Outcome
+abbrev pub alone-by : List Stmt → ℕ → Outcome → Action → Outcome
 alone-by b zero r x = r
 alone-by b (suc k) r x = goes_on (alone b k) r x
 
-alone-is : (b : List Stmt) (m : ℕ) (f : FrameView) (c : Cells) → alone b m f c ≡ alone-by b m (body_step b f c) (body_step b f c).action
+pub alone-is : (b : List Stmt) (m : ℕ) (f : FrameView) (c : Cells) → alone b m f c ≡ alone-by b m (body_step b f c) (body_step b f c).action
 alone-is b zero f c = refl
 alone-is b (suc k) f c = refl
 
-abbrev IsPlain : Action → Type 0
+abbrev pub IsPlain : Action → Type 0
 IsPlain (action.Copy to held) = ⊥
 IsPlain (action.Release from held) = ⊥
 IsPlain _ = Unit {0}
 
-plain-ends : (b : List Stmt) (m : ℕ) (r : Outcome) (x : Action) → IsPlain x → alone-by b m r x ≡ r
+pub plain-ends : (b : List Stmt) (m : ℕ) (r : Outcome) (x : Action) → IsPlain x → alone-by b m r x ≡ r
 plain-ends b zero r x p = refl
 plain-ends b (suc k) r (action.Copy to held) p = absurd p
 plain-ends b (suc k) r (action.Release from held) p = absurd p
 plain-ends b (suc k) r x p = refl
 
 -- Which actions a body may come to that leaves by itself.
-abbrev GoesCase : ℕ → Action → Type 0
+abbrev pub GoesCase : ℕ → Action → Type 0
 GoesCase m (action.Copy to held) = (k : ℕ) × (m ≡ suc k)
 GoesCase m (action.Release from held) = (k : ℕ) × (m ≡ suc k)
 GoesCase m (action.Leave hr v) = Unit {0}
 GoesCase m _ = ⊥
 
-not-true : false ≡ true → ⊥
+pub not-true : false ≡ true → ⊥
 not-true e = cc
 
 is-leaving : (r : Outcome) (x : Action) → r.action ≡ x → is_leave r.action ≡ true → is_leave x ≡ true
@@ -241,7 +247,7 @@ is-leaving r x e p = subst (λ (y : Action). is_leave y ≡ true) e p
 plain-leaves : (b : List Stmt) (m : ℕ) (r : Outcome) (x : Action) → IsPlain x → r.action ≡ x → is_leave (alone-by b m r x).action ≡ true → is_leave x ≡ true
 plain-leaves b m r x k e p = is-leaving r x e (subst (λ (y : Outcome). is_leave y.action ≡ true) (plain-ends b m r x k) p)
 
-goes-case : (b : List Stmt) (m : ℕ) (r : Outcome) (x : Action) → r.action ≡ x → is_leave (alone-by b m r x).action ≡ true → GoesCase m x
+pub goes-case : (b : List Stmt) (m : ℕ) (r : Outcome) (x : Action) → r.action ≡ x → is_leave (alone-by b m r x).action ≡ true → GoesCase m x
 goes-case b zero r (action.Copy to held) e p = absurd (not-true (is-leaving r (action.Copy to held) e p))
 goes-case b (suc k) r (action.Copy to held) e p = (k, refl)
 goes-case b zero r (action.Release from held) e p = absurd (not-true (is-leaving r (action.Release from held) e p))
@@ -249,7 +255,7 @@ goes-case b (suc k) r (action.Release from held) e p = (k, refl)
 goes-case b m r (action.Leave hr v) e p = tt
 goes-case b m r x e p = absurd (not-true (plain-leaves b m r x tt e p))
 
-top-case : (s : Scenario) (h : List Entry) (c o a : ℕ) (i : Issue) (n : ℕ) → Sits s h c o a i n → (w : Rest s h c o i n) → GoesCase w.steps (step_of s h c o i).action
+pub top-case : (s : Scenario) (h : List Entry) (c o a : ℕ) (i : Issue) (n : ℕ) → Sits s h c o a i n → (w : Rest s h c o i n) → GoesCase w.steps (step_of s h c o i).action
 top-case s h c o a i n p w =
     goes-case (body_for s h o i) w.steps (step_of s h c o i) (step_of s h c o i).action refl
     (subst (λ (r : Outcome). is_leave r.action ≡ true) (sym w.same ∙ alone-is (body_for s h o i) w.steps ((scene s h).bodies c) ((scene s h).cells o)) p.leaves)
@@ -282,7 +288,7 @@ top-keeps s h e c o i n (action.Leave hr v) z w g b f p = absurd (leave-closes c
 top-keeps s h e c o i n _ z w g b f p = absurd g
 
 -- The body on top opens nothing.
-top-opens : (s : Scenario) (h : List Entry) (e : Entry) (c o m : ℕ) (i : Issue) (x : Action) (y : Opener) → GoesCase m x → StepsBy s h c o i (step_of s h c o i) e.deed (scene s (e ∷ h)) x → effect e.deed ≡ Opens y → ⊥
+pub top-opens : (s : Scenario) (h : List Entry) (e : Entry) (c o m : ℕ) (i : Issue) (x : Action) (y : Opener) → GoesCase m x → StepsBy s h c o i (step_of s h c o i) e.deed (scene s (e ∷ h)) x → effect e.deed ≡ Opens y → ⊥
 top-opens s h e c o m i (action.Copy to held) y g b p = copy-opens (effect e.deed) y (ap effect b.0) p
 top-opens s h e c o m i (action.Release from held) y g b p = copy-opens (effect e.deed) y (ap effect b.0) p
 top-opens s h e c o m i (action.Leave hr v) y g b p = leave-opens c hr (result_of s h i hr v) y e.deed b.0 p
@@ -290,7 +296,7 @@ top-opens s h e c o m i _ y g b p = absurd g
 
 -- ---- an Enter
 
-not-body : (s : Scenario) (h : List Entry) (l c k x b : ℕ) (t : Option ℕ) (rest : List Opener) (r : Route) (sta : Bool) → EntersBy s h l c t r sta → openers h l ≡ Enters k x b ∷ rest → ⊥
+pub not-body : (s : Scenario) (h : List Entry) (l c k x b : ℕ) (t : Option ℕ) (rest : List Opener) (r : Route) (sta : Bool) → EntersBy s h l c t r sta → openers h l ≡ Enters k x b ∷ rest → ⊥
 not-body s h l c k x b t rest route.Post true p e = subst (λ (os : List Opener). CanAdmit s h l os) e p.1
 not-body s h l c k x b t rest route.Post false p e = none-open (openers h l) p.2 e
   where
@@ -325,7 +331,7 @@ enter-rest s h l c o a t vs i n q =
     let begun : began s (e ∷ h) c ≡ (scene s h).cells o = ap (λ (b : Bool). cond b ((scene s h).cells o) (began s h c)) (same-number c) in
     record { steps = n; same = ap₂ (λ (f : FrameView) (d : Cells). alone (body_for s (e ∷ h) o i) n f d) (frame ∙ sym (ap entered given)) (cells ∙ sym begun) }
 
-enters-rest : (s : Scenario) (h : List Entry) (l c o a : ℕ) (i : Issue) (n : ℕ) (d : Deed) → legal s (record { lane = l; deed = d } ∷ h) → effect d ≡ Opens (Enters c o a) → Rest s (record { lane = l; deed = d } ∷ h) c o i n
+pub enters-rest : (s : Scenario) (h : List Entry) (l c o a : ℕ) (i : Issue) (n : ℕ) (d : Deed) → legal s (record { lane = l; deed = d } ∷ h) → effect d ≡ Opens (Enters c o a) → Rest s (record { lane = l; deed = d } ∷ h) c o i n
 enters-rest s h l c o a i n (deed.Enter k x b t vs) q p =
     subst (λ (j : ℕ). Rest s (enter-of l k x b t vs ∷ h) j o i n) (call-of p)
     (subst (λ (y : ℕ). Rest s (enter-of l k x b t vs ∷ h) k y i n) (object-of p) (enter-rest s h l k x b t vs i n q))
@@ -343,7 +349,7 @@ enters-rest s h l c o a i n _ q p = cc
 abbrev BelowCalls : Scenario → List Entry → Type 0
 BelowCalls s h = (l c o a : ℕ) (x : Opener) (os : List Opener) (i : Issue) (n : ℕ) → openers h l ≡ x ∷ os → Among (Enters c o a) os → Sits s h c o a i n → ⊥
 
-first-same : (x y : Opener) (os xs : List Opener) → x ∷ os ≡ y ∷ xs → (x ≡ y) × (os ≡ xs)
+pub first-same : (x y : Opener) (os xs : List Opener) → x ∷ os ≡ y ∷ xs → (x ≡ y) × (os ≡ xs)
 first-same x y os xs e = (cc, cc)
 
 top-after : (s : Scenario) (h : List Entry) (e : Entry) (c o a : ℕ) (os : List Opener) (i : Issue) (n : ℕ) (y : Effect) → Formed s → legal s (e ∷ h) → StillAlone s h → BelowCalls s h
@@ -398,7 +404,7 @@ below-after s h e c o a x os i n Keeps f q top low p r m k =
 abbrev Both : Scenario → List Entry → Type 0
 Both s h = StillAlone s h × BelowCalls s h
 
-differs : (j l : ℕ) → (j == l) ≡ false → l ≡ j → ⊥
+pub differs : (j l : ℕ) → (j == l) ≡ false → l ≡ j → ⊥
 differs j l z e = not-both (j == l) (subst (λ (k : ℕ). (j == k) ≡ true) (sym e) (same-number j)) z
 
 runs-step : (s : Scenario) (h : List Entry) (e : Entry) → Formed s → legal s (e ∷ h) → Both s h → Both s (e ∷ h)

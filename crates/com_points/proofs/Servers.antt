@@ -53,7 +53,7 @@ new-sta s h l a (deed.Init mode.Sta b hr) f q = init-new (sight s h) (home s h l
 new-sta s h l a (deed.Init mode.Mta b hr) f q = cc
 new-sta s h l a _ f q = cc
 
-number-is : (a : ℕ) (x : Option ℕ) → is_number a x ≡ true → x ≡ Some a
+pub number-is : (a : ℕ) (x : Option ℕ) → is_number a x ≡ true → x ≡ Some a
 number-is a None e = cc
 number-is a (Some b) e = ap (λ (n : ℕ). Some n) (sym (eqb-true a b e))
 
@@ -78,7 +78,7 @@ made-by h e l a false c d p q r t = inr (r ∙ t)
 made-split : (h : List Entry) (e : Entry) (l a : ℕ) → made_in (e ∷ h) l a ≡ true → ((e.lane ≡ l) × (makes_sta e.deed ≡ Some a)) ⊎ (made_in h l a ≡ true)
 made-split h e l a t = made-by h e l a (e.lane == l) (is_number a (makes_sta e.deed)) (made_in h l a) refl refl refl t
 
-entry-new : (s : Scenario) (h : List Entry) (e : Entry) (a : ℕ) → legal s (e ∷ h) → makes_sta e.deed ≡ Some a → a ≡ next_sta h
+pub entry-new : (s : Scenario) (h : List Entry) (e : Entry) (a : ℕ) → legal s (e ∷ h) → makes_sta e.deed ≡ Some a → a ≡ next_sta h
 entry-new s h e a q m = new-sta s h e.lane a e.deed (source-fact s (sight s h) e.lane e.deed (next-source s h e.lane e.deed q.1)) m
 
 made-within : (s : Scenario) (h : List Entry) (l a : ℕ) → legal s h → made_in h l a ≡ true → Within h a

@@ -27,12 +27,12 @@ sta-model : (m : ThreadingModel) → IsStaModel m → is_agile m ≡ false
 sta-model m (inl e) = ap is_agile e
 sta-model m (inr e) = ap is_agile e
 
-body-found : (s : Scenario) (k iface m : ℕ) (c : Class) (b : List Stmt) → class_at s.classes k ≡ Some c → class_body c iface m ≡ Some b → body_of s.classes k iface m ≡ b
+pub body-found : (s : Scenario) (k iface m : ℕ) (c : Class) (b : List Stmt) → class_at s.classes k ≡ Some c → class_body c iface m ≡ Some b → body_of s.classes k iface m ≡ b
 body-found s k iface m c b p q =
     ap (λ (o : Option Class). unwrap_or (option_and_then (λ d. class_body d iface m) o) no_body) p
     ∙ ap (λ (o : Option (List Stmt)). unwrap_or o no_body) q
 
-own-body : (iface m : ℕ) → source_body iface iface m ≡ point_body m
+pub own-body : (iface m : ℕ) → source_body iface iface m ≡ point_body m
 own-body iface m = ap (λ (t : Bool). cond t (point_body m) None) (same-number iface)
 
 pub source-runs : (s : Scenario) (k iface : ℕ) → IsSource s k iface → SourceRuns s k iface

@@ -81,7 +81,7 @@ body-next s h l c o a os Thread d x n p y e = stepped-is s h l c o a os d x p y 
 body-next s h l c o a os Host d x n p y e = stepped-is s h l c o a os d x p y e
 body-next s h l c o a os Pool d x n p y e = stepped-is s h l c o a os d x p y e
 
-none-open : (c o a : ℕ) (os : List Opener) → [] ≡ Enters c o a ∷ os → ⊥
+pub none-open : (c o a : ℕ) (os : List Opener) → [] ≡ Enters c o a ∷ os → ⊥
 none-open c o a os e = cc
 
 -- The outcome of a body is its step.
@@ -125,12 +125,12 @@ placed c o g q w (place.Link k) held =
     )
 
 -- The scene after a deed of a body, without what the end of an STA does.
-abbrev outcome-by : Outcome → Actor → Option Outcome
+abbrev pub outcome-by : Outcome → Actor → Option Outcome
 outcome-by r (Body c o) = Some r
 outcome-by r (Script l) = None
 outcome-by r Nobody = None
 
-abbrev after-body : ℕ → ℕ → Outcome → Actor → ℕ → Deed → Scene → Scene
+abbrev pub after-body : ℕ → ℕ → Outcome → Actor → ℕ → Deed → Scene → Scene
 after-body c o r b l d w = arrived b l d (acted (unless_final d (Body c o)) (outcome-by r (unless_final d (Body c o))) d w)
 
 left-is : (s : Scenario) (h : List Entry) (l c : ℕ) (i : Issue) (hr : HResult) (x : Option Value) → issue h c ≡ Some i → IsLeave (left_as s (sight s h) l c (issue h c) hr x) c hr (result_of s h i hr x)
@@ -202,7 +202,7 @@ same-outcome : (s : Scenario) (h : List Entry) (c o : ℕ) (i : Issue) (d : Deed
 same-outcome s h c o i d e =
     body-or-nobody (λ x. outcome s (class_of h) (issue h) (scene s h) x ≡ outcome-by (step_of s h c o i) x) c o d refl (body-outcome s h c o i e)
 
-scene-is : (s : Scenario) (h : List Entry) (e : Entry) (c o a : ℕ) (os : List Opener) (i : Issue) → openers h e.lane ≡ Enters c o a ∷ os → issue h c ≡ Some i
+pub scene-is : (s : Scenario) (h : List Entry) (e : Entry) (c o a : ℕ) (os : List Opener) (i : Issue) → openers h e.lane ≡ Enters c o a ∷ os → issue h c ≡ Some i
     → scene s (e ∷ h) ≡ cut_links (named h) (ends_sta e.deed) (after-body c o (step_of s h c o i) (actor_in s (e ∷ h) e.lane) e.lane e.deed (scene s h))
 scene-is s h e c o a os i p m =
     ap (λ (xs : List Opener). scene_after s (class_of h) (named h) (issue h) (actor (lane_sort s e.lane) e.lane xs) (actor_in s (e ∷ h) e.lane) e.lane e.deed (scene s h)) p

@@ -10,3 +10,4 @@ pub mod Servers
 pub mod Runs
 pub mod Sourced
 pub mod Fitting
+pub mod Deliveries

@@ -1,7 +1,7 @@
 //! Event sources after IConnectionPoint: what their bodies do, stated on functions that do nothing.
 #![tactic(auto)]
 
-ghost use Rattle.std.specs.Prelude.{◌≡◌, ◌↔◌, ℕ, ◌+◌, ◌≤◌, ◌<◌, ◌^◌, ℤ, pos, int_lt, true, false, length, List, [], ◌∷◌, ◌++◌, Some, None};
+ghost use Rattle.std.specs.Prelude.{◌≡◌, ◌↔◌, ◌⊎◌, ℕ, ◌+◌, ◌≤◌, ◌<◌, ◌^◌, ℤ, pos, int_lt, true, false, length, List, [], ◌∷◌, ◌++◌, Some, None};
 ghost use Rattle.com_base.specs.declared.value.RefValue.{RefValue};
 ghost use Rattle.com_base.specs.declared.value.Value.{Value};
 ghost use Rattle.com_base.specs.declared.value.Value.TheVariants as value;
@@ -12,7 +12,10 @@ ghost use Rattle.com_model.specs.declared.scenario.Scenario.{Scenario};
 ghost use Rattle.com_model.specs.Formed.{Formed};
 ghost use Rattle.com_model.specs.Frames.{new_cells};
 ghost use Rattle.com_model.specs.Rules.{legal};
+ghost use Rattle.com_model.specs.Safe.{EachEntry};
 ghost use Rattle.com_points.specs.Alone.{alone};
+ghost use Rattle.com_points.specs.Deliveries.{InOrder, NonePassed, AllGot, TakesNext};
+ghost use Rattle.com_points.specs.Histories.{Delivered};
 ghost use Rattle.com_points.specs.Sourced.{SourceRuns, SinksAfter};
 ghost use Rattle.com_points.specs.Sources.{IsSource};
 ghost use Rattle.com_points.specs.Steps.{OwnStep, GoesAlone, CellsStay, FramesStay, BackWrites};
@@ -39,10 +42,12 @@ pub fn advising()
 
 /// What `unadvise` does by itself: the sink with the cookie goes, and the others keep their order. Where no
 /// sink has it the answer is CONNECT_E_NOCONNECTION, and the sinks stay as they were. In the range of 64
-/// bits a number is a cookie where it is equal to it (`cookie`).
+/// bits a number is a cookie where it is equal to it (`cookie`). Of any number at all, one of the two holds
+/// (`either`).
 pub fn unadvising()
     ensures removed { (c : Cells) (sinks : List Sink) (last : ℕ) (n : ℤ) → Keeps c sinks last → int_lt (pos 0) n ≡ true → has_cookie n sinks ≡ true → Leaves (alone unadvise_body 4 (entered (value.Int n ∷ [])) c) ok None (without n sinks) last }
     ensures cookie { (n cookie : ℕ) → n < 2 ^ 63 → cookie < 2 ^ 63 → (is_cookie (pos n) cookie ≡ true) ↔ (n ≡ cookie) }
+    ensures either { (c : Cells) (sinks : List Sink) (last : ℕ) (n : ℤ) → Keeps c sinks last → Leaves (alone unadvise_body 4 (entered (value.Int n ∷ [])) c) ok None (without n sinks) last ⊎ Leaves (alone unadvise_body 4 (entered (value.Int n ∷ [])) c) no_connection None sinks last }
     ensures none { (c : Cells) (sinks : List Sink) (last : ℕ) (n : ℤ) → Keeps c sinks last → is_cookie n 0 ≡ false → (int_lt (pos 0) n ≡ true → has_cookie n sinks ≡ false) → Leaves (alone unadvise_body 4 (entered (value.Int n ∷ [])) c) no_connection None sinks last }
 {}
 
@@ -107,4 +112,22 @@ pub fn source_calls()
 /// `unadvise` and `fire` have one number.
 pub fn given_values()
     ensures { (s : Scenario) (h : List Entry) → Formed s → legal s h → GivenFit s h }
+{}
+
+/// One event of a source, whatever reenters it, in every legal history of a formed scenario with fewer
+/// than 2^63 entries (cookies are numbers of 64 bits).
+///
+/// Each Out of the body of `fire` goes to the first sink that the source has then, whose cookie is above
+/// that of the Out before it and at most the number of sinks that were taken before the call was entered.
+/// The body leaves where there is none, with the number of its Outs (`sentence`). A sink that is taken gets
+/// the next cookie (`cookies`). So each sink gets the event at most once, in the order of cookies, and none
+/// that was advised during the event gets it (`order`). One that was unadvised before its turn gets none,
+/// by `sentence`. Every other one that was advised before the call gets it: none is passed over (`turns`),
+/// and none is left when the body leaves (`all`).
+pub fn deliveries()
+    ensures sentence { (s : Scenario) (h : List Entry) → Formed s → legal s h → length h < 2 ^ 63 → EachEntry (Delivered s) h }
+    ensures cookies { (s : Scenario) (h : List Entry) → Formed s → legal s h → length h < 2 ^ 63 → EachEntry (TakesNext s) h }
+    ensures order { (s : Scenario) (h : List Entry) → legal s h → InOrder h }
+    ensures turns { (s : Scenario) (h : List Entry) → Formed s → legal s h → length h < 2 ^ 63 → NonePassed s h }
+    ensures all { (s : Scenario) (h : List Entry) → Formed s → legal s h → length h < 2 ^ 63 → EachEntry (AllGot s) h }
 {}

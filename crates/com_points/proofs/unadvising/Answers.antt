@@ -1,5 +1,5 @@
 use Rattle.com_points.proofs.Cookies.{cookie-is}
-use Rattle.com_points.proofs.Advised.{unadvise-removed, unadvise-none}
+use Rattle.com_points.proofs.Advised.{unadvise-removed, unadvise-none, unadvise-either}
 use Rattle.com_points.proofs.unadvising.Goals as goal
 
 pub returns-clause-removed : goal.returns-clause-removed
@@ -10,3 +10,6 @@ returns-clause-none c = λ d sinks last n k z f. unadvise-none n d sinks last k 
 
 pub returns-clause-cookie : goal.returns-clause-cookie
 returns-clause-cookie c = cookie-is
+
+pub returns-clause-either : goal.returns-clause-either
+returns-clause-either c = λ d sinks last n k. unadvise-either n d sinks last k
