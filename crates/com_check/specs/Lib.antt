@@ -2,3 +2,4 @@ pub mod Lines
 pub mod Fronts
 pub mod Cuts
 pub mod Judging
+pub mod Turning

@@ -15,9 +15,9 @@ use com_io::Sink;
 use com_model::{Counts, Ended, Scenario};
 use std::alloc::Global;
 
-/// What a report counts of each object, in order of making.
+/// What a report counts of each object, in order of making. The only error is want of memory.
 #[tactic(auto, using(crate::proofs::Counting::one_more_counted_at, crate::proofs::Resting::same_reached))]
-fn all_counts<C: Runtime>(
+pub fn all_counts<C: Runtime>(
     alloc: Global,
     scenario: &Scenario,
     runtime: &C,

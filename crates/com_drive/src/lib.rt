@@ -22,9 +22,11 @@ pub use com_base::Memory;
 use com_io::Sink;
 use com_model::{Ended, Scenario};
 use com_servant::Servant;
+pub use finish::all_counts;
 pub use lines::{ReplayError, show, tell};
 pub use replayed::Replayed;
 pub use runtime::{Runtime, Standing};
+pub use schedule::{Chosen, choose, ended};
 use std::alloc::Global;
 pub use stream::{Step, Stream};
 

@@ -1,0 +1,87 @@
+-- What the steps of a judge find, by the tables of a runtime.
+use Rattle.std.specs.Prelude.{◌≡◌, ◌≢◌, ℕ, ◌+◌, List, [], ◌∷◌, ◌++◌, length, Option, Some, None, option_map, option_and_then}
+use Rattle.com_model.specs.declared.counts.Ended.{Ended}
+use Rattle.com_model.specs.declared.deeds.Entry.{Entry}
+use Rattle.com_model.specs.declared.scenario.Scenario.{Scenario}
+use Rattle.com_model.specs.Ends.{last_after}
+use Rattle.com_model.specs.Lists.{first}
+use Rattle.com_model.specs.State.{State, next_of}
+use Rattle.com_model.specs.Text.{report_text}
+use Rattle.com_drive.specs.Reports.{all_counts_in}
+use Rattle.com_drive.specs.Standings.{turn_now}
+use Rattle.com_drive.specs.Turns.{IsNext}
+use Rattle.com_check.specs.declared.judged.Judged.{Judged}
+use Rattle.com_check.specs.declared.judged.Judged.TheVariants as judged
+use Rattle.com_check.specs.Fronts.{named}
+use Rattle.com_check.specs.Judging.{entry_line, lane_of_turn, shown}
+use Rattle.com_check.specs.Lines.{lines_of}
+
+-- ---- the only legal line, by the tables
+
+unfoldable pub entry_in : Scenario → State → (lane : ℕ) → Option Entry
+entry_in s st l = option_map (λ d. record { lane = l; deed = d }) (next_of s st l)
+
+abbrev pub lane_in : Scenario → State → (last : ℕ) → (found : Option (List ℕ)) → Option ℕ
+lane_in s st last None = lane_of_turn (turn_now s st [] last)
+lane_in s st last (Some line) = named line
+
+unfoldable pub line_in : Scenario → State → (last : ℕ) → (found : Option (List ℕ)) → Option (List ℕ)
+line_in s st last found =
+    option_map (entry_line s.version (st.entries + 1)) (option_and_then (entry_in s st) (lane_in s st last found))
+
+-- ---- entries
+
+-- The next entry of a lane was made, or it has none.
+abbrev pub IsNextOf : Scenario → State → (lane : ℕ) → Option Entry → State → Type 0
+IsNextOf s st l None new = entry_in s st l ≡ None
+IsNextOf s st l (Some e) new = IsNext s st l e new
+
+-- The entry was made whose turn it is by the schedule without picks.
+pub record IsScheduled (s : Scenario) (st : State) (last : ℕ) (e : Entry) (new : State) : Type 0 where
+  pub turn : lane_of_turn (turn_now s st [] last) ≡ Some e.lane
+  pub next : IsNext s st e.lane e new
+
+-- ---- lines
+
+-- The found line is that of the next entry of the lane that it names, which was made.
+pub record IsEntry (s : Scenario) (st : State) (last : ℕ) (found : List ℕ) (new : State) (last_new : ℕ) : Type 0 where
+  pub entry : Entry
+  pub next : IsNext s st entry.lane entry new
+  pub line : found ≡ entry_line s.version (st.entries + 1) entry
+  pub follows : last_new ≡ last_after entry.lane last
+
+-- The only legal line is another one, or there is none.
+pub record IsOther (s : Scenario) (st : State) (last : ℕ) (found : Option (List ℕ)) (j : Judged) : Type 0 where
+  pub answer : j ≡ judged.Differs (st.entries + 1) (shown found) (shown (line_in s st last found))
+  pub differ : found ≢ line_in s st last found
+
+-- The found line is that of the lane's entry, and the lane is the last one, if it is not the clock's; or else the line differs.
+abbrev pub IsCompared : (place lane : ℕ) → (found line : List ℕ) → (last : ℕ) → Option Judged → (last_new : ℕ) → Type 0
+IsCompared place lane found line last None last_new = (found ≡ line) × (last_new ≡ last_after lane last)
+IsCompared place lane found line last (Some j) last_new = (found ≢ line) × (j ≡ judged.Differs place found line)
+
+abbrev pub IsTurn : Scenario → State → (last : ℕ) → (found : List ℕ) → Option Judged → State → (last_new : ℕ) → Type 0
+IsTurn s st last found None new last_new = IsEntry s st last found new last_new
+IsTurn s st last found (Some j) new last_new = IsOther s st last (Some found) j
+
+-- ---- the report
+
+-- Lines of a report were compared with those that a trace has left, behind so many lines.
+pub record DiffersIn (before : ℕ) (report trace : List (List ℕ)) (line : ℕ) (found legal : List ℕ) : Type 0 where
+  pub front : List (List ℕ)
+  pub back : List (List ℕ)
+  pub rest : List (List ℕ)
+  pub report_is : report ≡ front ++ back
+  pub trace_is : trace ≡ front ++ rest
+  pub place : line ≡ before + length front + 1
+  pub differ : first rest ≢ first back
+  pub found_is : found ≡ shown (first rest)
+  pub legal_is : legal ≡ shown (first back)
+
+abbrev pub IsReported : ℕ → List (List ℕ) → List (List ℕ) → Judged → Type 0
+IsReported before report trace judged.Agrees = report ≡ trace
+IsReported before report trace (judged.Differs line found legal) = DiffersIn before report trace line found legal
+
+-- What a trace has left was judged beside the report of a runtime whose history has ended so.
+abbrev pub IsTold : Scenario → State → Ended → (rest : List ℕ) → Judged → Type 0
+IsTold s st x rest j = IsReported st.entries (lines_of (report_text (all_counts_in s st) st.entries st.clock x)) (lines_of rest) j
