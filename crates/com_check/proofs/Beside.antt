@@ -1,11 +1,10 @@
 -- The lines of a report beside those of a trace.
 use Rattle.std.proofs.Common.{◌≡◌, ◌≢◌, ℕ, ◌+◌, refl, sym, ◌∙◌, ap, subst, append_assoc, append-nil, length-append, arith, List, [], ◌∷◌, ◌++◌, length, Some, None}
 use Rattle.std.specs.Prelude.{codes}
-use Rattle.com_model.specs.Lists.{first}
 use Rattle.com_check.specs.declared.judged.Judged.{Judged}
 use Rattle.com_check.specs.declared.judged.Judged.TheVariants as judged
 use Rattle.com_check.specs.Lines.{lines_of}
-use Rattle.com_check.specs.Turning.{IsReported}
+use Rattle.com_check.specs.Judging.{IsReported, first}
 
 -- The same lines stand in front of what is left of both.
 pub record Beside (before : ℕ) (report trace : List (List ℕ)) (line : ℕ) (legal found : List ℕ) : Type 0 where

@@ -1,41 +1,21 @@
 -- Judging a trace: what its steps make of what was known.
-use Rattle.std.proofs.Common.{◌≡◌, ℕ, zero, suc, ◌+◌, ◌-◌, ◌^◌, ◌<◌, ◌≤◌, refl, sym, ◌∙◌, ap, subst, append_assoc, append-nil, length-append, arith, List, [], ◌∷◌, ◌++◌, length, take, Bool, true, Option, Some, None}
+use Rattle.std.proofs.Common.{◌≡◌, ◌≢◌, ℕ, zero, suc, ◌+◌, ◌-◌, ◌<◌, ◌≤◌, ◌⊎◌, inl, inr, refl, sym, ◌∙◌, ap, subst, append_assoc, append-nil, length-append, arith, List, [], ◌∷◌, ◌++◌, length, take, Option, Some, None, IfOk, Result, Ok, Err}
 use Rattle.std.proofs.lemmas.Grind.{common_steps}
-use Rattle.std.specs.Prelude.{MatchOption, codes, cond, if◌then◌else◌, is_some, nat_le, option_map, option_and_then, ◌==◌}
+use Rattle.std.specs.Prelude.{codes, if◌then◌else◌, ◌==◌}
+use Rattle.com_core.specs.Seen.{CoreView, Makes}
 use Rattle.com_model.specs.declared.counts.Counts.{Counts}
 use Rattle.com_model.specs.declared.counts.Ended.{Ended}
-use Rattle.com_model.specs.declared.deeds.Deed.{Deed}
+use Rattle.com_model.specs.declared.counts.Ended.TheVariants as ended
 use Rattle.com_model.specs.declared.deeds.Entry.{Entry}
 use Rattle.com_model.specs.declared.scenario.Scenario.{Scenario}
-use Rattle.com_model.specs.Clock.{clock}
-use Rattle.com_model.specs.Ends.{Turn, all_counts, ended_as, ended_by, last_after, limit, report_as, turn}
-use Rattle.com_model.specs.Formed.{Formed}
-use Rattle.com_model.specs.Lists.{first}
-use Rattle.com_model.specs.Rules.{legal, next}
-use Rattle.com_model.specs.Sight.{Sight, sight}
-use Rattle.com_model.specs.State.{State, StandsFor, first_tables, sight_of}
-use Rattle.com_model.specs.Tables.{lanes}
+use Rattle.com_model.specs.Clock.{clock, ticked}
+use Rattle.com_model.specs.Ends.{limit}
 use Rattle.com_model.specs.Text.{line_text, report_text}
-use Rattle.com_model.proofs.Lanes.{lane-within}
-use Rattle.com_model.proofs.Sights.{same-next, same-sight}
-use Rattle.com_model.proofs.Whole.{first-stands}
-use Rattle.com_schedule.proofs.Runs.{stands-later}
-use Rattle.com_drive.specs.Reports.{all_counts_in}
-use Rattle.com_drive.specs.Standings.{ended_now, turn_now, Reached}
-use Rattle.com_drive.specs.Turns.{IsNext}
-use Rattle.com_drive.proofs.Counting.{all-counted}
-use Rattle.com_drive.proofs.Resting.{reached_by}
-use Rattle.com_drive.proofs.Turning.{below_limit, one_entry}
 use Rattle.com_check.specs.declared.judged.Judged.{Judged}
 use Rattle.com_check.specs.declared.judged.Judged.TheVariants as judged
-use Rattle.com_check.specs.Fronts.{named, IsNoLane}
+use Rattle.com_check.specs.Fronts.{named}
 use Rattle.com_check.specs.Lines.{lines_of}
-use Rattle.com_check.specs.Judging.{Differs, IsJudged, IsText, Unended, entry_line, entry_of, history_lines, lane_due, lane_of_turn, last_lane, legal_line, line_due, report_lines, shown}
-use Rattle.com_check.specs.Turning.{IsCompared, IsEntry, IsNextOf, IsOther, IsReported, IsScheduled, IsTold, IsTurn, entry_in, lane_in, line_in}
-use Rattle.com_check.proofs.Entries.{entry_made, none_above}
-use Rattle.com_check.proofs.Histories.{history_length, nothing_told}
-
--- ---- a line
+use Rattle.com_check.specs.Judging.{entry_line, history_lines, report_lines, first, shown, Grows, IsCompared, IsEntry, IsOther, IsEarly, IsEntryLine, IsFound, IsText, InHistory, InReport, Differs, DiffersIn, IsJudged, IsLegal, IsReported, IsToldBy, IsTurn, IsNextOf}
 
 front_taken : (front back : List ℕ) → take (length front) (front ++ back) ≡ front
 front_taken [] back = refl
@@ -54,193 +34,61 @@ without_end version place e text is = rw is (front_of _)
 
 -- ---- turns
 
-line_made : (s : Scenario) (st new : State) (last lane : ℕ) (found : Option (List ℕ)) (e : Entry) → lane_in s st last found ≡ Some lane
-    → IsNext s st lane e new → line_in s st last found ≡ Some (entry_line s.version (st.entries + 1) e)
-unfolding line_in
-line_made s st new last lane found e due p =
-    ap (λ (x : Option ℕ). option_map (entry_line s.version (st.entries + 1)) (option_and_then (entry_in s st) x)) due
-    ∙ ap (option_map (entry_line s.version (st.entries + 1))) (entry_made s st new lane e p)
-
-no_line : (s : Scenario) (st : State) (last lane : ℕ) (found : Option (List ℕ)) → lane_in s st last found ≡ Some lane → entry_in s st lane ≡ None
-    → line_in s st last found ≡ None
-unfolding line_in
-no_line s st last lane found due none =
-    ap (λ (x : Option ℕ). option_map (entry_line s.version (st.entries + 1)) (option_and_then (entry_in s st) x)) due
-    ∙ ap (option_map (entry_line s.version (st.entries + 1))) none
-
-no_lane : (s : Scenario) (st : State) (last : ℕ) (found : Option (List ℕ)) → lane_in s st last found ≡ None → line_in s st last found ≡ None
-unfolding line_in
-no_lane s st last found none =
-    ap (λ (x : Option ℕ). option_map (entry_line s.version (st.entries + 1)) (option_and_then (entry_in s st) x)) none
+own_lane : (f found : List ℕ) (lane own : ℕ) → Some found ≡ Some f → named found ≡ Some lane → own ≡ lane → named f ≡ Some own
+own_lane f found lane own same names is = cc
 
 one_line : (a b : List ℕ) → Some a ≡ Some b → a ≡ b
 one_line a b same = cc
 
-not_none : (a : List ℕ) → Some a ≡ None → ⊥
-not_none a same = cc
-
--- The found line beside that of the entry that was made.
-pub turn_compared : (s : Scenario) (st new : State) (last last_new lane n : ℕ) (e : Entry) (found line : List ℕ) (t : Option Judged) → named found ≡ Some lane
-    → IsNext s st lane e new → n ≡ st.entries + 1 → line ≡ entry_line s.version n e → IsCompared n lane found line last t last_new
-    → IsTurn s st last found t new last_new
-turn_compared s st new last last_new lane n e found line None names p count is same = record {
+-- The found line beside the line of the entry that was made.
+pub turn_compared : (version lane : ℕ) (old new : CoreView) (e : Entry) (found line : List ℕ) (t : Option Judged) → Makes lane old new e
+    → named found ≡ Some lane → line ≡ entry_line version new.parts.entries e → IsCompared new.parts.entries found line t → IsTurn version old new found t
+turn_compared version lane old new e found line None made names is same = record {
   entry = e;
-  next = subst (λ (k : ℕ). IsNext s st k e new) (sym p.by) p;
-  line = same.0 ∙ is ∙ ap (λ (k : ℕ). entry_line s.version k e) count;
-  follows = same.1 ∙ ap (λ (k : ℕ). last_after k last) (sym p.by);
+  grows = record { one = made.one; tells = made.tells };
+  line = same ∙ is;
 }
-turn_compared s st new last last_new lane n e found line (Some j) names p count is other =
-    let legal : Some line ≡ line_in s st last (Some found) =
-    ap (λ (x : List ℕ). Some x) (is ∙ ap (λ (k : ℕ). entry_line s.version k e) count) ∙ sym (line_made s st new last lane (Some found) e names p) in
+turn_compared version lane old new e found line (Some j) made names is other =
+    let behind : entry_line version new.parts.entries e ≡ entry_line version (old.parts.entries + 1) e = ap (λ (n : ℕ). entry_line version n e) made.one in
     record {
-      answer = other.1 ∙ ap (λ (k : ℕ). judged.Differs k found line) count
-          ∙ ap (λ (x : Option (List ℕ)). judged.Differs (st.entries + 1) found (shown x)) legal;
-      differ = λ same. other.0 (one_line found line (same ∙ sym legal));
+      legal = Some line;
+      answer = other.1 ∙ ap (λ (n : ℕ). judged.Differs n found line) made.one;
+      next = record { entry = e; is = is ∙ behind; own = λ f same. own_lane f found lane e.lane same names made.own };
+      differ = λ same. other.0 (one_line found line same);
     }
 
--- The same, where the last lane is known by an equation.
-pub turn_settled : (s : Scenario) (st new : State) (last old last_new lane n : ℕ) (e : Entry) (found line : List ℕ) (t : Option Judged) → named found ≡ Some lane
-    → IsNext s st lane e new → n ≡ st.entries + 1 → line ≡ entry_line s.version n e → old ≡ last → IsCompared n lane found line old t last_new
-    → IsTurn s st last found t new last_new
-turn_settled s st new last old last_new lane n e found line t names p count is kept same =
-    turn_compared s st new last last_new lane n e found line t names p count is
-    (subst (λ (k : ℕ). IsCompared n lane found line k t last_new) kept same)
-
-turn_none : (s : Scenario) (st new : State) (last last_new n : ℕ) (found : List ℕ) (t : Option Judged) → n ≡ st.entries → line_in s st last (Some found) ≡ None
-    → t ≡ Some (judged.Differs (n + 1) found (codes "none")) → IsTurn s st last found t new last_new
-turn_none s st new last last_new n found t count none is =
-    subst (λ (x : Option Judged). IsTurn s st last found x new last_new) (sym is) (record {
-      answer = ap (λ (k : ℕ). judged.Differs (k + 1) found (codes "none")) count
-          ∙ ap (λ (x : Option (List ℕ)). judged.Differs (st.entries + 1) found (shown x)) (sym none);
-      differ = λ same. not_none found (same ∙ none);
-    })
-
--- The found line names a lane that has no next entry.
-pub turn_without : (s : Scenario) (st new : State) (last last_new lane n : ℕ) (found : List ℕ) (t : Option Judged) → named found ≡ Some lane
-    → entry_in s st lane ≡ None → n ≡ st.entries → t ≡ Some (judged.Differs (n + 1) found (codes "none")) → IsTurn s st last found t new last_new
-turn_without s st new last last_new lane n found t names none count is =
-    turn_none s st new last last_new n found t count (no_line s st last lane (Some found) names none) is
-
-few_lanes : (s : Scenario) (st : State) (lane : ℕ) → Reached s st → 2 ^ 32 ≤ lane → lanes s < lane
-unfolding Reached
-few_lanes s st lane r high = few s.pool (length s.threads) lane r.0.pool.1 r.0.threads.1 high
-  where
-    few : (p t n : ℕ) → p ≤ 8 → t ≤ 16 → 2 ^ 32 ≤ n → t + 1 + p < n
-    few p t n a b c = omega (arith, a, b, c)
-
-unnamed : (s : Scenario) (st : State) (last : ℕ) (found : List ℕ) (x : Option ℕ) → Reached s st → named found ≡ x → IsNoLane x
-    → line_in s st last (Some found) ≡ None
-unnamed s st last found None r e p = no_lane s st last (Some found) e
-unnamed s st last found (Some lane) r e p = no_line s st last lane (Some found) e (none_above s st lane r (few_lanes s st lane r p))
-
--- The found line names no lane.
-pub turn_unnamed : (s : Scenario) (st new : State) (last last_new n : ℕ) (found : List ℕ) (t : Option Judged) → Reached s st → IsNoLane (named found)
-    → n ≡ st.entries → t ≡ Some (judged.Differs (n + 1) found (codes "none")) → IsTurn s st last found t new last_new
-turn_unnamed s st new last last_new n found t r p count is =
-    turn_none s st new last last_new n found t count (unnamed s st last found (named found) r refl p) is
-
--- The trace has ended in the place of the schedule's entry.
-pub early_by : (s : Scenario) (st new : State) (last n : ℕ) (e : Entry) (line : List ℕ) (j : Judged) → IsScheduled s st last e new → n ≡ st.entries + 1
-    → line ≡ entry_line s.version n e → j ≡ judged.Differs n (codes "none") line → IsOther s st last None j
-early_by s st new last n e line j p count is answer =
-    let legal : Some line ≡ line_in s st last None =
-    ap (λ (x : List ℕ). Some x) (is ∙ ap (λ (k : ℕ). entry_line s.version k e) count) ∙ sym (line_made s st new last e.lane None e p.turn p.next) in
-    record {
-      answer = answer ∙ ap (λ (k : ℕ). judged.Differs k (codes "none") line) count
-          ∙ ap (λ (x : Option (List ℕ)). judged.Differs (st.entries + 1) (codes "none") (shown x)) legal;
-      differ = λ same. not_none line (legal ∙ sym same);
-    }
-
--- ---- the same by the history as by the tables
-
-is_low : (k n : ℕ) → k ≤ n → nat_le k n ≡ true
-is_low k n q = grind (arith, q)
-
-ended_same : (s : Scenario) (st : State) (h : List Entry) → StandsFor s st h → length h ≤ limit s → ended_as s h ≡ ended_now s st
-unfolding ended_now
-ended_same s st h p q =
-    ap (λ (b : Bool). cond b (ended_by s (sight s h) (length h)) None) (is_low (length h) (limit s) q)
-    ∙ ap (λ (v : Sight). ended_by s v (length h)) (sym (same-sight s st h p))
-    ∙ ap (ended_by s (sight_of s st)) (sym p.entries)
-
-lane_same : (s : Scenario) (st : State) (h : List Entry) (last : ℕ) (found : Option (List ℕ)) → StandsFor s st h → last ≡ last_lane h
-    → lane_in s st last found ≡ lane_due s h found
-unfolding turn_now
-lane_same s st h last None p e =
-    ap (λ (v : Sight). lane_of_turn (turn s v [] last)) (same-sight s st h p) ∙ ap (λ (l : ℕ). lane_of_turn (turn s (sight s h) [] l)) e
-lane_same s st h last (Some line) p e = refl
-
-entry_same : (s : Scenario) (st : State) (h : List Entry) (l : ℕ) → StandsFor s st h → entry_in s st l ≡ entry_of s h l
-unfolding entry_in entry_of
-entry_same s st h l p = ap (option_map (λ (d : Deed). record { lane = l; deed = d })) (same-next s st h l p)
-
-entries_same : (s : Scenario) (st : State) (h : List Entry) (x : Option ℕ) → StandsFor s st h
-    → option_and_then (entry_in s st) x ≡ option_and_then (entry_of s h) x
-entries_same s st h None p = refl
-entries_same s st h (Some l) p = entry_same s st h l p
-
-line_same : (s : Scenario) (st : State) (h : List Entry) (last : ℕ) (found : Option (List ℕ)) → StandsFor s st h → last ≡ last_lane h
-    → line_in s st last found ≡ line_due s h found
-unfolding line_in line_due
-line_same s st h last found p e =
-    ap (λ (n : ℕ). option_map (entry_line s.version (n + 1)) (option_and_then (entry_in s st) (lane_in s st last found))) p.entries
-    ∙ ap (λ (x : Option ℕ). option_map (entry_line s.version (length h + 1)) (option_and_then (entry_in s st) x)) (lane_same s st h last found p e)
-    ∙ ap (option_map (entry_line s.version (length h + 1))) (entries_same s st h (lane_due s h found) p)
-
-told_same : (s : Scenario) (st : State) (h : List Entry) (x : Ended) → StandsFor s st h → ended_as s h ≡ Some x
-    → lines_of (report_text (all_counts_in s st) st.entries st.clock x) ≡ report_lines s h
-unfolding report_lines
-told_same s st h x p e =
-    ap (λ (cs : List Counts). lines_of (report_text cs st.entries st.clock x)) (all-counted s st h p)
-    ∙ ap (λ (n : ℕ). lines_of (report_text (all_counts s h) n st.clock x)) p.entries
-    ∙ ap (λ (t : ℕ). lines_of (report_text (all_counts s h) (length h) t x)) p.clock
-    ∙ ap (λ (y : Option Ended). lines_of (report_as s h y)) (sym e)
+-- A found line that names no lane with a next entry.
+pub turn_without : (version : ℕ) (core : CoreView) (found : List ℕ) (j : Judged)
+    → j ≡ judged.Differs (core.parts.entries + 1) found (codes "none") → IsTurn version core core found (Some j)
+turn_without version core found j is = record {
+  legal = None;
+  answer = is;
+  next = record { line = found; is = refl };
+  differ = λ same. cc;
+}
 
 -- ---- a whole trace
 
 -- A history stands behind the lines that were judged so far.
-pub record Sofar (s : Scenario) (trace : List ℕ) (st : State) (last : ℕ) (rest : List ℕ) : Type 0 where
+pub record Sofar (version limit : ℕ) (trace : List ℕ) (core : CoreView) (rest : List ℕ) : Type 0 where
   pub history : List Entry
-  pub stands : StandsFor s st history
-  pub few : length history ≤ limit s
-  pub unended : Unended s history
-  pub last_is : last ≡ last_lane history
-  pub parts : lines_of trace ≡ history_lines s.version history ++ lines_of rest
+  pub entries_are : core.parts.entries ≡ length history
+  pub clock_is : core.clock ≡ clock history
+  pub few : core.parts.entries ≤ limit
+  pub parts : lines_of trace ≡ history_lines version history ++ lines_of rest
 
 nothing_yet : (version : ℕ) (lines : List (List ℕ)) → lines ≡ history_lines version [] ++ lines
 unfolding history_lines
 nothing_yet version lines = refl
 
-pub first_sofar : (s : Scenario) (trace : List ℕ) (st : State) (last : ℕ) → st ≡ first_tables s → last ≡ 0 → Sofar s trace st last trace
-first_sofar s trace st last is none = record {
+pub first_sofar : (version limit : ℕ) (trace : List ℕ) (core : CoreView) → core.parts.entries ≡ 0 → core.clock ≡ 0 → Sofar version limit trace core trace
+first_sofar version limit trace core none still = record {
   history = [];
-  stands = subst (λ (x : State). StandsFor s x []) (sym is) (first-stands s);
-  few = omega arith;
-  unended = tt;
-  last_is = none;
-  parts = nothing_yet s.version (lines_of trace);
+  entries_are = none;
+  clock_is = still;
+  few = omega (arith, none);
+  parts = nothing_yet version (lines_of trace);
 }
-
-pub sofar_reached : (s : Scenario) (trace : List ℕ) (st : State) (last : ℕ) (rest : List ℕ) → Formed s → Sofar s trace st last rest → Reached s st
-sofar_reached s trace st last rest f p = reached_by s st p.history f p.stands
-
-pub sofar_within : (s : Scenario) (trace : List ℕ) (st : State) (last : ℕ) (rest : List ℕ) → Sofar s trace st last rest → st.entries ≤ limit s
-sofar_within s trace st last rest p = let c = p.few in let k = p.stands.entries in omega (arith, c, k)
-
-pub sofar_below : (s : Scenario) (trace : List ℕ) (st : State) (last : ℕ) (rest : List ℕ) → Sofar s trace st last rest → ended_now s st ≡ None
-    → st.entries < limit s
-sofar_below s trace st last rest p goes = below_limit s st goes (sofar_within s trace st last rest p)
-
-last_within : (s : Scenario) (h : List Entry) → legal s h → last_lane h ≤ lanes s
-last_within s [] q = omega arith
-last_within s (e ∷ h) q = later e.lane (last_lane h) (lane-within s h e.lane e.deed q.1) (last_within s h q.0)
-  where
-    later : (l last : ℕ) → l ≤ lanes s → last ≤ lanes s → last_after l last ≤ lanes s
-    later zero last a b = b
-    later (suc l) last a b = a
-
-pub sofar_last : (s : Scenario) (trace : List ℕ) (st : State) (last : ℕ) (rest : List ℕ) → Sofar s trace st last rest → last ≤ lanes s
-sofar_last s trace st last rest p = subst (λ (l : ℕ). l ≤ lanes s) (sym p.last_is) (last_within s p.history p.stands.lawful)
 
 -- One line more.
 longer : (version n : ℕ) (h : List Entry) (e : Entry) (found : List ℕ) (behind : List (List ℕ)) → found ≡ entry_line version n e → n ≡ length h + 1
@@ -250,146 +98,177 @@ longer version n h e found behind is count =
     ap (λ (l : List ℕ). history_lines version h ++ (l ∷ behind)) (is ∙ ap (λ (k : ℕ). entry_line version k e) count)
     ∙ sym (append_assoc (history_lines version h) (entry_line version (length h + 1) e ∷ []) behind)
 
-pub more_sofar : (s : Scenario) (trace : List ℕ) (st new : State) (last last_new : ℕ) (rest found behind : List ℕ) → Formed s
-    → Sofar s trace st last rest → ended_now s st ≡ None → lines_of rest ≡ found ∷ lines_of behind → IsEntry s st last found new last_new
-    → Sofar s trace new last_new behind
-more_sofar s trace st new last last_new rest found behind f p goes cut made =
-    let e : Entry = made.entry in
-    let nexts : next s p.history e.lane ≡ Some e.deed = sym (same-next s st p.history e.lane p.stands) ∙ made.next.deed in
-    let below : st.entries < limit s = sofar_below s trace st last rest p goes in
-    let count : st.entries ≡ length p.history = p.stands.entries in
+pub more_sofar : (version limit : ℕ) (trace : List ℕ) (old new : CoreView) (rest found behind : List ℕ) → Sofar version limit trace old rest
+    → lines_of rest ≡ found ∷ lines_of behind → IsEntry version old new found → old.parts.entries < limit → Sofar version limit trace new behind
+more_sofar version limit trace old new rest found behind s cut made below =
+    let count : new.parts.entries ≡ length s.history + 1 = made.grows.one ∙ ap (λ (k : ℕ). k + 1) s.entries_are in
     record {
-      history = e ∷ p.history;
-      stands = subst (λ (x : State). StandsFor s x (e ∷ p.history)) (sym made.next.becomes)
-          (stands-later s st p.history e.lane e.deed f (p.stands.lawful, nexts) p.stands);
-      few = omega (arith, below, count);
-      unended = (p.unended, omega (arith, below, count), ended_same s st p.history p.stands p.few ∙ goes);
-      last_is = made.follows ∙ ap (λ (l : ℕ). last_after e.lane l) p.last_is;
-      parts = p.parts ∙ ap (λ (ls : List (List ℕ)). history_lines s.version p.history ++ ls) cut
-          ∙ longer s.version (st.entries + 1) p.history e found (lines_of behind) made.line (ap (λ (k : ℕ). k + 1) count);
+      history = made.entry ∷ s.history;
+      entries_are = omega (arith, count);
+      clock_is = made.grows.tells ∙ ap (λ (t : ℕ). ticked made.entry.deed t) s.clock_is;
+      few = omega (arith, made.grows.one, below);
+      parts = s.parts ∙ ap (λ (ls : List (List ℕ)). history_lines version s.history ++ ls) cut
+          ∙ longer version new.parts.entries s.history made.entry found (lines_of behind) made.line count;
     }
 
 fewer_left : (limit n m : ℕ) → n < limit → m ≡ n + 1 → limit - m < limit - n
 fewer_left limit n m below one = omega (arith, below, one)
 
-pub fewer : (s : Scenario) (trace : List ℕ) (st new : State) (last last_new : ℕ) (rest found : List ℕ) → Sofar s trace st last rest → ended_now s st ≡ None
-    → IsEntry s st last found new last_new → limit s - new.entries < limit s - st.entries
-fewer s trace st new last last_new rest found p goes made =
-    fewer_left (limit s) st.entries new.entries (sofar_below s trace st last rest p goes) (one_entry s st new made.entry.lane made.entry made.next)
+pub fewer : (version limit : ℕ) (old new : CoreView) (found : List ℕ) → IsEntry version old new found → old.parts.entries < limit
+    → limit - new.parts.entries < limit - old.parts.entries
+fewer version limit old new found made below = fewer_left limit old.parts.entries new.parts.entries below made.grows.one
 
--- ---- answers
-
-other_judged : (s : Scenario) (trace : List ℕ) (st : State) (last : ℕ) (rest : List ℕ) (ls : List (List ℕ)) (j : Judged) → Sofar s trace st last rest
-    → lines_of rest ≡ ls → ended_now s st ≡ None → IsOther s st last (first ls) j → IsJudged s trace j
-other_judged s trace st last rest ls j p cut goes other =
-    let h : List Entry = p.history in
-    let on : ended_as s h ≡ None = ended_same s st h p.stands p.few ∙ goes in
-    let due : line_in s st last (first ls) ≡ legal_line s h [] (first ls) =
-    line_same s st h last (first ls) p.stands p.last_is
-    ∙ ap (λ (x : Option Ended). if is_some x then first [] else line_due s h (first ls)) (sym on) in
-    let count : st.entries ≡ length h = p.stands.entries in
-    subst (λ (x : Judged). IsJudged s trace x) (sym other.answer) (record {
-      before = history_lines s.version h;
-      rest = ls;
-      parts = p.parts ∙ ap (λ (x : List (List ℕ)). history_lines s.version h ++ x) cut;
-      place = omega (arith, count, history_length s.version h);
-      begins = record {
-        history = h;
-        lawful = p.stands.lawful;
-        unended = p.unended;
-        told = [];
-        left = [];
-        report = nothing_told s h on;
-        are = sym (append-nil (history_lines s.version h));
-      };
-      differ = λ same. other.differ (same ∙ sym due);
-      found_is = refl;
-      legal_is = ap shown due;
-    })
+history_length : (version : ℕ) (h : List Entry) → length (history_lines version h) ≡ length h
+unfolding history_lines
+history_length version [] = refl
+history_length version (e ∷ h) =
+    let older : length (history_lines version h) ≡ length h = history_length version h in
+    omega (arith, length-append (history_lines version h) (entry_line version (length h + 1) e ∷ []), older)
 
 -- A line that differs in the place of an entry.
-pub judged_other : (s : Scenario) (trace : List ℕ) (st : State) (last : ℕ) (rest found behind : List ℕ) (j : Judged) → Sofar s trace st last rest
-    → lines_of rest ≡ found ∷ lines_of behind → ended_now s st ≡ None → IsOther s st last (Some found) j → IsJudged s trace j
-judged_other s trace st last rest found behind j p cut goes other = other_judged s trace st last rest (found ∷ lines_of behind) j p cut goes other
+pub judged_other : (version limit : ℕ) (trace : List ℕ) (core : CoreView) (rest found behind : List ℕ) (j : Judged) → Sofar version limit trace core rest
+    → lines_of rest ≡ found ∷ lines_of behind → core.parts.entries < limit → IsOther version (core.parts.entries + 1) found j → IsJudged version limit trace j
+judged_other version limit trace core rest found behind j s cut below other =
+    subst (λ (x : Judged). IsJudged version limit trace x) (sym other.answer) (record {
+      before = history_lines version s.history;
+      rest = found ∷ lines_of behind;
+      parts = s.parts ∙ ap (λ (ls : List (List ℕ)). history_lines version s.history ++ ls) cut;
+      place = omega (arith, s.entries_are, history_length version s.history);
+      legal_line = other.legal;
+      differ = other.differ;
+      found_is = refl;
+      legal_is = refl;
+      stands = inl (record {
+        history = s.history;
+        below = omega (arith, s.entries_are, below);
+        lines = refl;
+        next = subst (λ (n : ℕ). IsLegal version n (Some found) other.legal) (ap (λ (k : ℕ). k + 1) s.entries_are) other.next;
+      });
+    })
 
 no_lines : (rest : List ℕ) → rest ≡ [] → lines_of rest ≡ []
 unfolding lines_of
 no_lines rest none = rw none refl
 
 -- A trace that has ended in the place of an entry.
-pub judged_early : (s : Scenario) (trace : List ℕ) (st : State) (last : ℕ) (rest : List ℕ) (j : Judged) → Sofar s trace st last rest
-    → rest ≡ [] → ended_now s st ≡ None → IsOther s st last None j → IsJudged s trace j
-judged_early s trace st last rest j p none goes other = other_judged s trace st last rest [] j p (no_lines rest none) goes other
+pub judged_early : (version limit : ℕ) (trace : List ℕ) (core : CoreView) (rest : List ℕ) (j : Judged) → Sofar version limit trace core rest
+    → rest ≡ [] → core.parts.entries < limit → IsEarly version core j → IsJudged version limit trace j
+judged_early version limit trace core rest j s none below early =
+    subst (λ (x : Judged). IsJudged version limit trace x) (sym early.answer) (record {
+      before = history_lines version s.history;
+      rest = [];
+      parts = s.parts ∙ ap (λ (ls : List (List ℕ)). history_lines version s.history ++ ls) (no_lines rest none);
+      place = omega (arith, s.entries_are, history_length version s.history);
+      legal_line = Some (entry_line version (core.parts.entries + 1) early.entry);
+      differ = λ same. cc;
+      found_is = refl;
+      legal_is = refl;
+      stands = inl (record {
+        history = s.history;
+        below = omega (arith, s.entries_are, below);
+        lines = refl;
+        next = record {
+          entry = early.entry;
+          is = ap (λ (k : ℕ). entry_line version (k + 1) early.entry) s.entries_are;
+          own = λ f same. cc;
+        };
+      });
+    })
+
+report_is : (core : CoreView) (h : List Entry) (counts : List Counts) (x : Ended) → core.parts.entries ≡ length h → core.clock ≡ clock h
+    → lines_of (report_text counts core.parts.entries core.clock x) ≡ report_lines h counts x
+unfolding report_lines
+report_is core h counts x entries time =
+    ap (λ (n : ℕ). lines_of (report_text counts n core.clock x)) entries ∙ ap (λ (t : ℕ). lines_of (report_text counts (length h) t x)) time
 
 -- What a trace has left beside the report.
-reported_judged : (s : Scenario) (trace : List ℕ) (st : State) (last : ℕ) (rest : List ℕ) (x : Ended) (j : Judged) (p : Sofar s trace st last rest)
-    → ended_as s p.history ≡ Some x → IsReported st.entries (report_lines s p.history) (lines_of rest) j → IsJudged s trace j
-reported_judged s trace st last rest x judged.Agrees p ends same = record {
-  history = p.history;
-  lawful = p.stands.lawful;
-  unended = p.unended;
-  ends = ap is_some ends;
-  lines = p.parts ∙ ap (λ (ls : List (List ℕ)). history_lines s.version p.history ++ ls) (sym same);
+told_judged : (version limit : ℕ) (trace : List ℕ) (core : CoreView) (x : Ended) (rest : List ℕ) (j : Judged) (s : Sofar version limit trace core rest)
+    → (x ≡ ended.Budget → core.parts.entries ≡ limit) → (counts : List Counts)
+    → IsReported core.parts.entries (report_lines s.history counts x) (lines_of rest) j → IsJudged version limit trace j
+told_judged version limit trace core x rest judged.Agrees s budget counts same = record {
+  history = s.history;
+  counts = counts;
+  ends = x;
+  few = omega (arith, s.entries_are, s.few);
+  budget = λ e. sym s.entries_are ∙ budget e;
+  lines = s.parts ∙ ap (λ (ls : List (List ℕ)). history_lines version s.history ++ ls) (sym same);
 }
-reported_judged s trace st last rest x (judged.Differs line found legal) p ends d =
-    let h : List Entry = p.history in
-    let count : st.entries ≡ length h = p.stands.entries in
-    let due : first d.back ≡ legal_line s h d.back (first d.rest) =
-    ap (λ (y : Option Ended). if is_some y then first d.back else line_due s h (first d.rest)) (sym ends) in
-    record {
-      before = history_lines s.version h ++ d.front;
-      rest = d.rest;
-      parts = p.parts ∙ ap (λ (ls : List (List ℕ)). history_lines s.version h ++ ls) d.trace_is
-          ∙ sym (append_assoc (history_lines s.version h) d.front d.rest);
-      place = omega (arith, d.place, count, history_length s.version h, length-append (history_lines s.version h) d.front);
-      begins = record {
-        history = h;
-        lawful = p.stands.lawful;
-        unended = p.unended;
-        told = d.front;
-        left = d.back;
-        report = d.report_is;
-        are = refl;
-      };
-      differ = λ same. d.differ (same ∙ sym due);
-      found_is = d.found_is;
-      legal_is = d.legal_is ∙ ap shown due;
-    }
+told_judged version limit trace core x rest (judged.Differs line found legal) s budget counts d = record {
+  before = history_lines version s.history ++ d.front;
+  rest = d.rest;
+  parts = s.parts ∙ ap (λ (ls : List (List ℕ)). history_lines version s.history ++ ls) d.trace_is
+      ∙ sym (append_assoc (history_lines version s.history) d.front d.rest);
+  place = omega (arith, d.place, s.entries_are, history_length version s.history, length-append (history_lines version s.history) d.front);
+  legal_line = first d.back;
+  differ = d.differ;
+  found_is = d.found_is;
+  legal_is = d.legal_is;
+  stands = inr (record {
+    history = s.history;
+    counts = counts;
+    ends = x;
+    few = omega (arith, s.entries_are, s.few);
+    budget = λ e. sym s.entries_are ∙ budget e;
+    front = d.front;
+    back = d.back;
+    lines = refl;
+    report = d.report_is;
+    next = refl;
+  });
+}
 
-pub judged_told : (s : Scenario) (trace : List ℕ) (st : State) (last : ℕ) (rest : List ℕ) (x : Ended) (j : Judged) → Sofar s trace st last rest
-    → ended_now s st ≡ Some x → IsTold s st x rest j → IsJudged s trace j
-judged_told s trace st last rest x j p ends told =
-    let over : ended_as s p.history ≡ Some x = ended_same s st p.history p.stands p.few ∙ ends in
-    reported_judged s trace st last rest x j p over
-    (subst (λ (ls : List (List ℕ)). IsReported st.entries ls (lines_of rest) j) (told_same s st p.history x p.stands over) told)
+pub judged_told : (version limit : ℕ) (trace : List ℕ) (core : CoreView) (x : Ended) (rest : List ℕ) (j : Judged) → Sofar version limit trace core rest
+    → (x ≡ ended.Budget → core.parts.entries ≡ limit) → IsToldBy core x rest j → IsJudged version limit trace j
+judged_told version limit trace core x rest j s budget told =
+    told_judged version limit trace core x rest j s budget told.counts
+    (subst (λ (ls : List (List ℕ)). IsReported core.parts.entries ls (lines_of rest) j)
+    (report_is core s.history told.counts x s.entries_are s.clock_is) told.reported)
 
--- ---- the same, where a runtime's scenario is known by an equation
+-- ---- single steps
 
-pub reached_at : (r s : Scenario) (trace : List ℕ) (st : State) (last : ℕ) (rest : List ℕ) → r ≡ s → Formed s → Sofar s trace st last rest → Reached r st
-reached_at r s trace st last rest e f p = subst (λ (x : Scenario). Reached x st) (sym e) (sofar_reached s trace st last rest f p)
+pub grows_by : (lane : ℕ) (old new : CoreView) (e : Entry) → Makes lane old new e → Grows old new e
+grows_by lane old new e made = record { one = made.one; tells = made.tells }
 
-pub last_at : (r s : Scenario) (trace : List ℕ) (st : State) (last : ℕ) (rest : List ℕ) → r ≡ s → Sofar s trace st last rest → last ≤ lanes r
-last_at r s trace st last rest e p = subst (λ (x : Scenario). last ≤ lanes x) (sym e) (sofar_last s trace st last rest p)
+-- The trace ended where this entry was made.
+pub early_by : (version : ℕ) (old new : CoreView) (e : Entry) (line : List ℕ) (j : Judged) → Grows old new e → line ≡ entry_line version new.parts.entries e
+    → j ≡ judged.Differs new.parts.entries (codes "none") line → IsEarly version old j
+early_by version old new e line j grows is answer = record {
+  entry = e;
+  answer = answer ∙ ap (λ (l : List ℕ). judged.Differs new.parts.entries (codes "none") l) is
+      ∙ ap (λ (n : ℕ). judged.Differs n (codes "none") (entry_line version n e)) grows.one;
+}
 
-pub below_at : (r s : Scenario) (trace : List ℕ) (st : State) (last : ℕ) (rest : List ℕ) → r ≡ s → Sofar s trace st last rest → ended_now s st ≡ None
-    → st.entries < limit r
-below_at r s trace st last rest e p goes = subst (λ (x : Scenario). st.entries < limit x) (sym e) (sofar_below s trace st last rest p goes)
+-- What was left was compared with this report.
+pub told_by : (core : CoreView) (x : Ended) (rest : List ℕ) (j : Judged) (counts : List Counts) (text : List ℕ)
+    → text ≡ report_text counts core.parts.entries core.clock x → IsReported core.parts.entries (lines_of text) (lines_of rest) j → IsToldBy core x rest j
+told_by core x rest j counts text is reported = record {
+  counts = counts;
+  reported = subst (λ (t : List ℕ). IsReported core.parts.entries (lines_of t) (lines_of rest) j) is reported;
+}
 
-pub goes_at : (r s : Scenario) (st : State) → r ≡ s → ended_now s st ≡ None → ended_now r st ≡ None
-goes_at r s st e goes = subst (λ (x : Scenario). ended_now x st ≡ None) (sym e) goes
+-- A line that was written without its end.
+pub written_line : (version place : ℕ) (e : Entry) (old text rest : List ℕ) → old ≡ [] → text ≡ old ++ line_text version place e
+    → rest ≡ take (length text - 1) text → rest ≡ entry_line version place e
+written_line version place e old text rest none is cut =
+    cut ∙ without_end version place e text (is ∙ ap (λ (t : List ℕ). t ++ line_text version place e) none)
 
--- ---- what is known where a pattern was not met
+-- ---- the whole
 
-pub when_none : (P : Type 0) (Q : ℕ → Type 0) (o : Option ℕ) → ((x : ℕ) → o ≡ Some x → ⊥) → MatchOption o P Q → P
-when_none P Q None n p = p
-when_none P Q (Some x) n p = absurd (n x refl)
+few_by : (v : ℕ) → (if v == 2 then 1_000_000 else 200_000) ≤ 1_000_000
+few_by v = grind (arith, common_steps)
 
-pub when_not_next : (s : Scenario) (st new : State) (l : ℕ) (o : Option Entry) → ((x : Entry) → o ≡ Some x → ⊥) → IsNextOf s st l o new
-    → entry_in s st l ≡ None
-when_not_next s st new l None n p = p
-when_not_next s st new l (Some e) n p = absurd (n e refl)
+pub few_entries : (s : Scenario) → limit s ≤ 1_000_000
+few_entries s = few_by s.version
 
-pub when_on : (r s : Scenario) (st new : State) (last last_new : ℕ) (found : List ℕ) (t : Option Judged) → r ≡ s → ((x : Judged) → t ≡ Some x → ⊥)
-    → IsTurn r st last found t new last_new → IsEntry s st last found new last_new
-when_on r s st new last last_new found None e n p = subst (λ (x : Scenario). IsEntry x st last found new last_new) e p
-when_on r s st new last last_new found (Some j) e n p = absurd (n j refl)
+pub judged_of : (v w n m : ℕ) (trace : List ℕ) (j : Judged) → v ≡ w → n ≡ m → IsJudged v n trace j → IsJudged w m trace j
+judged_of v w n m trace j version limits is =
+    subst (λ (x : ℕ). IsJudged x m trace j) version (subst (λ (x : ℕ). IsJudged v x trace j) limits is)
+
+-- The found line beside the line of the entry that was made, through what has kept the core.
+pub turn_settled : (version lane : ℕ) (old core written new : CoreView) (e : Entry) (found line : List ℕ) (t : Option Judged) → Makes lane old core e
+    → named found ≡ Some lane → written ≡ core → line ≡ entry_line version core.parts.entries e → IsCompared written.parts.entries found line t → new ≡ written
+    → IsTurn version old new found t
+turn_settled version lane old core written new e found line t made names kept is compared same =
+    subst (λ (x : CoreView). IsTurn version old x found t) (sym (same ∙ kept))
+    (turn_compared version lane old core e found line t made names is
+    (subst (λ (x : CoreView). IsCompared x.parts.entries found line t) kept compared))

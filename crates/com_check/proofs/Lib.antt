@@ -1,9 +1,4 @@
-pub mod Alone
 pub mod Beside
 pub mod Cutting
-pub mod Entries
-pub mod Histories
-pub mod Joined
 pub mod Judging
-pub mod Names
 pub mod Values

@@ -2,4 +2,3 @@ pub mod Lines
 pub mod Fronts
 pub mod Cuts
 pub mod Judging
-pub mod Turning

@@ -1,7 +1,7 @@
 //! The lines of a report, beside those that a trace has left.
 ghost use Rattle.std.specs.Prelude.{◌≡◌, ◌<◌, ◌+◌, ◌^◌, IfOk, length};
 ghost use Rattle.com_check.specs.Lines.{lines_of};
-ghost use Rattle.com_check.specs.Turning.{IsReported};
+ghost use Rattle.com_check.specs.Judging.{IsReported};
 
 use crate::judged::{Judged, differs};
 use crate::lines::split_line;

@@ -1,11 +1,11 @@
-use Rattle.std.proofs.Common.{◌≡◌, arith, rules, ap, subst, sym, ◌∙◌}
-use Rattle.std.proofs.lemmas.Grind.{common_steps}
-use Rattle.std.specs.Arc.{arc_value}
-use Rattle.com_model.specs.Formed.{Formed}
-use Rattle.com_model.specs.State.{first_tables}
+use Rattle.std.proofs.Common.{ℕ, ◌≤◌, sym, subst}
+use Rattle.std.proofs.lemmas.Result.{IfOk-weaker}
+use Rattle.com_check.proofs.Judging.{few_entries, judged_of}
 use Rattle.com_check.proofs.check.Goals as goal
 
-pub judge_trace-requires-clause-first : goal.judge_trace-requires-clause-first
-judge_trace-requires-clause-first c =
-    let same : arc_value c.in_ok-clone.field-0 ≡ arc_value c.args.scenario = first_of (search rules, grind (arith, common_steps)) in
-    (c.in_ok-core.ensures.first (subst Formed (sym same) c.requires)).state ∙ ap first_tables same
+pub judge-requires-clause-limit : goal.judge-requires-clause-limit
+judge-requires-clause-limit c = subst (λ (n : ℕ). n ≤ 1_000_000) (sym c.in_ok-judge.ensures.limit) (few_entries c.args.scenario)
+
+pub returns : goal.returns
+returns c =
+    IfOk-weaker c.judge.result _ _ (λ j is. judged_of _ _ _ _ _ j c.in_ok-judge.ensures.version c.in_ok-judge.ensures.limit is) c.judge.ensures
