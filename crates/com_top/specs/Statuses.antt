@@ -45,6 +45,20 @@ pub record Sides : Type 0 where
   pub write_faults : ℕ
   pub write_faults_after : ℕ
 
+-- They are made of what the source and the sink tell, each before and after the call.
+abbrev pub sides_of : {S K : Type 0} (left : S → Option (List ℕ)) (read_faults : S → ℕ)
+    (held : K → Option (List ℕ)) (write_faults : K → ℕ) (source source_after : S) (sink sink_after : K) → Sides
+sides_of left read_faults held write_faults source source_after sink sink_after = record {
+  left = left source;
+  left_after = left source_after;
+  read_faults = read_faults source;
+  read_faults_after = read_faults source_after;
+  held = held sink;
+  held_after = held sink_after;
+  write_faults = write_faults sink;
+  write_faults_after = write_faults sink_after;
+}
+
 -- The input was answered: it is one that has this status, and the sink gained the whole text that is written
 -- for it.
 pub record IsWritten (s : Status) (sides : Sides) : Type 0 where
