@@ -18,6 +18,7 @@ use com_model::{Counts, Ended, Entry, Scenario};
 use com_report::{line, report};
 use com_servant::Servant;
 use std::alloc::{AllocError, Global};
+use std::sync::Arc;
 
 /// A judge of the traces of a scenario: the core, which makes the entry that a line has to be; the version of
 /// the text, and the most entries that a history has; the last lane but the clock's, or 0; and the line of
