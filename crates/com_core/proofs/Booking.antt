@@ -1,6 +1,6 @@
 -- An entry that was applied to a ledger which is tied to a state leaves it tied to the state after the entry.
 use Rattle.std.proofs.Common.{◌≡◌, ℕ, refl, sym, ap, ◌∙◌, subst, ◌<◌, List, [], ◌∷◌}
-use Rattle.std.specs.Prelude.{Bool, Option, Some, None}
+use Rattle.std.specs.Prelude.{Bool, Option, Some}
 use Rattle.com_base.specs.declared.value.RefValue.{RefValue}
 use Rattle.com_body.specs.declared.actions.Action.{Action}
 use Rattle.com_body.specs.declared.frame.Outcome.{Outcome}
@@ -20,12 +20,13 @@ use Rattle.com_objects.specs.Settled.{Rise}
 use Rattle.com_parts.specs.declared.change.Sent.{Sent}
 use Rattle.com_parts.specs.Tables.{PartTables}
 use Rattle.com_places.specs.Moves.{Moves, Move as Moving}
-use Rattle.com_turns.specs.Turns.{carried_with}
+use Rattle.com_turns.specs.Turns.{carried_seen, carried_with}
+use Rattle.com_turns.proofs.Stands.{carried_stands}
 use Rattle.com_view.specs.Reads.{Reads}
-use Rattle.com_view.specs.Seen.{home_seen, running_seen}
+use Rattle.com_view.specs.Seen.{Seen, home_seen, running_seen}
 use Rattle.com_view.proofs.Sights.{reads_state as sight_read}
 use Rattle.com_ledger.specs.Books.{Held}
-use Rattle.com_ledger.specs.Entries.{Around, Carries, StandsAround, around, brings_to, tally}
+use Rattle.com_ledger.specs.Entries.{Around, Carries, StandsAround, around, brings_to}
 use Rattle.com_ledger.specs.Moving.{Touches}
 use Rattle.com_ledger.specs.Ties.{AllTouched, Ties, places_at}
 use Rattle.com_ledger.proofs.Applying.{applied-ties}
@@ -61,17 +62,20 @@ carries-with s b x _ = tt
 
 pub stands_around : (s : Scenario) (st : State) (p : PartTables) (b : Books) (fallen : List ℕ) (clock l : ℕ) (d : Deed) (running : Option ℕ) (carried : List RefValue)
     → Reads (seen_by s p fallen clock) b st → Stands st p b fallen clock → running ≡ running_seen (seen_by s p fallen clock) l
-    → carried ≡ carried_with s b ((sight_of s st).act l) d
+    → carried ≡ carried_seen (seen_by s p fallen clock) b l d
     → StandsAround s st l d (around p.calls.tables p.objects s.classes carried (number_or_zero running))
-stands_around s st p b fallen clock l d running carried reads h run e = record {
-  calls = h.calls;
-  objects = h.objects;
-  classes = refl;
-  apartment = ap number_or_zero (run ∙ ap (λ (v : Sight). v.running l) (sight_read (seen_by s p fallen clock) b st reads));
-  carried = subst (λ (rs : List RefValue). Carries s ((sight_of s st).act l) (books_in st) d rs) (sym e)
-      (subst (λ (c : Books). Carries s ((sight_of s st).act l) c d (carried_with s b ((sight_of s st).act l) d)) h.books
-      (carries-with s b ((sight_of s st).act l) d));
-}
+stands_around s st p b fallen clock l d running carried reads h run e =
+    let w : Seen = seen_by s p fallen clock in
+    let x : Option Action = (sight_of s st).act l in
+    let there : running ≡ running_in s st l = run ∙ sym (ap (λ (v : Sight). v.running l) (sight_read w b st reads)) in
+    let same : carried ≡ carried_with s (books_in st) x d = e ∙ carried_stands w b st l d reads in
+    record {
+      calls = h.calls;
+      objects = h.objects;
+      classes = refl;
+      apartment = ap number_or_zero there;
+      carried = subst (λ (rs : List RefValue). Carries s x (books_in st) d rs) (sym same) (carries-with s (books_in st) x d);
+    }
 
 brings-below : (s : Scenario) (st : State) (r : IsReached s st) (l : ℕ) (d : Deed) (a : ℕ) → next_of s st l ≡ Some d → a ≡ number_or_zero (running_in s st l) → brings_to a d < next_sta_in (after s st l d)
 brings-below s st r l (deed.Enter c o y t vs) a n run = entered-below s st r.history l c o y t vs r.formed r.stands n
@@ -124,12 +128,12 @@ booked_ties s st r l d g m w u n a e k t =
 pub booked_later : (s : Scenario) (st : State) (p : PartTables) (b : Books) (fallen : List ℕ) (clock l : ℕ) (d : Deed) (acting : Actor) (r : Option Outcome) (follows : Actor) (filtered : Bool)
     (x : Option Sent) (home running : Option ℕ) (carried : List RefValue) (w u : Held) → IsReached s st → Stands st p b fallen clock → Reads (seen_by s p fallen clock) b st
     → next_of s st l ≡ Some d → IsGiven s st (record { lane = l; deed = d }) acting r follows filtered x
-    → home ≡ home_seen (seen_by s p fallen clock) l → running ≡ running_seen (seen_by s p fallen clock) l → carried ≡ carried_with s b ((sight_of s st).act l) d
+    → home ≡ home_seen (seen_by s p fallen clock) l → running ≡ running_seen (seen_by s p fallen clock) l → carried ≡ carried_seen (seen_by s p fallen clock) b l d
     → BookedBy s p home running carried (record { lane = l; deed = d }) acting r follows w u → Ties s st w → TiesLater s st l d u
-booked_later s st p b fallen clock l d acting r follows filtered x home running carried w u reached h reads n given at run e k t =
+booked_later s st p b fallen clock l d acting r follows filtered x home running carried w u reached h reads n given housed run e k t =
     let v : Entry = record { lane = l; deed = d } in
     let m : Moves = moves_stepped (ground_at home p.objects p.calls.tables) p.scene acting r follows v in
-    let there : home ≡ home_in s st l = at ∙ ap (λ (y : Sight). y.home l) (sight_read (seen_by s p fallen clock) b st reads) in
+    let there : home ≡ home_in s st l = housed ∙ sym (ap (λ (y : Sight). y.home l) (sight_read (seen_by s p fallen clock) b st reads)) in
     booked_ties s st reached l d (around p.calls.tables p.objects s.classes carried (number_or_zero running)) m w u n
     (stands_around s st p b fallen clock l d running carried reads h run e)
     (moves_filled s st p b fallen clock l d acting r follows filtered x home m h given there refl) k t

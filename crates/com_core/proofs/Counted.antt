@@ -3,7 +3,6 @@ use Rattle.std.proofs.Common.{◌≡◌, ℕ, ap, ◌∙◌, ◌+◌}
 use Rattle.std.specs.Prelude.{sum_by}
 use Rattle.com_books.specs.Changes.{Books}
 use Rattle.com_books.specs.Counting.{sum_below}
-use Rattle.com_model.specs.declared.counts.Counts.{Counts}
 use Rattle.com_model.specs.declared.counts.ObjectState.{ObjectState}
 use Rattle.com_model.specs.declared.scenario.Scenario.{Scenario}
 use Rattle.com_model.specs.Ends.{in_cookie, in_normal, in_table, over_interfaces, state_of}

@@ -1,16 +1,19 @@
 -- A core that is whole, and whose ledger is tied to its state, stays so by each entry.
-use Rattle.std.proofs.Common.{◌≡◌, ℕ, sym, ap, ◌∙◌, subst}
+use Rattle.std.proofs.Common.{◌≡◌, ℕ, ◌≤◌, sym, ap, ◌∙◌, subst}
 use Rattle.std.specs.Prelude.{false, Result, Ok, Err, IfOk, OnOk, OnErr}
 use Rattle.com_model.specs.declared.deeds.Entry.{Entry}
 use Rattle.com_model.specs.declared.scenario.Scenario.{Scenario}
 use Rattle.com_model.specs.Clock.{ticked}
 use Rattle.com_model.specs.Formed.{Formed}
 use Rattle.com_model.specs.State.{State, after}
+use Rattle.com_model.specs.Tables.{lanes}
 use Rattle.com_ledger.specs.Ties.{Ties}
-use Rattle.com_drive.specs.Standings.{Reached}
+use Rattle.com_drive.specs.declared.runtime.Standing.TheVariants as standing
+use Rattle.com_drive.specs.Standings.{Reached, standing_of}
 use Rattle.com_drive.specs.Turns.{IsNext}
+use Rattle.com_core.specs.declared.running.Running.{Running}
 use Rattle.com_core.specs.Making.{TiesLater}
-use Rattle.com_core.specs.Seen.{CoreView, IsFirst, IsKept, IsWhole, KeptUnless, Steps, core_state}
+use Rattle.com_core.specs.Seen.{CoreView, IsFirst, IsKept, IsWhole, KeptUnless, Steps, core_of, core_state}
 use Rattle.com_core.specs.Stands.{IsReached}
 use Rattle.com_core.proofs.Entries.{steps_stand}
 
@@ -37,9 +40,6 @@ new_kept s c e h = λ b f. first_kept s c e (h (subst Formed e f))
 
 pub same_state : (old new : CoreView) → (new.broken ≡ false → new ≡ old) → new.broken ≡ false → core_state new ≡ core_state old
 same_state old new h b = ap core_state (h b)
-
-pub where_so : {A B : Type 0} → A → (A → B) → B
-where_so a f = f a
 
 -- What a core comes to is what a legal history comes to.
 pub is_reached : (s : Scenario) (st : State) → Reached s st → IsReached s st
@@ -69,3 +69,27 @@ next_stepped (Ok e) lane old new k same was steps own tells =
       becomes = (steps_kept lane old new e kept (steps kept.whole) same tells).0;
     }
 next_stepped (Err x) lane old new k same was steps own tells = tt
+
+-- ---- a core by what it keeps
+
+-- A step of what a core keeps is one of the core.
+pub step_taken : {E : Type 0} (x : Result Entry E) (lane : ℕ) (w s : Scenario) (r u : Running) → w ≡ s → 1 ≤ lane → lane ≤ lanes s
+    → IfOk x (λ e. IsWhole (core_of w r) → 1 ≤ lane → lane ≤ lanes w → Steps lane (core_of w r) (core_of w u) e)
+    → IfOk x (λ e. IsWhole (core_of s r) → Steps lane (core_of s r) (core_of s u) e)
+step_taken (Ok e) lane w s r u same low high steps =
+    λ k. subst (λ (y : Scenario). IsWhole (core_of y r) → 1 ≤ lane → lane ≤ lanes y → Steps lane (core_of y r) (core_of y u) e) same steps k low high
+step_taken (Err x) lane w s r u same low high steps = tt
+
+-- So is the clock's entry, where the clock goes on.
+pub tick_taken : {E : Type 0} (x : Result Entry E) (w s : Scenario) (r u : Running) → w ≡ s
+    → (IsReached s (core_state (core_of s r)) → standing_of s (core_state (core_of s r)) ≡ standing.Ticks)
+    → IfOk x (λ e. IsWhole (core_of w r) → standing_of w (core_state (core_of w r)) ≡ standing.Ticks → Steps 0 (core_of w r) (core_of w u) e)
+    → IfOk x (λ e. IsWhole (core_of s r) → Steps 0 (core_of s r) (core_of s u) e)
+tick_taken (Ok e) w s r u same due steps =
+    λ k. subst (λ (y : Scenario). IsWhole (core_of y r) → standing_of y (core_state (core_of y r)) ≡ standing.Ticks → Steps 0 (core_of y r) (core_of y u) e) same steps k (due k.reached)
+tick_taken (Err x) w s r u same due steps = tt
+
+-- Where what a core keeps is as it was, so is the core.
+pub same_core : {E F : Type 0} (x : Result E F) (s : Scenario) (r u : Running) → OnErr x (u.broken ≡ false → u ≡ r) → OnErr x (u.broken ≡ false → core_of s u ≡ core_of s r)
+same_core (Ok e) s r u h = tt
+same_core (Err e) s r u h = λ b. ap (λ (v : Running). core_of s v) (h b)

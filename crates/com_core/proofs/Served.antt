@@ -1,22 +1,39 @@
 -- The servant that steps in a lane is that of the kind of class whose body is innermost there, by the parts as by the state.
 use Rattle.std.proofs.Common.{◌≡◌, ℕ, zero, suc, ◌≤◌, refl, ap, ◌∙◌, arith}
-use Rattle.std.specs.Prelude.{List}
-use Rattle.com_books.specs.Changes.{Books}
+use Rattle.std.specs.Prelude.{List, Option, Some, None, Result, Ok, Err, OnOk}
+use Rattle.com_body.specs.declared.frame.Native.{Native}
+use Rattle.com_model.specs.declared.keeps.Opener.{Opener}
+use Rattle.com_model.specs.declared.keeps.Opener.TheVariants.{Pumps, Waits, Enters}
 use Rattle.com_model.specs.declared.scenario.Scenario.{Scenario}
-use Rattle.com_parts.specs.Tables.{PartTables}
-use Rattle.com_drive.specs.Turns.{served_in}
-use Rattle.com_ledger.specs.Books.{books_held}
-use Rattle.com_turns.specs.Turns.{kind_seen, one_served}
+use Rattle.com_model.specs.Lists.{first}
+use Rattle.com_model.specs.State.{State, class_in, openers_in}
+use Rattle.com_drive.specs.Turns.{body_kind, served_in, one_served as served_one}
+use Rattle.com_turns.specs.Turns.{kind_above, kind_seen, one_served}
 use Rattle.com_core.specs.Seen.{CoreView, core_state}
-use Rattle.com_core.specs.Stands.{seen_by, state_read}
+use Rattle.com_core.specs.Stands.{seen_by}
 
-served-read : (s : Scenario) (p : PartTables) (b : Books) (fallen : List ℕ) (clock l : ℕ) (steps : List ℕ) → 1 ≤ l
-    → one_served (kind_seen (seen_by s p fallen clock) l) steps ≡ served_in s (state_read s p b fallen clock) l steps
+-- The schedule speaks of the kind and of the counts in words of its own.
+kind-same : (s : Scenario) (class : ℕ → ℕ) (x : Option Opener) → kind_above s class x ≡ body_kind s class x
+kind-same s class None = refl
+kind-same s class (Some (Pumps n)) = refl
+kind-same s class (Some (Waits c)) = refl
+kind-same s class (Some (Enters c o a)) = refl
+
+counts-same : (k : Option Native) (steps : List ℕ) → one_served k steps ≡ served_one k steps
+counts-same None steps = refl
+counts-same (Some k) steps = refl
+
+served-read : (s : Scenario) (st : State) (l : ℕ) (steps : List ℕ) → 1 ≤ l
+    → one_served (kind_above s (class_in st) (first (openers_in st l))) steps ≡ served_in s st l steps
 unfolding served_in
-served-read s p b fallen clock zero steps h = absurd (omega (arith, h))
-served-read s p b fallen clock (suc l) steps h = refl
+served-read s st zero steps h = absurd (omega (arith, h))
+served-read s st (suc l) steps h =
+    counts-same (kind_above s (class_in st) (first (openers_in st (suc l)))) steps
+    ∙ ap (λ (k : Option Native). served_one k steps) (kind-same s (class_in st) (first (openers_in st (suc l))))
 
-pub served_core : (v w : CoreView) (l : ℕ) (old new : List ℕ) → v ≡ w → new ≡ one_served (kind_seen (seen_by v.scenario v.parts v.fallen v.clock) l) old → 1 ≤ l
-    → new ≡ served_in w.scenario (core_state w) l old
-served_core v w l old new e q h =
-    q ∙ served-read v.scenario v.parts (books_held v.held) v.fallen v.clock l old h ∙ ap (λ (x : CoreView). served_in x.scenario (core_state x) l old) e
+pub served_core : {E F : Type 0} (r : Result E F) (w : Scenario) (v c : CoreView) (l : ℕ) (old new : List ℕ) → w ≡ v.scenario → v ≡ c → 1 ≤ l
+    → OnOk r (new ≡ one_served (kind_seen (seen_by w v.parts v.fallen v.clock) l) old) → OnOk r (new ≡ served_in c.scenario (core_state c) l old)
+served_core (Ok e) w v c l old new same is h q =
+    q ∙ ap (λ (s : Scenario). one_served (kind_seen (seen_by s v.parts v.fallen v.clock) l) old) same
+    ∙ served-read v.scenario (core_state v) l old h ∙ ap (λ (x : CoreView). served_in x.scenario (core_state x) l old) is
+served_core (Err e) w v c l old new same is h q = tt

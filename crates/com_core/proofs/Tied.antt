@@ -1,6 +1,6 @@
 -- What a ledger's ties to a state give a core.
 use Rattle.std.proofs.Common.{◌≡◌, ℕ, subst, sym}
-use Rattle.std.specs.Prelude.{[], ◌∷◌, List}
+use Rattle.std.specs.Prelude.{[], ◌∷◌}
 use Rattle.com_ledger.specs.Books.{Held, books_held}
 use Rattle.com_ledger.specs.Ties.{AllTouched, IsNew, Ties}
 use Rattle.com_ledger.proofs.Tied.{first-tied, holders-tie}

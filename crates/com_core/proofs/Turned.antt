@@ -27,7 +27,7 @@ use Rattle.com_view.specs.Reads.{Reads}
 use Rattle.com_view.specs.Seen.{Seen, filter_seen}
 use Rattle.com_view.proofs.Sights.{reads_state as sight_read}
 use Rattle.com_turns.specs.declared.turns.Turn.{Turn}
-use Rattle.com_turns.specs.Turns.{IsIssued, IsTurn, actor_later, carried_with}
+use Rattle.com_turns.specs.Turns.{IsIssued, IsTurn, actor_later}
 use Rattle.com_turns.proofs.Stands.{acting_stands, after_stands, filtered_stands, next_stands, step_stands}
 use Rattle.com_ledger.specs.Books.{Held}
 use Rattle.com_core.specs.Changes.{sent_by}
@@ -116,7 +116,7 @@ next_made s st p q b v u entered more fallen later clock l t k n w m c low high 
       settles = m.settles;
       tied = booked_later s st p b fallen clock l d (acting_of t.acting) t.outcome m.follows m.filtered (sent_by t.doing.issued) m.home m.running t.doing.carried v u
           c.reached c.stands reads next given m.home_is m.running_is
-          (k.carried ∙ ap (λ (y : Sight). carried_with s b (y.act l) d) (sight_read (seen_by s p fallen clock) b st reads)) m.booked;
+          k.carried m.booked;
     }
 
 -- The same of the clock's entry, where the clock goes on.

@@ -8,6 +8,7 @@ use Rattle.com_ledger.specs.Ties.{Ties}
 use Rattle.com_model.specs.Formed.{Formed}
 use Rattle.com_model.specs.State.{State, first_tables}
 use Rattle.com_parts.specs.Tables.{PartTables}
+use Rattle.com_core.specs.declared.running.Running.{Running}
 use Rattle.com_core.specs.Making.{IsCore, MakesNext}
 use Rattle.com_core.specs.Stands.{state_read}
 
@@ -21,6 +22,18 @@ pub record CoreView : Type 0 where
   pub fallen : List ℕ
   pub clock : ℕ
   pub broken : Bool
+
+-- What a contract sees of a core of a scenario that keeps so much of a history.
+abbrev pub core_of : Scenario → Running → CoreView
+core_of s r = record {
+  scenario = s;
+  parts = r.parts;
+  held = r.ledger;
+  entered = r.entered;
+  fallen = r.fallen;
+  clock = r.clock;
+  broken = r.broken;
+}
 
 -- The state of the rules that a core is.
 abbrev pub core_state : CoreView → State
@@ -47,7 +60,7 @@ pub record IsKept (c : CoreView) : Type 0 where
   pub whole : IsWhole c
   pub ties : Ties c.scenario (core_state c) c.held
 
--- So is every core of a formed scenario, where no change was left half done.
+-- Each core of a formed scenario is so, where no change was left half done.
 abbrev pub KeptUnless : CoreView → Type 0
 KeptUnless c = c.broken ≡ false → Formed c.scenario → IsKept c
 

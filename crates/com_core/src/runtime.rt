@@ -1,6 +1,7 @@
 //! A runtime that makes one entry at a time.
 
-ghost use Rattle.std.specs.Prelude.{◌≡◌, ◌<◌, ◌≤◌, ◌^◌, ◌∷◌, [], IfOk, IfSome, OnErr, OnOk, false, length, map};
+ghost use Rattle.std.specs.Prelude.{◌≡◌, ◌<◌, ◌^◌, ◌∷◌, [], IfOk, IfSome, OnErr, OnOk, false, length, map};
+ghost use Rattle.std.specs.Arc.{arc_value};
 ghost use Rattle.com_books.specs.Changes.{Books};
 ghost use Rattle.com_core.specs.Beginning.{BeginsParts};
 ghost use Rattle.com_core.specs.Seen.{IsFirst, IsWhole, Makes, Steps, core_state};
@@ -27,45 +28,32 @@ use com_servant::Servant;
 use com_view::References;
 use std::alloc::Global;
 use std::marker::Model;
+use std::sync::Arc;
 
-/// A runtime of a scenario: it keeps what the rules need, and makes one entry at a time.
+/// A runtime of a scenario: it keeps what the rules need, and makes one entry at a time. It shares the scenario with its caller.
 ///
 /// Lanes are numbered from 1: the threads in order, the host's lane, then the pool's. Lane 0 is the clock's.
 #[derive(Drop)]
 pub struct Core {
-    scenario: Scenario,
+    scenario: Arc<Scenario>,
     count: u32,
     running: Running,
 }
 
 impl Model for Core {
     ghost use Rattle.std.specs.Prelude.{◌≡◌, ◌<◌, ◌^◌, length};
-    ghost use Rattle.com_core.specs.Seen.{CoreView, KeptUnless};
+    ghost use Rattle.std.specs.Arc.{arc_value};
+    ghost use Rattle.com_core.specs.Seen.{CoreView, KeptUnless, core_of};
     ghost use Rattle.com_core.specs.Sound.{Few, SoundUnless};
     ghost use Rattle.com_model.specs.Tables.{lanes};
 
     ghost Value = { CoreView };
 
-    ghost view = { λ c. record {
-      scenario = c.scenario;
-      parts = c.running.parts;
-      held = c.running.ledger;
-      entered = c.running.entered;
-      fallen = c.running.fallen;
-      clock = c.running.clock;
-      broken = c.running.broken;
-    } };
+    ghost view = { λ c. core_of (arc_value c.scenario) c.running };
 
     ghost invariant = { λ c. SoundUnless c.running.broken c.running.parts c.running.entered × Few c.running.parts
-        × (c.count ≡ lanes c.scenario) × (length c.scenario.threads < 2 ^ 32) × KeptUnless (record {
-      scenario = c.scenario;
-      parts = c.running.parts;
-      held = c.running.ledger;
-      entered = c.running.entered;
-      fallen = c.running.fallen;
-      clock = c.running.clock;
-      broken = c.running.broken;
-    }) };
+        × (c.count ≡ lanes (arc_value c.scenario)) × (length (arc_value c.scenario).threads < 2 ^ 32)
+        × KeptUnless (core_of (arc_value c.scenario) c.running) };
 }
 
 // How many lanes a scenario has: one for each thread, the host's, and the pool's. `None` only where a number of 32 bits does
@@ -87,13 +75,13 @@ fn lanes_of(scenario: &Scenario) -> Option<u32>
 
 impl Core {
     /// The runtime before its first entry. The only error is want of memory.
-    pub fn new(alloc: Global, scenario: Scenario) -> Result<Core, Memory>
-        ensures scenario { IfOk result (λ core. core.scenario ≡ scenario) }
-        ensures begins { IfOk result (λ core. BeginsParts scenario core.parts core.fallen) }
+    pub fn new(alloc: Global, scenario: Arc<Scenario>) -> Result<Core, Memory>
+        ensures scenario { IfOk result (λ core. core.scenario ≡ arc_value scenario) }
+        ensures begins { IfOk result (λ core. BeginsParts (arc_value scenario) core.parts core.fallen) }
         ensures whole { IfOk result (λ core. core.broken ≡ false) }
         ensures entered { IfOk result (λ core. core.entered ≡ 0 ∷ []) }
         ensures held { IfOk result (λ core. IsNew core.held) }
-        ensures first { IfOk result (λ core. Formed scenario → IsFirst scenario core) }
+        ensures first { IfOk result (λ core. Formed (arc_value scenario) → IsFirst (arc_value scenario) core) }
         ensures entries { IfOk result (λ core. core.parts.entries ≡ 0) }
         ensures clock { IfOk result (λ core. core.clock ≡ 0) }
     {
@@ -207,15 +195,14 @@ impl Core {
     ) -> Result<Entry, Memory>
         requires row { map kind_of servants.old.items ≡ row }
         ensures entry { IfOk result (λ entry. Makes lane self.old self.new entry) }
-        ensures next { IfOk result (λ entry. IsWhole self.old → 1 ≤ lane → lane ≤ lanes self.old.scenario
-            → Steps lane self.old self.new entry) }
+        ensures next { IfOk result (λ entry. IsWhole self.old → Steps lane self.old self.new entry) }
         ensures follows { IfOk result (λ entry. Formed self.old.scenario
             → IsNext self.old.scenario (core_state self.old) lane entry (core_state self.new)) }
         ensures whole { OnOk result (self.new.broken ≡ false) }
         ensures err { OnErr result (self.new.broken ≡ false → self.new ≡ self.old) }
         ensures scenario { self.new.scenario ≡ self.old.scenario }
         ensures row { map kind_of servants.new.items ≡ row }
-        ensures served { OnOk result (1 ≤ lane → map stepped servants.new.items
+        ensures served { OnOk result (map stepped servants.new.items
             ≡ served_in self.old.scenario (core_state self.old) lane (map stepped servants.old.items)) }
     {
         if lane == 0 {
@@ -231,6 +218,8 @@ impl Core {
     /// where it came while the entry was being made, the runtime makes no more entries.
     pub fn tick(&mut self) -> Result<Entry, Memory>
         ensures entry { IfOk result (λ entry. Makes 0 self.old self.new entry) }
+        ensures follows { IfOk result (λ entry. Formed self.old.scenario
+            → IsNext self.old.scenario (core_state self.old) 0 entry (core_state self.new)) }
         ensures whole { OnOk result (self.new.broken ≡ false) }
         ensures err { OnErr result (self.new.broken ≡ false → self.new ≡ self.old) }
         ensures scenario { self.new.scenario ≡ self.old.scenario }
@@ -248,8 +237,7 @@ impl Core {
         ensures entry { IfOk result (λ entry. Makes 0 self.old self.new entry) }
         ensures follows { IfOk result (λ entry. Formed self.old.scenario
             → IsNext self.old.scenario (core_state self.old) 0 entry (core_state self.new)) }
-        ensures next { IfOk result (λ entry. IsWhole self.old
-            → standing_of self.old.scenario (core_state self.old) ≡ standing.Ticks → Steps 0 self.old self.new entry) }
+        ensures next { IfOk result (λ entry. IsWhole self.old → Steps 0 self.old self.new entry) }
         ensures whole { OnOk result (self.new.broken ≡ false) }
         ensures err { OnErr result (self.new.broken ≡ false → self.new ≡ self.old) }
         ensures scenario { self.new.scenario ≡ self.old.scenario }
@@ -260,19 +248,19 @@ impl Core {
 
 impl Runtime for Core {
     ghost scenario = { λ c. c.scenario };
+
     ghost state = { λ c. core_state c };
+
     ghost broken = { λ c. c.broken };
 
     fn lanes(&self) -> u32 {
         Core::lanes(self)
     }
 
-    #[tactic(auto, using(crate::proofs::Kept::is_reached))]
     fn can_step(&self, lane: u32) -> bool {
         Core::can_step(self, lane)
     }
 
-    #[tactic(auto, using(crate::proofs::Kept::is_reached))]
     fn standing(&self) -> Standing {
         Core::standing(self)
     }
@@ -289,12 +277,10 @@ impl Runtime for Core {
         Core::objects(self)
     }
 
-    #[tactic(auto, using(crate::proofs::Kept::is_reached))]
     fn counts(&self, object: u32) -> Counts {
         Core::counts(self, object)
     }
 
-    #[tactic(auto, using(crate::proofs::Kept::is_formed))]
     fn step(
         &mut self,
         alloc: Global,
@@ -304,7 +290,6 @@ impl Runtime for Core {
         Core::step(self, alloc, lane, servants)
     }
 
-    #[tactic(auto, using(crate::proofs::Kept::is_formed))]
     fn tick(&mut self) -> Result<Entry, Memory> {
         self.make_tick()
     }

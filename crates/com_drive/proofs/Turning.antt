@@ -1,18 +1,21 @@
 -- From the entry that a runtime made to a turn of the schedule, and from a turn to a step of the stream.
 use Rattle.std.proofs.Common.{sym, subst, ◌∙◌, ap, arith, inl, inr, drop}
 use Rattle.std.proofs.lemmas.Grind.{common_steps}
-use Rattle.std.specs.Prelude.{◌≡◌, refl, ℕ, zero, suc, ◌+◌, ◌≤◌, ◌<◌, Bool, true, false, cond, ◌==◌, List, ◌++◌, Option, Some, None, Result, Ok, Err, OnErr}
+use Rattle.std.specs.Prelude.{◌≡◌, refl, ℕ, zero, suc, ◌+◌, ◌≤◌, ◌<◌, Bool, true, false, cond, ◌==◌, List, ◌∷◌, ◌++◌, Option, Some, None, Result, Ok, Err, OnErr}
 use Rattle.com_io.specs.Told.{GainsPrefix}
 use Rattle.com_model.specs.declared.counts.Ended.{Ended}
 use Rattle.com_model.specs.declared.counts.Ended.TheVariants as ended
 use Rattle.com_model.specs.declared.deeds.Entry.{Entry}
 use Rattle.com_model.specs.declared.scenario.Scenario.{Scenario}
 use Rattle.com_model.specs.Ends.{Turn, last_after, limit, finished_by, stuck_by}
-use Rattle.com_model.specs.State.{State, sight_of, after}
+use Rattle.com_model.specs.Rules.{next}
+use Rattle.com_model.specs.State.{State, StandsFor, sight_of, after}
 use Rattle.com_model.specs.Text.{line_text}
+use Rattle.com_model.proofs.Sights.{same-next}
+use Rattle.com_schedule.proofs.Runs.{stands-later}
 use Rattle.com_drive.specs.declared.runtime.Standing.{Standing}
 use Rattle.com_drive.specs.declared.runtime.Standing.TheVariants as standing
-use Rattle.com_drive.specs.Standings.{standing_of, ended_now, turn_now}
+use Rattle.com_drive.specs.Standings.{standing_of, ended_now, turn_now, Reached}
 use Rattle.com_drive.specs.Turns.{IsNext, IsTurn, GoesOn, next_line, served_in}
 use Rattle.com_drive.specs.Steps.{Moment, IsMade, IsOver, Interrupted, Fails}
 use Rattle.com_drive.proofs.Choices.{turn_ticks, ended_finished, ended_stuck}
@@ -105,6 +108,20 @@ step_began s m held new picks last place e t p g =
       turn = t;
       prefix = subst (λ (x : List ℕ). GainsPrefix m.held held (m.lines ++ x)) (line-is s m.state new m.picks picks m.last last place e t p) g;
     })
+
+-- After a turn the state stands for a history again, and the history is no longer than it may be.
+pub reached_turn : (s : Scenario) (st new : State) (picks picks_new : List ℕ) (last last_new : ℕ) (e : Entry) → Reached s st → IsTurn s st picks last e new picks_new last_new → Reached s new
+unfolding Reached
+reached_turn s st new picks picks_new last last_new e r t =
+    let stands : StandsFor s st r.1.0 = r.1.1 in
+    let nexts : next s r.1.0 e.lane ≡ Some e.deed = sym (same-next s st r.1.0 e.lane stands) ∙ t.next.deed in
+    (r.0, (e ∷ r.1.0, subst (λ (x : State). StandsFor s x (e ∷ r.1.0)) (sym t.next.becomes) (stands-later s st r.1.0 e.lane e.deed r.0 (stands.lawful, nexts) stands)))
+
+pub within_turn : (s : Scenario) (st new : State) (picks picks_new : List ℕ) (last last_new : ℕ) (e : Entry) → st.entries ≤ limit s → IsTurn s st picks last e new picks_new last_new → new.entries ≤ limit s
+within_turn s st new picks picks_new last last_new e w t =
+    let low : st.entries < limit s = below_limit s st t.goes_on w in
+    let one : new.entries ≡ st.entries + 1 = one_entry s st new e.lane e t.next in
+    omega (arith, low, one)
 
 -- ---- the same, where a runtime's scenario and picks are known by equations
 

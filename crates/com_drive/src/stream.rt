@@ -144,7 +144,7 @@ impl Stream {
     /// and from 1 on; the clock goes on where no lane can step. Where the history has ended, nothing is done.
     ///
     /// The runtime's state stands for a history of the scenario, which is formed; and it did not run out of memory in the middle of
-    /// an entry.
+    /// an entry. At Ok that is so again.
     ///
     /// `WriteFault` comes only where the sink's count of faults rose in this call, and `Memory` is want of memory. After either
     /// the lines may be broken off: what was written is a prefix of what was kept and the turn's line.
@@ -164,6 +164,8 @@ impl Stream {
         requires last { self.old.last ≤ lanes scenario.now }
         requires row { map kind_of servants.old.items ≡ row }
         ensures scenario { C.scenario runtime.new ≡ scenario.now }
+        ensures entries { OnOk result ((C.state runtime.new).entries ≤ limit scenario.now) }
+        ensures reached { OnOk result (Reached scenario.now (C.state runtime.new)) }
         ensures whole { OnOk result (C.broken runtime.new ≡ false) }
         ensures last { self.new.last ≤ lanes scenario.now }
         ensures row { map kind_of servants.new.items ≡ row }

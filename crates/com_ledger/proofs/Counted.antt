@@ -1,24 +1,23 @@
 -- The numbers of a report of a ledger are those of the state that it is tied to.
-use Rattle.std.proofs.Common.{◌≡◌, ℕ, refl, sym, ap, ◌∙◌, subst, arith, ◌+◌, ◌<◌, ◌≤◌, Bool, true, false, ◌||◌, ◌&&◌, ◌==◌, nat_lt, List, [], ◌∷◌, length, slice_index_or, cond, eqb-true}
+use Rattle.std.proofs.Common.{◌≡◌, ℕ, refl, sym, ap, ◌∙◌, arith, ◌+◌, ◌<◌, ◌≤◌, Bool, true, false, ◌||◌, ◌&&◌, ◌==◌, nat_lt, List, [], ◌∷◌, length, slice_index_or, cond, eqb-true}
 use Rattle.std.proofs.lemmas.Bool.{ltb-true, ltb-false}
-use Rattle.std.proofs.lemmas.Grind.{common_steps}
 use Rattle.std.proofs.lemmas.List.{get_or_past}
 use Rattle.std.specs.Prelude.{sum_by}
 use Rattle.com_books.specs.Changes.{Books}
 use Rattle.com_books.specs.Counting.{sum_below}
 use Rattle.com_books.proofs.Sums.{sum-more, sum-same}
-use Rattle.com_holders.specs.Tables.{Tables, books_of, direct_in, owns_of}
+use Rattle.com_holders.specs.Tables.{books_of, direct_in}
 use Rattle.com_model.specs.declared.deeds.Entry.{Entry}
 use Rattle.com_model.specs.declared.scenario.Scenario.{Scenario}
 use Rattle.com_model.specs.Ends.{in_normal, in_table, in_cookie, over_interfaces}
 use Rattle.com_model.specs.Lists.{tabulated}
 use Rattle.com_model.specs.Places.{direct_places}
-use Rattle.com_model.specs.State.{BookTables, State, StandsFor, book_tables, books_in, ground_in, next_sta_in, objects_in, owns_in, scene_in}
+use Rattle.com_model.specs.State.{BookTables, State, StandsFor, book_tables, books_in, ground_in, next_sta_in, objects_in, scene_in}
 use Rattle.com_model.proofs.Tabled.{length-tabulated, within-tabulated}
 use Rattle.com_refs.specs.Numbers as numbers
 use Rattle.com_stub.specs.declared.counters.CounterRow.{CounterRow}
-use Rattle.com_stub.specs.CounterRows.{has_counter, is_for}
-use Rattle.com_ledger.specs.Books.{Held, books_held}
+use Rattle.com_stub.specs.CounterRows.{has_counter}
+use Rattle.com_ledger.specs.Books.{Held}
 use Rattle.com_ledger.specs.Ties.{Ties, places_at}
 
 -- ---- interfaces

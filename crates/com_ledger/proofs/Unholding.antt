@@ -1,9 +1,7 @@
 -- What the rows of an entry, and an entry as a whole, leave of the holders of each object.
 use Rattle.std.proofs.Common.{◌≡◌, refl, sym, ap, subst, ◌∙◌, arith, eqb-true, ℕ, zero, suc, Bool, true, false, cond, not, eqb, ◌&&◌, ◌||◌, ◌+◌, ◌<◌, ◌≤◌, List, [], ◌∷◌, ◌++◌, length}
-use Rattle.std.proofs.lemmas.Grind.{common_steps}
 use Rattle.std.specs.Prelude.{Option, Some, None, IsSomeAnd}
 use Rattle.com_base.specs.declared.value.RefValue.{RefValue}
-use Rattle.com_body.specs.declared.actions.Action.{Action}
 use Rattle.com_books.specs.Changes.{Books, Drops, Makes, Revokes, Same, ToProxy, change, changed, cut, held_outside}
 use Rattle.com_books.specs.Counting.{count_if, sum_below}
 use Rattle.com_holders.specs.Places.{Counts, SamePlaces, locals_of}
@@ -11,7 +9,6 @@ use Rattle.com_holders.specs.Stands.{Tells}
 use Rattle.com_holders.specs.Steps.{made_live}
 use Rattle.com_holders.specs.Tables.{Tables, books_of, direct_in, outstanding_in, owns_of}
 use Rattle.com_model.specs.declared.deeds.Deed.{Deed}
-use Rattle.com_model.specs.declared.scenario.Scenario.{Scenario}
 use Rattle.com_model.specs.Lists.{is_member, is_number}
 use Rattle.com_moves.specs.declared.moves.Move.{Move}
 use Rattle.com_moves.specs.Steps.{movings_of}
@@ -24,7 +21,7 @@ use Rattle.com_stub.specs.StubRows.{is_connected}
 use Rattle.com_ledger.specs.declared.calls.CallPackets.{CallPackets}
 use Rattle.com_ledger.specs.Books.{Exchanged, books_with, moved_to}
 use Rattle.com_ledger.specs.Calls.{arguments_in, result_in}
-use Rattle.com_ledger.specs.Entries.{Around, Carries, Closes, Closed, Given, Gives, KeepsHeldBy, Loses, brings_to, ends_holder, entered, left_by, tally}
+use Rattle.com_ledger.specs.Entries.{Around, Carries, Closes, Given, Gives, KeepsHeldBy, Loses, ends_holder, entered, left_by, tally}
 use Rattle.com_ledger.specs.Moving.{moves_at, plus, AllBelow, HoldsMore, Touches, TouchesCounted}
 use Rattle.com_ledger.proofs.Changing.{same_moves}
 use Rattle.com_ledger.proofs.Packed.{with_calls}

@@ -1,5 +1,5 @@
 //! What comes to places and leaves them, beside what the row of the entry brings.
-ghost use Rattle.std.specs.Prelude.{◌≡◌, ◌<◌, ◌≤◌, ◌++◌, ℕ, ◌∷◌, [], OnOk, IsTrue, drop, length};
+ghost use Rattle.std.specs.Prelude.{◌≡◌, ◌<◌, ◌≤◌, ℕ, ◌∷◌, [], OnOk};
 ghost use Rattle.com_holders.specs.Places.{Counts};
 ghost use Rattle.com_holders.specs.Tables.{books_of};
 ghost use Rattle.com_refs.specs.Counts.{holders_of};
@@ -70,20 +70,4 @@ pub fn lose_all(refs: &mut Refs, touched: &mut Vec<u32>, lost: &[Move]) -> Resul
         lose(refs, touched, *moved)?;
     }
     Ok(())
-}
-
-/// Whether what the row brought stands first in what comes to places.
-pub fn are_kept(brought: &[Move], gained: &[Move]) -> bool
-    ensures few { IsTrue result → length brought.now ≤ length gained.now }
-    ensures first { IsTrue result → gained.now ≡ brought.now ++ drop (length brought.now) gained.now }
-{
-    if brought.len() > gained.len() {
-        return false;
-    }
-    for (place, moved) in brought.iter().enumerate() {
-        if gained[place] != *moved {
-            return false;
-        }
-    }
-    true
 }

@@ -1,5 +1,7 @@
-//! Worked cases over memory, from bytes to bytes.
+//! Worked cases over memory, from bytes to bytes, and by servants and streams.
 #![tactic(auto)]
 
+#[cfg(test)]
+mod replays;
 #[cfg(test)]
 mod tests;

@@ -1,6 +1,6 @@
 -- The causes of the statuses, from what the calls below answer.
-use Rattle.std.proofs.Common.{◌≡◌, ℕ, ◌<◌, ◌≤◌, inl, inr, ◌⊎◌, List, [], ◌∷◌, length, refl, sym, ◌∙◌, ap, Option, Some, Ok, Err, subst, Result, map, slice_index_or, ◌↔◌, arith}
-use Rattle.std.specs.Prelude.{⊤}
+use Rattle.std.proofs.Common.{◌≡◌, ℕ, ◌<◌, ◌≤◌, inl, inr, ◌⊎◌, List, [], ◌∷◌, length, refl, sym, ◌∙◌, ap, Option, Some, None, Ok, Err, subst, Result, map, slice_index_or, ◌↔◌, arith}
+use Rattle.std.specs.Prelude.{⊤, true, is_some}
 use Rattle.com_io.specs.declared.whole.ReadAllError.{ReadAllError}
 use Rattle.com_io.specs.declared.whole.ReadAllError.TheVariants as read_all_error
 use Rattle.com_io.specs.Faults.{Rose}
@@ -10,19 +10,17 @@ use Rattle.com_read_operands.specs.declared.faults.Fault.{Fault}
 use Rattle.com_model.specs.declared.counts.Ended.{Ended}
 use Rattle.com_model.specs.declared.counts.Ended.TheVariants as ended
 use Rattle.com_model.specs.declared.scenario.Scenario.{Scenario}
-use Rattle.com_model.specs.Clock.{clock}
-use Rattle.com_model.specs.Ends.{limit}
+use Rattle.com_model.specs.Ends.{ended_as, scheduled}
 use Rattle.com_drive.specs.declared.replayed.Replayed.{Replayed}
-use Rattle.com_play.specs.Playing.{IsBegun, IsPlayed, played_text}
-use Rattle.com_replay.specs.declared.plan.Plan.{Plan}
-use Rattle.com_replay.specs.Replays.{text_of}
+use Rattle.com_drive.specs.Replays.{IsReplay, whole_text}
+use Rattle.com_written.proofs.Schedule.{legal-end}
 use Rattle.com_scenario.proofs.Lengths.{longer_than_all}
 use Rattle.com_top.specs.declared.inputs.Input.{Input}
 use Rattle.com_top.specs.declared.inputs.Input.TheVariants as input
 use Rattle.com_top.specs.declared.statuses.Status.{Status}
 use Rattle.com_top.specs.declared.statuses.Status.TheVariants as status
 use Rattle.com_top.specs.Inputs.{input_of, refused_line, status_at, too_long_line, IsAnswer, IsHistory}
-use Rattle.com_top.specs.Statuses.{Completes, FirstFormCompletes, GainsFront, HasCause, IsAnswered, IsComplete, IsText, IsWritten, Says, Sides, code_of}
+use Rattle.com_top.specs.Statuses.{Completes, GainsFront, HasCause, IsAnswered, IsComplete, IsReplayed, IsText, IsWritten, Says, ScenariosReplay, Sides, code_of}
 
 too_long_input : (bytes : List ℕ) → 16777216 < length bytes → input_of bytes ≡ input.TooLong
 unfolding input_of
@@ -61,92 +59,45 @@ pub refused_said : (s : Status) (fault : Fault) (line : List ℕ) (held held_aft
 refused_said s fault line held held_after faults faults_after is said =
     said_answers s status.Refused (input.Faulty fault) line held held_after faults faults_after (refl, is) said
 
-not_budget : ended.Ok ≡ ended.Budget → ⊥
-not_budget e = cc
+some_end : (o : Option Ended) → is_some o ≡ true → (x : Ended) × (o ≡ Some x)
+some_end None e = cc
+some_end (Some x) e = (x, refl)
+
+-- The one history of a scenario has ended somehow.
+history_of : (scenario : Scenario) → (s : Status) × IsHistory scenario s (whole_text scenario)
+history_of scenario =
+    let w : (x : Ended) × (ended_as scenario (scheduled scenario) ≡ Some x) = some_end (ended_as scenario (scheduled scenario)) ((legal-end scenario).1) in
+    (status_at (w.0), record { ends = w.0; ended_is = w.1; written = refl; status_is = refl })
+
+run_front : (scenario : Scenario) (held held_after : Option (List ℕ)) → GainsPrefix held held_after (whole_text scenario) → GainsFront (input.Runs scenario) held held_after
+run_front scenario held held_after front =
+    record { text = whole_text scenario; status = (history_of scenario).0; answered = (history_of scenario).1; gained = front }
 
 -- Any input has a text that is written for it, and nothing written is a front of it.
 some_answer : (i : Input) (held : Option (List ℕ)) → GainsFront i held held
-unfolding played_text
 some_answer input.TooLong held = record { text = too_long_line; status = status.Refused; answered = (refl, refl); gained = prefix_of_none held too_long_line }
 some_answer (input.Faulty fault) held = record { text = refused_line fault; status = status.Refused; answered = (refl, refl); gained = prefix_of_none held (refused_line fault) }
-some_answer (input.Runs plan) held = record { text = text_of plan; status = status.Done; answered = (refl, refl); gained = prefix_of_none held (text_of plan) }
-some_answer (input.Plays scenario) held = record {
-  text = played_text scenario.version [] [] 0 0 ended.Ok;
-  status = status.Done;
-  answered = record {
-    history = [];
-    counts = [];
-    ends = ended.Ok;
-    few = omega arith;
-    budget = λ e. absurd (not_budget e);
-    written = refl;
-    status_is = refl;
-  };
-  gained = prefix_of_none held (played_text scenario.version [] [] 0 0 ended.Ok);
-}
+some_answer (input.Runs scenario) held = run_front scenario held held (prefix_of_none held (whole_text scenario))
 
 pub nothing_answers : (i : Input) (held : Option (List ℕ)) (faults faults_after : ℕ) → IsAnswered status.Memory i held held faults faults_after
 nothing_answers i held faults faults_after = inr (inr (refl, some_answer i held))
 
--- What a planned replay answers.
-pub run_done : (plan : Plan) (held held_after : Option (List ℕ)) (faults faults_after : ℕ) → Gains held held_after (text_of plan)
-    → IsAnswered status.Done (input.Runs plan) held held_after faults faults_after
-run_done plan held held_after faults faults_after gained = inl (record { text = text_of plan; answered = (refl, refl); gained = gained })
-
-run_front : (plan : Plan) (held held_after : Option (List ℕ)) → GainsPrefix held held_after (text_of plan) → GainsFront (input.Runs plan) held held_after
-run_front plan held held_after front = record { text = text_of plan; status = status.Done; answered = (refl, refl); gained = front }
-
-pub run_faults : (plan : Plan) (held held_after : Option (List ℕ)) (faults faults_after : ℕ) → Rose faults faults_after
-    → GainsPrefix held held_after (text_of plan) → IsAnswered status.WriteFault (input.Runs plan) held held_after faults faults_after
-run_faults plan held held_after faults faults_after rose front = inr (inl (refl, rose, run_front plan held held_after front))
-
-pub run_wants : (plan : Plan) (held held_after : Option (List ℕ)) (faults faults_after : ℕ)
-    → GainsPrefix held held_after (text_of plan) → IsAnswered status.Memory (input.Runs plan) held held_after faults faults_after
-run_wants plan held held_after faults faults_after front = inr (inr (refl, run_front plan held held_after front))
-
--- What the replay of any other scenario answers.
-pub play_done : (scenario : Scenario) (r : Replayed) (s : Status) (held held_after : Option (List ℕ)) (faults faults_after : ℕ)
-    → s ≡ status_at r.ended → IsPlayed scenario.version (limit scenario) r held held_after
-    → IsAnswered s (input.Plays scenario) held held_after faults faults_after
-play_done scenario r s held held_after faults faults_after is played = inl (record {
-  text = played_text scenario.version played.history played.counts (length played.history) (clock played.history) r.ended;
-  answered = record {
-    history = played.history;
-    counts = played.counts;
-    ends = r.ended;
-    few = played.few;
-    budget = played.budget;
-    written = refl;
-    status_is = is;
-  };
-  gained = subst (λ (n : ℕ). Gains held held_after (played_text scenario.version played.history played.counts n (clock played.history) r.ended)) played.entries_are
-      (subst (λ (t : ℕ). Gains held held_after (played_text scenario.version played.history played.counts r.entries t r.ended)) played.clock_is played.gained);
+-- What a replay answers.
+pub run_done : (scenario : Scenario) (r : Replayed) (s : Status) (held held_after : Option (List ℕ)) (faults faults_after : ℕ) → s ≡ status_at r.ended
+    → IsReplay scenario r → Gains held held_after (whole_text scenario) → IsAnswered s (input.Runs scenario) held held_after faults faults_after
+run_done scenario r s held held_after faults faults_after is replay gained = inl (record {
+  text = whole_text scenario;
+  answered = record { ends = r.ended; ended_is = replay.ends; written = refl; status_is = is };
+  gained = gained;
 })
 
-play_front : (scenario : Scenario) (held held_after : Option (List ℕ)) → IsBegun scenario.version (limit scenario) held held_after
-    → GainsFront (input.Plays scenario) held held_after
-play_front scenario held held_after begun = record {
-  text = played_text scenario.version begun.history begun.counts (length begun.history) (clock begun.history) begun.ends;
-  status = status_at begun.ends;
-  answered = record {
-    history = begun.history;
-    counts = begun.counts;
-    ends = begun.ends;
-    few = begun.few;
-    budget = begun.budget;
-    written = refl;
-    status_is = refl;
-  };
-  gained = begun.gained;
-}
+pub run_faults : (scenario : Scenario) (held held_after : Option (List ℕ)) (faults faults_after : ℕ) → Rose faults faults_after
+    → GainsPrefix held held_after (whole_text scenario) → IsAnswered status.WriteFault (input.Runs scenario) held held_after faults faults_after
+run_faults scenario held held_after faults faults_after rose front = inr (inl (refl, rose, run_front scenario held held_after front))
 
-pub play_faults : (scenario : Scenario) (held held_after : Option (List ℕ)) (faults faults_after : ℕ) → Rose faults faults_after
-    → IsBegun scenario.version (limit scenario) held held_after → IsAnswered status.WriteFault (input.Plays scenario) held held_after faults faults_after
-play_faults scenario held held_after faults faults_after rose begun = inr (inl (refl, rose, play_front scenario held held_after begun))
-
-pub play_wants : (scenario : Scenario) (held held_after : Option (List ℕ)) (faults faults_after : ℕ)
-    → IsBegun scenario.version (limit scenario) held held_after → IsAnswered status.Memory (input.Plays scenario) held held_after faults faults_after
-play_wants scenario held held_after faults faults_after begun = inr (inr (refl, play_front scenario held held_after begun))
+pub run_wants : (scenario : Scenario) (held held_after : Option (List ℕ)) (faults faults_after : ℕ)
+    → GainsPrefix held held_after (whole_text scenario) → IsAnswered status.Memory (input.Runs scenario) held held_after faults faults_after
+run_wants scenario held held_after faults faults_after front = inr (inr (refl, run_front scenario held held_after front))
 
 end_cause : (x : Ended) (sides : Sides) → IsAtEnd sides.left_after → IsWritten (status_at x) sides → HasCause (status_at x) sides
 end_cause ended.Ok sides end written = (end, written)
@@ -163,23 +114,19 @@ history_cause scenario s text sides h end written =
 abbrev pub IsRead : Input → Sides → Type 0
 IsRead input.TooLong sides = ⊤
 IsRead (input.Faulty fault) sides = ⊤
-IsRead (input.Runs plan) sides = IsAtEnd sides.left_after
-IsRead (input.Plays scenario) sides = IsAtEnd sides.left_after
+IsRead (input.Runs scenario) sides = IsAtEnd sides.left_after
 
 pub is_read : (i : Input) (sides : Sides) → IsAtEnd sides.left_after → IsRead i sides
 is_read input.TooLong sides end = tt
 is_read (input.Faulty fault) sides end = tt
-is_read (input.Runs plan) sides end = end
-is_read (input.Plays scenario) sides end = end
+is_read (input.Runs scenario) sides end = end
 
 written_cause : (s : Status) (i : Input) (text : List ℕ) (sides : Sides) → IsRead i sides → IsAnswer i s text → IsWritten s sides → HasCause s sides
 written_cause s input.TooLong text sides read is written =
     subst (λ (x : Status). HasCause x sides) (sym is.0) (subst (λ (x : Status). IsWritten x sides) is.0 written)
 written_cause s (input.Faulty fault) text sides read is written =
     subst (λ (x : Status). HasCause x sides) (sym is.0) (subst (λ (x : Status). IsWritten x sides) is.0 written)
-written_cause s (input.Runs plan) text sides read is written =
-    subst (λ (x : Status). HasCause x sides) (sym is.0) (read, subst (λ (x : Status). IsWritten x sides) is.0 written)
-written_cause s (input.Plays scenario) text sides read is written = history_cause scenario s text sides is read written
+written_cause s (input.Runs scenario) text sides read is written = history_cause scenario s text sides is read written
 
 text_is : (i : Input) (sides : Sides) → ((bytes : List ℕ) → sides.left ≡ Some bytes → input_of bytes ≡ i)
     → (front : GainsFront i sides.held sides.held_after) → IsText front.text sides
@@ -237,18 +184,20 @@ pub completes : Completes
 completes code sides bytes answers told calm_source calm_sink =
     complete_cause answers.status code sides bytes answers.number answers.cause told calm_source calm_sink
 
--- The same for a scenario of the first form.
-first_form : (code : ℕ) (sides : Sides) (bytes : List ℕ) (plan : Plan) → input_of bytes ≡ input.Runs plan → IsComplete code sides bytes ⊎ (code ≡ 9)
-    → ((code ≡ 0) × Gains sides.held sides.held_after (text_of plan)) ⊎ (code ≡ 9)
-first_form code sides bytes plan is (inl whole) =
-    let planned : IsAnswer (input.Runs plan) whole.status whole.whole.text =
+-- The same for a scenario: exactly its text.
+replayed : (code : ℕ) (sides : Sides) (bytes : List ℕ) (scenario : Scenario) → input_of bytes ≡ input.Runs scenario → IsComplete code sides bytes ⊎ (code ≡ 9)
+    → IsReplayed code scenario sides.held sides.held_after ⊎ (code ≡ 9)
+replayed code sides bytes scenario is (inl whole) =
+    let history : IsHistory scenario whole.status whole.whole.text =
     subst (λ (i : Input). IsAnswer i whole.status whole.whole.text) is whole.whole.answered in
-    inl (
-      whole.number ∙ ap code_of planned.0,
-      subst (λ (t : List ℕ). Gains sides.held sides.held_after t) planned.1 whole.whole.gained,
-    )
-first_form code sides bytes plan is (inr wants) = inr wants
+    inl (record {
+      ends = history.ends;
+      ended_is = history.ended_is;
+      number = whole.number ∙ ap code_of history.status_is;
+      gained = subst (λ (t : List ℕ). Gains sides.held sides.held_after t) history.written whole.whole.gained;
+    })
+replayed code sides bytes scenario is (inr wants) = inr wants
 
-pub first_form_completes : FirstFormCompletes
-first_form_completes code sides bytes plan answers told is calm_source calm_sink =
-    first_form code sides bytes plan is (completes code sides bytes answers told calm_source calm_sink)
+pub scenarios_replay : ScenariosReplay
+scenarios_replay code sides bytes scenario answers told is calm_source calm_sink =
+    replayed code sides bytes scenario is (completes code sides bytes answers told calm_source calm_sink)

@@ -6,10 +6,9 @@ use Rattle.com_io.specs.Told.{Gains, GainsPrefix}
 use Rattle.com_model.specs.declared.counts.Ended.{Ended}
 use Rattle.com_model.specs.declared.counts.Ended.TheVariants as ended
 use Rattle.com_model.specs.declared.scenario.Scenario.{Scenario}
-use Rattle.com_model.specs.Clock.{clock}
-use Rattle.com_model.specs.Ends.{limit}
+use Rattle.com_model.specs.Ends.{scheduled}
 use Rattle.com_drive.specs.declared.replayed.Replayed.{Replayed}
-use Rattle.com_play.specs.Playing.{IsPlayed}
+use Rattle.com_drive.specs.Replays.{IsReplay}
 use Rattle.com_scenario.specs.Scenarios.{reading}
 use Rattle.com_top.specs.declared.statuses.Status.{Status}
 use Rattle.com_top.specs.declared.statuses.Status.TheVariants as status
@@ -18,18 +17,16 @@ use Rattle.com_top.specs.Loading.{HasLoadCause, IsLoaded, IsLoadedWhole, Loads, 
 use Rattle.com_top.specs.Statuses.{Says, code_of}
 
 -- What a replay of the scenario of a number tells.
-pub loaded_is : (number : ℕ) (text : List ℕ) (scenario : Scenario) (r : Replayed) (s : Status) (lines : List ℕ) (old new : Option (List ℕ))
-    → text ≡ load_text number → reading text ≡ Ok scenario → IsPlayed scenario.version (limit scenario) r old new
+pub loaded_is : (number : ℕ) (text : List ℕ) (scenario : Scenario) (r : Replayed) (s : Status) (lines : List ℕ)
+    → text ≡ load_text number → reading text ≡ Ok scenario → IsReplay scenario r
     → lines ≡ load_lines number r.entries r.clock r.ended → s ≡ status_at r.ended → IsLoaded number s lines
-loaded_is number text scenario r s lines old new is reads played written ends = record {
+loaded_is number text scenario r s lines is reads replay written ends = record {
   scenario = scenario;
   reads = ap reading (sym is) ∙ reads;
-  history = played.history;
   ends = r.ended;
-  few = played.few;
-  budget = played.budget;
-  written = written ∙ ap (λ (n : ℕ). load_lines number n r.clock r.ended) played.entries_are
-      ∙ ap (λ (t : ℕ). load_lines number (length played.history) t r.ended) played.clock_is;
+  ended_is = replay.ends;
+  written = written ∙ ap (λ (n : ℕ). load_lines number n r.clock r.ended) replay.length_is
+      ∙ ap (λ (t : ℕ). load_lines number (length (scheduled scenario)) t r.ended) replay.clock_is;
   status_is = ends;
 }
 

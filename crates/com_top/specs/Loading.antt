@@ -1,16 +1,14 @@
 -- What the command `load` answers for a number, and when each of its statuses comes.
-use Rattle.std.specs.Prelude.{◌≡◌, ℕ, ◌≤◌, ◌⊎◌, List, [], ◌∷◌, ◌++◌, Option, Some, None, Ok, length, if◌then◌else◌, codes, decimal}
+use Rattle.std.specs.Prelude.{◌≡◌, ℕ, ◌⊎◌, List, [], ◌∷◌, ◌++◌, Option, Some, None, Ok, length, if◌then◌else◌, codes, decimal}
 use Rattle.std.specs.Str.{bytes_eq}
 use Rattle.com_gen.specs.Loads.{load_text}
 use Rattle.com_gen.specs.Numbers.{number_of}
 use Rattle.com_io.specs.Faults.{Rose}
 use Rattle.com_io.specs.Told.{Gains, GainsPrefix}
 use Rattle.com_model.specs.declared.counts.Ended.{Ended}
-use Rattle.com_model.specs.declared.counts.Ended.TheVariants as ended
-use Rattle.com_model.specs.declared.deeds.Entry.{Entry}
 use Rattle.com_model.specs.declared.scenario.Scenario.{Scenario}
 use Rattle.com_model.specs.Clock.{clock}
-use Rattle.com_model.specs.Ends.{limit}
+use Rattle.com_model.specs.Ends.{ended_as, scheduled}
 use Rattle.com_model.specs.Text.{report_text}
 use Rattle.com_scenario.specs.Scenarios.{reading}
 use Rattle.com_top.specs.declared.statuses.Status.{Status}
@@ -29,15 +27,13 @@ load_number (w ∷ n ∷ x ∷ ws) = None
 abbrev pub load_lines : (number entries clock : ℕ) → Ended → List ℕ
 load_lines number entries time x = codes "load " ++ decimal number ++ codes "\n" ++ report_text [] entries time x
 
--- The number's text is that of a scenario, and a history of it was replayed that ends so.
+-- The number's text is that of a scenario, and its one history ends so.
 pub record IsLoaded (number : ℕ) (s : Status) (text : List ℕ) : Type 0 where
   pub scenario : Scenario
   pub reads : reading (load_text number) ≡ Ok scenario
-  pub history : List Entry
   pub ends : Ended
-  pub few : length history ≤ limit scenario
-  pub budget : ends ≡ ended.Budget → length history ≡ limit scenario
-  pub written : text ≡ load_lines number (length history) (clock history) ends
+  pub ended_is : ended_as scenario (scheduled scenario) ≡ Some ends
+  pub written : text ≡ load_lines number (length (scheduled scenario)) (clock (scheduled scenario)) ends
   pub status_is : s ≡ status_at ends
 
 -- The sink gained the whole text.

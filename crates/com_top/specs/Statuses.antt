@@ -2,13 +2,15 @@
 use Rattle.std.specs.Prelude.{◌≡◌, ℕ, ◌⊎◌, List, [], ◌∷◌, Option, Some, codes}
 use Rattle.com_io.specs.Faults.{Rose}
 use Rattle.com_io.specs.Told.{Gains, GainsPrefix, IsAtEnd}
-use Rattle.com_replay.specs.declared.plan.Plan.{Plan}
-use Rattle.com_replay.specs.Replays.{text_of}
+use Rattle.com_drive.specs.Replays.{whole_text}
+use Rattle.com_model.specs.declared.counts.Ended.{Ended}
+use Rattle.com_model.specs.declared.scenario.Scenario.{Scenario}
+use Rattle.com_model.specs.Ends.{ended_as, scheduled}
 use Rattle.com_top.specs.declared.inputs.Input.{Input}
 use Rattle.com_top.specs.declared.inputs.Input.TheVariants as input
 use Rattle.com_top.specs.declared.statuses.Status.{Status}
 use Rattle.com_top.specs.declared.statuses.Status.TheVariants as status
-use Rattle.com_top.specs.Inputs.{input_of, IsAnswer}
+use Rattle.com_top.specs.Inputs.{input_of, status_at, IsAnswer}
 
 abbrev pub code_of : Status → ℕ
 code_of status.Done = 0
@@ -42,6 +44,20 @@ pub record Sides : Type 0 where
   pub held_after : Option (List ℕ)
   pub write_faults : ℕ
   pub write_faults_after : ℕ
+
+-- They are made of what the source and the sink tell, each before and after the call.
+abbrev pub sides_of : {S K : Type 0} (left : S → Option (List ℕ)) (read_faults : S → ℕ)
+    (held : K → Option (List ℕ)) (write_faults : K → ℕ) (source source_after : S) (sink sink_after : K) → Sides
+sides_of left read_faults held write_faults source source_after sink sink_after = record {
+  left = left source;
+  left_after = left source_after;
+  read_faults = read_faults source;
+  read_faults_after = read_faults source_after;
+  held = held sink;
+  held_after = held sink_after;
+  write_faults = write_faults sink;
+  write_faults_after = write_faults sink_after;
+}
 
 -- The input was answered: it is one that has this status, and the sink gained the whole text that is written
 -- for it.
@@ -145,10 +161,17 @@ Completes = (code : ℕ) (sides : Sides) (bytes : List ℕ) → Answers code sid
     → (Rose sides.write_faults sides.write_faults_after → ⊥)
     → IsComplete code sides bytes ⊎ (code ≡ 9)
 
--- For a scenario of the first form the number is then 0 and the sink gained exactly the text and the report of its one history.
-abbrev pub FirstFormCompletes : Type 0
-FirstFormCompletes = (code : ℕ) (sides : Sides) (bytes : List ℕ) (plan : Plan) → Answers code sides → sides.left ≡ Some bytes
-    → input_of bytes ≡ input.Runs plan
+-- The number is that of the end of the one history of a scenario, and the sink gained exactly the text and the report of that history.
+pub record IsReplayed (code : ℕ) (scenario : Scenario) (held held_after : Option (List ℕ)) : Type 0 where
+  pub ends : Ended
+  pub ended_is : ended_as scenario (scheduled scenario) ≡ Some ends
+  pub number : code ≡ code_of (status_at ends)
+  pub gained : Gains held held_after (whole_text scenario)
+
+-- So it is for every input that is a scenario, where it was told and no count of faults rose; or memory wanted.
+abbrev pub ScenariosReplay : Type 0
+ScenariosReplay = (code : ℕ) (sides : Sides) (bytes : List ℕ) (scenario : Scenario) → Answers code sides → sides.left ≡ Some bytes
+    → input_of bytes ≡ input.Runs scenario
     → (Rose sides.read_faults sides.read_faults_after → ⊥)
     → (Rose sides.write_faults sides.write_faults_after → ⊥)
-    → ((code ≡ 0) × Gains sides.held sides.held_after (text_of plan)) ⊎ (code ≡ 9)
+    → IsReplayed code scenario sides.held sides.held_after ⊎ (code ≡ 9)

@@ -5,9 +5,10 @@ ghost use Rattle.com_io.specs.Faults.{Rose};
 ghost use Rattle.com_io.specs.Told.{Gains, GainsPrefix};
 ghost use Rattle.com_top.specs.declared.inputs.Input.TheVariants as input;
 ghost use Rattle.com_top.specs.Loading.{HasLoadCause, Loads, load_number};
+ghost use Rattle.com_model.specs.Formed.{Formed};
+ghost use Rattle.com_top.specs.Inputs.{IsFormed};
 ghost use Rattle.com_top.specs.Replies.{HasReplyCause, IsObjRefWord, Replies, status_for};
-ghost use Rattle.com_top.specs.Statuses.{Answers, HasCause, IsAnswered, IsReplay, IsSaid, Says, Sides};
-ghost use Rattle.com_top.specs.Statuses.{usage_line};
+ghost use Rattle.com_top.specs.Statuses.{Answers, HasCause, IsAnswered, IsReplay, IsSaid, Says, sides_of, usage_line};
 
 use crate::inputs::{Input, input_of, refused_line};
 use crate::loads::loaded;
@@ -16,8 +17,7 @@ use com_gen::number_of;
 use com_io::{ReadAllError, Sink, Source, read_all, write_all};
 use com_model::Scenario;
 use com_objref::show;
-use com_play::play;
-use com_replay::{Plan, ReplayError, replay};
+use com_play::{ReplayError, play};
 use com_scenario::LONGEST;
 use std::alloc::Global;
 
@@ -37,26 +37,10 @@ pub fn com_main<S: Source, K: Sink>(
     source: &mut S,
     sink: &mut K,
 ) -> u8
-    ensures replay { IsReplay (map string_bytes words.now) → Answers result (record {
-      left = S.left source.old;
-      left_after = S.left source.new;
-      read_faults = S.faults_of source.old;
-      read_faults_after = S.faults_of source.new;
-      held = K.held sink.old;
-      held_after = K.held sink.new;
-      write_faults = K.faults_of sink.old;
-      write_faults_after = K.faults_of sink.new;
-    }) }
-    ensures objref { IsObjRefWord (map string_bytes words.now) → Replies result (record {
-      left = S.left source.old;
-      left_after = S.left source.new;
-      read_faults = S.faults_of source.old;
-      read_faults_after = S.faults_of source.new;
-      held = K.held sink.old;
-      held_after = K.held sink.new;
-      write_faults = K.faults_of sink.old;
-      write_faults_after = K.faults_of sink.new;
-    }) }
+    ensures replay { IsReplay (map string_bytes words.now) → Answers result (sides_of S.left S.faults_of K.held K.faults_of
+        source.old source.new sink.old sink.new) }
+    ensures objref { IsObjRefWord (map string_bytes words.now) → Replies result (sides_of S.left S.faults_of K.held K.faults_of
+        source.old source.new sink.old sink.new) }
     ensures load { (n : ℕ) → load_number (map string_bytes words.now) ≡ Some n
         → Loads result n (K.held sink.old) (K.held sink.new) (K.faults_of sink.old) (K.faults_of sink.new) }
     ensures load_reads_none { (n : ℕ) → load_number (map string_bytes words.now) ≡ Some n → source.new ≡ source.old }
@@ -84,31 +68,15 @@ pub fn com_main<S: Source, K: Sink>(
 /// long or whose text is no scenario is refused by a line with the line, the column and the number of the
 /// fault. The answer is the exit status: each has its cause.
 pub fn replay_main<S: Source, K: Sink>(alloc: Global, source: &mut S, sink: &mut K) -> u8
-    ensures { Answers result (record {
-      left = S.left source.old;
-      left_after = S.left source.new;
-      read_faults = S.faults_of source.old;
-      read_faults_after = S.faults_of source.new;
-      held = K.held sink.old;
-      held_after = K.held sink.new;
-      write_faults = K.faults_of sink.old;
-      write_faults_after = K.faults_of sink.new;
-    }) }
+    ensures { Answers result (sides_of S.left S.faults_of K.held K.faults_of
+        source.old source.new sink.old sink.new) }
 {
     replay_input(alloc, source, sink).code()
 }
 
 fn replay_input<S: Source, K: Sink>(alloc: Global, source: &mut S, sink: &mut K) -> Status
-    ensures { HasCause result (record {
-      left = S.left source.old;
-      left_after = S.left source.new;
-      read_faults = S.faults_of source.old;
-      read_faults_after = S.faults_of source.new;
-      held = K.held sink.old;
-      held_after = K.held sink.new;
-      write_faults = K.faults_of sink.old;
-      write_faults_after = K.faults_of sink.new;
-    }) }
+    ensures { HasCause result (sides_of S.left S.faults_of K.held K.faults_of
+        source.old source.new sink.old sink.new) }
 {
     let text = match read_all(alloc, source, LONGEST) {
         Ok(text) => text,
@@ -125,6 +93,7 @@ fn replay_input<S: Source, K: Sink>(alloc: Global, source: &mut S, sink: &mut K)
 // Writes what is written for an input, and answers its status.
 #[tactic(auto, using(crate::proofs::Causes::too_long_said, crate::proofs::Causes::refused_said, crate::proofs::Causes::nothing_answers))]
 fn answer<K: Sink>(alloc: Global, input: Input, sink: &mut K) -> Status
+    requires { IsFormed input }
     ensures { IsAnswered result input (K.held sink.old) (K.held sink.new)
         (K.faults_of sink.old) (K.faults_of sink.new) }
 {
@@ -134,34 +103,21 @@ fn answer<K: Sink>(alloc: Global, input: Input, sink: &mut K) -> Status
             Ok(line) => say(line.as_slice(), Status::Refused, sink),
             Err(_) => Status::Memory,
         },
-        Input::Runs(plan) => run(alloc, plan, sink),
-        Input::Plays(scenario) => run_any(alloc, scenario, sink),
+        Input::Runs(scenario) => run(alloc, scenario, sink),
     }
 }
 
-// Writes the history and the report of a plan, and answers the status.
+// Writes the history and the report of a scenario, and answers the status of its end.
 #[tactic(auto, using(crate::proofs::Causes::run_done, crate::proofs::Causes::run_faults, crate::proofs::Causes::run_wants))]
-fn run<K: Sink>(alloc: Global, plan: Plan, sink: &mut K) -> Status
-    ensures { IsAnswered result (input.Runs plan) (K.held sink.old) (K.held sink.new)
-        (K.faults_of sink.old) (K.faults_of sink.new) }
-{
-    match replay(alloc, plan, sink) {
-        Ok(_) => Status::Done,
-        Err(ReplayError::WriteFault) => Status::WriteFault,
-        Err(ReplayError::Memory) => Status::Memory,
-    }
-}
-
-// Writes a history and the report of any scenario, and answers the status of its end.
-#[tactic(auto, using(crate::proofs::Causes::play_done, crate::proofs::Causes::play_faults, crate::proofs::Causes::play_wants))]
-fn run_any<K: Sink>(alloc: Global, scenario: Scenario, sink: &mut K) -> Status
-    ensures { IsAnswered result (input.Plays scenario) (K.held sink.old) (K.held sink.new)
+fn run<K: Sink>(alloc: Global, scenario: Scenario, sink: &mut K) -> Status
+    requires { Formed scenario }
+    ensures { IsAnswered result (input.Runs scenario) (K.held sink.old) (K.held sink.new)
         (K.faults_of sink.old) (K.faults_of sink.new) }
 {
     match play(alloc, scenario, sink) {
         Ok(replayed) => status_at(replayed.ended),
-        Err(com_play::ReplayError::WriteFault) => Status::WriteFault,
-        Err(com_play::ReplayError::Memory) => Status::Memory,
+        Err(ReplayError::WriteFault) => Status::WriteFault,
+        Err(ReplayError::Memory) => Status::Memory,
     }
 }
 
@@ -189,31 +145,15 @@ fn load<K: Sink>(alloc: Global, number: u32, sink: &mut K) -> Status
 /// Reads hexadecimal text from the source, and shows the fields of the OBJREF that it spells, or its first
 /// fault. The answer is the exit status: each has its cause.
 pub fn objref_main<S: Source, K: Sink>(alloc: Global, source: &mut S, sink: &mut K) -> u8
-    ensures { Replies result (record {
-      left = S.left source.old;
-      left_after = S.left source.new;
-      read_faults = S.faults_of source.old;
-      read_faults_after = S.faults_of source.new;
-      held = K.held sink.old;
-      held_after = K.held sink.new;
-      write_faults = K.faults_of sink.old;
-      write_faults_after = K.faults_of sink.new;
-    }) }
+    ensures { Replies result (sides_of S.left S.faults_of K.held K.faults_of
+        source.old source.new sink.old sink.new) }
 {
     objref_input(alloc, source, sink).code()
 }
 
 fn objref_input<S: Source, K: Sink>(alloc: Global, source: &mut S, sink: &mut K) -> Status
-    ensures { HasReplyCause result (record {
-      left = S.left source.old;
-      left_after = S.left source.new;
-      read_faults = S.faults_of source.old;
-      read_faults_after = S.faults_of source.new;
-      held = K.held sink.old;
-      held_after = K.held sink.new;
-      write_faults = K.faults_of sink.old;
-      write_faults_after = K.faults_of sink.new;
-    }) }
+    ensures { HasReplyCause result (sides_of S.left S.faults_of K.held K.faults_of
+        source.old source.new sink.old sink.new) }
 {
     let text = match read_all(alloc, source, LONGEST_DIGITS) {
         Ok(text) => text,

@@ -1,11 +1,10 @@
 //! What an input is, and the line of a fault.
 ghost use Rattle.std.specs.Prelude.{◌≡◌, ◌++◌, IfOk, OnOk, decimal};
-ghost use Rattle.com_top.specs.Inputs.{input_of, refused_line};
+ghost use Rattle.com_top.specs.Inputs.{IsFormed, input_of, refused_line};
 
 use com_base::{ByteList, Memory};
 use com_model::Scenario;
 use com_read_operands::{Fault, ScenarioError};
-use com_replay::{Plan, plan_of};
 use com_scenario::{is_too_long, parse};
 use itoa::Buffer;
 use std::alloc::{AllocError, Global};
@@ -17,16 +16,15 @@ pub enum Input {
     TooLong,
     /// A text that is no scenario, with its first fault.
     Faulty(Fault),
-    /// A scenario of the first form, whose one history is planned.
-    Runs(Plan),
-    /// Any other scenario.
-    Plays(Scenario),
+    /// A scenario, whose one history is written.
+    Runs(Scenario),
 }
 
 /// What an input of these bytes is. The only error is want of memory.
 #[tactic(auto, unfolding(crate::specs::Inputs::input_of))]
 pub fn input_of(alloc: Global, text: &[u8]) -> Result<Input, Memory>
-    ensures { IfOk result (λ input. input ≡ input_of text.now) }
+    ensures value { IfOk result (λ input. input ≡ input_of text.now) }
+    ensures formed { IfOk result (λ input. IsFormed input) }
 {
     if is_too_long(alloc, text)? {
         return Ok(Input::TooLong);
@@ -48,10 +46,7 @@ pub fn input_of(alloc: Global, text: &[u8]) -> Result<Input, Memory>
         }
         Err(ScenarioError::Memory) => return Err(AllocError),
     };
-    match plan_of(alloc, &scenario)? {
-        Some(plan) => Ok(Input::Runs(plan)),
-        None => Ok(Input::Plays(scenario)),
-    }
+    Ok(Input::Runs(scenario))
 }
 
 /// The line of a fault: its line, its column and its number. The only error is want of memory.

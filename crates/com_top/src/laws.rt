@@ -1,19 +1,19 @@
 //! What follows from the causes of the statuses.
 ghost use Rattle.com_top.specs.Loading.{LoadsAreWhole};
 ghost use Rattle.com_top.specs.Replies.{RepliesWhole};
-ghost use Rattle.com_top.specs.Statuses.{Completes, FirstFormCompletes};
+ghost use Rattle.com_top.specs.Statuses.{Completes, ScenariosReplay};
 
 /// Completeness of a replay: where the source tells its bytes and no count of faults rose, the sink gained the
 /// whole text of the input of these bytes, and the status is that of this text: 2 with the line of the refusal;
-/// 0, 5 or 6 with the text and report of a history, as its end is; or memory wanted.
+/// 0, 5 or 6 with the text and report of the scenario's one history, as its end is; or memory wanted.
 pub fn completeness()
     ensures { Completes }
 {}
 
-/// The same for a scenario of the first form: the status is 0 and the sink gained exactly the text and report of
-/// its one history; or memory wanted.
-pub fn first_form_completeness()
-    ensures { FirstFormCompletes }
+/// For every input that is a scenario: the sink gained exactly the text and the report of the one history of its schedule, and the
+/// status is that of the end of this history; or memory wanted.
+pub fn scenarios_replay()
+    ensures { ScenariosReplay }
 {}
 
 /// Completeness of `objref`: where the source tells its bytes and no count of faults rose, the status is that

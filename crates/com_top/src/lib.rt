@@ -10,5 +10,5 @@ mod statuses;
 pub use com_base::Memory;
 pub use commands::{com_main, load_main, objref_main, replay_main};
 pub use inputs::{Input, input_of};
-pub use laws::{completeness, first_form_completeness, load_completeness, objref_completeness};
+pub use laws::{completeness, load_completeness, objref_completeness, scenarios_replay};
 pub use statuses::Status;

@@ -1,5 +1,6 @@
 use Rattle.std.proofs.Common.{◌≡◌, true, false, length, take, drop, ◌-◌, ◌++◌, List, refl, sym, ap, ◌∙◌, arith, length-drop}
 use Rattle.std.proofs.lemmas.List.{take-append-drop}
+use Rattle.std.proofs.lemmas.Result.{on_ok_weaker}
 use Rattle.com_moves.specs.declared.moves.Move.{Move}
 use Rattle.com_ledger.proofs.Exchanging.{whole_taken, exchanged_kept, exchanged_again}
 use Rattle.com_ledger.proofs.Losing.{on_ok_both, on_ok_three}

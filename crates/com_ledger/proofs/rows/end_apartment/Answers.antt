@@ -1,7 +1,7 @@
 use Rattle.std.proofs.Common.{◌≡◌, ℕ, List, refl, sym, subst, ◌∙◌, ◌+◌, arith}
 use Rattle.com_holders.specs.Tables.{Tables}
 use Rattle.com_ledger.specs.Books.{Cut}
-use Rattle.com_ledger.specs.Moving.{Climbs, Touches}
+use Rattle.com_ledger.specs.Moving.{Touches}
 use Rattle.com_ledger.proofs.Ending.{ended_to, ended_first, ended_owned, ended_other, ended_last}
 use Rattle.com_ledger.proofs.Unholding.{touches-same}
 use Rattle.com_ledger.proofs.Unheld.{touches-then}

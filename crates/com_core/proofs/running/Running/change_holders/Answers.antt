@@ -18,7 +18,7 @@ returns-clause-booked c =
     let w = a.self.now.ledger in
     let u = c.apply.new.self in
     let moved : m ≡ moves_stepped (ground_at a.glance.home p.objects p.calls.tables) p.scene (acting_of a.acting) a.outcome.now (acting_of a.glance.after) a.entry.now =
-    c.in_ok-fill.ensures
+    c.in_ok-fill.ensures.moves
     ∙ (λ j. moves_stepped (ground_at a.glance.home (c.objects.ensures j) (c.calls.ensures.value j).tables) (c.scene.ensures j) (acting_of a.acting) a.outcome.now (acting_of a.glance.after) a.entry.now) in
     let whole : Booked (around c.calls-2.result.now.tables c.objects-2.result.now a.scenario.now.classes a.carried.now (number_or_zero a.glance.running)) d m w u = record {
       applies = c.in_ok-apply.ensures.applies;

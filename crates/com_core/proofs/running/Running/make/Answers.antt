@@ -4,7 +4,7 @@ use Rattle.com_core.proofs.running.Running.make.Goals as goal
 
 pub returns-clause-changed : goal.returns-clause-changed
 returns-clause-changed c =
-    let before = c.glance in
+    let before = c.glance-glance in
     let made = c.in_ok-change.ensures in
     record {
       follows = acting_of before.result.after;

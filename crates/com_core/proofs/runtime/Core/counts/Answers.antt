@@ -3,11 +3,8 @@ use Rattle.std.proofs.Common.{◌≡◌, ℕ, ◌+◌, ap, subst, ◌∙◌}
 use Rattle.std.specs.Prelude.{sum_by}
 use Rattle.com_books.specs.Counting.{sum_below}
 use Rattle.com_holders.specs.Tables.{books_of, direct_in}
-use Rattle.com_model.specs.Ends.{state_of}
-use Rattle.com_model.specs.Lists.{is_member}
 use Rattle.com_refs.specs.Numbers.{Within, in_cookie, in_normal, in_table}
 use Rattle.com_state.specs.Parts.{ObjectTables, class_at, named_at}
-use Rattle.com_ledger.specs.Books.{books_held}
 use Rattle.com_ledger.specs.Ties.{Ties}
 use Rattle.com_ledger.proofs.Counted.{direct_counted, packets_counted, proxies_counted, stub_counted, tables_counted}
 use Rattle.com_core.specs.Seen.{CoreView, KeptUnless, core_state}

@@ -1,36 +1,27 @@
 -- A new core is that of the first state.
-use Rattle.std.proofs.Common.{refl}
-use Rattle.com_core.specs.Seen.{CoreView}
+use Rattle.std.proofs.Common.{◌≡◌, ◌<◌, ◌^◌, length, refl, subst}
+use Rattle.std.specs.Arc.{arc_value}
+use Rattle.com_model.specs.declared.scenario.Scenario.{Scenario}
+use Rattle.com_model.specs.Tables.{lanes}
+use Rattle.com_core.specs.Beginning.{BeginsParts}
+use Rattle.com_core.specs.Seen.{core_of}
 use Rattle.com_core.proofs.Kept.{new_kept}
 use Rattle.com_core.proofs.Tied.{new_core}
 use Rattle.com_core.proofs.runtime.Core.new.Goals as goal
 
 pub returns-clause-first : goal.returns-clause-first
 returns-clause-first c =
+    let s = arc_value c.args.scenario in
     let r = c.in_ok-running.running in
     let e = c.in_ok-running.ensures in
-    let v : CoreView = record {
-      scenario = c.args.scenario;
-      parts = r.parts;
-      held = r.ledger;
-      entered = r.entered;
-      fallen = r.fallen;
-      clock = r.clock;
-      broken = r.broken;
-    } in
-    new_core c.args.scenario v refl e.stands e.clock e.entered e.held
+    new_core s (core_of s r) refl (subst (λ (x : Scenario). BeginsParts x r.parts r.fallen) c.deref-2.ensures e.stands) e.clock e.entered e.held
 
-pub invariant_of-core : goal.invariant_of-core
-invariant_of-core c =
+pub invariant_of-result : goal.invariant_of-result
+invariant_of-result c =
+    let s = arc_value c.args.scenario in
     let r = c.in_ok-running.running in
     let e = c.in_ok-running.ensures in
-    let v : CoreView = record {
-      scenario = c.args.scenario;
-      parts = r.parts;
-      held = r.ledger;
-      entered = r.entered;
-      fallen = r.fallen;
-      clock = r.clock;
-      broken = r.broken;
-    } in
-    (?, ?, ?, ?, new_kept c.args.scenario v refl (new_core c.args.scenario v refl e.stands e.clock e.entered e.held))
+    let count : c.in-Some.count ≡ lanes s = subst (λ (x : Scenario). c.in-Some.count ≡ lanes x) c.deref.ensures c.in-Some.ensures.count in
+    let threads : length s.threads < 2 ^ 32 = subst (λ (x : Scenario). length x.threads < 2 ^ 32) c.deref.ensures c.in-Some.ensures.threads in
+    let begins : BeginsParts s r.parts r.fallen = subst (λ (x : Scenario). BeginsParts x r.parts r.fallen) c.deref-2.ensures e.stands in
+    (λ b. e.sound, e.few, count, threads, new_kept s (core_of s r) refl (new_core s (core_of s r) refl begins e.clock e.entered e.held))

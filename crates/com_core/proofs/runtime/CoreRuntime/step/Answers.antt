@@ -1,9 +1,9 @@
--- What the contract of a runtime asks of a core is what the core's own says.
-use Rattle.std.proofs.lemmas.Result.{IfOk-weaker, on_err_weaker, on_ok_weaker}
+-- A step of a core of a formed scenario makes the next entry of the lane.
+use Rattle.std.proofs.lemmas.Result.{IfOk-weaker, on_err_weaker}
 use Rattle.com_model.specs.declared.deeds.Entry.{Entry}
 use Rattle.com_drive.specs.Turns.{IsNext}
 use Rattle.com_core.specs.Seen.{core_state}
-use Rattle.com_core.proofs.Kept.{is_formed, same_state, where_so}
+use Rattle.com_core.proofs.Kept.{is_formed, same_state}
 use Rattle.com_core.proofs.runtime.CoreRuntime.step.Goals as goal
 
 pub returns-clause-entry : goal.returns-clause-entry
@@ -13,6 +13,3 @@ returns-clause-entry g c =
 
 pub returns-clause-err : goal.returns-clause-err
 returns-clause-err g c = on_err_weaker c.step.result (same_state c.args.self.now c.step.new.self) c.step.ensures.err
-
-pub returns-clause-served : goal.returns-clause-served
-returns-clause-served g c = on_ok_weaker c.step.result (where_so c.requires.above) c.step.ensures.served

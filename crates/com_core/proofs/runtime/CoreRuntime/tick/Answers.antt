@@ -1,10 +1,13 @@
--- What the contract of a runtime asks of a core is what the core's own says.
+-- The clock's entry of a core of a formed scenario is the next one, where the clock goes on.
 use Rattle.std.proofs.lemmas.Result.{IfOk-weaker, on_err_weaker}
 use Rattle.com_model.specs.declared.deeds.Entry.{Entry}
 use Rattle.com_drive.specs.Turns.{IsNext}
 use Rattle.com_core.specs.Seen.{core_state}
 use Rattle.com_core.proofs.Kept.{is_formed, same_state}
 use Rattle.com_core.proofs.runtime.CoreRuntime.tick.Goals as goal
+
+pub make_tick-requires : goal.make_tick-requires
+make_tick-requires c = record { due = λ r. c.requires.due }
 
 pub returns-clause-entry : goal.returns-clause-entry
 returns-clause-entry c =

@@ -1,0 +1,24 @@
+-- The entry of a turn is the next one of its lane, and all has changed by it.
+use Rattle.std.proofs.Common.{List, subst}
+use Rattle.com_base.specs.declared.value.RefValue.{RefValue}
+use Rattle.com_scene.specs.Actors.{acting_of}
+use Rattle.com_ledger.specs.Books.{books_held}
+use Rattle.com_core.specs.Changes.{sent_by}
+use Rattle.com_core.specs.Making.{Changed}
+use Rattle.com_core.specs.Stands.{state_read}
+use Rattle.com_core.proofs.Turned.{next_made}
+use Rattle.com_core.proofs.running.Running.make_turn.Goals as goal
+
+pub returns-clause-next : goal.returns-clause-next
+returns-clause-next c =
+    let s = c.args.scenario.now in
+    let v = c.args.self.now in
+    let u = c.make.new.self in
+    let t = c.args.made in
+    let b = books_held v.ledger in
+    let changed : Changed s v.parts u.parts v.ledger u.ledger v.entered u.entered v.fallen u.fallen v.clock (record { lane = c.args.lane; deed = t.doing.deed }) (acting_of t.acting) t.outcome t.doing.carried (sent_by t.doing.issued) =
+    subst (λ (rs : List RefValue). Changed s v.parts u.parts v.ledger u.ledger v.entered u.entered v.fallen u.fallen v.clock (record { lane = c.args.lane; deed = t.doing.deed }) (acting_of t.acting) t.outcome rs (sent_by t.doing.issued))
+    c.as_slice.ensures c.in_ok-make.ensures.changed in
+    λ k low high.
+    next_made s (state_read s v.parts b v.fallen v.clock) v.parts u.parts b v.ledger u.ledger v.entered u.entered v.fallen u.fallen v.clock c.args.lane t
+    c.requires.turn c.requires.named c.requires.few.entries changed k low high
