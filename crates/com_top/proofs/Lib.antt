@@ -1,7 +1,7 @@
 pub mod Causes
 pub mod CheckCauses
+pub mod Entries
 pub mod ExplainCauses
 pub mod LoadCauses
 pub mod ReplyCauses
-pub mod Recording
 pub mod Responding

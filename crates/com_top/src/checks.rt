@@ -11,9 +11,6 @@ use com_model::Scenario;
 use com_read_operands::Fault;
 use std::alloc::Global;
 
-// The number of the fault of a text that has no line `trace`: it ends where something is still wanted.
-const OPEN: u8 = 11;
-
 /// The status and the text that answer a scenario's text with a trace. The only error is want of memory.
 #[tactic(auto, unfolding(crate::specs::Checking::asked_of))]
 pub fn checked(alloc: Global, bytes: &[u8]) -> Result<Reply, Memory>
@@ -38,7 +35,7 @@ fn fault_without_trace(read: Result<Scenario, Fault>, line: u32, column: u32) ->
 {
     match read {
         Ok(_) => Fault {
-            number: OPEN,
+            number: Fault::UNENDED,
             line,
             column,
         },

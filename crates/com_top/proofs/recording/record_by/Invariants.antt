@@ -3,7 +3,7 @@ use Rattle.com_model.specs.Tables.{lanes}
 use Rattle.com_model.specs.Ends.{limit}
 use Rattle.com_servant.specs.Rows.{row}
 use Rattle.com_drive.proofs.Driving.{mapped}
-use Rattle.com_top.proofs.Recording.{Recording}
+use Rattle.com_top.proofs.Entries.{Recording}
 use Rattle.com_top.proofs.recording.record_by.Given as goal
 
 abbrev pub invariant-turns : goal.invariant-turns
