@@ -1,0 +1,3 @@
+pub mod Spelling
+pub mod Forming
+pub mod Reading
