@@ -93,10 +93,10 @@ run-over (suc n) s h picks last x e = ap (unless_ended s (run_on n s) h picks la
 one-less : (n k q : ℕ) → suc n + k ≡ q → n + suc k ≡ q
 one-less n k q c = omega (arith, c)
 
-pub recording_goes_on : (s : Scenario) (m n : Moment) (e : Entry) (entries after : List Entry) → Formed s
-    → Recording s m.state m.picks m.last entries → IsMade s m n e → after ≡ entries ++ (e ∷ [])
+pub recording_goes_on : (s : Scenario) (m n : Moment) (e : Entry) (entries after : List Entry) → Formed s → IsMade s m n e
+    → Recording s m.state m.picks m.last entries → after ≡ entries ++ (e ∷ [])
     → Recording s n.state n.picks n.last after
-recording_goes_on s m n e entries after f p made kept = on p.more p.count p.way
+recording_goes_on s m n e entries after f made p kept = on p.more p.count p.way
   where
     within : length p.history ≤ limit s
     within = let c = p.count in omega (arith, c)
@@ -134,8 +134,8 @@ fewer : (most a b : ℕ) → a < most → b ≡ a + 1 → most - b < most - a
 fewer most a b h k = omega (arith, h, k)
 
 pub recording_smaller : (s : Scenario) (m n : Moment) (e : Entry) (entries : List Entry)
-    → Recording s m.state m.picks m.last entries → IsMade s m n e → limit s - n.state.entries < limit s - m.state.entries
-recording_smaller s m n e entries p made =
+    → IsMade s m n e → Recording s m.state m.picks m.last entries → limit s - n.state.entries < limit s - m.state.entries
+recording_smaller s m n e entries made p =
     fewer (limit s) m.state.entries n.state.entries
     (below_limit s m.state made.turn.goes_on (recording_within s m.state m.picks m.last entries p))
     (one_entry s m.state n.state e.lane e made.turn.next)
@@ -147,8 +147,8 @@ unfolding whole_history
 whole-is s = refl
 
 pub recording_ends : (s : Scenario) (m n : Moment) (x : Ended) (entries : List Entry)
-    → Recording s m.state m.picks m.last entries → IsOver s m n x → IsRecorded s entries x
-recording_ends s m n x entries p over = record {
+    → IsOver s m n x → Recording s m.state m.picks m.last entries → IsRecorded s entries x
+recording_ends s m n x entries over p = record {
   history = p.is ∙ sym (run-over p.more s p.history m.picks m.last x ends) ∙ p.way ∙ whole-is s;
   lawful = subst (λ (h : List Entry). legal s h) (sym p.is) p.stands.lawful;
   ended_is = ap (ended_as s) p.is ∙ ends;
@@ -170,9 +170,21 @@ over_of s m n x y is steps = subst (λ (z : Step). StepsTo s m n z) is steps
 
 -- ---- what is said of it
 
-pub explained_is : (s : Scenario) (entries : List Entry) (x : Ended) (w : Option Waits) (text : List ℕ) → Formed s → IsRecorded s entries x
+explained_is : (s : Scenario) (entries : List Entry) (x : Ended) (w : Option Waits) (text : List ℕ) → Formed s → IsRecorded s entries x
     → (Formed s → legal s (told entries) → ended_as s (told entries) ≡ Some x → w ≡ explanation_of s (told entries)) → text ≡ text_of w
     → text ≡ explanation s
 unfolding explanation
 explained_is s entries x w text f r explains written =
     written ∙ ap text_of (explains f r.lawful r.ended_is) ∙ ap (λ (h : List Entry). text_of (explanation_of s h)) r.history
+
+-- The same of a scenario that is shared and looked at, and of entries that are looked at.
+pub explained_at : (s shared seen : Scenario) (entries slice : List Entry) (x : Ended) (w : Option Waits) (text : List ℕ)
+    → shared ≡ s → seen ≡ s → slice ≡ entries → Formed s → IsRecorded shared entries x
+    → (Formed seen → legal seen (told slice) → ended_as seen (told slice) ≡ Some x → w ≡ explanation_of seen (told slice)) → text ≡ text_of w
+    → text ≡ explanation s
+explained_at s shared seen entries slice x w text is_shared is_seen is_slice f r explains written =
+    let told_of : IsRecorded s entries x = subst (λ (y : Scenario). IsRecorded y entries x) is_shared r in
+    let by : Formed s → legal s (told entries) → ended_as s (told entries) ≡ Some x → w ≡ explanation_of s (told entries) =
+    subst (λ (y : Scenario). Formed y → legal y (told entries) → ended_as y (told entries) ≡ Some x → w ≡ explanation_of y (told entries)) is_seen
+    (subst (λ (es : List Entry). Formed seen → legal seen (told es) → ended_as seen (told es) ≡ Some x → w ≡ explanation_of seen (told es)) is_slice explains) in
+    explained_is s entries x w text f told_of by written

@@ -1,7 +1,6 @@
 -- The causes of the statuses of `objref`.
 use Rattle.std.proofs.Common.{◌≡◌, ℕ, ◌<◌, ◌≤◌, List, length, refl, sym, ◌∙◌, ap, subst, Bool, Option, Some, true, false, nat_lt, arith}
 use Rattle.com_io.specs.Told.{IsAtEnd}
-use Rattle.com_objref.specs.declared.Shown.{Shown}
 use Rattle.com_objref.specs.Shown.{shown_of}
 use Rattle.com_top.specs.declared.statuses.Status.{Status}
 use Rattle.com_top.specs.Replies.{Digits, IsShown, Spells, TooMany, digits_of, status_for}
@@ -21,21 +20,18 @@ spelled bytes h = let short : nat_lt 1048576 (length bytes) ≡ false = grind (a
 pub objref_unread : (s : Status) (sides : Sides) → IsUnread 1048576 s sides → Causes digits_of IsShown s sides
 objref_unread s sides unread = unread_causes 1048576 digits_of IsShown TooMany s sides (too_many, (refl, refl)) unread
 
-shown_concludes : (found : Bool) (left : Option (List ℕ)) → IsAtEnd left → Concludes (status_for found) left
-shown_concludes true left end = end
-shown_concludes false left end = tt
+found_concludes : (found : Bool) (left : Option (List ℕ)) → IsAtEnd left → Concludes (status_for found) left
+found_concludes true left end = end
+found_concludes false left end = tt
+
+shown_concludes : (read : List ℕ) (s : Status) (text : List ℕ) (left : Option (List ℕ)) → IsAtEnd left → IsShown (Spells read) s text → Concludes s left
+shown_concludes read s text left end is =
+    subst (λ (x : Status). Concludes x left) (sym is.0) (found_concludes (shown_of read).found left end)
 
 -- What was said of an input that was read.
-pub objref_said : (read : List ℕ) (shown : Shown) (result s : Status) (text : List ℕ) (sides : Sides) → length read ≤ 1048576
-    → ((bytes : List ℕ) → sides.left ≡ Some bytes → bytes ≡ read) → IsAtEnd sides.left_after
-    → shown ≡ shown_of read → s ≡ status_for shown.found → text ≡ shown.text
+pub objref_said : (read : List ℕ) (result s : Status) (text : List ℕ) (sides : Sides) → length read ≤ 1048576
+    → ((bytes : List ℕ) → sides.left ≡ Some bytes → bytes ≡ read) → IsAtEnd sides.left_after → IsShown (Spells read) s text
     → Says result s text sides.held sides.held_after sides.write_faults sides.write_faults_after → Causes digits_of IsShown result sides
-objref_said read shown result s text sides short told end is status written said =
-    let goes : s ≡ status_for (shown_of read).found = status ∙ ap (λ (x : Shown). status_for x.found) is in
-    said_causes digits_of IsShown result s text sides
-    (subst (λ (x : Status). Concludes x sides.left_after) (sym goes) (shown_concludes (shown_of read).found sides.left_after end))
-    (record {
-      asked = Spells read;
-      which = λ bytes e. ap digits_of (told bytes e) ∙ spelled read short;
-      fits = (goes, written ∙ ap (λ (x : Shown). x.text) is);
-    }) said
+objref_said read result s text sides short told end is said =
+    said_causes digits_of IsShown result s text sides (shown_concludes read s text sides.left_after end is)
+    (record { asked = Spells read; which = λ bytes e. ap digits_of (told bytes e) ∙ spelled read short; fits = is }) said

@@ -1,5 +1,5 @@
 //! The commands.
-ghost use Rattle.std.specs.Prelude.{◌≡◌, map, string_bytes};
+ghost use Rattle.std.specs.Prelude.{◌≡◌, IfOk, map, string_bytes};
 ghost use Rattle.com_model.specs.Formed.{Formed};
 ghost use Rattle.com_top.specs.declared.inputs.Input.TheVariants as input;
 ghost use Rattle.com_top.specs.Checking.{IsReply, question_of};
@@ -7,7 +7,7 @@ ghost use Rattle.com_top.specs.Commands.{Answered, ReadsNone};
 ghost use Rattle.com_top.specs.Explaining.{IsExplained};
 ghost use Rattle.com_top.specs.Inputs.{IsFormed, input_of};
 ghost use Rattle.com_top.specs.Loading.{HasLoadCause, Loads};
-ghost use Rattle.com_top.specs.Replies.{IsShown, digits_of, status_for};
+ghost use Rattle.com_top.specs.Replies.{IsShown, Spells, digits_of, status_for};
 ghost use Rattle.com_top.specs.Responses.{Causes, Responds};
 ghost use Rattle.com_top.specs.Statuses.{Answers, HasCause, IsAnswered, IsSaid, sides_of, usage_line};
 ghost use Rattle.com_top.specs.Words.{command_of};
@@ -17,8 +17,9 @@ use crate::explaining::explained;
 use crate::inputs::{Input, input_of, refused_line};
 use crate::loads::loaded;
 use crate::sides::{read_input, say};
-use crate::statuses::{Status, status_at};
+use crate::statuses::{Reply, Status, status_at};
 use crate::words::{Command, command_of};
+use com_base::Memory;
 use com_io::{Sink, Source};
 use com_model::Scenario;
 use com_objref::show;
@@ -219,10 +220,21 @@ fn objref_input<S: Source, K: Sink>(alloc: Global, source: &mut S, sink: &mut K)
         Ok(text) => text,
         Err(status) => return status,
     };
-    match show(alloc, text.as_slice()) {
-        Ok(shown) => say(shown.text.as_slice(), status_for(shown.found), sink),
+    match shown(alloc, text.as_slice()) {
+        Ok(reply) => say(reply.text.as_slice(), reply.status, sink),
         Err(_) => Status::Memory,
     }
+}
+
+// The status and the text that answer a text of digits. The only error is want of memory.
+fn shown(alloc: Global, digits: &[u8]) -> Result<Reply, Memory>
+    ensures { IfOk result (λ reply. IsShown (Spells digits.now) reply.status reply.text) }
+{
+    let shown = show(alloc, digits)?;
+    Ok(Reply {
+        status: status_for(shown.found),
+        text: shown.text,
+    })
 }
 
 fn status_for(found: bool) -> Status

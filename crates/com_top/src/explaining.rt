@@ -38,7 +38,6 @@ fn explained_input(alloc: Global, input: Input) -> Result<Reply, Memory>
 }
 
 // Why the one history of a scenario is stuck, or that it is not. The only error is want of memory.
-#[tactic(auto, using(crate::proofs::Entries::explained_is))]
 fn explanation(alloc: Global, scenario: Scenario) -> Result<ByteList, Memory>
     requires { Formed scenario }
     ensures { IfOk result (λ text. text ≡ explanation scenario) }
