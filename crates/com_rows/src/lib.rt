@@ -1,4 +1,4 @@
-//! Worked cases over memory, from bytes to bytes, and by servants and streams.
+//! Worked cases over memory, from bytes to bytes, and by servants.
 #![tactic(auto)]
 
 #[cfg(test)]

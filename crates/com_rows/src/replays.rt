@@ -1,14 +1,11 @@
-//! What a replay makes of the servants that it is handed, and the steps of a stream.
+//! What a replay makes of the servants that it is handed.
 ghost use Rattle.std.specs.Prelude.{◌≡◌, [], ◌∷◌, ◌++◌, OnOk, map};
 
-use com_base::{ByteList, Memory};
+use com_base::Memory;
 use com_body::Native;
-use com_core::Core;
-use com_drive::{Step, Stream};
 use com_io::MemorySink;
 use com_model::Ended;
 use com_play::replay;
-use com_report::line;
 use com_scenario::parse;
 use com_servant::{Counter, Interpreter, Latch, Relay, Servant};
 use std::sync::Arc;
@@ -16,12 +13,6 @@ use std::test::Fail;
 
 const THREE_ADDS: &[u8] =
     b"scenario 1\nnative Cnt {5C0B00C1-0000-4000-8000-000000000001} Both counter\nthread\ninit sta\ncreate s0 Cnt ICounter\ncall s0 ICounter.add 1\nend\nthread\ninit sta\ncreate s0 Cnt ICounter\ncall s0 ICounter.add 1\ncall s0 ICounter.add 1\nend\n";
-
-const DIRECT_CALL: &[u8] =
-    b"scenario 1\nnative Cnt {5C0B00C1-0000-4000-8000-000000000001} Both counter\nthread\ninit sta\ncreate s0 Cnt ICounter\ncall s0 ICounter.add 5 -> r1\nrelease s0\nuninit\nend\n";
-
-const FIRST_LINES: &[u8] =
-    b"1 L1 init sta a3 S_OK\n2 L1 made o1 a3 C1 I1 S_OK\n3 L1 out c1 o1 I1.0 direct cause1 -\n";
 
 /// Puts one servant more behind a row. Its kind is told to the proof alone.
 fn add(
@@ -69,46 +60,5 @@ fn an_entry_of_a_body_is_a_step_of_the_servant_of_its_kind(rt: HostRuntime) -> R
         steps.push(servant.steps())?;
     }
     assert_eq!(rt; steps.as_slice(), [0, 3, 0, 0].as_slice());
-    Ok(())
-}
-
-#[test]
-fn three_steps_of_a_stream_make_the_first_three_lines(rt: HostRuntime) -> Result<(), Fail> {
-    let scenario = Arc::new(rt.alloc(), parse(rt.alloc(), DIRECT_CALL)?)?;
-    let mut servants: Vec<Box<dyn Servant + Send>> = Vec::new(rt.alloc());
-    add(
-        &mut servants,
-        Box::new(rt.alloc(), Interpreter::new())?,
-        Native::Bodies,
-    )?;
-    add(
-        &mut servants,
-        Box::new(rt.alloc(), Counter::new())?,
-        Native::Counter,
-    )?;
-    add(
-        &mut servants,
-        Box::new(rt.alloc(), Relay::new())?,
-        Native::Relay,
-    )?;
-    add(
-        &mut servants,
-        Box::new(rt.alloc(), Latch::new())?,
-        Native::Latch,
-    )?;
-    let mut core = Core::new(rt.alloc(), scenario.clone()?)?;
-    let mut stream = Stream::new(rt.alloc());
-    let mut sink = MemorySink::new(rt.alloc(), 10_000, 1000, Vec::new(rt.alloc()))?;
-    let mut lines = ByteList::new(rt.alloc());
-    for place in 1..4 {
-        let step = stream.step(rt.alloc(), &*scenario, &mut core, &mut servants, &mut sink)?;
-        match step {
-            Step::Made(entry) => line(rt.alloc(), 1, place, &entry, &mut lines)?,
-            Step::Over(_) => break,
-        }
-    }
-    assert_eq!(rt; lines.as_slice(), FIRST_LINES);
-    let _ = stream.finish(rt.alloc(), &*scenario, &core, Ended::Budget, &mut sink)?;
-    assert!(rt; sink.held().starts_with(FIRST_LINES));
     Ok(())
 }
