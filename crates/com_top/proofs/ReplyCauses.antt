@@ -26,7 +26,7 @@ found_concludes false left end = tt
 
 shown_concludes : (read : List ℕ) (s : Status) (text : List ℕ) (left : Option (List ℕ)) → IsAtEnd left → IsShown (Spells read) s text → Concludes s left
 shown_concludes read s text left end is =
-    subst (λ (x : Status). Concludes x left) (sym is.0) (found_concludes (shown_of read).found left end)
+    subst (λ (x : Status). Concludes x left) (sym is.status_is) (found_concludes (shown_of read).found left end)
 
 -- What was said of an input that was read.
 pub objref_said : (read : List ℕ) (result s : Status) (text : List ℕ) (sides : Sides) → length read ≤ 1048576
