@@ -3,7 +3,7 @@ use Rattle.std.proofs.Common.{◌≡◌, ℕ, ◌<◌, ◌≤◌, List, length, 
 use Rattle.com_io.specs.Told.{IsAtEnd}
 use Rattle.com_objref.specs.Shown.{shown_of}
 use Rattle.com_top.specs.declared.statuses.Status.{Status}
-use Rattle.com_top.specs.Replies.{Digits, IsShown, Spells, TooMany, digits_of, status_for}
+use Rattle.com_top.specs.Replies.{Digits, IsFound, IsShown, Spells, TooMany, digits_of, status_for}
 use Rattle.com_top.specs.Responses.{Causes, IsUnread}
 use Rattle.com_top.specs.Statuses.{Says, Sides}
 use Rattle.com_top.proofs.Responding.{Concludes, said_causes, unread_causes}
@@ -24,13 +24,13 @@ found_concludes : (found : Bool) (left : Option (List ℕ)) → IsAtEnd left →
 found_concludes true left end = end
 found_concludes false left end = tt
 
-shown_concludes : (read : List ℕ) (s : Status) (text : List ℕ) (left : Option (List ℕ)) → IsAtEnd left → IsShown (Spells read) s text → Concludes s left
+shown_concludes : (read : List ℕ) (s : Status) (text : List ℕ) (left : Option (List ℕ)) → IsAtEnd left → IsFound read s text → Concludes s left
 shown_concludes read s text left end is =
-    subst (λ (x : Status). Concludes x left) (sym is.0) (found_concludes (shown_of read).found left end)
+    subst (λ (x : Status). Concludes x left) (sym is.status_is) (found_concludes (shown_of read).found left end)
 
 -- What was said of an input that was read.
 pub objref_said : (read : List ℕ) (result s : Status) (text : List ℕ) (sides : Sides) → length read ≤ 1048576
-    → ((bytes : List ℕ) → sides.left ≡ Some bytes → bytes ≡ read) → IsAtEnd sides.left_after → IsShown (Spells read) s text
+    → ((bytes : List ℕ) → sides.left ≡ Some bytes → bytes ≡ read) → IsAtEnd sides.left_after → IsFound read s text
     → Says result s text sides.held sides.held_after sides.write_faults sides.write_faults_after → Causes digits_of IsShown result sides
 objref_said read result s text sides short told end is said =
     said_causes digits_of IsShown result s text sides (shown_concludes read s text sides.left_after end is)

@@ -22,8 +22,13 @@ abbrev pub status_for : Bool → Status
 status_for true = status.Done
 status_for false = status.Refused
 
--- The status of an input and the text that is written for it: 0 with its fields where it is hexadecimal text of
--- an OBJREF, and 2 with the line of the first fault where it is not, or is too long.
+-- The status and the text of a text of digits: 0 with its fields where it spells an OBJREF, and 2 with the line
+-- of its first fault where it does not.
+pub record IsFound (digits : List ℕ) (s : Status) (text : List ℕ) : Type 0 where
+  pub status_is : s ≡ status_for (shown_of digits).found
+  pub written : text ≡ (shown_of digits).text
+
+-- The status of an input and the text that is written for it.
 abbrev pub IsShown : Digits → Status → List ℕ → Type 0
 IsShown TooMany s text = (s ≡ status.Refused) × (text ≡ too_long_line)
-IsShown (Spells digits) s text = (s ≡ status_for (shown_of digits).found) × (text ≡ (shown_of digits).text)
+IsShown (Spells digits) s text = IsFound digits s text

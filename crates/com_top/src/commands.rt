@@ -7,7 +7,7 @@ ghost use Rattle.com_top.specs.Commands.{Answered, ReadsNone};
 ghost use Rattle.com_top.specs.Explaining.{IsExplained};
 ghost use Rattle.com_top.specs.Inputs.{IsFormed, input_of};
 ghost use Rattle.com_top.specs.Loading.{HasLoadCause, Loads};
-ghost use Rattle.com_top.specs.Replies.{IsShown, Spells, digits_of, status_for};
+ghost use Rattle.com_top.specs.Replies.{IsFound, IsShown, digits_of, status_for};
 ghost use Rattle.com_top.specs.Responses.{Causes, Responds};
 ghost use Rattle.com_top.specs.Statuses.{Answers, HasCause, IsAnswered, IsSaid, sides_of, usage_line};
 ghost use Rattle.com_top.specs.Words.{command_of};
@@ -228,7 +228,7 @@ fn objref_input<S: Source, K: Sink>(alloc: Global, source: &mut S, sink: &mut K)
 
 // The status and the text that answer a text of digits. The only error is want of memory.
 fn shown(alloc: Global, digits: &[u8]) -> Result<Reply, Memory>
-    ensures { IfOk result (λ reply. IsShown (Spells digits.now) reply.status reply.text) }
+    ensures { IfOk result (λ reply. IsFound digits.now reply.status reply.text) }
 {
     let shown = show(alloc, digits)?;
     Ok(Reply {

@@ -1,4 +1,4 @@
-use Rattle.std.proofs.Common.{◌≡◌}
+use Rattle.std.proofs.Common.{◌≡◌, ◌∙◌}
 use Rattle.std.proofs.lemmas.Result.{IfOk-weaker}
 use Rattle.std.specs.Arc.{arc_value}
 use Rattle.com_top.specs.Explaining.{explanation}
@@ -10,5 +10,6 @@ returns c =
     IfOk-weaker c.text_of.result _ (λ text. text ≡ explanation c.args.scenario)
     (λ text written. explained_at c.args.scenario (arc_value c.in_ok-scenario.scenario) c.deref.result.now c.in_ok-recorded.recorded.entries.items
     c.as_slice.result.now c.in_ok-recorded.recorded.ended c.in_ok-waits.waits text
-    (cc) (cc) (cc) c.requires c.in_ok-recorded.ensures c.in_ok-waits.ensures written)
+    c.in_ok-scenario.ensures (c.deref.ensures ∙ c.in_ok-scenario.ensures) c.as_slice.ensures.value
+    c.requires c.in_ok-recorded.ensures c.in_ok-waits.ensures written)
     c.text_of.ensures
