@@ -18,8 +18,8 @@ use Rattle.com_top.specs.declared.inputs.Input.TheVariants as input
 use Rattle.com_top.specs.declared.statuses.Status.{Status}
 use Rattle.com_top.specs.declared.statuses.Status.TheVariants as status
 use Rattle.com_top.specs.Inputs.{input_of, refused_line, status_at, too_long_line, IsAnswer, IsHistory}
-use Rattle.com_top.specs.Responses.{IsLonger, IsUnread, TellsFault}
-use Rattle.com_top.specs.Statuses.{Completes, GainsFront, HasCause, IsAnswered, IsComplete, IsReadFault, IsReplayed, IsText, IsWritten, Says, ScenariosReplay, Sides, code_of, read_fault_line}
+use Rattle.com_top.specs.Responses.{IsLonger, IsUnread}
+use Rattle.com_top.specs.Statuses.{Completes, GainsFront, HasCause, IsAnswered, IsComplete, IsReplayed, IsText, IsWritten, Says, ScenariosReplay, Sides, code_of, read_fault_line}
 
 pub too_long_input : (bytes : List ℕ) → 16777216 < length bytes → input_of bytes ≡ input.TooLong
 unfolding input_of

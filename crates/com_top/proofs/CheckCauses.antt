@@ -3,10 +3,9 @@ use Rattle.std.proofs.Common.{◌≡◌, ℕ, ◌<◌, ◌≤◌, List, length, 
 use Rattle.com_io.specs.Told.{IsAtEnd}
 use Rattle.com_check.specs.declared.judged.Judged.{Judged}
 use Rattle.com_check.specs.declared.judged.Judged.TheVariants as judged
-use Rattle.com_model.specs.declared.scenario.Scenario.{Scenario}
 use Rattle.com_top.specs.declared.statuses.Status.{Status}
 use Rattle.com_top.specs.Checking.{Faulty, IsReply, Judges, Question, TooLong, asked_of, question_of, status_of}
-use Rattle.com_top.specs.Responses.{Causes, IsUnread, Suits}
+use Rattle.com_top.specs.Responses.{Causes, IsUnread}
 use Rattle.com_top.specs.Statuses.{Says, Sides}
 use Rattle.com_top.proofs.Responding.{Concludes, said_causes, unread_causes}
 

@@ -1,13 +1,13 @@
 -- The entries that are kept, from the first state to the end of the history.
 use Rattle.std.proofs.Common.{sym, subst, ◌∙◌, ap, arith}
 use Rattle.std.proofs.lemmas.List.{reverse-append}
-use Rattle.std.specs.Prelude.{◌≡◌, refl, ℕ, zero, suc, ◌+◌, ◌-◌, ◌≤◌, ◌<◌, Bool, true, cond, nat_le, List, [], ◌∷◌, ◌++◌, length, Option, Some, None, drop, reverse}
+use Rattle.std.specs.Prelude.{◌≡◌, refl, ℕ, zero, suc, ◌+◌, ◌-◌, ◌≤◌, ◌<◌, Bool, true, cond, nat_le, List, [], ◌∷◌, ◌++◌, length, Option, Some, None, drop}
 use Rattle.com_model.specs.declared.counts.Ended.{Ended}
 use Rattle.com_model.specs.declared.deeds.Entry.{Entry}
 use Rattle.com_model.specs.declared.scenario.Scenario.{Scenario}
 use Rattle.com_model.specs.Sight.{Sight, sight}
 use Rattle.com_model.specs.Rules.{legal, next}
-use Rattle.com_model.specs.Ends.{Turn, turn, ended_by, ended_as, last_after, limit, run_on, with_entry, with_turn, unless_ended, scheduled}
+use Rattle.com_model.specs.Ends.{turn, ended_by, ended_as, last_after, limit, run_on, with_entry, with_turn, unless_ended, scheduled}
 use Rattle.com_model.specs.Formed.{Formed}
 use Rattle.com_model.specs.State.{State, StandsFor, sight_of, first_tables}
 use Rattle.com_model.proofs.Whole.{first-stands}
@@ -18,7 +18,6 @@ use Rattle.com_drive.specs.declared.stream.Step.TheVariants.{Made, Over}
 use Rattle.com_drive.specs.Replays.{whole_history}
 use Rattle.com_drive.specs.Standings.{Reached, ended_now, turn_now}
 use Rattle.com_drive.specs.Steps.{IsMade, IsOver, Moment, StepsTo}
-use Rattle.com_drive.specs.Turns.{IsTurn}
 use Rattle.com_drive.proofs.Resting.{reached_by}
 use Rattle.com_drive.proofs.Turning.{below_limit, one_entry}
 use Rattle.com_waits.specs.Chains.{explanation_of}

@@ -1,5 +1,5 @@
 -- The causes of the statuses of `waits`.
-use Rattle.std.proofs.Common.{◌≡◌, ℕ, ◌<◌, List, length, refl, sym, ap, subst, Option, Some}
+use Rattle.std.proofs.Common.{◌≡◌, ℕ, List, refl, sym, ap, subst, Option, Some}
 use Rattle.com_io.specs.Told.{IsAtEnd}
 use Rattle.com_top.specs.declared.inputs.Input.{Input}
 use Rattle.com_top.specs.declared.inputs.Input.TheVariants as input

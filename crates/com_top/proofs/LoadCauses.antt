@@ -1,8 +1,7 @@
 -- The causes of the statuses of `load`.
-use Rattle.std.proofs.Common.{◌≡◌, ℕ, ◌⊎◌, inl, inr, List, length, refl, sym, ◌∙◌, ap, subst, Option, Some, Ok}
+use Rattle.std.proofs.Common.{◌≡◌, ℕ, ◌⊎◌, inl, inr, List, length, sym, ◌∙◌, ap, subst, Option, Ok}
 use Rattle.com_gen.specs.Loads.{load_text}
 use Rattle.com_io.specs.Faults.{Rose}
-use Rattle.com_io.specs.Told.{Gains, GainsPrefix}
 use Rattle.com_model.specs.declared.counts.Ended.{Ended}
 use Rattle.com_model.specs.declared.counts.Ended.TheVariants as ended
 use Rattle.com_model.specs.declared.scenario.Scenario.{Scenario}
@@ -13,7 +12,7 @@ use Rattle.com_scenario.specs.Scenarios.{reading}
 use Rattle.com_top.specs.declared.statuses.Status.{Status}
 use Rattle.com_top.specs.declared.statuses.Status.TheVariants as status
 use Rattle.com_top.specs.Inputs.{status_at}
-use Rattle.com_top.specs.Loading.{HasLoadCause, IsLoaded, IsLoadedWhole, Loads, LoadsAreWhole, LoadsPart, LoadsWhole, load_lines}
+use Rattle.com_top.specs.Loading.{HasLoadCause, IsLoaded, IsLoadedWhole, LoadsAreWhole, LoadsWhole, load_lines}
 use Rattle.com_top.specs.Statuses.{Says, code_of}
 
 -- What a replay of the scenario of a number tells.

@@ -3,7 +3,7 @@ use Rattle.std.proofs.Common.{◌≡◌, ℕ, ◌<◌, ◌≤◌, List, length, 
 use Rattle.com_io.specs.Told.{IsAtEnd}
 use Rattle.com_objref.specs.Shown.{shown_of}
 use Rattle.com_top.specs.declared.statuses.Status.{Status}
-use Rattle.com_top.specs.Replies.{Digits, IsFound, IsShown, Spells, TooMany, digits_of, status_for}
+use Rattle.com_top.specs.Replies.{IsFound, IsShown, Spells, TooMany, digits_of, status_for}
 use Rattle.com_top.specs.Responses.{Causes, IsUnread}
 use Rattle.com_top.specs.Statuses.{Says, Sides}
 use Rattle.com_top.proofs.Responding.{Concludes, said_causes, unread_causes}

@@ -1,15 +1,15 @@
 -- The causes of the statuses of a command that reads its input whole and writes one text.
-use Rattle.std.proofs.Common.{◌≡◌, ℕ, ◌<◌, ◌≤◌, ◌⊎◌, inl, inr, List, length, refl, sym, subst, Option, Some, Result, Ok, Err}
+use Rattle.std.proofs.Common.{◌≡◌, ℕ, ◌<◌, ◌⊎◌, inl, inr, List, length, sym, subst, Option, Some, Result, Ok, Err}
 use Rattle.std.specs.Prelude.{⊤}
 use Rattle.com_io.specs.declared.whole.ReadAllError.{ReadAllError}
 use Rattle.com_io.specs.declared.whole.ReadAllError.TheVariants as read_all_error
 use Rattle.com_io.specs.Faults.{Rose}
-use Rattle.com_io.specs.Told.{Gains, GainsPrefix, IsAtEnd, IsWholeOf}
+use Rattle.com_io.specs.Told.{IsAtEnd, IsWholeOf}
 use Rattle.com_top.specs.declared.statuses.Status.{Status}
 use Rattle.com_top.specs.declared.statuses.Status.TheVariants as status
 use Rattle.com_top.specs.Inputs.{too_long_line}
-use Rattle.com_top.specs.Responses.{Causes, GivesFront, GivesWhole, IsLonger, IsUnread, IsWholeAnswer, Responds, RespondsWhole, Suits, TellsFault}
-use Rattle.com_top.specs.Statuses.{IsReadFault, Says, Sides, code_of, read_fault_line}
+use Rattle.com_top.specs.Responses.{Causes, GivesWhole, IsLonger, IsUnread, IsWholeAnswer, RespondsWhole, Suits}
+use Rattle.com_top.specs.Statuses.{Says, Sides, code_of, read_fault_line}
 
 -- ---- an input that was not read
 

@@ -1,4 +1,4 @@
-use Rattle.std.proofs.Common.{◌≡◌, ◌∙◌, ℕ, List, subst}
+use Rattle.std.proofs.Common.{◌∙◌, ℕ, List, subst}
 use Rattle.com_top.specs.Replies.{IsFound}
 use Rattle.com_top.specs.Statuses.{Says}
 use Rattle.com_top.proofs.ReplyCauses.{objref_said}
