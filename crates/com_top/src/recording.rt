@@ -30,6 +30,21 @@ pub fn record(alloc: Global, scenario: &Arc<Scenario>) -> Result<Recorded, Memor
     ensures { IfOk result (λ recorded. IsRecorded (arc_value scenario.now) recorded.entries.items recorded.ended) }
 {
     let mut core = Core::new(alloc, scenario.clone()?)?;
+    record_on(alloc, &**scenario, &mut core)
+}
+
+// Keeps the entries that a runtime makes by servants that have made no step.
+fn record_on<C: Runtime>(
+    alloc: Global,
+    scenario: &Scenario,
+    runtime: &mut C,
+) -> Result<Recorded, Memory>
+    requires formed { Formed scenario.now }
+    requires scenario { C.scenario runtime.old ≡ scenario.now }
+    requires first { C.state runtime.old ≡ first_tables scenario.now }
+    requires whole { C.broken runtime.old ≡ false }
+    ensures { IfOk result (λ recorded. IsRecorded scenario.now recorded.entries.items recorded.ended) }
+{
     let mut servants: Vec<Box<dyn Servant + Send>> = Vec::new(alloc);
     add(
         &mut servants,
@@ -43,7 +58,7 @@ pub fn record(alloc: Global, scenario: &Arc<Scenario>) -> Result<Recorded, Memor
     )?;
     add(&mut servants, boxed(alloc, Relay::new())?, Native::Relay)?;
     add(&mut servants, boxed(alloc, Latch::new())?, Native::Latch)?;
-    record_by(alloc, &**scenario, &mut core, &mut servants)
+    record_by(alloc, scenario, runtime, &mut servants)
 }
 
 // Keeps the entries that a runtime makes, until its history has ended.

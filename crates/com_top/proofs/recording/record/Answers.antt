@@ -1,0 +1,12 @@
+use Rattle.std.proofs.Common.{◌≡◌, IfOk, arith, rules, subst}
+use Rattle.std.proofs.lemmas.Grind.{common_steps}
+use Rattle.std.specs.Arc.{arc_value}
+use Rattle.com_model.specs.declared.scenario.Scenario.{Scenario}
+use Rattle.com_top.specs.Explaining.{IsRecorded}
+use Rattle.com_top.proofs.recording.record.Goals as goal
+
+pub returns : goal.returns
+returns c =
+    let seen : c.deref.result.now ≡ arc_value c.args.scenario.now = first_of (search rules, grind (arith, common_steps)) in
+    subst (λ (s : Scenario). IfOk c.record_on.result (λ recorded. IsRecorded s recorded.entries.items recorded.ended)) seen
+    c.record_on.ensures
