@@ -1,4 +1,4 @@
-use Rattle.std.proofs.Common.{◌≡◌, [], None, arith, rules, subst, sym, ◌∙◌}
+use Rattle.std.proofs.Common.{◌≡◌, [], None, Some, arith, rules, subst, sym, ◌∙◌}
 use Rattle.std.proofs.lemmas.Grind.{common_steps}
 use Rattle.std.proofs.lemmas.Result.{IfOk-weaker}
 use Rattle.com_model.specs.declared.scenario.Scenario.{Scenario}
@@ -53,10 +53,21 @@ pub turn-requires-clause-reached : goal.turn-requires-clause-reached
 turn-requires-clause-reached g c = reached_at _ _ _ _ _ _ c.lines.invariant.same c.requires.formed c.lines.invariant.sofar
 
 pub returns-in-Some-2 : goal.returns-in-Some-2
-returns-in-Some-2 g c = ?
+returns-in-Some-2 g c =
+    let other = rw c.in-Some-2.is at c.in_ok-judged.ensures.turn in
+    judged_other _ _ _ _ _ _ _ _ c.lines.invariant.sofar c.split_line.ensures.lines (sym c.ended.ensures ∙ not-some c.ended.result c.in_default.not-Some)
+    (subst (λ (x : Scenario). IsOther x (g.C.Runtime.state c.lines.runtime) c.lines.judge.last (Some c.split_line.result.0.now) c.in-Some-2.judged) c.lines.invariant.same other)
 
 pub lines-smaller : goal.lines-smaller
-lines-smaller g c = ?
+lines-smaller g c =
+    fewer _ _ _ _ _ _ _ _ c.lines.invariant.sofar (sym c.ended.ensures ∙ not-some c.ended.result c.in_default.not-Some)
+    (when_on _ _ _ _ _ _ _ _ c.lines.invariant.same c.in_default-2.not-Some c.in_ok-judged.ensures.turn)
 
 pub lines-preserved : goal.lines-preserved
-lines-preserved g c = ?
+lines-preserved g c = record {
+  sofar = more_sofar _ _ _ _ _ _ _ _ _ c.requires.formed c.lines.invariant.sofar (sym c.ended.ensures ∙ not-some c.ended.result c.in_default.not-Some)
+      c.split_line.ensures.lines (when_on _ _ _ _ _ _ _ _ c.lines.invariant.same c.in_default-2.not-Some c.in_ok-judged.ensures.turn);
+  same = c.in_ok-judged.ensures.scenario ∙ c.lines.invariant.same;
+  whole = c.in_ok-judged.ensures.whole;
+  kinds = c.in_ok-judged.ensures.row;
+}

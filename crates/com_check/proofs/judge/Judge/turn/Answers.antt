@@ -12,9 +12,9 @@ returns-in_default-clause-turn g c =
 
 pub returns-in_default-2-clause-turn : goal.returns-in_default-2-clause-turn
 returns-in_default-2-clause-turn g c =
-    IfOk-weaker c.no_entry.result _ _
-    (λ t is. turn_without _ _ _ _ _ _ _ _ t c.in-Some.ensures (when_not_next _ _ _ _ _ c.in_default.not-Some c.in_ok-entry.ensures.made) c.entries-entries.ensures is)
-    c.no_entry.ensures
+    IfOk-weaker c.no_entry-in_default-2.result _ _
+    (λ t is. turn_without _ _ _ _ _ _ _ _ t c.in-Some.ensures (when_not_next _ _ _ _ _ c.in_default-2.not-Some c.in_ok-entry.ensures.made) c.entries-entries.ensures is)
+    c.no_entry-in_default-2.ensures
 
 pub returns-clause-turn : goal.returns-clause-turn
 returns-clause-turn g c =
