@@ -21,17 +21,17 @@ const CALL: Wait = Wait {
 
 // An explanation of one lane that waits, or of none, with a cycle of one lane, or of none.
 fn explanation(alloc: Global, wait: Option<Wait>, cycle: Option<u32>) -> Result<Waits, Memory> {
-    let mut waits = Rows::new(alloc);
+    let mut waits = Vec::new(alloc);
     if let Some(wait) = wait {
         waits.push(wait)?;
     }
-    let mut lanes = Rows::new(alloc);
+    let mut lanes = Vec::new(alloc);
     if let Some(lane) = cycle {
         lanes.push(lane)?;
     }
     Ok(Waits {
-        waits,
-        cycle: lanes,
+        waits: Rows::from_vec(waits),
+        cycle: Rows::from_vec(lanes),
     })
 }
 
