@@ -1,10 +1,10 @@
 -- The registers and slots with which a frame begins.
 use Rattle.std.proofs.Common.{◌≡◌, ℕ, zero, suc, ◌+◌, ◌-◌, ◌<◌, ◌≤◌, List, [], ◌∷◌, ◌++◌, length, take, set, replicate, get_or, Option, None, ◌⊎◌, inl, inr, refl, sym, ap, ◌∙◌, arith, append_assoc, length-append}
-use Rattle.std.proofs.lemmas.List.{take_more, append-nil}
+use Rattle.std.proofs.lemmas.List.{take_more, append-nil, length-set}
 use Rattle.com_base.specs.declared.value.RefValue.{RefValue}
 use Rattle.com_base.specs.declared.value.Value.{Value}
 use Rattle.com_base.specs.declared.value.Value.TheVariants as value
-use Rattle.com_body.specs.Frames.{plain_values, references}
+use Rattle.com_body.specs.Frames.{plain_values, references, no_number, padded}
 
 plain-append : (xs ys : List Value) → plain_values (xs ++ ys) ≡ plain_values xs ++ plain_values ys
 plain-append [] ys = refl
@@ -52,13 +52,25 @@ replicate-more : {A : Type 0} (k : ℕ) (x : A) → replicate k x ++ x ∷ [] �
 replicate-more zero x = refl
 replicate-more (suc k) x = ap (λ l. x ∷ l) (replicate-more k x)
 
--- one more copy behind a list that is filled up
-pub filled : (xs : List Value) (n : ℕ) (x : Value) → length xs ≤ n → (xs ++ replicate (n - length xs) x) ++ x ∷ [] ≡ xs ++ replicate (n + 1 - length xs) x
-filled xs n x within =
-    append_assoc xs (replicate (n - length xs) x) (x ∷ []) ∙
-    ap (λ l. xs ++ l) (replicate-more (n - length xs) x) ∙
-    let same : suc (n - length xs) ≡ n + 1 - length xs = omega (arith, within) in
-    ap (λ k. xs ++ replicate k x) same
+-- one more Int 0 among those that were set changes no register
+pub padded_more : (xs : List Value) → length xs < 16 → padded (xs ++ no_number ∷ []) ≡ padded xs
+padded_more xs within =
+    let count : length (xs ++ no_number ∷ []) ≡ length xs + 1 = length-append xs (no_number ∷ []) in
+    let more : suc (16 - (length xs + 1)) ≡ 16 - length xs = omega (arith, within) in
+    ap (λ n. (xs ++ no_number ∷ []) ++ replicate (16 - n) no_number) count ∙
+    append_assoc xs (no_number ∷ []) (replicate (16 - (length xs + 1)) no_number) ∙
+    ap (λ n. xs ++ replicate n no_number) more
+
+-- a write to a register that was set
+set-before : (xs ys : List Value) (n : ℕ) (x : Value) → n < length xs → set (xs ++ ys) n x ≡ set xs n x ++ ys
+set-before [] ys n x within = absurd (omega (arith, within))
+set-before (y ∷ xs) ys zero x within = refl
+set-before (y ∷ xs) ys (suc n) x within = ap (λ l. y ∷ l) (set-before xs ys n x (omega (arith, within)))
+
+pub padded_set : (xs : List Value) (n : ℕ) (x : Value) → n < length xs → padded (set xs n x) ≡ set (padded xs) n x
+padded_set xs n x within =
+    ap (λ k. set xs n x ++ replicate (16 - k) no_number) (length-set xs n x) ∙
+    sym (set-before xs (replicate (16 - length xs) no_number) n x within)
 
 -- a write to the first free place of a list that is filled up
 set-first : {A : Type 0} (xs : List A) (k : ℕ) (x d : A) → set (xs ++ replicate (suc k) d) (length xs) x ≡ (xs ++ x ∷ []) ++ replicate k d

@@ -1,8 +1,7 @@
 -- The body step: local statements one by one, until an action stands at the place.
-use Rattle.std.specs.Prelude.{ℕ, zero, suc, ◌+◌, pos, List, [], ◌∷◌, ◌==◌, if◌then◌else◌, int_lt, drop, slice_index_or, slice_set}
+use Rattle.std.specs.Prelude.{ℕ, zero, suc, ◌+◌, pos, List, [], ◌∷◌, if◌then◌else◌, int_lt, drop, slice_index_or, slice_set}
 use Rattle.std.specs.Int.{w64, int_wrapping_add, int_wrapping_sub}
 use Rattle.std.specs.Ordering.{int_eq}
-use Rattle.com_base.specs.declared.value.Value.{Value}
 use Rattle.com_base.specs.declared.value.Value.TheVariants as value
 use Rattle.com_body.specs.declared.statements.Stmt.{Stmt}
 use Rattle.com_body.specs.declared.statements.Stmt.TheVariants as stmt

@@ -1,5 +1,5 @@
 -- What the code of one statement gives.
-use Rattle.std.specs.Prelude.{◌≡◌, ℕ, zero}
+use Rattle.std.specs.Prelude.{◌≡◌, ℕ}
 use Rattle.com_body.specs.declared.steps.Done.{Done}
 use Rattle.com_body.specs.declared.steps.Done.TheVariants as done
 use Rattle.com_body.specs.declared.frame.Cells.{Cells}

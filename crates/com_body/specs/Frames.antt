@@ -26,6 +26,10 @@ references (other ∷ rest) = references rest
 abbrev pub no_number : Value
 no_number = value.Int (pos 0)
 
+-- The 16 registers of which only the first may have been set: those behind are the Int 0.
+abbrev pub padded : List Value → List Value
+padded values = values ++ replicate (16 - length values) no_number
+
 -- A frame at Enter: the values that are no references stand in the registers from the first on, and the references in the
 -- slots from the first on. All other registers are the Int 0, and all other slots are null.
 abbrev pub entered : List Value → FrameView

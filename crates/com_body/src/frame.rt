@@ -1,7 +1,7 @@
 //! Frames, cells and what a step takes and gives.
 
-ghost use Rattle.std.specs.Prelude.{◌≡◌, ◌<◌, ◌≤◌, ◌+◌, ◌-◌, Option, replicate, List, [], ◌∷◌, ◌++◌, IfOk, OnOk, length, slice_index_or, slice_set};
-ghost use Rattle.com_body.specs.Frames.{no_number, entered, plain_values, references, with_register, with_slot};
+ghost use Rattle.std.specs.Prelude.{◌≡◌, ◌<◌, ◌≤◌, ◌+◌, ◌-◌, Option, replicate, List, [], ◌∷◌, ◌++◌, IfOk, OnOk, length, slice_index_or, slice_set, vec_len, vec_capacity};
+ghost use Rattle.com_body.specs.Frames.{no_number, entered, padded, plain_values, references, with_register, with_slot};
 ghost use Rattle.com_body.specs.Operands.{new_cells, register_of, slot_of};
 
 use crate::actions::Action;
@@ -15,19 +15,22 @@ use std::marker::Model;
 #[derive(Debug, Drop)]
 pub struct Frame {
     place: u32,
+    // Only the registers up to the last that was set, with room for all 16.
     registers: Vec<Value>,
+    // The Int 0, which each register behind those holds.
+    zero: Value,
     slots: [Option<RefValue>; 8],
 }
 
 impl Model for Frame {
-    ghost use Rattle.std.specs.Prelude.{◌≡◌, length};
-    ghost use Rattle.com_body.specs.Frames.{FrameView};
+    ghost use Rattle.std.specs.Prelude.{◌≡◌, ◌≤◌, vec_len, vec_capacity};
+    ghost use Rattle.com_body.specs.Frames.{FrameView, padded, no_number};
 
     ghost Value = { FrameView };
 
-    ghost view = { λ a. record { place = a.place; registers = a.registers.items; slots = a.slots } };
+    ghost view = { λ a. record { place = a.place; registers = padded a.registers.items; slots = a.slots } };
 
-    ghost invariant = { λ a. length a.registers.items ≡ 16 };
+    ghost invariant = { λ a. (vec_len a.registers ≤ 16) × (16 ≤ vec_capacity a.registers) × (a.zero ≡ no_number) };
 }
 
 impl Frame {
@@ -41,6 +44,7 @@ impl Frame {
         Ok(Frame {
             place: 0,
             registers: entered_registers(alloc, values)?,
+            zero: Value::Int(0),
             slots: entered_slots(values),
         })
     }
@@ -67,7 +71,10 @@ impl Frame {
         requires { number < 16 }
         ensures { result.now ≡ register_of self.now number }
     {
-        &self.registers[number as usize]
+        match self.registers.get(number as usize) {
+            Some(value) => value,
+            None => &self.zero,
+        }
     }
 
     /// The reference in a slot, 0 to 7, or None for null.
@@ -81,11 +88,14 @@ impl Frame {
 
     /// Puts a value in a register, 0 to 15, and leaves all else.
     #[inline]
+    #[tactic(auto, using(crate::proofs::Entries::padded_set))]
     pub fn set_register(&mut self, number: u8, value: Value)
         requires { number < 16 }
         ensures { self.new ≡ with_register self.old number value }
     {
-        self.registers[number as usize] = value;
+        let number = number as usize;
+        reach(&mut self.registers, number);
+        self.registers[number] = value;
     }
 
     /// Puts a reference, or null, in a slot, 0 to 7, and leaves all else.
@@ -103,11 +113,12 @@ impl Frame {
     {
         let mut registers = Vec::with_capacity(alloc, 16)?;
         for value in &self.registers {
-            registers.push(value.copy()?)?;
+            registers.push_reserved(value.copy()?);
         }
         Ok(Frame {
             place: self.place,
             registers,
+            zero: Value::Int(0),
             slots: self.slots,
         })
     }
@@ -115,41 +126,59 @@ impl Frame {
 
 // Appends the value, if it is no reference.
 fn append_plain(registers: &mut Vec<Value>, value: &Value) -> Result<(), Memory>
-    ensures { OnOk result (registers.new.items ≡ registers.old.items ++ plain_values (value.now ∷ [])) }
+    requires { vec_len registers.old < vec_capacity registers.old }
+    ensures items { OnOk result (registers.new.items ≡ registers.old.items ++ plain_values (value.now ∷ [])) }
+    ensures len { vec_len registers.new ≤ vec_len registers.old + 1 }
+    ensures room { vec_capacity registers.new ≡ vec_capacity registers.old }
 {
     match value {
-        Value::Ref(_) => Ok(()),
-        _ => Ok(registers.push(value.copy()?)?),
+        Value::Ref(_) => {}
+        _ => registers.push_reserved(value.copy()?),
     }
+    Ok(())
 }
 
-// The registers at Enter.
+// The values in the registers at Enter, with room for all 16.
 #[tactic(auto, using(crate::proofs::Entries::plain_more))]
 fn entered_registers(alloc: Global, values: &[Value]) -> Result<Vec<Value>, Memory>
     requires { length values.now ≤ 4 }
-    ensures list { IfOk result (λ registers. registers.items ≡ (entered values.now).registers) }
-    ensures count { IfOk result (λ registers. length registers.items ≡ 16) }
+    ensures list { IfOk result (λ registers. registers.items ≡ plain_values values.now) }
+    ensures count { IfOk result (λ registers. vec_len registers ≤ 4) }
+    ensures room { IfOk result (λ registers. vec_capacity registers ≡ 16) }
 {
     let mut registers = Vec::with_capacity(alloc, 16)?;
     for value in values {
         append_plain(&mut registers, value)?;
     }
-    fill(&mut registers)?;
     Ok(registers)
 }
 
-// Appends the Int 0 until there are 16 values.
-#[tactic(auto, using(crate::proofs::Entries::filled))]
-fn fill(registers: &mut Vec<Value>) -> Result<(), Memory>
-    requires { length registers.old.items ≤ 16 }
-    ensures list { OnOk result (registers.new.items ≡ registers.old.items ++ replicate (16 - length registers.old.items) no_number) }
-    ensures count { OnOk result (length registers.new.items ≡ 16) }
+// Appends the Int 0 until there are `count` values.
+#[tactic(auto, using(crate::proofs::Entries::padded_more))]
+fn fill(registers: &mut Vec<Value>, count: usize)
+    requires within { (vec_len registers.old ≤ count) × (count ≤ 16) }
+    requires room { 16 ≤ vec_capacity registers.old }
+    ensures list { padded registers.new.items ≡ padded registers.old.items }
+    ensures count { vec_len registers.new ≡ count }
+    ensures room { vec_capacity registers.new ≡ vec_capacity registers.old }
 {
-    let start = registers.len();
-    for _ in start..16 {
-        registers.push(Value::Int(0))?;
+    for _ in registers.len()..count {
+        registers.push_reserved(Value::Int(0));
     }
-    Ok(())
+}
+
+// Appends the Int 0 until the register with this number is there.
+#[inline]
+fn reach(registers: &mut Vec<Value>, number: usize)
+    requires within { (vec_len registers.old ≤ 16) × (number < 16) }
+    requires room { 16 ≤ vec_capacity registers.old }
+    ensures list { padded registers.new.items ≡ padded registers.old.items }
+    ensures there { (number < vec_len registers.new) × (vec_len registers.new ≤ 16) }
+    ensures room { vec_capacity registers.new ≡ vec_capacity registers.old }
+{
+    if number >= registers.len() {
+        fill(registers, number + 1);
+    }
 }
 
 // The slots at Enter.

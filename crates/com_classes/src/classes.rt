@@ -39,8 +39,11 @@ pub enum ThreadingModel {
 /// The body of one method of a class.
 #[derive(Debug, Drop)]
 pub struct MethodBody {
+    /// The number of the interface.
     pub iface: u16,
+    /// The number of the method in the interface's table, from 0.
     pub method: u16,
+    /// What runs where the method is called.
     pub body: Body,
 }
 
@@ -50,11 +53,17 @@ pub struct MethodBody {
 /// `native` is `Bodies` for a class that is not built in. IUnknown need not be among the interfaces: each class has it.
 #[derive(Debug, Drop)]
 pub struct Class {
+    /// Its name, of 1 to 32 characters.
     pub name: ByteList,
+    /// Its CLSID, which no other class has.
     pub clsid: Guid,
+    /// Its threading model, which says where its objects live.
     pub model: ThreadingModel,
+    /// Which code runs its bodies.
     pub native: Native,
+    /// The numbers of the interfaces that it declares, at most 16, in the order of their declaration in it.
     pub interfaces: Rows<u16>,
+    /// The bodies of its methods. Of two for one method the first counts.
     pub bodies: Rows<MethodBody>,
 }
 

@@ -10,8 +10,11 @@ use com_base::{Guid, HResult};
 /// Who creates an object: the creator's running apartment, its lane's home, and the main STA at that moment.
 #[derive(Debug, Clone, Copy, PartialEq, Eq)]
 pub struct Creator {
+    /// The apartment in which its lane runs.
     pub running: u32,
+    /// The home of its lane.
     pub home: u32,
+    /// The main STA at that moment.
     pub main_sta: u32,
 }
 
@@ -20,9 +23,13 @@ pub struct Creator {
 /// `agile` says that every apartment owns the object, and then `owner` is a0, the neutral apartment.
 #[derive(Debug, Clone, Copy, PartialEq, Eq)]
 pub struct Placed {
+    /// The number of the class, from 1.
     pub class: u32,
+    /// The number of the interface of the first reference.
     pub iface: u16,
+    /// The apartment that owns the object.
     pub owner: u32,
+    /// Whether every apartment owns it; `owner` is 0 then.
     pub agile: bool,
 }
 

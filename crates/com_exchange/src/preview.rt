@@ -10,8 +10,9 @@ use std::alloc::Global;
 /// A reference that a call is to marshal, as its apartment holds it.
 #[derive(Debug, Clone, Copy, PartialEq, Eq)]
 pub struct Outgoing {
-    /// The object's number, and the number of the interface.
+    /// The number of the object.
     pub object: u32,
+    /// The number of the interface.
     pub iface: u16,
     /// How many public references the apartment's proxy has now; 0 without one.
     pub held: u32,

@@ -12,8 +12,11 @@ use std::alloc::{AllocError, Global};
 /// references, in their order.
 #[derive(Debug, Drop)]
 pub struct Request {
+    /// The causality, as a GUID.
     pub cause: Guid,
+    /// The values of the arguments, in their order.
     pub values: Rows<Value>,
+    /// The numbers of the packets that carry the references among them, in their order.
     pub packets: Rows<u64>,
 }
 

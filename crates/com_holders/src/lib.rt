@@ -36,8 +36,11 @@ pub use com_base::Memory;
 /// An object: the apartment that owns it, whether every apartment does, and how many of its places are direct.
 #[derive(Debug, Clone, Copy)]
 pub struct ObjectRow {
+    /// The apartment that owns the object; 0 for an agile one.
     pub owner: u32,
+    /// Whether every apartment owns it.
     pub agile: bool,
+    /// The places in apartments that own it.
     pub direct: u64,
 }
 

@@ -15,13 +15,21 @@ pub enum ObjectState {
 /// normal packets, and of strong packets and cookies, and their sum at the stub.
 #[derive(Debug, Clone, Copy, PartialEq, Eq)]
 pub struct Counts {
+    /// The number of its class, from 1.
     pub class: u32,
+    /// The apartment that its Made entry names: 0 for the neutral one and for an agile object.
     pub owner: u32,
+    /// Whether it is connected, or was released.
     pub state: ObjectState,
+    /// The places in apartments that own it: slots, links, and results on their way.
     pub direct: u64,
+    /// The public references that the proxies of all apartments hold.
     pub proxies: u64,
+    /// The public references that outstanding normal packets carry.
     pub packets: u64,
+    /// One for each outstanding strong packet and each cookie that was not revoked.
     pub tables: u64,
+    /// The public references that its stub counts: the three before it, added.
     pub stub: u64,
 }
 

@@ -243,6 +243,8 @@ impl Deed {
 /// One entry of a history: the lane that made it, or 0 for the clock, and what was done.
 #[derive(Debug, Drop)]
 pub struct Entry {
+    /// The lane that made it, from 1, or 0 for the clock.
     pub lane: u32,
+    /// What was done.
     pub deed: Deed,
 }

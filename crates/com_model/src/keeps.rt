@@ -26,36 +26,52 @@ pub enum Opener {
 /// What the Out entry of a call says.
 #[derive(Debug, Clone, Copy)]
 pub struct Issue {
+    /// The number of the call, from 1.
     pub call: u32,
+    /// The lane that made it.
     pub lane: u32,
+    /// The object that it was made to. `None` for a null slot.
     pub object: Option<u32>,
+    /// The number of the interface that the statement names.
     pub iface: u16,
+    /// The number of the method in the interface's table, from 0.
     pub method: u16,
+    /// How the call goes, or `Route::None` where it was refused at its issue.
     pub route: Route,
+    /// The number of its causality, from 1.
     pub cause: u32,
 }
 
 /// What the Enter entry of a call says.
 #[derive(Debug, Clone, Copy)]
 pub struct Admission {
+    /// The number of the call.
     pub call: u32,
+    /// The lane in which its body runs.
     pub lane: u32,
+    /// The apartment in which its body runs.
     pub apartment: u32,
 }
 
 /// What the Leave entry of a call says.
 #[derive(Debug, Drop)]
 pub struct Leaving {
+    /// The number of the call.
     pub call: u32,
+    /// The body's HRESULT.
     pub hr: HResult,
+    /// The result, where the HRESULT is a success and the method declares one.
     pub value: Option<Value>,
 }
 
 /// The making of an object: the apartment and the class that its Made entry names.
 #[derive(Debug, Clone, Copy)]
 pub struct Making {
+    /// The number of the object, from 1.
     pub object: u32,
+    /// The apartment that owns it; 0, the neutral one, for an agile object.
     pub apartment: u32,
+    /// The number of its class, from 1.
     pub class: u32,
 }
 
@@ -84,13 +100,17 @@ pub enum Phase {
 /// A word that was posted to a lane, with its number among these from 1.
 #[derive(Debug, Clone, Copy)]
 pub struct Word {
+    /// Its number among the words that were posted to the lane, from 1.
     pub number: u64,
+    /// The word itself.
     pub word: i64,
 }
 
 /// The number of the word that an Out was last asked about.
 #[derive(Debug, Clone, Copy)]
 pub struct Mark {
+    /// The number of the call whose Out it is.
     pub call: u32,
+    /// The number of the last word of the lane that the Out was asked about; 0 before the first.
     pub number: u64,
 }

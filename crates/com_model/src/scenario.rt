@@ -12,11 +12,17 @@ use com_filter::Filter;
 /// order, each thread's script, and the lanes that the schedule tries first.
 #[derive(Drop)]
 pub struct Scenario {
+    /// The version of the language, 1 or 2. It says how long a history may be, and how an HRESULT is printed.
     pub version: u8,
+    /// How many lanes serve the multithreaded apartment.
     pub pool: u32,
+    /// The interfaces, the built-in ones first, and the classes.
     pub classes: Classes,
+    /// The message filters, numbered from 1.
     pub filters: Rows<Filter>,
+    /// The script of each thread; lane n runs the n-th.
     pub threads: Rows<Body>,
+    /// The lanes that the schedule tries first, each once.
     pub picks: Rows<u32>,
 }
 

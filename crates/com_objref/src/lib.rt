@@ -19,7 +19,9 @@ use std::alloc::Global;
 /// What is shown of a text, and whether that is an OBJREF: else it is the line of a fault.
 #[derive(Debug, Drop)]
 pub struct Shown {
+    /// Whether the text spells an OBJREF.
     pub found: bool,
+    /// The lines of its fields, or the line of the first fault.
     pub text: ByteList,
 }
 

@@ -25,10 +25,15 @@ pub use com_base::Memory;
 /// object, and the public references that it holds.
 #[derive(Debug, Clone, Copy, PartialEq, Eq)]
 pub struct Packet {
+    /// What it is for: one unmarshalling, or many, with or without a hold on the object.
     pub mode: MarshalMode,
+    /// The object of its reference.
     pub object: u32,
+    /// The number of the interface of its reference.
     pub iface: u16,
+    /// The apartment that owns the object, which stands as OXID in its bytes.
     pub owner: u32,
+    /// The public references that it holds: of a strong packet 1, of a weak one 0.
     pub refs: u32,
 }
 

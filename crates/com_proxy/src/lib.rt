@@ -19,10 +19,15 @@ pub use std::alloc::AllocError as Memory;
 /// What an apartment holds of one interface of an object: a row of what contracts see.
 #[derive(Debug, Clone, Copy)]
 pub struct ProxyRow {
+    /// The apartment that holds it.
     pub apartment: u32,
+    /// The number of the object.
     pub object: u32,
+    /// The number of the interface.
     pub iface: u16,
+    /// The places of the apartment that hold a reference of this interface.
     pub local: u64,
+    /// The public references of this interface that the proxy has of the stub.
     pub public: u64,
 }
 

@@ -17,14 +17,18 @@ const PARAMETER_LIMIT: usize = 4;
 /// The kinds of a method's parameters and of its result.
 #[derive(Drop)]
 pub struct Signature {
+    /// The kinds of the parameters, at most 4.
     pub params: Rows<Kind>,
+    /// The kind of the result. `None` where the method has none.
     pub result: Option<Kind>,
 }
 
 /// A type in a method's line, and whether it is the result's.
 #[derive(Clone, Copy)]
 pub struct TypeWord {
+    /// The type's kind.
     pub kind: Kind,
+    /// Whether it is the type of the result, which stands behind `->`.
     pub last: bool,
 }
 

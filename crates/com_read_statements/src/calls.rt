@@ -23,7 +23,9 @@ use std::alloc::Global;
 /// A method by its interface's number and its own.
 #[derive(Clone, Copy, Debug, PartialEq, Eq)]
 pub struct MethodNumber {
+    /// The number of the interface.
     pub iface: u16,
+    /// The number of the method in its table, from 0.
     pub method: u16,
 }
 

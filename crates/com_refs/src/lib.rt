@@ -42,10 +42,15 @@ pub use com_holders::HoldersError as RefsError;
 /// packets and cookies, and of the stub, which is the sum of the three before it.
 #[derive(Debug, Clone, Copy, PartialEq, Eq)]
 pub struct Numbers {
+    /// The places in apartments that own the object.
     pub direct: u64,
+    /// The public references that the proxies of all apartments hold.
     pub proxies: u64,
+    /// The public references that outstanding normal packets carry.
     pub packets: u64,
+    /// One for each outstanding strong packet and each cookie that was not revoked.
     pub tables: u64,
+    /// The public references that the stub counts: the three before it, added.
     pub stub: u64,
 }
 

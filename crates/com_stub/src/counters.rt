@@ -10,8 +10,11 @@ use std::marker::Model;
 /// A counter: the public references of one interface of an object. A row of what contracts see.
 #[derive(Debug, Clone, Copy)]
 pub struct CounterRow {
+    /// The number of the object.
     pub object: u32,
+    /// The number of the interface.
     pub iface: u16,
+    /// The public references of the interface that are out.
     pub count: u64,
 }
 

@@ -22,7 +22,9 @@ pub use std::alloc::AllocError as Memory;
 /// A stub: whether its object is connected. A row of what contracts see.
 #[derive(Debug, Clone, Copy)]
 pub struct StubRow {
+    /// The number of the object.
     pub object: u32,
+    /// Whether the object is connected.
     pub connected: bool,
 }
 

@@ -64,8 +64,9 @@ pub struct Scanner {
     pub line: u32,
     /// The column of the next byte.
     pub column: u32,
-    /// The column and the index at which the word began.
+    /// The column at which the word began.
     pub first: u32,
+    /// The index in the text at which the word began.
     pub from: usize,
     /// What it stands in.
     pub within: Within,

@@ -1,8 +1,9 @@
-use Rattle.std.proofs.Common.{◌≡◌, ◌-◌, ◌++◌, length, replicate}
-use Rattle.com_body.specs.Frames.{no_number}
+use Rattle.std.proofs.Common.{◌≡◌, vec_len, vec_capacity}
+use Rattle.com_body.specs.Frames.{padded}
 use Rattle.com_body.proofs.frame.fill.Given as goal
 
 abbrev pub invariant-loop : goal.invariant-loop
 invariant-loop l =
-    let xs = l.initial.registers.items in
-    l.registers.items ≡ xs ++ replicate (l.counter - length xs) no_number
+    (padded l.registers.items ≡ padded l.initial.registers.items) ×
+    (vec_len l.registers ≡ l.counter) ×
+    (vec_capacity l.registers ≡ vec_capacity l.initial.registers)
