@@ -1,5 +1,7 @@
 -- What a contract sees of an `Apartments`.
-use Rattle.std.specs.Prelude.{◌≡◌, ℕ, ◌+◌, ◌-◌, ◌≤◌, List, [], ◌∷◌, ◌++◌, length, Option, None, Some, Bool, true, false, not, ◌==◌, ◌&&◌, nat_le, nat_lt, if◌then◌else◌, slice_index_or, slice_set}
+use Rattle.std.specs.Prelude.{◌≡◌, ℕ, ◌+◌, ◌-◌, ◌≤◌, List, [], ◌∷◌, ◌++◌, length, Option, None, Some, Bool}
+use Rattle.std.specs.Prelude.{true, false, not, ◌==◌, ◌&&◌, nat_le, nat_lt, if◌then◌else◌, slice_index_or}
+use Rattle.std.specs.Prelude.{slice_set}
 use Rattle.com_base.specs.declared.value.Mode.{Mode}
 use Rattle.com_base.specs.declared.value.Mode.TheVariants.{Sta, Mta}
 use Rattle.com_base.specs.declared.hresult.HResult.{HResult}

@@ -5,8 +5,11 @@
 //! used again. Lanes are numbered too: from 1 those of the threads, then the host's, then the pool's.
 #![tactic(auto)]
 
-ghost use Rattle.std.specs.Prelude.{◌≡◌, ◌+◌, ◌-◌, ◌<◌, ◌≤◌, ◌^◌, [], ◌∷◌, ◌++◌, false, true, length, replicate, IfOk, OnOk, OnErr, List, ℕ, slice_set, vec_len};
-ghost use Rattle.com_apts.specs.Lanes.{Step, IsBalanced, IsThread, after_init, after_uninit, count_of, ended_by_uninit, ended_first, free_seat, home_of, init_answer, is_ended, is_in_mode, main_sta_of, sta_of, home_in, ended_in};
+ghost use Rattle.std.specs.Prelude.{◌≡◌, ◌+◌, ◌-◌, ◌<◌, ◌≤◌, ◌^◌, [], ◌∷◌, ◌++◌, false, true, length};
+ghost use Rattle.std.specs.Prelude.{replicate, IfOk, OnOk, OnErr, List, ℕ, slice_set, vec_len};
+ghost use Rattle.com_apts.specs.Lanes.{Step, IsBalanced, IsThread, after_init, after_uninit, count_of};
+ghost use Rattle.com_apts.specs.Lanes.{ended_by_uninit, ended_first, free_seat, home_of, init_answer};
+ghost use Rattle.com_apts.specs.Lanes.{is_ended, is_in_mode, main_sta_of, sta_of, home_in, ended_in};
 
 use com_base::{HResult, Mode};
 use std::alloc::Global;
@@ -69,7 +72,8 @@ impl Apartments {
         ensures seats { IfOk result (λ made. made.seats ≡ replicate threads free_seat) }
         ensures pool { IfOk result (λ made. made.pool ≡ pool) }
         ensures ended { IfOk result (λ made. made.ended ≡ []) }
-        ensures balanced { IfOk result (λ made. (steps : List Step) (lane : ℕ) → IsThread made lane → IsBalanced made steps lane) }
+        ensures balanced { IfOk result (λ made. (steps : List Step) (lane : ℕ) → IsThread made lane
+            → IsBalanced made steps lane) }
     {
         let mut seats = Vec::new(alloc);
         seats.resize(threads as usize, Seat::FREE)?;

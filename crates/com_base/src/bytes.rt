@@ -1,5 +1,6 @@
 //! Bytes, seen as a list.
-ghost use Rattle.std.specs.Prelude.{◌≡◌, ℕ, ◌++◌, ◌∷◌, List, [], IfOk, OnErr, OnOk, IsTrue, ◌↔◌, length, take};
+ghost use Rattle.std.specs.Prelude.{◌≡◌, ℕ, ◌++◌, ◌∷◌, List, [], IfOk, OnErr, OnOk, IsTrue, ◌↔◌, length};
+ghost use Rattle.std.specs.Prelude.{take};
 
 use std::alloc::{AllocError, Global};
 use std::marker::Model;

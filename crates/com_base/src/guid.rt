@@ -1,6 +1,7 @@
 //! GUIDs, their wire form and their text.
 ghost use Rattle.std.specs.Prelude.{◌≡◌, IsTrue, ◌↔◌};
-ghost use Rattle.com_base.specs.Guids.{wire_of, guid_of_wire, text_of, guid_of_text, reading_order_of, guid_of_reading_order};
+ghost use Rattle.com_base.specs.Guids.{wire_of, guid_of_wire, text_of, guid_of_text, reading_order_of};
+ghost use Rattle.com_base.specs.Guids.{guid_of_reading_order};
 
 use uuid::Uuid;
 

@@ -9,11 +9,13 @@ ghost use Rattle.com_base.specs.HResults.{name_of, hresult_named};
 /// are on the wire.
 pub fn forms_are_inverse()
     ensures wire { (guid : Guid) → IsGuid guid → guid_of_wire (wire_of guid) ≡ guid }
-    ensures bytes { (bytes : List ℕ) → length bytes ≡ 16 → IsBytes bytes → wire_of (guid_of_wire bytes) ≡ bytes }
+    ensures bytes { (bytes : List ℕ) → length bytes ≡ 16 → IsBytes bytes
+        → wire_of (guid_of_wire bytes) ≡ bytes }
     ensures text { (guid : Guid) → IsGuid guid → guid_of_text (text_of guid) ≡ Some guid }
 {}
 
 /// The table of HRESULTs has one name for each of its values, and one value for each of its names.
 pub fn names_are_inverse()
-    ensures { (value : HResult) (name : List ℕ) → (name_of value.0 ≡ Some name) ↔ (hresult_named name ≡ Some value) }
+    ensures { (value : HResult) (name : List ℕ)
+        → (name_of value.0 ≡ Some name) ↔ (hresult_named name ≡ Some value) }
 {}

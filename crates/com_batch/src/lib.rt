@@ -94,8 +94,8 @@ impl Pending {
 
     /// Writes all that is pending to the sink.
     ///
-    /// At Ok no byte is pending. `Failed` comes only where the sink's count of faults rose. What the sink holds and what is
-    /// pending together stay the same in both cases.
+    /// At Ok no byte is pending. `Failed` comes only where the sink's count of faults rose. What the sink
+    /// holds and what is pending together stay the same in both cases.
     #[tactic(auto, using(crate::proofs::Gained::none_left, crate::proofs::Gained::rose_later))]
     pub fn flush<K: Sink>(&mut self, sink: &mut K) -> Result<(), Failed>
         ensures held { with_pending (K.held sink.new) self.new ≡ with_pending (K.held sink.old) self.old }
@@ -110,17 +110,20 @@ impl Pending {
         Ok(())
     }
 
-    /// Takes bytes from the front of `from`, and answers how many: at least 1, if `from` is not empty. Where there is no room
-    /// for them, what is pending goes to the sink first, and a piece that is larger than all the room goes there by itself.
+    /// Takes bytes from the front of `from`, and answers how many: at least 1, if `from` is not empty. Where
+    /// there is no room for them, what is pending goes to the sink first, and a piece that is larger than all
+    /// the room goes there by itself.
     ///
     /// `Failed` comes only where the sink's count of faults rose, and then no byte of `from` was taken.
     #[tactic(auto, using(crate::proofs::Gained::gains_whole, crate::proofs::Gained::rose_later))]
     pub fn write<K: Sink>(&mut self, sink: &mut K, from: &[u8]) -> Result<usize, Failed>
         ensures within { IfOk result (λ n. n ≤ length from.now) }
         ensures some { IfOk result (λ n. 0 < length from.now → 0 < n) }
-        ensures taken { IfOk result (λ n. Gains (with_pending (K.held sink.old) self.old) (with_pending (K.held sink.new) self.new) (take n from.now)) }
+        ensures taken { IfOk result (λ n. Gains (with_pending (K.held sink.old) self.old) (with_pending
+            (K.held sink.new) self.new) (take n from.now)) }
         ensures failed { OnErr result (Rose (K.faults_of sink.old) (K.faults_of sink.new)) }
-        ensures kept { OnErr result (with_pending (K.held sink.new) self.new ≡ with_pending (K.held sink.old) self.old) }
+        ensures kept { OnErr result (with_pending (K.held sink.new) self.new
+            ≡ with_pending (K.held sink.old) self.old) }
         ensures counts { K.faults_of sink.old ≤ K.faults_of sink.new }
     {
         if self.keep(from) {
@@ -136,9 +139,11 @@ impl Pending {
         requires { self.old ≡ [] }
         ensures within { IfOk result (λ n. n ≤ length from.now) }
         ensures some { IfOk result (λ n. 0 < length from.now → 0 < n) }
-        ensures taken { IfOk result (λ n. Gains (with_pending (K.held sink.old) self.old) (with_pending (K.held sink.new) self.new) (take n from.now)) }
+        ensures taken { IfOk result (λ n. Gains (with_pending (K.held sink.old) self.old) (with_pending
+            (K.held sink.new) self.new) (take n from.now)) }
         ensures failed { OnErr result (Rose (K.faults_of sink.old) (K.faults_of sink.new)) }
-        ensures kept { OnErr result (with_pending (K.held sink.new) self.new ≡ with_pending (K.held sink.old) self.old) }
+        ensures kept { OnErr result (with_pending (K.held sink.new) self.new
+            ≡ with_pending (K.held sink.old) self.old) }
         ensures counts { K.faults_of sink.old ≤ K.faults_of sink.new }
     {
         if self.keep(from) {
@@ -150,8 +155,8 @@ impl Pending {
 
 /// A sink over another one, to which it writes in large pieces.
 ///
-/// It holds what the lower sink holds and behind that what is pending, and counts the faults of the lower sink. What is
-/// pending at the end is written by `finish`, and else lost.
+/// It holds what the lower sink holds and behind that what is pending, and counts the faults of the lower
+/// sink. What is pending at the end is written by `finish`, and else lost.
 #[derive(Debug, Drop)]
 pub struct Batch<K: Sink + Drop> {
     sink: K,
@@ -172,13 +177,15 @@ impl<K: Sink + Drop> Batch<K> {
 
     /// Writes all that is pending to the lower sink.
     ///
-    /// At Ok nothing is pending, so the lower sink holds all that was written. `Failed` comes only where the count of faults
-    /// rose. What was written stays the same in both cases.
+    /// At Ok nothing is pending, so the lower sink holds all that was written. `Failed` comes only where the
+    /// count of faults rose. What was written stays the same in both cases.
     #[tactic(auto, using(crate::proofs::Gained::nothing_pending))]
     pub fn finish(&mut self) -> Result<(), Failed>
-        ensures whole { OnOk result (K.held self.new.sink ≡ with_pending (K.held self.old.sink) self.old.pending) }
+        ensures whole { OnOk result (K.held self.new.sink
+            ≡ with_pending (K.held self.old.sink) self.old.pending) }
         ensures none { OnOk result (self.new.pending ≡ []) }
-        ensures held { with_pending (K.held self.new.sink) self.new.pending ≡ with_pending (K.held self.old.sink) self.old.pending }
+        ensures held { with_pending (K.held self.new.sink) self.new.pending
+            ≡ with_pending (K.held self.old.sink) self.old.pending }
         ensures failed { OnErr result (Rose (K.faults_of self.old.sink) (K.faults_of self.new.sink)) }
         ensures counts { K.faults_of self.old.sink ≤ K.faults_of self.new.sink }
     {

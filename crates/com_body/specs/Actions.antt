@@ -12,8 +12,8 @@ use Rattle.com_body.specs.Operands.{slot_of, held_at, number_of, arguments_of, a
 abbrev pub leave_ok : Action
 leave_ok = action.Leave (record { 0 = 0 }) None
 
--- The action of a statement that is one, on this frame and these cells. First those on lanes and apartments; no other
--- statement is an action.
+-- The action of a statement that is one, on this frame and these cells. First those on lanes and apartments;
+-- no other statement is an action.
 abbrev pub lane_action_of : FrameView → Stmt → Action
 lane_action_of f (stmt.Post lane word) = action.Post (number_of f lane) (number_of f word)
 lane_action_of f (stmt.Quit lane) = action.Quit (number_of f lane)

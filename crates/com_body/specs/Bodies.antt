@@ -1,5 +1,6 @@
 -- Which lists of statements are bodies.
-use Rattle.std.specs.Prelude.{◌≡◌, ℕ, ◌+◌, ◌<◌, ◌^◌, List, [], ◌∷◌, Option, Some, None, All, length, nat_lt, if◌then◌else◌}
+use Rattle.std.specs.Prelude.{◌≡◌, ℕ, ◌+◌, ◌<◌, ◌^◌, List, [], ◌∷◌, Option, Some, None, All, length, nat_lt}
+use Rattle.std.specs.Prelude.{if◌then◌else◌}
 use Rattle.com_body.specs.declared.statements.Stmt.{Stmt}
 use Rattle.com_body.specs.declared.statements.Stmt.TheVariants as stmt
 use Rattle.com_body.specs.declared.operands.Op.{Op}
@@ -83,8 +84,8 @@ skip_of (stmt.Skip count) = count
 skip_of (stmt.SkipZero register count) = count
 skip_of other = 0
 
--- The number of the first statement whose skip passes the end, where the first statement here has the number k. A skip to
--- exactly the end does not pass it.
+-- The number of the first statement whose skip passes the end, where the first statement here has the number
+-- k. A skip to exactly the end does not pass it.
 abbrev pub first_past_end : List Stmt → ℕ → Option ℕ
 first_past_end [] k = None
 first_past_end (s ∷ rest) k = if nat_lt (length rest) (skip_of s) then Some k else first_past_end rest (k + 1)

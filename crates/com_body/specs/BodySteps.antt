@@ -1,5 +1,6 @@
 -- The body step: local statements one by one, until an action stands at the place.
-use Rattle.std.specs.Prelude.{ℕ, zero, suc, ◌+◌, pos, List, [], ◌∷◌, if◌then◌else◌, int_lt, drop, slice_index_or, slice_set}
+use Rattle.std.specs.Prelude.{ℕ, zero, suc, ◌+◌, pos, List, [], ◌∷◌, if◌then◌else◌, int_lt, drop}
+use Rattle.std.specs.Prelude.{slice_index_or, slice_set}
 use Rattle.std.specs.Int.{w64, int_wrapping_add, int_wrapping_sub}
 use Rattle.std.specs.Ordering.{int_eq}
 use Rattle.com_base.specs.declared.value.Value.TheVariants as value
@@ -14,8 +15,8 @@ use Rattle.com_body.specs.Frames.{FrameView, with_register, moved}
 use Rattle.com_body.specs.Operands.{number_in, register_of, slot_of, value_of, number_of, same_object, truth}
 use Rattle.com_body.specs.Actions.{action_of, leave_ok}
 
--- What a statement does. A local one goes on with the frame and the cells that it leaves, and passes over so many of the
--- statements behind it. Any other is an action.
+-- What a statement does. A local one goes on with the frame and the cells that it leaves, and passes over so
+-- many of the statements behind it. Any other is an action.
 pub data Effect : Type 0 where
   Goes : FrameView → Cells → ℕ → Effect
   Acts : Action → Effect
@@ -36,8 +37,8 @@ effect_of f c (stmt.SkipZero register count) =
     Goes f c (if int_eq (number_in (register_of f register)) (pos 0) then count else 0)
 effect_of f c other = Acts (action_of f c other)
 
--- The step on the statements that remain, of which the first n are to be passed over. The frame's place is that of the
--- first statement behind those. At the end the place stays.
+-- The step on the statements that remain, of which the first n are to be passed over. The frame's place is
+-- that of the first statement behind those. At the end the place stays.
 abbrev pub walk : List Stmt → ℕ → FrameView → Cells → Outcome
 walk [] n f c = record { frame = f; cells = c; action = leave_ok }
 walk (s ∷ rest) (suc n) f c = walk rest n f c

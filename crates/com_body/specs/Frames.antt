@@ -1,5 +1,6 @@
 -- Frames: where a body or a script stands, and how one begins.
-use Rattle.std.specs.Prelude.{ℕ, ◌+◌, ◌-◌, List, [], ◌∷◌, ◌++◌, Option, None, pos, length, replicate, slice_set}
+use Rattle.std.specs.Prelude.{ℕ, ◌+◌, ◌-◌, List, [], ◌∷◌, ◌++◌, Option, None, pos, length, replicate}
+use Rattle.std.specs.Prelude.{slice_set}
 use Rattle.com_base.specs.declared.value.RefValue.{RefValue}
 use Rattle.com_base.specs.declared.value.Value.{Value}
 use Rattle.com_base.specs.declared.value.Value.TheVariants as value
@@ -30,8 +31,8 @@ no_number = value.Int (pos 0)
 abbrev pub padded : List Value → List Value
 padded values = values ++ replicate (16 - length values) no_number
 
--- A frame at Enter: the values that are no references stand in the registers from the first on, and the references in the
--- slots from the first on. All other registers are the Int 0, and all other slots are null.
+-- A frame at Enter: the values that are no references stand in the registers from the first on, and the
+-- references in the slots from the first on. All other registers are the Int 0, and all other slots are null.
 abbrev pub entered : List Value → FrameView
 entered values = record {
   place = 0;

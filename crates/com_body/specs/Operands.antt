@@ -1,5 +1,6 @@
 -- What operands stand for in a frame.
-use Rattle.std.specs.Prelude.{ℕ, ◌%◌, ◌^◌, ℤ, pos, List, Bool, true, false, Option, Some, None, ◌==◌, map, replicate, if◌then◌else◌, slice_index_or}
+use Rattle.std.specs.Prelude.{ℕ, ◌%◌, ◌^◌, ℤ, pos, List, Bool, true, false, Option, Some, None, ◌==◌, map}
+use Rattle.std.specs.Prelude.{replicate, if◌then◌else◌, slice_index_or}
 use Rattle.std.specs.Int.{w64, cast_unsigned}
 use Rattle.com_base.specs.declared.hresult.HResult.{HResult}
 use Rattle.com_base.specs.declared.value.RefValue.{RefValue}

@@ -5,8 +5,8 @@ use com_base::{ByteList, HResult, MarshalMode, Mode, RefValue, Rows, Value};
 
 /// One action with its operands' values, as it goes to the runtime.
 ///
-/// A slot or link that is only read has become the reference in it, `None` for null. Slots, links and buffers that the
-/// action changes keep their numbers, since the runtime changes them when the action takes effect.
+/// A slot or link that is only read has become the reference in it, `None` for null. Slots, links and buffers
+/// that the action changes keep their numbers, since the runtime changes them when the action takes effect.
 #[derive(Debug, Drop)]
 pub enum Action {
     /// Makes an object of the class, for the slot.
@@ -86,7 +86,8 @@ pub enum Action {
     Quit {
         lane: i64,
     },
-    /// Ends the body with the HRESULT, and with the value where one was given. In a script it means that the script is over.
+    /// Ends the body with the HRESULT, and with the value where one was given. In a script it means that the
+    /// script is over.
     Leave {
         answer: HResult,
         value: Option<Value>,

@@ -1,7 +1,9 @@
 //! Frames, cells and what a step takes and gives.
 
-ghost use Rattle.std.specs.Prelude.{◌≡◌, ◌<◌, ◌≤◌, ◌+◌, ◌-◌, Option, replicate, List, [], ◌∷◌, ◌++◌, IfOk, OnOk, length, slice_index_or, slice_set, vec_len, vec_capacity};
-ghost use Rattle.com_body.specs.Frames.{no_number, entered, padded, plain_values, references, with_register, with_slot};
+ghost use Rattle.std.specs.Prelude.{◌≡◌, ◌<◌, ◌≤◌, ◌+◌, ◌-◌, Option, replicate, List, [], ◌∷◌, ◌++◌, IfOk};
+ghost use Rattle.std.specs.Prelude.{OnOk, length, slice_index_or, slice_set, vec_len, vec_capacity};
+ghost use Rattle.com_body.specs.Frames.{no_number, entered, padded, plain_values, references, with_register};
+ghost use Rattle.com_body.specs.Frames.{with_slot};
 ghost use Rattle.com_body.specs.Operands.{new_cells, register_of, slot_of};
 
 use crate::actions::Action;
@@ -9,9 +11,11 @@ use com_base::{Memory, RefValue, Value};
 use std::alloc::Global;
 use std::marker::Model;
 
-/// Where a body or a script stands: its place, which is the number of the next statement from 0, 16 registers and 8 slots.
+/// Where a body or a script stands: its place, which is the number of the next statement from 0, 16 registers
+/// and 8 slots.
 ///
-/// Contracts see a frame as the record of these three: the place, the list of values and the list of references.
+/// Contracts see a frame as the record of these three: the place, the list of values and the list of
+/// references.
 #[derive(Debug, Drop)]
 pub struct Frame {
     place: u32,
@@ -30,13 +34,15 @@ impl Model for Frame {
 
     ghost view = { λ a. record { place = a.place; registers = padded a.registers.items; slots = a.slots } };
 
-    ghost invariant = { λ a. (vec_len a.registers ≤ 16) × (16 ≤ vec_capacity a.registers) × (a.zero ≡ no_number) };
+    ghost invariant = { λ a. (vec_len a.registers ≤ 16) × (16 ≤ vec_capacity a.registers)
+        × (a.zero ≡ no_number) };
 }
 
 impl Frame {
-    /// The frame with which a body or a script begins. The place is 0. The values that are no references stand in the
-    /// registers from the first on, in their order, and the references in the slots from the first on. All other registers
-    /// are the Int 0, and all other slots are null. The only error is want of memory.
+    /// The frame with which a body or a script begins. The place is 0. The values that are no references
+    /// stand in the registers from the first on, in their order, and the references in the slots from the
+    /// first on. All other registers are the Int 0, and all other slots are null. The only error is want of
+    /// memory.
     pub fn enter(alloc: Global, values: &[Value]) -> Result<Frame, Memory>
         requires { length values.now ≤ 4 }
         ensures { IfOk result (λ frame. frame ≡ entered values.now) }
@@ -194,7 +200,8 @@ fn entered_slots(values: &[Value]) -> [Option<RefValue>; 8]
     slots
 }
 
-// Puts the value into the slot with this number, if it is a reference, and answers the number of the next slot.
+// Puts the value into the slot with this number, if it is a reference, and answers the number of the next
+// slot.
 fn put_reference(slots: &mut [Option<RefValue>; 8], taken: usize, value: &Value) -> usize
     requires { taken < 8 }
     ensures none { references (value.now ∷ []) ≡ [] → (slots.new ≡ slots.old) × (result ≡ taken) }

@@ -1,8 +1,8 @@
 //! Statements, frames and the body step.
 //!
-//! A body is the program of one method, and a script is that of one thread. Both are lists of statements. A frame holds
-//! where such a program stands, with its registers and slots. One step does local statements until an action stands at
-//! the place, and gives that action with its operands' values.
+//! A body is the program of one method, and a script is that of one thread. Both are lists of statements. A
+//! frame holds where such a program stands, with its registers and slots. One step does local statements
+//! until an action stands at the place, and gives that action with its operands' values.
 #![tactic(auto)]
 
 mod actions;

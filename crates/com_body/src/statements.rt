@@ -5,8 +5,8 @@ use com_base::{ByteList, MarshalMode, Mode, Rows};
 
 /// One statement, as it is written.
 ///
-/// Registers are 0 to 15, slots 0 to 7, cells 0 to 7, links 0 to 3 and packet buffers 0 to 63. The first nine are local:
-/// they change only the frame and the cells. All others are actions.
+/// Registers are 0 to 15, slots 0 to 7, cells 0 to 7, links 0 to 3 and packet buffers 0 to 63. The first nine
+/// are local: they change only the frame and the cells. All others are actions.
 #[derive(Debug, Drop)]
 pub enum Stmt {
     /// The register takes the value.
@@ -76,7 +76,8 @@ pub enum Stmt {
     Release {
         place: Place,
     },
-    /// Calls the method on the reference in the slot. A method that is given by number alone has no arguments here.
+    /// Calls the method on the reference in the slot. A method that is given by number alone has no arguments
+    /// here.
     Call {
         slot: u8,
         iface: u16,

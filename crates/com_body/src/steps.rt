@@ -17,7 +17,8 @@ use crate::statements::Stmt;
 use com_base::{HResult, Memory, Value};
 use std::alloc::Global;
 
-// What a statement did: a local one passes over so many of the statements behind it, and any other is an action.
+// What a statement did: a local one passes over so many of the statements behind it, and any other is an
+// action.
 #[derive(Debug, Drop)]
 enum Done {
     Went(u32),
@@ -26,8 +27,9 @@ enum Done {
 
 /// The body step: local statements one by one, until an action stands at the frame's place.
 ///
-/// The action has its operands' values, and the place moves past it. At the end of the body the action is `leave S_OK` with no
-/// value, and the place stays. The only error is want of memory for a value that is copied.
+/// The action has its operands' values, and the place moves past it. At the end of the body the action is
+/// `leave S_OK` with no value, and the place stays. The only error is want of memory for a value that is
+/// copied.
 pub fn step(alloc: Global, body: &Body, frame: Frame, cells: Cells) -> Result<Outcome, Memory>
     ensures { IfOk result (λ outcome. outcome ≡ body_step body.now frame cells) }
 {
@@ -98,7 +100,8 @@ fn do_statement(
     cells: &mut Cells,
 ) -> Result<Done, Memory>
     requires { IsInRange statement.now }
-    ensures done { IfOk result (λ done. DoneIs done (effect_of frame.old cells.old statement.now) frame.old frame.new cells.old cells.new) }
+    ensures done { IfOk result (λ done. DoneIs done
+        (effect_of frame.old cells.old statement.now) frame.old frame.new cells.old cells.new) }
     ensures passed { IfOk result (λ done. passed_over done ≤ skip_of statement.now) }
     ensures place { frame.new.place ≡ frame.old.place }
 {

@@ -1,7 +1,9 @@
--- Public references: how many the stub of each object counts, and who holds them; how rows change them, and what is given back
--- and cut at an entry's end. Source: MS-DCOM, the reference counts of STDOBJREF; Essential COM, the stub manager and its
--- marshalled packets.
-use Rattle.std.specs.Prelude.{ℕ, zero, suc, ◌+◌, ◌-◌, ◌/◌, Bool, true, false, not, ◌==◌, ◌&&◌, nat_le, if◌then◌else◌, List, [], ◌∷◌, ◌++◌, map, length, fold, slice_set, slice_index_or, Option, Some, None, sum_by}
+-- Public references: how many the stub of each object counts, and who holds them; how rows change them, and
+-- what is given back and cut at an entry's end. Source: MS-DCOM, the reference counts of STDOBJREF; Essential
+-- COM, the stub manager and its marshalled packets.
+use Rattle.std.specs.Prelude.{ℕ, zero, suc, ◌+◌, ◌-◌, ◌/◌, Bool, true, false, not, ◌==◌, ◌&&◌, nat_le}
+use Rattle.std.specs.Prelude.{if◌then◌else◌, List, [], ◌∷◌, ◌++◌, map, length, fold, slice_set}
+use Rattle.std.specs.Prelude.{slice_index_or, Option, Some, None, sum_by}
 use Rattle.com_base.specs.declared.value.RefValue.{RefValue}
 use Rattle.com_base.specs.declared.value.MarshalMode.{MarshalMode}
 use Rattle.com_base.specs.declared.value.MarshalMode.TheVariants as marshal
@@ -9,8 +11,9 @@ pub use Rattle.com_books.specs.declared.keeps.Cookie.{Cookie}
 pub use Rattle.com_books.specs.declared.keeps.Packet.{Packet}
 use Rattle.com_books.specs.Counting.{sum_below, count_if, numbers_from}
 
--- The stub's count by object and interface; what a proxy holds, by apartment, object and interface; the packets and cookies
--- that were made, from number 1 on; which objects are connected; which packets carry the arguments and the result of a call.
+-- The stub's count by object and interface; what a proxy holds, by apartment, object and interface; the
+-- packets and cookies that were made, from number 1 on; which objects are connected; which packets carry the
+-- arguments and the result of a call.
 pub record Books : Type 0 where
   pub stub : ℕ → ℕ → ℕ
   pub proxy : ℕ → ℕ → ℕ → ℕ
@@ -78,8 +81,8 @@ gain_stub b o i n = at2 o i (b.stub o i + n) b.stub
 abbrev pub lose_stub : Books → ℕ → ℕ → ℕ → ℕ → ℕ → ℕ
 lose_stub b o i n = at2 o i (b.stub o i - n) b.stub
 
--- New references to a proxy; a new packet; a packet from a proxy's own references; a packet's references to a proxy; a packet's
--- references back to the stub; a new cookie; a cookie's reference back.
+-- New references to a proxy; a new packet; a packet from a proxy's own references; a packet's references to a
+-- proxy; a packet's references back to the stub; a new cookie; a cookie's reference back.
 abbrev pub changed : Books → Change → Books
 changed b (ToProxy a o i n) = record b { stub = gain_stub b o i n; proxy = at3 a o i (b.proxy a o i + n) b.proxy }
 changed b (ToPacket m o i n) = record b { stub = gain_stub b o i n; packets = b.packets ++ new_packet m o i n ∷ [] }
@@ -96,7 +99,8 @@ changed b (Withdraw g) = record b {
 }
 changed b Same = b
 
--- What an entry does, in the words of the table. The apartment is the running one, and at an Enter the one that it names.
+-- What an entry does, in the words of the table. The apartment is the running one, and at an Enter the one
+-- that it names.
 pub data Row : Type 0 where
   Makes : (a o i : ℕ) → Row
   Takes : (a o i : ℕ) → Row
@@ -107,22 +111,22 @@ pub data Row : Type 0 where
   Registers : (o i : ℕ) → Row
   Revokes : (g : ℕ) → Row
 
--- A normal packet has 5 new references; one that a proxy with n of them makes, n at least 2, has half of these, rounded down.
--- A strong packet has 1 new reference, a weak one 0.
+-- A normal packet has 5 new references; one that a proxy with n of them makes, n at least 2, has half of
+-- these, rounded down. A strong packet has 1 new reference, a weak one 0.
 abbrev pub marshal_change : MarshalMode → (owned : Bool) → (held a o i : ℕ) → Change
 marshal_change marshal.Normal owned n a o i =
     if owned then ToPacket marshal.Normal o i 5 else if nat_le 2 n then Split a o i (n / 2) else ToPacket marshal.Normal o i 5
 marshal_change marshal.Strong owned n a o i = ToPacket marshal.Strong o i 1
 marshal_change marshal.Weak owned n a o i = ToPacket marshal.Weak o i 0
 
--- A normal packet's references go to the proxy, or back to the stub in the owner's apartment, and the packet ends. A table
--- packet stays, and a proxy gets 5 new references.
+-- A normal packet's references go to the proxy, or back to the stub in the owner's apartment, and the packet
+-- ends. A table packet stays, and a proxy gets 5 new references.
 abbrev pub unmarshal_change : MarshalMode → (owned : Bool) → (a p o i : ℕ) → Change
 unmarshal_change marshal.Normal owned a p o i = if owned then Return p else Join a p
 unmarshal_change _ owned a p o i = if owned then Same else ToProxy a o i 5
 
--- The table, judged on the books as they stand. A row is for an object that is connected, or that the entry makes. What is not
--- connected holds nothing, so that a cookie of it brings nothing back.
+-- The table, judged on the books as they stand. A row is for an object that is connected, or that the entry
+-- makes. What is not connected holds nothing, so that a cookie of it brings nothing back.
 abbrev pub change : (owned : ℕ → ℕ → Bool) → Books → Row → Change
 change owned b (Makes a o i) = if owned o a then Same else ToProxy a o i 5
 change owned b (Takes a o i) = if b.live o && not (owned o a) then ToProxy a o i 5 else Same

@@ -2,8 +2,8 @@
 
 use com_base::MarshalMode;
 
-/// A packet: whether it is outstanding, that is from its making until it ends, and the public references that it holds. One
-/// that has ended keeps nothing.
+/// A packet: whether it is outstanding, that is from its making until it ends, and the public references that
+/// it holds. One that has ended keeps nothing.
 #[derive(Debug, Clone, Copy)]
 pub struct Packet {
     /// Whether it was made and has not ended.
@@ -18,7 +18,8 @@ pub struct Packet {
     pub refs: u32,
 }
 
-/// A cookie of the global interface table, and the public references that it holds. One that was revoked keeps nothing.
+/// A cookie of the global interface table, and the public references that it holds. One that was revoked
+/// keeps nothing.
 #[derive(Debug, Clone, Copy)]
 pub struct Cookie {
     /// Whether it was revoked.

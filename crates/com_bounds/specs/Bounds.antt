@@ -1,5 +1,6 @@
 -- How far the counters of a core can have come, and what each entry that the rules give asks of them.
-use Rattle.std.specs.Prelude.{◌≡◌, ℕ, ◌+◌, ◌-◌, ◌*◌, ◌^◌, ◌<◌, ◌≤◌, List, length, Option, Some, None, slice_index_or}
+use Rattle.std.specs.Prelude.{◌≡◌, ℕ, ◌+◌, ◌-◌, ◌*◌, ◌^◌, ◌<◌, ◌≤◌, List, length, Option, Some, None}
+use Rattle.std.specs.Prelude.{slice_index_or}
 use Rattle.com_body.specs.declared.frame.Outcome.{Outcome}
 use Rattle.com_lanes.specs.Changes.{NamesStas, HasRoom}
 use Rattle.com_model.specs.declared.deeds.Deed.{Deed}
@@ -12,7 +13,8 @@ use Rattle.com_objects.specs.Kept.{IsMade}
 use Rattle.com_scene.specs.Ranges.{WritesInRange}
 use Rattle.com_state.specs.Parts.{lanes_of}
 
--- Of a state after so many entries: each makes one call, object, STA, cookie or opener at most, and 4 packets.
+-- Of a state after so many entries: each makes one call, object, STA, cookie or opener at most, and 4
+-- packets.
 pub record Counted (st : State) (n : ℕ) : Type 0 where
   pub calls : length st.issues ≤ n
   pub objects : length st.makings ≤ n
@@ -52,8 +54,8 @@ abbrev pub TakesBack : (count : ℕ) → Deed → Type 0
 TakesBack n (deed.Uninit home k) = k ≡ n - 1
 TakesBack n _ = Unit {0}
 
--- What an entry of a lane names is there: the STA that it makes is the next one and the one that it ends was made, the object of a
--- Final was made, the call was issued, and an Out issues the next.
+-- What an entry of a lane names is there: the STA that it makes is the next one and the one that it ends was
+-- made, the object of a Final was made, the call was issued, and an Out issues the next.
 pub record FitsParts (st : State) (l : ℕ) (d : Deed) : Type 0 where
   pub stas : NamesStas (lanes_of st) d
   pub made : IsMade (length st.makings) (finals d)

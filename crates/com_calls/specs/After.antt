@@ -1,5 +1,6 @@
 -- What entries do to the tables of calls, in steps.
-use Rattle.std.specs.Prelude.{ℕ, zero, suc, ◌+◌, ℤ, pos, negsuc, Bool, true, false, ◌==◌, ◌&&◌, nat_lt, if◌then◌else◌, None}
+use Rattle.std.specs.Prelude.{ℕ, zero, suc, ◌+◌, ℤ, pos, negsuc, Bool, true, false, ◌==◌, ◌&&◌, nat_lt}
+use Rattle.std.specs.Prelude.{if◌then◌else◌, None}
 use Rattle.com_filter.specs.declared.Verdict.{Verdict}
 use Rattle.com_model.specs.declared.deeds.Route.{Route}
 use Rattle.com_model.specs.declared.deeds.Route.TheVariants as route
@@ -9,7 +10,8 @@ use Rattle.com_model.specs.Lists.{from_one, or_else, where_true, each_from}
 use Rattle.com_model.specs.Calls.{object_of}
 use Rattle.com_model.specs.Endings.{EndEffect, CutsObject, CutsSta, can_be_cut}
 use Rattle.com_model.specs.State.{let_go}
-use Rattle.com_state.specs.Parts.{CallTables, ObjectTables, issue_at, admission_at, endings_after, unread_after}
+use Rattle.com_state.specs.Parts.{CallTables, ObjectTables, issue_at, admission_at, endings_after}
+use Rattle.com_state.specs.Parts.{unread_after}
 use Rattle.com_calls.specs.declared.rows.Cut.{Cut}
 use Rattle.com_calls.specs.declared.rows.Cut.TheVariants as cut
 use Rattle.com_calls.specs.Kept.{Kept}

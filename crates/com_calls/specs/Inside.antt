@@ -1,5 +1,7 @@
 -- How a `Calls` keeps its rows and inboxes. No public clause cites this module.
-use Rattle.std.specs.Prelude.{ℕ, zero, suc, ◌≡◌, ◌+◌, ◌≤◌, ◌<◌, Bool, true, false, not, nat_eq, ◌==◌, ◌&&◌, List, [], ◌∷◌, length, map, filter, Option, Some, None, is_none, is_some, slice_index_or}
+use Rattle.std.specs.Prelude.{ℕ, zero, suc, ◌≡◌, ◌+◌, ◌≤◌, ◌<◌, Bool, true, false, not, nat_eq, ◌==◌, ◌&&◌}
+use Rattle.std.specs.Prelude.{List, [], ◌∷◌, length, map, filter, Option, Some, None, is_none, is_some}
+use Rattle.std.specs.Prelude.{slice_index_or}
 use Rattle.std.specs.List.{IsDistinct, list_any}
 use Rattle.com_model.specs.declared.keeps.Ending.{Ending}
 use Rattle.com_model.specs.declared.keeps.Phase.{Phase}

@@ -6,8 +6,8 @@ use Rattle.com_model.specs.Calls.{object_of}
 use Rattle.com_model.specs.Waiting.{is_queued}
 use Rattle.com_state.specs.Parts.{CallTables, ObjectTables, named_at, issue_at}
 
--- the tables; the apartment of each call's target when it was issued; the number of calls with room; and the number of apartments
--- with an inbox
+-- the tables; the apartment of each call's target when it was issued; the number of calls with room; and the
+-- number of apartments with an inbox
 pub record Kept : Type 0 where
   pub tables : CallTables
   pub apartments : List ℕ

@@ -1,6 +1,7 @@
 //! The calls and their inboxes.
 
-ghost use Rattle.std.specs.Prelude.{◌≡◌, ◌+◌, ◌<◌, ◌≤◌, ◌^◌, ℕ, Bool, List, Option, [], length, Some, None, is_some, true, false, OnOk, OnErr, IfOk};
+ghost use Rattle.std.specs.Prelude.{◌≡◌, ◌+◌, ◌<◌, ◌≤◌, ◌^◌, ℕ, Bool, List, Option, [], length, Some, None};
+ghost use Rattle.std.specs.Prelude.{is_some, true, false, OnOk, OnErr, IfOk};
 ghost use Rattle.com_model.specs.declared.deeds.Deed.TheVariants as deed;
 ghost use Rattle.com_model.specs.Calls.{issues, leaves};
 ghost use Rattle.com_model.specs.Apartments.{ends_sta};
@@ -13,12 +14,14 @@ ghost use Rattle.com_model.specs.declared.keeps.Phase.TheVariants.{Unposted, Del
 ghost use Rattle.com_calls.specs.Waits.{next_wait};
 ghost use Rattle.com_calls.specs.Inside.{settles};
 ghost use Rattle.com_calls.specs.Rows.{value_left};
-ghost use Rattle.com_calls.specs.After.{judged_at, retried_at, asked_at, cut_at, effect_of, cut_by, cut_one_at};
+ghost use Rattle.com_calls.specs.After.{judged_at, retried_at, asked_at, cut_at, effect_of, cut_by};
+ghost use Rattle.com_calls.specs.After.{cut_one_at};
 ghost use Rattle.com_books.specs.Counting.{count_if};
 ghost use Rattle.com_model.specs.Lists.{first, from_one};
 ghost use Rattle.com_model.specs.Waiting.{is_queued, post_effect, retries};
 ghost use Rattle.com_calls.specs.Kept.{no_tables, with_tables, with_room, with_call, inbox_at, IsNamed};
-ghost use Rattle.com_calls.specs.Steps.{entered_at, ended_at, left_at, returned_at, phased_at, posted_at, taken_at, grown_at, out_entry, is_known, delay_of};
+ghost use Rattle.com_calls.specs.Steps.{entered_at, ended_at, left_at, returned_at, phased_at, posted_at};
+ghost use Rattle.com_calls.specs.Steps.{taken_at, grown_at, out_entry, is_known, delay_of};
 
 use crate::rows::{CallRow, Cut, Issued};
 use crate::{rows, waits};
@@ -32,8 +35,8 @@ use std::marker::Model;
 /// The host's STA, the first number of an STA.
 const HOST_STA: u32 = 2;
 
-/// All calls by their numbers, from 1, and the inboxes of apartments, seen as the tables of calls, the apartment of each
-/// call's target, the number of calls with room and the number of apartments with an inbox.
+/// All calls by their numbers, from 1, and the inboxes of apartments, seen as the tables of calls, the
+/// apartment of each call's target, the number of calls with room and the number of apartments with an inbox.
 #[derive(Debug, Drop)]
 pub struct Calls {
     rows: Vec<CallRow>,
@@ -41,7 +44,8 @@ pub struct Calls {
     posted: Inbox,
     // A queue for each apartment, of the posted calls that are neither judged, entered nor answered.
     waiting: Inbox,
-    // The calls that wait for a time, and some that did: what waits no more is taken out where a call comes in.
+    // The calls that wait for a time, and some that did: what waits no more is taken out where a call comes
+    // in.
     delayed: Vec<u32>,
     room: u32,
     causes: u32,
@@ -79,8 +83,8 @@ impl Calls {
         })
     }
 
-    /// Makes room for one call more, to an object of this apartment. The only error is want of memory, and then nothing has
-    /// changed.
+    /// Makes room for one call more, to an object of this apartment. The only error is want of memory, and
+    /// then nothing has changed.
     pub fn reserve(&mut self, apartment: u32) -> Result<(), Memory>
         requires calls { length self.old.tables.issues + 1 < 2 ^ 32 }
         requires apartment { apartment + 1 < 2 ^ 32 }
@@ -106,8 +110,8 @@ impl Calls {
         self.waiting.first(apartment)
     }
 
-    /// The Out entry of a call. `outermost` says that its lane runs no body, so that the call draws a causality; `clock` is in
-    /// milliseconds.
+    /// The Out entry of a call. `outermost` says that its lane runs no body, so that the call draws a
+    /// causality; `clock` is in milliseconds.
     pub fn add(&mut self, issue: Issue, issued: Issued, outermost: bool, clock: u64)
         requires number { issue.call ≡ length self.old.tables.issues + 1 }
         requires room { length self.old.tables.issues < self.old.room }
@@ -128,15 +132,16 @@ impl Calls {
 
     /// The Leave entry of a call.
     pub fn leave(&mut self, call: u32, hr: HResult, value: Option<Value>)
-        ensures { (o : ObjectTables) (m : Moment) (i : Issuing) (lane : ℕ) (bytes : Option (List ℕ)) → self.new
+        ensures { (o : ObjectTables) (m : Moment) (i : Issuing) (lane : ℕ) (bytes : Option (List ℕ))
+            → self.new
             ≡ with_tables self.old (calls_after o m i self.old.tables
             (record { lane = lane; deed = deed.Leave call hr value bytes })) }
     {
         self.leave_row(call, hr, value);
     }
 
-    /// Every other entry of a lane. `filtered` says whether the caller's lane of the call that the entry names has a message
-    /// filter, and `clock` is in milliseconds.
+    /// Every other entry of a lane. `filtered` says whether the caller's lane of the call that the entry
+    /// names has a message filter, and `clock` is in milliseconds.
     pub fn apply(&mut self, lane: u32, deed: &Deed, filtered: bool, clock: u64)
         requires no_out { issues lane deed.now ≡ None }
         requires no_leave { leaves deed.now ≡ None }
@@ -209,7 +214,9 @@ impl Calls {
 
     /// An object was disconnected where the answer is S_OK.
     fn disconnect(&mut self, object: Option<u32>, hr: HResult)
-        ensures { (o : ObjectTables) → IsNamed o self.old → self.new ≡ with_tables self.old (cut_at o self.old.tables (cuts_object (disconnects (deed.Disconnect object hr)))) }
+        ensures { (o : ObjectTables) → IsNamed o self.old
+            → self.new ≡ with_tables self.old (cut_at o self.old.tables (cuts_object (disconnects
+            (deed.Disconnect object hr)))) }
     {
         if hr.0 != 0 {
             return;
@@ -222,7 +229,9 @@ impl Calls {
 
     /// An STA ended where its lane has no initialisation left.
     fn end_home(&mut self, home: Option<u32>, count: u32)
-        ensures { (o : ObjectTables) → IsNamed o self.old → self.new ≡ with_tables self.old (cut_at o self.old.tables (cuts_sta (ends_sta (deed.Uninit home count)))) }
+        ensures { (o : ObjectTables) → IsNamed o self.old
+            → self.new ≡ with_tables self.old (cut_at o self.old.tables (cuts_sta (ends_sta
+            (deed.Uninit home count)))) }
     {
         let Some(home) = home else {
             return;
@@ -235,7 +244,8 @@ impl Calls {
 
     /// The calls that a disconnection reaches are answered.
     fn cut(&mut self, cut: Cut)
-        ensures { (o : ObjectTables) → IsNamed o self.old → self.new ≡ with_tables self.old (cut_at o self.old.tables (effect_of cut)) }
+        ensures { (o : ObjectTables) → IsNamed o self.old
+            → self.new ≡ with_tables self.old (cut_at o self.old.tables (effect_of cut)) }
     {
         let calls = self.len();
         for place in 0..calls {
@@ -245,7 +255,8 @@ impl Calls {
 
     fn cut_one(&mut self, call: u32, cut: Cut)
         requires { 1 ≤ call }
-        ensures { self.new ≡ with_tables self.old (cut_one_at self.old.tables call (cut_by self.old cut call)) }
+        ensures { self.new ≡ with_tables self.old (cut_one_at self.old.tables call
+            (cut_by self.old cut call)) }
     {
         if self.is_cut(call, cut) {
             self.end(call, Ending::ByDisconnection);
@@ -312,7 +323,8 @@ impl Calls {
         }
     }
 
-    /// The value that the body of a call left with. `None` exactly where it did not leave, or left without one.
+    /// The value that the body of a call left with. `None` exactly where it did not leave, or left without
+    /// one.
     pub fn left_value(&self, call: u32) -> Option<&Value>
         ensures { option_copied result ≡ value_left (from_one self.now.tables.leavings call None) }
     {
@@ -389,7 +401,8 @@ impl Calls {
         self.causes
     }
 
-    /// Takes the values that a call sends, for its Enter entry. It takes no memory, and the call keeps none of them.
+    /// Takes the values that a call sends, for its Enter entry. It takes no memory, and the call keeps none
+    /// of them.
     pub fn take_values(&mut self, alloc: Global, call: u32) -> Rows<Value>
         ensures values { result ≡ from_one self.old.tables.unread call [] }
         ensures taken { self.new ≡ with_tables self.old (taken_at self.old.tables call) }
@@ -482,7 +495,8 @@ impl Calls {
     fn push(&mut self, issue: Issue, issued: Issued, outermost: bool, clock: u64)
         requires room { length self.old.tables.issues < self.old.room }
         requires inbox { issued.apartment < self.old.inboxes }
-        ensures { self.new ≡ with_call self.old issued.apartment (grown_at self.old.tables issue (record { refusal = issued.refusal; values = issued.values }) clock (count_if outermost)) }
+        ensures { self.new ≡ with_call self.old issued.apartment (grown_at self.old.tables issue
+            (record { refusal = issued.refusal; values = issued.values }) clock (count_if outermost)) }
     {
         self.rows.push_reserved(rows::new_row(issue, issued, clock));
         self.causes = drawn(outermost) + self.causes;

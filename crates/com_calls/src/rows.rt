@@ -1,7 +1,8 @@
 //! A row for each call, and what an entry changes in one row.
 
 ghost use Rattle.std.specs.Prelude.{◌≡◌, ◌&&◌, is_none, is_some, map, []};
-ghost use Rattle.com_calls.specs.Rows.{changed_row, admitting, ending_by, left_with, returning, phased, taken, new_row_of, row_at, reaches, values_of, leaving_of, value_left};
+ghost use Rattle.com_calls.specs.Rows.{changed_row, admitting, ending_by, left_with, returning, phased};
+ghost use Rattle.com_calls.specs.Rows.{taken, new_row_of, row_at, reaches, values_of, leaving_of, value_left};
 ghost use Rattle.com_model.specs.Lists.{from_one};
 ghost use Rattle.std.specs.Option.{option_copied};
 
@@ -19,8 +20,8 @@ pub enum Left {
     Apart(Leaving),
 }
 
-/// One call. `apartment` is that of its target when it was issued, `time` the clock then, in milliseconds, and `unread`
-/// what it sends, until that is let go.
+/// One call. `apartment` is that of its target when it was issued, `time` the clock then, in milliseconds,
+/// and `unread` what it sends, until that is let go.
 #[derive(Debug, Drop)]
 pub struct CallRow {
     pub issue: Issue,
@@ -35,7 +36,8 @@ pub struct CallRow {
     pub time: u64,
 }
 
-/// What a call has at its Out entry: the refusal, or S_OK, the values that it sends, and its target's apartment.
+/// What a call has at its Out entry: the refusal, or S_OK, the values that it sends, and its target's
+/// apartment.
 #[derive(Debug, Drop)]
 pub struct Issued {
     pub refusal: HResult,

@@ -1,5 +1,6 @@
 -- What is answered for a trace, and when.
-use Rattle.std.specs.Prelude.{◌≡◌, ◌≢◌, ℕ, ◌+◌, ◌<◌, ◌⊎◌, ⊤, true, if◌then◌else◌, List, [], ◌∷◌, ◌++◌, length, Option, Some, None, is_some, option_map, option_and_then, codes, decimal}
+use Rattle.std.specs.Prelude.{◌≡◌, ◌≢◌, ℕ, ◌+◌, ◌<◌, ◌⊎◌, ⊤, true, if◌then◌else◌, List, [], ◌∷◌, ◌++◌, length}
+use Rattle.std.specs.Prelude.{Option, Some, None, is_some, option_map, option_and_then, codes, decimal}
 use Rattle.com_model.specs.declared.deeds.Entry.{Entry}
 use Rattle.com_model.specs.declared.scenario.Scenario.{Scenario}
 use Rattle.com_model.specs.Ends.{Turn, ended_as, last_after, limit, report, turn}
@@ -40,8 +41,8 @@ report_lines s h = lines_of (report s h)
 
 -- ---- histories, and the only legal line behind one
 
--- No shorter front of a history had ended: each entry was made behind fewer entries than the limit, which were not finished and not
--- stuck.
+-- No shorter front of a history had ended: each entry was made behind fewer entries than the limit, which
+-- were not finished and not stuck.
 abbrev pub Unended : Scenario → List Entry → Type 0
 Unended s [] = ⊤
 Unended s (e ∷ older) = Unended s older × (length older < limit s) × (ended_as s older ≡ None)
@@ -58,18 +59,19 @@ entry_of s h l = option_map (λ d. record { lane = l; deed = d }) (next s h l)
 abbrev pub lane_of_turn : Option Turn → Option ℕ
 lane_of_turn t = option_map (λ t. t.lane) t
 
--- The lane whose entry is due: the one that the found line names. Where the trace has ended, it is the one whose turn it is by the
--- schedule without picks.
+-- The lane whose entry is due: the one that the found line names. Where the trace has ended, it is the one
+-- whose turn it is by the schedule without picks.
 abbrev pub lane_due : Scenario → List Entry → (found : Option (List ℕ)) → Option ℕ
 lane_due s h None = lane_of_turn (turn s (sight s h) [] (last_lane h))
 lane_due s h (Some line) = named line
 
--- The only line that may stand behind a history that has not ended: that of the next entry of this lane, if it has one.
+-- The only line that may stand behind a history that has not ended: that of the next entry of this lane, if
+-- it has one.
 unfoldable pub line_due : Scenario → List Entry → (found : Option (List ℕ)) → Option (List ℕ)
 line_due s h found = option_map (entry_line s.version (length h + 1)) (option_and_then (entry_of s h) (lane_due s h found))
 
--- The only line that may stand behind a history, and behind the lines of its report but for those that are left. Behind the report
--- there is none.
+-- The only line that may stand behind a history, and behind the lines of its report but for those that are
+-- left. Behind the report there is none.
 abbrev pub legal_line : Scenario → List Entry → (left : List (List ℕ)) → (found : Option (List ℕ)) → Option (List ℕ)
 legal_line s h left found = if is_some (ended_as s h) then first left else line_due s h found
 
@@ -97,8 +99,8 @@ pub record Begins (s : Scenario) (lines : List (List ℕ)) : Type 0 where
   pub report : report_lines s history ≡ told ++ left
   pub are : lines ≡ history_lines s.version history ++ told
 
--- The first line that differs: those before it are lines of a legal history and its report; what stands in its place is not the
--- only line that may stand there.
+-- The first line that differs: those before it are lines of a legal history and its report; what stands in
+-- its place is not the only line that may stand there.
 pub record Differs (s : Scenario) (trace : List ℕ) (line : ℕ) (found legal : List ℕ) : Type 0 where
   pub before : List (List ℕ)
   pub rest : List (List ℕ)

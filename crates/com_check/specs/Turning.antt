@@ -1,5 +1,6 @@
 -- What the steps of a judge find, by the tables of a runtime.
-use Rattle.std.specs.Prelude.{◌≡◌, ◌≢◌, ℕ, ◌+◌, List, [], ◌∷◌, ◌++◌, length, Option, Some, None, option_map, option_and_then}
+use Rattle.std.specs.Prelude.{◌≡◌, ◌≢◌, ℕ, ◌+◌, List, [], ◌∷◌, ◌++◌, length, Option, Some, None, option_map}
+use Rattle.std.specs.Prelude.{option_and_then}
 use Rattle.com_model.specs.declared.counts.Ended.{Ended}
 use Rattle.com_model.specs.declared.deeds.Entry.{Entry}
 use Rattle.com_model.specs.declared.scenario.Scenario.{Scenario}
@@ -55,7 +56,8 @@ pub record IsOther (s : Scenario) (st : State) (last : ℕ) (found : Option (Lis
   pub answer : j ≡ judged.Differs (st.entries + 1) (shown found) (shown (line_in s st last found))
   pub differ : found ≢ line_in s st last found
 
--- The found line is that of the lane's entry, and the lane is the last one, if it is not the clock's; or else the line differs.
+-- The found line is that of the lane's entry, and the lane is the last one, if it is not the clock's; or else
+-- the line differs.
 abbrev pub IsCompared : (place lane : ℕ) → (found line : List ℕ) → (last : ℕ) → Option Judged → (last_new : ℕ) → Type 0
 IsCompared place lane found line last None last_new = (found ≡ line) × (last_new ≡ last_after lane last)
 IsCompared place lane found line last (Some j) last_new = (found ≢ line) × (j ≡ judged.Differs place found line)

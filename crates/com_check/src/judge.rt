@@ -39,7 +39,8 @@ fn clock_entry<C: Runtime>(runtime: &mut C, standing: Standing) -> Result<Option
     requires whole { C.broken runtime.old ≡ false }
     ensures scenario { C.scenario runtime.new ≡ C.scenario runtime.old }
     ensures whole { OnOk result (C.broken runtime.new ≡ false) }
-    ensures made { IfOk result (λ made. IsNextOf (C.scenario runtime.old) (C.state runtime.old) 0 made (C.state runtime.new)) }
+    ensures made { IfOk result (λ made. IsNextOf (C.scenario runtime.old) (C.state runtime.old) 0 made
+        (C.state runtime.new)) }
 {
     match standing {
         Standing::Ticks => {
@@ -71,7 +72,8 @@ fn next_of<C: Runtime>(
     ensures scenario { C.scenario runtime.new ≡ C.scenario runtime.old }
     ensures whole { OnOk result (C.broken runtime.new ≡ false) }
     ensures row { map kind_of servants.new.items ≡ row }
-    ensures made { IfOk result (λ made. IsNextOf (C.scenario runtime.old) (C.state runtime.old) lane made (C.state runtime.new)) }
+    ensures made { IfOk result (λ made. IsNextOf (C.scenario runtime.old) (C.state runtime.old) lane made
+        (C.state runtime.new)) }
 {
     if lane == 0 {
         return clock_entry(runtime, standing);
@@ -103,7 +105,8 @@ fn scheduled<C: Runtime>(
     requires whole { C.broken runtime.old ≡ false }
     requires last { last ≤ lanes (C.scenario runtime.old) }
     requires row { map kind_of servants.old.items ≡ row }
-    ensures { IfOk result (λ e. IsScheduled (C.scenario runtime.old) (C.state runtime.old) last e (C.state runtime.new)) }
+    ensures { IfOk result (λ e. IsScheduled (C.scenario runtime.old) (C.state runtime.old) last e
+        (C.state runtime.new)) }
 {
     match standing {
         Standing::Runs => match choose(runtime, &[], 0, last) {
@@ -186,8 +189,8 @@ impl Judge {
         Ok(())
     }
 
-    /// What a found line is beside the line that was written for an entry of this lane. The only error is want
-    /// of memory.
+    /// What a found line is beside the line that was written for an entry of this lane. The only error is
+    /// want of memory.
     fn compared(
         &mut self,
         alloc: Global,
@@ -195,7 +198,8 @@ impl Judge {
         lane: u32,
         found: &[u8],
     ) -> Result<Option<Judged>, Memory>
-        ensures { IfOk result (λ turn. IsCompared place lane found.now self.old.line self.old.last turn self.new.last) }
+        ensures { IfOk result
+            (λ turn. IsCompared place lane found.now self.old.line self.old.last turn self.new.last) }
     {
         if found == self.line.as_slice() {
             self.last = last_after(lane, self.last);
@@ -226,7 +230,8 @@ impl Judge {
         ensures scenario { C.scenario runtime.new ≡ C.scenario runtime.old }
         ensures whole { OnOk result (C.broken runtime.new ≡ false) }
         ensures row { map kind_of servants.new.items ≡ row }
-        ensures turn { IfOk result (λ turn. IsTurn (C.scenario runtime.old) (C.state runtime.old) self.old.last found.now turn
+        ensures turn { IfOk result (λ turn. IsTurn (C.scenario runtime.old)
+            (C.state runtime.old) self.old.last found.now turn
             (C.state runtime.new) self.new.last) }
     {
         let entries = runtime.entries();
@@ -258,7 +263,8 @@ impl Judge {
         requires whole { C.broken runtime.old ≡ false }
         requires last { self.old.last ≤ lanes (C.scenario runtime.old) }
         requires row { map kind_of servants.old.items ≡ row }
-        ensures { IfOk result (λ j. IsOther (C.scenario runtime.old) (C.state runtime.old) self.old.last None j) }
+        ensures { IfOk result (λ j. IsOther (C.scenario runtime.old)
+            (C.state runtime.old) self.old.last None j) }
     {
         let place = runtime.entries() + 1;
         let entry = scheduled(alloc, runtime, standing, self.last, servants)?;

@@ -1,5 +1,5 @@
-//! Judging a trace: whether it is the text and the report of a legal history, or else which of its lines is the
-//! first that differs.
+//! Judging a trace: whether it is the text and the report of a legal history, or else which of its lines is
+//! the first that differs.
 #![tactic(auto)]
 
 ghost use Rattle.std.specs.Arc.{arc_value};

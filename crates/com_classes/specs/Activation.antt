@@ -1,5 +1,6 @@
 -- Where a new object lives.
-use Rattle.std.specs.Prelude.{ℕ, Bool, true, false, ◌==◌, nat_le, Option, Some, None, Result, Ok, Err, if◌then◌else◌}
+use Rattle.std.specs.Prelude.{ℕ, Bool, true, false, ◌==◌, nat_le, Option, Some, None, Result, Ok, Err}
+use Rattle.std.specs.Prelude.{if◌then◌else◌}
 use Rattle.com_base.specs.declared.guid.Guid.{Guid}
 use Rattle.com_base.specs.declared.hresult.HResult.{HResult}
 use Rattle.com_classes.specs.declared.classes.Class.{Class}
@@ -14,8 +15,8 @@ use Rattle.com_classes.specs.Lookups.{class_at, class_has, find_class, find_inte
 abbrev pub apartment_of : Creator → ℕ
 apartment_of creator = if creator.running == 0 then creator.home else creator.running
 
--- The owner of a new object. Apartment 0 is the neutral one, 1 the multithreaded one, 2 the host's STA, and all from 2 on
--- are STAs.
+-- The owner of a new object. Apartment 0 is the neutral one, 1 the multithreaded one, 2 the host's STA, and
+-- all from 2 on are STAs.
 abbrev pub owner_for : ThreadingModel → Creator → ℕ
 owner_for model.Nothing creator = creator.main_sta
 owner_for model.Apartment creator = if nat_le 2 (apartment_of creator) then apartment_of creator else 2

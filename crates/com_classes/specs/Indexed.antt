@@ -15,8 +15,8 @@ key_of g = (g.data1, g.data2, g.data3, g.data4)
 abbrev pub same_key : ℕ × ℕ × ℕ × List ℕ → ℕ × ℕ × ℕ × List ℕ → Bool
 same_key a b = a.0 == b.0 && a.1 == b.1 && a.2 == b.2 && bytes_eq a.3 b.3
 
--- Each entry of an index stands under the GUID of its interface or class, no table is longer than its limit, and the
--- bodies of the built-in classes are there.
+-- Each entry of an index stands under the GUID of its interface or class, no table is longer than its limit,
+-- and the bodies of the built-in classes are there.
 pub record IsIndexed (ikeys : List (ℕ × ℕ × ℕ × List ℕ)) (interfaces : List Interface)
     (ckeys : List (ℕ × ℕ × ℕ × List ℕ)) (classes : List Class) (counters relays latches : List (List Stmt)) : Type 0 where
   pub interface_keys : ikeys ≡ map (λ i. key_of i.iid) interfaces

@@ -1,5 +1,7 @@
 -- What the tables hold, by number and by GUID.
-use Rattle.std.specs.Prelude.{ℕ, ◌+◌, ◌-◌, List, Bool, false, ◌&&◌, ◌||◌, ◌==◌, Option, Some, None, find, position, length, nat_le, is_some, slice_get, unwrap_or, if◌then◌else◌, option_and_then}
+use Rattle.std.specs.Prelude.{ℕ, ◌+◌, ◌-◌, List, Bool, false, ◌&&◌, ◌||◌, ◌==◌, Option, Some, None, find}
+use Rattle.std.specs.Prelude.{position, length, nat_le, is_some, slice_get, unwrap_or, if◌then◌else◌}
+use Rattle.std.specs.Prelude.{option_and_then}
 use Rattle.std.specs.List.{list_any}
 use Rattle.std.specs.Option.{option_map}
 use Rattle.std.specs.Str.{bytes_eq}
@@ -69,8 +71,8 @@ body_at t class iface method = option_and_then (λ c. class_body c iface method)
 abbrev pub body_of : Tables → ℕ → ℕ → ℕ → List Stmt
 body_of t class iface method = unwrap_or (body_at t class iface method) no_body
 
--- Why an interface is not taken, other than for want of memory: its IID is there, or else there are 60 beside the four
--- built-in ones.
+-- Why an interface is not taken, other than for want of memory: its IID is there, or else there are 60 beside
+-- the four built-in ones.
 abbrev pub interface_refusal : Tables → Interface → Option ClassError
 interface_refusal t i =
     if is_some (find_interface t i.iid) then Some error.Repeated

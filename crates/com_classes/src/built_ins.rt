@@ -2,7 +2,8 @@
 
 ghost use Rattle.std.specs.Prelude.{◌≡◌, [], ◌∷◌, None, All, IfOk};
 ghost use Rattle.com_body.specs.Bodies.{IsInRange, fault_of};
-ghost use Rattle.com_classes.specs.BuiltIns.{iunknown, icounter, irelay, ilatch, counter_bodies, relay_bodies, latch_bodies};
+ghost use Rattle.com_classes.specs.BuiltIns.{iunknown, icounter, irelay, ilatch, counter_bodies};
+ghost use Rattle.com_classes.specs.BuiltIns.{relay_bodies, latch_bodies};
 
 use crate::interfaces::{Interface, Method};
 use com_base::{ByteList, Guid, HResult, IID_IUNKNOWN, Kind, Memory, Rows, Value};
@@ -14,7 +15,13 @@ const WITH_OK: Code = Code::Literal(HResult::S_OK);
 
 // The IID of a built-in interface, by its first field.
 fn built_in_iid(data1: u32) -> Guid
-    ensures { result ≡ record { data1 = data1; data2 = 0; data3 = 0x4000; data4 = 0x80 ∷ 0 ∷ 0 ∷ 0 ∷ 0 ∷ 0 ∷ 0 ∷ 1 ∷ [] } }
+    ensures { result ≡ record {
+      data1 = data1;
+      data2 = 0;
+      data3 = 0x4000;
+      data4 = 0x80 ∷ 0 ∷ 0 ∷ 0 ∷ 0 ∷ 0 ∷
+          0 ∷ 1 ∷ [];
+    } }
 {
     Guid {
         data1,

@@ -1,12 +1,15 @@
 //! Classes and the tables of interfaces and classes.
 
-ghost use Rattle.std.specs.Prelude.{◌≡◌, [], ◌∷◌, ◌++◌, ◌+◌, ◌==◌, None, IfOk, IfErr, OnOk, OnErr, IsTrue, length, slice_get, unwrap_or, if◌then◌else◌};
+ghost use Rattle.std.specs.Prelude.{◌≡◌, [], ◌∷◌, ◌++◌, ◌+◌, ◌==◌, None, IfOk, IfErr, OnOk, OnErr, IsTrue};
+ghost use Rattle.std.specs.Prelude.{length, slice_get, unwrap_or, if◌then◌else◌};
 ghost use Rattle.std.specs.Option.{option_copied};
 ghost use Rattle.com_classes.specs.declared.classes.ClassError.TheVariants as error;
 ghost use Rattle.com_classes.specs.BuiltIns.{built_in_interfaces};
 ghost use Rattle.com_classes.specs.Indexed.{key_of, same_key};
 ghost use Rattle.indexmap.specs.IndexMap.{index_of};
-ghost use Rattle.com_classes.specs.Lookups.{interface_at, class_at, find_interface, find_class, class_has, has_interface, method_at, given_in, class_body, body_at, interface_refusal, class_refusal};
+ghost use Rattle.com_classes.specs.Lookups.{interface_at, class_at, find_interface, find_class, class_has};
+ghost use Rattle.com_classes.specs.Lookups.{has_interface, method_at, given_in, class_body, body_at};
+ghost use Rattle.com_classes.specs.Lookups.{interface_refusal, class_refusal};
 
 use crate::built_ins;
 use crate::interfaces::{Interface, Method};
@@ -47,8 +50,8 @@ pub struct MethodBody {
     pub body: Body,
 }
 
-/// A class: its name, CLSID and threading model, which code runs its bodies, the numbers of its interfaces in the order
-/// of their declaration in it, and the bodies of its methods.
+/// A class: its name, CLSID and threading model, which code runs its bodies, the numbers of its interfaces in
+/// the order of their declaration in it, and the bodies of its methods.
 ///
 /// `native` is `Bodies` for a class that is not built in. IUnknown need not be among the interfaces: each class has it.
 #[derive(Debug, Drop)]
@@ -80,8 +83,8 @@ pub enum ClassError {
 
 /// The interfaces and the classes, each in the order of declaration.
 ///
-/// Contracts see the list of interfaces, the built-in ones first, and the list of classes. An interface's number is its
-/// place from 0, and a class's number is its place from 1.
+/// Contracts see the list of interfaces, the built-in ones first, and the list of classes. An interface's
+/// number is its place from 0, and a class's number is its place from 1.
 #[derive(Drop)]
 pub struct Classes {
     interfaces: IndexMap<Key, Interface>,
@@ -100,12 +103,14 @@ impl Model for Classes {
 
     ghost view = { λ a. record { interfaces = values a.interfaces; classes = values a.classes } };
 
-    ghost invariant = { λ a. IsIndexed (keys a.interfaces) (values a.interfaces) (keys a.classes) (values a.classes)
+    ghost invariant = { λ a. IsIndexed (keys a.interfaces) (values a.interfaces) (keys a.classes)
+        (values a.classes)
         a.counter.items a.relay.items a.latch.items };
 }
 
 impl Classes {
-    /// The interface with this number. None exactly where there is none. Interface 0 is IUnknown, without methods.
+    /// The interface with this number. None exactly where there is none. Interface 0 is IUnknown, without
+    /// methods.
     pub fn interface(&self, iface: u16) -> Option<&Interface>
         ensures { option_copied result ≡ interface_at self.now iface }
     {
@@ -147,8 +152,8 @@ impl Classes {
         }
     }
 
-    /// Whether an object of the class has the interface: IUnknown, or one of the class's list. False for a number that is no
-    /// class's.
+    /// Whether an object of the class has the interface: IUnknown, or one of the class's list. False for a
+    /// number that is no class's.
     pub fn has(&self, class: u32, iface: u16) -> bool
         ensures { result ≡ has_interface self.now class iface }
     {
@@ -158,8 +163,8 @@ impl Classes {
         }
     }
 
-    /// The tables with the four built-in interfaces and no class: IUnknown 0, ICounter 1, IRelay 2 and ILatch 3. The only
-    /// error is want of memory.
+    /// The tables with the four built-in interfaces and no class: IUnknown 0, ICounter 1, IRelay 2 and ILatch
+    /// 3. The only error is want of memory.
     pub fn new(alloc: Global) -> Result<Classes, Memory>
         ensures interfaces { IfOk result (λ tables. tables.interfaces ≡ built_in_interfaces) }
         ensures classes { IfOk result (λ tables. tables.classes ≡ []) }
@@ -180,7 +185,8 @@ impl Classes {
 
     // Declares an interface that is built in.
     fn declare(&mut self, interface: Interface) -> Result<(), Memory>
-        ensures { OnOk result (self.new ≡ record self.old { interfaces = self.old.interfaces ++ interface ∷ [] }) }
+        ensures { OnOk result (self.new
+            ≡ record self.old { interfaces = self.old.interfaces ++ interface ∷ [] }) }
     {
         match self.add_interface(interface) {
             Ok(_) => Ok(()),
@@ -193,11 +199,13 @@ impl Classes {
     /// `Repeated` comes exactly where its IID is declared, and else `Full` exactly where 60 interfaces stand beside the
     /// built-in ones. `Memory` is want of memory. After an error the tables are as before.
     pub fn add_interface(&mut self, interface: Interface) -> Result<u16, ClassError>
-        ensures refused { IfErr result (λ cause. cause ≡ unwrap_or (interface_refusal self.old interface) error.Memory) }
+        ensures refused { IfErr result (λ cause. cause
+            ≡ unwrap_or (interface_refusal self.old interface) error.Memory) }
         ensures unchanged { OnErr result (self.new ≡ self.old) }
         ensures good { OnOk result (interface_refusal self.old interface ≡ None) }
         ensures number { IfOk result (λ number. number ≡ length self.old.interfaces) }
-        ensures added { OnOk result (self.new ≡ record self.old { interfaces = self.old.interfaces ++ interface ∷ [] }) }
+        ensures added { OnOk result (self.new
+            ≡ record self.old { interfaces = self.old.interfaces ++ interface ∷ [] }) }
     {
         match self.interface_refusal(&interface) {
             Some(cause) => Err(cause),
@@ -211,7 +219,8 @@ impl Classes {
         ensures memory { IfErr result (λ cause. cause ≡ error.Memory) }
         ensures unchanged { OnErr result (self.new ≡ self.old) }
         ensures number { IfOk result (λ number. number ≡ length self.old.interfaces) }
-        ensures added { OnOk result (self.new ≡ record self.old { interfaces = self.old.interfaces ++ interface ∷ [] }) }
+        ensures added { OnOk result (self.new
+            ≡ record self.old { interfaces = self.old.interfaces ++ interface ∷ [] }) }
     {
         let number = self.interfaces.len();
         match append_interface(&mut self.interfaces, interface) {
@@ -236,14 +245,16 @@ impl Classes {
     /// Declares a class and answers its number, the next one from 1.
     ///
     /// `Repeated` comes exactly where its CLSID is declared, and else `Full` exactly where there are 64 classes. `Memory` is
-    /// want of memory. After an error the tables are as before. Where a method is given two bodies the first one counts, and
-    /// where `native` is another than `Bodies` the built-in bodies count alone.
+    /// want of memory. After an error the tables are as before. Where a method is given two bodies the first
+    /// one counts, and where `native` is another than `Bodies` the built-in bodies count alone.
     pub fn add_class(&mut self, class: Class) -> Result<u32, ClassError>
-        ensures refused { IfErr result (λ cause. cause ≡ unwrap_or (class_refusal self.old class) error.Memory) }
+        ensures refused { IfErr result (λ cause. cause
+            ≡ unwrap_or (class_refusal self.old class) error.Memory) }
         ensures unchanged { OnErr result (self.new ≡ self.old) }
         ensures good { OnOk result (class_refusal self.old class ≡ None) }
         ensures number { IfOk result (λ number. number ≡ length self.old.classes + 1) }
-        ensures added { OnOk result (self.new ≡ record self.old { classes = self.old.classes ++ class ∷ [] }) }
+        ensures added { OnOk result (self.new
+            ≡ record self.old { classes = self.old.classes ++ class ∷ [] }) }
     {
         match self.class_refusal(&class) {
             Some(cause) => Err(cause),
@@ -257,7 +268,8 @@ impl Classes {
         ensures memory { IfErr result (λ cause. cause ≡ error.Memory) }
         ensures unchanged { OnErr result (self.new ≡ self.old) }
         ensures number { IfOk result (λ number. number ≡ length self.old.classes + 1) }
-        ensures added { OnOk result (self.new ≡ record self.old { classes = self.old.classes ++ class ∷ [] }) }
+        ensures added { OnOk result (self.new
+            ≡ record self.old { classes = self.old.classes ++ class ∷ [] }) }
     {
         let number = self.classes.len();
         match append_class(&mut self.classes, class) {
@@ -279,8 +291,8 @@ impl Classes {
         }
     }
 
-    /// The body that the class gives for the method of the interface: for a built-in class the built-in one. None exactly
-    /// where it gives none; such a method leaves with E_NOTIMPL.
+    /// The body that the class gives for the method of the interface: for a built-in class the built-in one.
+    /// None exactly where it gives none; such a method leaves with E_NOTIMPL.
     pub fn body(&self, class: u32, iface: u16, method: u16) -> Option<&Body>
         ensures { option_copied result ≡ body_at self.now class iface method }
     {
@@ -323,7 +335,8 @@ fn append_interface(
     interface: Interface,
 ) -> Result<(), Memory>
     requires { index_of same_key table.old (key_of interface.iid) ≡ None }
-    ensures ok { OnOk result (table.new.entries ≡ table.old.entries ++ (key_of interface.iid, interface) ∷ []) }
+    ensures ok { OnOk result (table.new.entries
+        ≡ table.old.entries ++ (key_of interface.iid, interface) ∷ []) }
     ensures err { OnErr result (table.new.entries ≡ table.old.entries) }
 {
     match table.insert(key_of(&interface.iid), interface) {

@@ -40,11 +40,12 @@ pub struct Factory;
 impl Factory {
     /// The new object that a CLSID and an IID ask for (CoCreateInstance). It takes no memory.
     ///
-    /// REGDB_E_CLASSNOTREG comes exactly where no class has the CLSID, and else E_NOINTERFACE exactly where the IID names no
-    /// interface of the class, which IUnknown always is. The owner goes by the class's threading model: the main STA for none;
-    /// for `Apartment` the creator's apartment if it is an STA, else the host's STA; the multithreaded apartment for `Free`;
-    /// the running apartment for `Both`; the neutral apartment for `Neutral` and `Agile`. A creator that runs in the neutral
-    /// apartment counts for `Apartment` as its lane's home.
+    /// REGDB_E_CLASSNOTREG comes exactly where no class has the CLSID, and else E_NOINTERFACE exactly where
+    /// the IID names no interface of the class, which IUnknown always is. The owner goes by the class's
+    /// threading model: the main STA for none; for `Apartment` the creator's apartment if it is an STA, else
+    /// the host's STA; the multithreaded apartment for `Free`; the running apartment for `Both`; the neutral
+    /// apartment for `Neutral` and `Agile`. A creator that runs in the neutral apartment counts for
+    /// `Apartment` as its lane's home.
     pub fn create_instance(
         classes: &Classes,
         clsid: &Guid,

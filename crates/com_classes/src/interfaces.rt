@@ -2,7 +2,8 @@
 
 use com_base::{ByteList, Guid, Kind, Rows};
 
-/// A method of an interface: its name, the kinds of its parameters, and the kind of its result where it has one.
+/// A method of an interface: its name, the kinds of its parameters, and the kind of its result where it has
+/// one.
 #[derive(Debug, Drop)]
 pub struct Method {
     /// Its name, of 1 to 32 characters, which no other method of the interface has.

@@ -1,5 +1,6 @@
 -- How many bodies of each object run, and what an entry changes in that.
-use Rattle.std.specs.Prelude.{◌≡◌, ℕ, suc, ◌+◌, ◌-◌, ◌==◌, List, [], ◌∷◌, ◌++◌, Option, Some, None, length, slice_index_or, slice_set}
+use Rattle.std.specs.Prelude.{◌≡◌, ℕ, suc, ◌+◌, ◌-◌, ◌==◌, List, [], ◌∷◌, ◌++◌, Option, Some, None, length}
+use Rattle.std.specs.Prelude.{slice_index_or, slice_set}
 use Rattle.com_books.specs.Counting.{count_if, sum_below}
 use Rattle.com_model.specs.declared.deeds.Deed.{Deed}
 use Rattle.com_model.specs.declared.deeds.Deed.TheVariants as deed
@@ -20,7 +21,8 @@ bodies_among x (_ ∷ os) = bodies_among x os
 abbrev pub bodies_over : Scenario → (openers : ℕ → List Opener) → (object : ℕ) → ℕ
 bodies_over s os x = sum_below (lanes s) (λ k. bodies_among x (os (suc k)))
 
--- The list has a row for each object, and one for number 0, and each row is how many bodies of that object are open.
+-- The list has a row for each object, and one for number 0, and each row is how many bodies of that object
+-- are open.
 pub record CountsBodies (s : Scenario) (st : State) (entered : List ℕ) : Type 0 where
   pub rows : length entered ≡ objects_in st + 1
   pub each : (x : ℕ) → slice_index_or entered x 0 ≡ bodies_over s (openers_in st) x

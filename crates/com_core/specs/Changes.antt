@@ -20,8 +20,8 @@ abbrev pub sent_by : Option Issued → Option Sent
 sent_by None = None
 sent_by (Some x) = Some (record { refusal = x.refusal; values = x.values })
 
--- The parts after an entry: with who acts, the step of whoever does, who acts afterwards, whether the caller of the call that a
--- Verdict names has a filter, what the call has that it issues, and the clock before it.
+-- The parts after an entry: with who acts, the step of whoever does, who acts afterwards, whether the caller
+-- of the call that a Verdict names has a filter, what the call has that it issues, and the clock before it.
 pub record Becomes (p q : PartTables) (e : Entry) (acting : Actor) (r : Option Outcome) (follows : Actor) (filtered : Bool) (x : Option Sent) (clock : ℕ) : Type 0 where
   pub lanes : q.lanes ≡ lanes_after p.lanes e
   pub objects : q.objects ≡ objects_after p.objects e
@@ -34,7 +34,8 @@ abbrev pub SettlesAs : (gone : Option ℕ) → (before fresh after : List ℕ) �
 SettlesAs gone before fresh later =
     (dying : ℕ → Bool) (n : ℕ) → DieBut dying gone before → Falls dying n before fresh → later ≡ fallen_more dying n before
 
--- Those of the candidates that are dying by the objects, the holders and the bodies after an entry, and were not before.
+-- Those of the candidates that are dying by the objects, the holders and the bodies after an entry, and were
+-- not before.
 abbrev pub fresh_by : ObjectTables → (holders : ℕ → ℕ) → (entered fallen touched : List ℕ) → Deed → (acting : Actor) → List ℕ
 fresh_by o holders entered fallen touched d a =
     filter (begins_by o holders entered fallen) (placed_in (other_object (length o.makings) d a) touched)

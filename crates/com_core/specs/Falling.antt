@@ -1,5 +1,6 @@
 -- The objects that begin to die by an entry.
-use Rattle.std.specs.Prelude.{◌≡◌, ℕ, ◌≤◌, Bool, true, not, ◌==◌, ◌&&◌, nat_lt, if◌then◌else◌, List, [], ◌∷◌, Option, Some, None, is_some, length, slice_index_or}
+use Rattle.std.specs.Prelude.{◌≡◌, ℕ, ◌≤◌, Bool, true, not, ◌==◌, ◌&&◌, nat_lt, if◌then◌else◌, List, [], ◌∷◌}
+use Rattle.std.specs.Prelude.{Option, Some, None, is_some, length, slice_index_or}
 use Rattle.com_model.specs.declared.deeds.Deed.{Deed}
 use Rattle.com_model.specs.declared.scenario.Scenario.{Scenario}
 use Rattle.com_model.specs.Dying.{is_dying_by}
@@ -12,7 +13,8 @@ use Rattle.com_state.specs.Parts.{ObjectTables}
 use Rattle.com_dying.specs.Falling.{LosesLast, holders_of}
 use Rattle.com_core.specs.Bodies.{left_object}
 
--- Whether an object is dying, by the objects, by how many holders each has, and by how many bodies of each run.
+-- Whether an object is dying, by the objects, by how many holders each has, and by how many bodies of each
+-- run.
 abbrev pub dies_by : ObjectTables → (holders : ℕ → ℕ) → (entered : List ℕ) → ℕ → Bool
 dies_by o holders entered x =
     is_dying_by (length o.makings) (λ y. is_member y o.finaled) holders (λ y. not (slice_index_or entered y 0 == 0)) x
@@ -34,7 +36,8 @@ placed_in (Some x) xs = placed x xs
 abbrev pub made_object : (objects : ℕ) → Deed → Option ℕ
 made_object n d = if is_some (makes d) then Some n else None
 
--- The object that may be without holder and body though it lost no holder: one that is made, or whose body ends.
+-- The object that may be without holder and body though it lost no holder: one that is made, or whose body
+-- ends.
 abbrev pub other_object : (objects : ℕ) → Deed → (acting : Actor) → Option ℕ
 other_object n d b = or_else (made_object n d) (left_object d b)
 

@@ -12,8 +12,8 @@ use Rattle.com_core.specs.declared.running.Running.{Running}
 use Rattle.com_core.specs.Making.{IsCore, MakesNext}
 use Rattle.com_core.specs.Stands.{state_read}
 
--- The scenario; the parts, who holds references, how many bodies of each object run, the dying objects and the clock in
--- milliseconds; and whether a change was left half done for want of memory.
+-- The scenario; the parts, who holds references, how many bodies of each object run, the dying objects and
+-- the clock in milliseconds; and whether a change was left half done for want of memory.
 pub record CoreView : Type 0 where
   pub scenario : Scenario
   pub parts : PartTables
@@ -49,8 +49,8 @@ pub record Makes (lane : ℕ) (old new : CoreView) (e : Entry) : Type 0 where
 abbrev pub IsWhole : CoreView → Type 0
 IsWhole c = IsCore c.scenario (core_state c) c.parts (books_held c.held) c.entered c.fallen c.clock
 
--- The entry is the next one of its lane in the core's state, and all has become what it is in the state after it: the books, where
--- the ledger was tied to the state.
+-- The entry is the next one of its lane in the core's state, and all has become what it is in the state after
+-- it: the books, where the ledger was tied to the state.
 abbrev pub Steps : (lane : ℕ) → (old new : CoreView) → Entry → Type 0
 Steps lane old new e =
     MakesNext old.scenario (core_state old) old.parts new.parts old.held new.held old.entered new.entered old.fallen new.fallen old.clock lane e.deed
@@ -64,7 +64,8 @@ pub record IsKept (c : CoreView) : Type 0 where
 abbrev pub KeptUnless : CoreView → Type 0
 KeptUnless c = c.broken ≡ false → Formed c.scenario → IsKept c
 
--- A core before its first entry: its state is the first one of the scenario, its parts are those of it, and so are its books.
+-- A core before its first entry: its state is the first one of the scenario, its parts are those of it, and
+-- so are its books.
 pub record IsFirst (s : Scenario) (c : CoreView) : Type 0 where
   pub state : core_state c ≡ first_tables s
   pub whole : IsWhole c

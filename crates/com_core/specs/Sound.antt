@@ -15,8 +15,8 @@ pub record Sound (parts : PartTables) (entered : List ℕ) : Type 0 where
 abbrev pub SoundUnless : (broken : Bool) → PartTables → List ℕ → Type 0
 SoundUnless broken parts entered = broken ≡ false → Sound parts entered
 
--- There were a million entries at most, and no more apartments were made than there were entries. This holds also where a change
--- was left half done.
+-- There were a million entries at most, and no more apartments were made than there were entries. This holds
+-- also where a change was left half done.
 pub record Few (parts : PartTables) : Type 0 where
   pub entries : parts.entries ≤ 1_000_000
   pub stas : length parts.lanes.stas ≤ parts.entries

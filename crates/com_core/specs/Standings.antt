@@ -11,7 +11,8 @@ use Rattle.com_view.specs.Seen.{Seen, dying_seen}
 use Rattle.com_drive.specs.declared.runtime.Standing.{Standing}
 use Rattle.com_drive.specs.declared.runtime.Standing.TheVariants as standing
 
--- Finished where all is done; else it runs where a lane can step, and the clock goes on where a call waits for a time.
+-- Finished where all is done; else it runs where a lane can step, and the clock goes on where a call waits
+-- for a time.
 abbrev pub standing_by : Scenario → Sight → Standing
 standing_by s v =
     if finished_by s v then standing.Finished

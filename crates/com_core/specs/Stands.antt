@@ -11,7 +11,8 @@ use Rattle.com_model.specs.State.{State, StandsFor, SceneTables, BookTables, boo
 use Rattle.com_parts.specs.declared.change.Sent.{Sent}
 use Rattle.com_parts.specs.Tables.{PartTables}
 use Rattle.com_state.specs.After.{acting_in, step_in, actor_after, issuing_in, moment_in}
-use Rattle.com_state.specs.Parts.{LaneTables, ObjectTables, CallTables, lanes_of, objects_of, calls_of, state_of}
+use Rattle.com_state.specs.Parts.{LaneTables, ObjectTables, CallTables, lanes_of, objects_of, calls_of}
+use Rattle.com_state.specs.Parts.{state_of}
 use Rattle.com_view.specs.Seen.{Seen}
 
 -- The parts, the books, the list of the dying and the clock are those of a state.
@@ -59,8 +60,9 @@ abbrev pub IsSent : Scenario → State → Entry → Option Sent → Type 0
 IsSent s st e None = issues e.lane e.deed ≡ None
 IsSent s st e (Some x) = issuing_in s st e ≡ record { refusal = x.refusal; values = x.values }
 
--- What is handed to the parts of an entry is what there is in the state: who acts, the step of whoever does, who acts afterwards,
--- whether the caller of a call has a filter, and what the call has that the entry issues.
+-- What is handed to the parts of an entry is what there is in the state: who acts, the step of whoever does,
+-- who acts afterwards, whether the caller of a call has a filter, and what the call has that the entry
+-- issues.
 pub record IsGiven (s : Scenario) (st : State) (e : Entry) (acting : Actor) (r : Option Outcome) (follows : Actor) (filtered : Bool) (x : Option Sent) : Type 0 where
   pub acts : acting ≡ acting_in s st e
   pub step : r ≡ step_in s st e

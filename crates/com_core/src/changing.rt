@@ -1,6 +1,7 @@
 //! The change of a core by an entry.
 
-ghost use Rattle.std.specs.Prelude.{◌≡◌, ℕ, ◌+◌, ◌<◌, ◌^◌, All, IfOk, OnErr, OnOk, false, is_some, length, map, slice_index_or, ◌≤◌};
+ghost use Rattle.std.specs.Prelude.{◌≡◌, ℕ, ◌+◌, ◌<◌, ◌^◌, All, IfOk, OnErr, OnOk, false, is_some, length};
+ghost use Rattle.std.specs.Prelude.{map, slice_index_or, ◌≤◌};
 ghost use Rattle.com_calls.specs.Kept.{IsNamed};
 ghost use Rattle.com_core.specs.Making.{BookedBy, Changed, IsCore, MakesNext};
 ghost use Rattle.com_drive.specs.declared.runtime.Standing.TheVariants as standing;
@@ -38,8 +39,9 @@ use com_servant::Servant;
 use com_turns::{Turn, actor_after, fits_deed, is_filtered, next_turn};
 use std::alloc::Global;
 
-/// What an entry's change rests on of the parts before it: who acts in the lane after the entry, whether the caller's lane of the
-/// call of a Verdict has a message filter, the home of the lane, and the apartment in which it runs.
+/// What an entry's change rests on of the parts before it: who acts in the lane after the entry, whether the
+/// caller's lane of the call of a Verdict has a message filter, the home of the lane, and the apartment in
+/// which it runs.
 #[derive(Debug, Clone, Copy)]
 struct Glance {
     after: Actor,
@@ -74,12 +76,15 @@ fn ticked(deed: &Deed, clock: u64) -> u64
 impl Running {
     // What an entry's change rests on.
     fn glance(&self, scenario: &Scenario, entry: &Entry) -> Glance
-        ensures home { result.home ≡ home_seen (seen_by scenario.now self.now.parts self.now.fallen self.now.clock) entry.now.lane }
+        ensures home { result.home ≡ home_seen
+            (seen_by scenario.now self.now.parts self.now.fallen self.now.clock) entry.now.lane }
         ensures running { result.running
-            ≡ running_seen (seen_by scenario.now self.now.parts self.now.fallen self.now.clock) entry.now.lane }
+            ≡ running_seen (seen_by scenario.now self.now.parts self.now.fallen self.now.clock)
+            entry.now.lane }
         ensures after { length (openers_at self.now.parts.lanes entry.now.lane) < 2 ^ 32
             → entry.now.lane < length self.now.parts.lanes.openers
-            → acting_of result.after ≡ actor_later (seen_by scenario.now self.now.parts self.now.fallen self.now.clock)
+            → acting_of result.after ≡ actor_later
+            (seen_by scenario.now self.now.parts self.now.fallen self.now.clock)
             entry.now.lane entry.now.deed }
         ensures filtered { result.filtered ≡ filtered_by (λ c. is_some (filter_seen
             (seen_by scenario.now self.now.parts self.now.fallen self.now.clock)
@@ -94,7 +99,8 @@ impl Running {
         }
     }
 
-    // What the entry takes from places and brings to them, and who holds references after it. The only error is want of memory.
+    // What the entry takes from places and brings to them, and who holds references after it. The only error
+    // is want of memory.
     #[tactic(auto, using(crate::proofs::Whole::bodies_whole, crate::proofs::Whole::frame_whole))]
     fn change_holders(
         &mut self,
@@ -111,7 +117,8 @@ impl Running {
         ensures moves { OnOk result (self.new.moves ≡ moves_stepped
             (ground_at glance.home self.old.parts.objects self.old.parts.calls.tables) self.old.parts.scene
             (acting_of acting) outcome.now (acting_of glance.after) entry.now) }
-        ensures booked { OnOk result (BookedBy scenario.now self.old.parts glance.home glance.running carried.now entry.now
+        ensures booked { OnOk result
+            (BookedBy scenario.now self.old.parts glance.home glance.running carried.now entry.now
             (acting_of acting) outcome.now (acting_of glance.after) self.old.ledger self.new.ledger) }
         ensures parts { self.new.parts ≡ self.old.parts }
         ensures entered { self.new.entered ≡ self.old.entered }
@@ -158,7 +165,8 @@ impl Running {
         requires few { Few self.old.parts }
         requires room { self.old.parts.entries < 1_000_000 }
         ensures few { Few self.new.parts }
-        ensures becomes { OnOk result (Becomes self.old.parts self.new.parts entry.now (acting_of acting) outcome
+        ensures becomes { OnOk result (Becomes self.old.parts self.new.parts entry.now
+            (acting_of acting) outcome
             (acting_of glance.after) glance.filtered (sent_by issued) self.old.clock) }
         ensures bodies { OnOk result (All HasSlots self.new.parts.scene.bodies) }
         ensures entered { self.new.entered ≡ self.old.entered }
@@ -179,12 +187,15 @@ impl Running {
         })
     }
 
-    // The running bodies and the dying objects after the entry, whose parts are those after it. The only error is want of memory.
+    // The running bodies and the dying objects after the entry, whose parts are those after it. The only
+    // error is want of memory.
     fn settle(&mut self, deed: &Deed, acting: Actor) -> Result<(), Memory>
         requires few { (o : ℕ) → slice_index_or self.old.entered o 0 + 1 < 2 ^ 32 }
         ensures runs { OnOk result ((n : ℕ) → Most n self.old.entered → Most (n + 1) self.new.entered) }
-        ensures entered { OnOk result (self.new.entered ≡ entered_after deed.now (acting_of acting) self.old.entered) }
-        ensures fallen { OnOk result (Settles self.new.parts.objects (holders_of self.new.ledger.tables) self.new.entered
+        ensures entered { OnOk result (self.new.entered
+            ≡ entered_after deed.now (acting_of acting) self.old.entered) }
+        ensures fallen { OnOk result (Settles self.new.parts.objects
+            (holders_of self.new.ledger.tables) self.new.entered
             self.old.fallen self.new.ledger.touched deed.now (acting_of acting) self.new.fallen) }
         ensures parts { self.new.parts ≡ self.old.parts }
         ensures ledger { self.new.ledger ≡ self.old.ledger }
@@ -203,7 +214,8 @@ impl Running {
         self.fallen.settle(released_by(deed), self.fresh.as_slice())
     }
 
-    // Makes of all what an entry makes of it, with what it rests on. The only error is want of memory, and then it may be half done.
+    // Makes of all what an entry makes of it, with what it rests on. The only error is want of memory, and
+    // then it may be half done.
     #[tactic(auto, using(crate::proofs::Runs::few_run))]
     fn change(
         &mut self,
@@ -222,13 +234,17 @@ impl Running {
         requires whole { IsWhole outcome }
         ensures few { Few self.new.parts }
         ensures sound { OnOk result (Sound self.new.parts self.new.entered) }
-        ensures becomes { OnOk result (Becomes self.old.parts self.new.parts entry.now (acting_of acting) outcome
+        ensures becomes { OnOk result (Becomes self.old.parts self.new.parts entry.now
+            (acting_of acting) outcome
             (acting_of glance.after) glance.filtered (sent_by issued) self.old.clock) }
-        ensures entered { OnOk result (self.new.entered ≡ entered_after entry.now.deed (acting_of acting) self.old.entered) }
-        ensures fallen { OnOk result (Settles self.new.parts.objects (holders_of self.new.ledger.tables) self.new.entered
+        ensures entered { OnOk result (self.new.entered
+            ≡ entered_after entry.now.deed (acting_of acting) self.old.entered) }
+        ensures fallen { OnOk result (Settles self.new.parts.objects
+            (holders_of self.new.ledger.tables) self.new.entered
             self.old.fallen self.new.ledger.touched entry.now.deed (acting_of acting) self.new.fallen) }
         ensures clock { OnOk result (self.new.clock ≡ ticked entry.now.deed self.old.clock) }
-        ensures booked { OnOk result (BookedBy scenario.now self.old.parts glance.home glance.running carried.now entry.now
+        ensures booked { OnOk result
+            (BookedBy scenario.now self.old.parts glance.home glance.running carried.now entry.now
             (acting_of acting) outcome (acting_of glance.after) self.old.ledger self.new.ledger) }
         ensures broken { self.new.broken ≡ self.old.broken }
     {
@@ -256,7 +272,8 @@ impl Running {
         ensures sound { SoundUnless self.new.broken self.new.parts self.new.entered }
         ensures entries { OnOk result (self.new.parts.entries ≡ self.old.parts.entries + 1) }
         ensures clock { OnOk result (self.new.clock ≡ ticked entry.now.deed self.old.clock) }
-        ensures changed { OnOk result (Changed scenario.now self.old.parts self.new.parts self.old.ledger self.new.ledger
+        ensures changed { OnOk result
+            (Changed scenario.now self.old.parts self.new.parts self.old.ledger self.new.ledger
             self.old.entered self.new.entered self.old.fallen self.new.fallen self.old.clock entry.now (acting_of acting)
             outcome carried.now (sent_by issued)) }
         ensures whole { OnOk result (self.new.broken ≡ false) }
@@ -292,7 +309,8 @@ impl Running {
         ensures next { IfOk result (λ entry. IsCore scenario.now (state_read scenario.now self.old.parts
             (books_held self.old.ledger) self.old.fallen self.old.clock) self.old.parts (books_held self.old.ledger)
             self.old.entered self.old.fallen self.old.clock → 1 ≤ lane → lane ≤ lanes scenario.now
-            → MakesNext scenario.now (state_read scenario.now self.old.parts (books_held self.old.ledger) self.old.fallen
+            → MakesNext scenario.now (state_read scenario.now self.old.parts
+            (books_held self.old.ledger) self.old.fallen
             self.old.clock) self.old.parts self.new.parts self.old.ledger self.new.ledger self.old.entered
             self.new.entered self.old.fallen self.new.fallen self.old.clock lane entry.deed) }
         ensures unbroken { OnOk result (self.new.broken ≡ false) }
@@ -334,10 +352,12 @@ impl Running {
         requires row { map kind_of servants.old.items ≡ row }
         ensures whole { IfOk result (λ made. IsWhole made.outcome) }
         ensures named { IsNamed self.now.parts.objects self.now.parts.calls }
-        ensures turn { IfOk result (λ made. IsTurn (seen_by scenario.now self.now.parts self.now.fallen self.now.clock)
+        ensures turn { IfOk result (λ made. IsTurn
+            (seen_by scenario.now self.now.parts self.now.fallen self.now.clock)
             (books_held self.now.ledger) lane made) }
         ensures row { map kind_of servants.new.items ≡ row }
-        ensures served { OnOk result (map stepped servants.new.items ≡ one_served (kind_seen (seen_by scenario.now
+        ensures served { OnOk result (map stepped servants.new.items
+            ≡ one_served (kind_seen (seen_by scenario.now
             self.now.parts self.now.fallen self.now.clock) lane) (map stepped servants.old.items)) }
     {
         let view = self.view(scenario);
@@ -366,14 +386,16 @@ impl Running {
         ensures next { IfOk result (λ entry. IsCore scenario.now (state_read scenario.now self.old.parts
             (books_held self.old.ledger) self.old.fallen self.old.clock) self.old.parts (books_held self.old.ledger)
             self.old.entered self.old.fallen self.old.clock → 1 ≤ lane → lane ≤ lanes scenario.now
-            → MakesNext scenario.now (state_read scenario.now self.old.parts (books_held self.old.ledger) self.old.fallen
+            → MakesNext scenario.now (state_read scenario.now self.old.parts
+            (books_held self.old.ledger) self.old.fallen
             self.old.clock) self.old.parts self.new.parts self.old.ledger self.new.ledger self.old.entered
             self.new.entered self.old.fallen self.new.fallen self.old.clock lane entry.deed) }
         ensures unbroken { OnOk result (self.new.broken ≡ false) }
         ensures err { OnErr result (self.new.broken ≡ false → self.new ≡ self.old) }
         ensures was { OnOk result (self.old.broken ≡ false) }
         ensures row { map kind_of servants.new.items ≡ row }
-        ensures served { OnOk result (map stepped servants.new.items ≡ one_served (kind_seen (seen_by scenario.now
+        ensures served { OnOk result (map stepped servants.new.items
+            ≡ one_served (kind_seen (seen_by scenario.now
             self.old.parts self.old.fallen self.old.clock) lane) (map stepped servants.old.items)) }
     {
         if self.broken {
@@ -395,9 +417,11 @@ impl Running {
         ensures clock { IfOk result (λ entry. self.new.clock ≡ ticked entry.deed self.old.clock) }
         ensures next { IfOk result (λ entry. IsCore scenario.now (state_read scenario.now self.old.parts
             (books_held self.old.ledger) self.old.fallen self.old.clock) self.old.parts (books_held self.old.ledger)
-            self.old.entered self.old.fallen self.old.clock → standing_of scenario.now (state_read scenario.now
+            self.old.entered self.old.fallen self.old.clock
+            → standing_of scenario.now (state_read scenario.now
             self.old.parts (books_held self.old.ledger) self.old.fallen self.old.clock) ≡ standing.Ticks
-            → MakesNext scenario.now (state_read scenario.now self.old.parts (books_held self.old.ledger) self.old.fallen
+            → MakesNext scenario.now (state_read scenario.now self.old.parts
+            (books_held self.old.ledger) self.old.fallen
             self.old.clock) self.old.parts self.new.parts self.old.ledger self.new.ledger self.old.entered
             self.new.entered self.old.fallen self.new.fallen self.old.clock 0 entry.deed) }
         ensures unbroken { OnOk result (self.new.broken ≡ false) }

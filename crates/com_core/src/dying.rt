@@ -1,6 +1,7 @@
 //! The objects that begin to die by an entry.
 
-ghost use Rattle.std.specs.Prelude.{◌≡◌, ℕ, ◌+◌, ◌++◌, ◌∷◌, [], ◌<◌, ◌^◌, List, IfOk, OnOk, filter, is_some, slice_index_or};
+ghost use Rattle.std.specs.Prelude.{◌≡◌, ℕ, ◌+◌, ◌++◌, ◌∷◌, [], ◌<◌, ◌^◌, List, IfOk, OnOk, filter, is_some};
+ghost use Rattle.std.specs.Prelude.{slice_index_or};
 ghost use Rattle.com_core.specs.Bodies.{entered_after, left_object, without_body};
 ghost use Rattle.com_core.specs.Falling.{begins_by, other_object, placed_in};
 ghost use Rattle.com_core.specs.Sound.{Most};
@@ -15,8 +16,8 @@ use com_model::Deed;
 use com_objects::{Entered, Fallen, Objects};
 use com_scene::Actor;
 
-/// What says whether an object is dying: the objects, who holds references, how many bodies of each object run, and the objects
-/// that were dying before.
+/// What says whether an object is dying: the objects, who holds references, how many bodies of each object
+/// run, and the objects that were dying before.
 #[derive(Clone, Copy)]
 pub struct Fates<'a> {
     pub objects: &'a Objects,
@@ -52,8 +53,8 @@ fn is_making(deed: &Deed) -> bool
     }
 }
 
-/// The object that may be without holder and body though it lost no holder: the last one, where the entry made it, or the one whose
-/// body the entry ends.
+/// The object that may be without holder and body though it lost no holder: the last one, where the entry
+/// made it, or the one whose body the entry ends.
 pub fn other_by(deed: &Deed, acting: Actor, objects: u32) -> Option<u32>
     ensures { result ≡ other_object objects deed.now (acting_of acting) }
 {
@@ -121,10 +122,12 @@ fn is_among(objects: &[u32], object: u32) -> bool
 }
 
 impl<'a> Fates<'a> {
-    // Whether an object is dying and was not before: it was made and is not released, nothing holds it, and none of its bodies runs.
+    // Whether an object is dying and was not before: it was made and is not released, nothing holds it, and
+    // none of its bodies runs.
     #[tactic(auto, using(crate::proofs::Begins::not_zero, crate::proofs::Begins::not_above, crate::proofs::Begins::not_held, crate::proofs::Begins::not_running, crate::proofs::Begins::not_released, crate::proofs::Begins::else_begins))]
     fn begins_to_die(&self, object: u32) -> bool
-        ensures { result ≡ begins_by self.now.objects.now (holders_of self.now.ledger.now.tables) self.now.entered.now self.now.fallen.now object }
+        ensures { result ≡ begins_by self.now.objects.now
+            (holders_of self.now.ledger.now.tables) self.now.entered.now self.now.fallen.now object }
     {
         if object == 0 {
             return false;
@@ -155,17 +158,19 @@ impl<'a> Fates<'a> {
         Ok(())
     }
 
-    // Keeps the same of two lists: the one object beside, where its number is the next, and the next that lost a holder.
-    // Answers the one beside where its turn is yet to come.
+    // Keeps the same of two lists: the one object beside, where its number is the next, and the next that
+    // lost a holder. Answers the one beside where its turn is yet to come.
     fn keep_next(
         &self,
         fresh: &mut Vec<u32>,
         other: Option<u32>,
         object: u32,
     ) -> Result<Option<u32>, Memory>
-        ensures { IfOk result (λ left. (rest : List ℕ) → fresh.new.items ++ filter (begins_by self.now.objects.now
+        ensures { IfOk result (λ left. (rest : List ℕ)
+            → fresh.new.items ++ filter (begins_by self.now.objects.now
             (holders_of self.now.ledger.now.tables) self.now.entered.now self.now.fallen.now) (placed_in left rest)
-            ≡ fresh.old.items ++ filter (begins_by self.now.objects.now (holders_of self.now.ledger.now.tables)
+            ≡ fresh.old.items ++ filter (begins_by self.now.objects.now
+            (holders_of self.now.ledger.now.tables)
             self.now.entered.now self.now.fallen.now) (placed_in other (object ∷ rest))) }
     {
         let Some(number) = other else {
@@ -184,10 +189,11 @@ impl<'a> Fates<'a> {
         Ok(other)
     }
 
-    /// Keeps the objects that begin to die, by number: of those that lost a holder, and of one beside. The only error is want of
-    /// memory.
+    /// Keeps the objects that begin to die, by number: of those that lost a holder, and of one beside. The
+    /// only error is want of memory.
     pub fn find_dying(&self, fresh: &mut Vec<u32>, other: Option<u32>) -> Result<(), Memory>
-        ensures { OnOk result (fresh.new.items ≡ filter (begins_by self.now.objects.now (holders_of self.now.ledger.now.tables)
+        ensures { OnOk result (fresh.new.items
+            ≡ filter (begins_by self.now.objects.now (holders_of self.now.ledger.now.tables)
             self.now.entered.now self.now.fallen.now) (placed_in other self.now.ledger.now.touched)) }
     {
         fresh.clear();

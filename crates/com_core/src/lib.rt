@@ -1,7 +1,8 @@
 //! The core of many lanes: the state of a runtime by parts, and the next entry of each lane.
 //!
-//! An entry is made in this order: who acts in the lane, the step of whoever does and the entry that the rules give; what the entry
-//! takes from places and brings to them; then the books, the parts, and the objects that begin to die.
+//! An entry is made in this order: who acts in the lane, the step of whoever does and the entry that the
+//! rules give; what the entry takes from places and brings to them; then the books, the parts, and the
+//! objects that begin to die.
 #![tactic(auto)]
 
 mod changing;

@@ -15,9 +15,9 @@ use com_parts::Parts;
 use com_view::View;
 use std::alloc::Global;
 
-/// What a core keeps of a history: the parts, who holds references, how many bodies of each object run, the dying objects, and the
-/// clock in milliseconds. `moves` and `fresh` are used again from entry to entry. `broken` says that a change was left half done
-/// for want of memory.
+/// What a core keeps of a history: the parts, who holds references, how many bodies of each object run, the
+/// dying objects, and the clock in milliseconds. `moves` and `fresh` are used again from entry to entry.
+/// `broken` says that a change was left half done for want of memory.
 #[derive(Drop)]
 pub struct Running {
     pub parts: Parts,
@@ -30,8 +30,8 @@ pub struct Running {
     pub broken: bool,
 }
 
-/// The answer where an entry is none that the rules give, or the history is as long as it may be. No schedule asks for such an
-/// entry; that is not proved here.
+/// The answer where an entry is none that the rules give, or the history is as long as it may be. No schedule
+/// asks for such an entry; that is not proved here.
 pub fn unproved() -> Memory {
     Memory
 }

@@ -30,7 +30,8 @@ use std::alloc::Global;
 use std::marker::Model;
 use std::sync::Arc;
 
-/// A runtime of a scenario: it keeps what the rules need, and makes one entry at a time. It shares the scenario with its caller.
+/// A runtime of a scenario: it keeps what the rules need, and makes one entry at a time. It shares the
+/// scenario with its caller.
 ///
 /// Lanes are numbered from 1: the threads in order, the host's lane, then the pool's. Lane 0 is the clock's.
 #[derive(Drop)]
@@ -51,13 +52,14 @@ impl Model for Core {
 
     ghost view = { λ c. core_of (arc_value c.scenario) c.running };
 
-    ghost invariant = { λ c. SoundUnless c.running.broken c.running.parts c.running.entered × Few c.running.parts
+    ghost invariant = { λ c. SoundUnless c.running.broken c.running.parts c.running.entered
+        × Few c.running.parts
         × (c.count ≡ lanes (arc_value c.scenario)) × (length (arc_value c.scenario).threads < 2 ^ 32)
         × KeptUnless (core_of (arc_value c.scenario) c.running) };
 }
 
-// How many lanes a scenario has: one for each thread, the host's, and the pool's. `None` only where a number of 32 bits does
-// not hold that.
+// How many lanes a scenario has: one for each thread, the host's, and the pool's. `None` only where a number
+// of 32 bits does not hold that.
 fn lanes_of(scenario: &Scenario) -> Option<u32>
     ensures count { IfSome result (λ count. count ≡ lanes scenario.now) }
     ensures threads { IfSome result (λ count. length scenario.now.threads < 2 ^ 32) }
@@ -81,7 +83,8 @@ impl Core {
         ensures whole { IfOk result (λ core. core.broken ≡ false) }
         ensures entered { IfOk result (λ core. core.entered ≡ 0 ∷ []) }
         ensures held { IfOk result (λ core. IsNew core.held) }
-        ensures first { IfOk result (λ core. Formed (arc_value scenario) → IsFirst (arc_value scenario) core) }
+        ensures first { IfOk result (λ core. Formed (arc_value scenario)
+            → IsFirst (arc_value scenario) core) }
         ensures entries { IfOk result (λ core. core.parts.entries ≡ 0) }
         ensures clock { IfOk result (λ core. core.clock ≡ 0) }
     {
@@ -152,7 +155,8 @@ impl Core {
 
     // Whether an object is connected, or else whether it was released.
     fn state(&self, object: u32) -> ObjectState
-        ensures { result ≡ state_of (is_member object self.now.parts.objects.finaled) ((books_held self.now.held).live object) }
+        ensures { result ≡ state_of (is_member object self.now.parts.objects.finaled)
+            ((books_held self.now.held).live object) }
     {
         if self.running.parts.objects().is_released(object) {
             return ObjectState::Released;
@@ -182,11 +186,12 @@ impl Core {
         }
     }
 
-    /// Makes the next entry of a lane that can step. Where a body runs in the lane, the servant of its class's kind computes the
-    /// step. The row has one servant of each kind, in the order of the kinds.
+    /// Makes the next entry of a lane that can step. Where a body runs in the lane, the servant of its
+    /// class's kind computes the step. The row has one servant of each kind, in the order of the kinds.
     ///
-    /// The only error is want of memory. Where it came while the entry was being made, the runtime makes no more entries: each later
-    /// step answers want of memory. A servant may have counted a step whose entry was not made.
+    /// The only error is want of memory. Where it came while the entry was being made, the runtime makes no
+    /// more entries: each later step answers want of memory. A servant may have counted a step whose entry
+    /// was not made.
     pub fn step(
         &mut self,
         alloc: Global,
@@ -214,8 +219,9 @@ impl Core {
         self.running.step(&self.scenario, alloc, lane, servants)
     }
 
-    /// Makes the clock's entry, where the clock goes on: to the least time that a call waits for. The only error is want of memory;
-    /// where it came while the entry was being made, the runtime makes no more entries.
+    /// Makes the clock's entry, where the clock goes on: to the least time that a call waits for. The only
+    /// error is want of memory; where it came while the entry was being made, the runtime makes no more
+    /// entries.
     pub fn tick(&mut self) -> Result<Entry, Memory>
         ensures entry { IfOk result (λ entry. Makes 0 self.old self.new entry) }
         ensures follows { IfOk result (λ entry. Formed self.old.scenario

@@ -18,7 +18,8 @@ abbrev pub Sees : Sight → ℕ → Option RefValue → Target → Type 0
 Sees v l None t = Unit {0}
 Sees v l (Some r) t = SeesObject v l r.object t
 
--- An interface that is asked for by number has one that fits 16 bits, as each number of a formed scenario does.
+-- An interface that is asked for by number has one that fits 16 bits, as each number of a formed scenario
+-- does.
 abbrev pub FitsNumber : Asked → Type 0
 FitsNumber (asked.Number i) = i < 2 ^ 16
 FitsNumber (asked.Guid g) = Unit {0}

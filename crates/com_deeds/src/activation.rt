@@ -3,7 +3,8 @@
 ghost use Rattle.std.specs.Prelude.{◌≡◌, ℕ, ◌+◌, ◌<◌, ◌^◌, Some, Option};
 ghost use Rattle.com_model.specs.Sight.{Sight};
 ghost use Rattle.com_model.specs.Tables.{class_number, interface_number, shown};
-ghost use Rattle.com_model.specs.Deeds.{created, created_of, creator, made_as, not_made, placing, offers, queried, query_answer, object_in};
+ghost use Rattle.com_model.specs.Deeds.{created, created_of, creator, made_as, not_made, placing, offers};
+ghost use Rattle.com_model.specs.Deeds.{queried, query_answer, object_in};
 ghost use Rattle.com_classes.specs.Lookups.{class_at as class_under};
 ghost use Rattle.com_model.specs.Lists.{number_or_zero};
 ghost use Rattle.com_deeds.specs.Seen.{FitsNumber, Sees};
@@ -61,7 +62,8 @@ fn wide(number: Option<u16>) -> Option<u32>
     }
 }
 
-/// What an entry shows of an interface that is asked for: its number, where the scenario declares it, else its IID.
+/// What an entry shows of an interface that is asked for: its number, where the scenario declares it, else
+/// its IID.
 pub fn shown_interface(scenario: &Scenario, iface: Asked) -> Asked
     requires { FitsNumber iface }
     ensures { result ≡ shown (interface_number scenario.now iface) iface }
@@ -82,10 +84,10 @@ fn not_made(scenario: &Scenario, class: Asked, iface: Asked, hr: HResult) -> Dee
     }
 }
 
-/// The entry of `create` in a lane with this home and running apartment, where `objects` were made so far. It is refused, by the
-/// first that applies, with CO_E_NOTINITIALIZED without home, REGDB_E_CLASSNOTREG where the class is not declared, and
-/// E_NOINTERFACE where the interface is not in the class's set; else the owner is where the class's threading model places the
-/// object (CoCreateInstance).
+/// The entry of `create` in a lane with this home and running apartment, where `objects` were made so far. It
+/// is refused, by the first that applies, with CO_E_NOTINITIALIZED without home, REGDB_E_CLASSNOTREG where
+/// the class is not declared, and E_NOINTERFACE where the interface is not in the class's set; else the owner
+/// is where the class's threading model places the object (CoCreateInstance).
 pub fn created(
     scenario: &Scenario,
     class: Asked,
@@ -97,7 +99,8 @@ pub fn created(
 ) -> Deed
     requires number { FitsNumber iface }
     requires room { objects + 1 < 2 ^ 32 }
-    ensures { (v : Sight) (l : ℕ) → v.running l ≡ running → v.main_sta ≡ main_sta → v.objects ≡ objects → result ≡ created scenario.now v l class iface home }
+    ensures { (v : Sight) (l : ℕ) → v.running l ≡ running → v.main_sta ≡ main_sta → v.objects ≡ objects
+        → result ≡ created scenario.now v l class iface home }
 {
     let Some(home) = home else {
         return not_made(scenario, class, iface, HResult::CO_E_NOTINITIALIZED);
@@ -185,7 +188,8 @@ fn query_answer(
     home: Option<u32>,
     target: Target,
 ) -> HResult
-    ensures { (v : Sight) (l : ℕ) → Sees v l held target → result ≡ query_answer scenario.now v l home held iface }
+    ensures { (v : Sight) (l : ℕ) → Sees v l held target
+        → result ≡ query_answer scenario.now v l home held iface }
 {
     if home.is_none() {
         return HResult::CO_E_NOTINITIALIZED;
@@ -203,9 +207,9 @@ fn query_answer(
     }
 }
 
-/// The entry of `query`. It is refused, by the first that applies, with CO_E_NOTINITIALIZED without home, E_POINTER on null,
-/// RPC_E_DISCONNECTED on a proxy whose object is not connected, and E_NOINTERFACE outside the object's set
-/// (IUnknown::QueryInterface).
+/// The entry of `query`. It is refused, by the first that applies, with CO_E_NOTINITIALIZED without home,
+/// E_POINTER on null, RPC_E_DISCONNECTED on a proxy whose object is not connected, and E_NOINTERFACE outside
+/// the object's set (IUnknown::QueryInterface).
 pub fn queried(
     scenario: &Scenario,
     held: Option<RefValue>,
@@ -214,7 +218,8 @@ pub fn queried(
     target: Target,
 ) -> Deed
     requires { FitsNumber iface }
-    ensures { (v : Sight) (l : ℕ) → v.home l ≡ home → Sees v l held target → result ≡ queried scenario.now v l held iface }
+    ensures { (v : Sight) (l : ℕ) → v.home l ≡ home → Sees v l held target
+        → result ≡ queried scenario.now v l held iface }
 {
     let number = interface_number(scenario, iface);
     Deed::Query {

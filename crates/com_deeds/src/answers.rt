@@ -19,8 +19,8 @@ fn filter_under(scenario: &Scenario, filter: Option<u32>) -> Option<&Filter>
     scenario.filters.as_slice().get(place as usize)
 }
 
-/// The answer to an incoming call of this call type, after so many milliseconds, of the filter with this number; a lane without
-/// filter handles each call (IMessageFilter::HandleInComingCall).
+/// The answer to an incoming call of this call type, after so many milliseconds, of the filter with this
+/// number; a lane without filter handles each call (IMessageFilter::HandleInComingCall).
 pub fn incoming(scenario: &Scenario, filter: Option<u32>, call_type: u8, elapsed: u64) -> Verdict
     ensures { result ≡ incoming_answer (rules_of scenario.now filter) call_type elapsed }
 {
@@ -30,8 +30,8 @@ pub fn incoming(scenario: &Scenario, filter: Option<u32>, call_type: u8, elapsed
     }
 }
 
-/// The answer to a caller that got this verdict, so many milliseconds after its call; -1 of a lane without filter
-/// (IMessageFilter::RetryRejectedCall).
+/// The answer to a caller that got this verdict, so many milliseconds after its call; -1 of a lane without
+/// filter (IMessageFilter::RetryRejectedCall).
 pub fn retried(scenario: &Scenario, filter: Option<u32>, verdict: Verdict, elapsed: u64) -> i64
     ensures { result ≡ retry_answer (rules_of scenario.now filter) verdict elapsed }
 {
@@ -41,8 +41,8 @@ pub fn retried(scenario: &Scenario, filter: Option<u32>, verdict: Verdict, elaps
     }
 }
 
-/// The answer to a waiting caller that has a word, so many milliseconds after its call; PENDINGMSG_WAITDEFPROCESS, 2, of a lane
-/// without filter (IMessageFilter::MessagePending).
+/// The answer to a waiting caller that has a word, so many milliseconds after its call;
+/// PENDINGMSG_WAITDEFPROCESS, 2, of a lane without filter (IMessageFilter::MessagePending).
 pub fn pending(scenario: &Scenario, filter: Option<u32>, elapsed: u64) -> u8
     ensures { result ≡ pending_answer (rules_of scenario.now filter) elapsed }
 {

@@ -13,8 +13,8 @@ pub const MTA: u32 = 1;
 /// The number of the host's STA, the first of all STAs.
 pub const HOST_STA: u32 = 2;
 
-/// The entry of `init` in a lane with this home, where the next STA has the number `next_sta`: S_OK where the lane has no home,
-/// S_FALSE where its home has the same mode, else RPC_E_CHANGED_MODE (CoInitializeEx).
+/// The entry of `init` in a lane with this home, where the next STA has the number `next_sta`: S_OK where the
+/// lane has no home, S_FALSE where its home has the same mode, else RPC_E_CHANGED_MODE (CoInitializeEx).
 pub fn initialised(mode: Mode, home: Option<u32>, next_sta: u32) -> Deed
     ensures { (v : Sight) → v.next_sta ≡ next_sta → result ≡ initialised v mode home }
 {
@@ -51,8 +51,8 @@ fn has_mode(mode: Mode, home: u32) -> bool
     }
 }
 
-/// The entry of `uninit` in a lane with this home and so many initialisations: one less is left, and none of none
-/// (CoUninitialize).
+/// The entry of `uninit` in a lane with this home and so many initialisations: one less is left, and none of
+/// none (CoUninitialize).
 pub fn uninitialised(home: Option<u32>, count: u32) -> Deed
     ensures { (v : Sight) (l : ℕ) → v.home l ≡ home → v.count l ≡ count → result ≡ uninitialised v l }
 {
@@ -62,7 +62,8 @@ pub fn uninitialised(home: Option<u32>, count: u32) -> Deed
     }
 }
 
-/// The entry of `setfilter` in a lane with this home: S_OK where it is an STA, else S_FALSE (CoRegisterMessageFilter).
+/// The entry of `setfilter` in a lane with this home: S_OK where it is an STA, else S_FALSE
+/// (CoRegisterMessageFilter).
 pub fn filter_set(filter: Option<u32>, home: Option<u32>) -> Deed
     ensures { (v : Sight) (l : ℕ) → v.home l ≡ home → result ≡ filter_set v l filter }
 {

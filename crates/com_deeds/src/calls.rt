@@ -13,9 +13,10 @@ use crate::target::Target;
 use com_base::{ByteList, HResult, RefValue};
 use com_model::{Deed, Route, Scenario};
 
-/// Why a call is refused at its issue, if it is: CO_E_NOTINITIALIZED where the lane has no home, E_POINTER on null, E_NOINTERFACE
-/// where the reference is of another interface than the call names, RPC_E_INVALIDMETHOD where the interface has no such method,
-/// RPC_E_DISCONNECTED where the reference is a proxy's and the object is not connected; the first that applies.
+/// Why a call is refused at its issue, if it is: CO_E_NOTINITIALIZED where the lane has no home, E_POINTER on
+/// null, E_NOINTERFACE where the reference is of another interface than the call names, RPC_E_INVALIDMETHOD
+/// where the interface has no such method, RPC_E_DISCONNECTED where the reference is a proxy's and the object
+/// is not connected; the first that applies.
 pub fn call_refusal(
     scenario: &Scenario,
     home: Option<u32>,
@@ -24,7 +25,8 @@ pub fn call_refusal(
     method: u16,
     target: Target,
 ) -> Option<HResult>
-    ensures { (v : Sight) (l : ℕ) → Sees v l held target → result ≡ call_refusal scenario.now home (v.running l) v.owns v.books.live held iface method }
+    ensures { (v : Sight) (l : ℕ) → Sees v l held target
+        → result ≡ call_refusal scenario.now home (v.running l) v.owns v.books.live held iface method }
 {
     if home.is_none() {
         return Some(HResult::CO_E_NOTINITIALIZED);
@@ -74,8 +76,8 @@ fn route_for(direct: bool, owner: u32, home: Option<u32>) -> Route
     }
 }
 
-/// The route of a call to the reference: direct where the lane's running apartment owns the object; a switch where the owner is
-/// the neutral apartment or the lane's home; else by post. To null it takes none.
+/// The route of a call to the reference: direct where the lane's running apartment owns the object; a switch
+/// where the owner is the neutral apartment or the lane's home; else by post. To null it takes none.
 pub fn route_to(held: Option<RefValue>, home: Option<u32>, target: Target) -> Route
     ensures { (v : Sight) (l : ℕ) → v.home l ≡ home → Sees v l held target → result ≡ route_to v l held }
 {
@@ -85,8 +87,8 @@ pub fn route_to(held: Option<RefValue>, home: Option<u32>, target: Target) -> Ro
     }
 }
 
-/// The entry of a call's issue with these parts, where so many calls were issued so far. `bytes` is the request on the routes
-/// that marshal.
+/// The entry of a call's issue with these parts, where so many calls were issued so far. `bytes` is the
+/// request on the routes that marshal.
 pub fn out(
     calls: u32,
     held: Option<RefValue>,

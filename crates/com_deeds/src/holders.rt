@@ -5,7 +5,9 @@ ghost use Rattle.com_model.specs.Answers.{S_OK, E_INVALIDARG};
 ghost use Rattle.com_base.specs.declared.value.RefValue.{RefValue};
 ghost use Rattle.com_books.specs.Changes.{packet, cookie};
 ghost use Rattle.com_model.specs.Sight.{Sight};
-ghost use Rattle.com_model.specs.Deeds.{hold_refusal, registered, cookie_number, got, got_by, got_with, revoked, unmarshalled, unmarshalled_as, dropped, disconnect_answer, object_in, gained_refs};
+ghost use Rattle.com_model.specs.Deeds.{hold_refusal, registered, cookie_number, got, got_by, got_with};
+ghost use Rattle.com_model.specs.Deeds.{revoked, unmarshalled, unmarshalled_as, dropped, disconnect_answer};
+ghost use Rattle.com_model.specs.Deeds.{object_in, gained_refs};
 ghost use Rattle.com_model.specs.declared.deeds.Deed.TheVariants as deed;
 ghost use Rattle.com_deeds.specs.Seen.{Sees, SeesObject};
 ghost use Rattle.com_deeds.specs.Naming.{named_as};
@@ -20,10 +22,11 @@ use com_model::Deed;
 /// The public references that a proxy is given at a time.
 pub const FIVE: u32 = 5;
 
-/// Why a reference is not marshalled or registered, if it is not: CO_E_NOTINITIALIZED without home, E_POINTER for null,
-/// CO_E_OBJNOTCONNECTED where the object is not connected; the first that applies.
+/// Why a reference is not marshalled or registered, if it is not: CO_E_NOTINITIALIZED without home, E_POINTER
+/// for null, CO_E_OBJNOTCONNECTED where the object is not connected; the first that applies.
 pub fn hold_refusal(home: Option<u32>, held: Option<RefValue>, connected: bool) -> Option<HResult>
-    ensures { (v : Sight) → ((r : RefValue) → held ≡ Some r → v.books.live r.object ≡ connected) → result ≡ hold_refusal v home held }
+    ensures { (v : Sight) → ((r : RefValue) → held ≡ Some r → v.books.live r.object ≡ connected)
+        → result ≡ hold_refusal v home held }
 {
     if home.is_none() {
         return Some(HResult::CO_E_NOTINITIALIZED);
@@ -38,7 +41,8 @@ pub fn hold_refusal(home: Option<u32>, held: Option<RefValue>, connected: bool) 
     }
 }
 
-/// The entry of `register`, where so many cookies were given so far (IGlobalInterfaceTable::RegisterInterfaceInGlobal).
+/// The entry of `register`, where so many cookies were given so far
+/// (IGlobalInterfaceTable::RegisterInterfaceInGlobal).
 pub fn registered(held: Option<RefValue>, refusal: Option<HResult>, cookies: u32) -> Deed
     requires { cookies + 1 < 2 ^ 32 }
     ensures { (v : Sight) → length v.books.cookies ≡ cookies → result ≡ registered v held refusal }
@@ -70,11 +74,13 @@ fn gained_refs(mode: MarshalMode, owned: bool, refs: u32) -> u32
     }
 }
 
-/// The entry of `get`, where the cookie's row is `kept` and `target` is what the lane finds of its object. It is refused, by the
-/// first that applies, with CO_E_NOTINITIALIZED without home, E_INVALIDARG where there is no such cookie or it was revoked, and
-/// CO_E_OBJNOTCONNECTED where the object is not connected (IGlobalInterfaceTable::GetInterfaceFromGlobal).
+/// The entry of `get`, where the cookie's row is `kept` and `target` is what the lane finds of its object. It
+/// is refused, by the first that applies, with CO_E_NOTINITIALIZED without home, E_INVALIDARG where there is
+/// no such cookie or it was revoked, and CO_E_OBJNOTCONNECTED where the object is not connected
+/// (IGlobalInterfaceTable::GetInterfaceFromGlobal).
 pub fn got(number: i64, home: Option<u32>, kept: Cookie, target: Target) -> Deed
-    ensures { (v : Sight) (l : ℕ) → cookie v.books (cookie_number number) ≡ kept → SeesObject v l kept.object target → result ≡ got v l number home }
+    ensures { (v : Sight) (l : ℕ) → cookie v.books (cookie_number number) ≡ kept
+        → SeesObject v l kept.object target → result ≡ got v l number home }
 {
     if home.is_none() {
         return not_got(number, HResult::CO_E_NOTINITIALIZED);
@@ -107,8 +113,9 @@ fn not_got(number: i64, hr: HResult) -> Deed
     }
 }
 
-/// The entry of `revoke`, where the cookie's row is `kept`: CO_E_NOTINITIALIZED without home, else E_INVALIDARG where there is no
-/// such cookie or it was revoked (IGlobalInterfaceTable::RevokeInterfaceFromGlobal).
+/// The entry of `revoke`, where the cookie's row is `kept`: CO_E_NOTINITIALIZED without home, else
+/// E_INVALIDARG where there is no such cookie or it was revoked
+/// (IGlobalInterfaceTable::RevokeInterfaceFromGlobal).
 pub fn revoked(number: i64, home: Option<u32>, kept: Cookie) -> Deed
     ensures { (v : Sight) → cookie v.books (cookie_number number) ≡ kept → result ≡ revoked v number home }
 {
@@ -138,10 +145,11 @@ pub enum Named {
     Refused(HResult),
 }
 
-/// The entry of `unmarshal`, where the named packet's row is `kept` and `target` is what the lane finds of its object
-/// (CoUnmarshalInterface).
+/// The entry of `unmarshal`, where the named packet's row is `kept` and `target` is what the lane finds of
+/// its object (CoUnmarshalInterface).
 pub fn unmarshalled(found: Named, kept: Packet, target: Target) -> Deed
-    ensures { (v : Sight) (l : ℕ) → ((p : ℕ) → found ≡ named.Packet p → (packet v.books p ≡ kept) × SeesObject v l kept.object target) → result ≡ unmarshalled v l (named_as found) }
+    ensures { (v : Sight) (l : ℕ) → ((p : ℕ) → found ≡ named.Packet p → (packet v.books p ≡ kept)
+        × SeesObject v l kept.object target) → result ≡ unmarshalled v l (named_as found) }
 {
     match found {
         Named::Refused(hr) => Deed::Unmarshal {
@@ -175,10 +183,11 @@ pub fn dropped(found: Named) -> Deed
     }
 }
 
-/// The entry of `disconnect`: CO_E_NOTINITIALIZED without home, E_POINTER for null, E_INVALIDARG where the lane's running
-/// apartment does not own the object; the first that applies (CoDisconnectObject).
+/// The entry of `disconnect`: CO_E_NOTINITIALIZED without home, E_POINTER for null, E_INVALIDARG where the
+/// lane's running apartment does not own the object; the first that applies (CoDisconnectObject).
 pub fn disconnected(held: Option<RefValue>, home: Option<u32>, target: Target) -> Deed
-    ensures { (v : Sight) (l : ℕ) → Sees v l held target → result ≡ deed.Disconnect (object_in held) (disconnect_answer v l home held) }
+    ensures { (v : Sight) (l : ℕ) → Sees v l held target
+        → result ≡ deed.Disconnect (object_in held) (disconnect_answer v l home held) }
 {
     Deed::Disconnect {
         object: object_in(held),

@@ -1,5 +1,5 @@
-//! The entry of each action, and the parts of each rule, from the plain values that they rest on: the lane's home and running
-//! apartment, what it finds of an object, of a packet, of a call. They keep no state.
+//! The entry of each action, and the parts of each rule, from the plain values that they rest on: the lane's
+//! home and running apartment, what it finds of an object, of a packet, of a call. They keep no state.
 #![tactic(auto)]
 
 mod activation;

@@ -8,8 +8,9 @@ use com_classes::{Creator, ThreadingModel};
 
 const NEUTRAL: u32 = 0;
 
-/// The owner of a new object: the main STA for no model; for `Apartment` the creator's apartment if it is an STA, else the
-/// host's STA; the multithreaded apartment for `Free`; the running apartment for `Both`; the neutral one for `Neutral` and
+/// The owner of a new object: the main STA for no model; for `Apartment` the creator's apartment if it is an
+/// STA, else the host's STA; the multithreaded apartment for `Free`; the running apartment for `Both`; the
+/// neutral one for `Neutral` and
 /// `Agile`.
 pub fn owner_for(model: ThreadingModel, creator: Creator) -> u32
     ensures { result ≡ owner_for model creator }

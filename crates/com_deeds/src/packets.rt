@@ -4,7 +4,8 @@ ghost use Rattle.std.specs.Prelude.{◌≡◌, ℕ, Some, IfOk, IfErr};
 ghost use Rattle.com_model.specs.Answers.{S_OK};
 ghost use Rattle.com_model.specs.declared.deeds.Deed.TheVariants as deed;
 ghost use Rattle.com_model.specs.Sight.{Sight};
-ghost use Rattle.com_model.specs.Deeds.{packet_fields, written_refs, ipid, iid_of, named_by, named_or, named_packet, Refuses, marshalled};
+ghost use Rattle.com_model.specs.Deeds.{packet_fields, written_refs, ipid, iid_of, named_by, named_or};
+ghost use Rattle.com_model.specs.Deeds.{named_packet, Refuses, marshalled};
 ghost use Rattle.com_classes.specs.Lookups.{interface_at};
 ghost use Rattle.objref.specs.Grammar.{written_of};
 ghost use Rattle.com_model.specs.declared.scenario.Scenario.{Scenario};
@@ -44,8 +45,9 @@ fn ipid(object: u32, iface: u16, owner: u32, packet: u32) -> Guid
     }
 }
 
-/// The fields that the bytes of a packet have: the IID, the public references where it is a normal packet and else 0, the owner's
-/// number as OXID, the object's as OID, and all of them with the packet's number as IPID ([MS-DCOM] 2.2.18.2, STDOBJREF).
+/// The fields that the bytes of a packet have: the IID, the public references where it is a normal packet and
+/// else 0, the owner's number as OXID, the object's as OID, and all of them with the packet's number as IPID
+/// ([MS-DCOM] 2.2.18.2, STDOBJREF).
 pub fn packet_fields(scenario: &Scenario, kept: Packet, number: u32, owner: u32) -> StdFields
     ensures { (v : Sight) → v.named kept.object ≡ owner → result ≡ packet_fields scenario.now v kept number }
 {
@@ -58,8 +60,8 @@ pub fn packet_fields(scenario: &Scenario, kept: Packet, number: u32, owner: u32)
     }
 }
 
-/// The entry of `marshal` that makes the packet with this number and these fields, holding `refs` public references
-/// (CoMarshalInterface). The only error is want of memory.
+/// The entry of `marshal` that makes the packet with this number and these fields, holding `refs` public
+/// references (CoMarshalInterface). The only error is want of memory.
 pub fn marshalled(
     alloc: Global,
     number: u32,
@@ -68,7 +70,8 @@ pub fn marshalled(
     refs: u32,
     fields: &StdFields,
 ) -> Result<Deed, Memory>
-    ensures { IfOk result (λ made. made ≡ deed.Marshal (Some number) mode (Some held) refs S_OK (Some (written_of fields.now))) }
+    ensures { IfOk result (λ made. made
+        ≡ deed.Marshal (Some number) mode (Some held) refs S_OK (Some (written_of fields.now))) }
 {
     let mut bytes = ByteList::new(alloc);
     encode(fields, &mut bytes)?;
@@ -96,12 +99,14 @@ pub fn not_marshalled(mode: MarshalMode, held: Option<RefValue>, hr: HResult) ->
     }
 }
 
-/// The standard fields of bytes that a lane with this home unmarshals or drops, or the refusal: CO_E_NOTINITIALIZED without home,
-/// RPC_E_INVALID_OBJREF for bytes that are no OBJREF, E_NOTIMPL for marshalling by a handler or custom marshalling; the first that
-/// applies (CoUnmarshalInterface).
+/// The standard fields of bytes that a lane with this home unmarshals or drops, or the refusal:
+/// CO_E_NOTINITIALIZED without home, RPC_E_INVALID_OBJREF for bytes that are no OBJREF, E_NOTIMPL for
+/// marshalling by a handler or custom marshalling; the first that applies (CoUnmarshalInterface).
 pub fn standard_fields(home: Option<u32>, bytes: &[u8]) -> Result<StdFields, HResult>
-    ensures found { IfOk result (λ fields. (s : Scenario) (v : Sight) → named_by s v home bytes.now ≡ named_or (named_packet s v fields)) }
-    ensures refused { IfErr result (λ hr. (s : Scenario) (v : Sight) → named_by s v home bytes.now ≡ Refuses hr) }
+    ensures found { IfOk result (λ fields. (s : Scenario) (v : Sight)
+        → named_by s v home bytes.now ≡ named_or (named_packet s v fields)) }
+    ensures refused { IfErr result (λ hr. (s : Scenario) (v : Sight)
+        → named_by s v home bytes.now ≡ Refuses hr) }
 {
     if home.is_none() {
         return Err(HResult::CO_E_NOTINITIALIZED);

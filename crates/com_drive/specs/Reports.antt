@@ -7,7 +7,8 @@ use Rattle.com_model.specs.declared.scenario.Scenario.{Scenario}
 use Rattle.com_model.specs.Lists.{is_member, one_to}
 use Rattle.com_model.specs.Places.{direct_places}
 use Rattle.com_model.specs.Ends.{state_of, in_normal, in_table, in_cookie, over_interfaces}
-use Rattle.com_model.specs.State.{State, next_sta_in, objects_in, named_in, class_in, scene_in, books_in, ground_in}
+use Rattle.com_model.specs.State.{State, next_sta_in, objects_in, named_in, class_in, scene_in, books_in}
+use Rattle.com_model.specs.State.{ground_in}
 
 abbrev pub counts_by : Scenario → State → Books → ℕ → Counts
 counts_by s st b o = record {

@@ -1,5 +1,7 @@
--- How a state stands: which lanes can step, whether the clock goes on, how all has ended, and whose turn it is.
-use Rattle.std.specs.Prelude.{◌≡◌, ℕ, ◌≤◌, Bool, true, ◌==◌, ◌&&◌, nat_le, List, Option, Some, None, if◌then◌else◌}
+-- How a state stands: which lanes can step, whether the clock goes on, how all has ended, and whose turn it
+-- is.
+use Rattle.std.specs.Prelude.{◌≡◌, ℕ, ◌≤◌, Bool, true, ◌==◌, ◌&&◌, nat_le, List, Option, Some, None}
+use Rattle.std.specs.Prelude.{if◌then◌else◌}
 use Rattle.com_model.specs.declared.counts.Ended.{Ended}
 use Rattle.com_model.specs.declared.counts.Ended.TheVariants as ended
 use Rattle.com_model.specs.declared.deeds.Entry.{Entry}
@@ -47,7 +49,8 @@ none_can_in s st = no_lane_can s (sight_of s st)
 unfoldable pub finished_in : Scenario → State → Bool
 finished_in s st = finished_by s (sight_of s st)
 
--- Where all has ended no lane can step. It is so of each state that stands for a history of a formed scenario.
+-- Where all has ended no lane can step. It is so of each state that stands for a history of a formed
+-- scenario.
 abbrev pub Rests : Scenario → State → Type 0
 Rests s st = finished_in s st ≡ true → none_can_in s st ≡ true
 

@@ -10,8 +10,8 @@ use Rattle.com_drive.specs.declared.stream.Step.TheVariants.{Made, Over}
 use Rattle.com_drive.specs.Standings.{ended_now}
 use Rattle.com_drive.specs.Turns.{IsTurn, GoesOn, next_line, served_in}
 
--- A moment between two steps: the runtime's state, the picks that are left, the last lane, the lines that are kept, the bytes that
--- the sink holds, and the servants' counts.
+-- A moment between two steps: the runtime's state, the picks that are left, the last lane, the lines that are
+-- kept, the bytes that the sink holds, and the servants' counts.
 pub record Moment : Type 0 where
   pub state : State
   pub picks : List ℕ

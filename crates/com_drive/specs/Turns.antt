@@ -1,5 +1,6 @@
 -- One turn of a runtime: its entry, the state after it, and the steps of servants.
-use Rattle.std.specs.Prelude.{◌≡◌, ℕ, zero, suc, ◌+◌, List, [], ◌∷◌, ◌++◌, Option, Some, None, slice_index, slice_set, ◌⊎◌}
+use Rattle.std.specs.Prelude.{◌≡◌, ℕ, zero, suc, ◌+◌, List, [], ◌∷◌, ◌++◌, Option, Some, None, slice_index}
+use Rattle.std.specs.Prelude.{slice_set, ◌⊎◌}
 use Rattle.com_body.specs.declared.frame.Native.{Native}
 use Rattle.com_io.specs.Told.{Gains, GainsPrefix}
 use Rattle.com_model.specs.declared.deeds.Entry.{Entry}
@@ -41,13 +42,14 @@ unfoldable pub served_at : Scenario → List Entry → (lane : ℕ) → List ℕ
 served_at s h zero steps = steps
 served_at s h (suc l) steps = one_served (body_kind s (class_of h) (first (openers h (suc l)))) steps
 
--- The servants' counts after a history: each entry that a body made is a step of the servant of its class's kind.
+-- The servants' counts after a history: each entry that a body made is a step of the servant of its class's
+-- kind.
 abbrev pub served_by : Scenario → List Entry → List ℕ → List ℕ
 served_by s [] steps = steps
 served_by s (e ∷ h) steps = served_at s h e.lane (served_by s h steps)
 
--- One turn of the schedule: the history has not ended, the turn is that of the entry's lane, and afterwards these picks are
--- left, and this is the last lane.
+-- One turn of the schedule: the history has not ended, the turn is that of the entry's lane, and afterwards
+-- these picks are left, and this is the last lane.
 pub record IsTurn (s : Scenario) (st : State) (picks : List ℕ) (last : ℕ) (e : Entry) (new : State) (picks_new : List ℕ) (last_new : ℕ) : Type 0 where
   pub goes_on : ended_now s st ≡ None
   pub turn : turn_now s st picks last ≡ Some (record { lane = e.lane; picks = picks_new })

@@ -52,10 +52,16 @@ pub fn finish<C: Runtime, K: Sink>(
     ensures ok { OnOk result (Gains (K.held sink.old) (K.held sink.new) (kept.old
         ++ report_text (all_counts_in scenario.now (C.state runtime.now)) (C.state runtime.now).entries (C.state runtime.now).clock ended)) }
     ensures answer { IfOk result (λ replayed. replayed
-        ≡ record { ended = ended; entries = (C.state runtime.now).entries; clock = (C.state runtime.now).clock }) }
+        ≡ record {
+          ended = ended;
+          entries = (C.state runtime.now).entries;
+          clock =
+              (C.state runtime.now).clock;
+        }) }
     ensures prefix { GainsPrefix (K.held sink.old) (K.held sink.new) (kept.old
         ++ report_text (all_counts_in scenario.now (C.state runtime.now)) (C.state runtime.now).entries (C.state runtime.now).clock ended) }
-    ensures fault { result ≡ Err replay_error.WriteFault → Rose (K.faults_of sink.old) (K.faults_of sink.new) }
+    ensures fault { result ≡ Err replay_error.WriteFault
+        → Rose (K.faults_of sink.old) (K.faults_of sink.new) }
     ensures counts { K.faults_of sink.old ≤ K.faults_of sink.new }
 {
     let counts = all_counts(alloc, scenario, runtime)?;

@@ -1,4 +1,5 @@
-//! The driver of a replay over any runtime that keeps the rules: the one history of the schedule, its lines, and the report.
+//! The driver of a replay over any runtime that keeps the rules: the one history of the schedule, its lines,
+//! and the report.
 #![tactic(auto)]
 
 ghost use Rattle.std.specs.Prelude.{◌≡◌, ℕ, ◌≤◌, false, IfOk, OnOk, Err, map};
@@ -30,9 +31,9 @@ pub use schedule::{Chosen, choose, ended};
 use std::alloc::Global;
 pub use stream::{Step, Stream};
 
-/// Makes the one history of a formed scenario on a runtime that has made no entry, and writes its lines and the report to the
-/// sink. The row has one servant of each kind, in the order of the kinds, and keeps them so; each counts the steps of the bodies of
-/// its kind.
+/// Makes the one history of a formed scenario on a runtime that has made no entry, and writes its lines and
+/// the report to the sink. The row has one servant of each kind, in the order of the kinds, and keeps them
+/// so; each counts the steps of the bodies of its kind.
 ///
 /// `WriteFault` comes only where the sink's count of faults rose in this call, and `Memory` is want of memory. Whatever is
 /// answered, what was written is a prefix of the whole text.
@@ -51,9 +52,11 @@ pub fn drive<C: Runtime, K: Sink>(
     ensures ok { OnOk result (Gains (K.held sink.old) (K.held sink.new) (whole_text scenario.now)) }
     ensures answer { IfOk result (λ replayed. IsReplay scenario.now replayed) }
     ensures prefix { GainsPrefix (K.held sink.old) (K.held sink.new) (whole_text scenario.now) }
-    ensures served { OnOk result (map stepped servants.new.items ≡ whole_served scenario.now (map stepped servants.old.items)) }
+    ensures served { OnOk result (map stepped servants.new.items
+        ≡ whole_served scenario.now (map stepped servants.old.items)) }
     ensures row { map kind_of servants.new.items ≡ row }
-    ensures fault { result ≡ Err replay_error.WriteFault → Rose (K.faults_of sink.old) (K.faults_of sink.new) }
+    ensures fault { result ≡ Err replay_error.WriteFault
+        → Rose (K.faults_of sink.old) (K.faults_of sink.new) }
     ensures counts { K.faults_of sink.old ≤ K.faults_of sink.new }
 {
     let mut stream = Stream::new(alloc);

@@ -45,9 +45,12 @@ pub fn show<K: Sink>(
     kept: &mut ByteList,
     sink: &mut K,
 ) -> Result<(), ReplayError>
-    ensures ok { OnOk result (GoesOn (K.held sink.old) (K.held sink.new) kept.old kept.new (line_text version place entry.now)) }
-    ensures prefix { GainsPrefix (K.held sink.old) (K.held sink.new) (kept.old ++ line_text version place entry.now) }
-    ensures fault { result ≡ Err replay_error.WriteFault → Rose (K.faults_of sink.old) (K.faults_of sink.new) }
+    ensures ok { OnOk result (GoesOn (K.held sink.old) (K.held sink.new) kept.old kept.new
+        (line_text version place entry.now)) }
+    ensures prefix { GainsPrefix (K.held sink.old) (K.held sink.new)
+        (kept.old ++ line_text version place entry.now) }
+    ensures fault { result ≡ Err replay_error.WriteFault
+        → Rose (K.faults_of sink.old) (K.faults_of sink.new) }
     ensures counts { K.faults_of sink.old ≤ K.faults_of sink.new }
 {
     line(alloc, version, place, entry, kept)?;
@@ -85,9 +88,12 @@ pub fn tell<K: Sink>(
     kept: &mut ByteList,
     sink: &mut K,
 ) -> Result<(), ReplayError>
-    ensures ok { OnOk result (Gains (K.held sink.old) (K.held sink.new) (kept.old ++ report_text counts.now entries clock ended)) }
-    ensures prefix { GainsPrefix (K.held sink.old) (K.held sink.new) (kept.old ++ report_text counts.now entries clock ended) }
-    ensures fault { result ≡ Err replay_error.WriteFault → Rose (K.faults_of sink.old) (K.faults_of sink.new) }
+    ensures ok { OnOk result (Gains (K.held sink.old) (K.held sink.new)
+        (kept.old ++ report_text counts.now entries clock ended)) }
+    ensures prefix { GainsPrefix (K.held sink.old) (K.held sink.new)
+        (kept.old ++ report_text counts.now entries clock ended) }
+    ensures fault { result ≡ Err replay_error.WriteFault
+        → Rose (K.faults_of sink.old) (K.faults_of sink.new) }
     ensures counts { K.faults_of sink.old ≤ K.faults_of sink.new }
 {
     report(alloc, counts, entries, clock, ended, kept)?;

@@ -2,7 +2,8 @@
 
 use com_model::Ended;
 
-/// What a replay has made: how its history ended, how many entries it has, and where its clock stands, in virtual milliseconds.
+/// What a replay has made: how its history ended, how many entries it has, and where its clock stands, in
+/// virtual milliseconds.
 #[derive(Debug, Clone, Copy, PartialEq, Eq)]
 pub struct Replayed {
     pub ended: Ended,

@@ -30,9 +30,9 @@ pub enum Standing {
 
 /// A runtime that keeps the rules, and makes one entry at a time.
 ///
-/// The meaning of a runtime is its scenario, which never changes, and its state: the tables of the rules. What it answers, it
-/// answers of a state that stands for a history. A runtime that ran out of memory in the middle of an entry is broken, and makes
-/// no entry any more.
+/// The meaning of a runtime is its scenario, which never changes, and its state: the tables of the rules.
+/// What it answers, it answers of a state that stands for a history. A runtime that ran out of memory in the
+/// middle of an entry is broken, and makes no entry any more.
 pub trait Runtime {
     // The scenario that it runs.
     ghost scenario: { Self → AnyScenario };
@@ -43,7 +43,8 @@ pub trait Runtime {
     // Whether it ran out of memory in the middle of an entry.
     ghost broken: { Self → Bool };
 
-    /// How many lanes there are. They are numbered from 1: the threads in order, the host STA's lane, then the pool's.
+    /// How many lanes there are. They are numbered from 1: the threads in order, the host STA's lane, then
+    /// the pool's.
     fn lanes(&self) -> u32
         ensures { result ≡ lanes (scenario self.now) };
 
@@ -79,11 +80,11 @@ pub trait Runtime {
         requires whole { broken self.now ≡ false }
         ensures { result ≡ counts_in (scenario self.now) (state self.now) object };
 
-    /// Makes the next entry of a lane that can step. Where a body runs in the lane, the servant of its class's kind computes the
-    /// step. The row has one servant of each kind, in the order of the kinds.
+    /// Makes the next entry of a lane that can step. Where a body runs in the lane, the servant of its
+    /// class's kind computes the step. The row has one servant of each kind, in the order of the kinds.
     ///
-    /// The only error is want of memory, and then the state is as before, or the runtime is broken; a servant may have counted a
-    /// step whose entry was not made.
+    /// The only error is want of memory, and then the state is as before, or the runtime is broken; a servant
+    /// may have counted a step whose entry was not made.
     fn step(
         &mut self,
         alloc: Global,
@@ -98,7 +99,8 @@ pub trait Runtime {
         requires room { (state self.old).entries < limit (scenario self.old) }
         requires row { map kind_of servants.old.items ≡ row }
         ensures scenario { scenario self.new ≡ scenario self.old }
-        ensures entry { IfOk result (λ entry. IsNext (scenario self.old) (state self.old) lane entry (state self.new)) }
+        ensures entry { IfOk result (λ entry. IsNext (scenario self.old) (state self.old) lane entry
+            (state self.new)) }
         ensures whole { OnOk result (broken self.new ≡ false) }
         ensures err { OnErr result (broken self.new ≡ false → state self.new ≡ state self.old) }
         ensures row { map kind_of servants.new.items ≡ row }
@@ -114,7 +116,8 @@ pub trait Runtime {
         requires whole { broken self.old ≡ false }
         requires room { (state self.old).entries < limit (scenario self.old) }
         ensures scenario { scenario self.new ≡ scenario self.old }
-        ensures entry { IfOk result (λ entry. IsNext (scenario self.old) (state self.old) 0 entry (state self.new)) }
+        ensures entry { IfOk result (λ entry. IsNext (scenario self.old) (state self.old) 0 entry
+            (state self.new)) }
         ensures whole { OnOk result (broken self.new ≡ false) }
         ensures err { OnErr result (broken self.new ≡ false → state self.new ≡ state self.old) };
 }

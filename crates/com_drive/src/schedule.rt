@@ -4,7 +4,8 @@ ghost use Rattle.com_books.specs.Counting.{numbers_from};
 ghost use Rattle.com_model.specs.Lists.{first_that};
 ghost use Rattle.com_model.specs.Tables.{lanes};
 ghost use Rattle.com_model.specs.Ends.{picked, lanes_after};
-ghost use Rattle.com_drive.specs.Standings.{can_step_in, can_pick_in, none_can_in, standing_of, ended_now, budget_of, CanGo, HasTurn, Reached};
+ghost use Rattle.com_drive.specs.Standings.{can_step_in, can_pick_in, none_can_in, standing_of, ended_now};
+ghost use Rattle.com_drive.specs.Standings.{budget_of, CanGo, HasTurn, Reached};
 
 use crate::runtime::{Runtime, Standing};
 use com_model::{Ended, Scenario};
@@ -36,10 +37,13 @@ fn can_pick<C: Runtime>(runtime: &C, lane: u32) -> bool
 #[tactic(auto, using(crate::proofs::Choices::pick_on, crate::proofs::Choices::pick_here, crate::proofs::Choices::pick_none))]
 fn pick<C: Runtime>(runtime: &C, picks: &[u32], from: usize) -> Option<Chosen>
     requires { Reached (C.scenario runtime.now) (C.state runtime.now) }
-    ensures none { result ≡ None → picked (can_pick_in (C.scenario runtime.now) (C.state runtime.now)) (drop from picks.now) ≡ None }
-    ensures some { IfSome result (λ chosen. picked (can_pick_in (C.scenario runtime.now) (C.state runtime.now)) (drop from picks.now)
+    ensures none { result ≡ None
+        → picked (can_pick_in (C.scenario runtime.now) (C.state runtime.now)) (drop from picks.now) ≡ None }
+    ensures some { IfSome result (λ chosen. picked (can_pick_in (C.scenario runtime.now)
+        (C.state runtime.now)) (drop from picks.now)
         ≡ Some (record { lane = chosen.lane; picks = drop chosen.tried picks.now })) }
-    ensures goes { IfSome result (λ chosen. CanGo (C.scenario runtime.now) (C.state runtime.now) chosen.lane) }
+    ensures goes { IfSome result (λ chosen. CanGo (C.scenario runtime.now)
+        (C.state runtime.now) chosen.lane) }
 {
     let mut next = from;
     'picks: while next < picks.len() {
@@ -61,7 +65,8 @@ fn scan<C: Runtime>(runtime: &C, last: u32, count: u32, most: u32) -> Option<u32
     requires most { most ≡ lanes (C.scenario runtime.now) }
     requires within { last + count ≤ most }
     requires reached { Reached (C.scenario runtime.now) (C.state runtime.now) }
-    ensures first { result ≡ first_that (can_step_in (C.scenario runtime.now) (C.state runtime.now)) (numbers_from (last + 1) count) }
+    ensures first { result ≡ first_that (can_step_in (C.scenario runtime.now) (C.state runtime.now))
+        (numbers_from (last + 1) count) }
     ensures goes { IfSome result (λ lane. CanGo (C.scenario runtime.now) (C.state runtime.now) lane) }
 {
     for step in 0..count {
@@ -78,7 +83,8 @@ fn scan<C: Runtime>(runtime: &C, last: u32, count: u32, most: u32) -> Option<u32
 fn in_round<C: Runtime>(runtime: &C, last: u32) -> Option<u32>
     requires reached { Reached (C.scenario runtime.now) (C.state runtime.now) }
     requires last { last ≤ lanes (C.scenario runtime.now) }
-    ensures first { result ≡ first_that (can_step_in (C.scenario runtime.now) (C.state runtime.now)) (lanes_after (C.scenario runtime.now) last) }
+    ensures first { result ≡ first_that (can_step_in (C.scenario runtime.now) (C.state runtime.now))
+        (lanes_after (C.scenario runtime.now) last) }
     ensures goes { IfSome result (λ lane. CanGo (C.scenario runtime.now) (C.state runtime.now) lane) }
 {
     let most = runtime.lanes();
@@ -88,14 +94,17 @@ fn in_round<C: Runtime>(runtime: &C, last: u32) -> Option<u32>
     scan(runtime, 0, last, most)
 }
 
-/// The lane whose turn it is, where one can step: `tried` of the picks were tried before, and `last` is the last lane.
+/// The lane whose turn it is, where one can step: `tried` of the picks were tried before, and `last` is the
+/// last lane.
 #[tactic(auto, using(crate::proofs::Choices::has_picked, crate::proofs::Choices::has_round, crate::proofs::Choices::none_can))]
 pub fn choose<C: Runtime>(runtime: &C, picks: &[u32], tried: usize, last: u32) -> Option<Chosen>
     requires reached { Reached (C.scenario runtime.now) (C.state runtime.now) }
     requires last { last ≤ lanes (C.scenario runtime.now) }
-    ensures turn { IfSome result (λ chosen. HasTurn (C.scenario runtime.now) (C.state runtime.now) (drop tried picks.now) last
+    ensures turn { IfSome result (λ chosen. HasTurn (C.scenario runtime.now) (C.state runtime.now)
+        (drop tried picks.now) last
         chosen.lane (drop chosen.tried picks.now)) }
-    ensures goes { IfSome result (λ chosen. CanGo (C.scenario runtime.now) (C.state runtime.now) chosen.lane) }
+    ensures goes { IfSome result (λ chosen. CanGo (C.scenario runtime.now)
+        (C.state runtime.now) chosen.lane) }
     ensures none { result ≡ None → none_can_in (C.scenario runtime.now) (C.state runtime.now) ≡ true }
 {
     if let Some(chosen) = pick(runtime, picks, tried) {
@@ -113,7 +122,8 @@ pub fn choose<C: Runtime>(runtime: &C, picks: &[u32], tried: usize, last: u32) -
 /// How a runtime stands, whose lanes were tried: it runs where one of them can step.
 #[tactic(auto, using(crate::proofs::Resting::runs_reached))]
 pub fn stand<C: Runtime>(runtime: &C, chosen: Option<Chosen>) -> Standing
-    requires goes { IfSome chosen (λ chosen. CanGo (C.scenario runtime.now) (C.state runtime.now) chosen.lane) }
+    requires goes { IfSome chosen (λ chosen. CanGo (C.scenario runtime.now)
+        (C.state runtime.now) chosen.lane) }
     requires reached { Reached (C.scenario runtime.now) (C.state runtime.now) }
     ensures { result ≡ standing_of (C.scenario runtime.now) (C.state runtime.now) }
 {

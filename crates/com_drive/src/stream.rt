@@ -1,5 +1,6 @@
 //! A history entry by entry: each step is one turn of the schedule and one line.
-ghost use Rattle.std.specs.Prelude.{◌≡◌, ℕ, ◌<◌, ◌≤◌, ◌+◌, ◌++◌, [], true, false, None, IfOk, IfSome, OnOk, Err, OnErr, map, drop};
+ghost use Rattle.std.specs.Prelude.{◌≡◌, ℕ, ◌<◌, ◌≤◌, ◌+◌, ◌++◌, [], true, false, None, IfOk, IfSome, OnOk};
+ghost use Rattle.std.specs.Prelude.{Err, OnErr, map, drop};
 ghost use Rattle.com_io.specs.Faults.{Rose};
 ghost use Rattle.com_io.specs.Told.{Gains, GainsPrefix};
 ghost use Rattle.com_model.specs.Text.{report_text};
@@ -33,8 +34,8 @@ pub enum Step {
     Over(Ended),
 }
 
-/// Where the schedule stands: how many picks were tried, and the last lane but the clock's, or 0. And the lines that were made
-/// and are not written yet.
+/// Where the schedule stands: how many picks were tried, and the last lane but the clock's, or 0. And the
+/// lines that were made and are not written yet.
 #[derive(Debug, Drop)]
 pub struct Stream {
     tried: usize,
@@ -69,7 +70,8 @@ impl Stream {
         requires scenario { C.scenario runtime.old ≡ scenario.now }
         requires runs { standing_of scenario.now (C.state runtime.old) ≡ standing.Runs }
         requires goes { CanGo (C.scenario runtime.old) (C.state runtime.old) chosen.lane }
-        requires turn { HasTurn (C.scenario runtime.old) (C.state runtime.old) (drop self.old.tried scenario.now.picks) self.old.last
+        requires turn { HasTurn (C.scenario runtime.old) (C.state runtime.old)
+            (drop self.old.tried scenario.now.picks) self.old.last
             chosen.lane (drop chosen.tried scenario.now.picks) }
         requires goes_on { ended_now scenario.now (C.state runtime.old) ≡ None }
         requires entries { (C.state runtime.old).entries ≤ limit scenario.now }
@@ -79,7 +81,8 @@ impl Stream {
         requires row { map kind_of servants.old.items ≡ row }
         ensures scenario { C.scenario runtime.new ≡ scenario.now }
         ensures whole { OnOk result (C.broken runtime.new ≡ false) }
-        ensures turn { IfOk result (λ entry. IsTurn scenario.now (C.state runtime.old) (drop self.old.tried scenario.now.picks) self.old.last
+        ensures turn { IfOk result (λ entry. IsTurn scenario.now (C.state runtime.old)
+            (drop self.old.tried scenario.now.picks) self.old.last
             entry (C.state runtime.new) (drop self.new.tried scenario.now.picks) self.new.last) }
         ensures last { self.new.last ≤ lanes scenario.now }
         ensures lines { self.new.lines ≡ self.old.lines }
@@ -106,7 +109,8 @@ impl Stream {
     ) -> Result<Entry, Memory>
         requires scenario { C.scenario runtime.old ≡ scenario.now }
         requires standing { standing ≡ standing_of scenario.now (C.state runtime.old) }
-        requires goes { IfSome chosen (λ chosen. CanGo (C.scenario runtime.old) (C.state runtime.old) chosen.lane) }
+        requires goes { IfSome chosen (λ chosen. CanGo (C.scenario runtime.old)
+            (C.state runtime.old) chosen.lane) }
         requires turn { IfSome chosen (λ chosen. HasTurn (C.scenario runtime.old) (C.state runtime.old)
             (drop self.old.tried scenario.now.picks) self.old.last chosen.lane (drop chosen.tried scenario.now.picks)) }
         requires none { chosen ≡ None → none_can_in (C.scenario runtime.old) (C.state runtime.old) ≡ true }
@@ -118,7 +122,8 @@ impl Stream {
         requires row { map kind_of servants.old.items ≡ row }
         ensures scenario { C.scenario runtime.new ≡ scenario.now }
         ensures whole { OnOk result (C.broken runtime.new ≡ false) }
-        ensures turn { IfOk result (λ entry. IsTurn scenario.now (C.state runtime.old) (drop self.old.tried scenario.now.picks) self.old.last
+        ensures turn { IfOk result (λ entry. IsTurn scenario.now (C.state runtime.old)
+            (drop self.old.tried scenario.now.picks) self.old.last
             entry (C.state runtime.new) (drop self.new.tried scenario.now.picks) self.new.last) }
         ensures last { self.new.last ≤ lanes scenario.now }
         ensures lines { self.new.lines ≡ self.old.lines }
@@ -140,11 +145,12 @@ impl Stream {
         }
     }
 
-    /// Makes one turn of the schedule, and its line: the picks are tried first, each once, and then the lanes behind the last one
-    /// and from 1 on; the clock goes on where no lane can step. Where the history has ended, nothing is done.
+    /// Makes one turn of the schedule, and its line: the picks are tried first, each once, and then the lanes
+    /// behind the last one and from 1 on; the clock goes on where no lane can step. Where the history has
+    /// ended, nothing is done.
     ///
-    /// The runtime's state stands for a history of the scenario, which is formed; and it did not run out of memory in the middle of
-    /// an entry. At Ok that is so again.
+    /// The runtime's state stands for a history of the scenario, which is formed; and it did not run out of
+    /// memory in the middle of an entry. At Ok that is so again.
     ///
     /// `WriteFault` comes only where the sink's count of faults rose in this call, and `Memory` is want of memory. After either
     /// the lines may be broken off: what was written is a prefix of what was kept and the turn's line.
@@ -192,7 +198,8 @@ impl Stream {
           held = K.held sink.old;
           steps = map stepped servants.old.items;
         }) (K.held sink.new)) }
-        ensures fault { result ≡ Err replay_error.WriteFault → Rose (K.faults_of sink.old) (K.faults_of sink.new) }
+        ensures fault { result ≡ Err replay_error.WriteFault
+            → Rose (K.faults_of sink.old) (K.faults_of sink.new) }
         ensures counts { K.faults_of sink.old ≤ K.faults_of sink.new }
     {
         let chosen = choose(runtime, scenario.picks.as_slice(), self.tried, self.last);
@@ -231,10 +238,16 @@ impl Stream {
         ensures ok { OnOk result (Gains (K.held sink.old) (K.held sink.new) (self.old.lines
             ++ report_text (all_counts_in scenario.now (C.state runtime.now)) (C.state runtime.now).entries (C.state runtime.now).clock ended)) }
         ensures answer { IfOk result (λ replayed. replayed
-            ≡ record { ended = ended; entries = (C.state runtime.now).entries; clock = (C.state runtime.now).clock }) }
+            ≡ record {
+              ended = ended;
+              entries = (C.state runtime.now).entries;
+              clock =
+                  (C.state runtime.now).clock;
+            }) }
         ensures prefix { GainsPrefix (K.held sink.old) (K.held sink.new) (self.old.lines
             ++ report_text (all_counts_in scenario.now (C.state runtime.now)) (C.state runtime.now).entries (C.state runtime.now).clock ended) }
-        ensures fault { result ≡ Err replay_error.WriteFault → Rose (K.faults_of sink.old) (K.faults_of sink.new) }
+        ensures fault { result ≡ Err replay_error.WriteFault
+            → Rose (K.faults_of sink.old) (K.faults_of sink.new) }
         ensures counts { K.faults_of sink.old ≤ K.faults_of sink.new }
     {
         finish(alloc, scenario, runtime, ended, &mut self.lines, sink)

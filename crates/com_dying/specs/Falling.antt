@@ -8,7 +8,8 @@ use Rattle.com_model.specs.Lists.{first, is_member}
 use Rattle.com_model.specs.Openers.{Closes, Leaves, effect}
 use Rattle.com_model.specs.Objects.{finals}
 use Rattle.com_model.specs.Books.{holders_in}
-use Rattle.com_model.specs.State.{State, openers_in, objects_in, ground_in, scene_in, books_in, dies_in, after}
+use Rattle.com_model.specs.State.{State, openers_in, objects_in, ground_in, scene_in, books_in, dies_in}
+use Rattle.com_model.specs.State.{after}
 use Rattle.com_objects.specs.Settled.{DieBut, Rise, Falls, without}
 
 abbrev pub holders_of : Scenario → State → ℕ → ℕ

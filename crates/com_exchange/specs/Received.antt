@@ -1,5 +1,6 @@
 -- What is read in a request.
-use Rattle.std.specs.Prelude.{◌≡◌, ℕ, ◌+◌, ◌*◌, ◌^◌, ◌<◌, ◌≤◌, List, [], ◌∷◌, ◌++◌, map, drop, length, Some, None, Result, Ok, Err}
+use Rattle.std.specs.Prelude.{◌≡◌, ℕ, ◌+◌, ◌*◌, ◌^◌, ◌<◌, ◌≤◌, List, [], ◌∷◌, ◌++◌, map, drop, length, Some}
+use Rattle.std.specs.Prelude.{None, Result, Ok, Err}
 use Rattle.std.specs.Int.{w64, from_le_bytes}
 use Rattle.std.specs.List.{AllByRecursion}
 use Rattle.com_base.specs.declared.guid.Guid.{Guid}
@@ -72,8 +73,9 @@ Reads (Err error.Memory) read = Unit {0}
 Reads (Err (error.Header f)) read = read ≡ Err (error.Header f)
 Reads (Err (error.Arguments f)) read = read ≡ Err (error.Arguments f)
 
--- What may be sent: values of the kinds, each text UTF-8, texts and bytes of at most 65,536 bytes, and numbers in their ranges;
--- the fields of as many packets as there are references, in their order, each of its reference.
+-- What may be sent: values of the kinds, each text UTF-8, texts and bytes of at most 65,536 bytes, and
+-- numbers in their ranges; the fields of as many packets as there are references, in their order, each of its
+-- reference.
 pub record Sendable (cause : ℕ) (kinds : List Kind) (values : List Value) (packets : List StdFields) : Type 0 where
   pub short : cause < 2 ^ 32
   pub sendable : CanSendAll kinds (wires values packets)

@@ -1,5 +1,6 @@
-//! Values to bytes and back: the requests and replies of calls that are marshalled, and the values that travel in them.
-//! The tables of references stand elsewhere: the caller gives the fields of the packets that carry the references.
+//! Values to bytes and back: the requests and replies of calls that are marshalled, and the values that
+//! travel in them. The tables of references stand elsewhere: the caller gives the fields of the packets that
+//! carry the references.
 #![tactic(auto)]
 
 pub mod laws;

@@ -2,7 +2,8 @@
 ghost use Rattle.std.specs.Prelude.{◌≡◌, ◌++◌, ℕ, Bool, [], IfOk, OnOk, map};
 ghost use Rattle.std.specs.List.{AllByRecursion};
 ghost use Rattle.com_books.specs.Changes.{Books, marshal_all, entered_rows};
-ghost use Rattle.com_exchange.specs.Previews.{IsOutgoing, reference_of, refs_in, refs_of, after_one, left_after, previewed, refs_if_connected};
+ghost use Rattle.com_exchange.specs.Previews.{IsOutgoing, reference_of, refs_in, refs_of, after_one};
+ghost use Rattle.com_exchange.specs.Previews.{left_after, previewed, refs_if_connected};
 
 use com_base::{Memory, Rows};
 use std::alloc::Global;
@@ -22,14 +23,16 @@ pub struct Outgoing {
     pub connected: bool,
 }
 
-// The public references of a normal packet: 5 new ones, or half of those that a proxy has, where it has at least 2.
+// The public references of a normal packet: 5 new ones, or half of those that a proxy has, where it has at
+// least 2.
 fn refs_of(owned: bool, held: u32) -> u32
     ensures { result ≡ refs_of owned held }
 {
     if owned || held < 2 { 5 } else { held / 2 }
 }
 
-// What is held for a reference after another one was marshalled: half less where both are the same and a proxy's.
+// What is held for a reference after another one was marshalled: half less where both are the same and a
+// proxy's.
 fn after_one(other: &Outgoing, row: &Outgoing, held: u32) -> u32
     ensures { result ≡ after_one other.now row.now held }
 {
@@ -65,14 +68,17 @@ fn append_refs(refs: &mut Vec<u32>, row: &Outgoing, held: u32) -> Result<(), Mem
     Ok(refs.push(refs_of(row.owned, held))?)
 }
 
-/// The public references that each new packet will hold, where an apartment marshals these references in their order. Several
-/// to the same object and interface from a proxy are halved one after the other. What is not connected gets no packet. The
-/// only error is want of memory. Source: MS-DCOM, the public references of STDOBJREF.
+/// The public references that each new packet will hold, where an apartment marshals these references in
+/// their order. Several to the same object and interface from a proxy are halved one after the other. What is
+/// not connected gets no packet. The only error is want of memory. Source: MS-DCOM, the public references of
+/// STDOBJREF.
 #[tactic(auto, using(crate::proofs::Previewing::previewed_more, crate::proofs::Previewing::previewed_all, crate::proofs::Previewing::packets_hold))]
 pub fn packet_refs(alloc: Global, rows: &[Outgoing]) -> Result<Rows<u32>, Memory>
     ensures value { IfOk result (λ refs. refs ≡ previewed [] rows.now) }
-    ensures packets { IfOk result (λ refs. (owned : ℕ → ℕ → Bool) (books : Books) (a : ℕ) → AllByRecursion (IsOutgoing owned books a) rows.now
-        → map refs_in (entered_rows owned books (marshal_all a (map reference_of rows.now))).packets ≡ map refs_in books.packets ++ refs) }
+    ensures packets { IfOk result (λ refs. (owned : ℕ → ℕ → Bool) (books : Books) (a : ℕ)
+        → AllByRecursion (IsOutgoing owned books a) rows.now
+        → map refs_in (entered_rows owned books (marshal_all a (map reference_of rows.now))).packets
+        ≡ map refs_in books.packets ++ refs) }
 {
     let mut refs = Vec::with_capacity(alloc, rows.len())?;
     for (at, row) in rows.iter().enumerate() {

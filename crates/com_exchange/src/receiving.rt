@@ -1,15 +1,16 @@
 //! Reading a request: its causality, its values, and the packets that carry the references.
 ghost use Rattle.std.specs.Prelude.{◌≡◌, ◌++◌, IfOk, OnOk, drop};
 ghost use Rattle.std.specs.Int.{w64, from_le_bytes};
-ghost use Rattle.com_exchange.specs.Received.{reference_in_fields, packet_in_fields, values_in, packets_in, value_in, packet_in, request_in, Reads};
+ghost use Rattle.com_exchange.specs.Received.{reference_in_fields, packet_in_fields, values_in, packets_in};
+ghost use Rattle.com_exchange.specs.Received.{value_in, packet_in, request_in, Reads};
 
 use com_base::{Guid, Kind, Memory, RefValue, Rows, StdFields, Value};
 use ndr_args::{ArgError, ArgFault, Wire, read_args};
 use orpc::OrpcFault;
 use std::alloc::{AllocError, Global};
 
-/// What a request says: its causality, the values of its arguments, and the numbers of the packets that carry its
-/// references, in their order.
+/// What a request says: its causality, the values of its arguments, and the numbers of the packets that carry
+/// its references, in their order.
 #[derive(Debug, Drop)]
 pub struct Request {
     /// The causality, as a GUID.
@@ -109,7 +110,8 @@ fn behind_header(bytes: &[u8]) -> &[u8]
 
 // What a request says whose arguments were read.
 fn request_of(alloc: Global, cause: Guid, wires: &[Wire]) -> Result<Request, Memory>
-    ensures { IfOk result (λ request. request ≡ record { cause = cause; values = values_in wires.now; packets = packets_in wires.now }) }
+    ensures { IfOk result (λ request. request
+        ≡ record { cause = cause; values = values_in wires.now; packets = packets_in wires.now }) }
 {
     Ok(Request {
         cause,
@@ -118,9 +120,9 @@ fn request_of(alloc: Global, cause: Guid, wires: &[Wire]) -> Result<Request, Mem
     })
 }
 
-/// Reads a request whose arguments have these kinds. All of the bytes are read, and the first fault from the front is
-/// answered. A reference is the one that its packet names. Which packets there are is not known here.
-/// Source: MS-DCOM 2.2.13.3, "ORPCTHIS"; C706, chapter 14.
+/// Reads a request whose arguments have these kinds. All of the bytes are read, and the first fault from the
+/// front is answered. A reference is the one that its packet names. Which packets there are is not known
+/// here. Source: MS-DCOM 2.2.13.3, "ORPCTHIS"; C706, chapter 14.
 pub fn read_request(alloc: Global, kinds: &[Kind], bytes: &[u8]) -> Result<Request, RequestError>
     ensures { Reads result (request_in kinds.now bytes.now) }
 {

@@ -2,7 +2,8 @@
 ghost use Rattle.std.specs.Prelude.{◌≡◌, ◌++◌, Bool, ℕ, IfOk, OnOk, length, option_copied};
 ghost use Rattle.com_base.specs.Values.{as_kind, default_of};
 ghost use Rattle.com_model.specs.Answers.{is_failure};
-ghost use Rattle.com_model.specs.Values.{if_live, sent_value, sent_values, given_or_default, sent_result, carried};
+ghost use Rattle.com_model.specs.Values.{if_live, sent_value, sent_values, given_or_default, sent_result};
+ghost use Rattle.com_model.specs.Values.{carried};
 ghost use Rattle.com_exchange.specs.Sent.{sent_or_default};
 ghost use Rattle.com_exchange.specs.Wires.{reference_in};
 
@@ -35,9 +36,9 @@ fn if_connected<C: Connections>(value: Value, marshalled: bool, connections: &C)
     }
 }
 
-/// A value as one of its declared kind: a value of another type travels as the kind's default, and so does a reference of
-/// another interface. Where the route marshals, a reference to an object that is not connected travels as null. The only
-/// error is want of memory.
+/// A value as one of its declared kind: a value of another type travels as the kind's default, and so does a
+/// reference of another interface. Where the route marshals, a reference to an object that is not connected
+/// travels as null. The only error is want of memory.
 pub fn sent_value<C: Connections>(
     alloc: Global,
     marshalled: bool,
@@ -73,7 +74,8 @@ fn sent_or_default<C: Connections>(
     kind: Kind,
     value: Option<&Value>,
 ) -> Result<Value, Memory>
-    ensures { IfOk result (λ sent. sent ≡ sent_or_default marshalled (C.live connections.now) kind (option_copied value.entry)) }
+    ensures { IfOk result (λ sent. sent
+        ≡ sent_or_default marshalled (C.live connections.now) kind (option_copied value.entry)) }
 {
     match value {
         Some(value) => sent_value(alloc, marshalled, connections, kind, value),
@@ -81,8 +83,8 @@ fn sent_or_default<C: Connections>(
     }
 }
 
-/// The arguments of a call as they travel, one for each kind. Where fewer values are given, the kinds' defaults travel. The
-/// only error is want of memory.
+/// The arguments of a call as they travel, one for each kind. Where fewer values are given, the kinds'
+/// defaults travel. The only error is want of memory.
 #[tactic(auto, using(crate::proofs::Sendings::sent_more, crate::proofs::Sendings::sent_all))]
 pub fn sent_values<C: Connections>(
     alloc: Global,
@@ -91,7 +93,8 @@ pub fn sent_values<C: Connections>(
     kinds: &[Kind],
     values: &[Value],
 ) -> Result<Rows<Value>, Memory>
-    ensures { IfOk result (λ sent. sent ≡ sent_values marshalled (C.live connections.now) kinds.now values.now) }
+    ensures { IfOk result (λ sent. sent
+        ≡ sent_values marshalled (C.live connections.now) kinds.now values.now) }
 {
     let mut sent = Vec::with_capacity(alloc, kinds.len())?;
     for (at, kind) in kinds.iter().enumerate() {
@@ -100,8 +103,8 @@ pub fn sent_values<C: Connections>(
     Ok(Rows::from_vec(sent))
 }
 
-/// The result of a body as it travels: none on failure or where none is declared; else the given value, or the kind's
-/// default. The only error is want of memory.
+/// The result of a body as it travels: none on failure or where none is declared; else the given value, or
+/// the kind's default. The only error is want of memory.
 #[tactic(auto, using(crate::proofs::Sendings::sent_given))]
 pub fn sent_result<C: Connections>(
     alloc: Global,
@@ -111,7 +114,8 @@ pub fn sent_result<C: Connections>(
     kind: Option<Kind>,
     value: Option<&Value>,
 ) -> Result<Option<Value>, Memory>
-    ensures { IfOk result (λ sent. sent ≡ sent_result marshalled (C.live connections.now) answer kind (option_copied value.entry)) }
+    ensures { IfOk result (λ sent. sent
+        ≡ sent_result marshalled (C.live connections.now) answer kind (option_copied value.entry)) }
 {
     let Some(kind) = kind else {
         return Ok(None);

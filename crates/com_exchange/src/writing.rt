@@ -1,12 +1,14 @@
 //! Requests and replies as bytes.
-ghost use Rattle.std.specs.Prelude.{◌≡◌, ◌++◌, ◌-◌, ◌<◌, ◌≤◌, Option, IfOk, OnOk, length, option_copied, slice_get};
+ghost use Rattle.std.specs.Prelude.{◌≡◌, ◌++◌, ◌-◌, ◌<◌, ◌≤◌, Option, IfOk, OnOk, length, option_copied};
+ghost use Rattle.std.specs.Prelude.{slice_get};
 ghost use Rattle.std.specs.Int.{w32};
 ghost use Rattle.com_base.specs.declared.standard.StdFields.{StdFields};
 ghost use Rattle.com_wire.specs.Fields.{number};
 ghost use Rattle.objref.specs.Grammar.{written_of};
 ghost use Rattle.ndr_args.specs.Grammar.{gap, zeros, counted};
 ghost use Rattle.ndr_args.specs.Written.{align_of_value, written_arg, next_referent, written_args};
-ghost use Rattle.com_model.specs.Values.{cause_guid, wires, result_list, with_answer, request_bytes, reply_bytes};
+ghost use Rattle.com_model.specs.Values.{cause_guid, wires, result_list, with_answer, request_bytes};
+ghost use Rattle.com_model.specs.Values.{reply_bytes};
 ghost use Rattle.com_exchange.specs.Wires.{wire_of, packets_of};
 
 use com_base::{ByteList, Guid, HResult, Memory, StdFields, Value};
@@ -62,7 +64,8 @@ fn put_counted(bytes: &[u8], out: &mut ByteList) -> Result<(), Memory>
 
 // Appends a reference that is not null.
 fn put_packet(fields: &StdFields, referent: u32, out: &mut ByteList) -> Result<(), Memory>
-    ensures { OnOk result (out.new ≡ out.old ++ (number w32 referent ++ (number w32 72 ++ (number w32 72 ++ written_of fields.now)))) }
+    ensures { OnOk result (out.new
+        ≡ out.old ++ (number w32 referent ++ (number w32 72 ++ (number w32 72 ++ written_of fields.now)))) }
 {
     put_number(referent, out)?;
     put_number(OBJREF, out)?;
@@ -81,7 +84,8 @@ fn align_of_value(value: &Value) -> usize
     }
 }
 
-// Appends a value where it may begin: a reference that is not null as its packet, and as null where it has none.
+// Appends a value where it may begin: a reference that is not null as its packet, and as null where it has
+// none.
 #[tactic(auto, unfolding(ndr_args::specs::Written::written_arg, com_wire::specs::Fields::number, com_wire::specs::Fields::guid))]
 fn put_arg(
     value: &Value,
@@ -89,7 +93,8 @@ fn put_arg(
     referent: u32,
     out: &mut ByteList,
 ) -> Result<(), Memory>
-    ensures { OnOk result (out.new ≡ out.old ++ written_arg referent (wire_of value.now (option_copied packet.entry))) }
+    ensures { OnOk result (out.new
+        ≡ out.old ++ written_arg referent (wire_of value.now (option_copied packet.entry))) }
 {
     match (value, packet) {
         (Value::Int(number), _) => out.push_all(&number.to_le_bytes()),
@@ -106,7 +111,8 @@ fn put_arg(
 // The referent of the next reference behind a value. A stream of so many references that a referent does
 // not fit asks for more memory than there is.
 fn next_referent(referent: u32, value: &Value, packet: Option<&StdFields>) -> Result<u32, Memory>
-    ensures { IfOk result (λ next. next ≡ next_referent referent (wire_of value.now (option_copied packet.entry))) }
+    ensures { IfOk result (λ next. next
+        ≡ next_referent referent (wire_of value.now (option_copied packet.entry))) }
 {
     match (value, packet) {
         (Value::Ref(Some(_)), Some(_)) => referent.checked_add(STEP).ok_or(AllocError),
@@ -122,8 +128,10 @@ fn put_value(
     referent: u32,
     out: &mut ByteList,
 ) -> Result<u32, Memory>
-    ensures next { IfOk result (λ next. next ≡ next_referent referent (wire_of value.now (option_copied packet.entry))) }
-    ensures ok { OnOk result (out.new ≡ out.old ++ (zeros (gap place (align_of_value (wire_of value.now (option_copied packet.entry))))
+    ensures next { IfOk result (λ next. next
+        ≡ next_referent referent (wire_of value.now (option_copied packet.entry))) }
+    ensures ok { OnOk result (out.new
+        ≡ out.old ++ (zeros (gap place (align_of_value (wire_of value.now (option_copied packet.entry))))
         ++ written_arg referent (wire_of value.now (option_copied packet.entry)))) }
 {
     put_zeros(gap(place, align_of_value(value)), out)?;
@@ -176,8 +184,8 @@ fn cause_guid(cause: u32) -> Guid
     }
 }
 
-/// The bytes of a request: ORPCTHIS with the causality, then the arguments, each reference that is not null with
-/// the fields of the next packet, and as null where there is none. The only error is want of memory.
+/// The bytes of a request: ORPCTHIS with the causality, then the arguments, each reference that is not null
+/// with the fields of the next packet, and as null where there is none. The only error is want of memory.
 /// Source: MS-DCOM 2.2.13.3, "ORPCTHIS"; C706, chapter 14.
 pub fn request(
     alloc: Global,
@@ -200,7 +208,8 @@ fn put_result(
     packets: &[StdFields],
     out: &mut ByteList,
 ) -> Result<(), Memory>
-    ensures { OnOk result (out.new ≡ out.old ++ written_args (wires (result_list (option_copied value.entry)) packets.now)) }
+    ensures { OnOk result (out.new
+        ≡ out.old ++ written_args (wires (result_list (option_copied value.entry)) packets.now)) }
 {
     match value {
         None => Ok(()),
@@ -214,15 +223,16 @@ fn put_result(
 // Appends the HRESULT at a multiple of four from a start on.
 fn put_answer(answer: HResult, start: usize, out: &mut ByteList) -> Result<(), Memory>
     requires { start ≤ length out.old }
-    ensures { OnOk result (out.new ≡ out.old ++ (zeros (gap (length out.old - start) 4) ++ number w32 answer.0)) }
+    ensures { OnOk result (out.new
+        ≡ out.old ++ (zeros (gap (length out.old - start) 4) ++ number w32 answer.0)) }
 {
     put_zeros(gap(out.len() - start, 4), out)?;
     put_number(answer.0, out)
 }
 
-/// The bytes of a reply: ORPCTHAT, then the value, if there is one, with the fields of its packet, and the HRESULT at
-/// a multiple of four. The only error is want of memory.
-/// Source: MS-DCOM 2.2.13.4, "ORPCTHAT"; C706, chapter 14.
+/// The bytes of a reply: ORPCTHAT, then the value, if there is one, with the fields of its packet, and the
+/// HRESULT at a multiple of four. The only error is want of memory. Source: MS-DCOM 2.2.13.4, "ORPCTHAT";
+/// C706, chapter 14.
 pub fn reply(
     alloc: Global,
     answer: HResult,

@@ -1,5 +1,6 @@
 -- What a filter answers: the first rule of the question's kind that matches, else the default.
-use Rattle.std.specs.Prelude.{ℕ, ℤ, negsuc, List, [], ◌∷◌, Bool, true, false, ◌&&◌, ◌==◌, Option, Some, None, nat_le, unwrap_or, if◌then◌else◌}
+use Rattle.std.specs.Prelude.{ℕ, ℤ, negsuc, List, [], ◌∷◌, Bool, true, false, ◌&&◌, ◌==◌, Option, Some, None}
+use Rattle.std.specs.Prelude.{nat_le, unwrap_or, if◌then◌else◌}
 use Rattle.com_filter.specs.declared.Verdict.{Verdict}
 use Rattle.com_filter.specs.declared.Verdict.TheVariants as verdict
 use Rattle.com_filter.specs.declared.Rule.{Rule}
@@ -28,13 +29,15 @@ incoming_by (rule.Incoming wanted ms answer) call_type elapsed =
     if is_for_type wanted call_type && nat_le ms elapsed then Some answer else None
 incoming_by other call_type elapsed = None
 
--- The answer of one rule to a caller that got a verdict, so many milliseconds after its call, if the rule matches.
+-- The answer of one rule to a caller that got a verdict, so many milliseconds after its call, if the rule
+-- matches.
 abbrev pub retry_by : Rule → Verdict → ℕ → Option ℤ
 retry_by (rule.Retry wanted ms answer) asked elapsed =
     if is_for_verdict wanted asked && nat_le ms elapsed then Some answer else None
 retry_by other asked elapsed = None
 
--- The answer of one rule to a waiting caller that has a word, so many milliseconds after its call, if the rule matches.
+-- The answer of one rule to a waiting caller that has a word, so many milliseconds after its call, if the
+-- rule matches.
 abbrev pub pending_by : Rule → ℕ → Option ℕ
 pending_by (rule.Pending ms answer) elapsed = if nat_le ms elapsed then Some answer else None
 pending_by other elapsed = None

@@ -2,7 +2,8 @@
 #![tactic(auto)]
 
 ghost use Rattle.std.specs.Prelude.{◌≡◌};
-ghost use Rattle.com_filter.specs.Answers.{is_for_type, is_for_verdict, same_verdict, incoming_by, retry_by, pending_by, incoming_answer, retry_answer, pending_answer};
+ghost use Rattle.com_filter.specs.Answers.{is_for_type, is_for_verdict, same_verdict, incoming_by, retry_by};
+ghost use Rattle.com_filter.specs.Answers.{pending_by, incoming_answer, retry_answer, pending_answer};
 
 use std::marker::Model;
 
@@ -29,14 +30,15 @@ pub enum Rule {
         ms: u32,
         verdict: Verdict,
     },
-    /// Answers a caller that got this verdict, or either where it is `None`: below 0 gives up, 0 to 99 calls again at
-    /// once, and 100 and more waits for that many milliseconds.
+    /// Answers a caller that got this verdict, or either where it is `None`: below 0 gives up, 0 to 99 calls
+    /// again at once, and 100 and more waits for that many milliseconds.
     Retry {
         verdict: Option<Verdict>,
         ms: u32,
         answer: i64,
     },
-    /// Answers a waiting caller that has a word: PENDINGMSG_CANCELCALL 0, WAITNOPROCESS 1 or WAITDEFPROCESS 2.
+    /// Answers a waiting caller that has a word: PENDINGMSG_CANCELCALL 0, WAITNOPROCESS 1 or WAITDEFPROCESS
+    /// 2.
     Pending {
         ms: u32,
         answer: u8,
@@ -73,9 +75,9 @@ impl Filter {
         self.rules.as_slice()
     }
 
-    /// The answer to an incoming call (IMessageFilter::HandleInComingCall) of call type 1, 2 or 4, where `elapsed` is in
-    /// milliseconds: that of the first rule for incoming calls that is for this type and whose time has come. With no such
-    /// rule the call is handled.
+    /// The answer to an incoming call (IMessageFilter::HandleInComingCall) of call type 1, 2 or 4, where
+    /// `elapsed` is in milliseconds: that of the first rule for incoming calls that is for this type and
+    /// whose time has come. With no such rule the call is handled.
     pub fn incoming(&self, call_type: u8, elapsed: u64) -> Verdict
         ensures { result ≡ incoming_answer self.now call_type elapsed }
     {
@@ -87,8 +89,9 @@ impl Filter {
         Verdict::Handled
     }
 
-    /// The answer to a caller that got this verdict (IMessageFilter::RetryRejectedCall), `elapsed` milliseconds after its
-    /// call: that of the first rule for retries that is for this verdict and whose time has come. With no such rule it is
+    /// The answer to a caller that got this verdict (IMessageFilter::RetryRejectedCall), `elapsed`
+    /// milliseconds after its call: that of the first rule for retries that is for this verdict and whose
+    /// time has come. With no such rule it is
     /// -1. Below 0 gives up, 0 to 99 calls again at once, and 100 and more waits for so many milliseconds.
     pub fn retry(&self, verdict: Verdict, elapsed: u64) -> i64
         ensures { result ≡ retry_answer self.now verdict elapsed }
@@ -101,9 +104,9 @@ impl Filter {
         -1
     }
 
-    /// The answer to a waiting caller that has a word (IMessageFilter::MessagePending), `elapsed` milliseconds after its
-    /// call: that of the first rule for pending words whose time has come. With no such rule it is
-    /// PENDINGMSG_WAITDEFPROCESS, 2. PENDINGMSG_CANCELCALL is 0 and WAITNOPROCESS 1.
+    /// The answer to a waiting caller that has a word (IMessageFilter::MessagePending), `elapsed`
+    /// milliseconds after its call: that of the first rule for pending words whose time has come. With no
+    /// such rule it is PENDINGMSG_WAITDEFPROCESS, 2. PENDINGMSG_CANCELCALL is 0 and WAITNOPROCESS 1.
     pub fn pending(&self, elapsed: u64) -> u8
         ensures { result ≡ pending_answer self.now elapsed }
     {

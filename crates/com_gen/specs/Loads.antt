@@ -29,7 +29,8 @@ head_text =
 abbrev pub apartment_text : ℕ → List ℕ
 apartment_text w = if w % 2 == 1 then codes "thread\ninit sta\n" else codes "thread\ninit mta\n"
 
--- A round: an object of a class that the first word says is made, called with a number that the second word says, and released.
+-- A round: an object of a class that the first word says is made, called with a number that the second word
+-- says, and released.
 unfoldable pub round_of : (class argument : ℕ) → List ℕ
 round_of class argument =
     codes "create s0 N" ++ decimal (1 + class % 5) ++ codes " ICounter\ncall s0 ICounter.add " ++ decimal (argument % 1000)

@@ -1,5 +1,6 @@
 -- The words that spell the number of a text.
-use Rattle.std.specs.Prelude.{ℕ, ◌+◌, ◌-◌, ◌*◌, ◌==◌, ◌||◌, List, [], ◌∷◌, Option, Some, None, if◌then◌else◌, length, nat_lt}
+use Rattle.std.specs.Prelude.{ℕ, ◌+◌, ◌-◌, ◌*◌, ◌==◌, ◌||◌, List, [], ◌∷◌, Option, Some, None, if◌then◌else◌}
+use Rattle.std.specs.Prelude.{length, nat_lt}
 use Rattle.std.specs.Char.{is_ascii_digit}
 
 -- The number that is spelled by digits behind those of a number, from 1 to 1,000,000.

@@ -3,7 +3,8 @@
 //! Source: the documentation of IGlobalInterfaceTable. Cookies from 1 on are this project's.
 #![tactic(auto)]
 
-ghost use Rattle.std.specs.Prelude.{◌≡◌, ◌+◌, ◌<◌, ◌≤◌, ◌^◌, [], ◌∷◌, ◌++◌, length, OnOk, OnErr, IfOk, IsOk, Some, None};
+ghost use Rattle.std.specs.Prelude.{◌≡◌, ◌+◌, ◌<◌, ◌≤◌, ◌^◌, [], ◌∷◌, ◌++◌, length, OnOk, OnErr, IfOk, IsOk};
+ghost use Rattle.std.specs.Prelude.{Some, None};
 ghost use Rattle.com_slots.specs.Table.{held_in, with_entry};
 
 use com_base::RefValue;

@@ -1,6 +1,7 @@
--- The places that the tables count: for each object its direct places, and for each apartment that does not own it, how many
--- places of the apartment hold it.
-use Rattle.std.specs.Prelude.{◌≡◌, ℕ, ◌+◌, ◌<◌, ◌≤◌, Bool, true, false, not, ◌==◌, ◌&&◌, ◌||◌, if◌then◌else◌, List, [], ◌∷◌, sum_by, length}
+-- The places that the tables count: for each object its direct places, and for each apartment that does not
+-- own it, how many places of the apartment hold it.
+use Rattle.std.specs.Prelude.{◌≡◌, ℕ, ◌+◌, ◌<◌, ◌≤◌, Bool, true, false, not, ◌==◌, ◌&&◌, ◌||◌, if◌then◌else◌}
+use Rattle.std.specs.Prelude.{List, [], ◌∷◌, sum_by, length}
 use Rattle.com_proxy.specs.declared.ProxyRow.{ProxyRow}
 use Rattle.com_proxy.specs.Rows.{is_for}
 use Rattle.com_books.specs.Counting.{sum_below, count_if}
@@ -33,7 +34,8 @@ abbrev pub distinct : List ProxyRow → Bool
 distinct [] = true
 distinct (row ∷ rows) = not (has_row rows row.apartment row.object row.iface) && distinct rows
 
--- One place more, of an apartment and an object; a direct one where the apartment owns the object. All else is as it was.
+-- One place more, of an apartment and an object; a direct one where the apartment owns the object. All else
+-- is as it was.
 pub record OneMore (t u : Tables) (a o : ℕ) (owned : Bool) : Type 0 where
   pub made : length u.objects ≡ length t.objects
   pub owns : (x c : ℕ) → owns_of u.objects x c ≡ owns_of t.objects x c

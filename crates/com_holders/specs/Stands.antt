@@ -1,5 +1,6 @@
 -- What is true of the tables at all times.
-use Rattle.std.specs.Prelude.{◌≡◌, ℕ, ◌+◌, ◌-◌, ◌*◌, ◌<◌, ◌≤◌, Bool, true, false, ◌==◌, ◌&&◌, if◌then◌else◌, List, length, sum_by, Some}
+use Rattle.std.specs.Prelude.{◌≡◌, ℕ, ◌+◌, ◌-◌, ◌*◌, ◌<◌, ◌≤◌, Bool, true, false, ◌==◌, ◌&&◌, if◌then◌else◌}
+use Rattle.std.specs.Prelude.{List, length, sum_by, Some}
 use Rattle.com_base.specs.declared.value.RefValue.{RefValue}
 use Rattle.com_keyed.specs.Places.{Places}
 use Rattle.com_packets.specs.declared.Packet as P

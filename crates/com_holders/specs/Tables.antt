@@ -1,5 +1,6 @@
 -- What contracts see of a `Holders`, and its reading as books.
-use Rattle.std.specs.Prelude.{ℕ, zero, suc, ◌+◌, ◌-◌, Bool, true, false, ◌==◌, ◌&&◌, ◌||◌, if◌then◌else◌, List, [], map, length, nat_lt, slice_index, Option, Some, None, slice_index_or}
+use Rattle.std.specs.Prelude.{ℕ, zero, suc, ◌+◌, ◌-◌, Bool, true, false, ◌==◌, ◌&&◌, ◌||◌, if◌then◌else◌}
+use Rattle.std.specs.Prelude.{List, [], map, length, nat_lt, slice_index, Option, Some, None, slice_index_or}
 use Rattle.com_base.specs.declared.value.RefValue.{RefValue}
 use Rattle.com_packets.specs.declared.Packet as P
 use Rattle.com_proxy.specs.declared.ProxyRow.{ProxyRow}
@@ -14,8 +15,8 @@ use Rattle.com_books.specs.Changes.{Books, no_packet, no_cookie, set_from_one}
 use Rattle.com_books.specs.declared.keeps.Packet.{Packet}
 use Rattle.com_books.specs.declared.keeps.Cookie.{Cookie}
 
--- Objects, packets and cookies from number 1 on; how many references were given so far; and how many calls are sure to find
--- memory.
+-- Objects, packets and cookies from number 1 on; how many references were given so far; and how many calls
+-- are sure to find memory.
 pub record Tables : Type 0 where
   pub objects : List ObjectRow
   pub stubs : List StubRow
@@ -88,7 +89,8 @@ books_by live counters proxies packets cookies = record {
   result = λ c. None;
 }
 
--- The books that the tables stand for. Which packets carry a call's arguments or result, the tables do not keep.
+-- The books that the tables stand for. Which packets carry a call's arguments or result, the tables do not
+-- keep.
 unfoldable pub books_of : Tables → Books
 books_of t = books_by (is_connected t.stubs) t.counters t.proxies t.packets t.cookies
 

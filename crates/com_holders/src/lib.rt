@@ -1,22 +1,29 @@
 //! Who holds references to each object, and how many public references the object's stub counts for them.
 //!
-//! A place of a reference is direct in an apartment that owns the object, and is one of that apartment's proxy elsewhere.
-//! Outside of apartments packets and cookies hold references. Every call changes the books of public references by its row
-//! of the table of reference counting, and the places by one at most. Source: MS-DCOM 2.2.18 and 3.2.4.4, and Essential COM,
-//! chapter 5, on stubs, proxies and marshalling.
+//! A place of a reference is direct in an apartment that owns the object, and is one of that apartment's
+//! proxy elsewhere. Outside of apartments packets and cookies hold references. Every call changes the books
+//! of public references by its row of the table of reference counting, and the places by one at most. Source:
+//! MS-DCOM 2.2.18 and 3.2.4.4, and Essential COM, chapter 5, on stubs, proxies and marshalling.
 #![tactic(auto)]
 
-ghost use Rattle.std.specs.Prelude.{◌≡◌, ◌+◌, ◌-◌, ◌*◌, ◌==◌, ◌<◌, ◌≤◌, ◌^◌, ◌↔◌, ◌/◌, ◌&&◌, ◌||◌, ℕ, true, false, not, nat_le, max, [], ◌∷◌, ◌++◌, length, OnOk, OnErr, IfOk, IsOk, IsTrue, Ok, Err, Some, None, IsSomeAnd, if◌then◌else◌};
-ghost use Rattle.com_stub.specs.CounterRows.{counter_of, has_counter, changed_counter, more, less, sum_of, opened_all, EachFirst};
+ghost use Rattle.std.specs.Prelude.{◌≡◌, ◌+◌, ◌-◌, ◌*◌, ◌==◌, ◌<◌, ◌≤◌, ◌^◌, ◌↔◌, ◌/◌, ◌&&◌, ◌||◌, ℕ, true};
+ghost use Rattle.std.specs.Prelude.{false, not, nat_le, max, [], ◌∷◌, ◌++◌, length, OnOk, OnErr, IfOk, IsOk};
+ghost use Rattle.std.specs.Prelude.{IsTrue, Ok, Err, Some, None, IsSomeAnd, if◌then◌else◌};
+ghost use Rattle.com_stub.specs.CounterRows.{counter_of, has_counter, changed_counter, more, less, sum_of};
+ghost use Rattle.com_stub.specs.CounterRows.{opened_all, EachFirst};
 ghost use Rattle.com_stub.specs.StubRows.{is_connected, has_stub};
 ghost use Rattle.com_stub.specs.Tables.{total_of};
 ghost use Rattle.com_slots.specs.Table.{held_in};
-ghost use Rattle.com_proxy.specs.Rows.{public_of, split_rows, local_of, changed_row, gaining, one_local_more, public_sum, IsFree};
+ghost use Rattle.com_proxy.specs.Rows.{public_of, split_rows, local_of, changed_row, gaining, one_local_more};
+ghost use Rattle.com_proxy.specs.Rows.{public_sum, IsFree};
 ghost use Rattle.com_packets.specs.Sums.{normal_sum};
 ghost use Rattle.com_packets.specs.declared.Packet as P;
 ghost use Rattle.com_books.specs.Counting.{count_if};
-ghost use Rattle.com_books.specs.Changes.{Books, changed, change, cut, packet, cookie, Makes, Takes, Asks, Marshals, Unmarshals, Drops, Registers, Revokes, ToProxy, ToCookie, Join, Return, Withdraw, given_back};
-ghost use Rattle.com_holders.specs.Tables.{Tables, is_owned, books_of, owns_of, owners_of, object_in, direct_in, direct_less, direct_more, outstanding_in, offers};
+ghost use Rattle.com_books.specs.Changes.{Books, changed, change, cut, packet, cookie, Makes, Takes, Asks};
+ghost use Rattle.com_books.specs.Changes.{Marshals, Unmarshals, Drops, Registers, Revokes, ToProxy, ToCookie};
+ghost use Rattle.com_books.specs.Changes.{Join, Return, Withdraw, given_back};
+ghost use Rattle.com_holders.specs.Tables.{Tables, is_owned, books_of, owns_of, owners_of, object_in};
+ghost use Rattle.com_holders.specs.Tables.{direct_in, direct_less, direct_more, outstanding_in, offers};
 ghost use Rattle.com_holders.specs.Places.{OneMore, OneLess, SamePlaces, places_in, distinct};
 ghost use Rattle.com_holders.specs.Stands.{Gave, Released, Tells, Known, Bounded, IsEven};
 ghost use Rattle.com_holders.specs.Steps.{minted, minted_counters, minted_rows, made_live, among};
@@ -33,7 +40,8 @@ use std::marker::Model;
 /// Want of memory.
 pub use com_base::Memory;
 
-/// An object: the apartment that owns it, whether every apartment does, and how many of its places are direct.
+/// An object: the apartment that owns it, whether every apartment does, and how many of its places are
+/// direct.
 #[derive(Debug, Clone, Copy)]
 pub struct ObjectRow {
     /// The apartment that owns the object; 0 for an agile one.
@@ -57,8 +65,9 @@ pub enum HoldersError {
     Memory,
 }
 
-/// The holders of all objects, seen as their tables: the objects, packets and cookies in order of their numbers from 1 on, how
-/// many references were given so far, and the number of calls that are sure to find memory.
+/// The holders of all objects, seen as their tables: the objects, packets and cookies in order of their
+/// numbers from 1 on, how many references were given so far, and the number of calls that are sure to find
+/// memory.
 #[derive(Debug, Drop)]
 pub struct Holders {
     objects: Vec<ObjectRow>,
@@ -81,7 +90,8 @@ impl Model for Holders {
 
     ghost Value = { Tables };
 
-    ghost view = { λ r. tables r.objects.items r.stubs.stubs r.stubs.counters r.proxies.rows r.packets.entries r.cookies.entries r.issued r.room };
+    ghost view = { λ r. tables r.objects.items r.stubs.stubs r.stubs.counters r.proxies.rows
+        r.packets.entries r.cookies.entries r.issued r.room };
 
     ghost invariant = { λ r. IsWhole
         (tables r.objects.items r.stubs.stubs r.stubs.counters r.proxies.rows r.packets.entries r.cookies.entries r.issued r.room)
@@ -154,7 +164,8 @@ fn issue(stubs: &mut Stubs, held: RefValue, n: u32) -> u32
     requires known { has_counter stubs.old.counters held.object held.iface ≡ true }
     requires fits { sum_of stubs.old.counters held.object + n < 2 ^ 64 }
     ensures result { result ≡ n }
-    ensures counters { stubs.new.counters ≡ changed_counter (more n) held.object held.iface stubs.old.counters }
+    ensures counters { stubs.new.counters
+        ≡ changed_counter (more n) held.object held.iface stubs.old.counters }
     ensures stubs { stubs.new.stubs ≡ stubs.old.stubs }
     ensures stub_room { stubs.new.spare ≡ stubs.old.spare }
 {
@@ -176,9 +187,14 @@ fn mint(
     requires known { has_counter stubs.old.counters held.object held.iface ≡ true }
     requires fits { sum_of stubs.old.counters held.object + 5 < 2 ^ 64 }
     requires public_fits { public_of proxies.old.rows apartment held.object held.iface < 2 ^ 32 }
-    ensures result { result ≡ minted owned mode (public_of proxies.old.rows apartment held.object held.iface) }
-    ensures counters { stubs.new.counters ≡ minted_counters owned mode (public_of proxies.old.rows apartment held.object held.iface) held.object held.iface stubs.old.counters }
-    ensures rows { proxies.new.rows ≡ minted_rows owned mode apartment held.object held.iface proxies.old.rows }
+    ensures result { result ≡ minted owned mode
+        (public_of proxies.old.rows apartment held.object held.iface) }
+    ensures counters { stubs.new.counters
+        ≡ minted_counters owned mode
+        (public_of proxies.old.rows apartment held.object held.iface) held.object held.iface
+        stubs.old.counters }
+    ensures rows { proxies.new.rows
+        ≡ minted_rows owned mode apartment held.object held.iface proxies.old.rows }
     ensures stubs { stubs.new.stubs ≡ stubs.old.stubs }
     ensures stub_room { stubs.new.spare ≡ stubs.old.spare }
     ensures proxy_room { proxies.new.spare ≡ proxies.old.spare }
@@ -201,11 +217,14 @@ fn mint(
 // The proxy gives all its public references back.
 fn give_back(stubs: &mut Stubs, proxies: &mut Proxies, apartment: u32, object: u32)
     requires connected { is_connected stubs.old.stubs object ≡ true }
-    requires within { (iface : ℕ) → public_of proxies.old.rows apartment object iface ≤ (counter_of stubs.old.counters object iface).count }
+    requires within { (iface : ℕ)
+        → public_of proxies.old.rows apartment object iface ≤
+        (counter_of stubs.old.counters object iface).count }
     ensures stubs { stubs.new.stubs ≡ stubs.old.stubs }
     ensures stub_room { stubs.new.spare ≡ stubs.old.spare }
     ensures proxy_room { proxies.new.spare ≡ proxies.old.spare }
-    ensures gave { Gave apartment object true proxies.old.rows stubs.old.counters proxies.new.rows stubs.new.counters }
+    ensures gave { Gave apartment object true proxies.old.rows stubs.old.counters proxies.new.rows
+        stubs.new.counters }
 {
     while let Some((iface, n)) = proxies.take_public(apartment, object) {
         stubs.take(object, iface, n);
@@ -215,12 +234,16 @@ fn give_back(stubs: &mut Stubs, proxies: &mut Proxies, apartment: u32, object: u
 // One reference of a proxy less. True where the proxy then gave all back.
 fn let_go(stubs: &mut Stubs, proxies: &mut Proxies, apartment: u32, held: RefValue) -> bool
     requires held { 0 < local_of proxies.old.rows apartment held.object held.iface }
-    requires within { is_connected stubs.old.stubs held.object ≡ true → (iface : ℕ) → public_of proxies.old.rows apartment held.object iface ≤ (counter_of stubs.old.counters held.object iface).count }
+    requires within { is_connected stubs.old.stubs held.object ≡ true → (iface : ℕ)
+        → public_of proxies.old.rows apartment held.object iface ≤
+        (counter_of stubs.old.counters held.object iface).count }
     ensures stubs { stubs.new.stubs ≡ stubs.old.stubs }
     ensures stub_room { stubs.new.spare ≡ stubs.old.spare }
     ensures proxy_room { proxies.new.spare ≡ proxies.old.spare }
-    ensures released { Released apartment held.object held.iface result proxies.old.rows stubs.old.counters proxies.new.rows stubs.new.counters }
-    ensures free { is_connected stubs.old.stubs held.object ≡ true → (IsTrue result ↔ IsFree proxies.new.rows apartment held.object) }
+    ensures released { Released apartment held.object held.iface result proxies.old.rows stubs.old.counters
+        proxies.new.rows stubs.new.counters }
+    ensures free { is_connected stubs.old.stubs held.object ≡ true
+        → (IsTrue result ↔ IsFree proxies.new.rows apartment held.object) }
     ensures none { is_connected stubs.old.stubs held.object ≡ false → result ≡ false }
 {
     let free = proxies.release(apartment, held.object, held.iface);
@@ -237,7 +260,8 @@ fn let_go(stubs: &mut Stubs, proxies: &mut Proxies, apartment: u32, held: RefVal
 // Disconnects all objects of an owner.
 fn end_all(stubs: &mut Stubs, owners: &Chains, apartment: u32)
     requires fits { length owners.now.keys < 2 ^ 32 }
-    ensures stubs { (x : ℕ) → is_connected stubs.new.stubs x ≡ (is_connected stubs.old.stubs x && not (is_owned owners.now.keys apartment x)) }
+    ensures stubs { (x : ℕ) → is_connected stubs.new.stubs x
+        ≡ (is_connected stubs.old.stubs x && not (is_owned owners.now.keys apartment x)) }
     ensures counters { stubs.new.counters ≡ stubs.old.counters }
     ensures stub_room { stubs.new.spare ≡ stubs.old.spare }
     ensures known { (x : ℕ) → has_stub stubs.new.stubs x ≡ has_stub stubs.old.stubs x }
@@ -279,7 +303,8 @@ fn gain(proxies: &mut Proxies, apartment: u32, held: RefValue, refs: u32)
     requires room { 0 < proxies.old.spare }
     requires local_fits { local_of proxies.old.rows apartment held.object held.iface + 1 < 2 ^ 64 }
     requires public_fits { public_of proxies.old.rows apartment held.object held.iface + refs < 2 ^ 64 }
-    ensures rows { proxies.new.rows ≡ changed_row (gaining refs) apartment held.object held.iface proxies.old.rows }
+    ensures rows { proxies.new.rows
+        ≡ changed_row (gaining refs) apartment held.object held.iface proxies.old.rows }
     ensures spare { proxies.old.spare ≤ proxies.new.spare + 1 }
 {
     let _ = proxies.gain(apartment, held.object, held.iface, refs);
@@ -327,8 +352,10 @@ fn enroll(stubs: &mut Stubs, object: u32, set: &[u16])
 
 // The reference of a cookie back to the stub of its object, if that is connected.
 fn take_back(stubs: &mut Stubs, held: RefValue)
-    requires counted { is_connected stubs.old.stubs held.object ≡ true → 1 ≤ (counter_of stubs.old.counters held.object held.iface).count }
-    ensures counters { stubs.new.counters ≡ (if is_connected stubs.old.stubs held.object then changed_counter (less 1) held.object held.iface stubs.old.counters else stubs.old.counters) }
+    requires counted { is_connected stubs.old.stubs held.object ≡ true
+        → 1 ≤ (counter_of stubs.old.counters held.object held.iface).count }
+    ensures counters { stubs.new.counters ≡ (if is_connected stubs.old.stubs held.object
+        then changed_counter (less 1) held.object held.iface stubs.old.counters else stubs.old.counters) }
     ensures stubs { stubs.new.stubs ≡ stubs.old.stubs }
     ensures spare { stubs.new.spare ≡ stubs.old.spare }
 {
@@ -434,14 +461,16 @@ impl Holders {
         self.issued += 1;
     }
 
-    // One place more of an apartment that does not own the object, and so many public references more, new ones.
+    // One place more of an apartment that does not own the object, and so many public references more, new
+    // ones.
     pub fn issue_elsewhere(&mut self, apartment: u32, held: RefValue)
         requires elsewhere { owns_of self.old.objects held.object apartment ≡ false }
         requires connected { is_connected self.old.stubs held.object ≡ true }
         requires known { offers self.old held.object held.iface ≡ true }
         requires few { self.old.issued < 2 ^ 28 }
         requires room { 0 < self.old.spare }
-        ensures books { books_of self.new ≡ changed (books_of self.old) (ToProxy apartment held.object held.iface 5) }
+        ensures books { books_of self.new
+            ≡ changed (books_of self.old) (ToProxy apartment held.object held.iface 5) }
         ensures places { OneMore self.old self.new apartment held.object false }
         ensures offers { (x j : ℕ) → offers self.new x j ≡ offers self.old x j }
         ensures issued { self.new.issued ≡ self.old.issued + 1 }
@@ -473,7 +502,8 @@ impl Holders {
 
     // A packet ends, and its references go back to the stub.
     pub fn end_packet(&mut self, number: u32, packet: Packet)
-        requires outstanding { outstanding_in (is_connected self.old.stubs) self.old.packets number ≡ Some packet }
+        requires outstanding { outstanding_in (is_connected self.old.stubs) self.old.packets number
+            ≡ Some packet }
         ensures books { books_of self.new ≡ changed (books_of self.old) (Return number) }
         ensures proxies { self.new.proxies ≡ self.old.proxies }
         ensures objects { self.new.objects ≡ self.old.objects }
@@ -489,7 +519,8 @@ impl Holders {
 
     // A normal packet ends, and its references go to the proxy of an apartment that does not own its object.
     fn join_packet(&mut self, apartment: u32, number: u32, packet: Packet)
-        requires outstanding { outstanding_in (is_connected self.old.stubs) self.old.packets number ≡ Some packet }
+        requires outstanding { outstanding_in (is_connected self.old.stubs) self.old.packets number
+            ≡ Some packet }
         requires elsewhere { owns_of self.old.objects packet.object apartment ≡ false }
         requires few { self.old.issued < 2 ^ 28 }
         requires room { 0 < self.old.spare }
@@ -549,7 +580,9 @@ impl Holders {
         requires few { self.old.issued < 2 ^ 28 }
         requires room { 0 < self.old.spare }
         ensures number { result ≡ length self.old.packets + 1 }
-        ensures row { books_of self.new ≡ changed (books_of self.old) (change (owns_of self.old.objects) (books_of self.old) (Marshals apartment mode held.object held.iface)) }
+        ensures row { books_of self.new
+            ≡ changed (books_of self.old) (change (owns_of self.old.objects) (books_of self.old)
+            (Marshals apartment mode held.object held.iface)) }
         ensures places { SamePlaces self.old self.new }
         ensures offers { (x j : ℕ) → offers self.new x j ≡ offers self.old x j }
         ensures issued { self.new.issued ≡ self.old.issued + 1 }
@@ -589,12 +622,14 @@ impl Holders {
         ensures counters { self.new.counters ≡ self.old.counters }
         ensures issued { self.new.issued ≡ self.old.issued }
         ensures spare { self.new.spare ≡ self.old.spare }
-        ensures given { (n a : ℕ) (places : ℕ → ℕ → ℕ) → a < n → owns_of self.old.objects object a ≡ true → Tells n places self.new → books_of self.new ≡ given_back n places (books_of self.old) }
+        ensures given { (n a : ℕ) (places : ℕ → ℕ → ℕ) → a < n → owns_of self.old.objects object a ≡ true
+            → Tells n places self.new → books_of self.new ≡ given_back n places (books_of self.old) }
     {
         lose_direct(&mut self.objects, object);
     }
 
-    // One place less of an apartment that does not own the object: with its last place a proxy gives everything back.
+    // One place less of an apartment that does not own the object: with its last place a proxy gives
+    // everything back.
     pub fn leave_elsewhere(&mut self, apartment: u32, held: RefValue)
         requires elsewhere { owns_of self.old.objects held.object apartment ≡ false }
         requires held { 0 < local_of self.old.proxies apartment held.object held.iface }
@@ -605,7 +640,8 @@ impl Holders {
         ensures offers { (x j : ℕ) → offers self.new x j ≡ offers self.old x j }
         ensures issued { self.new.issued ≡ self.old.issued }
         ensures spare { self.new.spare ≡ self.old.spare }
-        ensures given { (n : ℕ) (places : ℕ → ℕ → ℕ) → apartment < n → Tells n places self.new → books_of self.new ≡ given_back n places (books_of self.old) }
+        ensures given { (n : ℕ) (places : ℕ → ℕ → ℕ) → apartment < n → Tells n places self.new
+            → books_of self.new ≡ given_back n places (books_of self.old) }
     {
         let_go(&mut self.stubs, &mut self.proxies, apartment, held);
     }
@@ -616,7 +652,8 @@ impl Holders {
         requires connected { is_connected self.old.stubs held.object ≡ true }
         requires known { offers self.old held.object held.iface ≡ true }
         requires few { self.old.issued < 2 ^ 28 }
-        ensures books { OnOk result (books_of self.new ≡ changed (books_of self.old) (ToProxy apartment held.object held.iface 5)) }
+        ensures books { OnOk result (books_of self.new
+            ≡ changed (books_of self.old) (ToProxy apartment held.object held.iface 5)) }
         ensures places { OnOk result (OneMore self.old self.new apartment held.object false) }
         ensures offers { (x j : ℕ) → offers self.new x j ≡ offers self.old x j }
         ensures issued { OnOk result (self.new.issued ≡ self.old.issued + 1) }
@@ -651,10 +688,12 @@ impl Holders {
 
     // The same with a packet's references.
     pub fn take_packet(&mut self, apartment: u32, number: u32, packet: Packet) -> Result<(), Memory>
-        requires outstanding { outstanding_in (is_connected self.old.stubs) self.old.packets number ≡ Some packet }
+        requires outstanding { outstanding_in (is_connected self.old.stubs) self.old.packets number
+            ≡ Some packet }
         requires elsewhere { owns_of self.old.objects packet.object apartment ≡ false }
         requires few { self.old.issued < 2 ^ 28 }
-        ensures books { OnOk result (books_of self.new ≡ changed (books_of self.old) (Join apartment number)) }
+        ensures books { OnOk result (books_of self.new
+            ≡ changed (books_of self.old) (Join apartment number)) }
         ensures places { OnOk result (OneMore self.old self.new apartment packet.object false) }
         ensures offers { (x j : ℕ) → offers self.new x j ≡ offers self.old x j }
         ensures issued { OnOk result (self.new.issued ≡ self.old.issued + 1) }
@@ -679,7 +718,9 @@ impl Holders {
         requires known { offers self.old held.object held.iface ≡ true }
         requires few { self.old.issued < 2 ^ 28 }
         ensures number { IfOk result (λ number. number ≡ length self.old.packets + 1) }
-        ensures row { OnOk result (books_of self.new ≡ changed (books_of self.old) (change (owns_of self.old.objects) (books_of self.old) (Marshals apartment mode held.object held.iface))) }
+        ensures row { OnOk result (books_of self.new
+            ≡ changed (books_of self.old) (change (owns_of self.old.objects) (books_of self.old)
+            (Marshals apartment mode held.object held.iface))) }
         ensures places { SamePlaces self.old self.new }
         ensures offers { (x j : ℕ) → offers self.new x j ≡ offers self.old x j }
         ensures issued { OnOk result (self.new.issued ≡ self.old.issued + 1) }
@@ -698,7 +739,8 @@ impl Holders {
         requires known { offers self.old held.object held.iface ≡ true }
         requires few { self.old.issued < 2 ^ 28 }
         ensures cookie { IfOk result (λ cookie. cookie ≡ length self.old.cookies + 1) }
-        ensures books { OnOk result (books_of self.new ≡ changed (books_of self.old) (ToCookie held.object held.iface 1)) }
+        ensures books { OnOk result (books_of self.new
+            ≡ changed (books_of self.old) (ToCookie held.object held.iface 1)) }
         ensures places { SamePlaces self.old self.new }
         ensures offers { (x j : ℕ) → offers self.new x j ≡ offers self.old x j }
         ensures issued { OnOk result (self.new.issued ≡ self.old.issued + 1) }
@@ -718,9 +760,11 @@ impl Holders {
         requires room { 0 < self.old.spare }
         ensures number { result ≡ length self.old.objects + 1 }
         ensures books { books_of self.new ≡ made_live (length self.old.objects + 1) (books_of self.old) }
-        ensures objects { self.new.objects ≡ self.old.objects ++ record { owner = owner; agile = agile; direct = 0 } ∷ [] }
+        ensures objects { self.new.objects
+            ≡ self.old.objects ++ record { owner = owner; agile = agile; direct = 0 } ∷ [] }
         ensures proxies { self.new.proxies ≡ self.old.proxies }
-        ensures offers { (x j : ℕ) → offers self.new x j ≡ (offers self.old x j || (x == length self.old.objects + 1 && among j set.now)) }
+        ensures offers { (x j : ℕ) → offers self.new x j
+            ≡ (offers self.old x j || (x == length self.old.objects + 1 && among j set.now)) }
         ensures issued { self.new.issued ≡ self.old.issued + 1 }
         ensures spare { self.new.spare + 1 ≡ self.old.spare }
     {
@@ -740,7 +784,9 @@ impl Holders {
     /// All objects that the apartment owns are no longer connected.
     pub fn end_apartment(&mut self, apartment: u32)
         requires few { self.old.issued ≤ 2 ^ 28 }
-        ensures books { books_of self.new ≡ cut (λ x. (books_of self.old).live x && not (is_owned (owners_of self.old.objects) apartment x)) (books_of self.old) }
+        ensures books { books_of self.new
+            ≡ cut (λ x. (books_of self.old).live x && not (is_owned
+            (owners_of self.old.objects) apartment x)) (books_of self.old) }
         ensures objects { self.new.objects ≡ self.old.objects }
         ensures proxies { self.new.proxies ≡ self.old.proxies }
         ensures counters { self.new.counters ≡ self.old.counters }
@@ -816,7 +862,8 @@ impl Holders {
 
     /// What the stub of the object counts, over all interfaces: nothing where the object is not connected.
     pub fn counted(&self, object: u32) -> u64
-        ensures { result ≡ (if is_connected self.now.stubs object then sum_of self.now.counters object else 0) }
+        ensures { result ≡ (if is_connected self.now.stubs object then sum_of self.now.counters object
+            else 0) }
     {
         self.stubs.count(object)
     }
@@ -856,18 +903,23 @@ impl Holders {
         self.cookies.get(cookie)
     }
 
-    /// One place less. With its last place a proxy of a connected object gives all its public references back.
+    /// One place less. With its last place a proxy of a connected object gives all its public references
+    /// back.
     pub fn release(&mut self, apartment: u32, held: RefValue)
-        requires proxied { owns_of self.old.objects held.object apartment ≡ false → 0 < local_of self.old.proxies apartment held.object held.iface }
-        requires direct { owns_of self.old.objects held.object apartment ≡ true → 0 < (object_in self.old.objects held.object).direct }
-        ensures places { OneLess self.old self.new apartment held.object (owns_of self.old.objects held.object apartment) }
+        requires proxied { owns_of self.old.objects held.object apartment ≡ false
+            → 0 < local_of self.old.proxies apartment held.object held.iface }
+        requires direct { owns_of self.old.objects held.object apartment ≡ true
+            → 0 < (object_in self.old.objects held.object).direct }
+        ensures places { OneLess self.old self.new apartment held.object
+            (owns_of self.old.objects held.object apartment) }
         ensures connected { (x : ℕ) → is_connected self.new.stubs x ≡ is_connected self.old.stubs x }
         ensures packets { self.new.packets ≡ self.old.packets }
         ensures cookies { self.new.cookies ≡ self.old.cookies }
         ensures offers { (x j : ℕ) → offers self.new x j ≡ offers self.old x j }
         ensures issued { self.new.issued ≡ self.old.issued }
         ensures spare { self.new.spare ≡ self.old.spare }
-        ensures given { (n : ℕ) (places : ℕ → ℕ → ℕ) → apartment < n → Tells n places self.new → books_of self.new ≡ given_back n places (books_of self.old) }
+        ensures given { (n : ℕ) (places : ℕ → ℕ → ℕ) → apartment < n → Tells n places self.new
+            → books_of self.new ≡ given_back n places (books_of self.old) }
     {
         if self.owns(held.object, apartment) {
             self.leave_direct(held.object);
@@ -878,11 +930,14 @@ impl Holders {
 
     /// One place more of a reference that the apartment holds.
     pub fn copy(&mut self, apartment: u32, held: RefValue)
-        requires proxied { owns_of self.old.objects held.object apartment ≡ false → 0 < local_of self.old.proxies apartment held.object held.iface }
-        requires direct { owns_of self.old.objects held.object apartment ≡ true → 0 < (object_in self.old.objects held.object).direct }
+        requires proxied { owns_of self.old.objects held.object apartment ≡ false
+            → 0 < local_of self.old.proxies apartment held.object held.iface }
+        requires direct { owns_of self.old.objects held.object apartment ≡ true
+            → 0 < (object_in self.old.objects held.object).direct }
         requires few { self.old.issued < 2 ^ 28 }
         ensures books { books_of self.new ≡ books_of self.old }
-        ensures places { OneMore self.old self.new apartment held.object (owns_of self.old.objects held.object apartment) }
+        ensures places { OneMore self.old self.new apartment held.object
+            (owns_of self.old.objects held.object apartment) }
         ensures offers { (x j : ℕ) → offers self.new x j ≡ offers self.old x j }
         ensures issued { self.new.issued ≡ self.old.issued + 1 }
         ensures spare { self.new.spare ≡ self.old.spare }
@@ -894,11 +949,16 @@ impl Holders {
         self.keep_elsewhere(apartment, held);
     }
 
-    /// Whether the apartment has a place of the reference: a direct one of the object where it owns that, else one of its proxy.
+    /// Whether the apartment has a place of the reference: a direct one of the object where it owns that,
+    /// else one of its proxy.
     pub fn has_place(&self, apartment: u32, held: RefValue) -> bool
-        ensures exact { IsTrue result ↔ (0 < (if owns_of self.now.objects held.object apartment then (object_in self.now.objects held.object).direct else local_of self.now.proxies apartment held.object held.iface)) }
-        ensures proxied { IsTrue result → owns_of self.now.objects held.object apartment ≡ false → 0 < local_of self.now.proxies apartment held.object held.iface }
-        ensures direct { IsTrue result → owns_of self.now.objects held.object apartment ≡ true → 0 < (object_in self.now.objects held.object).direct }
+        ensures exact { IsTrue result ↔ (0 < (if owns_of self.now.objects held.object apartment
+            then (object_in self.now.objects held.object).direct
+            else local_of self.now.proxies apartment held.object held.iface)) }
+        ensures proxied { IsTrue result → owns_of self.now.objects held.object apartment ≡ false
+            → 0 < local_of self.now.proxies apartment held.object held.iface }
+        ensures direct { IsTrue result → owns_of self.now.objects held.object apartment ≡ true
+            → 0 < (object_in self.now.objects held.object).direct }
     {
         if self.owns(held.object, apartment) {
             return self.direct(held.object) > 0;
@@ -906,13 +966,15 @@ impl Holders {
         self.proxies.local(apartment, held.object, held.iface) > 0
     }
 
-    /// One place more of a reference, and no public reference. The apartment need not hold it: a body of an object that every
-    /// apartment owns writes the object's links in the neutral apartment. The only error is want of memory.
+    /// One place more of a reference, and no public reference. The apartment need not hold it: a body of an
+    /// object that every apartment owns writes the object's links in the neutral apartment. The only error is
+    /// want of memory.
     pub fn share(&mut self, apartment: u32, held: RefValue) -> Result<(), Memory>
         requires known { offers self.old held.object held.iface ≡ true }
         requires few { self.old.issued < 2 ^ 28 }
         ensures books { OnOk result (books_of self.new ≡ books_of self.old) }
-        ensures places { OnOk result (OneMore self.old self.new apartment held.object (owns_of self.old.objects held.object apartment)) }
+        ensures places { OnOk result (OneMore self.old self.new apartment held.object
+            (owns_of self.old.objects held.object apartment)) }
         ensures offers { (x j : ℕ) → offers self.new x j ≡ offers self.old x j }
         ensures issued { OnOk result (self.new.issued ≡ self.old.issued + 1) }
         ensures room { 0 < self.old.spare → IsOk result }
@@ -928,7 +990,8 @@ impl Holders {
         self.take_shared(apartment, held)
     }
 
-    /// A packet of a reference that the apartment holds. `NotConnected` exactly where the object is not connected.
+    /// A packet of a reference that the apartment holds. `NotConnected` exactly where the object is not
+    /// connected.
     pub fn marshal(
         &mut self,
         apartment: u32,
@@ -937,10 +1000,13 @@ impl Holders {
     ) -> Result<u32, HoldersError>
         requires known { offers self.old held.object held.iface ≡ true }
         requires few { self.old.issued < 2 ^ 28 }
-        ensures not_connected { (result ≡ Err HoldersError.NotConnected) ↔ (is_connected self.old.stubs held.object ≡ false) }
+        ensures not_connected { (result
+            ≡ Err HoldersError.NotConnected) ↔ (is_connected self.old.stubs held.object ≡ false) }
         ensures live { OnOk result (is_connected self.old.stubs held.object ≡ true) }
         ensures number { IfOk result (λ number. number ≡ length self.old.packets + 1) }
-        ensures row { OnOk result (books_of self.new ≡ changed (books_of self.old) (change (owns_of self.old.objects) (books_of self.old) (Marshals apartment mode held.object held.iface))) }
+        ensures row { OnOk result (books_of self.new
+            ≡ changed (books_of self.old) (change (owns_of self.old.objects) (books_of self.old)
+            (Marshals apartment mode held.object held.iface))) }
         ensures places { OnOk result (SamePlaces self.old self.new) }
         ensures room { 0 < self.old.spare → result ≡ Err HoldersError.Memory → ⊥ }
         ensures offers { (x j : ℕ) → offers self.new x j ≡ offers self.old x j }
@@ -958,10 +1024,13 @@ impl Holders {
         }
     }
 
-    /// A packet ends, and its references go back. `Unknown` exactly where no outstanding packet has the number.
+    /// A packet ends, and its references go back. `Unknown` exactly where no outstanding packet has the
+    /// number.
     pub fn drop_packet(&mut self, number: u32) -> Result<Packet, HoldersError>
-        ensures packet { IfOk result (λ packet. outstanding_in (is_connected self.old.stubs) self.old.packets number ≡ Some packet) }
-        ensures unknown { OnErr result (outstanding_in (is_connected self.old.stubs) self.old.packets number ≡ None) }
+        ensures packet { IfOk result (λ packet. outstanding_in
+            (is_connected self.old.stubs) self.old.packets number ≡ Some packet) }
+        ensures unknown { OnErr result (outstanding_in
+            (is_connected self.old.stubs) self.old.packets number ≡ None) }
         ensures books { OnOk result (books_of self.new ≡ changed (books_of self.old) (Return number)) }
         ensures places { OnOk result (SamePlaces self.old self.new) }
         ensures offers { (x j : ℕ) → offers self.new x j ≡ offers self.old x j }
@@ -976,15 +1045,24 @@ impl Holders {
         Ok(packet)
     }
 
-    /// A reference to another interface of an object of which the apartment holds one. `NotConnected` exactly where the apartment
-    /// does not own the object, which is not connected; else `NoInterface` exactly where the interface is not in its set.
+    /// A reference to another interface of an object of which the apartment holds one. `NotConnected` exactly
+    /// where the apartment does not own the object, which is not connected; else `NoInterface` exactly where
+    /// the interface is not in its set.
     pub fn query(&mut self, apartment: u32, object: u32, iface: u16) -> Result<(), HoldersError>
         requires few { self.old.issued < 2 ^ 28 }
-        ensures not_connected { (result ≡ Err HoldersError.NotConnected) ↔ ((owns_of self.old.objects object apartment || is_connected self.old.stubs object) ≡ false) }
-        ensures no_interface { (result ≡ Err HoldersError.NoInterface) ↔ (((owns_of self.old.objects object apartment || is_connected self.old.stubs object) ≡ true) × (offers self.old object iface ≡ false)) }
+        ensures not_connected { (result
+            ≡ Err HoldersError.NotConnected) ↔
+            ((owns_of self.old.objects object apartment || is_connected self.old.stubs object) ≡ false) }
+        ensures no_interface { (result
+            ≡ Err HoldersError.NoInterface) ↔
+            (((owns_of self.old.objects object apartment || is_connected self.old.stubs object) ≡ true)
+            × (offers self.old object iface ≡ false)) }
         ensures offered { OnOk result (offers self.old object iface ≡ true) }
-        ensures row { OnOk result (books_of self.new ≡ changed (books_of self.old) (change (owns_of self.old.objects) (books_of self.old) (Asks apartment object iface))) }
-        ensures places { OnOk result (OneMore self.old self.new apartment object (owns_of self.old.objects object apartment)) }
+        ensures row { OnOk result (books_of self.new
+            ≡ changed (books_of self.old) (change (owns_of self.old.objects) (books_of self.old)
+            (Asks apartment object iface))) }
+        ensures places { OnOk result (OneMore self.old self.new apartment object
+            (owns_of self.old.objects object apartment)) }
         ensures offers { (x j : ℕ) → offers self.new x j ≡ offers self.old x j }
         ensures issued { OnOk result (self.new.issued ≡ self.old.issued + 1) }
         ensures room { 0 < self.old.spare → result ≡ Err HoldersError.Memory → ⊥ }
@@ -1010,13 +1088,16 @@ impl Holders {
         }
     }
 
-    // One place more of an apartment that does not own the object, with new references where the proxy has none of the interface.
+    // One place more of an apartment that does not own the object, with new references where the proxy has
+    // none of the interface.
     fn ask(&mut self, apartment: u32, held: RefValue) -> Result<(), Memory>
         requires elsewhere { owns_of self.old.objects held.object apartment ≡ false }
         requires connected { is_connected self.old.stubs held.object ≡ true }
         requires known { offers self.old held.object held.iface ≡ true }
         requires few { self.old.issued < 2 ^ 28 }
-        ensures row { OnOk result (books_of self.new ≡ changed (books_of self.old) (change (owns_of self.old.objects) (books_of self.old) (Asks apartment held.object held.iface))) }
+        ensures row { OnOk result (books_of self.new
+            ≡ changed (books_of self.old) (change (owns_of self.old.objects) (books_of self.old)
+            (Asks apartment held.object held.iface))) }
         ensures places { OnOk result (OneMore self.old self.new apartment held.object false) }
         ensures offers { (x j : ℕ) → offers self.new x j ≡ offers self.old x j }
         ensures issued { OnOk result (self.new.issued ≡ self.old.issued + 1) }
@@ -1031,14 +1112,16 @@ impl Holders {
         self.take_new(apartment, held)
     }
 
-    /// A cookie for a reference that the apartment holds. `NotConnected` exactly where the object is not connected.
-    /// Source: RegisterInterfaceInGlobal.
+    /// A cookie for a reference that the apartment holds. `NotConnected` exactly where the object is not
+    /// connected. Source: RegisterInterfaceInGlobal.
     pub fn register(&mut self, held: RefValue) -> Result<u32, HoldersError>
         requires known { offers self.old held.object held.iface ≡ true }
         requires few { self.old.issued < 2 ^ 28 }
-        ensures not_connected { (result ≡ Err HoldersError.NotConnected) ↔ (is_connected self.old.stubs held.object ≡ false) }
+        ensures not_connected { (result
+            ≡ Err HoldersError.NotConnected) ↔ (is_connected self.old.stubs held.object ≡ false) }
         ensures cookie { IfOk result (λ cookie. cookie ≡ length self.old.cookies + 1) }
-        ensures books { OnOk result (books_of self.new ≡ changed (books_of self.old) (ToCookie held.object held.iface 1)) }
+        ensures books { OnOk result (books_of self.new
+            ≡ changed (books_of self.old) (ToCookie held.object held.iface 1)) }
         ensures places { OnOk result (SamePlaces self.old self.new) }
         ensures offers { (x j : ℕ) → offers self.new x j ≡ offers self.old x j }
         ensures issued { OnOk result (self.new.issued ≡ self.old.issued + 1) }
@@ -1056,15 +1139,21 @@ impl Holders {
         }
     }
 
-    /// The reference of a cookie, in another place. `Unknown` exactly where the cookie was never given or was revoked; else
+    /// The reference of a cookie, in another place. `Unknown` exactly where the cookie was never given or was
+    /// revoked; else
     /// `NotConnected` exactly where its object is not connected. Source: GetInterfaceFromGlobal.
     pub fn get(&mut self, apartment: u32, cookie: u32) -> Result<RefValue, HoldersError>
         requires few { self.old.issued < 2 ^ 28 }
         ensures unknown { (result ≡ Err HoldersError.Unknown) ↔ (held_in self.old.cookies cookie ≡ None) }
-        ensures not_connected { (result ≡ Err HoldersError.NotConnected) ↔ IsSomeAnd (held_in self.old.cookies cookie) (λ held. is_connected self.old.stubs held.object ≡ false) }
+        ensures not_connected { (result
+            ≡ Err HoldersError.NotConnected) ↔ IsSomeAnd (held_in self.old.cookies cookie)
+            (λ held. is_connected self.old.stubs held.object ≡ false) }
         ensures held { IfOk result (λ held. held_in self.old.cookies cookie ≡ Some held) }
-        ensures row { IfOk result (λ held. books_of self.new ≡ changed (books_of self.old) (change (owns_of self.old.objects) (books_of self.old) (Takes apartment held.object held.iface))) }
-        ensures places { IfOk result (λ held. OneMore self.old self.new apartment held.object (owns_of self.old.objects held.object apartment)) }
+        ensures row { IfOk result (λ held. books_of self.new
+            ≡ changed (books_of self.old) (change (owns_of self.old.objects) (books_of self.old)
+            (Takes apartment held.object held.iface))) }
+        ensures places { IfOk result (λ held. OneMore self.old self.new apartment held.object
+            (owns_of self.old.objects held.object apartment)) }
         ensures offers { (x j : ℕ) → offers self.new x j ≡ offers self.old x j }
         ensures issued { OnOk result (self.new.issued ≡ self.old.issued + 1) }
         ensures room { 0 < self.old.spare → result ≡ Err HoldersError.Memory → ⊥ }
@@ -1089,8 +1178,8 @@ impl Holders {
         }
     }
 
-    /// A cookie ends, and its reference goes back. `Unknown` exactly where the cookie was never given or was revoked.
-    /// Source: RevokeInterfaceFromGlobal.
+    /// A cookie ends, and its reference goes back. `Unknown` exactly where the cookie was never given or was
+    /// revoked. Source: RevokeInterfaceFromGlobal.
     pub fn revoke(&mut self, cookie: u32) -> Result<RefValue, HoldersError>
         ensures held { IfOk result (λ held. held_in self.old.cookies cookie ≡ Some held) }
         ensures unknown { OnErr result (held_in self.old.cookies cookie ≡ None) }
@@ -1108,14 +1197,20 @@ impl Holders {
         Ok(held)
     }
 
-    /// A packet's reference, in a place. A normal packet ends: its references go to the proxy, or back to the stub in an apartment
-    /// that owns the object. `Unknown` exactly where no outstanding packet has the number.
+    /// A packet's reference, in a place. A normal packet ends: its references go to the proxy, or back to the
+    /// stub in an apartment that owns the object. `Unknown` exactly where no outstanding packet has the
+    /// number.
     pub fn unmarshal(&mut self, apartment: u32, number: u32) -> Result<Packet, HoldersError>
         requires few { self.old.issued < 2 ^ 28 }
-        ensures unknown { (result ≡ Err HoldersError.Unknown) ↔ (outstanding_in (is_connected self.old.stubs) self.old.packets number ≡ None) }
-        ensures packet { IfOk result (λ packet. outstanding_in (is_connected self.old.stubs) self.old.packets number ≡ Some packet) }
-        ensures row { OnOk result (books_of self.new ≡ changed (books_of self.old) (change (owns_of self.old.objects) (books_of self.old) (Unmarshals apartment number))) }
-        ensures places { IfOk result (λ packet. OneMore self.old self.new apartment packet.object (owns_of self.old.objects packet.object apartment)) }
+        ensures unknown { (result ≡ Err HoldersError.Unknown) ↔ (outstanding_in
+            (is_connected self.old.stubs) self.old.packets number ≡ None) }
+        ensures packet { IfOk result (λ packet. outstanding_in
+            (is_connected self.old.stubs) self.old.packets number ≡ Some packet) }
+        ensures row { OnOk result (books_of self.new
+            ≡ changed (books_of self.old) (change (owns_of self.old.objects) (books_of self.old)
+            (Unmarshals apartment number))) }
+        ensures places { IfOk result (λ packet. OneMore self.old self.new apartment packet.object
+            (owns_of self.old.objects packet.object apartment)) }
         ensures offers { (x j : ℕ) → offers self.new x j ≡ offers self.old x j }
         ensures issued { OnOk result (self.new.issued ≡ self.old.issued + 1) }
         ensures room { 0 < self.old.spare → result ≡ Err HoldersError.Memory → ⊥ }
@@ -1138,10 +1233,13 @@ impl Holders {
 
     // The same in an apartment that owns the object.
     fn unmarshal_here(&mut self, apartment: u32, number: u32, packet: Packet)
-        requires outstanding { outstanding_in (is_connected self.old.stubs) self.old.packets number ≡ Some packet }
+        requires outstanding { outstanding_in (is_connected self.old.stubs) self.old.packets number
+            ≡ Some packet }
         requires here { owns_of self.old.objects packet.object apartment ≡ true }
         requires few { self.old.issued < 2 ^ 28 }
-        ensures row { books_of self.new ≡ changed (books_of self.old) (change (owns_of self.old.objects) (books_of self.old) (Unmarshals apartment number)) }
+        ensures row { books_of self.new
+            ≡ changed (books_of self.old) (change (owns_of self.old.objects) (books_of self.old)
+            (Unmarshals apartment number)) }
         ensures places { OneMore self.old self.new apartment packet.object true }
         ensures offers { (x j : ℕ) → offers self.new x j ≡ offers self.old x j }
         ensures issued { self.new.issued ≡ self.old.issued + 1 }
@@ -1163,10 +1261,13 @@ impl Holders {
         number: u32,
         packet: Packet,
     ) -> Result<(), Memory>
-        requires outstanding { outstanding_in (is_connected self.old.stubs) self.old.packets number ≡ Some packet }
+        requires outstanding { outstanding_in (is_connected self.old.stubs) self.old.packets number
+            ≡ Some packet }
         requires elsewhere { owns_of self.old.objects packet.object apartment ≡ false }
         requires few { self.old.issued < 2 ^ 28 }
-        ensures row { OnOk result (books_of self.new ≡ changed (books_of self.old) (change (owns_of self.old.objects) (books_of self.old) (Unmarshals apartment number))) }
+        ensures row { OnOk result (books_of self.new
+            ≡ changed (books_of self.old) (change (owns_of self.old.objects) (books_of self.old)
+            (Unmarshals apartment number))) }
         ensures places { OnOk result (OneMore self.old self.new apartment packet.object false) }
         ensures offers { (x j : ℕ) → offers self.new x j ≡ offers self.old x j }
         ensures issued { OnOk result (self.new.issued ≡ self.old.issued + 1) }
@@ -1201,14 +1302,16 @@ impl Holders {
 
     /// Between calls nothing is left to give back.
     pub fn gives_nothing(&self)
-        ensures { (n : ℕ) (places : ℕ → ℕ → ℕ) → Tells n places self.now → given_back n places (books_of self.now) ≡ books_of self.now }
+        ensures { (n : ℕ) (places : ℕ → ℕ → ℕ) → Tells n places self.now
+            → given_back n places (books_of self.now) ≡ books_of self.now }
     {
         let _rows = &self.objects;
     }
 
     /// The object is no longer connected: nothing of it is held any more. Source: CoDisconnectObject.
     pub fn disconnect(&mut self, object: u32)
-        ensures books { books_of self.new ≡ cut (λ x. (books_of self.old).live x && not (x == object)) (books_of self.old) }
+        ensures books { books_of self.new
+            ≡ cut (λ x. (books_of self.old).live x && not (x == object)) (books_of self.old) }
         ensures objects { self.new.objects ≡ self.old.objects }
         ensures proxies { self.new.proxies ≡ self.old.proxies }
         ensures counters { self.new.counters ≡ self.old.counters }

@@ -1,7 +1,8 @@
 //! Inboxes: queues of numbers that wait, each to be taken out of the middle in constant time.
 #![tactic(auto)]
 
-ghost use Rattle.std.specs.Prelude.{◌≡◌, ◌-◌, ◌<◌, ◌≤◌, ◌↔◌, max, [], ◌++◌, length, replicate, None, IsTrue, IsSome, OnOk, OnErr, IfOk, slice_get};
+ghost use Rattle.std.specs.Prelude.{◌≡◌, ◌-◌, ◌<◌, ◌≤◌, ◌↔◌, max, [], ◌++◌, length, replicate, None, IsTrue};
+ghost use Rattle.std.specs.Prelude.{IsSome, OnOk, OnErr, IfOk, slice_get};
 ghost use Rattle.com_inbox.specs.Queues.{queue_at, queue_of, with_last, without_number, numbered};
 
 use com_lists::Lists;

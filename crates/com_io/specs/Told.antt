@@ -1,5 +1,6 @@
 -- The bytes that a source has left and that a sink holds, where they are told.
-use Rattle.std.specs.Prelude.{◌≡◌, ℕ, ◌<◌, ◌≤◌, List, [], ◌++◌, length, Option, Result, Ok, Err, option_map, ⊤}
+use Rattle.std.specs.Prelude.{◌≡◌, ℕ, ◌<◌, ◌≤◌, List, [], ◌++◌, length, Option, Result, Ok, Err, option_map}
+use Rattle.std.specs.Prelude.{⊤}
 use Rattle.com_io.specs.declared.whole.ReadAllError.{ReadAllError}
 use Rattle.com_io.specs.declared.whole.ReadAllError.TheVariants.{ReadFault, TooLong, Memory}
 

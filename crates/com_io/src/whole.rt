@@ -1,5 +1,6 @@
 //! Reading an input whole, and writing a text whole.
-ghost use Rattle.std.specs.Prelude.{◌≡◌, ◌≢◌, ℕ, ◌<◌, ◌≤◌, ◌+◌, List, Option, IfOk, OnOk, OnErr, IfErr, IsTrue, false, Some, length};
+ghost use Rattle.std.specs.Prelude.{◌≡◌, ◌≢◌, ℕ, ◌<◌, ◌≤◌, ◌+◌, List, Option, IfOk, OnOk, OnErr, IfErr};
+ghost use Rattle.std.specs.Prelude.{IsTrue, false, Some, length};
 ghost use Rattle.com_io.specs.Faults.{Rose};
 ghost use Rattle.com_io.specs.Told.{Loses, Gains, IsAtEnd, LosesAtMost, LosesMore, GainsPrefix, IsWholeOf};
 ghost use Rattle.com_io.specs.declared.whole.ReadAllError.TheVariants as read_all_error;

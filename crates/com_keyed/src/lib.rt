@@ -4,7 +4,8 @@
 //! without a walk over the others.
 #![tactic(auto)]
 
-ghost use Rattle.std.specs.Prelude.{◌≡◌, ◌+◌, ◌-◌, ◌%◌, ◌<◌, ◌≤◌, ◌≢◌, ℕ, [], ◌∷◌, ◌++◌, length, slice_index, slice_set, OnOk, OnErr, IsOk, IsTrue, ◌↔◌};
+ghost use Rattle.std.specs.Prelude.{◌≡◌, ◌+◌, ◌-◌, ◌%◌, ◌<◌, ◌≤◌, ◌≢◌, ℕ, [], ◌∷◌, ◌++◌, length, slice_index};
+ghost use Rattle.std.specs.Prelude.{slice_set, OnOk, OnErr, IsOk, IsTrue, ◌↔◌};
 ghost use Rattle.com_keyed.specs.Places.{IsLatest, reach};
 ghost use Rattle.com_keyed.specs.Linked.{IsLinked, LeadsOn};
 
@@ -38,7 +39,8 @@ impl Model for Chains {
       spare = length c.heads.items - length c.keys.items;
     } };
 
-    ghost invariant = { λ c. IsTable c.keys.items c.links.items c.heads.items (vec_capacity c.keys) (vec_capacity c.links) };
+    ghost invariant = { λ c. IsTable c.keys.items c.links.items c.heads.items (vec_capacity c.keys)
+        (vec_capacity c.links) };
 }
 
 // Links one place, which is the next after those that are linked.

@@ -1,5 +1,6 @@
 -- What a deed changes in single columns of the lanes, by the parts of the deed that a column looks at.
-use Rattle.std.specs.Prelude.{ℕ, ◌+◌, ◌≤◌, ◌<◌, ◌^◌, ◌≡◌, ℤ, pos, negsuc, Bool, true, false, List, [], length, Option, Some, None, slice_index_or}
+use Rattle.std.specs.Prelude.{ℕ, ◌+◌, ◌≤◌, ◌<◌, ◌^◌, ◌≡◌, ℤ, pos, negsuc, Bool, true, false, List, [], length}
+use Rattle.std.specs.Prelude.{Option, Some, None, slice_index_or}
 use Rattle.com_base.specs.declared.hresult.HResult.{HResult}
 use Rattle.com_model.specs.declared.deeds.Deed.{Deed}
 use Rattle.com_model.specs.Answers.{is_S_OK}
@@ -35,8 +36,8 @@ abbrev pub IsBelow : ℕ → Option ℕ → Type 0
 IsBelow n None = Unit {0}
 IsBelow n (Some m) = m < n
 
--- The STA that a deed makes is the next one, and the one that it ends is among those that were made, or the host's. It is so with
--- each deed that the rules give.
+-- The STA that a deed makes is the next one, and the one that it ends is among those that were made, or the
+-- host's. It is so with each deed that the rules give.
 pub record NamesStas (t : LaneTables) (d : Deed) : Type 0 where
   pub next : IsNumber (length t.stas + 3) (makes_sta d)
   pub made : IsBelow (length t.stas + 3) (ends_sta d)

@@ -1,5 +1,6 @@
 -- What is kept beside the apartments. No public clause cites this module.
-use Rattle.std.specs.Prelude.{◌≡◌, ℕ, suc, ◌+◌, ◌-◌, ◌<◌, ◌≤◌, ◌^◌, Bool, false, ◌==◌, ◌&&◌, nat_le, cond, List, [], ◌∷◌, length, Option, Some, None, slice_index_or, slice_get}
+use Rattle.std.specs.Prelude.{◌≡◌, ℕ, suc, ◌+◌, ◌-◌, ◌<◌, ◌≤◌, ◌^◌, Bool, false, ◌==◌, ◌&&◌, nat_le, cond}
+use Rattle.std.specs.Prelude.{List, [], ◌∷◌, length, Option, Some, None, slice_index_or, slice_get}
 use Rattle.com_model.specs.Lists.{is_member, tabulated}
 use Rattle.com_lanes.specs.declared.stas.Sta.{Sta}
 

@@ -1,11 +1,14 @@
 //! What an entry changes in the lanes.
-ghost use Rattle.std.specs.Prelude.{◌≡◌, ℕ, ◌+◌, ◌<◌, ◌≤◌, ◌^◌, [], ◌∷◌, false, true, not, if◌then◌else◌, length, OnOk, OnErr, None, Some, slice_index_or, slice_set};
+ghost use Rattle.std.specs.Prelude.{◌≡◌, ℕ, ◌+◌, ◌<◌, ◌≤◌, ◌^◌, [], ◌∷◌, false, true, not, if◌then◌else◌};
+ghost use Rattle.std.specs.Prelude.{length, OnOk, OnErr, None, Some, slice_index_or, slice_set};
 ghost use Rattle.com_model.specs.Answers.{is_S_OK};
-ghost use Rattle.com_model.specs.Apartments.{Initialises, Uninitialises, home_after, count_after, makes_sta, ends_sta, with_last};
+ghost use Rattle.com_model.specs.Apartments.{Initialises, Uninitialises, home_after, count_after, makes_sta};
+ghost use Rattle.com_model.specs.Apartments.{ends_sta, with_last};
 ghost use Rattle.com_model.specs.Clock.{Names, Keeps, filter_effect};
 ghost use Rattle.com_model.specs.Lists.{where_true, without_first};
 ghost use Rattle.com_model.specs.Openers.{Closes, Leaves, left_on};
-ghost use Rattle.com_model.specs.State.{changed_at, filters_change, made_change, mail_change, mail_lane, quit_change, quit_lane};
+ghost use Rattle.com_model.specs.State.{changed_at, filters_change, made_change, mail_change, mail_lane};
+ghost use Rattle.com_model.specs.State.{quit_change, quit_lane};
 ghost use Rattle.com_model.specs.Waiting.{no_mail, mail_after, bound_reached, Takes, Asks, Forgets};
 ghost use Rattle.com_state.specs.Parts.{openers_at, served_at, lanes_after};
 ghost use Rattle.com_lanes.specs.Changes.{IsNumber, IsBelow, NamesStas, HasRoom};
@@ -96,7 +99,8 @@ impl Lanes {
     fn end_pump(&mut self, lane: u32) -> Result<(), Memory>
         ensures ok { OnOk result (self.new ≡ record self.old {
           openers = slice_set self.old.openers lane (without_first (openers_at self.old lane));
-          quits = changed_at (where_true (not (bound_reached (openers_at self.old lane) (served_at self.old lane))) (λ b. false))
+          quits = changed_at (where_true (not (bound_reached (openers_at self.old lane)
+              (served_at self.old lane))) (λ b. false))
               lane false self.old.quits;
         }) }
         ensures err { OnErr result (self.new ≡ self.old) }

@@ -1,7 +1,9 @@
 //! One row of a table that has a row for each lane. A lane that has no row changes nothing.
-ghost use Rattle.std.specs.Prelude.{◌≡◌, ℕ, ◌+◌, ◌<◌, ◌≤◌, ◌^◌, length, ◌∷◌, [], false, true, if◌then◌else◌, Option, OnOk, OnErr, slice_index_or, slice_set};
+ghost use Rattle.std.specs.Prelude.{◌≡◌, ℕ, ◌+◌, ◌<◌, ◌≤◌, ◌^◌, length, ◌∷◌, [], false, true, if◌then◌else◌};
+ghost use Rattle.std.specs.Prelude.{Option, OnOk, OnErr, slice_index_or, slice_set};
 ghost use Rattle.com_model.specs.Answers.{is_S_OK};
-ghost use Rattle.com_model.specs.Apartments.{Initialises, Uninitialises, home_after, count_after, makes_sta, ends_sta, with_last};
+ghost use Rattle.com_model.specs.Apartments.{Initialises, Uninitialises, home_after, count_after, makes_sta};
+ghost use Rattle.com_model.specs.Apartments.{ends_sta, with_last};
 ghost use Rattle.com_model.specs.Clock.{Names, Keeps, filter_effect};
 ghost use Rattle.com_model.specs.Lists.{where_true, without_first};
 ghost use Rattle.com_model.specs.Openers.{Closes, Leaves, left_on};
@@ -116,7 +118,8 @@ pub(crate) fn name_filter(
     hr: HResult,
 )
     ensures { column.new.items
-        ≡ changed_at (filters_change (if is_S_OK hr then Names filter else Keeps)) lane None column.old.items }
+        ≡ changed_at (filters_change (if is_S_OK hr then Names filter
+        else Keeps)) lane None column.old.items }
 {
     if is_s_ok(hr) {
         put(column, lane, filter);
@@ -183,7 +186,8 @@ pub(crate) fn take_at(column: &mut Vec<Mail>, lane: u32)
 /// Asks a call of a lane about the next word. The only error is want of memory, and then nothing has changed.
 pub(crate) fn ask_at(column: &mut Vec<Mail>, lane: u32, call: u32, answer: u8) -> Result<(), Memory>
     ensures ok { OnOk result (column.new.items
-        ≡ slice_set column.old.items lane (mail_after (Asks call answer) (slice_index_or column.old.items lane no_mail))) }
+        ≡ slice_set column.old.items lane (mail_after (Asks call answer)
+        (slice_index_or column.old.items lane no_mail))) }
     ensures err { OnErr result (column.new.items ≡ column.old.items) }
 {
     match column.get_mut(lane as usize) {
@@ -195,7 +199,8 @@ pub(crate) fn ask_at(column: &mut Vec<Mail>, lane: u32, call: u32, answer: u8) -
 /// A call of a lane came back.
 pub(crate) fn forget_at(column: &mut Vec<Mail>, lane: u32, call: u32)
     ensures { column.new.items
-        ≡ slice_set column.old.items lane (mail_after (Forgets call) (slice_index_or column.old.items lane no_mail)) }
+        ≡ slice_set column.old.items lane (mail_after (Forgets call)
+        (slice_index_or column.old.items lane no_mail)) }
 {
     if let Some(mail) = column.get_mut(lane as usize) {
         mail.forget(call);

@@ -1,5 +1,6 @@
 //! The lanes of a core and what is read of them.
-ghost use Rattle.std.specs.Prelude.{◌≡◌, ℕ, ◌+◌, ◌<◌, ◌≤◌, ◌^◌, [], false, not, filter, length, reverse, IfOk, None, slice_get, slice_index_or};
+ghost use Rattle.std.specs.Prelude.{◌≡◌, ℕ, ◌+◌, ◌<◌, ◌≤◌, ◌^◌, [], false, not, filter, length, reverse};
+ghost use Rattle.std.specs.Prelude.{IfOk, None, slice_get, slice_index_or};
 ghost use Rattle.com_model.specs.Apartments.{or_host};
 ghost use Rattle.com_model.specs.Lists.{first, is_member, tabulated};
 ghost use Rattle.com_model.specs.Openers.{running_call, running_object, entered_apartment, open_calls};

@@ -1,7 +1,8 @@
 //! The words of one lane.
 ghost use Rattle.std.specs.Prelude.{◌≡◌, ◌+◌, ◌<◌, ◌≤◌, ◌^◌, OnOk, OnErr, length, slice_get};
 ghost use Rattle.com_model.specs.Lists.{first};
-ghost use Rattle.com_model.specs.Waiting.{no_mail, mail_after, mark_of, not_asked, Brings, Takes, Asks, Forgets};
+ghost use Rattle.com_model.specs.Waiting.{no_mail, mail_after, mark_of, not_asked, Brings, Takes, Asks};
+ghost use Rattle.com_model.specs.Waiting.{Forgets};
 ghost use Rattle.std.specs.List.{remove};
 ghost use Rattle.std.specs.List.Sorted.{IsNonDecreasingBy};
 ghost use Rattle.com_lanes.specs.Words.{number_of};

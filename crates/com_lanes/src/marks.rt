@@ -42,7 +42,8 @@ impl Marks {
 
     /// A call was asked about this word. The only error is want of memory, and then nothing has changed.
     pub fn set(&mut self, call: u32, number: u64) -> Result<(), Memory>
-        ensures ok { OnOk result (self.new ≡ record { call = call; number = number } ∷ without_mark call self.old) }
+        ensures ok { OnOk result (self.new
+            ≡ record { call = call; number = number } ∷ without_mark call self.old) }
         ensures err { OnErr result (self.new ≡ self.old) }
     {
         self.marks.reserve(1)?;

@@ -1,5 +1,6 @@
 //! The single-threaded apartments that threads make.
-ghost use Rattle.std.specs.Prelude.{◌≡◌, ℕ, ◌+◌, ◌<◌, ◌≤◌, ◌^◌, [], ◌∷◌, ◌++◌, not, filter, length, OnOk, OnErr, IfOk, slice_index_or, slice_set, vec_len};
+ghost use Rattle.std.specs.Prelude.{◌≡◌, ℕ, ◌+◌, ◌<◌, ◌≤◌, ◌^◌, [], ◌∷◌, ◌++◌, not, filter, length, OnOk};
+ghost use Rattle.std.specs.Prelude.{OnErr, IfOk, slice_index_or, slice_set, vec_len};
 ghost use Rattle.com_model.specs.Apartments.{or_host};
 ghost use Rattle.com_model.specs.Lists.{first, is_member, tabulated};
 ghost use Rattle.com_lanes.specs.StasKept.{gone_first};
@@ -142,7 +143,8 @@ fn no_numbers(alloc: Global, count: usize) -> Result<Vec<Numbers>, Memory>
 
 /// Appends to the list of a lane; nothing where there is no such lane.
 fn push_at(lists: &mut Vec<Numbers>, lane: u32, number: u32) -> Result<(), Memory>
-    ensures ok { OnOk result (lists.new.items ≡ slice_set lists.old.items lane (slice_index_or lists.old.items lane [] ++ number ∷ [])) }
+    ensures ok { OnOk result (lists.new.items
+        ≡ slice_set lists.old.items lane (slice_index_or lists.old.items lane [] ++ number ∷ [])) }
     ensures err { OnErr result (lists.new.items ≡ lists.old.items) }
 {
     match lists.get_mut(lane as usize) {

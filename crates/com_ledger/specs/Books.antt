@@ -1,7 +1,8 @@
 -- The books that a ledger stands for.
 use Rattle.std.specs.Prelude.{◌≡◌, ℕ, ◌+◌, ◌<◌, ◌≤◌, Bool, not, ◌&&◌, List, [], ◌∷◌, ◌++◌, length}
 use Rattle.com_base.specs.declared.value.RefValue.{RefValue}
-use Rattle.com_books.specs.Changes.{Books, Row, Makes, changed, change, entered_rows, made_since, first_of, cut}
+use Rattle.com_books.specs.Changes.{Books, Row, Makes, changed, change, entered_rows, made_since, first_of}
+use Rattle.com_books.specs.Changes.{cut}
 use Rattle.com_holders.specs.Places.{Counts, SamePlaces}
 use Rattle.com_holders.specs.Stands.{Tells}
 use Rattle.com_holders.specs.Steps.{made_live}
@@ -14,7 +15,8 @@ use Rattle.com_ledger.specs.Calls.{arguments_in, result_in}
 use Rattle.com_ledger.specs.Moving.{plus, AllBelow, HoldsMore}
 use Rattle.com_ledger.specs.Owners.{AsOwned}
 
--- Who holds references, as tables; the packets of each call; and the objects that lost their last holder in the last entry.
+-- Who holds references, as tables; the packets of each call; and the objects that lost their last holder in
+-- the last entry.
 pub record Held : Type 0 where
   pub tables : Tables
   pub calls : List CallPackets
@@ -39,7 +41,8 @@ pub record Brought (t u : Tables) (moves : List Move) : Type 0 where
   pub owns : (x c : ℕ) → owns_of u.objects x c ≡ owns_of t.objects x c
   pub counts : (n : ℕ) (places : ℕ → ℕ → ℕ) → AllBelow n moves → Counts n places t → Counts n (plus places moves) u
 
--- Rows were entered that take no holder. The places that they bring are of one apartment, and are written down behind others.
+-- Rows were entered that take no holder. The places that they bring are of one apartment, and are written
+-- down behind others.
 pub record Gained (apartment : ℕ) (rows : List Row) (t u : Tables) (before after : List Move) : Type 0 where
   pub moves : List Move
   pub written : after ≡ before ++ moves

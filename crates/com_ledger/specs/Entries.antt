@@ -1,5 +1,6 @@
 -- What an entry makes of the books of a ledger.
-use Rattle.std.specs.Prelude.{◌≡◌, ℕ, ◌+◌, ◌<◌, ◌≤◌, Bool, true, false, not, if◌then◌else◌, List, [], ◌∷◌, ◌++◌, length, Option, Some, None, is_some, ◌⊎◌}
+use Rattle.std.specs.Prelude.{◌≡◌, ℕ, ◌+◌, ◌<◌, ◌≤◌, Bool, true, false, not, if◌then◌else◌, List, [], ◌∷◌}
+use Rattle.std.specs.Prelude.{◌++◌, length, Option, Some, None, is_some, ◌⊎◌}
 use Rattle.com_base.specs.declared.hresult.HResult.{HResult}
 use Rattle.com_base.specs.declared.value.RefValue.{RefValue}
 use Rattle.com_base.specs.declared.value.Value.{Value}
@@ -31,8 +32,8 @@ use Rattle.com_ledger.specs.Calls.{call_at}
 use Rattle.com_ledger.specs.Moving.{plus, AllBelow, HoldsMore, Touches}
 use Rattle.com_ledger.specs.Owners.{Grown}
 
--- What an entry's change rests on beside the entry: the tables of calls and of objects, the classes, the references that a marshalled
--- Out or Leave carries, and the apartment in which the lane runs.
+-- What an entry's change rests on beside the entry: the tables of calls and of objects, the classes, the
+-- references that a marshalled Out or Leave carries, and the apartment in which the lane runs.
 pub record Around : Type 0 where
   pub calls : CallTables
   pub objects : ObjectTables
@@ -64,8 +65,8 @@ Carries s x b (deed.Out c o i m r k (Some bytes)) rs = rs ≡ carried (out_value
 Carries s x b (deed.Leave c hr v (Some bytes)) rs = rs ≡ carried (result_list v)
 Carries s x b _ rs = Unit {0}
 
--- What an entry rests on is that of the state before it: its calls and objects, the classes of the scenario, the apartment in which the
--- entry's lane runs, and what the entry carries.
+-- What an entry rests on is that of the state before it: its calls and objects, the classes of the scenario,
+-- the apartment in which the entry's lane runs, and what the entry carries.
 pub record StandsAround (s : Scenario) (st : State) (l : ℕ) (d : Deed) (g : Around) : Type 0 where
   pub calls : g.calls ≡ calls_of st
   pub objects : g.objects ≡ objects_of st
@@ -101,11 +102,13 @@ abbrev pub brings_to : ℕ → Deed → ℕ
 brings_to a (deed.Enter c o y t vs) = y
 brings_to a _ = a
 
--- The row of a deed leaves no object fewer holders, where places are counted and none holds an object that was not made.
+-- The row of a deed leaves no object fewer holders, where places are counted and none holds an object that
+-- was not made.
 abbrev pub KeepsHeldBy : (apartment : ℕ) → Deed → (t u : Tables) → Type 0
 KeepsHeldBy a d t u = (n : ℕ) (places : ℕ → ℕ → ℕ) → brings_to a d < n → AreMade (length t.objects) places → Counts n places t → HoldsMore t u
 
--- The row of a deed was entered, but for one that ends a holder: the books are with it, and it brought these places.
+-- The row of a deed was entered, but for one that ends a holder: the books are with it, and it brought these
+-- places.
 pub record Given (g : Around) (e : (ℕ → ℕ → Bool) → Books) (d : Deed) (w : Tally) (before : List Move) (v : Tally) (after : List Move) : Type 0 where
   pub moves : List Move
   pub written : after ≡ before ++ moves
@@ -125,7 +128,8 @@ Gives g d w before v after = (s : Scenario) (x : Option Action) → Carries s x 
 abbrev pub RowsOf : (apartment : ℕ) → Deed → (before after : Tables) → (written more : List Move) → Type 0
 RowsOf a d t u xs ys = (s : Scenario) (x : Option Action) (left : ℕ → Bool) (b : Books) → Gained a (rows s x left b a d) t u xs ys
 
--- The row of a deed that ends a holder was entered, to the end of the entry, and that of another changed nothing.
+-- The row of a deed that ends a holder was entered, to the end of the entry, and that of another changed
+-- nothing.
 pub record Closed (e : Books) (w v : Tally) : Type 0 where
   pub places : SamePlaces w.tables v.tables
   pub books : (n : ℕ) (places later : ℕ → ℕ → ℕ) → Counts n places v.tables → ((c x : ℕ) → later c x ≤ places c x) → ends n later (books_tallied v) ≡ ends n later e
@@ -152,9 +156,9 @@ MakesOrNone classes a (Some o) (Some w) (asked.Number k) (asked.Number i) t u xs
 MakesOrNone classes a None w k i t u xs ys = (u ≡ t) × (ys ≡ xs)
 MakesOrNone classes a (Some o) w k i t u xs ys = ⊥
 
--- An entry was applied: where the places are counted, and those that are lost and gained are counted off and on, the places after it
--- are counted, and the books are those with the entry's rows, at the entry's end. What owns objects is exact for those after it: one
--- that it makes is owned as its making says.
+-- An entry was applied: where the places are counted, and those that are lost and gained are counted off and
+-- on, the places after it are counted, and the books are those with the entry's rows, at the entry's end.
+-- What owns objects is exact for those after it: one that it makes is owned as its making says.
 pub record Applied (e : (ℕ → ℕ → Bool) → Books) (g : Around) (d : Deed) (gained lost : List Move) (w v : Tally) : Type 0 where
   pub calls : (l : ℕ) → length v.calls ≡ count_if (is_some (issues l d)) + length w.calls
   pub owned : ℕ → ℕ → Bool
@@ -169,8 +173,8 @@ pub record Applied (e : (ℕ → ℕ → Bool) → Books) (g : Around) (d : Deed
 abbrev pub Applies : Around → Deed → (gained lost : List Move) → Tally → Tally → Type 0
 Applies g d gained lost w v = (s : Scenario) (x : Option Action) → Carries s x (books_tallied w) d g.carried → Applied (λ owned. entered s x g owned d (books_tallied w)) g d gained lost w v
 
--- An entry was applied: where the places are counted, and those that are lost and gained are counted off and on, each object that had
--- a holder before it and has none after it is among those that were written down.
+-- An entry was applied: where the places are counted, and those that are lost and gained are counted off and
+-- on, each object that had a holder before it and has none after it is among those that were written down.
 abbrev pub Loses : Around → Deed → (gained lost : List Move) → (w v : Tally) → (touched : List ℕ) → Type 0
 Loses g d gained lost w v touched = (s : Scenario) (x : Option Action) → Carries s x (books_tallied w) d g.carried
     → (n : ℕ) (places later : ℕ → ℕ → ℕ) → brings_to g.apartment d < n → AllBelow n gained → AllBelow n lost → AreMade (length w.tables.objects) places

@@ -7,7 +7,8 @@ use Rattle.com_model.specs.declared.keeps.Making.{Making}
 use Rattle.com_model.specs.Objects.{one_more}
 use Rattle.com_model.specs.Tables.{has_agile_model}
 
--- Whether an apartment owns an object, by the classes, where it is told whether the apartment owned it before.
+-- Whether an apartment owns an object, by the classes, where it is told whether the apartment owned it
+-- before.
 abbrev pub owns_by : ClassTables → Option Making → (object apartment : ℕ) → Bool → Bool
 owns_by t None o a x = x
 owns_by t (Some m) o a x = if m.object == o then has_agile_model (class_at t m.class) || a == m.apartment else x

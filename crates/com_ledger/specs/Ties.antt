@@ -1,6 +1,7 @@
 -- What ties a ledger to a state: its books are the state's, its tables count the state's places, and its
 -- objects and calls are the state's.
-use Rattle.std.specs.Prelude.{◌≡◌, ◌<◌, ◌≤◌, ◌⊎◌, ℕ, ◌+◌, Bool, true, false, ◌==◌, if◌then◌else◌, List, [], length, Option, Some, None}
+use Rattle.std.specs.Prelude.{◌≡◌, ◌<◌, ◌≤◌, ◌⊎◌, ℕ, ◌+◌, Bool, true, false, ◌==◌, if◌then◌else◌, List, []}
+use Rattle.std.specs.Prelude.{length, Option, Some, None}
 use Rattle.com_books.specs.Changes.{Books, entered_rows}
 use Rattle.com_books.specs.Counting.{count_if}
 use Rattle.com_holders.specs.Places.{Counts}
@@ -13,7 +14,8 @@ use Rattle.com_model.specs.Endings.{is_leave}
 use Rattle.com_model.specs.Lists.{is_member, number_or_zero}
 use Rattle.com_model.specs.Objects.{makes, one_more}
 use Rattle.com_model.specs.Places.{places}
-use Rattle.com_model.specs.State.{State, after, books_in, ending_in, ground_in, issued_by, named_in, next_sta_in, objects_in, owns_in, running_in, scene_in, sight_of}
+use Rattle.com_model.specs.State.{State, after, books_in, ending_in, ground_in, issued_by, named_in}
+use Rattle.com_model.specs.State.{next_sta_in, objects_in, owns_in, running_in, scene_in, sight_of}
 use Rattle.com_moves.specs.declared.moves.Move.{Move}
 use Rattle.com_quiet.specs.Ends.{books_entered, connected}
 use Rattle.com_refs.specs.Ends.{ends, Totals}

@@ -7,7 +7,8 @@ ghost use Rattle.com_moves.specs.declared.moves.Move.{Move};
 ghost use Rattle.com_moves.specs.Steps.{movings_of};
 ghost use Rattle.com_ledger.specs.Books.{Exchanged};
 ghost use Rattle.com_objects.specs.Settled.{Rise};
-ghost use Rattle.com_ledger.specs.Entries.{Gives, Closes, Applies, KeepsHeldBy, Loses, around, tally, is_of_reference};
+ghost use Rattle.com_ledger.specs.Entries.{Gives, Closes, Applies, KeepsHeldBy, Loses, around, tally};
+ghost use Rattle.com_ledger.specs.Entries.{is_of_reference};
 ghost use Rattle.com_ledger.specs.Moving.{plus, AllBelow, Climbs, HoldsMore, Touches, TouchesCounted};
 
 use crate::context::Context;
@@ -53,7 +54,8 @@ fn stands_first(brought: &[Move], gained: &[Move]) -> bool
     true
 }
 
-// What comes to places, with what the row brought: that stands first, but for a result that comes back to no slot.
+// What comes to places, with what the row brought: that stands first, but for a result that comes back to no
+// slot.
 fn take(
     refs: &mut Refs,
     touched: &mut Vec<u32>,
@@ -61,7 +63,9 @@ fn take(
     gained: &[Move],
 ) -> Result<(), Memory>
     ensures exchanged { OnOk result (Exchanged brought.now gained.now refs.old refs.new) }
-    ensures touched { OnOk result ((n : ℕ) (places : ℕ → ℕ → ℕ) → AllBelow n brought.now → AllBelow n gained.now → Counts n (plus places brought.now) refs.old → Touches refs.old refs.new touched.old.items touched.new.items) }
+    ensures touched { OnOk result ((n : ℕ) (places : ℕ → ℕ → ℕ) → AllBelow n brought.now
+        → AllBelow n gained.now → Counts n (plus places brought.now) refs.old
+        → Touches refs.old refs.new touched.old.items touched.new.items) }
     ensures climbs { OnOk result (Climbs 0 touched.old.items → Climbs 0 touched.new.items) }
 {
     if stands_first(brought, gained) {
@@ -129,7 +133,11 @@ impl Keeping {
         context: Context<'_>,
         apartment: u32,
     ) -> Result<(), Memory>
-        ensures gives { OnOk result (Gives (around context.entry.calls.now.tables context.entry.objects.now context.entry.classes.now context.entry.carried.now apartment) deed.now (tally self.old.refs self.old.calls) self.old.brought.items (tally self.new.refs self.new.calls) self.new.brought.items) }
+        ensures gives { OnOk result (Gives
+            (around context.entry.calls.now.tables context.entry.objects.now context.entry.classes.now
+            context.entry.carried.now apartment) deed.now
+            (tally self.old.refs self.old.calls) self.old.brought.items
+            (tally self.new.refs self.new.calls) self.new.brought.items) }
         ensures more { OnOk result (KeepsHeldBy apartment deed.now self.old.refs self.new.refs) }
         ensures touched { self.new.touched.items ≡ self.old.touched.items }
     {
@@ -189,7 +197,11 @@ impl Keeping {
         context: Context<'_>,
         apartment: u32,
     ) -> Result<(), Memory>
-        ensures gives { OnOk result (is_of_reference deed.now ≡ false → Gives (around context.entry.calls.now.tables context.entry.objects.now context.entry.classes.now context.entry.carried.now apartment) deed.now (tally self.old.refs self.old.calls) self.old.brought.items (tally self.new.refs self.new.calls) self.new.brought.items) }
+        ensures gives { OnOk result (is_of_reference deed.now ≡ false
+            → Gives (around context.entry.calls.now.tables context.entry.objects.now
+            context.entry.classes.now context.entry.carried.now apartment) deed.now
+            (tally self.old.refs self.old.calls) self.old.brought.items
+            (tally self.new.refs self.new.calls) self.new.brought.items) }
         ensures more { OnOk result (HoldsMore self.old.refs self.new.refs) }
         ensures touched { self.new.touched.items ≡ self.old.touched.items }
     {
@@ -223,8 +235,12 @@ impl Keeping {
 
     // The row of an entry that ends a holder which is no place: a packet, a cookie, or all of a connection.
     fn enter_end(&mut self, deed: &Deed, context: Context<'_>, apartment: u32) -> Result<(), Memory>
-        ensures closes { OnOk result (Closes (around context.entry.calls.now.tables context.entry.objects.now context.entry.classes.now context.entry.carried.now apartment) deed.now (tally self.old.refs self.old.calls) (tally self.new.refs self.old.calls)) }
-        ensures touched { OnOk result (TouchesCounted self.old.refs self.new.refs self.old.touched.items self.new.touched.items) }
+        ensures closes { OnOk result (Closes
+            (around context.entry.calls.now.tables context.entry.objects.now context.entry.classes.now
+            context.entry.carried.now apartment) deed.now (tally self.old.refs self.old.calls)
+            (tally self.new.refs self.old.calls)) }
+        ensures touched { OnOk result
+            (TouchesCounted self.old.refs self.new.refs self.old.touched.items self.new.touched.items) }
         ensures climbs { OnOk result (Climbs 0 self.old.touched.items → Climbs 0 self.new.touched.items) }
         ensures calls { self.new.calls ≡ self.old.calls }
     {
@@ -248,11 +264,22 @@ impl Keeping {
         }
     }
 
-    // The whole change by an entry: first the row that gives, then what comes to places, then the row that ends a holder, and then
-    // what leaves places.
+    // The whole change by an entry: first the row that gives, then what comes to places, then the row that
+    // ends a holder, and then what leaves places.
     fn change(&mut self, entry: &Entry, context: Context<'_>, moves: &Moves) -> Result<(), Memory>
-        ensures applies { OnOk result ((gained lost : List Move) → movings_of gained ≡ moves.now.gained → movings_of lost ≡ moves.now.lost → Applies (around context.entry.calls.now.tables context.entry.objects.now context.entry.classes.now context.entry.carried.now (number_or_zero context.entry.running)) entry.now.deed gained lost (tally self.old.refs self.old.calls) (tally self.new.refs self.new.calls)) }
-        ensures touched { OnOk result ((gained lost : List Move) → movings_of gained ≡ moves.now.gained → movings_of lost ≡ moves.now.lost → Loses (around context.entry.calls.now.tables context.entry.objects.now context.entry.classes.now context.entry.carried.now (number_or_zero context.entry.running)) entry.now.deed gained lost (tally self.old.refs self.old.calls) (tally self.new.refs self.new.calls) self.new.touched.items) }
+        ensures applies { OnOk result ((gained lost : List Move) → movings_of gained ≡ moves.now.gained
+            → movings_of lost ≡ moves.now.lost
+            → Applies (around context.entry.calls.now.tables context.entry.objects.now
+            context.entry.classes.now context.entry.carried.now
+            (number_or_zero context.entry.running)) entry.now.deed gained lost
+            (tally self.old.refs self.old.calls) (tally self.new.refs self.new.calls)) }
+        ensures touched { OnOk result ((gained lost : List Move) → movings_of gained ≡ moves.now.gained
+            → movings_of lost ≡ moves.now.lost
+            → Loses (around context.entry.calls.now.tables context.entry.objects.now
+            context.entry.classes.now context.entry.carried.now
+            (number_or_zero context.entry.running)) entry.now.deed gained lost
+            (tally self.old.refs self.old.calls)
+            (tally self.new.refs self.new.calls) self.new.touched.items) }
         ensures rise { OnOk result (Rise 0 self.new.touched.items (length self.new.refs.objects)) }
     {
         self.touched.clear();
@@ -276,20 +303,31 @@ impl Keeping {
 }
 
 impl Ledger {
-    /// Makes of the books what an entry makes of them, which takes these references from places and brings these. The only error is
-    /// want of memory, or of a fact that is not proved here.
+    /// Makes of the books what an entry makes of them, which takes these references from places and brings
+    /// these. The only error is want of memory, or of a fact that is not proved here.
     ///
-    /// Where places are counted, and those that are lost and gained are counted off and on, the places after the entry are counted, and
-    /// the books are those with the entry's rows, at the entry's end. Each object that had a holder before the entry and has none after
-    /// it is written down, by number, and none that was not made.
+    /// Where places are counted, and those that are lost and gained are counted off and on, the places after
+    /// the entry are counted, and the books are those with the entry's rows, at the entry's end. Each object
+    /// that had a holder before the entry and has none after it is written down, by number, and none that was
+    /// not made.
     pub fn apply(
         &mut self,
         entry: &Entry,
         context: Context<'_>,
         moves: &Moves,
     ) -> Result<(), Memory>
-        ensures applies { OnOk result ((gained lost : List Move) → movings_of gained ≡ moves.now.gained → movings_of lost ≡ moves.now.lost → Applies (around context.entry.calls.now.tables context.entry.objects.now context.entry.classes.now context.entry.carried.now (number_or_zero context.entry.running)) entry.now.deed gained lost (tally self.old.tables self.old.calls) (tally self.new.tables self.new.calls)) }
-        ensures touched { OnOk result ((gained lost : List Move) → movings_of gained ≡ moves.now.gained → movings_of lost ≡ moves.now.lost → Loses (around context.entry.calls.now.tables context.entry.objects.now context.entry.classes.now context.entry.carried.now (number_or_zero context.entry.running)) entry.now.deed gained lost (tally self.old.tables self.old.calls) (tally self.new.tables self.new.calls) self.new.touched) }
+        ensures applies { OnOk result ((gained lost : List Move) → movings_of gained ≡ moves.now.gained
+            → movings_of lost ≡ moves.now.lost
+            → Applies (around context.entry.calls.now.tables context.entry.objects.now
+            context.entry.classes.now context.entry.carried.now
+            (number_or_zero context.entry.running)) entry.now.deed gained lost
+            (tally self.old.tables self.old.calls) (tally self.new.tables self.new.calls)) }
+        ensures touched { OnOk result ((gained lost : List Move) → movings_of gained ≡ moves.now.gained
+            → movings_of lost ≡ moves.now.lost
+            → Loses (around context.entry.calls.now.tables context.entry.objects.now
+            context.entry.classes.now context.entry.carried.now
+            (number_or_zero context.entry.running)) entry.now.deed gained lost
+            (tally self.old.tables self.old.calls) (tally self.new.tables self.new.calls) self.new.touched) }
         ensures rise { OnOk result (Rise 0 self.new.touched (length self.new.tables.objects)) }
     {
         self.keeping.change(entry, context, moves)

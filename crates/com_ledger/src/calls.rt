@@ -6,8 +6,8 @@ use com_base::Memory;
 use std::alloc::Global;
 use std::marker::Model;
 
-/// The packets of one call: those of its arguments have numbers one after another, from `first` on, and that of its result has the
-/// number `result`, which is 0 where there is none.
+/// The packets of one call: those of its arguments have numbers one after another, from `first` on, and that
+/// of its result has the number `result`, which is 0 where there is none.
 #[derive(Debug, Clone, Copy, PartialEq, Eq)]
 pub struct CallPackets {
     pub first: u32,
@@ -80,7 +80,8 @@ impl CallTable {
     /// The packets of the arguments of the next call. Numbers past the last one that there is are none.
     pub fn push(&mut self, first: u32, count: u32) -> Result<(), Memory>
         requires { first + count < 2 ^ 32 }
-        ensures ok { OnOk result (self.new ≡ self.old ++ record { first = first; count = count; result = 0 } ∷ []) }
+        ensures ok { OnOk result (self.new
+            ≡ self.old ++ record { first = first; count = count; result = 0 } ∷ []) }
         ensures err { OnErr result (self.new ≡ self.old) }
     {
         self.rows.push(CallPackets {

@@ -5,8 +5,9 @@ use com_calls::Calls;
 use com_classes::Classes;
 use com_objects::Objects;
 
-/// What an entry's change of the books rests on beside the entry, as it is before it: the home of the entry's lane, the apartment in
-/// which the lane runs, the objects, the calls, the classes, and the references that a marshalled Out or Leave carries, in order.
+/// What an entry's change of the books rests on beside the entry, as it is before it: the home of the entry's
+/// lane, the apartment in which the lane runs, the objects, the calls, the classes, and the references that a
+/// marshalled Out or Leave carries, in order.
 #[derive(Clone, Copy)]
 pub struct Context<'a> {
     pub home: Option<u32>,

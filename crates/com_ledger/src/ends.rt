@@ -17,7 +17,8 @@ pub fn end_packet(
     touched: &mut Vec<u32>,
     packet: Option<u32>,
 ) -> Result<(), Memory>
-    ensures row { OnOk result ((objects : ObjectTables) (hr : HResult) → ClosesTables objects (deed.DropPacket packet hr) refs.old refs.new) }
+    ensures row { OnOk result ((objects : ObjectTables) (hr : HResult)
+        → ClosesTables objects (deed.DropPacket packet hr) refs.old refs.new) }
     ensures touched { OnOk result (TouchesCounted refs.old refs.new touched.old.items touched.new.items) }
     ensures climbs { OnOk result (Climbs 0 touched.old.items → Climbs 0 touched.new.items) }
 {
@@ -36,7 +37,8 @@ pub fn end_cookie(
     cookie: &i64,
     hr: HResult,
 ) -> Result<(), Memory>
-    ensures row { OnOk result ((objects : ObjectTables) → ClosesTables objects (deed.Revoke cookie.now hr) refs.old refs.new) }
+    ensures row { OnOk result ((objects : ObjectTables)
+        → ClosesTables objects (deed.Revoke cookie.now hr) refs.old refs.new) }
     ensures touched { OnOk result (TouchesCounted refs.old refs.new touched.old.items touched.new.items) }
     ensures climbs { OnOk result (Climbs 0 touched.old.items → Climbs 0 touched.new.items) }
 {
@@ -70,7 +72,8 @@ pub fn end_connection(
     object: Option<u32>,
     hr: HResult,
 ) -> Result<(), Memory>
-    ensures row { OnOk result ((objects : ObjectTables) → ClosesTables objects (deed.Disconnect object hr) refs.old refs.new) }
+    ensures row { OnOk result ((objects : ObjectTables)
+        → ClosesTables objects (deed.Disconnect object hr) refs.old refs.new) }
     ensures touched { OnOk result (TouchesCounted refs.old refs.new touched.old.items touched.new.items) }
     ensures climbs { OnOk result (Climbs 0 touched.old.items → Climbs 0 touched.new.items) }
 {

@@ -41,7 +41,9 @@ pub fn enter_made(
     class: Asked,
     iface: Asked,
 ) -> Result<(), Memory>
-    ensures row { OnOk result (MakesOrNone classes.now apartment object owner class iface refs.old refs.new brought.old.items brought.new.items) }
+    ensures row { OnOk result
+        (MakesOrNone classes.now apartment object owner class iface refs.old refs.new brought.old.items
+        brought.new.items) }
     ensures more { OnOk result (KeepsHeld apartment refs.old refs.new) }
 {
     let Some(object) = object else {
@@ -69,7 +71,8 @@ pub fn enter_query(
     iface: Asked,
     hr: HResult,
 ) -> Result<(), Memory>
-    ensures row { OnOk result (RowsOf apartment (deed.Query object iface hr) refs.old refs.new brought.old.items brought.new.items) }
+    ensures row { OnOk result (RowsOf apartment
+        (deed.Query object iface hr) refs.old refs.new brought.old.items brought.new.items) }
     ensures more { OnOk result (HoldsMore refs.old refs.new) }
 {
     let Some(object) = object else {
@@ -92,7 +95,9 @@ pub fn enter_unmarshal(
     apartment: u32,
     packet: Option<u32>,
 ) -> Result<(), Memory>
-    ensures row { OnOk result ((held : Option RefValue) (n : ℕ) (hr : HResult) → RowsOf apartment (deed.Unmarshal packet held n hr) refs.old refs.new brought.old.items brought.new.items) }
+    ensures row { OnOk result ((held : Option RefValue) (n : ℕ) (hr : HResult)
+        → RowsOf apartment
+        (deed.Unmarshal packet held n hr) refs.old refs.new brought.old.items brought.new.items) }
     ensures more { OnOk result (HoldsMore refs.old refs.new) }
 {
     match packet {
@@ -109,7 +114,8 @@ pub fn enter_marshal(
     mode: MarshalMode,
     held: Option<RefValue>,
 ) -> Result<(), Memory>
-    ensures row { OnOk result ((n : ℕ) (hr : HResult) (bytes : Option (List ℕ)) (brought : List Move) → RowsOf apartment (deed.Marshal packet mode held n hr bytes) refs.old refs.new brought brought) }
+    ensures row { OnOk result ((n : ℕ) (hr : HResult) (bytes : Option (List ℕ)) (brought : List Move)
+        → RowsOf apartment (deed.Marshal packet mode held n hr bytes) refs.old refs.new brought brought) }
     ensures more { OnOk result (HoldsMore refs.old refs.new) }
 {
     let Some(_) = packet else {
@@ -127,7 +133,8 @@ pub fn enter_register(
     cookie: Option<u32>,
     held: Option<RefValue>,
 ) -> Result<(), Memory>
-    ensures row { OnOk result ((a : ℕ) (hr : HResult) (brought : List Move) → RowsOf a (deed.Register cookie held hr) refs.old refs.new brought brought) }
+    ensures row { OnOk result ((a : ℕ) (hr : HResult) (brought : List Move)
+        → RowsOf a (deed.Register cookie held hr) refs.old refs.new brought brought) }
     ensures more { OnOk result (HoldsMore refs.old refs.new) }
 {
     let Some(_) = cookie else {
@@ -147,7 +154,9 @@ pub fn enter_get(
     cookie: &i64,
     held: Option<RefValue>,
 ) -> Result<(), Memory>
-    ensures row { OnOk result ((n : ℕ) (hr : HResult) → RowsOf apartment (deed.Get cookie.now held n hr) refs.old refs.new brought.old.items brought.new.items) }
+    ensures row { OnOk result ((n : ℕ) (hr : HResult)
+        → RowsOf apartment
+        (deed.Get cookie.now held n hr) refs.old refs.new brought.old.items brought.new.items) }
     ensures more { OnOk result (HoldsMore refs.old refs.new) }
 {
     match held {
@@ -163,7 +172,8 @@ pub fn enter_back(
     apartment: u32,
     number: u32,
 ) -> Result<(), Memory>
-    ensures row { OnOk result (Gained apartment (back_rows apartment true (number_of number)) refs.old refs.new brought.old.items brought.new.items) }
+    ensures row { OnOk result (Gained apartment (back_rows apartment true
+        (number_of number)) refs.old refs.new brought.old.items brought.new.items) }
     ensures more { OnOk result (HoldsMore refs.old refs.new) }
 {
     if number == 0 {

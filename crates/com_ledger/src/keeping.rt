@@ -7,8 +7,8 @@ use com_moves::Move;
 use com_refs::Refs;
 use std::alloc::Global;
 
-/// Who holds references, the packets of each call, the places that the row of the entry brought, the interfaces of a new object, and
-/// the objects that lost their last holder in the entry.
+/// Who holds references, the packets of each call, the places that the row of the entry brought, the
+/// interfaces of a new object, and the objects that lost their last holder in the entry.
 #[derive(Debug, Drop)]
 pub struct Keeping {
     pub refs: Refs,

@@ -14,7 +14,8 @@ ghost use Rattle.com_model.specs.Endings.{is_leave};
 ghost use Rattle.com_model.specs.Formed.{Formed};
 ghost use Rattle.com_model.specs.Lists.{number_or_zero};
 ghost use Rattle.com_model.specs.Objects.{makes};
-ghost use Rattle.com_model.specs.State.{State, StandsFor, after, books_in, ending_in, first_tables, named_in, next_of, next_sta_in, objects_in, owns_in, running_in, sight_of};
+ghost use Rattle.com_model.specs.State.{State, StandsFor, after, books_in, ending_in, first_tables, named_in};
+ghost use Rattle.com_model.specs.State.{next_of, next_sta_in, objects_in, owns_in, running_in, sight_of};
 ghost use Rattle.com_moves.specs.declared.moves.Move.{Move};
 ghost use Rattle.com_moves.specs.Steps.{movings_of};
 ghost use Rattle.com_moves.specs.Tables.{moves_in};
@@ -24,14 +25,16 @@ ghost use Rattle.com_refs.specs.Ends.{ends, Totals};
 ghost use Rattle.com_ledger.specs.Books.{Held};
 ghost use Rattle.com_ledger.specs.Entries.{Applies, Around, StandsAround, tally};
 ghost use Rattle.com_ledger.specs.Moving.{plus, AllBelow, Touches};
-ghost use Rattle.com_ledger.specs.Ties.{AllTouched, AppliedAs, EndedAt, EntryEnds, IsNew, OwnersGrow, OwnersTie, Ties, holders_at, places_at};
+ghost use Rattle.com_ledger.specs.Ties.{AllTouched, AppliedAs, EndedAt, EntryEnds, IsNew, OwnersGrow};
+ghost use Rattle.com_ledger.specs.Ties.{OwnersTie, Ties, holders_at, places_at};
 
 use crate::ledger::Ledger;
 
 impl Ledger {
     /// Places that are what the ledger counts total the places of each object.
     pub fn tells(&self)
-        ensures { (n : ℕ) (places : ℕ → ℕ → ℕ) → Counts n places self.now.tables → Totals n places self.now.tables }
+        ensures { (n : ℕ) (places : ℕ → ℕ → ℕ) → Counts n places self.now.tables
+            → Totals n places self.now.tables }
     {
         self.keeping.refs.tells();
     }
@@ -45,7 +48,8 @@ pub fn new_ledger_ties()
 /// Where a ledger is tied to a state, the holders that it counts of each object are the object's holders in
 /// the state.
 pub fn holders_tie()
-    ensures { (s : Scenario) (st : State) (w : Held) (o : ℕ) → Ties s st w → holders_of w.tables o ≡ holders_at s st o }
+    ensures { (s : Scenario) (st : State) (w : Held) (o : ℕ) → Ties s st w
+        → holders_of w.tables o ≡ holders_at s st o }
 {}
 
 /// Where a state stands for a history of a formed scenario, and the moves are those of a lane's next entry:
@@ -56,19 +60,41 @@ pub fn holders_tie()
 /// Where the entry was applied to it (`AppliedAs`), it ends at the places after the entry (`ended`); and
 /// where it ends as `EntryEnds` says, it is tied to the state after the entry (`ties`).
 pub fn entries_tie()
-    ensures places { (s : Scenario) (st : State) (h : List Entry) (l : ℕ) (d : Deed) (gained lost : List Move) → Formed s → StandsFor s st h → next_of s st l ≡ Some d → movings_of gained ≡ (moves_in s st (record { lane = l; deed = d })).gained → movings_of lost ≡ (moves_in s st (record { lane = l; deed = d })).lost → (a o : ℕ) → plus (places_at s (after s st l d)) lost a o ≡ plus (places_at s st) gained a o }
-    ensures below { (s : Scenario) (st : State) (h : List Entry) (l : ℕ) (d : Deed) (gained lost : List Move) → Formed s → StandsFor s st h → next_of s st l ≡ Some d → movings_of gained ≡ (moves_in s st (record { lane = l; deed = d })).gained → movings_of lost ≡ (moves_in s st (record { lane = l; deed = d })).lost → AllBelow (next_sta_in (after s st l d)) gained × AllBelow (next_sta_in (after s st l d)) lost }
-    ensures books { (s : Scenario) (st : State) (h : List Entry) (l : ℕ) (d : Deed) → Formed s → StandsFor s st h → next_of s st l ≡ Some d → books_in (after s st l d) ≡ ends (next_sta_in (after s st l d)) (places_at s (after s st l d)) (books_entered s st (after s st l d) (record { lane = l; deed = d })) }
-    ensures counts { (s : Scenario) (st : State) (h : List Entry) (l : ℕ) (d : Deed) (w : Held) → Formed s → StandsFor s st h → next_of s st l ≡ Some d → Ties s st w → Counts (next_sta_in (after s st l d)) (places_at s st) w.tables }
-    ensures ended { (s : Scenario) (st : State) (h : List Entry) (l : ℕ) (d : Deed) (gained lost : List Move) (w u : Held) → Formed s → StandsFor s st h → next_of s st l ≡ Some d → movings_of gained ≡ (moves_in s st (record { lane = l; deed = d })).gained → movings_of lost ≡ (moves_in s st (record { lane = l; deed = d })).lost → Ties s st w → AppliedAs s st l d gained lost w u → EndedAt (next_sta_in (after s st l d)) (places_at s (after s st l d)) (books_entered s st (after s st l d) (record { lane = l; deed = d })) u }
-    ensures ties { (s : Scenario) (st : State) (h : List Entry) (l : ℕ) (d : Deed) (w u : Held) → Formed s → StandsFor s st h → next_of s st l ≡ Some d → Ties s st w → EntryEnds s st l d w u → Ties s (after s st l d) u }
+    ensures places { (s : Scenario) (st : State) (h : List Entry) (l : ℕ) (d : Deed)
+        (gained lost : List Move) → Formed s → StandsFor s st h → next_of s st l ≡ Some d
+        → movings_of gained ≡ (moves_in s st (record { lane = l; deed = d })).gained
+        → movings_of lost ≡ (moves_in s st (record { lane = l; deed = d })).lost → (a o : ℕ)
+        → plus (places_at s (after s st l d)) lost a o ≡ plus (places_at s st) gained a o }
+    ensures below { (s : Scenario) (st : State) (h : List Entry) (l : ℕ) (d : Deed)
+        (gained lost : List Move) → Formed s → StandsFor s st h → next_of s st l ≡ Some d
+        → movings_of gained ≡ (moves_in s st (record { lane = l; deed = d })).gained
+        → movings_of lost ≡ (moves_in s st (record { lane = l; deed = d })).lost
+        → AllBelow (next_sta_in (after s st l d)) gained × AllBelow (next_sta_in (after s st l d)) lost }
+    ensures books { (s : Scenario) (st : State) (h : List Entry) (l : ℕ) (d : Deed) → Formed s
+        → StandsFor s st h → next_of s st l ≡ Some d
+        → books_in (after s st l d) ≡ ends (next_sta_in (after s st l d)) (places_at s (after s st l d))
+        (books_entered s st (after s st l d) (record { lane = l; deed = d })) }
+    ensures counts { (s : Scenario) (st : State) (h : List Entry) (l : ℕ) (d : Deed) (w : Held) → Formed s
+        → StandsFor s st h → next_of s st l ≡ Some d → Ties s st w
+        → Counts (next_sta_in (after s st l d)) (places_at s st) w.tables }
+    ensures ended { (s : Scenario) (st : State) (h : List Entry) (l : ℕ) (d : Deed)
+        (gained lost : List Move) (w u : Held) → Formed s → StandsFor s st h → next_of s st l ≡ Some d
+        → movings_of gained ≡ (moves_in s st (record { lane = l; deed = d })).gained
+        → movings_of lost ≡ (moves_in s st (record { lane = l; deed = d })).lost → Ties s st w
+        → AppliedAs s st l d gained lost w u
+        → EndedAt (next_sta_in (after s st l d)) (places_at s (after s st l d)) (books_entered s st
+        (after s st l d) (record { lane = l; deed = d })) u }
+    ensures ties { (s : Scenario) (st : State) (h : List Entry) (l : ℕ) (d : Deed) (w u : Held) → Formed s
+        → StandsFor s st h → next_of s st l ≡ Some d → Ties s st w → EntryEnds s st l d w u
+        → Ties s (after s st l d) u }
 {}
 
 /// Where a ledger is tied to the state before an entry and to the one after it, and each object that had a
 /// holder in its tables and has none any more was written down, so was each object of the state that lost
 /// its last holder.
 pub fn losses_touched()
-    ensures { (s : Scenario) (st su : State) (w u : Held) (before after : List ℕ) → Ties s st w → Ties s su u → Touches w.tables u.tables before after → AllTouched s st su after }
+    ensures { (s : Scenario) (st su : State) (w u : Held) (before after : List ℕ) → Ties s st w
+        → Ties s su u → Touches w.tables u.tables before after → AllTouched s st su after }
 {}
 
 /// Where a state stands for a history of a formed scenario: no place holds an object that was not made
@@ -77,16 +103,34 @@ pub fn losses_touched()
 /// packets and what is connected then, are those of the definitions, whatever says who owns objects, if it
 /// says the same of the object that is made, or of all where none is (`entered`).
 pub fn entries_reach()
-    ensures made { (s : Scenario) (st : State) (h : List Entry) (a o : ℕ) → Formed s → StandsFor s st h → objects_in st < o → places_at s st a o ≡ 0 }
-    ensures running { (s : Scenario) (st : State) (h : List Entry) (l : ℕ) (d : Deed) → Formed s → StandsFor s st h → next_of s st l ≡ Some d → number_or_zero (running_in s st l) < next_sta_in (after s st l d) }
-    ensures enters { (s : Scenario) (st : State) (h : List Entry) (l c o a : ℕ) (t : Option ℕ) (vs : List Value) → Formed s → StandsFor s st h → next_of s st l ≡ Some (deed.Enter c o a t vs) → a < next_sta_in (after s st l (deed.Enter c o a t vs)) }
-    ensures entered { (s : Scenario) (st : State) (h : List Entry) (l : ℕ) (d : Deed) (x : Option Action) (left : ℕ → Bool) (b : Books) (a : ℕ) (owned : ℕ → ℕ → Bool) → Formed s → StandsFor s st h → next_of s st l ≡ Some d → x ≡ (sight_of s st).act l → ((c : ℕ) → left c ≡ is_leave (ending_in st c)) → b ≡ books_in st → a ≡ number_or_zero (running_in s st l) → (makes d ≡ None → (o c : ℕ) → owned o c ≡ owns_in s (after s st l d) o c) → ((m : Making) → makes d ≡ Some m → owned m.object a ≡ owns_in s (after s st l d) m.object a) → connected d (named_in st) (kept b d (entered_rows owned b (rows s x left b a d))) ≡ books_entered s st (after s st l d) (record { lane = l; deed = d }) }
+    ensures made { (s : Scenario) (st : State) (h : List Entry) (a o : ℕ) → Formed s → StandsFor s st h
+        → objects_in st < o → places_at s st a o ≡ 0 }
+    ensures running { (s : Scenario) (st : State) (h : List Entry) (l : ℕ) (d : Deed) → Formed s
+        → StandsFor s st h → next_of s st l ≡ Some d
+        → number_or_zero (running_in s st l) < next_sta_in (after s st l d) }
+    ensures enters { (s : Scenario) (st : State) (h : List Entry) (l c o a : ℕ) (t : Option ℕ)
+        (vs : List Value) → Formed s → StandsFor s st h → next_of s st l ≡ Some (deed.Enter c o a t vs)
+        → a < next_sta_in (after s st l (deed.Enter c o a t vs)) }
+    ensures entered { (s : Scenario) (st : State) (h : List Entry) (l : ℕ) (d : Deed) (x : Option Action)
+        (left : ℕ → Bool) (b : Books) (a : ℕ) (owned : ℕ → ℕ → Bool) → Formed s → StandsFor s st h
+        → next_of s st l ≡ Some d → x ≡ (sight_of s st).act l → ((c : ℕ)
+        → left c ≡ is_leave (ending_in st c)) → b ≡ books_in st → a ≡ number_or_zero (running_in s st l)
+        → (makes d ≡ None → (o c : ℕ) → owned o c ≡ owns_in s (after s st l d) o c) → ((m : Making)
+        → makes d ≡ Some m → owned m.object a ≡ owns_in s (after s st l d) m.object a)
+        → connected d (named_in st) (kept b d (entered_rows owned b (rows s x left b a d)))
+        ≡ books_entered s st (after s st l d) (record { lane = l; deed = d }) }
 {}
 
 /// Where a ledger is tied to the state before a lane's next entry, and the entry was applied to it beside
 /// what the state has, with the moves of the entry, it is tied to the state after the entry.
 pub fn applied_ties()
-    ensures { (s : Scenario) (st : State) (h : List Entry) (l : ℕ) (d : Deed) (g : Around) (gained lost : List Move) (w u : Held) → Formed s → StandsFor s st h → next_of s st l ≡ Some d → movings_of gained ≡ (moves_in s st (record { lane = l; deed = d })).gained → movings_of lost ≡ (moves_in s st (record { lane = l; deed = d })).lost → Ties s st w → StandsAround s st l d g → ((n : ℕ) (places : ℕ → ℕ → ℕ) → Counts n places u.tables → Totals n places u.tables) → Applies g d gained lost (tally w.tables w.calls) (tally u.tables u.calls) → Ties s (after s st l d) u }
+    ensures { (s : Scenario) (st : State) (h : List Entry) (l : ℕ) (d : Deed) (g : Around)
+        (gained lost : List Move) (w u : Held) → Formed s → StandsFor s st h → next_of s st l ≡ Some d
+        → movings_of gained ≡ (moves_in s st (record { lane = l; deed = d })).gained
+        → movings_of lost ≡ (moves_in s st (record { lane = l; deed = d })).lost → Ties s st w
+        → StandsAround s st l d g → ((n : ℕ) (places : ℕ → ℕ → ℕ) → Counts n places u.tables
+        → Totals n places u.tables) → Applies g d gained lost (tally w.tables w.calls)
+        (tally u.tables u.calls) → Ties s (after s st l d) u }
 {}
 
 /// The owner of each object is the apartment that its making names: before the first entry (`first`), and
@@ -94,5 +138,7 @@ pub fn applied_ties()
 /// (`later`).
 pub fn owners_tie()
     ensures first { (s : Scenario) (w : Held) → IsNew w → OwnersTie (first_tables s) w }
-    ensures later { (s : Scenario) (st : State) (h : List Entry) (l : ℕ) (d : Deed) (w u : Held) → Formed s → StandsFor s st h → next_of s st l ≡ Some d → OwnersTie st w → OwnersGrow d w u → OwnersTie (after s st l d) u }
+    ensures later { (s : Scenario) (st : State) (h : List Entry) (l : ℕ) (d : Deed) (w u : Held)
+        → Formed s → StandsFor s st h → next_of s st l ≡ Some d → OwnersTie st w → OwnersGrow d w u
+        → OwnersTie (after s st l d) u }
 {}

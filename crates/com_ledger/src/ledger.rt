@@ -10,8 +10,8 @@ use com_refs::Numbers;
 use std::alloc::Global;
 use std::marker::Model;
 
-/// Who holds references, which packets carry the arguments and the result of each call, and the objects that lost their last holder
-/// in the last entry.
+/// Who holds references, which packets carry the arguments and the result of each call, and the objects that
+/// lost their last holder in the last entry.
 #[derive(Debug, Drop)]
 pub struct Ledger {
     pub keeping: Keeping,
@@ -22,7 +22,12 @@ impl Model for Ledger {
 
     ghost Value = { Held };
 
-    ghost view = { λ a. record { tables = a.keeping.refs; calls = a.keeping.calls; touched = a.keeping.touched.items } };
+    ghost view = { λ a. record {
+      tables = a.keeping.refs;
+      calls = a.keeping.calls;
+      touched =
+          a.keeping.touched.items;
+    } };
 }
 
 impl Ledger {
@@ -49,20 +54,26 @@ impl Ledger {
         self.keeping.touched.as_slice()
     }
 
-    /// Something holds the object: a direct place, or where it is connected a place elsewhere, a packet or a cookie.
+    /// Something holds the object: a direct place, or where it is connected a place elsewhere, a packet or a
+    /// cookie.
     pub fn is_held(&self, object: u32) -> bool
         ensures { IsTrue result ↔ (0 < holders_of self.now.tables object) }
     {
         self.keeping.refs.is_held(object)
     }
 
-    /// The numbers of a report for an object, over all apartments with a place and all interfaces of all sets.
+    /// The numbers of a report for an object, over all apartments with a place and all interfaces of all
+    /// sets.
     pub fn counts(&self, object: u32) -> Numbers
         ensures direct { result.direct ≡ direct_in self.now.tables object }
-        ensures proxies { (n m : ℕ) → Within n m self.now.tables → result.proxies ≡ sum_below n (λ a. sum_below m ((books_of self.now.tables).proxy a object)) }
+        ensures proxies { (n m : ℕ) → Within n m self.now.tables
+            → result.proxies ≡ sum_below n (λ a. sum_below m ((books_of self.now.tables).proxy a object)) }
         ensures packets { result.packets ≡ sum_by (in_normal object) (books_of self.now.tables).packets }
-        ensures tables { (n m : ℕ) → Within n m self.now.tables → result.tables ≡ sum_by (in_table object) (books_of self.now.tables).packets + sum_by (in_cookie object) (books_of self.now.tables).cookies }
-        ensures stub { (n m : ℕ) → Within n m self.now.tables → result.stub ≡ sum_below m ((books_of self.now.tables).stub object) }
+        ensures tables { (n m : ℕ) → Within n m self.now.tables
+            → result.tables ≡ sum_by (in_table object) (books_of self.now.tables).packets + sum_by
+            (in_cookie object) (books_of self.now.tables).cookies }
+        ensures stub { (n m : ℕ) → Within n m self.now.tables
+            → result.stub ≡ sum_below m ((books_of self.now.tables).stub object) }
     {
         self.keeping.refs.numbers(object)
     }

@@ -1,11 +1,11 @@
-//! The books of a core: who holds references, and which packets carry the arguments and the result of each call, changed by one
-//! entry at a time.
+//! The books of a core: who holds references, and which packets carry the arguments and the result of each
+//! call, changed by one entry at a time.
 //!
-//! An entry comes in steps. First its row of the table of reference counting, where that gives, which may bring places: a made
-//! object's, a queried or unmarshalled reference's. Then the other references that come to places. Then its row, where that ends a
-//! holder which is no place, and then the references that leave places: so nothing is given back on the way that is held before and
-//! after. What loses its last holder is no longer connected.
-//! Source: Essential COM, chapter 5, and MS-DCOM 3.2.4.4.
+//! An entry comes in steps. First its row of the table of reference counting, where that gives, which may
+//! bring places: a made object's, a queried or unmarshalled reference's. Then the other references that come
+//! to places. Then its row, where that ends a holder which is no place, and then the references that leave
+//! places: so nothing is given back on the way that is held before and after. What loses its last holder is
+//! no longer connected. Source: Essential COM, chapter 5, and MS-DCOM 3.2.4.4.
 #![tactic(auto)]
 
 mod apply;

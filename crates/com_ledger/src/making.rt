@@ -70,7 +70,8 @@ pub fn make(
 ) -> Result<(), Memory>
     ensures brought { OnOk result (brought.new.items ≡ brought.old.items ++ moved_to apartment held ∷ []) }
     ensures made { OnOk result (Made apartment held refs.old refs.new) }
-    ensures grown { OnOk result (Grown classes.now (Some (record { object = held.object; apartment = owner; class = class })) refs.old refs.new) }
+    ensures grown { OnOk result (Grown classes.now (Some
+        (record { object = held.object; apartment = owner; class = class })) refs.old refs.new) }
     ensures more { OnOk result (KeepsHeld apartment refs.old refs.new) }
 {
     let Some(class) = classes.class(class) else {

@@ -15,7 +15,8 @@ use com_refs::Refs;
 // One place more.
 fn gain(refs: &mut Refs, moved: Move) -> Result<(), Memory>
     ensures books { OnOk result (books_of refs.new ≡ books_of refs.old) }
-    ensures places { OnOk result ((n : ℕ) (places : ℕ → ℕ → ℕ) → moved.apartment < n → Counts n places refs.old → Counts n (plus places (moved ∷ [])) refs.new) }
+    ensures places { OnOk result ((n : ℕ) (places : ℕ → ℕ → ℕ) → moved.apartment < n
+        → Counts n places refs.old → Counts n (plus places (moved ∷ [])) refs.new) }
     ensures objects { OnOk result (AsOwned refs.old refs.new) }
     ensures more { OnOk result ((o : ℕ) → holders_of refs.old o ≤ holders_of refs.new o) }
 {
@@ -29,8 +30,11 @@ fn gain(refs: &mut Refs, moved: Move) -> Result<(), Memory>
 // One place less. Where that was the object's last holder, the object is written down.
 fn lose(refs: &mut Refs, touched: &mut Vec<u32>, moved: Move) -> Result<(), Memory>
     ensures objects { OnOk result (AsOwned refs.old refs.new) }
-    ensures ended { OnOk result ((n : ℕ) (later : ℕ → ℕ → ℕ) → moved.apartment < n → Counts n (plus later (moved ∷ [])) refs.old → Ended n later refs.old refs.new) }
-    ensures touched { OnOk result ((n : ℕ) (later : ℕ → ℕ → ℕ) → moved.apartment < n → Counts n (plus later (moved ∷ [])) refs.old → Touches refs.old refs.new touched.old.items touched.new.items) }
+    ensures ended { OnOk result ((n : ℕ) (later : ℕ → ℕ → ℕ) → moved.apartment < n
+        → Counts n (plus later (moved ∷ [])) refs.old → Ended n later refs.old refs.new) }
+    ensures touched { OnOk result ((n : ℕ) (later : ℕ → ℕ → ℕ) → moved.apartment < n
+        → Counts n (plus later (moved ∷ [])) refs.old
+        → Touches refs.old refs.new touched.old.items touched.new.items) }
     ensures climbs { OnOk result (Climbs 0 touched.old.items → Climbs 0 touched.new.items) }
 {
     if !refs.has_place(moved.apartment, moved.reference) {
@@ -47,7 +51,8 @@ fn lose(refs: &mut Refs, touched: &mut Vec<u32>, moved: Move) -> Result<(), Memo
 /// What comes to places. The books stay, and no object has fewer holders than before.
 pub fn gain_all(refs: &mut Refs, gained: &[Move]) -> Result<(), Memory>
     ensures books { OnOk result (books_of refs.new ≡ books_of refs.old) }
-    ensures places { OnOk result ((n : ℕ) (places : ℕ → ℕ → ℕ) → AllBelow n gained.now → Counts n places refs.old → Counts n (plus places gained.now) refs.new) }
+    ensures places { OnOk result ((n : ℕ) (places : ℕ → ℕ → ℕ) → AllBelow n gained.now
+        → Counts n places refs.old → Counts n (plus places gained.now) refs.new) }
     ensures objects { OnOk result (AsOwned refs.old refs.new) }
     ensures more { OnOk result ((o : ℕ) → holders_of refs.old o ≤ holders_of refs.new o) }
 {
@@ -60,8 +65,11 @@ pub fn gain_all(refs: &mut Refs, gained: &[Move]) -> Result<(), Memory>
 /// What leaves places. Each object that loses its last holder is written down, by number.
 pub fn lose_all(refs: &mut Refs, touched: &mut Vec<u32>, lost: &[Move]) -> Result<(), Memory>
     ensures objects { OnOk result (AsOwned refs.old refs.new) }
-    ensures ended { OnOk result ((n : ℕ) (later : ℕ → ℕ → ℕ) → AllBelow n lost.now → Counts n (plus later lost.now) refs.old → Ended n later refs.old refs.new) }
-    ensures touched { OnOk result ((n : ℕ) (later : ℕ → ℕ → ℕ) → AllBelow n lost.now → Counts n (plus later lost.now) refs.old → Touches refs.old refs.new touched.old.items touched.new.items) }
+    ensures ended { OnOk result ((n : ℕ) (later : ℕ → ℕ → ℕ) → AllBelow n lost.now
+        → Counts n (plus later lost.now) refs.old → Ended n later refs.old refs.new) }
+    ensures touched { OnOk result ((n : ℕ) (later : ℕ → ℕ → ℕ) → AllBelow n lost.now
+        → Counts n (plus later lost.now) refs.old
+        → Touches refs.old refs.new touched.old.items touched.new.items) }
     ensures climbs { OnOk result (Climbs 0 touched.old.items → Climbs 0 touched.new.items) }
 {
     refs.tells();

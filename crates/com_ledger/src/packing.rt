@@ -33,7 +33,8 @@ fn pack(refs: &mut Refs, apartment: u32, carried: &[RefValue]) -> Result<(u32, u
     ensures rows { OnOk result (Marshalled (marshal_all apartment carried.now) refs.old refs.new) }
     ensures more { OnOk result (HoldsMore refs.old refs.new) }
     ensures first { IfOk result (λ packed. packed.0 ≡ length (books_of refs.old).packets + 1) }
-    ensures count { IfOk result (λ packed. packed.1 ≡ length (books_of refs.new).packets - length (books_of refs.old).packets) }
+    ensures count { IfOk result (λ packed. packed.1
+        ≡ length (books_of refs.new).packets - length (books_of refs.old).packets) }
 {
     let before = refs.packets();
     marshal_all(refs, apartment, carried)?;
@@ -55,7 +56,9 @@ pub fn issue(
     ensures rows { OnOk result (Marshalled (marshal_all apartment carried.now) refs.old refs.new) }
     ensures more { OnOk result (HoldsMore refs.old refs.new) }
     ensures calls { OnOk result (length calls.new ≡ length calls.old + 1) }
-    ensures books { OnOk result (books_with refs.new calls.new ≡ with_arguments call (books_with refs.old calls.old) (entered_rows (owns_of refs.old.objects) (books_with refs.old calls.old) (marshal_all apartment carried.now))) }
+    ensures books { OnOk result (books_with refs.new calls.new
+        ≡ with_arguments call (books_with refs.old calls.old) (entered_rows (owns_of refs.old.objects)
+        (books_with refs.old calls.old) (marshal_all apartment carried.now))) }
 {
     if calls.len() >= MOST_GIVEN as usize {
         return Err(unproved());
@@ -78,7 +81,9 @@ pub fn reply(
     ensures rows { OnOk result (Marshalled (marshal_all apartment carried.now) refs.old refs.new) }
     ensures more { OnOk result (HoldsMore refs.old refs.new) }
     ensures calls { OnOk result (length calls.new ≡ length calls.old) }
-    ensures books { OnOk result (books_with refs.new calls.new ≡ with_answer call (books_with refs.old calls.old) (entered_rows (owns_of refs.old.objects) (books_with refs.old calls.old) (marshal_all apartment carried.now))) }
+    ensures books { OnOk result (books_with refs.new calls.new
+        ≡ with_answer call (books_with refs.old calls.old) (entered_rows (owns_of refs.old.objects)
+        (books_with refs.old calls.old) (marshal_all apartment carried.now))) }
 {
     if call == 0 || call as usize > calls.len() {
         return Err(unproved());
@@ -96,7 +101,8 @@ pub fn read_all(
     packets: CallPackets,
 ) -> Result<(), Memory>
     requires { packets.first + packets.count < 2 ^ 32 }
-    ensures rows { OnOk result (Gained apartment (map (λ p. Unmarshals apartment p) (arguments_of packets)) refs.old refs.new brought.old.items brought.new.items) }
+    ensures rows { OnOk result (Gained apartment (map (λ p. Unmarshals apartment p)
+        (arguments_of packets)) refs.old refs.new brought.old.items brought.new.items) }
     ensures more { OnOk result (HoldsMore refs.old refs.new) }
 {
     for place in 0..packets.count {

@@ -46,7 +46,8 @@ fn lost_one(refs: &Refs, packets: CallPackets) -> bool
 // The first of a call's packets that was not given up.
 fn left_one(refs: &Refs, packets: CallPackets) -> Option<u32>
     requires { packets.first + packets.count < 2 ^ 32 }
-    ensures { result ≡ first_that (λ p. not (not (packet (books_of refs.now) p).outstanding)) (arguments_of packets) }
+    ensures { result ≡ first_that (λ p. not (not (packet (books_of refs.now) p).outstanding))
+        (arguments_of packets) }
 {
     for place in 0..packets.count {
         if is_left(refs, packets.first + place) {

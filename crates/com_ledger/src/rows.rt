@@ -1,5 +1,6 @@
 //! The rows of the table of reference counting, one for each kind of entry.
-ghost use Rattle.std.specs.Prelude.{◌≡◌, ◌+◌, ◌<◌, ◌≤◌, ◌^◌, ◌↔◌, ◌++◌, ◌∷◌, ◌==◌, [], ℕ, true, IsTrue, OnOk, length, map};
+ghost use Rattle.std.specs.Prelude.{◌≡◌, ◌+◌, ◌<◌, ◌≤◌, ◌^◌, ◌↔◌, ◌++◌, ◌∷◌, ◌==◌, [], ℕ, true, IsTrue, OnOk};
+ghost use Rattle.std.specs.Prelude.{length, map};
 ghost use Rattle.com_base.specs.declared.value.RefValue.{RefValue};
 ghost use Rattle.com_books.specs.Changes.{Takes, Asks, Marshals, Unmarshals, Drops, Registers, Revokes};
 ghost use Rattle.com_holders.specs.Places.{OneMore, SamePlaces};
@@ -16,11 +17,12 @@ use com_objects::Objects;
 use com_refs::{Refs, RefsError};
 use std::alloc::AllocError;
 
-/// Where a fact of all histories is not proved here, the core stops as it does without memory. Missing are, at their places: that
-/// an object has the next number, and the interface that is asked for is in its class's set, of 17 at most; that a reference at a
-/// place, of a packet or of a cookie is by an interface of its object's set; that an apartment has a place of each reference that
-/// leaves one; that a Get names the reference of its cookie, of a connected object; that calls are numbered one after another, and a
-/// Leave names one of them; that fewer than 2^28 references were given.
+/// Where a fact of all histories is not proved here, the core stops as it does without memory. Missing are,
+/// at their places: that an object has the next number, and the interface that is asked for is in its class's
+/// set, of 17 at most; that a reference at a place, of a packet or of a cookie is by an interface of its
+/// object's set; that an apartment has a place of each reference that leaves one; that a Get names the
+/// reference of its cookie, of a connected object; that calls are numbered one after another, and a Leave
+/// names one of them; that fewer than 2^28 references were given.
 pub fn unproved() -> Memory {
     AllocError
 }
@@ -65,9 +67,11 @@ pub fn query(
     held: RefValue,
 ) -> Result<(), Memory>
     ensures row { OnOk result (Rowed refs.old refs.new (Asks apartment held.object held.iface)) }
-    ensures places { OnOk result (OneMore refs.old refs.new apartment held.object (owns_of refs.old.objects held.object apartment)) }
+    ensures places { OnOk result (OneMore refs.old refs.new apartment held.object
+        (owns_of refs.old.objects held.object apartment)) }
     ensures brought { OnOk result (brought.new.items ≡ brought.old.items ++ moved_to apartment held ∷ []) }
-    ensures gained { OnOk result (Gained apartment (Asks apartment held.object held.iface ∷ []) refs.old refs.new brought.old.items brought.new.items) }
+    ensures gained { OnOk result (Gained apartment
+        (Asks apartment held.object held.iface ∷ []) refs.old refs.new brought.old.items brought.new.items) }
     ensures more { OnOk result (HoldsMore refs.old refs.new) }
 {
     if !is_few(refs) {
@@ -109,7 +113,8 @@ pub fn unmarshal(
     apartment: u32,
     number: u32,
 ) -> Result<(), Memory>
-    ensures row { OnOk result (Gained apartment (Unmarshals apartment number ∷ []) refs.old refs.new brought.old.items brought.new.items) }
+    ensures row { OnOk result (Gained apartment
+        (Unmarshals apartment number ∷ []) refs.old refs.new brought.old.items brought.new.items) }
     ensures more { OnOk result (HoldsMore refs.old refs.new) }
 {
     if !is_few(refs) {
@@ -172,7 +177,8 @@ pub fn get(
     cookie: i64,
     held: RefValue,
 ) -> Result<(), Memory>
-    ensures row { OnOk result (Gained apartment (Takes apartment held.object held.iface ∷ []) refs.old refs.new brought.old.items brought.new.items) }
+    ensures row { OnOk result (Gained apartment
+        (Takes apartment held.object held.iface ∷ []) refs.old refs.new brought.old.items brought.new.items) }
     ensures more { OnOk result (HoldsMore refs.old refs.new) }
 {
     if !is_few(refs) {

@@ -8,7 +8,8 @@ use com_base::Memory;
 
 /// An object lost its last holder: it is written down once, in its place by number.
 pub fn touch(touched: &mut Vec<u32>, object: u32) -> Result<(), Memory>
-    ensures members { OnOk result ((x : ℕ) → is_member x touched.new.items ≡ (is_member x touched.old.items || x == object)) }
+    ensures members { OnOk result ((x : ℕ)
+        → is_member x touched.new.items ≡ (is_member x touched.old.items || x == object)) }
     ensures climbs { OnOk result (Climbs 0 touched.old.items → Climbs 0 touched.new.items) }
 {
     match touched.binary_search(&object) {
@@ -22,7 +23,8 @@ pub fn touch(touched: &mut Vec<u32>, object: u32) -> Result<(), Memory>
 
 /// The same, where there is one.
 pub fn touch_if(touched: &mut Vec<u32>, object: Option<u32>) -> Result<(), Memory>
-    ensures members { OnOk result ((x : ℕ) → is_member x touched.new.items ≡ (is_member x touched.old.items || is_number x object)) }
+    ensures members { OnOk result ((x : ℕ)
+        → is_member x touched.new.items ≡ (is_member x touched.old.items || is_number x object)) }
     ensures climbs { OnOk result (Climbs 0 touched.old.items → Climbs 0 touched.new.items) }
 {
     match object {
@@ -33,7 +35,8 @@ pub fn touch_if(touched: &mut Vec<u32>, object: Option<u32>) -> Result<(), Memor
 
 /// The same, where it did.
 pub fn touch_where(touched: &mut Vec<u32>, lost: bool, object: u32) -> Result<(), Memory>
-    ensures members { OnOk result ((x : ℕ) → is_member x touched.new.items ≡ (is_member x touched.old.items || (lost && x == object))) }
+    ensures members { OnOk result ((x : ℕ)
+        → is_member x touched.new.items ≡ (is_member x touched.old.items || (lost && x == object))) }
     ensures climbs { OnOk result (Climbs 0 touched.old.items → Climbs 0 touched.new.items) }
 {
     if lost {

@@ -1,5 +1,6 @@
 -- How a `Lists` keeps its lists. No public clause cites this module.
-use Rattle.std.specs.Prelude.{◌≡◌, ℕ, zero, suc, ◌≤◌, List, [], ◌∷◌, length, map, Option, None, Some, ◌==◌, nat_lt, if◌then◌else◌, slice_get, slice_index_or, slice_set}
+use Rattle.std.specs.Prelude.{◌≡◌, ℕ, zero, suc, ◌≤◌, List, [], ◌∷◌, length, map, Option, None, Some, ◌==◌}
+use Rattle.std.specs.Prelude.{nat_lt, if◌then◌else◌, slice_get, slice_index_or, slice_set}
 use Rattle.com_lists.specs.Linked.{times, times_in_all, holder_from, next_in_all}
 use Rattle.com_lists.specs.declared.Node.{Node}
 use Rattle.com_lists.specs.declared.Head.{Head}

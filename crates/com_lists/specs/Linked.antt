@@ -1,5 +1,6 @@
 -- What a contract sees of a `Lists`.
-use Rattle.std.specs.Prelude.{◌≡◌, ℕ, ◌+◌, ◌≤◌, List, [], ◌∷◌, map, Option, None, Some, ◌==◌, nat_lt, if◌then◌else◌, slice_get, slice_index_or, slice_set, ◌++◌}
+use Rattle.std.specs.Prelude.{◌≡◌, ℕ, ◌+◌, ◌≤◌, List, [], ◌∷◌, map, Option, None, Some, ◌==◌, nat_lt}
+use Rattle.std.specs.Prelude.{if◌then◌else◌, slice_get, slice_index_or, slice_set, ◌++◌}
 
 -- the list of nodes of each head, in order of the heads, and how many nodes there are
 pub record Linked : Type 0 where

@@ -2,7 +2,8 @@
 //! time.
 #![tactic(auto)]
 
-ghost use Rattle.std.specs.Prelude.{◌≡◌, ◌+◌, ◌-◌, ◌<◌, ◌≤◌, [], ◌++◌, length, replicate, None, IsSome, OnOk, OnErr, IfOk, IfSome, MatchOption, slice_get, slice_set, vec_len};
+ghost use Rattle.std.specs.Prelude.{◌≡◌, ◌+◌, ◌-◌, ◌<◌, ◌≤◌, [], ◌++◌, length, replicate, None, IsSome, OnOk};
+ghost use Rattle.std.specs.Prelude.{OnErr, IfOk, IfSome, MatchOption, slice_get, slice_set, vec_len};
 ghost use Rattle.std.specs.Option.{ForSome};
 ghost use Rattle.com_lists.specs.Linked.{IsApart, list_of, holder_of, next_in_all, with_last, without_node};
 ghost use Rattle.com_lists.specs.Chain.{with_after, with_before, with_first, with_last_node};
@@ -151,7 +152,8 @@ impl Lists {
     pub fn pop_front(&mut self, head: u32) -> Option<u32>
         requires { head < length self.old.lists }
         ensures node { result ≡ slice_get (list_of self.old head) 0 }
-        ensures lists { MatchOption result (self.new ≡ self.old) (λ node. self.new ≡ without_node self.old node) }
+        ensures lists { MatchOption result (self.new ≡ self.old) (λ node. self.new
+            ≡ without_node self.old node) }
     {
         let node = self.front(head)?;
         self.unlink(node);

@@ -8,8 +8,8 @@ ghost use Rattle.com_model.specs.Formed.{Formed};
 ghost use Rattle.com_model.specs.Rules.{legal};
 ghost use Rattle.com_migrate.specs.Moved.{moved};
 
-/// A formed scenario is formed in version 2 too, and each of its legal histories is legal there, with the same
-/// counts. One that has fewer entries than the limit ends there in the same way, if it has ended.
+/// A formed scenario is formed in version 2 too, and each of its legal histories is legal there, with the
+/// same counts. One that has fewer entries than the limit ends there in the same way, if it has ended.
 pub fn moves()
     ensures formed { (s : Scenario) → Formed s → Formed (moved s) }
     ensures lawful { (s : Scenario) (h : List Entry) → Formed s → legal s h → legal (moved s) h }

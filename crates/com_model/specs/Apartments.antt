@@ -1,8 +1,10 @@
 -- Apartments: the homes of lanes, the STAs that threads make, and which lane serves which apartment.
 --
--- a0 is the neutral apartment (NTA), a1 the multithreaded one (MTA), a2 the host STA. These live for the whole run. The STAs
--- that threads make are numbered from 3 on, in order of making. Source: CoInitializeEx, and the documentation of apartments.
-use Rattle.std.specs.Prelude.{ℕ, zero, suc, ◌+◌, Bool, true, false, not, ◌==◌, ◌||◌, ◌&&◌, nat_le, if◌then◌else◌, List, [], ◌∷◌, ◌++◌, Option, Some, None, length, filter}
+-- a0 is the neutral apartment (NTA), a1 the multithreaded one (MTA), a2 the host STA. These live for the
+-- whole run. The STAs that threads make are numbered from 3 on, in order of making. Source: CoInitializeEx,
+-- and the documentation of apartments.
+use Rattle.std.specs.Prelude.{ℕ, zero, suc, ◌+◌, Bool, true, false, not, ◌==◌, ◌||◌, ◌&&◌, nat_le}
+use Rattle.std.specs.Prelude.{if◌then◌else◌, List, [], ◌∷◌, ◌++◌, Option, Some, None, length, filter}
 use Rattle.com_base.specs.declared.hresult.HResult.{HResult}
 use Rattle.com_base.specs.declared.value.Mode.TheVariants as mode
 use Rattle.com_model.specs.declared.deeds.Deed.{Deed}
@@ -26,8 +28,8 @@ host_sta = 2
 abbrev pub is_sta : ℕ → Bool
 is_sta a = nat_le host_sta a
 
--- What a deed does to the initialisation of its lane. An Init entry names the home after it, also where it is refused; an
--- Uninit entry the home before it and the count after it.
+-- What a deed does to the initialisation of its lane. An Init entry names the home after it, also where it is
+-- refused; an Uninit entry the home before it and the count after it.
 pub data HomeEffect : Type 0 where
   Initialises : (home : ℕ) (hr : HResult) → HomeEffect
   Uninitialises : (home : Option ℕ) (count : ℕ) → HomeEffect
@@ -41,7 +43,8 @@ home_effect _ = Remains
 abbrev pub home_effect_on : ℕ → Entry → HomeEffect
 home_effect_on l e = if e.lane == l then home_effect e.deed else Remains
 
--- A thread's home is none at first and after an Uninit with count 0, else the home in its last Init or Uninit entry.
+-- A thread's home is none at first and after an Uninit with count 0, else the home in its last Init or Uninit
+-- entry.
 abbrev pub home_after : HomeEffect → Option ℕ → Option ℕ
 home_after (Initialises a hr) home = Some a
 home_after (Uninitialises a zero) home = None
@@ -118,7 +121,8 @@ abbrev pub made_in : List Entry → ℕ → ℕ → Bool
 made_in [] l a = false
 made_in (e ∷ h) l a = (e.lane == l && is_number a (makes_sta e.deed)) || made_in h l a
 
--- A thread's lane serves the STAs that it made, ended ones too; the host lane the host STA; each pool lane the NTA and the MTA.
+-- A thread's lane serves the STAs that it made, ended ones too; the host lane the host STA; each pool lane
+-- the NTA and the MTA.
 abbrev pub serves_by_sort : LaneSort → Bool → ℕ → Bool
 serves_by_sort Thread made a = made
 serves_by_sort Host made a = a == host_sta

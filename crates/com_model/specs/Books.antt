@@ -1,13 +1,16 @@
--- Public references over a history: the rows of each entry, and which objects are connected. What a row changes, and what is
--- given back and cut, is said by `Changes` of com_books.
-use Rattle.std.specs.Prelude.{ℕ, ◌+◌, pos, Bool, true, false, not, ◌==◌, ◌&&◌, ◌||◌, if◌then◌else◌, List, [], ◌∷◌, map, Option, Some, None}
+-- Public references over a history: the rows of each entry, and which objects are connected. What a row
+-- changes, and what is given back and cut, is said by `Changes` of com_books.
+use Rattle.std.specs.Prelude.{ℕ, ◌+◌, pos, Bool, true, false, not, ◌==◌, ◌&&◌, ◌||◌, if◌then◌else◌, List, []}
+use Rattle.std.specs.Prelude.{◌∷◌, map, Option, Some, None}
 use Rattle.com_base.specs.declared.hresult.HResult.{HResult}
 use Rattle.com_base.specs.declared.value.Value.{Value}
 use Rattle.com_body.specs.declared.operands.Asked.TheVariants as asked
 use Rattle.com_body.specs.declared.actions.Action.{Action}
 use Rattle.com_body.specs.declared.actions.Action.TheVariants as action
 use Rattle.com_classes.specs.Lookups.{method_at}
-use Rattle.com_books.specs.Changes.{Books, no_books, Row, Makes, Takes, Asks, Marshals, Unmarshals, Drops, Registers, Revokes, marshal_all, entered_rows, made_since, first_of, given_back, held_outside, cut, held}
+use Rattle.com_books.specs.Changes.{Books, no_books, Row, Makes, Takes, Asks, Marshals, Unmarshals, Drops}
+use Rattle.com_books.specs.Changes.{Registers, Revokes, marshal_all, entered_rows, made_since, first_of}
+use Rattle.com_books.specs.Changes.{given_back, held_outside, cut, held}
 use Rattle.com_model.specs.declared.deeds.Deed.{Deed}
 use Rattle.com_model.specs.declared.deeds.Deed.TheVariants as deed
 use Rattle.com_model.specs.declared.deeds.Entry.{Entry}
@@ -64,8 +67,8 @@ kept before (deed.Out c o i m r k bytes) after = record after { arguments = put 
 kept before (deed.Leave c hr v bytes) after = record after { result = put c (first_of (made_since before after)) after.result }
 kept before _ after = after
 
--- An object is connected from its making until the first of: a Disconnect of it, the end of its owner, a moment at which it
--- has no holder; and never again afterwards.
+-- An object is connected from its making until the first of: a Disconnect of it, the end of its owner, a
+-- moment at which it has no holder; and never again afterwards.
 abbrev pub made_by : Option Making → ℕ → Bool
 made_by None o = false
 made_by (Some m) o = m.object == o
@@ -90,7 +93,8 @@ books s (e ∷ h) =
     (most s (ground s (e ∷ h)) (scene s (e ∷ h)) (act s h e.lane) (λ c. is_leave (ending s h c)) (number_or_zero (running s h e.lane))
     e.deed (books s h))
 
--- The holders of an object: its direct places and, as long as it is connected, its proxy places, packets and cookies.
+-- The holders of an object: its direct places and, as long as it is connected, its proxy places, packets and
+-- cookies.
 abbrev pub holders_in : Scenario → Ground → Scene → Books → ℕ → ℕ
 holders_in s g w b o = if b.live o then all_places s g w o + held_outside b o else direct_places s g w o
 

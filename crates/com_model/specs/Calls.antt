@@ -1,5 +1,6 @@
 -- Calls: what the entries of a call say, its route and its causality.
-use Rattle.std.specs.Prelude.{ℕ, ◌+◌, Bool, true, false, ◌==◌, ◌||◌, ◌&&◌, if◌then◌else◌, List, [], ◌∷◌, Option, Some, None, is_some, is_none}
+use Rattle.std.specs.Prelude.{ℕ, ◌+◌, Bool, true, false, ◌==◌, ◌||◌, ◌&&◌, if◌then◌else◌, List, [], ◌∷◌}
+use Rattle.std.specs.Prelude.{Option, Some, None, is_some, is_none}
 use Rattle.com_model.specs.declared.deeds.Deed.{Deed}
 use Rattle.com_model.specs.declared.deeds.Deed.TheVariants as deed
 use Rattle.com_model.specs.declared.deeds.Entry.{Entry}
@@ -92,16 +93,17 @@ abbrev pub route_of : Option Issue → Route
 route_of None = route.Refused
 route_of (Some i) = i.route
 
--- The route of a call that is not refused: direct where the running apartment owns the target; a switch where the owner is
--- the neutral apartment or the lane's home; else by post.
+-- The route of a call that is not refused: direct where the running apartment owns the target; a switch where
+-- the owner is the neutral apartment or the lane's home; else by post.
 abbrev pub route_for : (direct : Bool) (named : ℕ) (home : Option ℕ) → Route
 route_for direct a home =
     if direct then route.Direct
     else if a == neutral || is_number a home then route.Switch
     else route.Post
 
--- The causality of a call is that of the call of its lane's last open Enter; else one more than the number of the earlier
--- Outs that were made in lanes without open Enter. Source: MS-DCOM, the causality identifier of ORPCTHIS.
+-- The causality of a call is that of the call of its lane's last open Enter; else one more than the number of
+-- the earlier Outs that were made in lanes without open Enter. Source: MS-DCOM, the causality identifier of
+-- ORPCTHIS.
 abbrev pub draws : List Entry → Entry → Bool
 draws h e = is_some (issues e.lane e.deed) && is_none (running_call (openers h e.lane))
 

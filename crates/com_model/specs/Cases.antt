@@ -766,7 +766,8 @@ direct_call_report =
     ++ codes "entries 10 clock 0\n"
     ++ codes "end ok\n"
 
--- The report of the packets that a proxy gave: the proxy gave the rest of its references back when its apartment ended.
+-- The report of the packets that a proxy gave: the proxy gave the rest of its references back when its
+-- apartment ended.
 abbrev pub halved_report : List ℕ
 halved_report =
     codes "o1 C1 a1 live direct 0 proxies 0 packets 9 tables 0 stub 9\n"

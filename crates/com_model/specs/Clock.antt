@@ -1,5 +1,6 @@
 -- The clock and message filters. Source: the documentation of IMessageFilter.
-use Rattle.std.specs.Prelude.{ℕ, zero, ◌-◌, Bool, true, false, ◌==◌, nat_le, if◌then◌else◌, List, [], ◌∷◌, Option, Some, None}
+use Rattle.std.specs.Prelude.{ℕ, zero, ◌-◌, Bool, true, false, ◌==◌, nat_le, if◌then◌else◌, List, [], ◌∷◌}
+use Rattle.std.specs.Prelude.{Option, Some, None}
 use Rattle.com_filter.specs.declared.Verdict.{Verdict}
 use Rattle.com_filter.specs.declared.Verdict.TheVariants as verdict
 use Rattle.com_filter.specs.declared.Rule.{Rule}
@@ -30,7 +31,8 @@ abbrev pub issued_at : List Entry → ℕ → ℕ
 issued_at [] c = 0
 issued_at (e ∷ h) c = time_or (issues e.lane e.deed) c (clock h) (issued_at h c)
 
--- A SetFilter that answers S_OK names the lane's filter or none. A filter ends with its STA, and a new home begins without.
+-- A SetFilter that answers S_OK names the lane's filter or none. A filter ends with its STA, and a new home
+-- begins without.
 pub data FilterEffect : Type 0 where
   Names : Option ℕ → FilterEffect
   Keeps : FilterEffect

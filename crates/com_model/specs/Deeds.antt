@@ -1,5 +1,8 @@
--- The entry of an action, with the first refusal that applies. Each refusal changes nothing but register 15 and the destination.
-use Rattle.std.specs.Prelude.{ℕ, ◌+◌, ◌-◌, ◌%◌, ◌^◌, ℤ, pos, negsuc, Bool, true, false, not, ◌==◌, ◌&&◌, if◌then◌else◌, List, [], ◌∷◌, map, length, Option, Some, None, option_map, Result, Ok, Err}
+-- The entry of an action, with the first refusal that applies. Each refusal changes nothing but register 15
+-- and the destination.
+use Rattle.std.specs.Prelude.{ℕ, ◌+◌, ◌-◌, ◌%◌, ◌^◌, ℤ, pos, negsuc, Bool, true, false, not, ◌==◌, ◌&&◌}
+use Rattle.std.specs.Prelude.{if◌then◌else◌, List, [], ◌∷◌, map, length, Option, Some, None, option_map}
+use Rattle.std.specs.Prelude.{Result, Ok, Err}
 use Rattle.std.specs.Int.{to_le_bytes, w64}
 use Rattle.com_base.specs.declared.guid.Guid.{Guid}
 use Rattle.com_base.specs.declared.hresult.HResult.{HResult}
@@ -29,7 +32,9 @@ use Rattle.com_model.specs.declared.deeds.Deed.TheVariants as deed
 use Rattle.com_model.specs.declared.deeds.Route.{Route}
 use Rattle.com_model.specs.declared.deeds.Route.TheVariants as route
 use Rattle.com_model.specs.declared.scenario.Scenario.{Scenario}
-use Rattle.com_model.specs.Answers.{S_OK, S_FALSE, E_NOTIMPL, E_NOINTERFACE, E_POINTER, E_INVALIDARG, REGDB_E_CLASSNOTREG, CO_E_NOTINITIALIZED, CO_E_OBJNOTCONNECTED, RPC_E_CHANGED_MODE, RPC_E_DISCONNECTED, RPC_E_INVALID_OBJREF}
+use Rattle.com_model.specs.Answers.{S_OK, S_FALSE, E_NOTIMPL, E_NOINTERFACE, E_POINTER, E_INVALIDARG}
+use Rattle.com_model.specs.Answers.{REGDB_E_CLASSNOTREG, CO_E_NOTINITIALIZED, CO_E_OBJNOTCONNECTED}
+use Rattle.com_model.specs.Answers.{RPC_E_CHANGED_MODE, RPC_E_DISCONNECTED, RPC_E_INVALID_OBJREF}
 use Rattle.com_model.specs.Lists.{number_or_zero, one_to, first_that}
 use Rattle.com_model.specs.Tables.{is_thread, class_number, interface_number, shown, parameters, result_kind}
 use Rattle.com_model.specs.Openers.{running_call}
@@ -37,14 +42,15 @@ use Rattle.com_model.specs.Apartments.{mta, is_sta}
 use Rattle.com_model.specs.Calls.{Issue, route_for, cause_for, is_marshalled}
 use Rattle.com_model.specs.Values.{carried, result_list, sent_values, sent_result, request_bytes, reply_bytes}
 use Rattle.com_model.specs.Frames.{reference}
-use Rattle.com_books.specs.Changes.{Books, Row, Marshals, packet, cookie, entered_rows, made_since, marshal_all}
+use Rattle.com_books.specs.Changes.{Books, Row, Marshals, packet, cookie, entered_rows, made_since}
+use Rattle.com_books.specs.Changes.{marshal_all}
 use Rattle.com_books.specs.declared.keeps.Packet.{Packet}
 use Rattle.com_books.specs.declared.keeps.Cookie.{Cookie}
 use Rattle.com_model.specs.Issue.{call_refusal}
 use Rattle.com_model.specs.Sight.{Sight}
 
--- Init answers S_OK where the lane has no home, S_FALSE where its home has the same mode, else RPC_E_CHANGED_MODE.
--- Source: CoInitializeEx.
+-- Init answers S_OK where the lane has no home, S_FALSE where its home has the same mode, else
+-- RPC_E_CHANGED_MODE. Source: CoInitializeEx.
 abbrev pub new_home : Sight → Mode → ℕ
 new_home v mode.Sta = v.next_sta
 new_home v mode.Mta = mta
@@ -69,8 +75,8 @@ in_sta (Some a) = is_sta a
 abbrev pub filter_set : Sight → ℕ → Option ℕ → Deed
 filter_set v l f = deed.SetFilter f (if in_sta (v.home l) then S_OK else S_FALSE)
 
--- Create is refused without home, for a class that is not declared, and for an interface outside the class's set.
--- Source: CoCreateInstance.
+-- Create is refused without home, for a class that is not declared, and for an interface outside the class's
+-- set. Source: CoCreateInstance.
 abbrev pub not_made : Scenario → Asked → Asked → HResult → Deed
 not_made s k i hr = deed.Made None None (shown (class_number s k) k) (shown (interface_number s i) i) hr
 
@@ -117,8 +123,8 @@ abbrev pub queried : Scenario → Sight → ℕ → Option RefValue → Asked �
 queried s v l held i =
     deed.Query (object_in held) (shown (interface_number s i) i) (query_answer s v l (v.home l) held (interface_number s i))
 
--- The fields that a packet's bytes have: the interface, the references where it is a normal packet, the number of the owner as
--- OXID, of the object as OID, and all with the packet's number as IPID.
+-- The fields that a packet's bytes have: the interface, the references where it is a normal packet, the
+-- number of the owner as OXID, of the object as OID, and all with the packet's number as IPID.
 abbrev pub iid_of : Option Interface → Guid
 iid_of None = zero_guid
 iid_of (Some i) = i.iid
@@ -171,9 +177,9 @@ abbrev pub registered : Sight → Option RefValue → Option HResult → Deed
 registered v held (Some hr) = deed.Register None held hr
 registered v held None = deed.Register (Some (length v.books.cookies + 1)) held S_OK
 
--- Unmarshal and Drop are refused without home, for bytes that are no OBJREF, for another marshalling than standard, and where
--- no outstanding packet is named. A packet is named where IID, references, OXID, OID and IPID are all its own.
--- Source: CoUnmarshalInterface, CoReleaseMarshalData.
+-- Unmarshal and Drop are refused without home, for bytes that are no OBJREF, for another marshalling than
+-- standard, and where no outstanding packet is named. A packet is named where IID, references, OXID, OID and
+-- IPID are all its own. Source: CoUnmarshalInterface, CoReleaseMarshalData.
 abbrev pub same_fields : StdFields → StdFields → Bool
 same_fields f g =
     same_guid f.iid g.iid && (f.refs == g.refs && (f.oxid == g.oxid && (f.oid == g.oid && same_guid f.ipid g.ipid)))
@@ -202,7 +208,8 @@ abbrev pub named_by : Scenario → Sight → Option ℕ → List ℕ → Named
 named_by s v None bytes = Refuses CO_E_NOTINITIALIZED
 named_by s v (Some a) bytes = named_in s v (objref_of bytes)
 
--- What the apartment's proxy gains: nothing where the apartment owns the object; else a normal packet's references, or 5.
+-- What the apartment's proxy gains: nothing where the apartment owns the object; else a normal packet's
+-- references, or 5.
 abbrev pub gained_refs : MarshalMode → (owned : Bool) → ℕ → ℕ
 gained_refs m true n = 0
 gained_refs marshal.Normal false n = n
@@ -220,8 +227,8 @@ abbrev pub dropped : Named → Deed
 dropped (Refuses hr) = deed.DropPacket None hr
 dropped (NamesPacket p) = deed.DropPacket (Some p) S_OK
 
--- Get is refused without home, for a number that is no cookie or a revoked one, and where the object is not connected. Revoke is
--- refused without home, and for such a number. Source: IGlobalInterfaceTable.
+-- Get is refused without home, for a number that is no cookie or a revoked one, and where the object is not
+-- connected. Revoke is refused without home, and for such a number. Source: IGlobalInterfaceTable.
 abbrev pub cookie_number : ℤ → ℕ
 cookie_number (pos g) = g
 cookie_number (negsuc g) = 0
@@ -243,7 +250,8 @@ abbrev pub revoked : Sight → ℤ → Option ℕ → Deed
 revoked v g None = deed.Revoke g CO_E_NOTINITIALIZED
 revoked v g (Some a) = deed.Revoke g (if (cookie v.books (cookie_number g)).revoked then E_INVALIDARG else S_OK)
 
--- Disconnect is refused without home, on null, and in an apartment that does not own the object. Source: CoDisconnectObject.
+-- Disconnect is refused without home, on null, and in an apartment that does not own the object. Source:
+-- CoDisconnectObject.
 abbrev pub disconnect_answer : Sight → ℕ → Option ℕ → Option RefValue → HResult
 disconnect_answer v l None held = CO_E_NOTINITIALIZED
 disconnect_answer v l (Some a) None = E_POINTER
@@ -280,7 +288,8 @@ abbrev pub called : Scenario → Sight → ℕ → Option RefValue → ℕ → �
 called s v l held i m args (Some hr) = out_on s v l held i m args route.Refused
 called s v l held i m args None = out_on s v l held i m args (route_to v l held)
 
--- A body's Leave: its HRESULT, its result, and on the routes that marshal the reply's bytes, unless its call is back.
+-- A body's Leave: its HRESULT, its result, and on the routes that marshal the reply's bytes, unless its call
+-- is back.
 abbrev pub reply_for : Scenario → Sight → ℕ → (wanted : Bool) → HResult → Option Value → Option (List ℕ)
 reply_for s v l false hr x = None
 reply_for s v l true hr x =

@@ -1,5 +1,6 @@
 -- How a call comes to its answer: the first entry that fixes it.
-use Rattle.std.specs.Prelude.{ℕ, zero, negsuc, Bool, true, false, ◌==◌, ◌&&◌, if◌then◌else◌, List, [], ◌∷◌, Option, Some, None, is_some, is_none}
+use Rattle.std.specs.Prelude.{ℕ, zero, negsuc, Bool, true, false, ◌==◌, ◌&&◌, if◌then◌else◌, List, [], ◌∷◌}
+use Rattle.std.specs.Prelude.{Option, Some, None, is_some, is_none}
 use Rattle.com_base.specs.declared.hresult.HResult.{HResult}
 use Rattle.com_base.specs.declared.value.Value.{Value}
 use Rattle.com_filter.specs.declared.Verdict.{Verdict}
@@ -9,7 +10,8 @@ use Rattle.com_model.specs.declared.deeds.Deed.TheVariants as deed
 use Rattle.com_model.specs.declared.deeds.Entry.{Entry}
 use Rattle.com_model.specs.declared.deeds.Route.TheVariants as route
 use Rattle.com_model.specs.declared.scenario.Scenario.{Scenario}
-use Rattle.com_model.specs.Answers.{RPC_E_CALL_REJECTED, RPC_E_SERVERCALL_RETRYLATER, RPC_E_CALL_CANCELED, RPC_E_DISCONNECTED}
+use Rattle.com_model.specs.Answers.{RPC_E_CALL_REJECTED, RPC_E_SERVERCALL_RETRYLATER, RPC_E_CALL_CANCELED}
+use Rattle.com_model.specs.Answers.{RPC_E_DISCONNECTED}
 use Rattle.com_model.specs.Lists.{or_else, where_true}
 use Rattle.com_model.specs.Apartments.{ends_sta}
 use Rattle.com_model.specs.Objects.{named, disconnects}
@@ -18,7 +20,8 @@ use Rattle.com_model.specs.Clock.{filter_of}
 pub use Rattle.com_model.specs.declared.keeps.Ending.{Ending}
 pub use Rattle.com_model.specs.declared.keeps.Ending.TheVariants.{AtIssue, AtAdmission, ByVerdict, ByRetry, ByCancel, ByDisconnection, ByLeave}
 
--- What a deed does to the answers of calls: it ends one call, or all that wait for an object or for an STA's objects.
+-- What a deed does to the answers of calls: it ends one call, or all that wait for an object or for an STA's
+-- objects.
 pub data EndEffect : Type 0 where
   EndsCall : (call : ℕ) → Ending → EndEffect
   CutsObject : (object : ℕ) → EndEffect

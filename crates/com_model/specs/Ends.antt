@@ -1,5 +1,7 @@
 -- How a history ends, the one history of the schedule, and what is printed of it.
-use Rattle.std.specs.Prelude.{ℕ, zero, suc, ◌+◌, ◌-◌, Bool, true, false, not, ◌==◌, ◌&&◌, nat_le, if◌then◌else◌, List, [], ◌∷◌, ◌++◌, length, map, Option, Some, None, is_none, option_map, sum_by}
+use Rattle.std.specs.Prelude.{ℕ, zero, suc, ◌+◌, ◌-◌, Bool, true, false, not, ◌==◌, ◌&&◌, nat_le}
+use Rattle.std.specs.Prelude.{if◌then◌else◌, List, [], ◌∷◌, ◌++◌, length, map, Option, Some, None, is_none}
+use Rattle.std.specs.Prelude.{option_map, sum_by}
 use Rattle.com_model.specs.declared.deeds.Deed.{Deed}
 use Rattle.com_model.specs.declared.deeds.Entry.{Entry}
 use Rattle.com_model.specs.declared.scenario.Scenario.{Scenario}
@@ -30,7 +32,8 @@ use Rattle.com_model.specs.Rules.{can_step, no_lane_can, tick_time, next}
 abbrev pub limit : Scenario → ℕ
 limit s = if s.version == 2 then 1_000_000 else 200_000
 
--- Finished: every thread's lane has End, no lane has an opener, no inbox holds a call, and no object is dying.
+-- Finished: every thread's lane has End, no lane has an opener, no inbox holds a call, and no object is
+-- dying.
 abbrev pub finished_by : Scenario → Sight → Bool
 finished_by s v =
     each_of v.over (one_to (threads s))
@@ -58,10 +61,10 @@ ended_by s v n =
 abbrev pub ended_as : Scenario → List Entry → Option Ended
 ended_as s h = if nat_le (length h) (limit s) then ended_by s (sight s h) (length h) else None
 
--- The schedule. Each number of the picks is tried once, in order: if that lane can step it makes its entry, else the number is
--- passed over. Afterwards the next lane is the first that can step among last + 1 to the highest lane, then 1 to last, where
--- last is the lane of the last entry made by a lane other than 0, or 0. A due Tick is made whenever no lane can step, also
--- before a number of the picks is tried.
+-- The schedule. Each number of the picks is tried once, in order: if that lane can step it makes its entry,
+-- else the number is passed over. Afterwards the next lane is the first that can step among last + 1 to the
+-- highest lane, then 1 to last, where last is the lane of the last entry made by a lane other than 0, or 0. A
+-- due Tick is made whenever no lane can step, also before a number of the picks is tried.
 pub record Turn : Type 0 where
   pub lane : ℕ
   pub picks : List ℕ
@@ -90,7 +93,8 @@ abbrev pub last_after : (lane last : ℕ) → ℕ
 last_after zero last = last
 last_after (suc l) last = suc l
 
--- One history grows until it has ended, by one entry a turn; so many turns as the limit has entries are enough.
+-- One history grows until it has ended, by one entry a turn; so many turns as the limit has entries are
+-- enough.
 abbrev pub with_entry : (List Entry → List ℕ → ℕ → List Entry) → List Entry → Turn → ℕ → Option Deed → List Entry
 with_entry go h t last None = h
 with_entry go h t last (Some d) = go (record { lane = t.lane; deed = d } ∷ h) t.picks (last_after t.lane last)
@@ -110,8 +114,8 @@ run_on (suc n) s h picks last = unless_ended s (run_on n s) h picks last (ended_
 abbrev pub scheduled : Scenario → List Entry
 scheduled s = run_on (limit s) s [] s.picks 0
 
--- What a report counts of an object: its direct places, and the public references of proxies, of normal packets, of strong
--- packets and cookies, and of the stub.
+-- What a report counts of an object: its direct places, and the public references of proxies, of normal
+-- packets, of strong packets and cookies, and of the stub.
 abbrev pub state_of : (finaled live : Bool) → ObjectState
 state_of true live = state.Released
 state_of false true = state.Live
@@ -148,7 +152,8 @@ counts_by s h b o = record {
 abbrev pub counts_of : Scenario → List Entry → ℕ → Counts
 counts_of s h o = counts_by s h (books s h) o
 
--- What is printed: the lines of the history, and behind them, where it has ended, the report, with a line for each object.
+-- What is printed: the lines of the history, and behind them, where it has ended, the report, with a line for
+-- each object.
 abbrev pub text : Scenario → List Entry → List ℕ
 text s h = history_text s.version h
 

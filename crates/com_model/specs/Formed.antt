@@ -1,6 +1,7 @@
--- Scenarios that keep the limits, the forms and the ranges of the language, repeat no name or GUID, and name only what is
--- declared.
-use Rattle.std.specs.Prelude.{◌≡◌, ℕ, ◌+◌, ◌^◌, ◌≤◌, ◌<◌, ℤ, pos, negsuc, Bool, true, false, not, ◌==◌, ◌&&◌, ◌||◌, nat_le, List, [], ◌∷◌, Option, Some, None, length, All, take, codes, ◌⊎◌}
+-- Scenarios that keep the limits, the forms and the ranges of the language, repeat no name or GUID, and name
+-- only what is declared.
+use Rattle.std.specs.Prelude.{◌≡◌, ℕ, ◌+◌, ◌^◌, ◌≤◌, ◌<◌, ℤ, pos, negsuc, Bool, true, false, not, ◌==◌, ◌&&◌}
+use Rattle.std.specs.Prelude.{◌||◌, nat_le, List, [], ◌∷◌, Option, Some, None, length, All, take, codes, ◌⊎◌}
 use Rattle.std.specs.Str.{bytes_eq}
 use Rattle.com_base.specs.declared.guid.Guid.{Guid}
 use Rattle.com_base.specs.declared.value.Kind.{Kind}
@@ -104,7 +105,8 @@ same_interface i k = bytes_eq i.name k.name || same_guid i.iid k.iid
 abbrev pub documented_iid : ℕ → Guid
 documented_iid n = record { data1 = n; data2 = 0; data3 = 0; data4 = 0xc0 ∷ 0 ∷ 0 ∷ 0 ∷ 0 ∷ 0 ∷ 0 ∷ 0x46 ∷ [] }
 
--- A scenario may not declare the IIDs of IClassFactory, IMessageFilter and IGlobalInterfaceTable, nor name an interface as a type.
+-- A scenario may not declare the IIDs of IClassFactory, IMessageFilter and IGlobalInterfaceTable, nor name an
+-- interface as a type.
 abbrev pub is_reserved : Guid → Bool
 is_reserved g = same_guid g (documented_iid 1) || (same_guid g (documented_iid 0x16) || same_guid g (documented_iid 0x146))
 
@@ -126,7 +128,8 @@ pub record FormedInterfaces (xs : List Interface) : Type 0 where
 
 -- ---- statements
 
--- Where a statement stands: in a body or in a script, in an agile class or not, and the last class that it may name.
+-- Where a statement stands: in a body or in a script, in an agile class or not, and the last class that it
+-- may name.
 pub record Context : Type 0 where
   pub body : Bool
   pub links : Bool
@@ -164,7 +167,8 @@ FitsResult (Some (kind.Ref i)) (destination.Register n) = ⊥
 FitsResult (Some k) (destination.Register n) = Unit {0}
 FitsResult (Some k) (destination.Slot n) = ⊥
 
--- A call by a method's number has no arguments and no destination, and the number may be outside the interface's table.
+-- A call by a method's number has no arguments and no destination, and the number may be outside the
+-- interface's table.
 abbrev pub FitsMethod : Option Method → List Arg → Destination → Type 0
 FitsMethod None args to = ⊥
 FitsMethod (Some m) args to = FitKinds m.params args × FitsResult m.result to

@@ -1,5 +1,6 @@
 -- What scripts, open bodies, objects and packet buffers hold, and what a lane's body or script does next.
-use Rattle.std.specs.Prelude.{ℕ, zero, pos, Bool, true, false, ◌==◌, if◌then◌else◌, List, [], ◌∷◌, Option, Some, None, fold, replicate, slice_set}
+use Rattle.std.specs.Prelude.{ℕ, zero, pos, Bool, true, false, ◌==◌, if◌then◌else◌, List, [], ◌∷◌, Option}
+use Rattle.std.specs.Prelude.{Some, None, fold, replicate, slice_set}
 use Rattle.com_base.specs.declared.hresult.HResult.{HResult}
 use Rattle.com_base.specs.declared.value.RefValue.{RefValue}
 use Rattle.com_base.specs.declared.value.Value.{Value}
@@ -28,8 +29,8 @@ use Rattle.com_model.specs.Apartments.{ends_sta}
 use Rattle.com_model.specs.Objects.{class_of, named}
 use Rattle.com_model.specs.Calls.{Issue, issue}
 
--- The frames of the scripts by lane and of the bodies by call, the cells by object, the buffers by number, and where the
--- result of each call is to go.
+-- The frames of the scripts by lane and of the bodies by call, the cells by object, the buffers by number,
+-- and where the result of each call is to go.
 pub record Scene : Type 0 where
   pub scripts : ℕ → FrameView
   pub bodies : ℕ → FrameView
@@ -50,7 +51,8 @@ first_scene = record {
   destinations = λ c. destination.Nowhere;
 }
 
--- Who acts in a lane: the body of its topmost opener, where that is an Enter; the script of a thread's lane without opener.
+-- Who acts in a lane: the body of its topmost opener, where that is an Enter; the script of a thread's lane
+-- without opener.
 pub data Actor : Type 0 where
   Body : (call object : ℕ) → Actor
   Script : (lane : ℕ) → Actor
@@ -142,8 +144,8 @@ abbrev pub marshalled_in : ℕ → Deed → List Write
 marshalled_in b (deed.Marshal p m held refs hr (Some bytes)) = ToBuffer b bytes ∷ []
 marshalled_in b _ = []
 
--- First the HRESULT, then what the destination takes: the new reference, or null on failure; a cookie, or 0. A call writes at
--- its Back, and a pump at its EndPump.
+-- First the HRESULT, then what the destination takes: the new reference, or null on failure; a cookie, or 0.
+-- A call writes at its Back, and a pump at its EndPump.
 abbrev pub writes : Action → Deed → List Write
 writes (action.Create slot k i) d = to_answer (answer_in d) ∷ ToSlot slot (taken_in d) ∷ []
 writes (action.Query to held i) d = to_answer (answer_in d) ∷ ToSlot to (taken_in d) ∷ []
@@ -163,7 +165,8 @@ abbrev pub value_reference : Option Value → Option RefValue
 value_reference (Some (value.Ref held)) = held
 value_reference _ = None
 
--- At a Back a destination register takes the result, and stays where there is none; a slot takes the reference, or null.
+-- At a Back a destination register takes the result, and stays where there is none; a slot takes the
+-- reference, or null.
 abbrev pub to_register : ℕ → Option Value → List Write
 to_register r None = []
 to_register r (Some v) = ToRegister r v ∷ []
@@ -173,7 +176,8 @@ to_destination destination.Nowhere v = []
 to_destination (destination.Register r) v = to_register r v
 to_destination (destination.Slot k) v = ToSlot k (value_reference v) ∷ []
 
--- One write, in the frame of whoever acts, in the links of the body's object, or in the buffers that all share.
+-- One write, in the frame of whoever acts, in the links of the body's object, or in the buffers that all
+-- share.
 abbrev pub with_link : Cells → ℕ → Option RefValue → Cells
 with_link c k held = record c { links = slice_set c.links k held }
 
@@ -209,8 +213,8 @@ abbrev pub acted : Actor → Option Outcome → Deed → Scene → Scene
 acted a None d w = w
 acted a (Some r) d w = wants r.action d (fold (written a) (with_frame a r w) (writes r.action d))
 
--- An Enter begins a frame. A Back and an EndPump write for whoever acts after them. An Uninit to count 0 makes the script's
--- slots null. Final makes the object's links null.
+-- An Enter begins a frame. A Back and an EndPump write for whoever acts after them. An Uninit to count 0
+-- makes the script's slots null. Final makes the object's links null.
 abbrev pub arrived : (after : Actor) → (lane : ℕ) → Deed → Scene → Scene
 arrived b l (deed.Leave c hr v bytes) w = record w { bodies = put c (entered []) w.bodies }
 arrived b l (deed.Enter c o a t vs) w = record w { bodies = put c (entered vs) w.bodies }

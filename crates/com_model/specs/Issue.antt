@@ -1,5 +1,6 @@
 -- The issue of a call: its refusals, and the values that it sends.
-use Rattle.std.specs.Prelude.{ℕ, Bool, true, false, not, ◌==◌, ◌&&◌, if◌then◌else◌, List, [], ◌∷◌, Option, Some, None, is_none, option_map}
+use Rattle.std.specs.Prelude.{ℕ, Bool, true, false, not, ◌==◌, ◌&&◌, if◌then◌else◌, List, [], ◌∷◌, Option}
+use Rattle.std.specs.Prelude.{Some, None, is_none, option_map}
 use Rattle.com_base.specs.declared.hresult.HResult.{HResult}
 use Rattle.com_base.specs.declared.value.RefValue.{RefValue}
 use Rattle.com_base.specs.declared.value.Value.{Value}
@@ -8,7 +9,8 @@ use Rattle.com_body.specs.declared.actions.Action.TheVariants as action
 use Rattle.com_classes.specs.Lookups.{method_at}
 use Rattle.com_model.specs.declared.deeds.Entry.{Entry}
 use Rattle.com_model.specs.declared.scenario.Scenario.{Scenario}
-use Rattle.com_model.specs.Answers.{S_OK, CO_E_NOTINITIALIZED, E_POINTER, E_NOINTERFACE, RPC_E_INVALIDMETHOD, RPC_E_DISCONNECTED}
+use Rattle.com_model.specs.Answers.{S_OK, CO_E_NOTINITIALIZED, E_POINTER, E_NOINTERFACE, RPC_E_INVALIDMETHOD}
+use Rattle.com_model.specs.Answers.{RPC_E_DISCONNECTED}
 use Rattle.com_model.specs.Lists.{number_or_zero}
 use Rattle.com_model.specs.Apartments.{home, running}
 use Rattle.com_model.specs.Objects.{owns}
@@ -51,8 +53,8 @@ abbrev pub at_issue : Scenario → List Entry → ℕ → HResult
 at_issue s [] c = S_OK
 at_issue s (e ∷ h) c = refusal_or s h (issues e.lane e.deed) c (at_issue s h c)
 
--- The argument values of a call at its Out, each as its declared kind; on the routes that marshal, a reference to an object
--- that is not connected is null.
+-- The argument values of a call at its Out, each as its declared kind; on the routes that marshal, a
+-- reference to an object that is not connected is null.
 abbrev pub own_values : Scenario → List Entry → Issue → (own : Bool) → List Value → List Value
 own_values s h i true before = out_values s (books s h) (is_marshalled i.route) (act s h i.lane)
 own_values s h i false before = before
@@ -65,7 +67,8 @@ abbrev pub sent : Scenario → List Entry → ℕ → List Value
 sent s [] c = []
 sent s (e ∷ h) c = values_or s h (issues e.lane e.deed) c (sent s h c)
 
--- What is still to be read of the values that a call sent: all, until an Enter takes them or an answer comes without one.
+-- What is still to be read of the values that a call sent: all, until an Enter takes them or an answer comes
+-- without one.
 abbrev pub unread_values : Option Admission → Option Ending → List Value → List Value
 unread_values None None vs = vs
 unread_values (Some a) x vs = []

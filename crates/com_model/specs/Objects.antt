@@ -1,5 +1,6 @@
 -- Objects: their making, owners and end. Where a new one is placed is `owner_for` of `com_classes`.
-use Rattle.std.specs.Prelude.{ℕ, ◌+◌, Bool, false, ◌==◌, ◌||◌, if◌then◌else◌, List, [], ◌∷◌, Option, Some, None}
+use Rattle.std.specs.Prelude.{ℕ, ◌+◌, Bool, false, ◌==◌, ◌||◌, if◌then◌else◌, List, [], ◌∷◌, Option, Some}
+use Rattle.std.specs.Prelude.{None}
 use Rattle.std.specs.Prelude.{option_map}
 use Rattle.com_body.specs.declared.operands.Asked.{Asked}
 use Rattle.com_body.specs.declared.operands.Asked.TheVariants as asked
@@ -38,7 +39,8 @@ abbrev pub objects : List Entry → ℕ
 objects [] = 0
 objects (e ∷ h) = one_more (makes e.deed) (objects h)
 
--- The apartment that the object's Made entry names; the neutral one for an agile object. It is the owner's number.
+-- The apartment that the object's Made entry names; the neutral one for an agile object. It is the owner's
+-- number.
 abbrev pub named : List Entry → ℕ → ℕ
 named h o = number_or_zero (option_map (λ (m : Making). m.apartment) (making h o))
 

@@ -1,8 +1,9 @@
 -- Histories, and what stands open in a lane.
 --
--- An entry is a lane and a deed. A history is a list of entries, the newest first. Each definition reads a deed through a
--- small effect of its own.
-use Rattle.std.specs.Prelude.{◌≡◌, ℕ, ◌+◌, Bool, true, false, ◌==◌, if◌then◌else◌, List, [], ◌∷◌, Option, Some, None}
+-- An entry is a lane and a deed. A history is a list of entries, the newest first. Each definition reads a
+-- deed through a small effect of its own.
+use Rattle.std.specs.Prelude.{◌≡◌, ℕ, ◌+◌, Bool, true, false, ◌==◌, if◌then◌else◌, List, [], ◌∷◌, Option}
+use Rattle.std.specs.Prelude.{Some, None}
 use Rattle.com_model.specs.declared.deeds.Deed.{Deed}
 use Rattle.com_model.specs.declared.deeds.Deed.TheVariants as deed
 use Rattle.com_model.specs.declared.deeds.Entry.{Entry}
@@ -15,7 +16,8 @@ pub data Closer : Type 0 where
   Backs : (call : ℕ) → Closer
   Leaves : (call : ℕ) → Closer
 
--- What a deed does to the openers of its lane. Source: the apartment's rules of pumping; an STA's bodies nest as one stack.
+-- What a deed does to the openers of its lane. Source: the apartment's rules of pumping; an STA's bodies nest
+-- as one stack.
 pub data Effect : Type 0 where
   Opens : Opener → Effect
   Closes : Closer → Effect

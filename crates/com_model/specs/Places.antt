@@ -1,5 +1,6 @@
 -- Places: where references are held, and in which apartment.
-use Rattle.std.specs.Prelude.{ℕ, ◌+◌, Bool, false, not, ◌==◌, ◌&&◌, if◌then◌else◌, List, Option, Some, None, sum_by}
+use Rattle.std.specs.Prelude.{ℕ, ◌+◌, Bool, false, not, ◌==◌, ◌&&◌, if◌then◌else◌, List, Option, Some, None}
+use Rattle.std.specs.Prelude.{sum_by}
 use Rattle.com_base.specs.declared.value.RefValue.{RefValue}
 use Rattle.com_base.specs.declared.value.Value.{Value}
 use Rattle.com_model.specs.declared.deeds.Entry.{Entry}
@@ -10,7 +11,8 @@ use Rattle.com_model.specs.Tables.{threads, lanes}
 use Rattle.com_model.specs.Openers.{Opener, Enters, openers}
 use Rattle.com_model.specs.Apartments.{home, apartments}
 use Rattle.com_model.specs.Objects.{objects, named, owns}
-use Rattle.com_model.specs.Calls.{Issue, Admission, Leaving, admitted, left, returned, issue, route_of, is_direct, calls}
+use Rattle.com_model.specs.Calls.{Issue, Admission, Leaving, admitted, left, returned, issue, route_of}
+use Rattle.com_model.specs.Calls.{is_direct, calls}
 use Rattle.com_model.specs.Frames.{Scene, value_reference}
 
 -- What the places of a moment rest on, beside the scene.

@@ -1,12 +1,15 @@
 -- The ten rules of a lane's next entry, and legal histories.
-use Rattle.std.specs.Prelude.{◌≡◌, ℕ, ◌-◌, Bool, true, false, not, ◌==◌, ◌&&◌, nat_le, nat_lt, if◌then◌else◌, List, [], ◌∷◌, length, map, filter_map, Option, Some, None, is_some, is_none, option_map, option_and_then}
+use Rattle.std.specs.Prelude.{◌≡◌, ℕ, ◌-◌, Bool, true, false, not, ◌==◌, ◌&&◌, nat_le, nat_lt, if◌then◌else◌}
+use Rattle.std.specs.Prelude.{List, [], ◌∷◌, length, map, filter_map, Option, Some, None, is_some, is_none}
+use Rattle.std.specs.Prelude.{option_map, option_and_then}
 use Rattle.com_body.specs.declared.actions.Action.{Action}
 use Rattle.com_filter.specs.declared.Verdict.{Verdict}
 use Rattle.com_model.specs.declared.deeds.Deed.{Deed}
 use Rattle.com_model.specs.declared.deeds.Deed.TheVariants as deed
 use Rattle.com_model.specs.declared.deeds.Entry.{Entry}
 use Rattle.com_model.specs.declared.scenario.Scenario.{Scenario}
-use Rattle.com_model.specs.Answers.{S_OK, RPC_E_OUT_OF_RESOURCES, RPC_E_SERVER_CANTUNMARSHAL_DATA, RPC_E_CLIENT_CANTUNMARSHAL_DATA}
+use Rattle.com_model.specs.Answers.{S_OK, RPC_E_OUT_OF_RESOURCES, RPC_E_SERVER_CANTUNMARSHAL_DATA}
+use Rattle.com_model.specs.Answers.{RPC_E_CLIENT_CANTUNMARSHAL_DATA}
 use Rattle.com_model.specs.Lists.{or_else, where_true, first, first_that, one_to, any_of, least}
 use Rattle.com_model.specs.Tables.{LaneSort, Thread, Host, Pool, NoLane, lane_sort, lanes}
 use Rattle.com_model.specs.Openers.{Opener, Pumps, Waits, Enters, open_calls}
@@ -39,8 +42,9 @@ due_of v c = option_map (answer_of (v.at_issue c)) (v.ending c)
 abbrev pub is_gone : Sight → ℕ → Bool
 is_gone v p = not (packet v.books p).outstanding
 
--- Admission of a call in a lane, by the first that applies: a refusal at 256 openers; the filter's verdict on a call posted to
--- an STA, where it is not Handled; a refusal where an argument's packet is not outstanding; an Enter.
+-- Admission of a call in a lane, by the first that applies: a refusal at 256 openers; the filter's verdict on
+-- a call posted to an STA, where it is not Handled; a refusal where an argument's packet is not outstanding;
+-- an Enter.
 abbrev pub posted_to_sta : Sight → ℕ → Bool
 posted_to_sta v c = is_post (route_of (v.issue c)) && is_sta (v.named (object_of (v.issue c)))
 
@@ -104,7 +108,8 @@ abbrev pub rule_bound : Sight → ℕ → Option Deed
 rule_bound v l = where_true (bound_reached (v.openers l) (v.served l)) deed.EndPump
 
 -- 5. The admission of the first call of the inbox. An STA's lane admits while its top is a pump or an Out of route post, the
--- host's also without opener; a pool lane only without opener. Source: the message queue of an STA, IMessageFilter.
+-- host's also without opener; a pool lane only without opener. Source: the message queue of an STA,
+-- IMessageFilter.
 abbrev pub is_open_to_calls : Sight → LaneSort → Option Opener → Bool
 is_open_to_calls v sort (Some (Pumps n)) = true
 is_open_to_calls v sort (Some (Waits c)) = is_post (route_of (v.issue c))
@@ -183,7 +188,8 @@ is_script_turn _ _ over = false
 abbrev pub rule_script : Scenario → Sight → ℕ → Option Deed
 rule_script s v l = where_true (is_script_turn (lane_sort s l) (top v l) (v.over l)) (scripted s v l (v.act l))
 
--- The next entry of a lane: the body's action where the top is an Enter, else the first of the ten rules that applies.
+-- The next entry of a lane: the body's action where the top is an Enter, else the first of the ten rules that
+-- applies.
 abbrev pub ruled : Scenario → Sight → ℕ → Option Deed
 ruled s v l =
     or_else (rule_final v l)
@@ -204,8 +210,8 @@ stepped s v l _ = ruled s v l
 abbrev pub lane_next : Scenario → Sight → ℕ → Option Deed
 lane_next s v l = stepped s v l (top v l)
 
--- The clock's lane, 0: where no lane can step and some call without answer waits for a time later than the clock, a Tick to the
--- least such time.
+-- The clock's lane, 0: where no lane can step and some call without answer waits for a time later than the
+-- clock, a Tick to the least such time.
 abbrev pub can_step : Scenario → Sight → ℕ → Bool
 can_step s v l = is_some (lane_next s v l)
 

@@ -1,6 +1,7 @@
--- The seven safety clauses. They hold of every prefix and entry of every legal history of a formed scenario. Six of them name
--- neither the ten rules nor their order.
-use Rattle.std.specs.Prelude.{◌≡◌, ℕ, ◌≤◌, Bool, true, false, not, ◌==◌, ◌||◌, List, [], ◌∷◌, Option, Some, None, option_map}
+-- The seven safety clauses. They hold of every prefix and entry of every legal history of a formed scenario.
+-- Six of them name neither the ten rules nor their order.
+use Rattle.std.specs.Prelude.{◌≡◌, ℕ, ◌≤◌, Bool, true, false, not, ◌==◌, ◌||◌, List, [], ◌∷◌, Option, Some}
+use Rattle.std.specs.Prelude.{None, option_map}
 use Rattle.com_model.specs.declared.deeds.Deed.{Deed}
 use Rattle.com_model.specs.declared.deeds.Deed.TheVariants as deed
 use Rattle.com_model.specs.declared.deeds.Entry.{Entry}
@@ -60,8 +61,8 @@ InServing s h l (_ ∷ os) = InServing s h l os
 abbrev pub Stacked : Scenario → List Entry → Type 0
 Stacked s h = (l : ℕ) → nested h l × InServing s h l (openers h l)
 
--- Who can make a deed: a body or a script, a script alone, or a rule. A packet is dropped by a statement or by a rule, and only
--- a statement's drop is refused.
+-- Who can make a deed: a body or a script, a script alone, or a rule. A packet is dropped by a statement or
+-- by a rule, and only a statement's drop is refused.
 pub data Maker : Type 0 where
   BodyOrScript : Maker
   ScriptAlone : Maker
@@ -103,8 +104,8 @@ abbrev pub OneStack : Scenario → List Entry → Type 0
 OneStack s h = EachPrefix (Stacked s) h × EachEntry (λ h l d. MadeOnTop (maker d) (openers h l)) h
 
 -- 3. Reentry: a call posted to an STA is admitted as the first of the inbox, above a pump, a waiting call, or nothing in the host's
--- lane; it carries its call type and the filter's answer. A call posted to the MTA is admitted by a pool lane without opener. A
--- direct or switched call is entered while its own Out is the top.
+-- lane; it carries its call type and the filter's answer. A call posted to the MTA is admitted by a pool lane
+-- without opener. A direct or switched call is entered while its own Out is the top.
 abbrev pub CanAdmit : Scenario → List Entry → ℕ → List Opener → Type 0
 CanAdmit s h l [] = lane_sort s l ≡ Host
 CanAdmit s h l (Pumps n ∷ os) = Unit {0}
@@ -133,8 +134,8 @@ abbrev pub Reentry : Scenario → List Entry → Type 0
 Reentry s h = EachEntry (Reenters s) h
 
 -- 4. Once: each call has one Out, at most one Enter, one Leave and one Back; Enter comes after Out, Leave after Enter, and Back
--- after Out. An Enter has the values that were sent; a Leave has what the body's step gives on its object's own cells; a Back
--- has the call's answer, and no Enter follows an answer.
+-- after Out. An Enter has the values that were sent; a Leave has what the body's step gives on its object's
+-- own cells; a Back has the call's answer, and no Enter follows an answer.
 pub data Event : Type 0 where
   IsOut : (call : ℕ) → Event
   IsEnter : (call : ℕ) → Event

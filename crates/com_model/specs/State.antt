@@ -1,6 +1,8 @@
--- What a core keeps, as tables: a field for each definition, one row for each lane, call or object. No field is a function;
--- functions are readings of the tables. Every step here is the step of the definition.
-use Rattle.std.specs.Prelude.{◌≡◌, ℕ, zero, suc, ◌+◌, ◌≤◌, Bool, true, false, not, ◌==◌, ◌&&◌, ◌||◌, if◌then◌else◌, List, [], ◌∷◌, ◌++◌, length, filter, Option, Some, None, is_some, is_none, option_map, slice_index_or, slice_set, pos}
+-- What a core keeps, as tables: a field for each definition, one row for each lane, call or object. No field
+-- is a function; functions are readings of the tables. Every step here is the step of the definition.
+use Rattle.std.specs.Prelude.{◌≡◌, ℕ, zero, suc, ◌+◌, ◌≤◌, Bool, true, false, not, ◌==◌, ◌&&◌, ◌||◌}
+use Rattle.std.specs.Prelude.{if◌then◌else◌, List, [], ◌∷◌, ◌++◌, length, filter, Option, Some, None, is_some}
+use Rattle.std.specs.Prelude.{is_none, option_map, slice_index_or, slice_set, pos}
 use Rattle.com_base.specs.declared.hresult.HResult.{HResult}
 use Rattle.com_base.specs.declared.value.Value.{Value}
 use Rattle.com_body.specs.declared.operands.Destination.{Destination}
@@ -12,22 +14,33 @@ use Rattle.com_model.specs.declared.deeds.Deed.TheVariants as deed
 use Rattle.com_model.specs.declared.deeds.Entry.{Entry}
 use Rattle.com_model.specs.declared.scenario.Scenario.{Scenario}
 use Rattle.com_model.specs.Answers.{S_OK, is_S_OK}
-use Rattle.com_model.specs.Lists.{or_else, where_true, without_first, first, is_member, number_or_zero, each_from, tabulated, from_one}
+use Rattle.com_model.specs.Lists.{or_else, where_true, without_first, first, is_member, number_or_zero}
+use Rattle.com_model.specs.Lists.{each_from, tabulated, from_one}
 use Rattle.com_books.specs.Counting.{count_if}
 use Rattle.com_model.specs.Tables.{lanes, threads, lane_sort, is_agile_class}
-use Rattle.com_model.specs.Openers.{Opener, Pumps, Effect, Opens, Closes, Keeps, Leaves, effect, opened, left_on, running_call, entered_apartment, openers, served}
-use Rattle.com_model.specs.Apartments.{HomeEffect, Initialises, Uninitialises, Remains, home_effect, home_after, home_by_sort, count_after, makes_sta, ends_sta, with_last, or_host, serves_by_sort, is_end, thread_home, init_count, stas, ended, made_in, over, next_sta}
+use Rattle.com_model.specs.Openers.{Opener, Pumps, Effect, Opens, Closes, Keeps, Leaves, effect, opened}
+use Rattle.com_model.specs.Openers.{left_on, running_call, entered_apartment, openers, served}
+use Rattle.com_model.specs.Apartments.{HomeEffect, Initialises, Uninitialises, Remains, home_effect}
+use Rattle.com_model.specs.Apartments.{home_after, home_by_sort, count_after, makes_sta, ends_sta, with_last}
+use Rattle.com_model.specs.Apartments.{or_host, serves_by_sort, is_end, thread_home, init_count, stas, ended}
+use Rattle.com_model.specs.Apartments.{made_in, over, next_sta}
 use Rattle.com_model.specs.Objects.{Making, makes, finals, making, objects, finaled}
-use Rattle.com_model.specs.Calls.{Issue, Admission, Leaving, issues, admits, leaves, returns, object_of, lane_of, is_marshalled, issue, admitted, left, returned, calls, causes}
-use Rattle.com_model.specs.Clock.{FilterEffect, Names, Keeps as KeepsFilter, ticked, filter_effect, in_made_sta, clock, issued_at, last_filter}
+use Rattle.com_model.specs.Calls.{Issue, Admission, Leaving, issues, admits, leaves, returns, object_of}
+use Rattle.com_model.specs.Calls.{lane_of, is_marshalled, issue, admitted, left, returned, calls, causes}
+use Rattle.com_model.specs.Clock.{FilterEffect, Names, Keeps as KeepsFilter, ticked, filter_effect}
+use Rattle.com_model.specs.Clock.{in_made_sta, clock, issued_at, last_filter}
 use Rattle.com_model.specs.Frames.{Scene, Actor, actor, scene_after, act_by, new_cells, scene}
-use Rattle.com_model.specs.Endings.{Ending, EndEffect, EndsCall, CutsObject, CutsSta, EndsNone, end_effect, ends, can_be_cut, is_leave, ending}
+use Rattle.com_model.specs.Endings.{Ending, EndEffect, EndsCall, CutsObject, CutsSta, EndsNone, end_effect}
+use Rattle.com_model.specs.Endings.{ends, can_be_cut, is_leave, ending}
 use Rattle.com_model.specs.Places.{Ground}
 use Rattle.com_books.specs.Changes.{Books}
 use Rattle.com_books.specs.declared.keeps.Packet.{Packet}
 use Rattle.com_books.specs.declared.keeps.Cookie.{Cookie}
 use Rattle.com_model.specs.Books.{most, closed, out_values, holders_in, books}
-use Rattle.com_model.specs.Waiting.{Phase, Queued, Judged, Delayed, GivenUp, PostEffect, Posts, Judges, Delays, GivesUp, PostsNone, Brings, Takes, Asks, Forgets, Unposted, Mail, no_mail, post_effect, is_queued, posted_last, mail_after, bound_reached, phase, postings, mail, quit_stands}
+use Rattle.com_model.specs.Waiting.{Phase, Queued, Judged, Delayed, GivenUp, PostEffect, Posts, Judges}
+use Rattle.com_model.specs.Waiting.{Delays, GivesUp, PostsNone, Brings, Takes, Asks, Forgets, Unposted, Mail}
+use Rattle.com_model.specs.Waiting.{no_mail, post_effect, is_queued, posted_last, mail_after, bound_reached}
+use Rattle.com_model.specs.Waiting.{phase, postings, mail, quit_stands}
 use Rattle.com_model.specs.Dying.{is_entered, is_dying_by, fallen_more, fallen}
 use Rattle.com_model.specs.Issue.{action_refusal, or_ok, at_issue, unread}
 use Rattle.com_model.specs.Sight.{Sight}
@@ -363,8 +376,8 @@ endings_by st (EndsCall c x) t = changed_from_one (Some (λ y. or_else y (Some x
 endings_by st (CutsObject o) t = each_from (λ c y. or_else y (ends_in st (CutsObject o) c)) 1 t
 endings_by st (CutsSta a) t = each_from (λ c y. or_else y (ends_in st (CutsSta a) c)) 1 t
 
--- The tables of lanes, apartments, objects and calls. What the entry changes in a table is looked at first: a table that it keeps
--- is the same.
+-- The tables of lanes, apartments, objects and calls. What the entry changes in a table is looked at first: a
+-- table that it keeps is the same.
 abbrev pub tables_after : Scenario → State → Entry → State
 tables_after s st e =
     record st {
@@ -476,8 +489,8 @@ after_entry s st e = after_by s st (tables_after s st e) (unread_after s st e) e
 abbrev pub after : Scenario → State → (lane : ℕ) → Deed → State
 after s st l d = after_entry s st (record { lane = l; deed = d })
 
--- The state before the first entry: a row for each lane and each buffer, and none of a call or an object but the unused one of
--- number 0.
+-- The state before the first entry: a row for each lane and each buffer, and none of a call or an object but
+-- the unused one of number 0.
 abbrev pub first_tables : Scenario → State
 first_tables s = record {
   openers = tabulated (lanes s + 1) (λ l. []);
@@ -598,9 +611,9 @@ pub record StandsFor (s : Scenario) (st : State) (h : List Entry) : Type 0 where
   pub clock : st.clock ≡ clock h
   pub entries : st.entries ≡ length h
 
--- Nothing stands outside of the numbers that were given by then: scripts are threads', bodies and packets are those of calls that
--- were issued, cells and public references those of objects that were made, by declared interfaces, and a proxy's those of an
--- apartment; there are 64 buffers.
+-- Nothing stands outside of the numbers that were given by then: scripts are threads', bodies and packets are
+-- those of calls that were issued, cells and public references those of objects that were made, by declared
+-- interfaces, and a proxy's those of an apartment; there are 64 buffers.
 pub record Bounded (s : Scenario) (h : List Entry) : Type 0 where
   pub scripts : (l : ℕ) → threads s + 1 ≤ l → (scene s h).scripts l ≡ entered []
   pub bodies : (c : ℕ) → calls h + 1 ≤ c → (scene s h).bodies c ≡ entered []

@@ -1,5 +1,7 @@
--- What a scenario declares: its lanes, scripts and filters, and what its tables of interfaces and classes have.
-use Rattle.std.specs.Prelude.{ℕ, zero, suc, ◌+◌, Bool, false, ◌==◌, ◌&&◌, nat_le, if◌then◌else◌, List, [], Option, Some, None, option_map, slice_index_or, length}
+-- What a scenario declares: its lanes, scripts and filters, and what its tables of interfaces and classes
+-- have.
+use Rattle.std.specs.Prelude.{ℕ, zero, suc, ◌+◌, Bool, false, ◌==◌, ◌&&◌, nat_le, if◌then◌else◌, List, []}
+use Rattle.std.specs.Prelude.{Option, Some, None, option_map, slice_index_or, length}
 use Rattle.com_base.specs.declared.value.Kind.{Kind}
 use Rattle.com_body.specs.declared.operands.Asked.{Asked}
 use Rattle.com_body.specs.declared.operands.Asked.TheVariants as asked
@@ -11,7 +13,8 @@ use Rattle.com_classes.specs.Lookups.{class_at, interface_at, find_class, find_i
 use Rattle.com_filter.specs.declared.Rule.{Rule}
 use Rattle.com_model.specs.declared.scenario.Scenario.{Scenario}
 
--- The sorts of lanes. Lane 0 is the clock; then come the threads in their order, the host STA's lane, and the pool's.
+-- The sorts of lanes. Lane 0 is the clock; then come the threads in their order, the host STA's lane, and the
+-- pool's.
 pub data LaneSort : Type 0 where
   Thread : LaneSort
   Host : LaneSort
@@ -43,8 +46,9 @@ abbrev pub script : Scenario → ℕ → List Stmt
 script s zero = []
 script s (suc l) = slice_index_or s.threads l []
 
--- Filters count from 1, as classes do; interfaces from 0, which is IUnknown. What stands under a number, and an object's
--- interface set, are `interface_at`, `class_at`, `method_at`, `body_of` and `has_interface` of `com_classes`.
+-- Filters count from 1, as classes do; interfaces from 0, which is IUnknown. What stands under a number, and
+-- an object's interface set, are `interface_at`, `class_at`, `method_at`, `body_of` and `has_interface` of
+-- `com_classes`.
 abbrev pub filter_rules : Scenario → ℕ → List Rule
 filter_rules s zero = []
 filter_rules s (suc f) = slice_index_or s.filters f []

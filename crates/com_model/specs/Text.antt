@@ -1,5 +1,6 @@
 -- The text of a history, one line for each entry, and the text of the report behind it.
-use Rattle.std.specs.Prelude.{ℕ, ◌+◌, ◌/◌, ◌%◌, ◌^◌, ◌==◌, List, [], ◌∷◌, ◌++◌, length, true, false, Option, Some, None, unwrap_or, if◌then◌else◌, codes, decimal, slice_index}
+use Rattle.std.specs.Prelude.{ℕ, ◌+◌, ◌/◌, ◌%◌, ◌^◌, ◌==◌, List, [], ◌∷◌, ◌++◌, length, true, false, Option}
+use Rattle.std.specs.Prelude.{Some, None, unwrap_or, if◌then◌else◌, codes, decimal, slice_index}
 use Rattle.std.specs.Fmt.{signed_decimal}
 use Rattle.std.specs.List.{flat_map}
 use Rattle.hex.specs.Hex.{encode_lower, upper_digits}

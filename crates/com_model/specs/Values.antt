@@ -1,5 +1,6 @@
 -- Values that calls carry, and their bytes.
-use Rattle.std.specs.Prelude.{ℕ, Bool, true, if◌then◌else◌, List, [], ◌∷◌, ◌++◌, Option, Some, None, length, replicate}
+use Rattle.std.specs.Prelude.{ℕ, Bool, true, if◌then◌else◌, List, [], ◌∷◌, ◌++◌, Option, Some, None, length}
+use Rattle.std.specs.Prelude.{replicate}
 use Rattle.std.specs.Int.{w32}
 use Rattle.com_base.specs.declared.guid.Guid.{Guid}
 use Rattle.com_base.specs.declared.hresult.HResult.{HResult}
@@ -33,7 +34,8 @@ sent_values m live [] vs = []
 sent_values m live (k ∷ ks) [] = default_of k ∷ sent_values m live ks []
 sent_values m live (k ∷ ks) (v ∷ vs) = sent_value m live k v ∷ sent_values m live ks vs
 
--- The result of a body: none on failure or where none is declared; else the given value, or the kind's default.
+-- The result of a body: none on failure or where none is declared; else the given value, or the kind's
+-- default.
 abbrev pub given_or_default : Kind → Option Value → Value
 given_or_default k None = default_of k
 given_or_default k (Some v) = v

@@ -1,5 +1,6 @@
 -- Calls that wait to be entered, words, and quits.
-use Rattle.std.specs.Prelude.{ℕ, zero, suc, ◌+◌, ℤ, pos, negsuc, Bool, true, false, not, ◌==◌, ◌&&◌, nat_lt, nat_le, if◌then◌else◌, List, [], ◌∷◌, ◌++◌, Option, Some, None, filter, is_none}
+use Rattle.std.specs.Prelude.{ℕ, zero, suc, ◌+◌, ℤ, pos, negsuc, Bool, true, false, not, ◌==◌, ◌&&◌, nat_lt}
+use Rattle.std.specs.Prelude.{nat_le, if◌then◌else◌, List, [], ◌∷◌, ◌++◌, Option, Some, None, filter, is_none}
 use Rattle.com_base.specs.declared.hresult.HResult.{HResult}
 use Rattle.com_filter.specs.declared.Verdict.{Verdict}
 use Rattle.com_model.specs.declared.deeds.Deed.{Deed}
@@ -19,8 +20,9 @@ pub use Rattle.com_model.specs.declared.keeps.Word.{Word}
 pub use Rattle.com_model.specs.declared.keeps.Phase.{Phase}
 pub use Rattle.com_model.specs.declared.keeps.Phase.TheVariants.{Unposted, Queued, Judged, Delayed, GivenUp}
 
--- What a deed does to a posted call: an Out by post, an Again, and a Retry of 0 to 99 post it at the inbox's end; a Verdict
--- judges it; a Retry of 100 and more lets it wait until the clock has grown by that number; one below 0 gives it up.
+-- What a deed does to a posted call: an Out by post, an Again, and a Retry of 0 to 99 post it at the inbox's
+-- end; a Verdict judges it; a Retry of 100 and more lets it wait until the clock has grown by that number;
+-- one below 0 gives it up.
 pub data PostEffect : Type 0 where
   Posts : (call : ℕ) → PostEffect
   Judges : (call : ℕ) → Verdict → PostEffect
@@ -63,8 +65,8 @@ abbrev pub postings : List Entry → List ℕ
 postings [] = []
 postings (e ∷ h) = posted_last (post_effect e.deed) (postings h)
 
--- The inbox of an apartment: the posted calls to its objects that have no Enter, no answer and no Verdict since their last
--- posting, in the order of that posting.
+-- The inbox of an apartment: the posted calls to its objects that have no Enter, no answer and no Verdict
+-- since their last posting, in the order of that posting.
 abbrev pub waits_in : Scenario → List Entry → ℕ → ℕ → Bool
 waits_in s h a c =
     named h (target h c) == a && (is_queued (phase h c) && (is_none (admitted h c) && is_none (ending s h c)))
@@ -72,8 +74,8 @@ waits_in s h a c =
 abbrev pub inbox : Scenario → List Entry → ℕ → List ℕ
 inbox s h a = filter (waits_in s h a) (postings h)
 
--- A lane's words, each with its number among all that were posted to the lane, from 1; and for each open Out of the lane the
--- number of the word that it was last asked about, 0 at first: one mark at most for each.
+-- A lane's words, each with its number among all that were posted to the lane, from 1; and for each open Out
+-- of the lane the number of the word that it was last asked about, 0 at first: one mark at most for each.
 pub record Mail : Type 0 where
   pub posted : ℕ
   pub words : List Word
@@ -90,8 +92,9 @@ mark_of (m ∷ ms) c = if m.call == c then m.number else mark_of ms c
 abbrev pub without_mark : ℕ → List Mark → List Mark
 without_mark c ms = filter (λ (m : Mark). not (m.call == c)) ms
 
--- A Post with S_OK brings a word; a Word takes the first; a Pending asks about the first that its Out was not asked about yet,
--- and takes that word where its answer is 2, PENDINGMSG_WAITDEFPROCESS; a Back forgets the mark of its call.
+-- A Post with S_OK brings a word; a Word takes the first; a Pending asks about the first that its Out was not
+-- asked about yet, and takes that word where its answer is 2, PENDINGMSG_WAITDEFPROCESS; a Back forgets the
+-- mark of its call.
 pub data MailEffect : Type 0 where
   Brings : ℤ → MailEffect
   Takes : MailEffect
@@ -139,8 +142,8 @@ bound_reached (Pumps zero ∷ os) n = false
 bound_reached (Pumps (suc k) ∷ os) n = nat_le (suc k) n
 bound_reached _ n = false
 
--- A quit stands for a lane where a Quit to it with S_OK is younger than the last EndPump that was made because a quit stood. An
--- EndPump by the bound leaves it standing.
+-- A quit stands for a lane where a Quit to it with S_OK is younger than the last EndPump that was made
+-- because a quit stood. An EndPump by the bound leaves it standing.
 pub data QuitEffect : Type 0 where
   Stands : QuitEffect
   Ends : QuitEffect

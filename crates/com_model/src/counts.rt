@@ -11,8 +11,8 @@ pub enum ObjectState {
     Released,
 }
 
-/// An object's class, owner and state, and its counted references: the direct ones, the public ones of proxies, of
-/// normal packets, and of strong packets and cookies, and their sum at the stub.
+/// An object's class, owner and state, and its counted references: the direct ones, the public ones of
+/// proxies, of normal packets, and of strong packets and cookies, and their sum at the stub.
 #[derive(Debug, Clone, Copy, PartialEq, Eq)]
 pub struct Counts {
     /// The number of its class, from 1.

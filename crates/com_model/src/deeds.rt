@@ -35,8 +35,9 @@ impl Route {
 
 /// What one entry of a history says was done.
 ///
-/// Apartments, objects, calls, packets and cookies are their numbers, and `None` stands for what is absent. A class or
-/// interface is its number wherever it is declared. A filter is its number from 1. `hr` is the HRESULT that was answered.
+/// Apartments, objects, calls, packets and cookies are their numbers, and `None` stands for what is absent. A
+/// class or interface is its number wherever it is declared. A filter is its number from 1. `hr` is the
+/// HRESULT that was answered.
 #[derive(Debug, Drop)]
 pub enum Deed {
     /// A lane was initialised. `home` is its apartment afterwards.
@@ -45,7 +46,8 @@ pub enum Deed {
         home: u32,
         hr: HResult,
     },
-    /// A lane was uninitialised. `home` is its apartment before, and `count` what is left of its initialisations.
+    /// A lane was uninitialised. `home` is its apartment before, and `count` what is left of its
+    /// initialisations.
     Uninit {
         home: Option<u32>,
         count: u32,
@@ -163,7 +165,8 @@ pub enum Deed {
         call: u32,
         hr: HResult,
     },
-    /// A body was entered in this apartment with these argument values. `call_type` is there for a call posted to an STA.
+    /// A body was entered in this apartment with these argument values. `call_type` is there for a call
+    /// posted to an STA.
     Enter {
         call: u32,
         object: u32,
@@ -193,7 +196,8 @@ pub enum Deed {
         hr: HResult,
         value: Option<Value>,
     },
-    /// A waiting caller's filter was asked about a word: 0 cancels the call, 1 leaves the word, 2 takes it away.
+    /// A waiting caller's filter was asked about a word: 0 cancels the call, 1 leaves the word, 2 takes it
+    /// away.
     Pending {
         call: u32,
         word: i64,
@@ -217,7 +221,8 @@ pub enum Deed {
 }
 
 impl Deed {
-    /// The HRESULT that whoever acts is given by the entry: the one in it, and S_OK where the action is never refused.
+    /// The HRESULT that whoever acts is given by the entry: the one in it, and S_OK where the action is never
+    /// refused.
     pub fn answer(&self) -> HResult
         ensures { result ≡ answer_in self.now }
     {

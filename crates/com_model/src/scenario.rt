@@ -8,8 +8,8 @@ use com_body::Body;
 use com_classes::Classes;
 use com_filter::Filter;
 
-/// A scenario: the version of its language, 1 or 2, the number of pool lanes, the classes and interfaces, the filters in
-/// order, each thread's script, and the lanes that the schedule tries first.
+/// A scenario: the version of its language, 1 or 2, the number of pool lanes, the classes and interfaces, the
+/// filters in order, each thread's script, and the lanes that the schedule tries first.
 #[derive(Drop)]
 pub struct Scenario {
     /// The version of the language, 1 or 2. It says how long a history may be, and how an HRESULT is printed.
@@ -27,7 +27,8 @@ pub struct Scenario {
 }
 
 impl Scenario {
-    /// How many entries a history of the scenario may have: 200,000 in version 1 of the language, 1,000,000 in version 2.
+    /// How many entries a history of the scenario may have: 200,000 in version 1 of the language, 1,000,000
+    /// in version 2.
     pub fn limit(&self) -> u64
         ensures { result ≡ limit self.now }
     {

@@ -21,7 +21,8 @@ abbrev pub held_by_openers : Scene → List Opener → List Moving
 held_by_openers w [] = []
 held_by_openers w (o ∷ os) = held_by_opener w o ++ held_by_openers w os
 
--- Slots of scripts, slots of open bodies, links of objects, and results of direct calls that left and are not back.
+-- Slots of scripts, slots of open bodies, links of objects, and results of direct calls that left and are not
+-- back.
 abbrev pub all_held : Scenario → Ground → Scene → List Moving
 all_held s g w =
     over_below (threads s + 1) (λ l. all_moved (g.home l) (w.scripts l).slots)

@@ -1,5 +1,7 @@
--- The reference that an action's entry writes at a place, what slots and links hold after it, and the moves that it makes.
-use Rattle.std.specs.Prelude.{◌≡◌, ℕ, zero, ◌≤◌, Bool, true, false, not, ◌&&◌, ◌==◌, if◌then◌else◌, List, [], ◌∷◌, ◌++◌, map, Option, Some, None, length, slice_index_or, slice_set}
+-- The reference that an action's entry writes at a place, what slots and links hold after it, and the moves
+-- that it makes.
+use Rattle.std.specs.Prelude.{◌≡◌, ℕ, zero, ◌≤◌, Bool, true, false, not, ◌&&◌, ◌==◌, if◌then◌else◌, List, []}
+use Rattle.std.specs.Prelude.{◌∷◌, ◌++◌, map, Option, Some, None, length, slice_index_or, slice_set}
 use Rattle.com_base.specs.declared.value.RefValue.{RefValue}
 use Rattle.com_base.specs.declared.value.Value.{Value}
 use Rattle.com_body.specs.declared.actions.Action.{Action}
@@ -19,7 +21,8 @@ use Rattle.com_model.specs.Calls.{is_direct, route_of}
 use Rattle.com_model.specs.Frames.{Actor, Body, Script, Nobody, taken_in, value_reference}
 use Rattle.com_model.specs.Places.{Ground, left_value}
 use Rattle.com_model.specs.State.{SceneTables}
-use Rattle.com_places.specs.Moves.{Move as Moving, Moves as Movings, no_moves, together, moved, all_moved, entered_where, slots_where, result_moved}
+use Rattle.com_places.specs.Moves.{Move as Moving, Moves as Movings, no_moves, together, moved, all_moved}
+use Rattle.com_places.specs.Moves.{entered_where, slots_where, result_moved}
 use Rattle.com_state.specs.Parts.{CallTables, issue_at, admission_at}
 use Rattle.com_state.specs.SceneParts.{script_at, body_at, cells_at, destination_at}
 use Rattle.com_scene.specs.Kept.{HasSlots}

@@ -1,6 +1,7 @@
-//! The moves of an entry by its kind: what the action writes, what the entry brings and takes beside that, and what the end of an STA
-//! takes. All is read before anything is changed.
-ghost use Rattle.std.specs.Prelude.{◌≡◌, ℕ, Option, length, ◌++◌, ◌&&◌, not, false, [], ◌==◌, OnOk, OnErr, Some, None, if◌then◌else◌};
+//! The moves of an entry by its kind: what the action writes, what the entry brings and takes beside that,
+//! and what the end of an STA takes. All is read before anything is changed.
+ghost use Rattle.std.specs.Prelude.{◌≡◌, ℕ, Option, length, ◌++◌, ◌&&◌, not, false, [], ◌==◌, OnOk, OnErr};
+ghost use Rattle.std.specs.Prelude.{Some, None, if◌then◌else◌};
 ghost use Rattle.com_body.specs.Frames.{references};
 ghost use Rattle.com_model.specs.Apartments.{ends_sta};
 ghost use Rattle.com_model.specs.Calls.{is_direct, route_of};
@@ -12,8 +13,10 @@ ghost use Rattle.com_scene.specs.Actors.{acting_of};
 ghost use Rattle.com_scene.specs.Ranges.{FitsDeed};
 ghost use Rattle.com_state.specs.Parts.{ObjectTables, admission_at, issue_at, named_at};
 ghost use Rattle.com_state.specs.SceneParts.{destination_at};
-ghost use Rattle.com_moves.specs.Steps.{acted_stepped, arrived_stepped, ended_stepped, given_moves, result_at, links_of_step};
-ghost use Rattle.com_moves.specs.Steps.{step_moves, slots_stepped, links_stepped, moves_stepped, FrameWhole, IsWhole, BodiesWhole};
+ghost use Rattle.com_moves.specs.Steps.{acted_stepped, arrived_stepped, ended_stepped, given_moves};
+ghost use Rattle.com_moves.specs.Steps.{result_at, links_of_step};
+ghost use Rattle.com_moves.specs.Steps.{step_moves, slots_stepped, links_stepped, moves_stepped, FrameWhole};
+ghost use Rattle.com_moves.specs.Steps.{IsWhole, BodiesWhole};
 ghost use Rattle.com_moves.specs.Tables.{ground_at};
 
 use crate::moves::Moves;
@@ -38,7 +41,8 @@ fn entered_where(calls: &Calls, call: u32) -> Option<u32>
 
 // The apartment of the slots of whoever acts.
 fn slots_where(home: Option<u32>, calls: &Calls, acting: Actor) -> Option<u32>
-    ensures { (o : ObjectTables) → result ≡ slots_where (ground_at home o calls.now.tables) (acting_of acting) }
+    ensures { (o : ObjectTables)
+        → result ≡ slots_where (ground_at home o calls.now.tables) (acting_of acting) }
 {
     match acting {
         Actor::Body { call, .. } => entered_where(calls, call),
@@ -47,9 +51,11 @@ fn slots_where(home: Option<u32>, calls: &Calls, acting: Actor) -> Option<u32>
     }
 }
 
-// Whether the result of a call is at a place from its Leave to its Back: that of a direct call that is not back.
+// Whether the result of a call is at a place from its Leave to its Back: that of a direct call that is not
+// back.
 fn keeps_result(calls: &Calls, call: u32) -> bool
-    ensures { result ≡ (is_direct (route_of (issue_at calls.now.tables call)) && not (from_one calls.now.tables.returned call false)) }
+    ensures { result ≡ (is_direct (route_of (issue_at calls.now.tables call)) && not
+        (from_one calls.now.tables.returned call false)) }
 {
     let Some(issue) = calls.issue(call) else {
         return false;
@@ -112,7 +118,8 @@ impl Moves {
     ) -> Result<(), Memory>
         requires { IsWhole (Some outcome.now) }
         ensures { OnOk result (self.new
-            ≡ together self.old (step_moves (ground_at home objects.now calls.now.tables) (acting_of acting) outcome.now written)) }
+            ≡ together self.old (step_moves (ground_at home objects.now calls.now.tables)
+            (acting_of acting) outcome.now written)) }
     {
         let Some(Written { place, held }) = written else {
             return Ok(());
@@ -145,7 +152,8 @@ impl Moves {
         requires deed { FitsDeed deed.now }
         requires outcome { IsWhole outcome.now }
         ensures { OnOk result (self.new
-            ≡ together self.old (acted_stepped (ground_at home objects.now calls.now.tables) (acting_of acting) outcome.now deed.now)) }
+            ≡ together self.old (acted_stepped (ground_at home objects.now calls.now.tables)
+            (acting_of acting) outcome.now deed.now)) }
     {
         let Some(outcome) = outcome else {
             return Ok(());
@@ -300,7 +308,11 @@ impl Moves {
     // A body is entered with values.
     fn enter(&mut self, apartment: u32, values: &[Value]) -> Result<(), Memory>
         ensures { OnOk result (self.new
-            ≡ together self.old (record { lost = []; gained = all_moved (Some apartment) (references values.now) })) }
+            ≡ together self.old (record {
+              lost = [];
+              gained = all_moved (Some apartment)
+                  (references values.now);
+            })) }
     {
         self.gain_values(Some(apartment), values)
     }
@@ -367,7 +379,8 @@ impl Moves {
         requires outcome { IsWhole outcome.now }
         requires bodies { BodiesWhole scene.now }
         requires after { FrameWhole scene.now (acting_of after) }
-        ensures { OnOk result (self.new ≡ together self.old (arrived_stepped (ground_at home objects.now calls.now.tables)
+        ensures { OnOk result (self.new
+            ≡ together self.old (arrived_stepped (ground_at home objects.now calls.now.tables)
             scene.now (acting_of acting) outcome.now (acting_of after) lane deed.now)) }
     {
         match deed {
@@ -429,7 +442,8 @@ impl Moves {
         deed: &Deed,
     ) -> Result<(), Memory>
         requires { FitsDeed deed.now }
-        ensures { OnOk result (self.new ≡ together self.old (ended_stepped (ground_at home objects.now calls.now.tables)
+        ensures { OnOk result (self.new
+            ≡ together self.old (ended_stepped (ground_at home objects.now calls.now.tables)
             scene.now (acting_of acting) outcome.now deed.now (ends_sta deed.now))) }
     {
         let Some(apartment) = ended_sta(deed) else {
@@ -455,7 +469,8 @@ impl Moves {
         requires outcome { IsWhole outcome.now }
         requires bodies { BodiesWhole scene.now }
         requires after { FrameWhole scene.now (acting_of after) }
-        ensures { OnOk result (self.new ≡ together self.old (moves_stepped (ground_at home objects.now calls.now.tables)
+        ensures { OnOk result (self.new
+            ≡ together self.old (moves_stepped (ground_at home objects.now calls.now.tables)
             scene.now (acting_of acting) outcome.now (acting_of after) entry.now)) }
     {
         self.act(home, objects, calls, acting, outcome, &entry.deed)?;
@@ -473,9 +488,9 @@ impl Moves {
         self.end(home, objects, calls, scene, acting, outcome, &entry.deed)
     }
 
-    /// Fills the lists anew with all that an entry takes from places and brings to them, by the tables before the entry: the
-    /// home of its lane, who acts and with which outcome, and who acts in the lane after it. `Memory`: no memory was left, and
-    /// the lists are empty.
+    /// Fills the lists anew with all that an entry takes from places and brings to them, by the tables before
+    /// the entry: the home of its lane, who acts and with which outcome, and who acts in the lane after it.
+    /// `Memory`: no memory was left, and the lists are empty.
     pub fn fill(
         &mut self,
         home: Option<u32>,

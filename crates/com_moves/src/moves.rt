@@ -15,8 +15,9 @@ pub struct Move {
     pub reference: RefValue,
 }
 
-/// What an entry takes from places and brings to places: slots of scripts and of open bodies, links of objects, and results of
-/// direct calls that left and are not back. Both lists keep their room from entry to entry.
+/// What an entry takes from places and brings to places: slots of scripts and of open bodies, links of
+/// objects, and results of direct calls that left and are not back. Both lists keep their room from entry to
+/// entry.
 #[derive(Debug, Drop)]
 pub struct Moves {
     lost: Vec<Move>,
@@ -103,7 +104,8 @@ impl Moves {
 
     // An apartment gains what comes to a place.
     pub fn gain(&mut self, apartment: Option<u32>, held: Option<RefValue>) -> Result<(), Memory>
-        ensures { OnOk result (self.new ≡ record self.old { gained = self.old.gained ++ moved apartment held }) }
+        ensures { OnOk result (self.new
+            ≡ record self.old { gained = self.old.gained ++ moved apartment held }) }
     {
         put(&mut self.gained, apartment, held)
     }
@@ -141,7 +143,10 @@ impl Moves {
     // An apartment gains what a value holds.
     fn gain_value(&mut self, apartment: Option<u32>, value: &Value) -> Result<(), Memory>
         ensures { OnOk result (self.new
-            ≡ record self.old { gained = self.old.gained ++ all_moved apartment (references (value.now ∷ [])) }) }
+            ≡ record self.old {
+              gained = self.old.gained ++ all_moved apartment (references
+                  (value.now ∷ []));
+            }) }
     {
         match value {
             Value::Ref(held) => self.gain(apartment, *held),

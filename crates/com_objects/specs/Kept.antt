@@ -1,5 +1,6 @@
 -- What is kept of objects beside what contracts see.
-use Rattle.std.specs.Prelude.{◌≡◌, ℕ, ◌<◌, ◌≤◌, ◌^◌, zero, suc, Bool, false, List, length, map, Option, Some, None, slice_get}
+use Rattle.std.specs.Prelude.{◌≡◌, ℕ, ◌<◌, ◌≤◌, ◌^◌, zero, suc, Bool, false, List, length, map, Option, Some}
+use Rattle.std.specs.Prelude.{None, slice_get}
 use Rattle.com_model.specs.declared.keeps.Making.{Making}
 use Rattle.com_model.specs.Lists.{from_one, is_member}
 use Rattle.com_objects.specs.declared.objects.Row.{Row}

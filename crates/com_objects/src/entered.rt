@@ -1,5 +1,6 @@
 //! How many bodies of each object run.
-ghost use Rattle.std.specs.Prelude.{◌≡◌, ◌+◌, ◌-◌, ◌<◌, ◌^◌, [], ◌∷◌, ◌++◌, not, ◌==◌, OnOk, OnErr, slice_index_or, slice_set};
+ghost use Rattle.std.specs.Prelude.{◌≡◌, ◌+◌, ◌-◌, ◌<◌, ◌^◌, [], ◌∷◌, ◌++◌, not, ◌==◌, OnOk, OnErr};
+ghost use Rattle.std.specs.Prelude.{slice_index_or, slice_set};
 
 use com_base::Memory;
 use std::alloc::Global;

@@ -5,7 +5,9 @@
 //! The numbers, and what of them is written into the OBJREF, are this project's.
 #![tactic(auto)]
 
-ghost use Rattle.std.specs.Prelude.{◌≡◌, ◌+◌, ◌<◌, ◌≤◌, ◌^◌, ℕ, [], ◌∷◌, ◌++◌, length, slice_index, OnOk, OnErr, IfOk, IsOk, IfSome, IfNone, IsTrue, ◌↔◌, Some, None, option_copied};
+ghost use Rattle.std.specs.Prelude.{◌≡◌, ◌+◌, ◌<◌, ◌≤◌, ◌^◌, ℕ, [], ◌∷◌, ◌++◌, length, slice_index, OnOk};
+ghost use Rattle.std.specs.Prelude.{OnErr, IfOk, IsOk, IfSome, IfNone, IsTrue, ◌↔◌, Some, None};
+ghost use Rattle.std.specs.Prelude.{option_copied};
 ghost use Rattle.std.specs.Int.{from_le_bytes, w64};
 ghost use Rattle.com_slots.specs.Table.{held_in, with_entry};
 ghost use Rattle.com_packets.specs.Written.{written_fields, IsNamed, cut_entries};
@@ -56,7 +58,8 @@ impl Packet {
 
     // The packet is of the interface, and the fields are what is written of it with this number.
     fn is_written(&self, number: u32, fields: &StdFields, iface: u16) -> bool
-        ensures { IsTrue result ↔ ((self.now.iface ≡ iface) × (written_fields self.now number fields.now.iid ≡ fields.now)) }
+        ensures { IsTrue result ↔ ((self.now.iface ≡ iface)
+            × (written_fields self.now number fields.now.iid ≡ fields.now)) }
     {
         self.iface == iface && self.fields(number, fields.iid) == *fields
     }
@@ -108,7 +111,9 @@ impl Model for Packets {
 // Ends all packets of the object.
 fn end_all(slots: &mut Slots<Packet>, chains: &Chains, object: u32)
     requires as_many { length chains.now.keys ≡ length slots.old.entries }
-    requires keyed { (place : ℕ) → IfSome (entry_at slots.old.entries place) (λ packet. packet.object ≡ slice_index chains.now.keys place) }
+    requires keyed { (place : ℕ)
+        → IfSome (entry_at slots.old.entries place) (λ packet. packet.object
+        ≡ slice_index chains.now.keys place) }
     requires fits { length slots.old.entries ≤ 4294967295 }
     ensures entries { slots.new.entries ≡ cut_entries object slots.old.entries }
     ensures limit { slots.new.limit ≡ slots.old.limit }
@@ -138,7 +143,9 @@ fn normal_at(slots: &Slots<Packet>, number: u32) -> u32
 // The public references of the outstanding normal packets of the object.
 fn sum_normal(slots: &Slots<Packet>, chains: &Chains, object: u32) -> u64
     requires as_many { length chains.now.keys ≡ length slots.now.entries }
-    requires keyed { (place : ℕ) → IfSome (entry_at slots.now.entries place) (λ packet. packet.object ≡ slice_index chains.now.keys place) }
+    requires keyed { (place : ℕ)
+        → IfSome (entry_at slots.now.entries place) (λ packet. packet.object
+        ≡ slice_index chains.now.keys place) }
     requires fits { length slots.now.entries ≤ 4294967295 }
     ensures { result ≡ normal_sum object slots.now.entries }
 {
@@ -206,8 +213,10 @@ impl Packets {
     /// they name none.
     pub fn find(&self, fields: &StdFields, iface: u16) -> Option<u32>
         ensures some { IfSome result (IsNamed self.now.entries fields.now iface) }
-        ensures only { IfSome result (λ number. (other : ℕ) → other < 2 ^ 32 → IsNamed self.now.entries fields.now iface other → other ≡ number) }
-        ensures none { IfNone result ((number : ℕ) → number < 2 ^ 32 → IsNamed self.now.entries fields.now iface number → ⊥) }
+        ensures only { IfSome result (λ number. (other : ℕ) → other < 2 ^ 32
+            → IsNamed self.now.entries fields.now iface other → other ≡ number) }
+        ensures none { IfNone result ((number : ℕ) → number < 2 ^ 32
+            → IsNamed self.now.entries fields.now iface number → ⊥) }
     {
         let Some(number) = number_in(fields.ipid.data4) else {
             return None;

@@ -4,7 +4,8 @@ use Rattle.com_calls.specs.Kept.{Kept}
 use Rattle.com_model.specs.State.{SceneTables}
 use Rattle.com_state.specs.Parts.{LaneTables, ObjectTables}
 
--- The tables of lanes, of objects, of calls with their inboxes and of the scene; and how many entries have changed them.
+-- The tables of lanes, of objects, of calls with their inboxes and of the scene; and how many entries have
+-- changed them.
 pub record PartTables : Type 0 where
   pub lanes : LaneTables
   pub objects : ObjectTables

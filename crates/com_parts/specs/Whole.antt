@@ -12,8 +12,8 @@ pub record Counted (t : LaneTables) (n : ℕ) : Type 0 where
   pub posted : (l : ℕ) → (slice_index_or t.mail l no_mail).posted ≤ n
   pub stas : length t.stas ≤ n
 
--- Each entry counts at most one more of each sort; the apartment that is kept of a call is that of its target; and each call's
--- target was made.
+-- Each entry counts at most one more of each sort; the apartment that is kept of a call is that of its
+-- target; and each call's target was made.
 pub record IsWhole (l : LaneTables) (o : ObjectTables) (b : Kept) (n : ℕ) : Type 0 where
   pub few : n ≤ 2 ^ 28
   pub counted : Counted l n

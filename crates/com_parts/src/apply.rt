@@ -23,16 +23,16 @@ use com_objects::Objects;
 /// The most entries that change the parts, far above the limit of entries of a scenario.
 const MOST_ENTRIES: u32 = 0x1000_0000;
 
-/// The answer where an entry is none that the rules give: one that names a call, an object or an apartment that there is not,
-/// or a number beyond its range. That no core asks for one is not proved here.
+/// The answer where an entry is none that the rules give: one that names a call, an object or an apartment
+/// that there is not, or a number beyond its range. That no core asks for one is not proved here.
 fn unproved() -> Result<(), Memory>
     ensures { OnOk result ⊥ }
 {
     Err(Memory)
 }
 
-/// The lanes and the objects after an entry: no entry changes both. The only error is want of memory, and then nothing has
-/// changed.
+/// The lanes and the objects after an entry: no entry changes both. The only error is want of memory, and
+/// then nothing has changed.
 fn change_rows(
     lanes: &mut Lanes,
     objects: &mut Objects,
@@ -87,9 +87,9 @@ impl Parts {
         )
     }
 
-    /// Makes of the parts what an entry makes of them. The only error is want of memory; then the lanes, the objects and the
-    /// calls are as they were, and the scene is so or is that after the entry: where a lane or an object wants a row when
-    /// the scene has changed.
+    /// Makes of the parts what an entry makes of them. The only error is want of memory; then the lanes, the
+    /// objects and the calls are as they were, and the scene is so or is that after the entry: where a lane
+    /// or an object wants a row when the scene has changed.
     pub fn apply(&mut self, change: Change<'_>) -> Result<(), Memory>
         requires frame { FitsFrame (acting_of change.acting) change.outcome }
         ensures lanes { OnOk result (self.new.lanes ≡ lanes_after self.old.lanes

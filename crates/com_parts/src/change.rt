@@ -25,7 +25,8 @@ pub struct Change<'a> {
     pub outcome: Option<Outcome>,
     /// Who acts in the lane after the entry.
     pub after: Actor,
-    /// Whether the caller's lane of the call that the entry names has a message filter. Only a Verdict reads it.
+    /// Whether the caller's lane of the call that the entry names has a message filter. Only a Verdict reads
+    /// it.
     pub filtered: bool,
     /// The clock before the entry, in milliseconds.
     pub clock: u64,

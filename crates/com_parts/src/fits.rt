@@ -39,7 +39,8 @@ pub(crate) fn fits(
     has_time(deed, clock) && fits_deed(deed)
 }
 
-// Whether the apartment that an entry makes is the next one, and the one that it ends was made or is the host's.
+// Whether the apartment that an entry makes is the next one, and the one that it ends was made or is the
+// host's.
 fn names_stas(lanes: &Lanes, deed: &Deed) -> bool
     requires { length lanes.now.stas + 4 ≤ 2 ^ 32 }
     ensures { IsTrue result → NamesStas lanes.now deed.now }

@@ -1,5 +1,6 @@
 //! What the calls make of an entry.
-ghost use Rattle.std.specs.Prelude.{◌≡◌, ◌+◌, ◌<◌, ◌^◌, ℕ, List, Option, IsTrue, IsSome, is_some, length, IfOk, OnOk};
+ghost use Rattle.std.specs.Prelude.{◌≡◌, ◌+◌, ◌<◌, ◌^◌, ℕ, List, Option, IsTrue, IsSome, is_some, length};
+ghost use Rattle.std.specs.Prelude.{IfOk, OnOk};
 ghost use Rattle.com_calls.specs.Kept.{IsNamed, with_call, with_room, with_tables};
 ghost use Rattle.com_calls.specs.Steps.{delay_of, out_entry};
 ghost use Rattle.com_model.specs.Calls.{issues, object_of};
@@ -14,7 +15,8 @@ use com_calls::{Calls, Issued};
 use com_model::{Deed, Issue};
 use com_objects::Objects;
 
-/// What the calls are given beside an entry: what an Out issues, the apartment of its target, and the value of a Leave.
+/// What the calls are given beside an entry: what an Out issues, the apartment of its target, and the value
+/// of a Leave.
 #[derive(Drop)]
 pub(crate) struct Given {
     pub issued: Option<Sent>,
@@ -40,8 +42,8 @@ pub(crate) fn target_of(objects: &Objects, deed: &Deed) -> u32
     }
 }
 
-/// Room for the call that an entry issues, to an object of this apartment. The only error is want of memory, and then
-/// nothing has changed.
+/// Room for the call that an entry issues, to an object of this apartment. The only error is want of memory,
+/// and then nothing has changed.
 pub(crate) fn make_room(calls: &mut Calls, deed: &Deed, apartment: u32) -> Result<(), Memory>
     requires { length calls.old.tables.issues + 1 < 2 ^ 32 }
     ensures kept { calls.new ≡ with_room calls.old calls.new.room calls.new.inboxes }
@@ -65,8 +67,8 @@ fn room_for(calls: &mut Calls, apartment: u32) -> Result<(), Memory>
     calls.reserve(apartment)
 }
 
-/// What the calls are given beside an entry, where a call that is issued goes to an object of this apartment. The only
-/// error is want of memory.
+/// What the calls are given beside an entry, where a call that is issued goes to an object of this apartment.
+/// The only error is want of memory.
 pub(crate) fn given_to(deed: &Deed, apartment: u32, issued: Option<Sent>) -> Result<Given, Memory>
     ensures has { IfOk result (λ given. HasIssued deed.now given.issued) }
     ensures value { IfOk result (λ given. given.value ≡ left_in deed.now) }

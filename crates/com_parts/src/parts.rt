@@ -103,8 +103,8 @@ impl Parts {
     }
 }
 
-// How many lanes a scenario has beside the clock's: one for each thread, the host's and the pool's. `None` only where a
-// number of 32 bits does not hold that.
+// How many lanes a scenario has beside the clock's: one for each thread, the host's and the pool's. `None`
+// only where a number of 32 bits does not hold that.
 fn lanes_of(scenario: &Scenario) -> Option<u32>
     ensures { IfSome result (λ count. count ≡ lanes scenario.now) }
 {

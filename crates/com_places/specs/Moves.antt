@@ -1,6 +1,8 @@
--- What an entry takes from places and brings to places, in which apartment. A place is a slot of a script, a slot of an open body's
--- frame, a link of an object, or the result of a direct call that left and is not back.
-use Rattle.std.specs.Prelude.{◌≡◌, ℕ, zero, ◌+◌, not, ◌==◌, ◌&&◌, if◌then◌else◌, List, [], ◌∷◌, ◌++◌, Option, Some, None, option_map, slice_index_or, sum_by}
+-- What an entry takes from places and brings to places, in which apartment. A place is a slot of a script, a
+-- slot of an open body's frame, a link of an object, or the result of a direct call that left and is not
+-- back.
+use Rattle.std.specs.Prelude.{◌≡◌, ℕ, zero, ◌+◌, not, ◌==◌, ◌&&◌, if◌then◌else◌, List, [], ◌∷◌, ◌++◌, Option}
+use Rattle.std.specs.Prelude.{Some, None, option_map, slice_index_or, sum_by}
 use Rattle.com_base.specs.declared.value.RefValue.{RefValue}
 use Rattle.com_base.specs.declared.value.Value.{Value}
 use Rattle.com_body.specs.declared.frame.Outcome.{Outcome}
@@ -16,7 +18,9 @@ use Rattle.com_model.specs.Apartments.{ends_sta}
 use Rattle.com_model.specs.Calls.{is_direct, route_of}
 use Rattle.com_model.specs.Objects.{class_of}
 use Rattle.com_model.specs.Calls.{issue}
-use Rattle.com_model.specs.Frames.{Scene, scene, Actor, Body, Script, Nobody, actor_in, Write, ToRegister, ToSlot, ToLink, ToBuffer, writes, to_answer, to_destination, value_reference, with_frame, written, acted, arrived, acting, outcome}
+use Rattle.com_model.specs.Frames.{Scene, scene, Actor, Body, Script, Nobody, actor_in, Write, ToRegister}
+use Rattle.com_model.specs.Frames.{ToSlot, ToLink, ToBuffer, writes, to_answer, to_destination}
+use Rattle.com_model.specs.Frames.{value_reference, with_frame, written, acted, arrived, acting, outcome}
 use Rattle.com_model.specs.Places.{Ground, ground, Test, places_that, left_value}
 
 -- A reference that an apartment loses or gains at a place.

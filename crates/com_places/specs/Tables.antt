@@ -24,7 +24,8 @@ abbrev pub table_moves : Scenario → State → (lane : ℕ) → Deed → Moves
 table_moves s st l d =
     moves_by s (class_in st) (ground_in s st) (scene_in st) (actor_of s st l) (actor_of s (after s st l d) l) l d
 
--- What an apartment holds by the tables after an entry, with what it lost, is what it held by those before it, with what it gained.
+-- What an apartment holds by the tables after an entry, with what it lost, is what it held by those before
+-- it, with what it gained.
 abbrev pub TablesMove : Scenario → State → (lane : ℕ) → Deed → Type 0
 TablesMove s st l d =
     (a : ℕ) (t : Test)

@@ -1,8 +1,9 @@
--- What the entries of one worked history take from places and bring to places: a thread's STA passes a counter to a relay in the MTA,
--- which keeps it in a link and calls it back.
+-- What the entries of one worked history take from places and bring to places: a thread's STA passes a
+-- counter to a relay in the MTA, which keeps it in a link and calls it back.
 use Rattle.std.specs.Prelude.{◌≡◌, ℕ, List, [], ◌∷◌}
 use Rattle.com_model.specs.declared.deeds.Entry.{Entry}
-use Rattle.com_model.specs.Cases.{callback, callback_2, callback_3, callback_5, callback_6, callback_7, callback_11, callback_16, callback_18, callback_19, callback_20}
+use Rattle.com_model.specs.Cases.{callback, callback_2, callback_3, callback_5, callback_6, callback_7}
+use Rattle.com_model.specs.Cases.{callback_11, callback_16, callback_18, callback_19, callback_20}
 use Rattle.com_places.specs.Moves.{Move, Moves, no_moves, entry_moves}
 
 -- The moves of the newest entry.
@@ -19,9 +20,10 @@ takes ms = record { lost = ms; gained = [] }
 abbrev brings : List Move → Moves
 brings ms = record { lost = []; gained = ms }
 
--- The counter is made in the STA a3, and the relay in the MTA, a1, by a reference to it in a3. The counter comes to a1 with the
--- relay's first call, goes to its link too, and leaves its frame. The second call takes it from the link to a slot, and leaves. The
--- script's slots go with its home, and the relay's link with its Final; the counter has no links.
+-- The counter is made in the STA a3, and the relay in the MTA, a1, by a reference to it in a3. The counter
+-- comes to a1 with the relay's first call, goes to its link too, and leaves its frame. The second call takes
+-- it from the link to a slot, and leaves. The script's slots go with its home, and the relay's link with its
+-- Final; the counter has no links.
 pub record WorkedMoves : Type 0 where
   pub made_counter : last_moves callback_2 ≡ brings (move 3 1 1 ∷ [])
   pub made_relay : last_moves callback_3 ≡ brings (move 3 2 2 ∷ [])

@@ -48,11 +48,12 @@ fn add(
     Ok(())
 }
 
-/// Makes the one history of a scenario's schedule, entry by entry, and writes its lines and the report to the sink: exactly the text
-/// and the report of that history (`ok`). The answer is how it ended, how many entries it has and its time (`answer`).
+/// Makes the one history of a scenario's schedule, entry by entry, and writes its lines and the report to the
+/// sink: exactly the text and the report of that history (`ok`). The answer is how it ended, how many entries
+/// it has and its time (`answer`).
 ///
-/// The row has one servant of each kind, in the order of the kinds. Each entry that a body made is a step of the servant of its
-/// class's kind (`served`), and every place keeps its kind (`row`).
+/// The row has one servant of each kind, in the order of the kinds. Each entry that a body made is a step of
+/// the servant of its class's kind (`served`), and every place keeps its kind (`row`).
 ///
 /// `WriteFault` comes only where the sink's count of faults rose in this call, and `Memory` is want of memory. Whatever is answered,
 /// what was written is a prefix of that text (`prefix`); after either, servants may have counted steps.
@@ -71,14 +72,16 @@ pub fn replay<K: Sink>(
     ensures served { OnOk result (map stepped servants.new.items
         ≡ whole_served (arc_value scenario) (map stepped servants.old.items)) }
     ensures row { map kind_of servants.new.items ≡ row }
-    ensures fault { result ≡ Err replay_error.WriteFault → Rose (K.faults_of sink.old) (K.faults_of sink.new) }
+    ensures fault { result ≡ Err replay_error.WriteFault
+        → Rose (K.faults_of sink.old) (K.faults_of sink.new) }
     ensures counts { K.faults_of sink.old ≤ K.faults_of sink.new }
 {
     let mut core = Core::new(alloc, scenario.clone()?)?;
     drive(alloc, &*scenario, &mut core, servants, sink)
 }
 
-/// A replay by a row of servants of its own, which have made no step: what `replay` says of the text and the answer.
+/// A replay by a row of servants of its own, which have made no step: what `replay` says of the text and the
+/// answer.
 #[tactic(auto, using(com_io::proofs::Passing::prefix_of_none))]
 pub fn play<K: Sink>(
     alloc: Global,
@@ -89,7 +92,8 @@ pub fn play<K: Sink>(
     ensures ok { OnOk result (Gains (K.held sink.old) (K.held sink.new) (whole_text scenario)) }
     ensures answer { IfOk result (λ replayed. IsReplay scenario replayed) }
     ensures prefix { GainsPrefix (K.held sink.old) (K.held sink.new) (whole_text scenario) }
-    ensures fault { result ≡ Err replay_error.WriteFault → Rose (K.faults_of sink.old) (K.faults_of sink.new) }
+    ensures fault { result ≡ Err replay_error.WriteFault
+        → Rose (K.faults_of sink.old) (K.faults_of sink.new) }
     ensures counts { K.faults_of sink.old ≤ K.faults_of sink.new }
 {
     let scenario = shared(alloc, scenario)?;

@@ -12,7 +12,8 @@ use Rattle.com_body.specs.declared.frame.Outcome.{Outcome}
 use Rattle.com_body.specs.Frames.{FrameView, with_register, with_slot}
 use Rattle.com_body.specs.BodySteps.{body_step}
 
--- A copy and a release put a reference at a place of the frame or of the object, and answer S_OK in register 15.
+-- A copy and a release put a reference at a place of the frame or of the object, and answer S_OK in register
+-- 15.
 abbrev pub in_frame : Place → Option RefValue → FrameView → FrameView
 in_frame (place.Slot k) held f = with_slot (with_register f 15 (value.Int (pos 0))) k held
 in_frame (place.Link k) held f = with_register f 15 (value.Int (pos 0))
@@ -21,7 +22,8 @@ abbrev pub in_cells : Place → Option RefValue → Cells → Cells
 in_cells (place.Slot k) held c = c
 in_cells (place.Link k) held c = record c { links = slice_set c.links k held }
 
--- The first action that is no copy and no release, with the frame and the cells at it; so many of these may come before it.
+-- The first action that is no copy and no release, with the frame and the cells at it; so many of these may
+-- come before it.
 abbrev pub goes_on : (FrameView → Cells → Outcome) → Outcome → Action → Outcome
 goes_on next r (action.Copy to held) = next (in_frame to held r.frame) (in_cells to held r.cells)
 goes_on next r (action.Release from held) = next (in_frame from None r.frame) (in_cells from None r.cells)

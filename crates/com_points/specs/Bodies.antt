@@ -1,7 +1,7 @@
 -- The bodies of an event source: `advise`, `unadvise` and `fire`.
 --
--- A source keeps up to four sinks. Link 0 to 3 is a sink, and the cell of the same number is its cookie, 0 where there is none.
--- Cell 4 is the cookie that was given last.
+-- A source keeps up to four sinks. Link 0 to 3 is a sink, and the cell of the same number is its cookie, 0
+-- where there is none. Cell 4 is the cookie that was given last.
 use Rattle.std.specs.Prelude.{ℕ, ◌+◌, ◌-◌, ◌*◌, pos, List, [], ◌∷◌, ◌++◌}
 use Rattle.com_base.specs.declared.hresult.HResult.{HResult}
 use Rattle.com_base.specs.declared.value.Value.TheVariants as value
@@ -47,8 +47,8 @@ leave_register r = leave_with ok (given.Op (register r))
 
 -- ---- advise
 
--- Takes the cell and the link with this number, if the cell is 0: the new cookie goes into the cell and into cell 4, and the
--- argument into the link.
+-- Takes the cell and the link with this number, if the cell is 0: the new cookie goes into the cell and into
+-- cell 4, and the argument into the link.
 abbrev pub take_place : ℕ → List Stmt
 take_place i =
     stmt.Load 1 i ∷ stmt.SkipZero 1 1 ∷ stmt.Skip 4 ∷ stmt.Store i (register 2) ∷ stmt.Store 4 (register 2)
@@ -86,9 +86,10 @@ look_at i =
     stmt.Load 1 i ∷ stmt.Less 2 (register 5) (register 1) ∷ stmt.SkipZero 2 2
     ∷ stmt.Copy (place.Slot 0) (place.Link i) ∷ stmt.Skip (16 - 5 * i) ∷ []
 
--- One event. Register 4 is the last cookie when the event began, register 5 the cookie that was reached, and register 6 how
--- many events were sent. Where no cookie is above the one that was reached, or the first such cookie is above the last one,
--- the body leaves with the number of events. Else the sink gets the event, by `ICounter.add` with the argument of `fire`.
+-- One event. Register 4 is the last cookie when the event began, register 5 the cookie that was reached, and
+-- register 6 how many events were sent. Where no cookie is above the one that was reached, or the first such
+-- cookie is above the last one, the body leaves with the number of events. Else the sink gets the event, by
+-- `ICounter.add` with the argument of `fire`.
 abbrev pub send_event : List Stmt
 send_event =
     stmt.Less 2 (register 4) (register 1) ∷ stmt.SkipZero 2 1 ∷ leave_register 6 ∷ stmt.Set 5 (register 1) ∷ stmt.Add 6 (int 1)

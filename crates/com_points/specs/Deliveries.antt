@@ -24,8 +24,8 @@ pub record IsEvent (s : Scenario) (h : List Entry) (object iface call : ℕ) : T
   pub source : IsSource s (class_of h object) iface
   pub fires : is_on (issue h call) object iface fire ≡ true
 
--- The cookies of the sinks that got an event rise, and none is above the last cookie of the call: none got it twice, and none
--- that was advised after the call was entered got it.
+-- The cookies of the sinks that got an event rise, and none is above the last cookie of the call: none got it
+-- twice, and none that was advised after the call was entered got it.
 abbrev pub InOrder : List Entry → Type 0
 InOrder h = (o i c : ℕ) → Rising 0 (last h o i c) (visited h o i c)
 
@@ -35,7 +35,8 @@ NonePassed s h =
     (l c o a i : ℕ) (x : Sink) → Stands (Enters c o a) (openers h l) → IsEvent s h o i c → Held x (sinks h o i)
     → x.cookie ≤ reached (visited h o i c) → Held x (visited h o i c)
 
--- Where the body leaves, each sink that was advised before the call was entered, and that the source still keeps, got the event.
+-- Where the body leaves, each sink that was advised before the call was entered, and that the source still
+-- keeps, got the event.
 abbrev pub AllGot : Scenario → List Entry → ℕ → Deed → Type 0
 AllGot s h l (deed.Leave c hr v bytes) =
     (o i : ℕ) (x : Sink) → IsEvent s h o i c → Held x (sinks h o i) → x.cookie ≤ last h o i c → Held x (visited h o i c)

@@ -1,10 +1,12 @@
 -- The sinks of a source after a history, and what each call of `fire` has to do.
 --
--- A sink is taken by the Leave of `advise` with S_OK, under the result as its cookie, and lost by the Leave of `unadvise` with
--- S_OK. For a call of `fire` the last cookie is how many sinks the source had taken before the call was entered. The Outs of
--- its body go, one after another, each to the first sink that the source has before it, whose cookie is above that of the Out
--- before it and at most the last one. Where there is none the body leaves, with the number of its Outs as result.
-use Rattle.std.specs.Prelude.{◌≡◌, ℕ, ◌+◌, ℤ, pos, Bool, true, false, ◌&&◌, ◌==◌, if◌then◌else◌, List, [], ◌∷◌, ◌++◌, length, Option, Some, None}
+-- A sink is taken by the Leave of `advise` with S_OK, under the result as its cookie, and lost by the Leave
+-- of `unadvise` with S_OK. For a call of `fire` the last cookie is how many sinks the source had taken before
+-- the call was entered. The Outs of its body go, one after another, each to the first sink that the source
+-- has before it, whose cookie is above that of the Out before it and at most the last one. Where there is
+-- none the body leaves, with the number of its Outs as result.
+use Rattle.std.specs.Prelude.{◌≡◌, ℕ, ◌+◌, ℤ, pos, Bool, true, false, ◌&&◌, ◌==◌, if◌then◌else◌, List, []}
+use Rattle.std.specs.Prelude.{◌∷◌, ◌++◌, length, Option, Some, None}
 use Rattle.com_base.specs.declared.hresult.HResult.{HResult}
 use Rattle.com_base.specs.declared.value.RefValue.{RefValue}
 use Rattle.com_base.specs.declared.value.Value.{Value}

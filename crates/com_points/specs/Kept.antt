@@ -1,10 +1,12 @@
 -- How the cells of a source keep its sinks.
-use Rattle.std.specs.Prelude.{◌≡◌, ℕ, zero, suc, ◌≤◌, ◌<◌, ◌^◌, ℤ, pos, List, [], ◌∷◌, ◌++◌, Option, None, length}
+use Rattle.std.specs.Prelude.{◌≡◌, ℕ, zero, suc, ◌≤◌, ◌<◌, ◌^◌, ℤ, pos, List, [], ◌∷◌, ◌++◌, Option, None}
+use Rattle.std.specs.Prelude.{length}
 use Rattle.com_base.specs.declared.value.RefValue.{RefValue}
 use Rattle.com_body.specs.declared.frame.Cells.{Cells}
 use Rattle.com_points.specs.Sinks.{Sink}
 
--- The first n cookies of the sinks, 0 where there are no more, and the first n references, null where there are no more.
+-- The first n cookies of the sinks, 0 where there are no more, and the first n references, null where there
+-- are no more.
 abbrev pub cookies : ℕ → List Sink → List ℤ
 cookies zero xs = []
 cookies (suc n) [] = pos 0 ∷ cookies n []

@@ -22,8 +22,8 @@ pub record Leaves (r : Outcome) (hr : HResult) (given : Option Value) (sinks : L
   pub action : r.action ≡ action.Leave hr given
   pub keeps : Keeps r.cells sinks last
 
--- A frame of `fire` with so many events behind it, before it looks for the next sink: the argument, the last cookie that was
--- given when the body began, and the cookie that was reached, 0 before the first event.
+-- A frame of `fire` with so many events behind it, before it looks for the next sink: the argument, the last
+-- cookie that was given when the body began, and the cookie that was reached, 0 before the first event.
 abbrev pub round_place : ℕ → ℕ
 round_place sent = 3 + 27 * sent
 
@@ -40,7 +40,8 @@ pub record AtRound (f : FrameView) (sent : ℕ) (event : Value) (last reached : 
     slots = slot ∷ slots;
   }
 
--- What `fire` does first comes to what it does from the first round, whose frame has the cookie that was given last.
+-- What `fire` does first comes to what it does from the first round, whose frame has the cookie that was
+-- given last.
 pub record Begins (c : Cells) (n : ℤ) (last : ℕ) : Type 0 where
   pub frame : FrameView
   pub at_round : AtRound frame 0 (value.Int n) last 0

@@ -1,4 +1,5 @@
--- A body that makes no call, in a history: it comes to what it comes to by itself, from its arguments and the cells at its Enter.
+-- A body that makes no call, in a history: it comes to what it comes to by itself, from its arguments and the
+-- cells at its Enter.
 use Rattle.std.specs.Prelude.{◌≡◌, ℕ, true, false, ◌==◌, if◌then◌else◌, List, [], ◌∷◌, Option, Some}
 use Rattle.com_base.specs.declared.hresult.HResult.{HResult}
 use Rattle.com_base.specs.declared.value.Value.{Value}

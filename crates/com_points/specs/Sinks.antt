@@ -1,8 +1,9 @@
 -- The sinks of a source, and which of them gets an event next.
 --
--- Each sink that a source has taken stands under a cookie. The cookies are given out in rising order from 1, so the list of
--- sinks, in the order in which they were taken, is also in the order of their cookies.
-use Rattle.std.specs.Prelude.{ℕ, ℤ, pos, Bool, true, false, ◌&&◌, nat_lt, nat_le, List, [], ◌∷◌, Option, Some, None, if◌then◌else◌}
+-- Each sink that a source has taken stands under a cookie. The cookies are given out in rising order from 1,
+-- so the list of sinks, in the order in which they were taken, is also in the order of their cookies.
+use Rattle.std.specs.Prelude.{ℕ, ℤ, pos, Bool, true, false, ◌&&◌, nat_lt, nat_le, List, [], ◌∷◌, Option, Some}
+use Rattle.std.specs.Prelude.{None, if◌then◌else◌}
 use Rattle.std.specs.Int.{w64, int_wrapping_sub}
 use Rattle.std.specs.Ordering.{int_eq}
 use Rattle.com_base.specs.declared.value.RefValue.{RefValue}

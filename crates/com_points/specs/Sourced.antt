@@ -27,8 +27,8 @@ pub record SourceRuns (s : Scenario) (class iface : ℕ) : Type 0 where
   pub fires : body_of s.classes class iface fire ≡ fire_body
   pub not_agile : is_agile_class s class ≡ false
 
--- Where a call's body leaves by itself with an answer and some sinks in the cells, its Leave in the history has the answer, and
--- the cells keep these sinks after it.
+-- Where a call's body leaves by itself with an answer and some sinks in the cells, its Leave in the history
+-- has the answer, and the cells keep these sinks after it.
 abbrev pub SinksAfter : Scenario → List Entry → Entry → Type 0
 SinksAfter s h e =
     (c o a : ℕ) (os : List Opener) (i : Issue) (n : ℕ) (hr : HResult) (given : Option Value) (sinks : List Sink) (last : ℕ)

@@ -1,5 +1,6 @@
 -- Which classes of a scenario are event sources.
-use Rattle.std.specs.Prelude.{◌≡◌, ℕ, zero, suc, ◌==◌, if◌then◌else◌, List, [], ◌∷◌, Option, Some, None, codes, ◌⊎◌}
+use Rattle.std.specs.Prelude.{◌≡◌, ℕ, zero, suc, ◌==◌, if◌then◌else◌, List, [], ◌∷◌, Option, Some, None}
+use Rattle.std.specs.Prelude.{codes, ◌⊎◌}
 use Rattle.com_base.specs.declared.guid.Guid.{Guid}
 use Rattle.com_base.specs.declared.value.Kind.TheVariants as kind
 use Rattle.com_body.specs.declared.frame.Native.TheVariants as native
@@ -40,7 +41,8 @@ pub record IsPoint (i : Interface) : Type 0 where
   pub iid : i.iid ≡ point_iid
   pub methods : i.methods ≡ point_methods
 
--- The body of each method of an interface: the three of the source's own interface have these, and no other has one.
+-- The body of each method of an interface: the three of the source's own interface have these, and no other
+-- has one.
 abbrev pub point_body : ℕ → Option (List Stmt)
 point_body zero = Some advise_body
 point_body (suc zero) = Some unadvise_body
@@ -50,8 +52,8 @@ point_body _ = None
 abbrev pub source_body : (own iface method : ℕ) → Option (List Stmt)
 source_body i j m = if j == i then point_body m else None
 
--- A source: a class of bodies whose model puts its objects in an STA, whose one declared interface, with this number, is that
--- of a source, and whose bodies are these.
+-- A source: a class of bodies whose model puts its objects in an STA, whose one declared interface, with this
+-- number, is that of a source, and whose bodies are these.
 pub record IsSourceClass (s : Scenario) (k : Class) (iface : ℕ) : Type 0 where
   pub model : IsStaModel k.model
   pub native : k.native ≡ native.Bodies

@@ -48,8 +48,8 @@ IsLeave _ c hr x = ⊥
 abbrev pub result_of : Scenario → List Entry → Issue → HResult → Option Value → Option Value
 result_of s h i hr x = sent_result (is_marshalled i.route) (books s h).live hr (result_kind (method_at s.classes i.iface i.method)) x
 
--- What the entry of each action is, and the frame and the cells after it: those of the step, and what a copy or a release puts
--- at its place.
+-- What the entry of each action is, and the frame and the cells after it: those of the step, and what a copy
+-- or a release puts at its place.
 abbrev pub StepsBy : Scenario → List Entry → (call object : ℕ) → Issue → Outcome → Deed → Scene → Action → Type 0
 StepsBy s h c o i r d w (action.Copy to held) =
     (d ≡ deed.Copy held) × (w.bodies c ≡ in_frame to held r.frame) × (w.cells o ≡ in_cells to held r.cells)
@@ -71,7 +71,8 @@ abbrev pub acts_on : Actor → (object : ℕ) → Bool
 acts_on (Body c x) o = o == x
 acts_on _ o = false
 
--- The cells of an object stay, unless a body of it acts, it has its Final, or the STA in which it was made ends.
+-- The cells of an object stay, unless a body of it acts, it has its Final, or the STA in which it was made
+-- ends.
 abbrev pub CellsStay : Scenario → List Entry → Entry → Type 0
 CellsStay s h e =
     (o : ℕ) → acts_on (actor_in s h e.lane) o ≡ false → is_number o (finals e.deed) ≡ false
@@ -86,8 +87,9 @@ body_for s h o i = body_of s.classes (class_of h o) i.iface i.method
 abbrev pub left_alone : Scenario → List Entry → (call object : ℕ) → Issue → (steps : ℕ) → Outcome
 left_alone s h c o i n = alone (body_for s h o i) (suc n) ((scene s h).bodies c) ((scene s h).cells o)
 
--- Where the entry is a copy or a release, the body on top goes on with what it had left to do by itself. Where it is an Out or a
--- Leave, the body had come to this action by itself, and the cells are those that it leaves.
+-- Where the entry is a copy or a release, the body on top goes on with what it had left to do by itself.
+-- Where it is an Out or a Leave, the body had come to this action by itself, and the cells are those that it
+-- leaves.
 abbrev pub GoesOn : Scenario → List Entry → Entry → (call object : ℕ) → Issue → (steps : ℕ) → Action → Type 0
 GoesOn s h e c o i n (action.Copy to held) =
     alone (body_for s h o i) n ((scene s (e ∷ h)).bodies c) ((scene s (e ∷ h)).cells o) ≡ left_alone s h c o i n
@@ -132,7 +134,8 @@ with_result _ v f = f
 abbrev pub returned_to : Destination → HResult → Option Value → FrameView → FrameView
 returned_to to hr v f = with_result to v (with_register f 15 (value.Int (pos hr.0)))
 
--- A call that comes back writes its answer and its result, and nothing else, into the frame of the body that had waited for it.
+-- A call that comes back writes its answer and its result, and nothing else, into the frame of the body that
+-- had waited for it.
 abbrev pub BackWrites : Scenario → List Entry → Entry → Type 0
 BackWrites s h e =
     (d c o : ℕ) (hr : HResult) (v : Option Value) → e.deed ≡ deed.Back d hr v → actor_in s h e.lane ≡ Nobody

@@ -1,7 +1,8 @@
 //! Event sources after IConnectionPoint: what their bodies do, stated on functions that do nothing.
 #![tactic(auto)]
 
-ghost use Rattle.std.specs.Prelude.{◌≡◌, ◌↔◌, ◌⊎◌, ℕ, ◌+◌, ◌≤◌, ◌<◌, ◌^◌, ℤ, pos, int_lt, true, false, length, List, [], ◌∷◌, ◌++◌, Some, None};
+ghost use Rattle.std.specs.Prelude.{◌≡◌, ◌↔◌, ◌⊎◌, ℕ, ◌+◌, ◌≤◌, ◌<◌, ◌^◌, ℤ, pos, int_lt, true, false};
+ghost use Rattle.std.specs.Prelude.{length, List, [], ◌∷◌, ◌++◌, Some, None};
 ghost use Rattle.com_base.specs.declared.value.RefValue.{RefValue};
 ghost use Rattle.com_base.specs.declared.value.Value.{Value};
 ghost use Rattle.com_base.specs.declared.value.Value.TheVariants as value;
@@ -19,7 +20,8 @@ ghost use Rattle.com_points.specs.Histories.{Delivered};
 ghost use Rattle.com_points.specs.Sourced.{SourceRuns, SinksAfter};
 ghost use Rattle.com_points.specs.Sources.{IsSource};
 ghost use Rattle.com_points.specs.Steps.{OwnStep, GoesAlone, CellsStay, FramesStay, BackWrites};
-ghost use Rattle.com_points.specs.Bodies.{ok, e_pointer, no_connection, advise_limit, advise_body, unadvise_body, fire_body};
+ghost use Rattle.com_points.specs.Bodies.{ok, e_pointer, no_connection, advise_limit, advise_body};
+ghost use Rattle.com_points.specs.Bodies.{unadvise_body, fire_body};
 ghost use Rattle.com_points.specs.Fitting.{GivenFit};
 ghost use Rattle.com_points.specs.Kept.{Keeps};
 ghost use Rattle.com_points.specs.Rounds.{number, Leaves, AtRound, Begins, Fires};
@@ -35,9 +37,15 @@ ghost use Rattle.com_points.specs.Sinks.{Sink, is_cookie, has_cookie, without, f
 /// cookie is the result. The cells of a new object keep no sinks (`fresh`).
 pub fn advising()
     ensures fresh { Keeps new_cells [] 0 }
-    ensures null { (c : Cells) (sinks : List Sink) (last : ℕ) → Keeps c sinks last → Leaves (alone advise_body 1 (entered (value.Ref None ∷ [])) c) e_pointer None sinks last }
-    ensures full { (c : Cells) (sinks : List Sink) (last : ℕ) (sink : RefValue) → Keeps c sinks last → length sinks ≡ 4 → Leaves (alone advise_body 1 (entered (value.Ref (Some sink) ∷ [])) c) advise_limit None sinks last }
-    ensures taken { (c : Cells) (sinks : List Sink) (last : ℕ) (sink : RefValue) → Keeps c sinks last → length sinks < 4 → last + 1 < 2 ^ 63 → Leaves (alone advise_body 1 (entered (value.Ref (Some sink) ∷ [])) c) ok (Some (number (last + 1))) (sinks ++ (record { cookie = last + 1; held = Some sink } ∷ [])) (last + 1) }
+    ensures null { (c : Cells) (sinks : List Sink) (last : ℕ) → Keeps c sinks last
+        → Leaves (alone advise_body 1 (entered (value.Ref None ∷ [])) c) e_pointer None sinks last }
+    ensures full { (c : Cells) (sinks : List Sink) (last : ℕ) (sink : RefValue) → Keeps c sinks last
+        → length sinks ≡ 4 → Leaves (alone advise_body 1 (entered (value.Ref
+        (Some sink) ∷ [])) c) advise_limit None sinks last }
+    ensures taken { (c : Cells) (sinks : List Sink) (last : ℕ) (sink : RefValue) → Keeps c sinks last
+        → length sinks < 4 → last + 1 < 2 ^ 63
+        → Leaves (alone advise_body 1 (entered (value.Ref (Some sink) ∷ [])) c) ok (Some (number
+        (last + 1))) (sinks ++ (record { cookie = last + 1; held = Some sink } ∷ [])) (last + 1) }
 {}
 
 /// What `unadvise` does by itself: the sink with the cookie goes, and the others keep their order. Where no
@@ -45,10 +53,17 @@ pub fn advising()
 /// bits a number is a cookie where it is equal to it (`cookie`). Of any number at all, one of the two holds
 /// (`either`).
 pub fn unadvising()
-    ensures removed { (c : Cells) (sinks : List Sink) (last : ℕ) (n : ℤ) → Keeps c sinks last → int_lt (pos 0) n ≡ true → has_cookie n sinks ≡ true → Leaves (alone unadvise_body 4 (entered (value.Int n ∷ [])) c) ok None (without n sinks) last }
-    ensures cookie { (n cookie : ℕ) → n < 2 ^ 63 → cookie < 2 ^ 63 → (is_cookie (pos n) cookie ≡ true) ↔ (n ≡ cookie) }
-    ensures either { (c : Cells) (sinks : List Sink) (last : ℕ) (n : ℤ) → Keeps c sinks last → Leaves (alone unadvise_body 4 (entered (value.Int n ∷ [])) c) ok None (without n sinks) last ⊎ Leaves (alone unadvise_body 4 (entered (value.Int n ∷ [])) c) no_connection None sinks last }
-    ensures none { (c : Cells) (sinks : List Sink) (last : ℕ) (n : ℤ) → Keeps c sinks last → is_cookie n 0 ≡ false → (int_lt (pos 0) n ≡ true → has_cookie n sinks ≡ false) → Leaves (alone unadvise_body 4 (entered (value.Int n ∷ [])) c) no_connection None sinks last }
+    ensures removed { (c : Cells) (sinks : List Sink) (last : ℕ) (n : ℤ) → Keeps c sinks last
+        → int_lt (pos 0) n ≡ true → has_cookie n sinks ≡ true
+        → Leaves (alone unadvise_body 4 (entered (value.Int n ∷ [])) c) ok None (without n sinks) last }
+    ensures cookie { (n cookie : ℕ) → n < 2 ^ 63 → cookie < 2 ^ 63
+        → (is_cookie (pos n) cookie ≡ true) ↔ (n ≡ cookie) }
+    ensures either { (c : Cells) (sinks : List Sink) (last : ℕ) (n : ℤ) → Keeps c sinks last
+        → Leaves (alone unadvise_body 4 (entered (value.Int n ∷ [])) c) ok None (without n sinks) last
+        ⊎ Leaves (alone unadvise_body 4 (entered (value.Int n ∷ [])) c) no_connection None sinks last }
+    ensures none { (c : Cells) (sinks : List Sink) (last : ℕ) (n : ℤ) → Keeps c sinks last
+        → is_cookie n 0 ≡ false → (int_lt (pos 0) n ≡ true → has_cookie n sinks ≡ false)
+        → Leaves (alone unadvise_body 4 (entered (value.Int n ∷ [])) c) no_connection None sinks last }
 {}
 
 /// What `fire` does by itself, one event after another.
@@ -60,11 +75,19 @@ pub fn unadvising()
 /// of that (`written`). So no sink gets an event twice, they get it in the order of their cookies, and none
 /// that was taken after the beginning gets it (`rises`).
 pub fn firing()
-    ensures begins { (c : Cells) (sinks : List Sink) (last : ℕ) (n : ℤ) → Keeps c sinks last → Begins c n last }
-    ensures round { (c : Cells) (sinks : List Sink) (given sent : ℕ) (event : Value) (last reached : ℕ) (f : FrameView) → Keeps c sinks given → AtRound f sent event last reached → sent < 4 → Fires (alone fire_body 1 f c) sent event last sinks given (first_between reached last sinks) }
-    ensures over { (c : Cells) (sinks : List Sink) (given : ℕ) (event : Value) (last reached : ℕ) (f : FrameView) → Keeps c sinks given → AtRound f 4 event last reached → Leaves (alone fire_body 1 f c) ok (Some (number 4)) sinks given }
-    ensures written { (sent : ℕ) (event v : Value) (last reached : ℕ) (f : FrameView) → AtRound f sent event last reached → AtRound (with_register f 7 v) sent event last reached × AtRound (with_register f 15 v) sent event last reached }
-    ensures rises { (sinks : List Sink) (last reached : ℕ) (to : Sink) → first_between reached last sinks ≡ Some to → (reached < to.cookie) × (to.cookie ≤ last) }
+    ensures begins { (c : Cells) (sinks : List Sink) (last : ℕ) (n : ℤ) → Keeps c sinks last
+        → Begins c n last }
+    ensures round { (c : Cells) (sinks : List Sink) (given sent : ℕ) (event : Value) (last reached : ℕ)
+        (f : FrameView) → Keeps c sinks given → AtRound f sent event last reached → sent < 4
+        → Fires (alone fire_body 1 f c) sent event last sinks given (first_between reached last sinks) }
+    ensures over { (c : Cells) (sinks : List Sink) (given : ℕ) (event : Value) (last reached : ℕ)
+        (f : FrameView) → Keeps c sinks given → AtRound f 4 event last reached
+        → Leaves (alone fire_body 1 f c) ok (Some (number 4)) sinks given }
+    ensures written { (sent : ℕ) (event v : Value) (last reached : ℕ) (f : FrameView)
+        → AtRound f sent event last reached → AtRound (with_register f 7 v) sent event last reached
+        × AtRound (with_register f 15 v) sent event last reached }
+    ensures rises { (sinks : List Sink) (last reached : ℕ) (to : Sink)
+        → first_between reached last sinks ≡ Some to → (reached < to.cookie) × (to.cookie ≤ last) }
 {}
 
 /// In every legal history an entry of a lane whose innermost opener is a body is one step of this body
@@ -95,7 +118,8 @@ pub fn one_lane()
 /// of a source in one piece.
 pub fn runs_alone()
     ensures still { (s : Scenario) (h : List Entry) → Formed s → legal s h → StillAlone s h }
-    ensures leaves { (s : Scenario) (h : List Entry) (e : Entry) → Formed s → legal s (e ∷ h) → LeavesAlone s h e }
+    ensures leaves { (s : Scenario) (h : List Entry) (e : Entry) → Formed s → legal s (e ∷ h)
+        → LeavesAlone s h e }
 {}
 
 /// The calls of a source run these bodies, and its objects are not agile (`bodies`). In every legal history
@@ -104,7 +128,8 @@ pub fn runs_alone()
 /// `advising` and `unadvising` say.
 pub fn source_calls()
     ensures bodies { (s : Scenario) (class iface : ℕ) → IsSource s class iface → SourceRuns s class iface }
-    ensures sinks { (s : Scenario) (h : List Entry) (e : Entry) → Formed s → legal s (e ∷ h) → SinksAfter s h e }
+    ensures sinks { (s : Scenario) (h : List Entry) (e : Entry) → Formed s → legal s (e ∷ h)
+        → SinksAfter s h e }
 {}
 
 /// In every legal history of a formed scenario a call whose body is open was entered with as many values as
@@ -125,9 +150,13 @@ pub fn given_values()
 /// by `sentence`. Every other one that was advised before the call gets it: none is passed over (`turns`),
 /// and none is left when the body leaves (`all`).
 pub fn deliveries()
-    ensures sentence { (s : Scenario) (h : List Entry) → Formed s → legal s h → length h < 2 ^ 63 → EachEntry (Delivered s) h }
-    ensures cookies { (s : Scenario) (h : List Entry) → Formed s → legal s h → length h < 2 ^ 63 → EachEntry (TakesNext s) h }
+    ensures sentence { (s : Scenario) (h : List Entry) → Formed s → legal s h → length h < 2 ^ 63
+        → EachEntry (Delivered s) h }
+    ensures cookies { (s : Scenario) (h : List Entry) → Formed s → legal s h → length h < 2 ^ 63
+        → EachEntry (TakesNext s) h }
     ensures order { (s : Scenario) (h : List Entry) → legal s h → InOrder h }
-    ensures turns { (s : Scenario) (h : List Entry) → Formed s → legal s h → length h < 2 ^ 63 → NonePassed s h }
-    ensures all { (s : Scenario) (h : List Entry) → Formed s → legal s h → length h < 2 ^ 63 → EachEntry (AllGot s) h }
+    ensures turns { (s : Scenario) (h : List Entry) → Formed s → legal s h → length h < 2 ^ 63
+        → NonePassed s h }
+    ensures all { (s : Scenario) (h : List Entry) → Formed s → legal s h → length h < 2 ^ 63
+        → EachEntry (AllGot s) h }
 {}

@@ -6,8 +6,12 @@
 //! stub counts. Source: MS-DCOM 3.2.4.4, and Essential COM, chapter 5, on the proxy manager.
 #![tactic(auto)]
 
-ghost use Rattle.std.specs.Prelude.{◌≡◌, ◌+◌, ◌<◌, ◌≤◌, ◌^◌, ◌↔◌, ℕ, [], OnOk, OnErr, IsOk, IsTrue, IfNone, IfSome, length};
-ghost use Rattle.com_proxy.specs.Rows.{local_of, public_of, changed_row, gaining, one_local_more, one_local_less, no_public, split_of, split_rows, cut_rows, public_sum, place_of, row_at, proxy_key_of, proxies_of, objects_of, EachFirst, HasNoPublic, IsFree, IsLowest};
+ghost use Rattle.std.specs.Prelude.{◌≡◌, ◌+◌, ◌<◌, ◌≤◌, ◌^◌, ◌↔◌, ℕ, [], OnOk, OnErr, IsOk, IsTrue, IfNone};
+ghost use Rattle.std.specs.Prelude.{IfSome, length};
+ghost use Rattle.com_proxy.specs.Rows.{local_of, public_of, changed_row, gaining, one_local_more};
+ghost use Rattle.com_proxy.specs.Rows.{one_local_less, no_public, split_of, split_rows, cut_rows, public_sum};
+ghost use Rattle.com_proxy.specs.Rows.{place_of, row_at, proxy_key_of, proxies_of, objects_of, EachFirst};
+ghost use Rattle.com_proxy.specs.Rows.{HasNoPublic, IsFree, IsLowest};
 
 use com_keyed::Chains;
 use std::alloc::Global;
@@ -98,7 +102,8 @@ fn find(rows: &[ProxyRow], proxies: &Chains, apartment: u32, object: u32, iface:
 // The place of the row of the lowest interface of which the apartment has public references.
 fn lowest(rows: &[ProxyRow], proxies: &Chains, apartment: u32, object: u32) -> Option<usize>
     requires keyed { proxies.now.keys ≡ proxies_of rows.now }
-    ensures none { IfNone result ((place : ℕ) → place < length rows.now → HasNoPublic apartment object rows.now place) }
+    ensures none { IfNone result ((place : ℕ) → place < length rows.now
+        → HasNoPublic apartment object rows.now place) }
     ensures lowest { IfSome result (IsLowest apartment object rows.now) }
 {
     let mut lowest: Option<usize> = None;
@@ -201,7 +206,8 @@ impl Proxies {
     pub fn gain(&mut self, apartment: u32, object: u32, iface: u16, refs: u32) -> Result<(), Memory>
         requires local_fits { local_of self.old.rows apartment object iface + 1 < 2 ^ 64 }
         requires public_fits { public_of self.old.rows apartment object iface + refs < 2 ^ 64 }
-        ensures ok { OnOk result (self.new.rows ≡ changed_row (gaining refs) apartment object iface self.old.rows) }
+        ensures ok { OnOk result (self.new.rows
+            ≡ changed_row (gaining refs) apartment object iface self.old.rows) }
         ensures err { OnErr result (self.new.rows ≡ self.old.rows) }
         ensures room { 0 < self.old.spare → IsOk result }
         ensures spare { self.old.spare ≤ self.new.spare + 1 }
@@ -294,8 +300,10 @@ impl Proxies {
         ensures kept { IfNone result (self.new.rows ≡ self.old.rows) }
         ensures some { IfSome result (λ taken. 0 < taken.1) }
         ensures held { IfSome result (λ taken. taken.1 ≡ public_of self.old.rows apartment object taken.0) }
-        ensures lowest { IfSome result (λ taken. (iface : ℕ) → 0 < public_of self.old.rows apartment object iface → taken.0 ≤ iface) }
-        ensures rows { IfSome result (λ taken. self.new.rows ≡ changed_row no_public apartment object taken.0 self.old.rows) }
+        ensures lowest { IfSome result (λ taken. (iface : ℕ)
+            → 0 < public_of self.old.rows apartment object iface → taken.0 ≤ iface) }
+        ensures rows { IfSome result (λ taken. self.new.rows
+            ≡ changed_row no_public apartment object taken.0 self.old.rows) }
         ensures spare { self.new.spare ≡ self.old.spare }
     {
         let Some(at) = lowest(&self.rows, &self.proxies, apartment, object) else {

@@ -8,14 +8,16 @@ use Rattle.com_model.specs.Tables.{NoLane, lane_sort}
 use Rattle.com_model.specs.State.{State, openers_in, admitted_in}
 use Rattle.com_state.specs.Resting.{Settled}
 
--- The state is settled, nothing is open in a lane that is no thread's, host's or pool's, and no call was entered that was not issued.
+-- The state is settled, nothing is open in a lane that is no thread's, host's or pool's, and no call was
+-- entered that was not issued.
 pub record Resting (s : Scenario) (st : State) : Type 0 where
   pub settled : Settled s st
   pub idle : (l : ℕ) → lane_sort s l ≡ NoLane → openers_in st l ≡ []
   pub unissued : (c : ℕ) → length st.issues + 1 ≤ c → admitted_in st c ≡ None
 
--- The deeds that move no reference, whatever the state: an Init of a lane that has a home, an Uninit that leaves a count, what
--- pumps, words, filters and the clock do, bytes for a buffer, and refusals that write no slot.
+-- The deeds that move no reference, whatever the state: an Init of a lane that has a home, an Uninit that
+-- leaves a count, what pumps, words, filters and the clock do, bytes for a buffer, and refusals that write no
+-- slot.
 abbrev pub is_quiet : Deed → Bool
 is_quiet (deed.Init m a hr) = not (is_S_OK hr)
 is_quiet (deed.Uninit a (suc n)) = true

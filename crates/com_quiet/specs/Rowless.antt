@@ -5,7 +5,8 @@ use Rattle.com_model.specs.declared.deeds.Deed.TheVariants as deed
 use Rattle.com_model.specs.Answers.{is_S_OK}
 use Rattle.com_quiet.specs.Resting.{is_quiet}
 
--- Beside the quiet ones: each Init, what copies or releases a reference, a Final, and refusals that write a slot.
+-- Beside the quiet ones: each Init, what copies or releases a reference, a Final, and refusals that write a
+-- slot.
 abbrev pub is_rowless : Deed → Bool
 is_rowless (deed.Init m a hr) = true
 is_rowless (deed.Made None a k i hr) = true

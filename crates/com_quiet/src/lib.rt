@@ -1,5 +1,5 @@
-//! Entries that move no reference leave the books of references, the list of the dying and all places as they were. The laws are
-//! stated on functions that do nothing.
+//! Entries that move no reference leave the books of references, the list of the dying and all places as they
+//! were. The laws are stated on functions that do nothing.
 #![tactic(auto)]
 
 mod laws;

@@ -1,5 +1,6 @@
 -- What is counted for each object, so that its holders are known without a walk.
-use Rattle.std.specs.Prelude.{◌≡◌, ℕ, zero, suc, ◌+◌, ◌-◌, slice_index_or, ◌<◌, ◌≤◌, Bool, true, if◌then◌else◌, ◌==◌, List, length, Option, Some, None}
+use Rattle.std.specs.Prelude.{◌≡◌, ℕ, zero, suc, ◌+◌, ◌-◌, slice_index_or, ◌<◌, ◌≤◌, Bool, true}
+use Rattle.std.specs.Prelude.{if◌then◌else◌, ◌==◌, List, length, Option, Some, None}
 use Rattle.com_holders.specs.Tables.{Tables, books_of, direct_in}
 use Rattle.com_holders.specs.Places.{locals_of}
 use Rattle.com_books.specs.Changes.{held_outside, set_from_one}
@@ -15,7 +16,8 @@ hold_less o held holds = if held then set_from_one holds o (hold_of holds o - 1)
 abbrev pub hold_more : ℕ → Bool → List ℕ → List ℕ
 hold_more o held holds = if held then set_from_one holds o (hold_of holds o + 1) else holds
 
--- The holders of an object beside its direct places: places elsewhere, packets that are not weak, and cookies.
+-- The holders of an object beside its direct places: places elsewhere, packets that are not weak, and
+-- cookies.
 abbrev pub outside_of : Tables → ℕ → ℕ
 outside_of t x = locals_of x t.proxies + held_outside (books_of t) x
 

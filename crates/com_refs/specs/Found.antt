@@ -20,7 +20,8 @@ abbrev pub refs_written : MarshalMode → ℕ → ℕ
 refs_written marshal.Normal n = n
 refs_written _ n = 0
 
--- The fields that are written of a packet with this number, whose object has this owner and whose interface has this identifier.
+-- The fields that are written of a packet with this number, whose object has this owner and whose interface
+-- has this identifier.
 abbrev pub fields_by : (owner : ℕ) → Guid → Packet → ℕ → StdFields
 fields_by a iid k n = record {
   iid = iid;

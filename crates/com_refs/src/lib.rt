@@ -1,23 +1,29 @@
-//! The balance of references: who holds references to each object, how many public references its stub counts, and which
-//! objects nobody holds any more.
+//! The balance of references: who holds references to each object, how many public references its stub
+//! counts, and which objects nobody holds any more.
 //!
-//! A call that gains changes the books by its row of the table of reference counting. A call that loses a holder does beside
-//! what the end of its entry does: a proxy without place gives everything back, and an object without holder is no longer
-//! connected. It looks at one object only, since between calls each connected object has a holder. Several losses in one entry
-//! are one end. Source: MS-DCOM 3.2.4.4, and Essential COM, chapter 5.
+//! A call that gains changes the books by its row of the table of reference counting. A call that loses a
+//! holder does beside what the end of its entry does: a proxy without place gives everything back, and an
+//! object without holder is no longer connected. It looks at one object only, since between calls each
+//! connected object has a holder. Several losses in one entry are one end. Source: MS-DCOM 3.2.4.4, and
+//! Essential COM, chapter 5.
 #![tactic(auto)]
 
-ghost use Rattle.std.specs.Prelude.{◌≡◌, ◌+◌, ◌-◌, ◌<◌, ◌≤◌, ◌^◌, ◌↔◌, ◌&&◌, ◌||◌, ◌==◌, ℕ, Bool, true, false, not, [], length, OnOk, OnErr, IfOk, IsOk, IsTrue, Ok, Err, Some, None, IfSome, IfNone, IsSomeAnd, sum_by, if◌then◌else◌};
+ghost use Rattle.std.specs.Prelude.{◌≡◌, ◌+◌, ◌-◌, ◌<◌, ◌≤◌, ◌^◌, ◌↔◌, ◌&&◌, ◌||◌, ◌==◌, ℕ, Bool, true};
+ghost use Rattle.std.specs.Prelude.{false, not, [], length, OnOk, OnErr, IfOk, IsOk, IsTrue, Ok, Err, Some};
+ghost use Rattle.std.specs.Prelude.{None, IfSome, IfNone, IsSomeAnd, sum_by, if◌then◌else◌};
 ghost use Rattle.std.specs.Int.{from_le_bytes, w64};
 ghost use Rattle.com_stub.specs.StubRows.{is_connected};
 ghost use Rattle.com_slots.specs.Table.{held_in};
 ghost use Rattle.com_proxy.specs.Rows.{local_of};
-ghost use Rattle.com_holders.specs.Tables.{Tables, books_of, owns_of, owners_of, is_owned, object_in, direct_in, offers, outstanding_in};
+ghost use Rattle.com_holders.specs.Tables.{Tables, books_of, owns_of, owners_of, is_owned, object_in};
+ghost use Rattle.com_holders.specs.Tables.{direct_in, offers, outstanding_in};
 ghost use Rattle.com_holders.specs.Steps.{made_live, among};
 ghost use Rattle.com_holders.specs.Places.{Counts, OneMore, OneLess, SamePlaces, places_in};
 ghost use Rattle.com_books.specs.Counting.{count_if, sum_below};
 ghost use Rattle.com_holders.specs.Stands.{Tells};
-ghost use Rattle.com_books.specs.Changes.{Books, changed, change, cut, packet, cookie, is_weak, Makes, Takes, Asks, Marshals, Unmarshals, Drops, Registers, Revokes, ToCookie, Return, Withdraw};
+ghost use Rattle.com_books.specs.Changes.{Books, changed, change, cut, packet, cookie, is_weak, Makes, Takes};
+ghost use Rattle.com_books.specs.Changes.{Asks, Marshals, Unmarshals, Drops, Registers, Revokes, ToCookie};
+ghost use Rattle.com_books.specs.Changes.{Return, Withdraw};
 ghost use Rattle.com_refs.specs.Counts.{hold_of, hold_less, hold_more, holders_of, unheld};
 ghost use Rattle.com_refs.specs.Found.{IsFound, fields_by, shown_packet};
 ghost use Rattle.com_refs.specs.Numbers.{in_normal, in_table, in_cookie, Within};
@@ -38,8 +44,8 @@ pub use com_base::Memory;
 /// Why a call changed nothing.
 pub use com_holders::HoldersError as RefsError;
 
-/// The numbers of a report for an object: its direct places, and the public references of proxies, of normal packets, of strong
-/// packets and cookies, and of the stub, which is the sum of the three before it.
+/// The numbers of a report for an object: its direct places, and the public references of proxies, of normal
+/// packets, of strong packets and cookies, and of the stub, which is the sum of the three before it.
 #[derive(Debug, Clone, Copy, PartialEq, Eq)]
 pub struct Numbers {
     /// The places in apartments that own the object.
@@ -54,8 +60,8 @@ pub struct Numbers {
     pub stub: u64,
 }
 
-/// The references of all objects, seen as the tables of their holders. Beside, the holders of each object outside of its direct
-/// places are counted.
+/// The references of all objects, seen as the tables of their holders. Beside, the holders of each object
+/// outside of its direct places are counted.
 #[derive(Debug, Drop)]
 pub struct Refs {
     holders: Holders,
@@ -120,16 +126,20 @@ fn gain_hold(holds: &mut [u64], object: u32, held: bool)
     }
 }
 
-// Where an object has no holder left it is no longer connected. True exactly then; of an object that was not connected before
-// only its direct places hold it.
+// Where an object has no holder left it is no longer connected. True exactly then; of an object that was not
+// connected before only its direct places hold it.
 fn settle(holders: &mut Holders, held: u64, object: u32) -> bool
-    ensures lost { IsTrue result ↔ (((object_in holders.old.objects object).direct ≡ 0) × (is_connected holders.old.stubs object ≡ true → held ≡ 0)) }
+    ensures lost { IsTrue result ↔ (((object_in holders.old.objects object).direct ≡ 0)
+        × (is_connected holders.old.stubs object ≡ true → held ≡ 0)) }
     ensures objects { holders.new.objects ≡ holders.old.objects }
     ensures proxies { holders.new.proxies ≡ holders.old.proxies }
     ensures counters { holders.new.counters ≡ holders.old.counters }
     ensures issued { holders.new.issued ≡ holders.old.issued }
     ensures spare { holders.new.spare ≡ holders.old.spare }
-    ensures books { books_of holders.new ≡ (if (object_in holders.old.objects object).direct + held == 0 then cut (λ x. (books_of holders.old).live x && not (x == object)) (books_of holders.old) else books_of holders.old) }
+    ensures books { books_of holders.new
+        ≡ (if (object_in holders.old.objects object).direct + held == 0
+        then cut (λ x. (books_of holders.old).live x && not (x == object)) (books_of holders.old)
+        else books_of holders.old) }
 {
     if holders.direct(object) > 0 {
         return false;
@@ -144,7 +154,8 @@ fn settle(holders: &mut Holders, held: u64, object: u32) -> bool
 // The holders once a packet was unmarshalled: a normal one ends, and any other stays.
 fn recount(holds: &mut [u64], object: u32, owned: bool, normal: bool)
     requires fits { hold_of holds.old object + 1 < 2 ^ 64 }
-    ensures { holds.new ≡ (if normal then hold_less object owned holds.old else hold_more object (not owned) holds.old) }
+    ensures { holds.new ≡ (if normal then hold_less object owned holds.old
+        else hold_more object (not owned) holds.old) }
 {
     if normal {
         lose_hold(holds, object, owned);
@@ -215,7 +226,13 @@ fn packet_row(packet: Option<Packet>) -> PacketRow
 
 // The row of a cookie in the books: it holds nothing of an object that is not connected.
 fn cookie_row(held: RefValue, connected: bool) -> Cookie
-    ensures { result ≡ record { revoked = false; object = held.object; iface = held.iface; refs = if connected then 1 else 0 } }
+    ensures { result ≡ record {
+      revoked = false;
+      object = held.object;
+      iface = held.iface;
+      refs = if
+          connected then 1 else 0;
+    } }
 {
     Cookie {
         revoked: false,
@@ -239,9 +256,11 @@ fn written(row: PacketRow, owner: u32, number: u32, iid: Guid) -> StdFields
     packet.fields(number, iid)
 }
 
-// The row is that of an outstanding packet of the interface, and the fields are what is written of it with this number.
+// The row is that of an outstanding packet of the interface, and the fields are what is written of it with
+// this number.
 fn is_named(row: PacketRow, owner: u32, number: u32, fields: &StdFields, iface: u16) -> bool
-    ensures { IsTrue result ↔ ((row.outstanding ≡ true) × ((row.iface ≡ iface) × (fields_by owner fields.now.iid row number ≡ fields.now))) }
+    ensures { IsTrue result ↔ ((row.outstanding ≡ true) × ((row.iface ≡ iface)
+        × (fields_by owner fields.now.iid row number ≡ fields.now))) }
 {
     row.outstanding && row.iface == iface && written(row, owner, number, fields.iid) == *fields
 }
@@ -267,8 +286,11 @@ fn place(holders: &mut Holders, apartment: u32, held: RefValue)
     requires known { offers holders.old held.object held.iface ≡ true }
     requires few { holders.old.issued < 2 ^ 28 }
     requires room { 0 < holders.old.spare }
-    ensures row { books_of holders.new ≡ changed (books_of holders.old) (change (owns_of holders.old.objects) (books_of holders.old) (Makes apartment held.object held.iface)) }
-    ensures places { OneMore holders.old holders.new apartment held.object (owns_of holders.old.objects held.object apartment) }
+    ensures row { books_of holders.new
+        ≡ changed (books_of holders.old) (change (owns_of holders.old.objects) (books_of holders.old)
+        (Makes apartment held.object held.iface)) }
+    ensures places { OneMore holders.old holders.new apartment held.object
+        (owns_of holders.old.objects held.object apartment) }
     ensures offers { (x j : ℕ) → offers holders.new x j ≡ offers holders.old x j }
     ensures issued { holders.new.issued ≡ holders.old.issued + 1 }
     ensures most { holders.new.spare ≤ holders.old.spare }
@@ -311,7 +333,8 @@ impl Refs {
         self.holders.reserve(n)
     }
 
-    /// A table of places that is what the tables count tells which proxies have a place, and totals the places of an object.
+    /// A table of places that is what the tables count tells which proxies have a place, and totals the
+    /// places of an object.
     pub fn tells(&self)
         ensures tells { (n : ℕ) (places : ℕ → ℕ → ℕ) → Counts n places self.now → Tells n places self.now }
         ensures totals { (n : ℕ) (places : ℕ → ℕ → ℕ) → Counts n places self.now → Totals n places self.now }
@@ -321,13 +344,14 @@ impl Refs {
 
     /// Between calls nothing is left to give back or to cut.
     pub fn rests(&self)
-        ensures { (n : ℕ) (places : ℕ → ℕ → ℕ) → Tells n places self.now → Totals n places self.now → ends n places (books_of self.now) ≡ books_of self.now }
+        ensures { (n : ℕ) (places : ℕ → ℕ → ℕ) → Tells n places self.now → Totals n places self.now
+            → ends n places (books_of self.now) ≡ books_of self.now }
     {
         self.holders.gives_nothing();
     }
 
-    /// An object of the owner's is made, the next by its number, and the apartment has a place for it by an interface of its set.
-    /// Every apartment owns an agile object. The call takes the room of two.
+    /// An object of the owner's is made, the next by its number, and the apartment has a place for it by an
+    /// interface of its set. Every apartment owns an agile object. The call takes the room of two.
     pub fn made(
         &mut self,
         object: u32,
@@ -341,13 +365,22 @@ impl Refs {
         requires small { length set.now ≤ 17 }
         requires within { among iface set.now ≡ true }
         requires few { self.old.issued + 1 < 2 ^ 28 }
-        ensures row { OnOk result (books_of self.new ≡ changed (made_live object (books_of self.old)) (change (owns_of self.new.objects) (made_live object (books_of self.old)) (Makes apartment object iface))) }
-        ensures owns { OnOk result ((x c : ℕ) → x ≤ length self.old.objects → owns_of self.new.objects x c ≡ owns_of self.old.objects x c) }
-        ensures whose { OnOk result ((x c : ℕ) → owns_of self.new.objects x c ≡ (if x == object then agile || owner == c else owns_of self.old.objects x c)) }
+        ensures row { OnOk result (books_of self.new
+            ≡ changed (made_live object (books_of self.old)) (change (owns_of self.new.objects)
+            (made_live object (books_of self.old)) (Makes apartment object iface))) }
+        ensures owns { OnOk result ((x c : ℕ) → x ≤ length self.old.objects
+            → owns_of self.new.objects x c ≡ owns_of self.old.objects x c) }
+        ensures whose { OnOk result ((x c : ℕ) → owns_of self.new.objects x c ≡ (if x == object
+            then agile || owner == c else owns_of self.old.objects x c)) }
         ensures made { OnOk result (length self.new.objects ≡ length self.old.objects + 1) }
-        ensures direct { OnOk result ((x : ℕ) → direct_in self.new x ≡ direct_in self.old x + count_if (owns_of self.new.objects object apartment && x == object)) }
-        ensures elsewhere { OnOk result ((c x : ℕ) → places_in self.new c x ≡ places_in self.old c x + count_if (not (owns_of self.new.objects object apartment) && (c == apartment && x == object))) }
-        ensures offers { OnOk result ((x j : ℕ) → offers self.new x j ≡ (offers self.old x j || (x == object && among j set.now))) }
+        ensures direct { OnOk result ((x : ℕ)
+            → direct_in self.new x ≡ direct_in self.old x + count_if
+            (owns_of self.new.objects object apartment && x == object)) }
+        ensures elsewhere { OnOk result ((c x : ℕ)
+            → places_in self.new c x ≡ places_in self.old c x + count_if (not
+            (owns_of self.new.objects object apartment) && (c == apartment && x == object))) }
+        ensures offers { OnOk result ((x j : ℕ)
+            → offers self.new x j ≡ (offers self.old x j || (x == object && among j set.now))) }
         ensures issued { OnOk result (self.new.issued ≡ self.old.issued + 2) }
         ensures err { OnErr result (self.new ≡ record self.old { spare = self.new.spare }) }
         ensures room { 2 ≤ self.old.spare → IsOk result }
@@ -372,13 +405,21 @@ impl Refs {
         requires within { among iface set.now ≡ true }
         requires few { self.old.issued + 1 < 2 ^ 28 }
         requires room { 2 ≤ self.old.spare }
-        ensures row { books_of self.new ≡ changed (made_live object (books_of self.old)) (change (owns_of self.new.objects) (made_live object (books_of self.old)) (Makes apartment object iface)) }
-        ensures owns { (x c : ℕ) → x ≤ length self.old.objects → owns_of self.new.objects x c ≡ owns_of self.old.objects x c }
-        ensures whose { (x c : ℕ) → owns_of self.new.objects x c ≡ (if x == object then agile || owner == c else owns_of self.old.objects x c) }
+        ensures row { books_of self.new
+            ≡ changed (made_live object (books_of self.old)) (change (owns_of self.new.objects)
+            (made_live object (books_of self.old)) (Makes apartment object iface)) }
+        ensures owns { (x c : ℕ) → x ≤ length self.old.objects
+            → owns_of self.new.objects x c ≡ owns_of self.old.objects x c }
+        ensures whose { (x c : ℕ) → owns_of self.new.objects x c ≡ (if x == object
+            then agile || owner == c else owns_of self.old.objects x c) }
         ensures made { length self.new.objects ≡ length self.old.objects + 1 }
-        ensures direct { (x : ℕ) → direct_in self.new x ≡ direct_in self.old x + count_if (owns_of self.new.objects object apartment && x == object) }
-        ensures elsewhere { (c x : ℕ) → places_in self.new c x ≡ places_in self.old c x + count_if (not (owns_of self.new.objects object apartment) && (c == apartment && x == object)) }
-        ensures offers { (x j : ℕ) → offers self.new x j ≡ (offers self.old x j || (x == object && among j set.now)) }
+        ensures direct { (x : ℕ) → direct_in self.new x
+            ≡ direct_in self.old x + count_if (owns_of self.new.objects object apartment && x == object) }
+        ensures elsewhere { (c x : ℕ)
+            → places_in self.new c x ≡ places_in self.old c x + count_if (not
+            (owns_of self.new.objects object apartment) && (c == apartment && x == object)) }
+        ensures offers { (x j : ℕ) → offers self.new x j
+            ≡ (offers self.old x j || (x == object && among j set.now)) }
         ensures issued { self.new.issued ≡ self.old.issued + 2 }
     {
         self.holders.stands();
@@ -391,11 +432,15 @@ impl Refs {
 
     /// One place less, to the end of its entry. True exactly where nothing holds the object then.
     pub fn release(&mut self, apartment: u32, held: RefValue) -> bool
-        requires proxied { owns_of self.old.objects held.object apartment ≡ false → 0 < local_of self.old.proxies apartment held.object held.iface }
-        requires direct { owns_of self.old.objects held.object apartment ≡ true → 0 < (object_in self.old.objects held.object).direct }
+        requires proxied { owns_of self.old.objects held.object apartment ≡ false
+            → 0 < local_of self.old.proxies apartment held.object held.iface }
+        requires direct { owns_of self.old.objects held.object apartment ≡ true
+            → 0 < (object_in self.old.objects held.object).direct }
         ensures lost { IsTrue result ↔ (holders_of self.new held.object ≡ 0) }
-        ensures books { (n : ℕ) (places : ℕ → ℕ → ℕ) → apartment < n → Tells n places self.new → Totals n places self.new → books_of self.new ≡ ends n places (books_of self.old) }
-        ensures places { OneLess self.old self.new apartment held.object (owns_of self.old.objects held.object apartment) }
+        ensures books { (n : ℕ) (places : ℕ → ℕ → ℕ) → apartment < n → Tells n places self.new
+            → Totals n places self.new → books_of self.new ≡ ends n places (books_of self.old) }
+        ensures places { OneLess self.old self.new apartment held.object
+            (owns_of self.old.objects held.object apartment) }
         ensures offers { (x j : ℕ) → offers self.new x j ≡ offers self.old x j }
         ensures issued { self.new.issued ≡ self.old.issued }
         ensures spare { self.new.spare ≡ self.old.spare }
@@ -409,12 +454,15 @@ impl Refs {
 
     /// One place more of a reference that the apartment holds.
     pub fn copy(&mut self, apartment: u32, held: RefValue)
-        requires proxied { owns_of self.old.objects held.object apartment ≡ false → 0 < local_of self.old.proxies apartment held.object held.iface }
-        requires direct { owns_of self.old.objects held.object apartment ≡ true → 0 < (object_in self.old.objects held.object).direct }
+        requires proxied { owns_of self.old.objects held.object apartment ≡ false
+            → 0 < local_of self.old.proxies apartment held.object held.iface }
+        requires direct { owns_of self.old.objects held.object apartment ≡ true
+            → 0 < (object_in self.old.objects held.object).direct }
         requires known { offers self.old held.object held.iface ≡ true }
         requires few { self.old.issued < 2 ^ 28 }
         ensures books { books_of self.new ≡ books_of self.old }
-        ensures places { OneMore self.old self.new apartment held.object (owns_of self.old.objects held.object apartment) }
+        ensures places { OneMore self.old self.new apartment held.object
+            (owns_of self.old.objects held.object apartment) }
         ensures offers { (x j : ℕ) → offers self.new x j ≡ offers self.old x j }
         ensures issued { self.new.issued ≡ self.old.issued + 1 }
         ensures spare { self.new.spare ≡ self.old.spare }
@@ -425,22 +473,29 @@ impl Refs {
         gain_hold(&mut self.holds, held.object, !owned);
     }
 
-    /// Whether the apartment has a place of the reference: a direct one of the object where it owns that, else one of its proxy.
+    /// Whether the apartment has a place of the reference: a direct one of the object where it owns that,
+    /// else one of its proxy.
     pub fn has_place(&self, apartment: u32, held: RefValue) -> bool
-        ensures exact { IsTrue result ↔ (0 < (if owns_of self.now.objects held.object apartment then (object_in self.now.objects held.object).direct else local_of self.now.proxies apartment held.object held.iface)) }
-        ensures proxied { IsTrue result → owns_of self.now.objects held.object apartment ≡ false → 0 < local_of self.now.proxies apartment held.object held.iface }
-        ensures direct { IsTrue result → owns_of self.now.objects held.object apartment ≡ true → 0 < (object_in self.now.objects held.object).direct }
+        ensures exact { IsTrue result ↔ (0 < (if owns_of self.now.objects held.object apartment
+            then (object_in self.now.objects held.object).direct
+            else local_of self.now.proxies apartment held.object held.iface)) }
+        ensures proxied { IsTrue result → owns_of self.now.objects held.object apartment ≡ false
+            → 0 < local_of self.now.proxies apartment held.object held.iface }
+        ensures direct { IsTrue result → owns_of self.now.objects held.object apartment ≡ true
+            → 0 < (object_in self.now.objects held.object).direct }
     {
         self.holders.has_place(apartment, held)
     }
 
-    /// One place more of a reference, and no public reference. The apartment need not hold it: a body of an object that every
-    /// apartment owns writes the object's links in the neutral apartment. The only error is want of memory.
+    /// One place more of a reference, and no public reference. The apartment need not hold it: a body of an
+    /// object that every apartment owns writes the object's links in the neutral apartment. The only error is
+    /// want of memory.
     pub fn share(&mut self, apartment: u32, held: RefValue) -> Result<(), Memory>
         requires known { offers self.old held.object held.iface ≡ true }
         requires few { self.old.issued < 2 ^ 28 }
         ensures books { books_of self.new ≡ books_of self.old }
-        ensures places { OnOk result (OneMore self.old self.new apartment held.object (owns_of self.old.objects held.object apartment)) }
+        ensures places { OnOk result (OneMore self.old self.new apartment held.object
+            (owns_of self.old.objects held.object apartment)) }
         ensures offers { (x j : ℕ) → offers self.new x j ≡ offers self.old x j }
         ensures issued { OnOk result (self.new.issued ≡ self.old.issued + 1) }
         ensures room { 0 < self.old.spare → IsOk result }
@@ -458,9 +513,9 @@ impl Refs {
         }
     }
 
-    /// A packet of a reference that the apartment holds, under the number that is answered. A strong or a weak one may be
-    /// unmarshalled many times; a weak one does not hold its object. `NotConnected` exactly where the object is not connected.
-    /// Source: CoMarshalInterface.
+    /// A packet of a reference that the apartment holds, under the number that is answered. A strong or a
+    /// weak one may be unmarshalled many times; a weak one does not hold its object. `NotConnected` exactly
+    /// where the object is not connected. Source: CoMarshalInterface.
     pub fn marshal(
         &mut self,
         apartment: u32,
@@ -469,9 +524,12 @@ impl Refs {
     ) -> Result<u32, RefsError>
         requires known { offers self.old held.object held.iface ≡ true }
         requires few { self.old.issued < 2 ^ 28 }
-        ensures not_connected { (result ≡ Err RefsError.NotConnected) ↔ (is_connected self.old.stubs held.object ≡ false) }
+        ensures not_connected { (result
+            ≡ Err RefsError.NotConnected) ↔ (is_connected self.old.stubs held.object ≡ false) }
         ensures number { IfOk result (λ number. number ≡ length self.old.packets + 1) }
-        ensures row { OnOk result (books_of self.new ≡ changed (books_of self.old) (change (owns_of self.old.objects) (books_of self.old) (Marshals apartment mode held.object held.iface))) }
+        ensures row { OnOk result (books_of self.new
+            ≡ changed (books_of self.old) (change (owns_of self.old.objects) (books_of self.old)
+            (Marshals apartment mode held.object held.iface))) }
         ensures places { OnOk result (SamePlaces self.old self.new) }
         ensures offers { (x j : ℕ) → offers self.new x j ≡ offers self.old x j }
         ensures issued { OnOk result (self.new.issued ≡ self.old.issued + 1) }
@@ -489,14 +547,16 @@ impl Refs {
         }
     }
 
-    /// A cookie of a reference that the apartment holds. `NotConnected` exactly where the object is not connected.
-    /// Source: IGlobalInterfaceTable::RegisterInterfaceInGlobal.
+    /// A cookie of a reference that the apartment holds. `NotConnected` exactly where the object is not
+    /// connected. Source: IGlobalInterfaceTable::RegisterInterfaceInGlobal.
     pub fn register(&mut self, held: RefValue) -> Result<u32, RefsError>
         requires known { offers self.old held.object held.iface ≡ true }
         requires few { self.old.issued < 2 ^ 28 }
-        ensures not_connected { (result ≡ Err RefsError.NotConnected) ↔ (is_connected self.old.stubs held.object ≡ false) }
+        ensures not_connected { (result
+            ≡ Err RefsError.NotConnected) ↔ (is_connected self.old.stubs held.object ≡ false) }
         ensures cookie { IfOk result (λ cookie. cookie ≡ length self.old.cookies + 1) }
-        ensures books { OnOk result (books_of self.new ≡ changed (books_of self.old) (ToCookie held.object held.iface 1)) }
+        ensures books { OnOk result (books_of self.new
+            ≡ changed (books_of self.old) (ToCookie held.object held.iface 1)) }
         ensures places { OnOk result (SamePlaces self.old self.new) }
         ensures offers { (x j : ℕ) → offers self.new x j ≡ offers self.old x j }
         ensures issued { OnOk result (self.new.issued ≡ self.old.issued + 1) }
@@ -514,14 +574,23 @@ impl Refs {
         }
     }
 
-    /// A reference to another interface of an object of which the apartment holds one. `NotConnected` exactly where the apartment
-    /// does not own the object, which is not connected; else `NoInterface` exactly where the interface is not in its set.
+    /// A reference to another interface of an object of which the apartment holds one. `NotConnected` exactly
+    /// where the apartment does not own the object, which is not connected; else `NoInterface` exactly where
+    /// the interface is not in its set.
     pub fn query(&mut self, apartment: u32, object: u32, iface: u16) -> Result<(), RefsError>
         requires few { self.old.issued < 2 ^ 28 }
-        ensures not_connected { (result ≡ Err RefsError.NotConnected) ↔ ((owns_of self.old.objects object apartment || is_connected self.old.stubs object) ≡ false) }
-        ensures no_interface { (result ≡ Err RefsError.NoInterface) ↔ (((owns_of self.old.objects object apartment || is_connected self.old.stubs object) ≡ true) × (offers self.old object iface ≡ false)) }
-        ensures row { OnOk result (books_of self.new ≡ changed (books_of self.old) (change (owns_of self.old.objects) (books_of self.old) (Asks apartment object iface))) }
-        ensures places { OnOk result (OneMore self.old self.new apartment object (owns_of self.old.objects object apartment)) }
+        ensures not_connected { (result
+            ≡ Err RefsError.NotConnected) ↔
+            ((owns_of self.old.objects object apartment || is_connected self.old.stubs object) ≡ false) }
+        ensures no_interface { (result
+            ≡ Err RefsError.NoInterface) ↔
+            (((owns_of self.old.objects object apartment || is_connected self.old.stubs object) ≡ true)
+            × (offers self.old object iface ≡ false)) }
+        ensures row { OnOk result (books_of self.new
+            ≡ changed (books_of self.old) (change (owns_of self.old.objects) (books_of self.old)
+            (Asks apartment object iface))) }
+        ensures places { OnOk result (OneMore self.old self.new apartment object
+            (owns_of self.old.objects object apartment)) }
         ensures offers { (x j : ℕ) → offers self.new x j ≡ offers self.old x j }
         ensures issued { OnOk result (self.new.issued ≡ self.old.issued + 1) }
         ensures room { 0 < self.old.spare → result ≡ Err RefsError.Memory → ⊥ }
@@ -539,15 +608,21 @@ impl Refs {
         }
     }
 
-    /// The reference of a cookie, in a place of the apartment. `Unknown` exactly where the cookie was never given or was revoked;
-    /// else `NotConnected` exactly where its object is not connected. Source: IGlobalInterfaceTable::GetInterfaceFromGlobal.
+    /// The reference of a cookie, in a place of the apartment. `Unknown` exactly where the cookie was never
+    /// given or was revoked; else `NotConnected` exactly where its object is not connected. Source:
+    /// IGlobalInterfaceTable::GetInterfaceFromGlobal.
     pub fn get(&mut self, apartment: u32, cookie: u32) -> Result<RefValue, RefsError>
         requires few { self.old.issued < 2 ^ 28 }
         ensures unknown { (result ≡ Err RefsError.Unknown) ↔ (held_in self.old.cookies cookie ≡ None) }
-        ensures not_connected { (result ≡ Err RefsError.NotConnected) ↔ IsSomeAnd (held_in self.old.cookies cookie) (λ held. is_connected self.old.stubs held.object ≡ false) }
+        ensures not_connected { (result
+            ≡ Err RefsError.NotConnected) ↔ IsSomeAnd (held_in self.old.cookies cookie)
+            (λ held. is_connected self.old.stubs held.object ≡ false) }
         ensures held { IfOk result (λ held. held_in self.old.cookies cookie ≡ Some held) }
-        ensures row { IfOk result (λ held. books_of self.new ≡ changed (books_of self.old) (change (owns_of self.old.objects) (books_of self.old) (Takes apartment held.object held.iface))) }
-        ensures places { IfOk result (λ held. OneMore self.old self.new apartment held.object (owns_of self.old.objects held.object apartment)) }
+        ensures row { IfOk result (λ held. books_of self.new
+            ≡ changed (books_of self.old) (change (owns_of self.old.objects) (books_of self.old)
+            (Takes apartment held.object held.iface))) }
+        ensures places { IfOk result (λ held. OneMore self.old self.new apartment held.object
+            (owns_of self.old.objects held.object apartment)) }
         ensures offers { (x j : ℕ) → offers self.new x j ≡ offers self.old x j }
         ensures issued { OnOk result (self.new.issued ≡ self.old.issued + 1) }
         ensures room { 0 < self.old.spare → result ≡ Err RefsError.Memory → ⊥ }
@@ -565,15 +640,20 @@ impl Refs {
         }
     }
 
-    /// A packet's reference, in a place of the apartment. A normal packet ends: its references go to the proxy, or back to the stub
-    /// in an apartment that owns the object. `Unknown` exactly where no outstanding packet has the number.
-    /// Source: CoUnmarshalInterface.
+    /// A packet's reference, in a place of the apartment. A normal packet ends: its references go to the
+    /// proxy, or back to the stub in an apartment that owns the object. `Unknown` exactly where no
+    /// outstanding packet has the number. Source: CoUnmarshalInterface.
     pub fn unmarshal(&mut self, apartment: u32, number: u32) -> Result<Packet, RefsError>
         requires few { self.old.issued < 2 ^ 28 }
-        ensures unknown { (result ≡ Err RefsError.Unknown) ↔ (outstanding_in (is_connected self.old.stubs) self.old.packets number ≡ None) }
-        ensures packet { IfOk result (λ packet. outstanding_in (is_connected self.old.stubs) self.old.packets number ≡ Some packet) }
-        ensures row { OnOk result (books_of self.new ≡ changed (books_of self.old) (change (owns_of self.old.objects) (books_of self.old) (Unmarshals apartment number))) }
-        ensures places { IfOk result (λ packet. OneMore self.old self.new apartment packet.object (owns_of self.old.objects packet.object apartment)) }
+        ensures unknown { (result ≡ Err RefsError.Unknown) ↔ (outstanding_in
+            (is_connected self.old.stubs) self.old.packets number ≡ None) }
+        ensures packet { IfOk result (λ packet. outstanding_in
+            (is_connected self.old.stubs) self.old.packets number ≡ Some packet) }
+        ensures row { OnOk result (books_of self.new
+            ≡ changed (books_of self.old) (change (owns_of self.old.objects) (books_of self.old)
+            (Unmarshals apartment number))) }
+        ensures places { IfOk result (λ packet. OneMore self.old self.new apartment packet.object
+            (owns_of self.old.objects packet.object apartment)) }
         ensures offers { (x j : ℕ) → offers self.new x j ≡ offers self.old x j }
         ensures issued { OnOk result (self.new.issued ≡ self.old.issued + 1) }
         ensures room { 0 < self.old.spare → result ≡ Err RefsError.Memory → ⊥ }
@@ -596,13 +676,20 @@ impl Refs {
         }
     }
 
-    /// A packet ends, and its references go back, to the end of the entry. The answer is the packet's object exactly where nothing
-    /// holds it then. `Unknown` exactly where no outstanding packet has the number. Source: CoReleaseMarshalData.
+    /// A packet ends, and its references go back, to the end of the entry. The answer is the packet's object
+    /// exactly where nothing holds it then. `Unknown` exactly where no outstanding packet has the number.
+    /// Source: CoReleaseMarshalData.
     pub fn drop_packet(&mut self, number: u32) -> Result<Option<u32>, RefsError>
-        ensures unknown { (result ≡ Err RefsError.Unknown) ↔ (outstanding_in (is_connected self.old.stubs) self.old.packets number ≡ None) }
+        ensures unknown { (result ≡ Err RefsError.Unknown) ↔ (outstanding_in
+            (is_connected self.old.stubs) self.old.packets number ≡ None) }
         ensures only { OnErr result (result ≡ Err RefsError.Unknown) }
-        ensures lost { IfOk result (λ lost. IsSomeAnd (outstanding_in (is_connected self.old.stubs) self.old.packets number) (λ packet. lost ≡ unheld self.new packet.object)) }
-        ensures books { OnOk result ((n : ℕ) (places : ℕ → ℕ → ℕ) → Tells n places self.new → Totals n places self.new → books_of self.new ≡ ends n places (changed (books_of self.old) (change (owns_of self.old.objects) (books_of self.old) (Drops number)))) }
+        ensures lost { IfOk result (λ lost. IsSomeAnd (outstanding_in
+            (is_connected self.old.stubs) self.old.packets number) (λ packet. lost
+            ≡ unheld self.new packet.object)) }
+        ensures books { OnOk result ((n : ℕ) (places : ℕ → ℕ → ℕ) → Tells n places self.new
+            → Totals n places self.new → books_of self.new
+            ≡ ends n places (changed (books_of self.old) (change (owns_of self.old.objects)
+            (books_of self.old) (Drops number)))) }
         ensures places { OnOk result (SamePlaces self.old self.new) }
         ensures offers { (x j : ℕ) → offers self.new x j ≡ offers self.old x j }
         ensures issued { self.new.issued ≡ self.old.issued }
@@ -619,14 +706,18 @@ impl Refs {
         Ok(if_lost(lost, packet.object))
     }
 
-    /// A cookie ends, and its reference goes back, to the end of the entry. The answer is the cookie's object exactly where nothing
-    /// holds it then. `Unknown` exactly where the cookie was never given or was revoked.
-    /// Source: IGlobalInterfaceTable::RevokeInterfaceFromGlobal.
+    /// A cookie ends, and its reference goes back, to the end of the entry. The answer is the cookie's object
+    /// exactly where nothing holds it then. `Unknown` exactly where the cookie was never given or was
+    /// revoked. Source: IGlobalInterfaceTable::RevokeInterfaceFromGlobal.
     pub fn revoke(&mut self, cookie: u32) -> Result<Option<u32>, RefsError>
         ensures unknown { (result ≡ Err RefsError.Unknown) ↔ (held_in self.old.cookies cookie ≡ None) }
         ensures only { OnErr result (result ≡ Err RefsError.Unknown) }
-        ensures lost { IfOk result (λ lost. IsSomeAnd (held_in self.old.cookies cookie) (λ held. lost ≡ unheld self.new held.object)) }
-        ensures books { OnOk result ((n : ℕ) (places : ℕ → ℕ → ℕ) → Tells n places self.new → Totals n places self.new → books_of self.new ≡ ends n places (changed (books_of self.old) (change (owns_of self.old.objects) (books_of self.old) (Revokes cookie)))) }
+        ensures lost { IfOk result (λ lost. IsSomeAnd (held_in self.old.cookies cookie) (λ held. lost
+            ≡ unheld self.new held.object)) }
+        ensures books { OnOk result ((n : ℕ) (places : ℕ → ℕ → ℕ) → Tells n places self.new
+            → Totals n places self.new → books_of self.new
+            ≡ ends n places (changed (books_of self.old) (change (owns_of self.old.objects)
+            (books_of self.old) (Revokes cookie)))) }
         ensures places { OnOk result (SamePlaces self.old self.new) }
         ensures offers { (x j : ℕ) → offers self.new x j ≡ offers self.old x j }
         ensures issued { self.new.issued ≡ self.old.issued }
@@ -643,9 +734,11 @@ impl Refs {
         Ok(if_lost(lost, held.object))
     }
 
-    /// The object is no longer connected: nothing of it is held any more but its direct places. Source: CoDisconnectObject.
+    /// The object is no longer connected: nothing of it is held any more but its direct places. Source:
+    /// CoDisconnectObject.
     pub fn disconnect(&mut self, object: u32)
-        ensures books { books_of self.new ≡ cut (λ x. (books_of self.old).live x && not (x == object)) (books_of self.old) }
+        ensures books { books_of self.new
+            ≡ cut (λ x. (books_of self.old).live x && not (x == object)) (books_of self.old) }
         ensures objects { self.new.objects ≡ self.old.objects }
         ensures proxies { self.new.proxies ≡ self.old.proxies }
         ensures offers { (x j : ℕ) → offers self.new x j ≡ offers self.old x j }
@@ -658,7 +751,9 @@ impl Refs {
     /// All objects that the apartment owns are no longer connected.
     pub fn end_apartment(&mut self, apartment: u32)
         requires few { self.old.issued ≤ 2 ^ 28 }
-        ensures books { books_of self.new ≡ cut (λ x. (books_of self.old).live x && not (is_owned (owners_of self.old.objects) apartment x)) (books_of self.old) }
+        ensures books { books_of self.new
+            ≡ cut (λ x. (books_of self.old).live x && not (is_owned
+            (owners_of self.old.objects) apartment x)) (books_of self.old) }
         ensures objects { self.new.objects ≡ self.old.objects }
         ensures proxies { self.new.proxies ≡ self.old.proxies }
         ensures offers { (x j : ℕ) → offers self.new x j ≡ offers self.old x j }
@@ -710,7 +805,8 @@ impl Refs {
         self.holders.connected(object)
     }
 
-    /// Something holds the object: a direct place, or where it is connected a place elsewhere, a packet or a cookie.
+    /// Something holds the object: a direct place, or where it is connected a place elsewhere, a packet or a
+    /// cookie.
     pub fn is_held(&self, object: u32) -> bool
         ensures { IsTrue result ↔ (0 < holders_of self.now object) }
     {
@@ -757,7 +853,8 @@ impl Refs {
         self.holders.cookies()
     }
 
-    /// The public references that the apartment's proxy holds of the interface: none where the object is not connected.
+    /// The public references that the apartment's proxy holds of the interface: none where the object is not
+    /// connected.
     pub fn public(&self, apartment: u32, object: u32, iface: u16) -> u64
         ensures { result ≡ (books_of self.now).proxy apartment object iface }
     {
@@ -767,11 +864,13 @@ impl Refs {
         self.holders.public(apartment, object, iface)
     }
 
-    /// The outstanding packet of the interface that the fields name: that whose written references, OXID, OID and IPID they have.
-    /// The caller read the interface from their IID. `None` exactly where they name none. Source: MS-DCOM 2.2.18.2.
+    /// The outstanding packet of the interface that the fields name: that whose written references, OXID, OID
+    /// and IPID they have. The caller read the interface from their IID. `None` exactly where they name none.
+    /// Source: MS-DCOM 2.2.18.2.
     pub fn find(&self, fields: &StdFields, iface: u16) -> Option<u32>
         ensures some { IfSome result (IsFound self.now fields.now iface) }
-        ensures only { IfSome result (λ number. (other : ℕ) → IsFound self.now fields.now iface other → other ≡ number) }
+        ensures only { IfSome result (λ number. (other : ℕ) → IsFound self.now fields.now iface other
+            → other ≡ number) }
         ensures none { IfNone result ((number : ℕ) → IsFound self.now fields.now iface number → ⊥) }
     {
         let most = self.holders.packets();
@@ -789,10 +888,14 @@ impl Refs {
     /// The numbers of a report for an object. It looks at all that ever held it.
     pub fn numbers(&self, object: u32) -> Numbers
         ensures direct { result.direct ≡ direct_in self.now object }
-        ensures proxies { (n m : ℕ) → Within n m self.now → result.proxies ≡ sum_below n (λ a. sum_below m ((books_of self.now).proxy a object)) }
+        ensures proxies { (n m : ℕ) → Within n m self.now
+            → result.proxies ≡ sum_below n (λ a. sum_below m ((books_of self.now).proxy a object)) }
         ensures packets { result.packets ≡ sum_by (in_normal object) (books_of self.now).packets }
-        ensures tables { (n m : ℕ) → Within n m self.now → result.tables ≡ sum_by (in_table object) (books_of self.now).packets + sum_by (in_cookie object) (books_of self.now).cookies }
-        ensures stub { (n m : ℕ) → Within n m self.now → result.stub ≡ sum_below m ((books_of self.now).stub object) }
+        ensures tables { (n m : ℕ) → Within n m self.now
+            → result.tables ≡ sum_by (in_table object) (books_of self.now).packets + sum_by
+            (in_cookie object) (books_of self.now).cookies }
+        ensures stub { (n m : ℕ) → Within n m self.now
+            → result.stub ≡ sum_below m ((books_of self.now).stub object) }
     {
         let direct = self.holders.direct(object);
         if !self.holders.connected(object) {
@@ -807,14 +910,19 @@ impl Refs {
         self.numbers_of_connected(object, direct)
     }
 
-    // The same for a connected object: what proxies and normal packets leave of the stub's count is that of the tables.
+    // The same for a connected object: what proxies and normal packets leave of the stub's count is that of
+    // the tables.
     fn numbers_of_connected(&self, object: u32, direct: u64) -> Numbers
         requires connected { is_connected self.now.stubs object ≡ true }
         ensures direct { result.direct ≡ direct }
-        ensures proxies { (n m : ℕ) → Within n m self.now → result.proxies ≡ sum_below n (λ a. sum_below m ((books_of self.now).proxy a object)) }
+        ensures proxies { (n m : ℕ) → Within n m self.now
+            → result.proxies ≡ sum_below n (λ a. sum_below m ((books_of self.now).proxy a object)) }
         ensures packets { result.packets ≡ sum_by (in_normal object) (books_of self.now).packets }
-        ensures tables { (n m : ℕ) → Within n m self.now → result.tables ≡ sum_by (in_table object) (books_of self.now).packets + sum_by (in_cookie object) (books_of self.now).cookies }
-        ensures stub { (n m : ℕ) → Within n m self.now → result.stub ≡ sum_below m ((books_of self.now).stub object) }
+        ensures tables { (n m : ℕ) → Within n m self.now
+            → result.tables ≡ sum_by (in_table object) (books_of self.now).packets + sum_by
+            (in_cookie object) (books_of self.now).cookies }
+        ensures stub { (n m : ℕ) → Within n m self.now
+            → result.stub ≡ sum_below m ((books_of self.now).stub object) }
     {
         self.holders.stands();
         let proxies = self.holders.proxied(object);
@@ -830,14 +938,21 @@ impl Refs {
     }
 }
 
-/// A table of places stays what the tables count, where a call changes none, and where both have one more or one less.
+/// A table of places stays what the tables count, where a call changes none, and where both have one more or
+/// one less.
 pub fn counts_move()
-    ensures same { (n : ℕ) (places : ℕ → ℕ → ℕ) (t u : Tables) → Counts n places t → SamePlaces t u → Counts n places u }
-    ensures more { (n : ℕ) (places later : ℕ → ℕ → ℕ) (t u : Tables) (a o : ℕ) (owned : Bool) → Counts n places t → OneMore t u a o owned → owns_of t.objects o a ≡ owned → a < n → ((c x : ℕ) → later c x ≡ places c x + count_if (c == a && x == o)) → Counts n later u }
-    ensures less { (n : ℕ) (places later : ℕ → ℕ → ℕ) (t u : Tables) (a o : ℕ) (owned : Bool) → Counts n places t → OneLess t u a o owned → owns_of t.objects o a ≡ owned → a < n → ((c x : ℕ) → later c x + count_if (c == a && x == o) ≡ places c x) → Counts n later u }
+    ensures same { (n : ℕ) (places : ℕ → ℕ → ℕ) (t u : Tables) → Counts n places t → SamePlaces t u
+        → Counts n places u }
+    ensures more { (n : ℕ) (places later : ℕ → ℕ → ℕ) (t u : Tables) (a o : ℕ) (owned : Bool)
+        → Counts n places t → OneMore t u a o owned → owns_of t.objects o a ≡ owned → a < n → ((c x : ℕ)
+        → later c x ≡ places c x + count_if (c == a && x == o)) → Counts n later u }
+    ensures less { (n : ℕ) (places later : ℕ → ℕ → ℕ) (t u : Tables) (a o : ℕ) (owned : Bool)
+        → Counts n places t → OneLess t u a o owned → owns_of t.objects o a ≡ owned → a < n → ((c x : ℕ)
+        → later c x + count_if (c == a && x == o) ≡ places c x) → Counts n later u }
 {}
 
 /// Ending an entry twice, with fewer places the second time, is ending it once.
 pub fn ends_compose()
-    ensures { (n : ℕ) (places later : ℕ → ℕ → ℕ) (b : Books) → ((a o : ℕ) → later a o ≤ places a o) → ends n later (ends n places b) ≡ ends n later b }
+    ensures { (n : ℕ) (places later : ℕ → ℕ → ℕ) (b : Books) → ((a o : ℕ) → later a o ≤ places a o)
+        → ends n later (ends n places b) ≡ ends n later b }
 {}

@@ -13,8 +13,8 @@ abbrev pub StaysDying : Scenario → List Entry → ℕ → Deed → Type 0
 StaysDying s h l d =
     (o : ℕ) → is_dying s h o ≡ true → (is_dying s (record { lane = l; deed = d } ∷ h) o ≡ true) ⊎ (d ≡ deed.Final o)
 
--- All objects that were dying after some entry, in the order of the entries after which each first was, and by number where one
--- entry made several so.
+-- All objects that were dying after some entry, in the order of the entries after which each first was, and
+-- by number where one entry made several so.
 abbrev pub first_fallen : Scenario → List Entry → List ℕ
 first_fallen s [] = []
 first_fallen s (e ∷ h) =

@@ -104,7 +104,8 @@ pub fn verdict(
     verdict: Verdict,
 ) -> Result<(), Memory>
     ensures front { text.new.front ≡ text.old.front }
-    ensures ok { OnOk result (text.new.text ≡ deed_line version text.old.text (Deed.Verdict call call_type verdict)) }
+    ensures ok { OnOk result (text.new.text
+        ≡ deed_line version text.old.text (Deed.Verdict call call_type verdict)) }
 {
     text.numbered(b" verdict c", call as u64)?;
     text.numbered(b" ", call_type as u64)?;
@@ -220,7 +221,8 @@ pub fn back(
 /// Appends what a caller's filter answered to a word that came while it waited.
 pub fn pending(text: &mut Text, version: u8, call: u32, word: i64, answer: u8) -> Result<(), Memory>
     ensures front { text.new.front ≡ text.old.front }
-    ensures ok { OnOk result (text.new.text ≡ deed_line version text.old.text (Deed.Pending call word answer)) }
+    ensures ok { OnOk result (text.new.text
+        ≡ deed_line version text.old.text (Deed.Pending call word answer)) }
 {
     text.numbered(b" pending c", call as u64)?;
     text.signed_after(b" ", word)?;

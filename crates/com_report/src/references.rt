@@ -74,7 +74,8 @@ pub fn query(
     hr: HResult,
 ) -> Result<(), Memory>
     ensures front { text.new.front ≡ text.old.front }
-    ensures ok { OnOk result (text.new.text ≡ deed_line version text.old.text (Deed.Query object iface.now hr)) }
+    ensures ok { OnOk result (text.new.text
+        ≡ deed_line version text.old.text (Deed.Query object iface.now hr)) }
 {
     text.push(b" query ")?;
     text.named(b"o", object)?;
@@ -199,7 +200,8 @@ pub fn register(
     hr: HResult,
 ) -> Result<(), Memory>
     ensures front { text.new.front ≡ text.old.front }
-    ensures ok { OnOk result (text.new.text ≡ deed_line version text.old.text (Deed.Register cookie held hr)) }
+    ensures ok { OnOk result (text.new.text
+        ≡ deed_line version text.old.text (Deed.Register cookie held hr)) }
 {
     text.push(b" register ")?;
     text.named(b"g", cookie)?;
@@ -219,7 +221,8 @@ pub fn get(
     hr: HResult,
 ) -> Result<(), Memory>
     ensures front { text.new.front ≡ text.old.front }
-    ensures ok { OnOk result (text.new.text ≡ deed_line version text.old.text (Deed.Get cookie held refs hr)) }
+    ensures ok { OnOk result (text.new.text
+        ≡ deed_line version text.old.text (Deed.Get cookie held refs hr)) }
 {
     text.signed_after(b" get ", cookie)?;
     text.push(b" ")?;

@@ -1,5 +1,6 @@
 //! What a line is written with: the text that grows, and the words that stand in many lines.
-ghost use Rattle.std.specs.Prelude.{◌≡◌, ◌++◌, ℕ, [], ◌<◌, ◌≤◌, ◌/◌, ◌%◌, OnOk, decimal, codes, slice_index, length};
+ghost use Rattle.std.specs.Prelude.{◌≡◌, ◌++◌, ℕ, [], ◌<◌, ◌≤◌, ◌/◌, ◌%◌, OnOk, decimal, codes, slice_index};
+ghost use Rattle.std.specs.Prelude.{length};
 ghost use Rattle.std.specs.Fmt.{signed_decimal};
 ghost use Rattle.hex.specs.Hex.{encode_lower, upper_digits};
 ghost use Rattle.com_model.specs.Text.{eight_digits, hresult_text, named, held_text, asked_text, bytes_text};

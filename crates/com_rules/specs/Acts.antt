@@ -1,4 +1,5 @@
--- What goes with the entry of an action: what the call has that it issues, and the references that get a packet each.
+-- What goes with the entry of an action: what the call has that it issues, and the references that get a
+-- packet each.
 use Rattle.std.specs.Prelude.{◌≡◌, ℕ, true, List, [], Option, Some, None}
 use Rattle.com_base.specs.declared.value.RefValue.{RefValue}
 use Rattle.com_body.specs.declared.actions.Action.{Action}
@@ -20,7 +21,8 @@ use Rattle.com_model.specs.State.{is_marshalled_by}
 use Rattle.com_model.specs.Values.{carried, result_list}
 use Rattle.com_view.specs.Seen.{Seen, sight_by}
 
--- What the call has that an entry issues: the refusal, or S_OK, the values that it sends, and its target's apartment.
+-- What the call has that an entry issues: the refusal, or S_OK, the values that it sends, and its target's
+-- apartment.
 abbrev pub issued_by : Scenario → Sight → ℕ → Action → Deed → Issued
 issued_by s v l x d = record {
   refusal = or_ok (action_refusal s (v.home l) (v.running l) v.owns v.books.live (Some x));

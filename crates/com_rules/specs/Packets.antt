@@ -16,7 +16,8 @@ refs_made marshal.Normal owned n = refs_of owned n
 refs_made marshal.Strong owned n = 1
 refs_made marshal.Weak owned n = 0
 
--- The fields of a reference's packet, where k packets of the call were made before it: none of what is not connected.
+-- The fields of a reference's packet, where k packets of the call were made before it: none of what is not
+-- connected.
 abbrev pub field_of : Scenario → Sight → (made : ℕ) → (refs : List ℕ) → Outgoing → (k : ℕ) → List StdFields
 field_of s v made refs x k =
     if x.connected

@@ -41,7 +41,8 @@ fn silent_deed<B: Found>(
     requires room { HasRoom view.now (B.books books.now) }
     requires fits { FitsAction action.now }
     requires silent { IsSilent action.now }
-    ensures { IfOk result (λ made. made ≡ deed_of view.now.scenario (sight_by view.now (B.books books.now)) lane action.now) }
+    ensures { IfOk result (λ made. made
+        ≡ deed_of view.now.scenario (sight_by view.now (B.books books.now)) lane action.now) }
 {
     if let Some(deed) = acted_alone(view, lane, action) {
         return Ok(deed);
@@ -71,9 +72,12 @@ fn silent<B: Found>(
     requires room { HasRoom view.now (B.books books.now) }
     requires fits { FitsAction action.now }
     requires silent { IsSilent action.now }
-    ensures deed { IfOk result (λ made. made.deed ≡ deed_of view.now.scenario (sight_by view.now (B.books books.now)) lane action.now) }
-    ensures issued { IfOk result (λ made. Issues view.now.scenario (sight_by view.now (B.books books.now)) lane action.now made.deed made.issued) }
-    ensures carried { IfOk result (λ made. made.carried ≡ carried_by view.now.scenario (B.books books.now) action.now made.deed) }
+    ensures deed { IfOk result (λ made. made.deed
+        ≡ deed_of view.now.scenario (sight_by view.now (B.books books.now)) lane action.now) }
+    ensures issued { IfOk result (λ made. Issues view.now.scenario (sight_by view.now
+        (B.books books.now)) lane action.now made.deed made.issued) }
+    ensures carried { IfOk result (λ made. made.carried
+        ≡ carried_by view.now.scenario (B.books books.now) action.now made.deed) }
 {
     let deed = silent_deed(view, books, alloc, lane, action)?;
     Ok(Doing {
@@ -93,9 +97,12 @@ pub fn acted<B: Found>(
 ) -> Result<Doing, Memory>
     requires room { HasRoom view.now (B.books books.now) }
     requires fits { FitsAction action.now }
-    ensures deed { IfOk result (λ made. made.deed ≡ deed_of view.now.scenario (sight_by view.now (B.books books.now)) lane action.now) }
-    ensures issued { IfOk result (λ made. Issues view.now.scenario (sight_by view.now (B.books books.now)) lane action.now made.deed made.issued) }
-    ensures carried { IfOk result (λ made. made.carried ≡ carried_by view.now.scenario (B.books books.now) action.now made.deed) }
+    ensures deed { IfOk result (λ made. made.deed
+        ≡ deed_of view.now.scenario (sight_by view.now (B.books books.now)) lane action.now) }
+    ensures issued { IfOk result (λ made. Issues view.now.scenario (sight_by view.now
+        (B.books books.now)) lane action.now made.deed made.issued) }
+    ensures carried { IfOk result (λ made. made.carried
+        ≡ carried_by view.now.scenario (B.books books.now) action.now made.deed) }
 {
     match action {
         Action::Call {

@@ -1,4 +1,5 @@
-//! The entries of actions on the lane itself, on words, places and buffers, and of those on objects, references and cookies.
+//! The entries of actions on the lane itself, on words, places and buffers, and of those on objects,
+//! references and cookies.
 
 ghost use Rattle.std.specs.Prelude.{◌≡◌, ◌+◌, ◌<◌, ◌≤◌, ◌^◌, length, IfSome};
 ghost use Rattle.com_books.specs.Changes.{Books};
@@ -22,13 +23,15 @@ pub fn is_connected<R: References>(refs: &R, held: Option<RefValue>) -> bool
     }
 }
 
-/// The entry of an action on the lane itself, on words, places and buffers: `init`, `uninit`, `setfilter`, `pump`, `post`, `quit`,
+/// The entry of an action on the lane itself, on words, places and buffers: `init`, `uninit`, `setfilter`,
+/// `pump`, `post`, `quit`,
 /// `copy`, `release` and `raw`. `None` of every other.
 pub fn acted_alone(view: &View<'_>, lane: u32, action: &Action) -> Option<Deed>
     requires stas { length view.now.lanes.stas + 4 ≤ 2 ^ 32 }
     requires threads { length view.now.scenario.threads < 2 ^ 32 }
     requires fits { FitsAction action.now }
-    ensures { (b : Books) → IfSome result (λ deed. deed ≡ deed_of view.now.scenario (sight_by view.now b) lane action.now) }
+    ensures { (b : Books) → IfSome result (λ deed. deed
+        ≡ deed_of view.now.scenario (sight_by view.now b) lane action.now) }
 {
     match action {
         Action::Init { mode } => Some(view.initialised(lane, *mode)),
@@ -47,7 +50,8 @@ pub fn acted_alone(view: &View<'_>, lane: u32, action: &Action) -> Option<Deed>
     }
 }
 
-/// The entry of an action on an object, a reference or a cookie: `create`, `query`, `disconnect`, `register`, `get` and `revoke`.
+/// The entry of an action on an object, a reference or a cookie: `create`, `query`, `disconnect`, `register`,
+/// `get` and `revoke`.
 /// `None` of every other.
 pub fn acted_on<R: References>(
     view: &View<'_>,
@@ -58,7 +62,8 @@ pub fn acted_on<R: References>(
     requires objects { length view.now.objects.makings + 1 < 2 ^ 32 }
     requires cookies { length (R.books refs.now).cookies + 1 < 2 ^ 32 }
     requires fits { FitsAction action.now }
-    ensures { IfSome result (λ deed. deed ≡ deed_of view.now.scenario (sight_by view.now (R.books refs.now)) lane action.now) }
+    ensures { IfSome result (λ deed. deed
+        ≡ deed_of view.now.scenario (sight_by view.now (R.books refs.now)) lane action.now) }
 {
     match action {
         Action::Create { class, iface, .. } => Some(view.created(lane, *class, *iface)),

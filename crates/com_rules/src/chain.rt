@@ -11,14 +11,16 @@ use com_model::Deed;
 use com_view::{References, View};
 use std::alloc::Global;
 
-/// The entry that the first of the rules gives a lane, but for that of its script. The only error is want of memory.
+/// The entry that the first of the rules gives a lane, but for that of its script. The only error is want of
+/// memory.
 pub fn ruled<R: References>(
     view: &View<'_>,
     refs: &R,
     alloc: Global,
     lane: u32,
 ) -> Result<Option<Deed>, Memory>
-    ensures { IfOk result (λ deed. or_else deed (rule_script view.now.scenario (sight_by view.now (R.books refs.now)) lane)
+    ensures { IfOk result (λ deed. or_else deed (rule_script view.now.scenario (sight_by view.now
+        (R.books refs.now)) lane)
         ≡ ruled view.now.scenario (sight_by view.now (R.books refs.now)) lane) }
 {
     if let Some(deed) = view.finals(lane) {
@@ -39,7 +41,8 @@ pub fn ruled<R: References>(
     Ok(view.ruled_later(lane))
 }
 
-/// What a thread's lane does when its script has left: it drops an initialisation where one is left, else it ends.
+/// What a thread's lane does when its script has left: it drops an initialisation where one is left, else it
+/// ends.
 pub fn script_over(view: &View<'_>, lane: u32) -> Deed
     ensures { (b : Books) → result ≡ after_script (sight_by view.now b) lane }
 {

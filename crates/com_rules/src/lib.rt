@@ -1,5 +1,5 @@
-//! The deed of a lane: the entry that the rules give it, and the entry of each action, with the bytes of requests, of replies and of
-//! packets. Nothing is changed.
+//! The deed of a lane: the entry that the rules give it, and the entry of each action, with the bytes of
+//! requests, of replies and of packets. Nothing is changed.
 #![tactic(auto)]
 
 mod actions;

@@ -1,6 +1,7 @@
 //! The packets that an entry makes: the public references that they hold, and the fields of their bytes.
 
-ghost use Rattle.std.specs.Prelude.{◌≡◌, ◌++◌, ◌+◌, ℕ, IfOk, OnOk, Some, None, true, length, map, slice_index_or};
+ghost use Rattle.std.specs.Prelude.{◌≡◌, ◌++◌, ◌+◌, ℕ, IfOk, OnOk, Some, None, true, length, map};
+ghost use Rattle.std.specs.Prelude.{slice_index_or};
 ghost use Rattle.std.specs.List.{AllByRecursion};
 ghost use Rattle.com_base.specs.declared.value.RefValue.{RefValue};
 ghost use Rattle.com_body.specs.declared.actions.Action.TheVariants as action;
@@ -23,7 +24,8 @@ use std::alloc::{AllocError, Global};
 
 // What a proxy of the lane's apartment has. As many as no 32 bits count are more than there is memory for.
 fn public<B: Found>(view: &View<'_>, books: &B, lane: u32, held: RefValue) -> Result<u32, Memory>
-    ensures { IfOk result (λ refs. refs ≡ (B.books books.now).proxy (number_or_zero (running_seen view.now lane)) held.object held.iface) }
+    ensures { IfOk result (λ refs. refs
+        ≡ (B.books books.now).proxy (number_or_zero (running_seen view.now lane)) held.object held.iface) }
 {
     let apartment = number_or_zero(view.running(lane));
     u32::try_from(books.public(apartment, held.object, held.iface)).map_err(|_| AllocError)
@@ -68,7 +70,9 @@ fn fields_as(
     held: RefValue,
     refs: u32,
 ) -> StdFields
-    ensures { (b : Books) → result ≡ packet_fields view.now.scenario (sight_by view.now b) (new_packet mode held.object held.iface refs) number }
+    ensures { (b : Books) → result
+        ≡ packet_fields view.now.scenario (sight_by view.now b)
+        (new_packet mode held.object held.iface refs) number }
 {
     let owner = view.objects.owner(held.object);
     packet_fields(view.scenario, new_packet(mode, held, refs), number, owner)
@@ -84,7 +88,8 @@ fn marshalled_now<B: Found>(
     held: RefValue,
 ) -> Result<Deed, Memory>
     requires { (B.books books.now).live held.object ≡ true }
-    ensures { IfOk result (λ made. made ≡ marshalled view.now.scenario (sight_by view.now (B.books books.now)) lane mode (Some held) None) }
+    ensures { IfOk result (λ made. made
+        ≡ marshalled view.now.scenario (sight_by view.now (B.books books.now)) lane mode (Some held) None) }
 {
     let number = next_packet(books)?;
     let owned = view.owns(lane, held.object);
@@ -103,7 +108,9 @@ pub fn marshalled_packet<B: Found>(
     held: Option<RefValue>,
     mode: MarshalMode,
 ) -> Result<Deed, Memory>
-    ensures { IfOk result (λ made. (buffer : ℕ) → made ≡ deed_of view.now.scenario (sight_by view.now (B.books books.now)) lane (action.Marshal buffer held mode)) }
+    ensures { IfOk result (λ made. (buffer : ℕ)
+        → made ≡ deed_of view.now.scenario (sight_by view.now (B.books books.now)) lane
+        (action.Marshal buffer held mode)) }
 {
     let connected = is_connected(books, held);
     if let Some(hr) = hold_refusal(view.home(lane), held, connected) {
@@ -122,7 +129,8 @@ fn outgoing<B: Found>(
     lane: u32,
     held: RefValue,
 ) -> Result<Outgoing, Memory>
-    ensures outgoing { IfOk result (λ row. IsOutgoing (sight_by view.now (B.books books.now)).owns (B.books books.now) (number_or_zero (running_seen view.now lane)) row) }
+    ensures outgoing { IfOk result (λ row. IsOutgoing (sight_by view.now (B.books books.now)).owns
+        (B.books books.now) (number_or_zero (running_seen view.now lane)) row) }
     ensures reference { IfOk result (λ row. reference_of row ≡ held) }
 {
     Ok(Outgoing {
@@ -143,7 +151,9 @@ fn all_outgoing<B: Found>(
     lane: u32,
     carried: &[RefValue],
 ) -> Result<Vec<Outgoing>, Memory>
-    ensures outgoing { IfOk result (λ rows. AllByRecursion (IsOutgoing (sight_by view.now (B.books books.now)).owns (B.books books.now) (number_or_zero (running_seen view.now lane))) rows.items) }
+    ensures outgoing { IfOk result (λ rows. AllByRecursion (IsOutgoing (sight_by view.now
+        (B.books books.now)).owns (B.books books.now) (number_or_zero
+        (running_seen view.now lane))) rows.items) }
     ensures references { IfOk result (λ rows. map reference_of rows.items ≡ carried.now) }
 {
     let mut rows = Vec::with_capacity(alloc, carried.len())?;
@@ -161,7 +171,9 @@ fn append_field(
     refs: &[u32],
     row: &Outgoing,
 ) -> Result<(), Memory>
-    ensures { OnOk result (fields.new.items ≡ fields.old.items ++ field_of view.now.scenario (bare view.now) made refs.now row.now (length fields.old.items)) }
+    ensures { OnOk result (fields.new.items
+        ≡ fields.old.items ++ field_of view.now.scenario (bare view.now) made refs.now row.now
+        (length fields.old.items)) }
 {
     if !row.connected {
         return Ok(());
@@ -205,7 +217,8 @@ fn number_fields(
     rows: &[Outgoing],
     refs: &[u32],
 ) -> Result<Vec<StdFields>, Memory>
-    ensures { IfOk result (λ fields. fields.items ≡ fields_from view.now.scenario (bare view.now) made refs.now rows.now 0) }
+    ensures { IfOk result (λ fields. fields.items
+        ≡ fields_from view.now.scenario (bare view.now) made refs.now rows.now 0) }
 {
     let mut fields = Vec::with_capacity(alloc, refs.len())?;
     for row in rows {
@@ -214,8 +227,8 @@ fn number_fields(
     Ok(fields)
 }
 
-/// The fields of the packets that the lane's apartment makes of these references, in their order. What is not connected gets none.
-/// The only error is want of memory.
+/// The fields of the packets that the lane's apartment makes of these references, in their order. What is not
+/// connected gets none. The only error is want of memory.
 pub fn fields_made<B: Found>(
     view: &View<'_>,
     books: &B,
@@ -223,7 +236,8 @@ pub fn fields_made<B: Found>(
     lane: u32,
     carried: &[RefValue],
 ) -> Result<Vec<StdFields>, Memory>
-    ensures { IfOk result (λ fields. fields.items ≡ fields_since view.now.scenario (sight_by view.now (B.books books.now))
+    ensures { IfOk result (λ fields. fields.items
+        ≡ fields_since view.now.scenario (sight_by view.now (B.books books.now))
         (with_packets (sight_by view.now (B.books books.now)) lane (marshal_all (number_or_zero (running_seen view.now lane)) carried.now))) }
 {
     let rows = all_outgoing(view, books, alloc, lane, carried)?;

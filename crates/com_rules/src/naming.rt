@@ -63,7 +63,9 @@ fn find<B: Found>(view: &View<'_>, books: &B, fields: &StdFields) -> Option<u32>
 
 // The packet that the bytes of a buffer name, or why they name none.
 fn named<B: Found>(view: &View<'_>, books: &B, lane: u32, buffer: u8) -> Named
-    ensures { named_as result ≡ named_by view.now.scenario (sight_by view.now (B.books books.now)) ((sight_by view.now (B.books books.now)).home lane) ((sight_by view.now (B.books books.now)).buffers buffer) }
+    ensures { named_as result ≡ named_by view.now.scenario (sight_by view.now (B.books books.now))
+        ((sight_by view.now (B.books books.now)).home lane) ((sight_by view.now
+        (B.books books.now)).buffers buffer) }
 {
     match standard_fields(view.home(lane), view.scene.buffer(buffer)) {
         Err(hr) => Named::Refused(hr),
@@ -86,7 +88,9 @@ fn row_of<B: Found>(books: &B, found: Named) -> Packet
 
 /// The entry of `unmarshal` (CoUnmarshalInterface).
 pub fn unmarshalled<B: Found>(view: &View<'_>, books: &B, lane: u32, buffer: u8) -> Deed
-    ensures { (slot : ℕ) → result ≡ deed_of view.now.scenario (sight_by view.now (B.books books.now)) lane (action.Unmarshal slot buffer) }
+    ensures { (slot : ℕ) → result
+        ≡ deed_of view.now.scenario (sight_by view.now (B.books books.now)) lane
+        (action.Unmarshal slot buffer) }
 {
     let found = named(view, books, lane, buffer);
     let kept = row_of(books, found);
@@ -96,7 +100,8 @@ pub fn unmarshalled<B: Found>(view: &View<'_>, books: &B, lane: u32, buffer: u8)
 
 /// The entry of `drop` (CoReleaseMarshalData).
 pub fn dropped_packet<B: Found>(view: &View<'_>, books: &B, lane: u32, buffer: u8) -> Deed
-    ensures { result ≡ deed_of view.now.scenario (sight_by view.now (B.books books.now)) lane (action.Drop buffer) }
+    ensures { result ≡ deed_of view.now.scenario (sight_by view.now (B.books books.now)) lane
+        (action.Drop buffer) }
 {
     dropped(named(view, books, lane, buffer))
 }

@@ -1,6 +1,7 @@
 //! The entries that send values: the Out of a call, and the Leave of a body.
 
-ghost use Rattle.std.specs.Prelude.{◌≡◌, ◌&&◌, ℕ, true, not, List, [], Option, Some, IfOk, option_copied, if◌then◌else◌};
+ghost use Rattle.std.specs.Prelude.{◌≡◌, ◌&&◌, ℕ, true, not, List, [], Option, Some, IfOk, option_copied};
+ghost use Rattle.std.specs.Prelude.{if◌then◌else◌};
 ghost use Rattle.com_body.specs.declared.actions.Action.{Action};
 ghost use Rattle.com_body.specs.declared.actions.Action.TheVariants as action;
 ghost use Rattle.com_body.specs.declared.operands.Destination.{Destination};
@@ -73,7 +74,9 @@ fn arguments<B: Found>(
     marshalled: bool,
     args: &[Value],
 ) -> Result<Rows<Value>, Memory>
-    ensures { IfOk result (λ values. values ≡ sent_values marshalled (B.books books.now).live (parameters (method_at view.now.scenario.classes iface method)) args.now) }
+    ensures { IfOk result (λ values. values
+        ≡ sent_values marshalled (B.books books.now).live (parameters
+        (method_at view.now.scenario.classes iface method)) args.now) }
 {
     match view.scenario.classes.method(iface, method) {
         Some(method) => sent_values(
@@ -96,7 +99,9 @@ fn request_with<B: Found>(
     cause: u32,
     values: &[Value],
 ) -> Result<Sending, Memory>
-    ensures bytes { IfOk result (λ made. made.bytes ≡ out_bytes view.now.scenario (sight_by view.now (B.books books.now)) lane Route.Post cause values.now) }
+    ensures bytes { IfOk result (λ made. made.bytes
+        ≡ out_bytes view.now.scenario (sight_by view.now
+        (B.books books.now)) lane Route.Post cause values.now) }
     ensures carried { IfOk result (λ made. made.carried ≡ carried values.now) }
 {
     let held = carried(alloc, values)?;
@@ -118,8 +123,10 @@ fn request_on<B: Found>(
     cause: u32,
     values: &[Value],
 ) -> Result<Sending, Memory>
-    ensures bytes { IfOk result (λ made. made.bytes ≡ out_bytes view.now.scenario (sight_by view.now (B.books books.now)) lane route cause values.now) }
-    ensures carried { IfOk result (λ made. made.carried ≡ (if is_marshalled route then carried values.now else [])) }
+    ensures bytes { IfOk result (λ made. made.bytes
+        ≡ out_bytes view.now.scenario (sight_by view.now (B.books books.now)) lane route cause values.now) }
+    ensures carried { IfOk result (λ made. made.carried ≡ (if is_marshalled route
+        then carried values.now else [])) }
 {
     match route {
         Route::Direct | Route::Refused => Ok(nothing_sent(alloc)),
@@ -144,7 +151,12 @@ fn issued(
     refusal: Option<HResult>,
     values: Rows<Value>,
 ) -> Issued
-    ensures { result ≡ record { refusal = or_ok refusal; values = values; apartment = (bare view.now).named (target_number target) } }
+    ensures { result ≡ record {
+      refusal = or_ok refusal;
+      values = values;
+      apartment = (bare view.now).named
+          (target_number target);
+    } }
 {
     let object = number_or_zero(object_in(target));
     Issued {
@@ -154,8 +166,8 @@ fn issued(
     }
 }
 
-/// The entry of a call, with what goes with it. The values are those that travel on its route, and the request has their bytes. The
-/// only error is want of memory.
+/// The entry of a call, with what goes with it. The values are those that travel on its route, and the
+/// request has their bytes. The only error is want of memory.
 pub fn called<B: Found>(
     view: &View<'_>,
     books: &B,
@@ -167,9 +179,15 @@ pub fn called<B: Found>(
     args: &[Value],
 ) -> Result<Doing, Memory>
     requires room { HasRoom view.now (B.books books.now) }
-    ensures deed { IfOk result (λ made. (to : Destination) → made.deed ≡ deed_of view.now.scenario (sight_by view.now (B.books books.now)) lane (action.Call target iface method args.now to)) }
-    ensures issued { IfOk result (λ made. (to : Destination) → Issues view.now.scenario (sight_by view.now (B.books books.now)) lane (action.Call target iface method args.now to) made.deed made.issued) }
-    ensures carried { IfOk result (λ made. (to : Destination) → made.carried ≡ carried_by view.now.scenario (B.books books.now) (action.Call target iface method args.now to) made.deed) }
+    ensures deed { IfOk result (λ made. (to : Destination)
+        → made.deed ≡ deed_of view.now.scenario (sight_by view.now (B.books books.now)) lane
+        (action.Call target iface method args.now to)) }
+    ensures issued { IfOk result (λ made. (to : Destination)
+        → Issues view.now.scenario (sight_by view.now (B.books books.now)) lane
+        (action.Call target iface method args.now to) made.deed made.issued) }
+    ensures carried { IfOk result (λ made. (to : Destination)
+        → made.carried ≡ carried_by view.now.scenario (B.books books.now)
+        (action.Call target iface method args.now to) made.deed) }
 {
     let connected = is_connected(books, target);
     let refusal = view.call_refusal(lane, target, iface, method, connected);
@@ -219,7 +237,9 @@ fn reply_with<B: Found>(
     answer: HResult,
     value: Option<&Value>,
 ) -> Result<Sending, Memory>
-    ensures bytes { IfOk result (λ made. made.bytes ≡ reply_for view.now.scenario (sight_by view.now (B.books books.now)) lane true answer (option_copied value.entry)) }
+    ensures bytes { IfOk result (λ made. made.bytes
+        ≡ reply_for view.now.scenario (sight_by view.now (B.books books.now)) lane true answer
+        (option_copied value.entry)) }
     ensures carried { IfOk result (λ made. made.carried ≡ carried (result_list (option_copied value.entry))) }
 {
     let held = reference_in(alloc, value)?;
@@ -241,8 +261,11 @@ fn reply_on<B: Found>(
     answer: HResult,
     value: Option<&Value>,
 ) -> Result<Sending, Memory>
-    ensures bytes { IfOk result (λ made. made.bytes ≡ reply_for view.now.scenario (sight_by view.now (B.books books.now)) lane wanted answer (option_copied value.entry)) }
-    ensures carried { IfOk result (λ made. made.carried ≡ (if wanted then carried (result_list (option_copied value.entry)) else [])) }
+    ensures bytes { IfOk result (λ made. made.bytes
+        ≡ reply_for view.now.scenario (sight_by view.now (B.books books.now)) lane wanted answer
+        (option_copied value.entry)) }
+    ensures carried { IfOk result (λ made. made.carried ≡ (if wanted
+        then carried (result_list (option_copied value.entry)) else [])) }
 {
     if wanted {
         reply_with(view, books, alloc, lane, answer, value)
@@ -272,9 +295,12 @@ fn left_as<B: Found>(
     answer: HResult,
     value: Option<&Value>,
 ) -> Result<Doing, Memory>
-    ensures deed { IfOk result (λ made. made.deed ≡ left_as view.now.scenario (sight_by view.now (B.books books.now)) lane call (Some issue) answer (option_copied value.entry)) }
+    ensures deed { IfOk result (λ made. made.deed
+        ≡ left_as view.now.scenario (sight_by view.now (B.books books.now)) lane call (Some issue) answer
+        (option_copied value.entry)) }
     ensures issued { IfOk result (λ made. made.issued ≡ Option.None) }
-    ensures carried { IfOk result (λ made. (x : Action) → made.carried ≡ carried_by view.now.scenario (B.books books.now) x made.deed) }
+    ensures carried { IfOk result (λ made. (x : Action)
+        → made.carried ≡ carried_by view.now.scenario (B.books books.now) x made.deed) }
 {
     let marshalled = issue.route.is_marshalled();
     let kind = result_kind(view, issue.iface, issue.method);
@@ -327,9 +353,12 @@ pub fn left<B: Found>(
     answer: HResult,
     value: Option<&Value>,
 ) -> Result<Doing, Memory>
-    ensures deed { IfOk result (λ made. made.deed ≡ deed_of view.now.scenario (sight_by view.now (B.books books.now)) lane (action.Leave answer (option_copied value.entry))) }
+    ensures deed { IfOk result (λ made. made.deed
+        ≡ deed_of view.now.scenario (sight_by view.now (B.books books.now)) lane (action.Leave answer
+        (option_copied value.entry))) }
     ensures issued { IfOk result (λ made. made.issued ≡ Option.None) }
-    ensures carried { IfOk result (λ made. (x : Action) → made.carried ≡ carried_by view.now.scenario (B.books books.now) x made.deed) }
+    ensures carried { IfOk result (λ made. (x : Action)
+        → made.carried ≡ carried_by view.now.scenario (B.books books.now) x made.deed) }
 {
     let Some(call) = view.lanes.running_call(lane) else {
         return Ok(left_bare(alloc, 0, answer));

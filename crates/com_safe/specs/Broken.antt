@@ -1,4 +1,5 @@
--- Seven histories that are legal but for their last entry, and each breaks one of the clauses of `Safe` by it.
+-- Seven histories that are legal but for their last entry, and each breaks one of the clauses of `Safe` by
+-- it.
 use Rattle.std.specs.Prelude.{List, [], ◌∷◌, Some, pos}
 use Rattle.com_base.specs.declared.value.Value.TheVariants as value
 use Rattle.com_base.specs.declared.value.Mode.TheVariants as mode
@@ -8,7 +9,8 @@ use Rattle.com_model.specs.declared.deeds.Deed.TheVariants as deed
 use Rattle.com_model.specs.declared.deeds.Entry.{Entry}
 use Rattle.com_model.specs.declared.scenario.Scenario.{Scenario}
 use Rattle.com_model.specs.Answers.{S_OK, RPC_E_OUT_OF_RESOURCES}
-use Rattle.com_model.specs.Cases.{direct_call, direct_call_3, direct_call_4, direct_call_5, direct_call_6, into_the_host_3, answer_first_10}
+use Rattle.com_model.specs.Cases.{direct_call, direct_call_3, direct_call_4, direct_call_5, direct_call_6}
+use Rattle.com_model.specs.Cases.{into_the_host_3, answer_first_10}
 
 -- A body of the host STA's object runs in the caller's lane.
 abbrev pub in_foreign_lane : List Entry

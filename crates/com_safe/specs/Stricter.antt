@@ -1,5 +1,5 @@
--- Clauses that say more than the seven of `Safe`: whom an Enter enters, who drops a packet, where calls are turned away, and what
--- a report adds up to.
+-- Clauses that say more than the seven of `Safe`: whom an Enter enters, who drops a packet, where calls are
+-- turned away, and what a report adds up to.
 use Rattle.std.specs.Prelude.{◌≡◌, ℕ, ◌+◌, true, false, List, Some, None, is_some, option_map, ◌⊎◌}
 use Rattle.com_model.specs.declared.deeds.Deed.{Deed}
 use Rattle.com_model.specs.declared.deeds.Deed.TheVariants as deed
@@ -28,8 +28,9 @@ abbrev pub EntersTarget : Scenario → List Entry → ℕ → Deed → Type 0
 EntersTarget s h l (deed.Enter c o a t vs) = (o ≡ target h c) × (is_refused_route (route_of (issue h c)) ≡ false)
 EntersTarget s h l _ = Unit {0}
 
--- A packet is dropped by a statement of the body on top, or of a script where nothing is open; or by a rule, in a lane whose top
--- is the Out of a call that was not entered and has its answer, and the packet is outstanding and among the call's arguments.
+-- A packet is dropped by a statement of the body on top, or of a script where nothing is open; or by a rule,
+-- in a lane whose top is the Out of a call that was not entered and has its answer, and the packet is
+-- outstanding and among the call's arguments.
 pub record ByStatement (s : Scenario) (h : List Entry) (l : ℕ) (d : Deed) : Type 0 where
   pub on_top : MadeOnTop BodyOrScript (openers h l)
   pub next_action : option_map (deed_of s (sight s h) l) (act s h l) ≡ Some d
@@ -46,7 +47,8 @@ abbrev pub DropsOwn : Scenario → List Entry → ℕ → Deed → Type 0
 DropsOwn s h l (deed.DropPacket (Some p) hr) = ByStatement s h l (deed.DropPacket (Some p) hr) ⊎ ByRule s h l p
 DropsOwn s h l _ = Unit {0}
 
--- A call is turned away in its own lane, while its Out is the top, or in a lane that serves its target's apartment.
+-- A call is turned away in its own lane, while its Out is the top, or in a lane that serves its target's
+-- apartment.
 abbrev pub InPlace : Scenario → List Entry → (lane call : ℕ) → Type 0
 InPlace s h l c = (first (openers h l) ≡ Some (Waits c)) ⊎ (serves s h l (named h (target h c)) ≡ true)
 
@@ -55,7 +57,8 @@ TurnsAway s h l (deed.Verdict c t v) = InPlace s h l c
 TurnsAway s h l (deed.Refuse c hr) = InPlace s h l c
 TurnsAway s h l _ = Unit {0}
 
--- The stub's number in a report is the sum of the proxies', the packets' and the tables', and 0 of what is not connected.
+-- The stub's number in a report is the sum of the proxies', the packets' and the tables', and 0 of what is
+-- not connected.
 abbrev pub NothingUnless : ObjectState → ℕ → Type 0
 NothingUnless state.Live n = Unit {0}
 NothingUnless state.Disconnected n = n ≡ 0

@@ -13,7 +13,8 @@ use Rattle.com_books.specs.Changes.{Books}
 use Rattle.com_model.specs.Books.{books}
 use Rattle.com_model.specs.Dying.{is_entered, is_dying}
 
--- A Final is the first of its object, made in a lane that serves its owner while it is dying and not connected.
+-- A Final is the first of its object, made in a lane that serves its owner while it is dying and not
+-- connected.
 abbrev pub ReleasesOnce : Scenario → List Entry → ℕ → Deed → Type 0
 ReleasesOnce s h l (deed.Final o) =
     (finaled h o ≡ false) × (serves s h l (named h o) ≡ true) × (is_dying s h o ≡ true) × ((books s h).live o ≡ false)

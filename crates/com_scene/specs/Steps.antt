@@ -1,5 +1,6 @@
 -- What writes do to a frame, to cells and to the buffers, each on its own.
-use Rattle.std.specs.Prelude.{ℕ, List, [], ◌∷◌, ◌++◌, Option, Some, None, pos, ◌==◌, if◌then◌else◌, slice_index_or, slice_set}
+use Rattle.std.specs.Prelude.{ℕ, List, [], ◌∷◌, ◌++◌, Option, Some, None, pos, ◌==◌, if◌then◌else◌}
+use Rattle.std.specs.Prelude.{slice_index_or, slice_set}
 use Rattle.com_base.specs.declared.value.Value.TheVariants as value
 use Rattle.com_base.specs.declared.hresult.HResult.{HResult}
 use Rattle.com_body.specs.declared.actions.Action.{Action}
@@ -10,9 +11,11 @@ use Rattle.com_body.specs.declared.operands.Destination.TheVariants as destinati
 use Rattle.com_body.specs.Frames.{FrameView, entered, with_register, with_slot}
 use Rattle.com_model.specs.declared.deeds.Deed.{Deed}
 use Rattle.com_model.specs.declared.deeds.Deed.TheVariants as deed
-use Rattle.com_model.specs.Frames.{Write as Writing, ToRegister, ToSlot, ToLink, ToBuffer, to_answer, to_place, taken_in, cookie_in, marshalled_in, new_cells, with_link}
+use Rattle.com_model.specs.Frames.{Write as Writing, ToRegister, ToSlot, ToLink, ToBuffer, to_answer}
+use Rattle.com_model.specs.Frames.{to_place, taken_in, cookie_in, marshalled_in, new_cells, with_link}
 use Rattle.com_model.specs.State.{SceneTables}
-use Rattle.com_state.specs.SceneParts.{with_body, with_script, with_cells, with_buffer, without_links, rows_acted}
+use Rattle.com_state.specs.SceneParts.{with_body, with_script, with_cells, with_buffer, without_links}
+use Rattle.com_state.specs.SceneParts.{rows_acted}
 use Rattle.com_scene.specs.Actors.{acting_of}
 use Rattle.com_scene.specs.Ranges.{IsInRange}
 use Rattle.com_scene.specs.declared.actor.Actor.{Actor}

@@ -1,9 +1,11 @@
 //! What an entry changes beside the step of whoever acts.
-ghost use Rattle.std.specs.Prelude.{◌≡◌, if◌then◌else◌, OnOk, IfOk, Some, None, ◌∷◌, fold, replicate, slice_index_or};
+ghost use Rattle.std.specs.Prelude.{◌≡◌, if◌then◌else◌, OnOk, IfOk, Some, None, ◌∷◌, fold, replicate};
+ghost use Rattle.std.specs.Prelude.{slice_index_or};
 ghost use Rattle.com_body.specs.Bodies.{IsDestination};
 ghost use Rattle.com_model.specs.Frames.{to_answer, to_destination};
 ghost use Rattle.com_model.specs.Lists.{each_from};
-ghost use Rattle.com_state.specs.SceneParts.{body_at, script_at, cells_at, destination_at, with_body, with_script};
+ghost use Rattle.com_state.specs.SceneParts.{body_at, script_at, cells_at, destination_at, with_body};
+ghost use Rattle.com_state.specs.SceneParts.{with_script};
 ghost use Rattle.com_state.specs.SceneParts.{with_cells, row_written, without_links, links_cut};
 ghost use Rattle.com_scene.specs.Actors.{acting_of};
 ghost use Rattle.com_scene.specs.Kept.{IsKept};

@@ -80,8 +80,8 @@ impl Prepared {
         }
     }
 
-    /// The step of whoever acts, where it makes the entry, and what the entry writes for it. The only error is
-    /// want of memory.
+    /// The step of whoever acts, where it makes the entry, and what the entry writes for it. The only error
+    /// is want of memory.
     #[tactic(auto, using(crate::proofs::StepLemmas::acted_is))]
     pub fn new(
         alloc: Global,
@@ -115,7 +115,8 @@ impl Prepared {
 
     /// Whoever acts goes on to this frame. The only error is want of memory.
     pub fn place(alloc: Global, acting: Actor, frame: Frame) -> Result<Prepared, Memory>
-        ensures { IfOk result (λ ready. (t : SceneTables) → prepared ready t ≡ placed (acting_of acting) frame t) }
+        ensures { IfOk result (λ ready. (t : SceneTables)
+            → prepared ready t ≡ placed (acting_of acting) frame t) }
     {
         let next = match acting {
             Actor::Body { call, .. } => Next::Body(call, Seat::new(alloc, frame)?),

@@ -3,7 +3,8 @@ ghost use Rattle.std.specs.Prelude.{◌≡◌, ◌<◌, ◌^◌, Some, IfOk, fol
 ghost use Rattle.com_body.specs.Bodies.{IsPlace};
 ghost use Rattle.com_model.specs.Frames.{taken_in, reference, cookie_in, marshalled_in, writes, to_place};
 ghost use Rattle.com_scene.specs.Ranges.{FitsDeed, WritesInRange, IsInRange};
-ghost use Rattle.com_scene.specs.Steps.{IsMoreInRange, writing_of, listed, more_writes, writes_of, frame_with};
+ghost use Rattle.com_scene.specs.Steps.{IsMoreInRange, writing_of, listed, more_writes, writes_of};
+ghost use Rattle.com_scene.specs.Steps.{frame_with};
 ghost use Rattle.com_scene.specs.Steps.{cells_with, bytes_of, wanted_of};
 
 use com_base::{ByteList, HResult, Memory, RefValue, Value};

@@ -42,8 +42,8 @@ abbrev pub runs : ℕ → Scenario → State → List ℕ → ℕ → Run
 runs zero s st picks last = over st
 runs (suc n) s st picks last = unless_over s (runs n s) st picks last (ended_in s st)
 
--- The entries in front of a history that the state stands for are the history that the schedule makes, and the state after them
--- stands for it.
+-- The entries in front of a history that the state stands for are the history that the schedule makes, and
+-- the state after them stands for it.
 pub record RunsAs (s : Scenario) (h : List Entry) (scheduled : List Entry) (r : Run) : Type 0 where
   pub entries : scheduled ≡ r.entries ++ h
   pub stands : StandsFor s r.state scheduled

@@ -9,10 +9,13 @@ ghost use Rattle.com_model.specs.Formed.{Formed};
 ghost use Rattle.com_model.specs.State.{State, StandsFor, first_tables};
 ghost use Rattle.com_schedule.specs.Turns.{RunsAs, runs};
 
-/// Where a state stands for a history of a formed scenario, what runs from the state by its tables is what the schedule makes of
-/// the history: the same entries in front of it, and a state that stands for the longer history. So from the first state what runs
-/// is the one history of the schedule.
+/// Where a state stands for a history of a formed scenario, what runs from the state by its tables is what
+/// the schedule makes of the history: the same entries in front of it, and a state that stands for the longer
+/// history. So from the first state what runs is the one history of the schedule.
 pub fn by_tables()
-    ensures later { (s : Scenario) (st : State) (h : List Entry) (n : ℕ) (picks : List ℕ) (last : ℕ) → Formed s → StandsFor s st h → n + length h ≡ limit s → RunsAs s h (run_on n s h picks last) (runs n s st picks last) }
-    ensures first { (s : Scenario) (n : ℕ) → Formed s → n ≡ limit s → RunsAs s [] (run_on n s [] s.picks 0) (runs n s (first_tables s) s.picks 0) }
+    ensures later { (s : Scenario) (st : State) (h : List Entry) (n : ℕ) (picks : List ℕ) (last : ℕ)
+        → Formed s → StandsFor s st h → n + length h ≡ limit s
+        → RunsAs s h (run_on n s h picks last) (runs n s st picks last) }
+    ensures first { (s : Scenario) (n : ℕ) → Formed s → n ≡ limit s
+        → RunsAs s [] (run_on n s [] s.picks 0) (runs n s (first_tables s) s.picks 0) }
 {}

@@ -9,7 +9,8 @@ ghost use Rattle.com_body.specs.Frames.{with_register};
 ghost use Rattle.com_body.specs.Operands.{number_in, register_of};
 ghost use Rattle.com_body.specs.BodySteps.{body_step};
 ghost use Rattle.com_servant.specs.Steps.{native_at, job_step};
-ghost use Rattle.com_servant.specs.BuiltIns.{counter_add, counter_get, relay_set, relay_forward, latch_set, latch_test};
+ghost use Rattle.com_servant.specs.BuiltIns.{counter_add, counter_get, relay_set, relay_forward, latch_set};
+ghost use Rattle.com_servant.specs.BuiltIns.{latch_test};
 
 use crate::interpreter::interpret;
 use crate::{Memory, Servant};
@@ -18,8 +19,8 @@ use com_body::{Action, Cells, Destination, Frame, Job, Native, Outcome, Place};
 use com_classes::Classes;
 use std::alloc::Global;
 
-// The registers of the built-in bodies: the argument, the number that a body works on, the answer of a test, and the HRESULT
-// of the last call.
+// The registers of the built-in bodies: the argument, the number that a body works on, the answer of a test,
+// and the HRESULT of the last call.
 const ARGUMENT: u8 = 0;
 
 const NUMBER: u8 = 1;
@@ -263,7 +264,8 @@ fn latch_step(alloc: Global, classes: &Classes, job: &Job) -> Result<Outcome, Me
     }
 }
 
-/// The servant of the built-in class of `ICounter`. A sum in cell 0, to which `add` adds and which `get` gives.
+/// The servant of the built-in class of `ICounter`. A sum in cell 0, to which `add` adds and which `get`
+/// gives.
 #[derive(Debug, Drop)]
 pub struct Counter {
     steps: u64,
@@ -300,7 +302,8 @@ impl Servant for Counter {
     }
 }
 
-/// The servant of the built-in class of `IRelay`. A counter in link 0, which `set` keeps and to which `forward` adds.
+/// The servant of the built-in class of `IRelay`. A counter in link 0, which `set` keeps and to which
+/// `forward` adds.
 #[derive(Debug, Drop)]
 pub struct Relay {
     steps: u64,

@@ -1,5 +1,5 @@
-//! Servants: what computes the steps of bodies. One of them interprets statements, and three compute the built-in bodies by
-//! plain code.
+//! Servants: what computes the steps of bodies. One of them interprets statements, and three compute the
+//! built-in bodies by plain code.
 #![tactic(auto)]
 
 ghost use Rattle.std.specs.Prelude.{◌≡◌, ℕ, IfOk, OnOk, OnErr, map, slice_index, slice_set};
@@ -76,10 +76,11 @@ fn step_one(
     servant.step(alloc, classes, job)
 }
 
-/// Has the servant of the job's kind compute its body step. The row has one servant of each kind, in the order of the kinds.
+/// Has the servant of the job's kind compute its body step. The row has one servant of each kind, in the
+/// order of the kinds.
 ///
-/// At Ok the count of that servant rose by one, or stays at its greatest value, and the others' stay. The only error is want
-/// of memory, and then every count is as before.
+/// At Ok the count of that servant rose by one, or stays at its greatest value, and the others' stay. The
+/// only error is want of memory, and then every count is as before.
 #[tactic(auto, using(crate::proofs::Maps::map_set, crate::proofs::Maps::get_map))]
 pub fn serve(
     alloc: Global,
@@ -91,7 +92,8 @@ pub fn serve(
     requires class { IsOfItsClass classes.now job.now }
     ensures outcome { IfOk result (λ outcome. outcome ≡ job_step classes.now job.now) }
     ensures row { map kind_of servants.new.items ≡ row }
-    ensures counted { OnOk result (map stepped servants.new.items ≡ slice_set (map stepped servants.old.items) (place job.now.kind)
+    ensures counted { OnOk result (map stepped servants.new.items
+        ≡ slice_set (map stepped servants.old.items) (place job.now.kind)
         (one_more (slice_index (map stepped servants.old.items) (place job.now.kind)))) }
     ensures uncounted { OnErr result (map stepped servants.new.items ≡ map stepped servants.old.items) }
 {

@@ -1,7 +1,8 @@
 //! Numbered tables: a value under each number, and numbers that are never used again.
 #![tactic(auto)]
 
-ghost use Rattle.std.specs.Prelude.{◌≡◌, ◌+◌, ◌<◌, ◌≤◌, ◌↔◌, [], ◌∷◌, ◌++◌, length, IsOk, OnOk, OnErr, IfOk, IfErr, option_copied};
+ghost use Rattle.std.specs.Prelude.{◌≡◌, ◌+◌, ◌<◌, ◌≤◌, ◌↔◌, [], ◌∷◌, ◌++◌, length, IsOk, OnOk, OnErr, IfOk};
+ghost use Rattle.std.specs.Prelude.{IfErr, option_copied};
 ghost use Rattle.std.specs.Option.{option_copied_mut};
 ghost use Rattle.std.specs.Borrow.{sem};
 ghost use Rattle.com_slots.specs.Table.{held, with_entry};
@@ -79,7 +80,8 @@ impl<T> Slots<T> {
 
         // Each error, and what it leaves.
         ensures full { (result ≡ Err (SlotsError.Full value)) ↔ (length self.old.entries ≡ self.old.limit) }
-        ensures memory { length self.old.entries < self.old.limit → IfErr result (λ e. e ≡ SlotsError.Memory value) }
+        ensures memory { length self.old.entries < self.old.limit
+            → IfErr result (λ e. e ≡ SlotsError.Memory value) }
         ensures err { OnErr result (self.new ≡ self.old) }
 
         // Where there is room, memory is not wanted.

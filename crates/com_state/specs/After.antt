@@ -1,5 +1,5 @@
--- The state after an entry by its parts: what the entry finds of the other parts, what it makes of each, and the scene and the
--- books after it.
+-- The state after an entry by its parts: what the entry finds of the other parts, what it makes of each, and
+-- the scene and the books after it.
 use Rattle.std.specs.Prelude.{ℕ, ◌+◌, Bool, false, Option, is_some, is_none}
 use Rattle.com_body.specs.declared.frame.Outcome.{Outcome}
 use Rattle.com_model.specs.declared.deeds.Deed.{Deed}
@@ -13,8 +13,11 @@ use Rattle.com_model.specs.Clock.{ticked}
 use Rattle.com_model.specs.Frames.{Actor, actor, acting, outcome}
 use Rattle.com_model.specs.Books.{out_values}
 use Rattle.com_model.specs.Issue.{action_refusal, or_ok}
-use Rattle.com_model.specs.State.{State, SceneTables, openers_in, filter_in, issue_in, class_in, named_in, home_in, running_in, owns_in, scene_in, books_in, actor_of, sight_of, is_marshalled_by, with_books, scene_next, books_next}
-use Rattle.com_state.specs.Parts.{Issuing, Moment, lanes_of, objects_of, calls_of, lanes_after, objects_after, calls_after, openers_at, state_of}
+use Rattle.com_model.specs.State.{State, SceneTables, openers_in, filter_in, issue_in, class_in, named_in}
+use Rattle.com_model.specs.State.{home_in, running_in, owns_in, scene_in, books_in, actor_of, sight_of}
+use Rattle.com_model.specs.State.{is_marshalled_by, with_books, scene_next, books_next}
+use Rattle.com_state.specs.Parts.{Issuing, Moment, lanes_of, objects_of, calls_of, lanes_after, objects_after}
+use Rattle.com_state.specs.Parts.{calls_after, openers_at, state_of}
 use Rattle.com_state.specs.SceneParts.{rows_after}
 
 -- Whether the caller's lane of the call that a Verdict names has a filter.

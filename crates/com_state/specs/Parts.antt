@@ -1,6 +1,8 @@
--- The state of a core by parts: what lanes keep, what objects keep, and what calls keep, and how an entry changes each part. Each
--- column is changed as in the state's own definition; a part looks at the deed, and at no more of the other parts than is handed in.
-use Rattle.std.specs.Prelude.{ℕ, ◌+◌, Bool, false, not, ◌&&◌, ◌||◌, List, [], Option, Some, None, is_some, option_map, slice_index_or}
+-- The state of a core by parts: what lanes keep, what objects keep, and what calls keep, and how an entry
+-- changes each part. Each column is changed as in the state's own definition; a part looks at the deed, and
+-- at no more of the other parts than is handed in.
+use Rattle.std.specs.Prelude.{ℕ, ◌+◌, Bool, false, not, ◌&&◌, ◌||◌, List, [], Option, Some, None, is_some}
+use Rattle.std.specs.Prelude.{option_map, slice_index_or}
 use Rattle.com_base.specs.declared.hresult.HResult.{HResult}
 use Rattle.com_base.specs.declared.value.Value.{Value}
 use Rattle.com_books.specs.Counting.{count_if}
@@ -19,9 +21,14 @@ use Rattle.com_model.specs.Apartments.{home_effect, makes_sta, ends_sta, with_la
 use Rattle.com_model.specs.Objects.{makes, finals}
 use Rattle.com_model.specs.Calls.{issues, admits, leaves, returns, object_of}
 use Rattle.com_model.specs.Clock.{filter_effect}
-use Rattle.com_model.specs.Endings.{EndEffect, EndsCall, CutsObject, CutsSta, EndsNone, end_effect, ends, can_be_cut}
+use Rattle.com_model.specs.Endings.{EndEffect, EndsCall, CutsObject, CutsSta, EndsNone, end_effect, ends}
+use Rattle.com_model.specs.Endings.{can_be_cut}
 use Rattle.com_model.specs.Waiting.{Mail, no_mail, post_effect, posted_last, bound_reached}
-use Rattle.com_model.specs.State.{State, SceneTables, BookTables, grown, issued_by, changed_at, changed_from_one, opens, serves_more, homes_change, counts_change, made_change, over_change, filters_change, mail_lane, mail_change, quit_lane, quit_change, admissions_by, leavings_by, returned_by, phases_by, enters, let_go}
+use Rattle.com_model.specs.State.{State, SceneTables, BookTables, grown, issued_by, changed_at}
+use Rattle.com_model.specs.State.{changed_from_one, opens, serves_more, homes_change, counts_change}
+use Rattle.com_model.specs.State.{made_change, over_change, filters_change, mail_lane, mail_change, quit_lane}
+use Rattle.com_model.specs.State.{quit_change, admissions_by, leavings_by, returned_by, phases_by, enters}
+use Rattle.com_model.specs.State.{let_go}
 
 -- By lane, from 0; and the STAs that threads made, the oldest first, and those that ended.
 pub record LaneTables : Type 0 where
@@ -169,8 +176,8 @@ pub record Issuing : Type 0 where
   pub refusal : HResult
   pub values : List Value
 
--- What an entry finds of other parts: whether its lane runs no body, whether the caller's lane of the call that it names has a
--- filter, and the clock.
+-- What an entry finds of other parts: whether its lane runs no body, whether the caller's lane of the call
+-- that it names has a filter, and the clock.
 pub record Moment : Type 0 where
   pub outermost : Bool
   pub filtered : Bool

@@ -1,5 +1,7 @@
--- What holds of a state between entries: nothing is left to give back or to cut, and what is dying stands in the list of the dying.
-use Rattle.std.specs.Prelude.{◌≡◌, ℕ, zero, suc, ◌+◌, ◌==◌, Bool, true, false, not, List, map, filter, Option, Some, None}
+-- What holds of a state between entries: nothing is left to give back or to cut, and what is dying stands in
+-- the list of the dying.
+use Rattle.std.specs.Prelude.{◌≡◌, ℕ, zero, suc, ◌+◌, ◌==◌, Bool, true, false, not, List, map, filter, Option}
+use Rattle.std.specs.Prelude.{Some, None}
 use Rattle.com_books.specs.Changes.{Books, cut_packet, cut_cookie, held_outside}
 use Rattle.com_model.specs.declared.deeds.Deed.{Deed}
 use Rattle.com_model.specs.declared.deeds.Deed.TheVariants as deed
@@ -9,8 +11,8 @@ use Rattle.com_model.specs.Lists.{is_member}
 use Rattle.com_model.specs.Places.{places, all_places}
 use Rattle.com_model.specs.State.{State, ground_in, scene_in, books_in, dies_in, scene_tables, book_tables}
 
--- An apartment without place for an object holds no reference to it, what is connected has a holder, and what is not connected
--- has nothing.
+-- An apartment without place for an object holds no reference to it, what is connected has a holder, and what
+-- is not connected has nothing.
 pub record Rested (places : ℕ → ℕ → ℕ) (holders : ℕ → ℕ) (b : Books) : Type 0 where
   pub given : (a o i : ℕ) → places a o ≡ 0 → b.proxy a o i ≡ 0
   pub held : (o : ℕ) → b.live o ≡ true → (holders o == 0) ≡ false
@@ -27,8 +29,9 @@ pub record Settled (s : Scenario) (st : State) : Type 0 where
   pub dying : filter (dies_in s st) st.fallen ≡ st.fallen
   pub fell : (o : ℕ) → dies_in s st o ≡ true → is_member o st.fallen ≡ true
 
--- The deeds that move no reference, whatever the state: an Init of a lane that has a home, an Uninit that leaves a count, what
--- pumps, words, filters and the clock do, bytes for a buffer, and refusals that write no slot.
+-- The deeds that move no reference, whatever the state: an Init of a lane that has a home, an Uninit that
+-- leaves a count, what pumps, words, filters and the clock do, bytes for a buffer, and refusals that write no
+-- slot.
 abbrev pub is_quiet : Deed → Bool
 is_quiet (deed.Init m a hr) = not (is_S_OK hr)
 is_quiet (deed.Uninit a (suc n)) = true

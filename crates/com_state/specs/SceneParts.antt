@@ -1,6 +1,7 @@
--- The scene of a core as tables, and how an entry changes them: each write changes one row. The tables are those of the state's
--- definition; a row beside them is kept as it is.
-use Rattle.std.specs.Prelude.{ℕ, zero, ◌==◌, if◌then◌else◌, List, [], ◌∷◌, Option, Some, None, fold, replicate, slice_index_or, slice_set}
+-- The scene of a core as tables, and how an entry changes them: each write changes one row. The tables are
+-- those of the state's definition; a row beside them is kept as it is.
+use Rattle.std.specs.Prelude.{ℕ, zero, ◌==◌, if◌then◌else◌, List, [], ◌∷◌, Option, Some, None, fold}
+use Rattle.std.specs.Prelude.{replicate, slice_index_or, slice_set}
 use Rattle.com_body.specs.declared.operands.Destination.{Destination}
 use Rattle.com_body.specs.declared.operands.Destination.TheVariants as destination
 use Rattle.com_body.specs.declared.actions.Action.{Action}
@@ -15,7 +16,8 @@ use Rattle.com_model.specs.Answers.{S_OK}
 use Rattle.com_model.specs.Lists.{each_from}
 use Rattle.com_model.specs.Apartments.{ends_sta}
 use Rattle.com_model.specs.Objects.{makes}
-use Rattle.com_model.specs.Frames.{Actor, Body, Script, Nobody, Write, ToRegister, ToSlot, ToLink, ToBuffer, new_cells, with_link, writes, to_answer, to_destination}
+use Rattle.com_model.specs.Frames.{Actor, Body, Script, Nobody, Write, ToRegister, ToSlot, ToLink, ToBuffer}
+use Rattle.com_model.specs.Frames.{new_cells, with_link, writes, to_answer, to_destination}
 use Rattle.com_model.specs.State.{SceneTables, grown, issued_by}
 use Rattle.std.specs.Prelude.{is_some}
 
@@ -51,7 +53,8 @@ with_rows e t = record t {
   cells = grown (is_some (makes e.deed)) new_cells t.cells;
 }
 
--- One write, in the frame of whoever acts, in the links of the body's object, or in the buffers that all share.
+-- One write, in the frame of whoever acts, in the links of the body's object, or in the buffers that all
+-- share.
 abbrev pub body_written : SceneTables → (call object : ℕ) → Write → SceneTables
 body_written t c o (ToRegister r v) = with_body t c (with_register (body_at t c) r v)
 body_written t c o (ToSlot k held) = with_body t c (with_slot (body_at t c) k held)
@@ -84,8 +87,8 @@ abbrev pub rows_acted : Actor → Option Outcome → Deed → SceneTables → Sc
 rows_acted a None d t = t
 rows_acted a (Some r) d t = row_wanted r.action d (fold (row_written a) (rows_framed a r t) (writes r.action d))
 
--- An Enter begins a frame, and a Leave forgets it. A Back and an EndPump write for whoever acts after them. An Uninit to count 0
--- makes the script's slots null, and a Final the object's links.
+-- An Enter begins a frame, and a Leave forgets it. A Back and an EndPump write for whoever acts after them.
+-- An Uninit to count 0 makes the script's slots null, and a Final the object's links.
 abbrev pub rows_arrived : (after : Actor) → (lane : ℕ) → Deed → SceneTables → SceneTables
 rows_arrived b l (deed.Leave c hr v bytes) t = with_body t c (entered [])
 rows_arrived b l (deed.Enter c o a k vs) t = with_body t c (entered vs)
@@ -103,7 +106,8 @@ abbrev pub links_cut : (named : ℕ → ℕ) → Option ℕ → SceneTables → 
 links_cut named None t = t
 links_cut named (Some a) t = record t { cells = each_from (λ o c. if named o == a then without_links c else c) 0 t.cells }
 
--- The tables after an entry, with who acts in its lane, the step of whoever does, and who acts there afterwards.
+-- The tables after an entry, with who acts in its lane, the step of whoever does, and who acts there
+-- afterwards.
 abbrev pub rows_after : (named : ℕ → ℕ) → (acting : Actor) → Option Outcome → (after : Actor) → Entry → SceneTables → SceneTables
 rows_after named a r b e t =
     links_cut named (ends_sta e.deed) (rows_arrived b e.lane e.deed (rows_acted a r e.deed (with_rows e t)))

@@ -10,7 +10,8 @@ use Rattle.com_steps.specs.declared.work.Undo.TheVariants as undo
 use Rattle.com_steps.specs.declared.work.Done.{Done}
 use Rattle.com_steps.specs.declared.work.Done.TheVariants as done
 
--- What a statement does that has this work: a local one writes a register or a cell, or passes over statements.
+-- What a statement does that has this work: a local one writes a register or a cell, or passes over
+-- statements.
 abbrev pub effect_by : Work → FrameView → Cells → Effect
 effect_by (work.Register to v) f c = Goes (with_register f to v) c 0
 effect_by (work.Cell cell n) f c = Goes f (record c { numbers = slice_set c.numbers cell n }) 0

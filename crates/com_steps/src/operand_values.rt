@@ -1,7 +1,9 @@
 //! The values of operands in a frame that is only read.
 
 ghost use Rattle.std.specs.Prelude.{◌≡◌, ◌<◌, IfOk, IsTrue, length, slice_index_or, All};
-ghost use Rattle.com_body.specs.Operands.{register_of, slot_of, value_of, number_in, number_of, held_at, argument_of, arguments_of, answer_of, given_value, same_object, truth};
+ghost use Rattle.com_body.specs.Operands.{register_of, slot_of, value_of, number_in, number_of, held_at};
+ghost use Rattle.com_body.specs.Operands.{argument_of, arguments_of, answer_of, given_value, same_object};
+ghost use Rattle.com_body.specs.Operands.{truth};
 ghost use Rattle.com_body.specs.Bodies.{IsOp, IsPlace, IsArg, IsCode, IsGiven};
 
 use com_base::{HResult, Memory, RefValue, Rows, Value};

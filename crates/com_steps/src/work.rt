@@ -1,10 +1,11 @@
-//! The work of one statement: what a local one is to write, or the action that it is; the writing, and what puts back what
-//! stood there before.
+//! The work of one statement: what a local one is to write, or the action that it is; the writing, and what
+//! puts back what stood there before.
 
 ghost use Rattle.std.specs.Prelude.{◌≡◌, ◌<◌, ◌≤◌, pos, slice_index_or, slice_set, IfOk, OnErr};
 ghost use Rattle.com_body.specs.Bodies.{IsInRange, skip_of};
 ghost use Rattle.com_body.specs.BodySteps.{effect_of};
-ghost use Rattle.com_steps.specs.Work.{effect_by, WorkFits, UndoFits, DoneIs, passed_by, passed_over, undone_frame, undone_cells};
+ghost use Rattle.com_steps.specs.Work.{effect_by, WorkFits, UndoFits, DoneIs, passed_by, passed_over};
+ghost use Rattle.com_steps.specs.Work.{undone_frame, undone_cells};
 
 use crate::actions::action_of;
 use crate::operand_values::{number_in, number_of, same_object, truth, value_of};
@@ -12,8 +13,8 @@ use com_base::{Memory, Value};
 use com_body::{Action, Cells, Frame, Stmt};
 use std::alloc::Global;
 
-// What a statement is to do: put a value in a register, put a number in a cell, pass over so many of the statements behind
-// it, or act.
+// What a statement is to do: put a value in a register, put a number in a cell, pass over so many of the
+// statements behind it, or act.
 #[derive(Debug, Drop)]
 pub enum Work {
     Register(u8, Value),
@@ -30,7 +31,8 @@ pub enum Undo {
     Nothing,
 }
 
-// What a statement did: a local one passes over so many of the statements behind it, and any other is an action.
+// What a statement did: a local one passes over so many of the statements behind it, and any other is an
+// action.
 #[derive(Debug, Drop)]
 pub enum Done {
     Went(u32, Undo),
@@ -45,7 +47,8 @@ pub fn work_of(
     cells: &Cells,
 ) -> Result<Work, Memory>
     requires { IsInRange statement.now }
-    ensures effect { IfOk result (λ work. effect_of frame.now cells.now statement.now ≡ effect_by work frame.now cells.now) }
+    ensures effect { IfOk result (λ work. effect_of frame.now cells.now statement.now
+        ≡ effect_by work frame.now cells.now) }
     ensures fits { IfOk result (λ work. WorkFits work) }
     ensures passed { IfOk result (λ work. passed_by work ≤ skip_of statement.now) }
 {
@@ -89,11 +92,13 @@ fn set_number(cells: &mut Cells, cell: u8, number: i64) -> i64
     old
 }
 
-// Writes what a local statement is to write. What stood there is copied first, so that want of memory leaves all as it was.
+// Writes what a local statement is to write. What stood there is copied first, so that want of memory leaves
+// all as it was.
 #[tactic(auto, using(crate::proofs::Restored::restored, crate::proofs::Restored::cells_restored))]
 pub fn write(work: Work, frame: &mut Frame, cells: &mut Cells) -> Result<Done, Memory>
     requires { WorkFits work }
-    ensures done { IfOk result (λ done. DoneIs done (effect_by work frame.old cells.old) frame.old frame.new cells.old cells.new) }
+    ensures done { IfOk result (λ done. DoneIs done
+        (effect_by work frame.old cells.old) frame.old frame.new cells.old cells.new) }
     ensures passed { IfOk result (λ done. passed_over done ≡ passed_by work) }
     ensures place { frame.new.place ≡ frame.old.place }
     ensures frame_kept { OnErr result (frame.new ≡ frame.old) }

@@ -1,5 +1,6 @@
 -- The rows of the stubs: whether an object has a stub, and whether that is connected.
-use Rattle.std.specs.Prelude.{ℕ, ◌≡◌, ◌+◌, ◌<◌, Bool, false, ◌==◌, ◌||◌, if◌then◌else◌, List, [], ◌∷◌, map, length, slice_index_or}
+use Rattle.std.specs.Prelude.{ℕ, ◌≡◌, ◌+◌, ◌<◌, Bool, false, ◌==◌, ◌||◌, if◌then◌else◌, List, [], ◌∷◌, map}
+use Rattle.std.specs.Prelude.{length, slice_index_or}
 use Rattle.com_stub.specs.declared.StubRow.{StubRow}
 
 abbrev pub no_stub : ℕ → StubRow

@@ -1,7 +1,8 @@
 //! The counters of the stubs: a number for each object and interface.
 
 ghost use Rattle.std.specs.Prelude.{◌≡◌, ◌+◌, ◌<◌, ◌≤◌, ◌^◌, ◌↔◌, true, [], length, OnOk, IsOk, IsTrue};
-ghost use Rattle.com_stub.specs.CounterRows.{has_counter, counter_of, place_of, changed_counter, more, less, opened, opened_all, sum_of, objects_of, EachFirst};
+ghost use Rattle.com_stub.specs.CounterRows.{has_counter, counter_of, place_of, changed_counter, more, less};
+ghost use Rattle.com_stub.specs.CounterRows.{opened, opened_all, sum_of, objects_of, EachFirst};
 
 use com_keyed::Chains;
 use std::alloc::{AllocError, Global};

@@ -5,7 +5,8 @@
 
 mod counters;
 
-ghost use Rattle.std.specs.Prelude.{◌≡◌, ◌+◌, ◌<◌, ◌≤◌, ◌^◌, ◌↔◌, ℕ, true, false, [], ◌∷◌, ◌++◌, length, OnOk, OnErr, IsOk, IsTrue, Ok, Err};
+ghost use Rattle.std.specs.Prelude.{◌≡◌, ◌+◌, ◌<◌, ◌≤◌, ◌^◌, ◌↔◌, ℕ, true, false, [], ◌∷◌, ◌++◌, length};
+ghost use Rattle.std.specs.Prelude.{OnOk, OnErr, IsOk, IsTrue, Ok, Err};
 ghost use Rattle.com_stub.specs.CounterRows.{has_counter, changed_counter, more, less, opened_all, EachFirst};
 ghost use Rattle.com_stub.specs.StubRows.{has_stub, is_connected, ended_rows, stub_objects, EachStubFirst};
 ghost use Rattle.com_stub.specs.Tables.{count_of, total_of};
@@ -119,7 +120,8 @@ impl Stubs {
     pub fn enroll(&mut self, object: u32, set: &[u16]) -> Result<(), Memory>
         requires new { has_stub self.old.stubs object ≡ false }
         requires few { length set.now ≤ 17 }
-        ensures ok { OnOk result (self.new.stubs ≡ self.old.stubs ++ record { object = object; connected = true } ∷ []) }
+        ensures ok { OnOk result (self.new.stubs
+            ≡ self.old.stubs ++ record { object = object; connected = true } ∷ []) }
         ensures opened { OnOk result (self.new.counters ≡ opened_all object set.now self.old.counters) }
         ensures err { OnErr result (self.new.stubs ≡ self.old.stubs) }
         ensures kept { OnErr result (self.new.counters ≡ self.old.counters) }
@@ -144,9 +146,12 @@ impl Stubs {
     /// interface is not in its set.
     pub fn add(&mut self, object: u32, iface: u16, n: u32) -> Result<(), StubError>
         requires fits { total_of self.old object + n < 2 ^ 64 }
-        ensures not_connected { (result ≡ Err StubError.NotConnected) ↔ (is_connected self.old.stubs object ≡ false) }
-        ensures no_interface { (result ≡ Err StubError.NoInterface) ↔ ((is_connected self.old.stubs object ≡ true) × (has_counter self.old.counters object iface ≡ false)) }
-        ensures ok { OnOk result (self.new.counters ≡ changed_counter (more n) object iface self.old.counters) }
+        ensures not_connected { (result
+            ≡ Err StubError.NotConnected) ↔ (is_connected self.old.stubs object ≡ false) }
+        ensures no_interface { (result ≡ Err StubError.NoInterface) ↔ ((is_connected self.old.stubs object
+            ≡ true) × (has_counter self.old.counters object iface ≡ false)) }
+        ensures ok { OnOk result (self.new.counters
+            ≡ changed_counter (more n) object iface self.old.counters) }
         ensures stubs { self.new.stubs ≡ self.old.stubs }
         ensures err { OnErr result (self.new ≡ self.old) }
         ensures spare { self.new.spare ≡ self.old.spare }

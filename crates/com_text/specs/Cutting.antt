@@ -18,8 +18,8 @@ pub record InComment (text : List ℕ) (from k : ℕ) : Type 0 where
 abbrev pub IsGap : List ℕ → ℕ → ℕ → Type 0
 IsGap text from to = (k : ℕ) → from ≤ k → k < to → IsBlank text k ⊎ InComment text from k
 
--- From a place on the tokens are pieces of the text, none of them empty, each behind the one before, and what stands
--- between them and behind the last is spaces and comments.
+-- From a place on the tokens are pieces of the text, none of them empty, each behind the one before, and what
+-- stands between them and behind the last is spaces and comments.
 abbrev pub IsCut : List ℕ → ℕ → List Token → Type 0
 IsCut text from [] = IsGap text from (length text)
 IsCut text from (t ∷ ts) = IsGap text from t.start × (from ≤ t.start) × (t.start < t.end) × (t.end ≤ length text) × IsCut text t.end ts

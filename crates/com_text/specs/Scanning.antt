@@ -1,5 +1,6 @@
 -- Cutting a text into its lines of words, byte by byte.
-use Rattle.std.specs.Prelude.{ℕ, ◌+◌, List, [], ◌∷◌, ◌++◌, Option, Some, None, Bool, true, false, ◌&&◌, ◌||◌, nat_lt, ◌==◌, if◌then◌else◌, slice_index, slice_range, drop, codes}
+use Rattle.std.specs.Prelude.{ℕ, ◌+◌, List, [], ◌∷◌, ◌++◌, Option, Some, None, Bool, true, false, ◌&&◌, ◌||◌}
+use Rattle.std.specs.Prelude.{nat_lt, ◌==◌, if◌then◌else◌, slice_index, slice_range, drop, codes}
 use Rattle.std.specs.Str.{bytes_eq}
 use Rattle.com_text.specs.declared.word.Sort.{Sort}
 use Rattle.com_text.specs.declared.word.Sort.TheVariants as sorts
@@ -117,7 +118,8 @@ at_line line at = record { line = line; column = 1; at = at; first = 1; start = 
 abbrev pub ended : Scanning → List WordAt → Bool → LineAt
 ended s words last = record { words = words ++ closing s; line = s.line; column = s.column; at = s.at; last = last }
 
--- the lines that are left, the first of which has given some words already; each text has one more line than line ends
+-- the lines that are left, the first of which has given some words already; each text has one more line than
+-- line ends
 abbrev pub lines_from : Scanning → List WordAt → List ℕ → List LineAt
 lines_from s words [] = ended s words true ∷ []
 lines_from s words (b ∷ bs) =

@@ -12,7 +12,8 @@ pub record WordAt : Type 0 where
   pub sort : Sort
   pub bytes : List ℕ
 
--- a line's words, its number, the column behind its last byte, the index of its end, and whether the text ends there
+-- a line's words, its number, the column behind its last byte, the index of its end, and whether the text
+-- ends there
 pub record LineAt : Type 0 where
   pub words : List WordAt
   pub line : ℕ

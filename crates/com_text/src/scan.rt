@@ -1,7 +1,9 @@
 //! Cutting a text into its lines of words, byte by byte.
 
-ghost use Rattle.std.specs.Prelude.{◌≡◌, ◌<◌, ◌≤◌, ◌+◌, ◌-◌, ◌^◌, ◌++◌, ◌∷◌, [], false, OnOk, IfOk, length, slice_index, slice_range, drop};
-ghost use Rattle.com_text.specs.Scanning.{class_of, seen, closing, gave, after, sorted, literal, turn, strayed, lines_from, at_line, more_lines, line_of};
+ghost use Rattle.std.specs.Prelude.{◌≡◌, ◌<◌, ◌≤◌, ◌+◌, ◌-◌, ◌^◌, ◌++◌, ◌∷◌, [], false, OnOk, IfOk, length};
+ghost use Rattle.std.specs.Prelude.{slice_index, slice_range, drop};
+ghost use Rattle.com_text.specs.Scanning.{class_of, seen, closing, gave, after, sorted, literal, turn};
+ghost use Rattle.com_text.specs.Scanning.{strayed, lines_from, at_line, more_lines, line_of};
 
 use crate::word::{Sort, Word};
 use std::alloc::AllocError;
@@ -137,7 +139,8 @@ fn after(s: &Scanner, text: &[u8], at: usize, class: Class) -> Scanner
     requires from { s.now.from ≤ at }
     requires at { at < length text.now }
     requires column { s.now.column < 2 ^ 32 - 1 }
-    ensures seen { seen text.now (at + 1) result ≡ after (seen text.now at s.now) (slice_index text.now at) class }
+    ensures seen { seen text.now (at + 1) result
+        ≡ after (seen text.now at s.now) (slice_index text.now at) class }
     ensures from { result.from ≤ at + 1 }
     ensures line { result.line ≡ s.now.line }
     ensures column { result.column ≡ s.now.column + 1 }
@@ -216,7 +219,8 @@ fn literal<'a>(
     requires from { s.now.from ≤ at }
     requires at { at < length text.now }
     requires column { s.now.column < 2 ^ 32 - 1 }
-    ensures { OnOk result (out.new.items ≡ out.old.items ++ literal (seen text.now at s.now) (slice_index text.now at) sort ∷ []) }
+    ensures { OnOk result (out.new.items
+        ≡ out.old.items ++ literal (seen text.now at s.now) (slice_index text.now at) sort ∷ []) }
 {
     out.push(Word {
         line: s.line,
@@ -241,7 +245,8 @@ fn give<'a>(
     requires from { s.now.from ≤ at }
     requires at { at < length text.now }
     requires column { s.now.column < 2 ^ 32 - 1 }
-    ensures { OnOk result (out.new.items ≡ out.old.items ++ gave (seen text.now at s.now) (slice_index text.now at) class) }
+    ensures { OnOk result (out.new.items
+        ≡ out.old.items ++ gave (seen text.now at s.now) (slice_index text.now at) class) }
 {
     match class {
         Class::Blank => {
@@ -269,7 +274,8 @@ pub fn line_at<'a>(
 ) -> Result<LineEnd, AllocError>
     requires size { length text.now < 2 ^ 32 - 2 }
     requires from { at ≤ length text.now }
-    ensures words { IfOk result (λ end. lines_from (at_line line at) [] (drop at text.now) ≡ line_of words.new.items line end ∷ more_lines text.now line end) }
+    ensures words { IfOk result (λ end. lines_from (at_line line at) [] (drop at text.now)
+        ≡ line_of words.new.items line end ∷ more_lines text.now line end) }
     ensures within { IfOk result (λ end. end.at ≤ length text.now) }
     ensures further { IfOk result (λ end. at ≤ end.at) }
     ensures ended { IfOk result (λ end. end.last ≡ false → end.at < length text.now) }

@@ -121,9 +121,9 @@ fn push_end(end: &LineEnd, tokens: &mut Vec<Token>) -> Result<(), AllocError>
     Ok(())
 }
 
-/// The tokens of a text: its words and literals, and a token for each line end, in order. Each is a
-/// piece of the text, and what stands between them is spaces and comments alone. `Character` comes exactly where a byte is outside the
-/// characters, with the index of the first one, and `Memory` where memory is short.
+/// The tokens of a text: its words and literals, and a token for each line end, in order. Each is a piece of
+/// the text, and what stands between them is spaces and comments alone. `Character` comes exactly where a
+/// byte is outside the characters, with the index of the first one, and `Memory` where memory is short.
 #[tactic(auto, unfolding(crate::specs::Scanning::lines_of))]
 pub fn tokens(alloc: Global, text: &[u8]) -> Result<Vec<Token>, TextError>
     ensures value { IfOk result (λ v. v.items ≡ tokens_of (lines_of text.now)) }

@@ -43,5 +43,14 @@ impl<'a> Model for Word<'a> {
 
     ghost Value = { WordAt };
 
-    ghost view = { λ w. record { line = w.line; column = w.column; after = w.after; start = w.start; end = w.end; sort = w.sort; bytes = w.bytes.now } };
+    ghost view = { λ w. record {
+      line = w.line;
+      column = w.column;
+      after = w.after;
+      start = w.start;
+      end =
+          w.end;
+      sort = w.sort;
+      bytes = w.bytes.now;
+    } };
 }

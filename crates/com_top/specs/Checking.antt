@@ -18,7 +18,8 @@ use Rattle.com_top.specs.Inputs.{refused_line, too_long_line}
 abbrev pub longest_trace : ℕ
 longest_trace = 67108864
 
--- What an input is: too long; a text with its first fault; or a scenario, and the trace behind the line `trace`.
+-- What an input is: too long; a text with its first fault; or a scenario, and the trace behind the line
+-- `trace`.
 pub data Question : Type 0 where
   TooLong : Question
   Faulty : (fault : Fault) → Question

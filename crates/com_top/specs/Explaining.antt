@@ -18,8 +18,8 @@ use Rattle.com_top.specs.Inputs.{refused_line, too_long_line}
 unfoldable pub explanation : Scenario → List ℕ
 explanation s = text_of (explanation_of s (scheduled s))
 
--- The status of an input and the text that is written for it: the line of a refusal; or why the history of the
--- scenario is stuck, or that it is not.
+-- The status of an input and the text that is written for it: the line of a refusal; or why the history of
+-- the scenario is stuck, or that it is not.
 abbrev pub IsExplained : Input → Status → List ℕ → Type 0
 IsExplained input.TooLong s text = (s ≡ status.Refused) × (text ≡ too_long_line)
 IsExplained (input.Faulty fault) s text = (s ≡ status.Refused) × (text ≡ refused_line fault)

@@ -50,8 +50,8 @@ pub record IsHistory (scenario : Scenario) (s : Status) (text : List ℕ) : Type
   pub written : text ≡ whole_text scenario
   pub status_is : s ≡ status_at ends
 
--- The status of an input and the text that is written for it: the line of a refusal; or the text and the report of the one history
--- of a scenario.
+-- The status of an input and the text that is written for it: the line of a refusal; or the text and the
+-- report of the one history of a scenario.
 abbrev pub IsAnswer : Input → Status → List ℕ → Type 0
 IsAnswer input.TooLong s text = (s ≡ status.Refused) × (text ≡ too_long_line)
 IsAnswer (input.Faulty fault) s text = (s ≡ status.Refused) × (text ≡ refused_line fault)

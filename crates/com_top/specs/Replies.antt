@@ -22,8 +22,8 @@ abbrev pub status_for : Bool → Status
 status_for true = status.Done
 status_for false = status.Refused
 
--- The status and the text of a text of digits: 0 with its fields where it spells an OBJREF, and 2 with the line
--- of its first fault where it does not.
+-- The status and the text of a text of digits: 0 with its fields where it spells an OBJREF, and 2 with the
+-- line of its first fault where it does not.
 pub record IsFound (digits : List ℕ) (s : Status) (text : List ℕ) : Type 0 where
   pub status_is : s ≡ status_for (shown_of digits).found
   pub written : text ≡ (shown_of digits).text

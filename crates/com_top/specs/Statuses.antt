@@ -157,14 +157,16 @@ Completes = (code : ℕ) (sides : Sides) (bytes : List ℕ) → Answers code sid
     → (Rose sides.write_faults sides.write_faults_after → ⊥)
     → IsComplete code sides bytes ⊎ (code ≡ 9)
 
--- The number is that of the end of the one history of a scenario, and the sink gained exactly the text and the report of that history.
+-- The number is that of the end of the one history of a scenario, and the sink gained exactly the text and
+-- the report of that history.
 pub record IsReplayed (code : ℕ) (scenario : Scenario) (held held_after : Option (List ℕ)) : Type 0 where
   pub ends : Ended
   pub ended_is : ended_as scenario (scheduled scenario) ≡ Some ends
   pub number : code ≡ code_of (status_at ends)
   pub gained : Gains held held_after (whole_text scenario)
 
--- So it is for every input that is a scenario, where it was told and no count of faults rose; or memory wanted.
+-- So it is for every input that is a scenario, where it was told and no count of faults rose; or memory
+-- wanted.
 abbrev pub ScenariosReplay : Type 0
 ScenariosReplay = (code : ℕ) (sides : Sides) (bytes : List ℕ) (scenario : Scenario) → Answers code sides → sides.left ≡ Some bytes
     → input_of bytes ≡ input.Runs scenario

@@ -181,8 +181,8 @@ fn waits_input<S: Source, K: Sink>(alloc: Global, source: &mut S, sink: &mut K) 
     }
 }
 
-/// Replays the scenario of a number, and writes the number and the last two lines of its report. The answer is
-/// the exit status: each has its cause.
+/// Replays the scenario of a number, and writes the number and the last two lines of its report. The answer
+/// is the exit status: each has its cause.
 pub fn load_main<K: Sink>(alloc: Global, number: u32, sink: &mut K) -> u8
     ensures { Loads result number (K.held sink.old) (K.held sink.new)
         (K.faults_of sink.old) (K.faults_of sink.new) }

@@ -7,15 +7,16 @@ ghost use Rattle.com_top.specs.Replies.{IsShown, digits_of};
 ghost use Rattle.com_top.specs.Responses.{RespondsWhole};
 ghost use Rattle.com_top.specs.Statuses.{Completes, ScenariosReplay};
 
-/// Completeness of a replay: where the source tells its bytes and no count of faults rose, the sink gained the
-/// whole text of the input of these bytes, and the status is that of this text: 2 with the line of the refusal;
-/// 0, 5 or 6 with the text and report of the scenario's one history, as its end is; or memory wanted.
+/// Completeness of a replay: where the source tells its bytes and no count of faults rose, the sink gained
+/// the whole text of the input of these bytes, and the status is that of this text: 2 with the line of the
+/// refusal; 0, 5 or 6 with the text and report of the scenario's one history, as its end is; or memory
+/// wanted.
 pub fn completeness()
     ensures { Completes }
 {}
 
-/// For every input that is a scenario: the sink gained exactly the text and the report of the one history of its schedule, and the
-/// status is that of the end of this history; or memory wanted.
+/// For every input that is a scenario: the sink gained exactly the text and the report of the one history of
+/// its schedule, and the status is that of the end of this history; or memory wanted.
 pub fn scenarios_replay()
     ensures { ScenariosReplay }
 {}
@@ -26,22 +27,22 @@ pub fn objref_completeness()
     ensures { RespondsWhole digits_of IsShown }
 {}
 
-/// Completeness of `check`: where the source tells its bytes and no count of faults rose, the status is that of
-/// the reply to them and the sink gained its whole text: 2 with the line of the refusal; 0 where the trace
+/// Completeness of `check`: where the source tells its bytes and no count of faults rose, the status is that
+/// of the reply to them and the sink gained its whole text: 2 with the line of the refusal; 0 where the trace
 /// agrees, and 7 with the first line that differs; or memory wanted.
 pub fn check_completeness()
     ensures { RespondsWhole question_of IsReply }
 {}
 
-/// Completeness of `load`: where no count of faults rose, the sink gained the whole text, and the status is that
-/// of the end of the history: 0, 5 or 6; or memory wanted.
+/// Completeness of `load`: where no count of faults rose, the sink gained the whole text, and the status is
+/// that of the end of the history: 0, 5 or 6; or memory wanted.
 pub fn load_completeness()
     ensures { LoadsAreWhole }
 {}
 
-/// Completeness of `waits`: where the source tells its bytes and no count of faults rose, the status is that of
-/// the reply to them and the sink gained its whole text: 2 with the line of the refusal; 0 with why the history
-/// is stuck, or that it is not; or memory wanted.
+/// Completeness of `waits`: where the source tells its bytes and no count of faults rose, the status is that
+/// of the reply to them and the sink gained its whole text: 2 with the line of the refusal; 0 with why the
+/// history is stuck, or that it is not; or memory wanted.
 pub fn waits_completeness()
     ensures { RespondsWhole input_of IsExplained }
 {}

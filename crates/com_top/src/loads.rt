@@ -17,7 +17,8 @@ fn unproved() -> Memory {
     AllocError
 }
 
-/// Replays the scenario of a number, and answers the status and the text that go with its end. The only error is want of memory.
+/// Replays the scenario of a number, and answers the status and the text that go with its end. The only error
+/// is want of memory.
 #[tactic(auto, using(crate::proofs::LoadCauses::loaded_is))]
 pub fn loaded(alloc: Global, number: u32) -> Result<Reply, Memory>
     ensures { IfOk result (λ reply. IsLoaded number reply.status reply.text) }

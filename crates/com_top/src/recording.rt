@@ -23,11 +23,12 @@ pub struct Recorded {
     pub ended: Ended,
 }
 
-/// Makes the one history of a scenario's schedule, entry by entry, by servants that have made no step, and keeps
-/// the entries: nothing of it is written. The only error is want of memory.
+/// Makes the one history of a scenario's schedule, entry by entry, by servants that have made no step, and
+/// keeps the entries: nothing of it is written. The only error is want of memory.
 pub fn record(alloc: Global, scenario: &Arc<Scenario>) -> Result<Recorded, Memory>
     requires { Formed (arc_value scenario.now) }
-    ensures { IfOk result (λ recorded. IsRecorded (arc_value scenario.now) recorded.entries.items recorded.ended) }
+    ensures { IfOk result (λ recorded. IsRecorded
+        (arc_value scenario.now) recorded.entries.items recorded.ended) }
 {
     let mut core = Core::new(alloc, scenario.clone()?)?;
     record_on(alloc, &**scenario, &mut core)

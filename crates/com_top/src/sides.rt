@@ -23,7 +23,8 @@ pub fn read_input<S: Source, K: Sink>(
     ensures end { OnOk result (IsAtEnd (S.left source.new)) }
     ensures told { IfOk result (λ text. (bytes : List ℕ) → S.left source.old ≡ Some bytes → bytes ≡ text) }
     ensures kept { OnOk result (sink.new ≡ sink.old) }
-    ensures unread { IfErr result (λ status. IsUnread limit status (sides_of S.left S.faults_of K.held K.faults_of
+    ensures unread { IfErr result (λ status. IsUnread limit status
+        (sides_of S.left S.faults_of K.held K.faults_of
         source.old source.new sink.old sink.new)) }
 {
     match read_all(alloc, source, limit) {

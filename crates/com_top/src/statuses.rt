@@ -19,9 +19,11 @@ pub enum Status {
     ReadFault,
     /// A write failed.
     WriteFault,
-    /// The whole text was written, and its history is stuck: no lane can step, no call waits for a time, and not all is done.
+    /// The whole text was written, and its history is stuck: no lane can step, no call waits for a time, and
+    /// not all is done.
     Stuck,
-    /// The whole text was written, and its history has as many entries as it may have, and is neither finished nor stuck.
+    /// The whole text was written, and its history has as many entries as it may have, and is neither
+    /// finished nor stuck.
     Budget,
     /// The trace differs from the only legal line in some place.
     Differs,

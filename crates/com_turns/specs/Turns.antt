@@ -1,4 +1,5 @@
--- One turn of a lane: who acts, the step, the entry and what goes with it, as the definitions give them from the parts that are read.
+-- One turn of a lane: who acts, the step, the entry and what goes with it, as the definitions give them from
+-- the parts that are read.
 use Rattle.std.specs.Prelude.{◌≡◌, ℕ, true, List, [], Option, Some, None, slice_index, slice_set}
 use Rattle.com_base.specs.declared.value.RefValue.{RefValue}
 use Rattle.com_body.specs.declared.actions.Action.{Action}
@@ -15,7 +16,8 @@ use Rattle.com_model.specs.declared.scenario.Scenario.{Scenario}
 use Rattle.com_model.specs.Answers.{S_OK}
 use Rattle.com_model.specs.Books.{out_values}
 use Rattle.com_model.specs.Calls.{issues, object_of}
-use Rattle.com_model.specs.Frames.{Actor as Acting, Body, Nobody, actor, script_of, acting, issued_body, new_cells, outcome, unless_over}
+use Rattle.com_model.specs.Frames.{Actor as Acting, Body, Nobody, actor, script_of, acting, issued_body}
+use Rattle.com_model.specs.Frames.{new_cells, outcome, unless_over}
 use Rattle.com_model.specs.Issue.{action_refusal, or_ok}
 use Rattle.com_model.specs.Lists.{first}
 use Rattle.com_model.specs.Rules.{lane_next}
@@ -90,7 +92,8 @@ abbrev pub IsIssued : Seen → Books → ℕ → Deed → Option Issued → Type
 IsIssued w b l d None = issues l d ≡ None
 IsIssued w b l d (Some i) = i ≡ issuing_seen w b l d
 
--- The references that a marshalled request or reply carries, by the action that the entry's lane makes, if any.
+-- The references that a marshalled request or reply carries, by the action that the entry's lane makes, if
+-- any.
 abbrev pub carried_with : Scenario → Books → Option Action → Deed → List RefValue
 carried_with s b x (deed.Out c o i m r k (Some bytes)) = carried (out_values s b true x)
 carried_with s b x (deed.Leave c hr value (Some bytes)) = carried (result_list value)

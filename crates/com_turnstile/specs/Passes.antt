@@ -70,7 +70,8 @@ pub record IsSamePass {T E : Type 0} (old new : Pass T E) : Type 0 where
   pub opening_kept : opening_of new ≡ opening_of old
 
 module _ {T E : Type 0} where
-  -- after the opening list, the list has of the pass's lane just the entries that the pass made, each once and in their order
+  -- after the opening list, the list has of the pass's lane just the entries that the pass made, each once
+  -- and in their order
   abbrev pub HasOwn : (E → ℕ) → Pass T E → List E → Type 0
   HasOwn lane p entries = (later : List E) × (entries ≡ opening_of p ++ later) × (of_lane lane (lane_of p) later ≡ own_of p)
 
@@ -78,6 +79,7 @@ module _ {T E : Type 0} where
   abbrev pub MayLeave : (E → ℕ) → Pass T E → List E → Type 0
   MayLeave lane p entries = (more : List E) × (entries ≡ seen_by p ++ more) × AreOf lane (lane_of p) more
 
-  -- the new pass has made what the old one had, and the entries of its lane that the list has after what the old one had seen
+  -- the new pass has made what the old one had, and the entries of its lane that the list has after what the
+  -- old one had seen
   abbrev pub HasMade : (E → ℕ) → Pass T E → List E → Pass T E → Type 0
   HasMade lane old entries new = (more : List E) → entries ≡ seen_by old ++ more → own_of new ≡ own_of old ++ of_lane lane (lane_of old) more

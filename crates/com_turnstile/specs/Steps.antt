@@ -1,6 +1,8 @@
--- What each kind of step does to the one view that it changes. There are eight kinds:
--- to load the tickets, to draw a ticket, to load the ticket that is served, to take the value, to put it back, to publish its new entries, to advance the ticket that is served, and to split a seat.
--- The first, the fourth and the fifth change no view, and have no definition here: a load that tells nothing, and two exchanges of what lies in the slot while the seat holds it.
+-- What each kind of step does to the one view that it changes. There are eight kinds: to load the tickets, to
+-- draw a ticket, to load the ticket that is served, to take the value, to put it back, to publish its new
+-- entries, to advance the ticket that is served, and to split a seat. The first, the fourth and the fifth
+-- change no view, and have no definition here: a load that tells nothing, and two exchanges of what lies in
+-- the slot while the seat holds it.
 use Rattle.std.specs.Prelude.{◌≡◌, ◌≢◌, ℕ, ◌+◌, true, false, List, [], ◌∷◌, ◌++◌, Option, Some, None}
 use mathlib.Core.List.{IsPrefix}
 use Rattle.atomic_table.specs.Table.{Me, Step, rest}
@@ -41,7 +43,8 @@ module _ {T E : Type 0} where
   abbrev pub drew : Step (Option T) → Holder T E → ℕ → Holder T E → Type 0
   drew st before found after = (found ≡ st.first → after ≡ (with_ticket before.0 st.first, before.1)) × (found ≢ st.first → after ≡ before)
 
-  -- The seat holds the slot, with a value. The value's list begins with what the seat had seen, and after the opening list it has of the seat's lane just the seat's own entries
+  -- The seat holds the slot, with a value. The value's list begins with what the seat had seen, and after the
+  -- opening list it has of the seat's lane just the seat's own entries
   pub record Entered (list : T → List E) (lane : E → ℕ) (before after : Holder T E) : Type 0 where
     pub value : T
     pub later : List E

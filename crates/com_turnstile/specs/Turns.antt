@@ -1,6 +1,8 @@
--- The rule of the lock. It holds at every moment, and ties the three words and the slot to what the passes know.
--- What a pass knows is its view. The published list is the opening list, with which the lock was made, and then what was published since, `later`.
-use Rattle.std.specs.Prelude.{◌≡◌, ◌≢◌, ◌⊎◌, ℕ, ◌+◌, ◌<◌, ◌≤◌, true, false, List, [], ◌∷◌, ◌++◌, length, slice_index, Option, Some, None}
+-- The rule of the lock. It holds at every moment, and ties the three words and the slot to what the passes
+-- know. What a pass knows is its view. The published list is the opening list, with which the lock was made,
+-- and then what was published since, `later`.
+use Rattle.std.specs.Prelude.{◌≡◌, ◌≢◌, ◌⊎◌, ℕ, ◌+◌, ◌<◌, ◌≤◌, true, false, List, [], ◌∷◌, ◌++◌, length}
+use Rattle.std.specs.Prelude.{slice_index, Option, Some, None}
 use mathlib.Core.Option.{none, some}
 use mathlib.Core.List.{IsPrefix}
 use lib.ListN.{get_elem?}

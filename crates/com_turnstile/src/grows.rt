@@ -3,8 +3,8 @@ ghost use Rattle.std.specs.Prelude.{◌≡◌, length};
 
 /// A value whose meaning is a list of entries that only grows. Each entry has the number of a lane.
 ///
-/// Lanes are counted from 1, as the passes of a turnstile are. Lane 0 is for entries that belong to no lane, which any
-/// pass may add.
+/// Lanes are counted from 1, as the passes of a turnstile are. Lane 0 is for entries that belong to no lane,
+/// which any pass may add.
 pub trait Grows: Drop {
     ghost use Rattle.std.specs.Prelude.{ℕ, List};
 

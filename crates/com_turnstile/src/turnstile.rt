@@ -1,5 +1,6 @@
 //! The lock, its passes, and the guard of the pass that has entered.
-ghost use Rattle.std.specs.Prelude.{◌≡◌, ℕ, ◌+◌, ◌<◌, ◌≤◌, [], length, true, false, IfOk, Some, None, vec_len, slice_get};
+ghost use Rattle.std.specs.Prelude.{◌≡◌, ℕ, ◌+◌, ◌<◌, ◌≤◌, [], length, true, false, IfOk, Some, None};
+ghost use Rattle.std.specs.Prelude.{vec_len, slice_get};
 ghost use mathlib.Core.List.{IsPrefix};
 ghost use Rattle.com_turnstile.specs.Steps.{with_ticket, Entered};
 
@@ -39,8 +40,8 @@ const SET: u64 = 1;
 
 /// A lock round a value that grows. It serves its passes in the order of their tickets.
 ///
-/// The value is with the pass that has entered, and else in the lock. A turnstile may be shared among threads, and its
-/// passes and guards may move to other threads, where the value may.
+/// The value is with the pass that has entered, and else in the lock. A turnstile may be shared among
+/// threads, and its passes and guards may move to other threads, where the value may.
 #[derive(Drop)]
 pub struct Turnstile<T: Grows> {
     // The three words, and the slot, which has None while the value is taken out.
@@ -62,8 +63,8 @@ pub struct Pass<T: Grows> {
 
 /// The value of a turnstile, with the pass that has entered.
 ///
-/// While a guard has not left, no other pass enters. A guard that never leaves, as that of a caller who takes the value
-/// for good, keeps the others out forever.
+/// While a guard has not left, no other pass enters. A guard that never leaves, as that of a caller who takes
+/// the value for good, keeps the others out forever.
 #[derive(Drop)]
 pub struct Guard<T: Grows> {
     /// The value, to which entries may be added.
@@ -73,12 +74,14 @@ pub struct Guard<T: Grows> {
 }
 
 impl<T: Grows> Turnstile<T> {
-    ghost use Rattle.com_turnstile.specs.Passes.{turnstile_id, IsIdle, IsNewSeat, IsPassOf, IsGuardOf, IsSamePass, IsNewPass, HasOwn, MayLeave, HasMade, opening_of, seen_by, own_of};
+    ghost use Rattle.com_turnstile.specs.Passes.{turnstile_id, IsIdle, IsNewSeat, IsPassOf, IsGuardOf};
+    ghost use Rattle.com_turnstile.specs.Passes.{IsSamePass, IsNewPass, HasOwn, MayLeave, HasMade};
+    ghost use Rattle.com_turnstile.specs.Passes.{opening_of, seen_by, own_of};
 
     /// A turnstile round the value, and its passes, of which there may be 1 to 64.
     ///
-    /// The i-th pass, counted from 1, is the pass of lane i. Each pass has seen the list that the value has now. Where
-    /// memory runs out nothing comes back, and the value is dropped.
+    /// The i-th pass, counted from 1, is the pass of lane i. Each pass has seen the list that the value has
+    /// now. Where memory runs out nothing comes back, and the value is dropped.
     pub fn new(
         alloc: Global,
         value: T,
@@ -169,8 +172,8 @@ impl<T: Grows> Turnstile<T> {
         unreachable!()
     }
 
-    // Waits for a while in which the ticket may come to be served: it looks a few times, and then sleeps until the pass
-    // before it leaves.
+    // Waits for a while in which the ticket may come to be served: it looks a few times, and then sleeps
+    // until the pass before it leaves.
     fn pause<R: Wait>(&self, rt: &R, ticket: u64) {
         for _ in 0..LOOKS {
             if self.table.shared.peek(SERVING) == ticket {
@@ -186,8 +189,8 @@ impl<T: Grows> Turnstile<T> {
 
     /// Waits for the pass's turn, and hands out the value.
     ///
-    /// The value's list begins with all that the pass has seen. After the list that the turnstile was made with, the
-    /// entries of the pass's lane in it are those that the pass made, each once and in their order.
+    /// The value's list begins with all that the pass has seen. After the list that the turnstile was made
+    /// with, the entries of the pass's lane in it are those that the pass made, each once and in their order.
     pub fn enter<R: Wait>(&self, rt: &R, pass: Pass<T>) -> Guard<T>
         requires { IsPassOf self.now pass }
         ensures inside { IsGuardOf self.now result }
@@ -231,7 +234,8 @@ impl<T: Grows> Turnstile<T> {
         shared.fetch_add::<Publish>(&mut seat, ENTRIES, longer - count);
         let served = shared.fetch_add::<Advance>(&mut seat, SERVING, 1);
         self.bells.ring(served.wrapping_add(1));
-        // The pass after the next one wakes while the next one is inside, and so is awake when its own turn comes.
+        // The pass after the next one wakes while the next one is inside, and so is awake when its own turn
+        // comes.
         self.bells.ring(served.wrapping_add(2));
         Pass {
             seat,
@@ -240,9 +244,9 @@ impl<T: Grows> Turnstile<T> {
     }
 }
 
-// Where the passes that wait sleep: a word for each ticket that is out, so that the pass that leaves wakes the next pass,
-// and the one after it a turn early, and no other. No clause rests on a bell: it says only how long a pass sleeps before it
-// looks again.
+// Where the passes that wait sleep: a word for each ticket that is out, so that the pass that leaves wakes
+// the next pass, and the one after it a turn early, and no other. No clause rests on a bell: it says only how
+// long a pass sleeps before it looks again.
 #[derive(Drop)]
 struct Bells {
     words: [AtomicU64; TICKETS_OUT],
@@ -269,8 +273,8 @@ impl Bells {
         self.of(ticket).park(rt, SET as u32);
     }
 
-    // Wakes the pass with the ticket, if it sleeps, and it looks again. The ticket that is served has to be advanced before
-    // the bell of the next one rings.
+    // Wakes the pass with the ticket, if it sleeps, and it looks again. The ticket that is served has to be
+    // advanced before the bell of the next one rings.
     fn ring(&self, ticket: u64) {
         let bell = self.of(ticket);
         if bell.load(SeqCst) == SET {

@@ -1,4 +1,5 @@
-//! What a pass knows, the rule of the lock, and what each kind of step tells. No value of these types is made.
+//! What a pass knows, the rule of the lock, and what each kind of step tells. No value of these types is
+//! made.
 use crate::grows::Grows;
 use atomic_table::{Play, Split, TableRule};
 use std::collections::LinkedList;

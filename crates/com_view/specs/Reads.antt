@@ -6,8 +6,8 @@ use Rattle.com_state.specs.Parts.{lanes_of, objects_of, calls_of}
 use Rattle.com_calls.specs.Kept.{IsNamed}
 use Rattle.com_view.specs.Seen.{Seen}
 
--- Each object that waits for its Final is dying, and the apartment that is kept of a call is that of its target. Both are so of
--- the state of each legal history.
+-- Each object that waits for its Final is dying, and the apartment that is kept of a call is that of its
+-- target. Both are so of the state of each legal history.
 pub record Reads (w : Seen) (b : Books) (st : State) : Type 0 where
   pub lanes : lanes_of st ≡ w.lanes
   pub objects : objects_of st ≡ w.objects

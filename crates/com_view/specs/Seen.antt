@@ -1,5 +1,6 @@
 -- What the rules look at, read from the parts of a core.
-use Rattle.std.specs.Prelude.{ℕ, ◌+◌, Bool, false, true, not, ◌==◌, ◌&&◌, ◌||◌, if◌then◌else◌, List, [], Option, Some, None, filter, length, slice_index_or}
+use Rattle.std.specs.Prelude.{ℕ, ◌+◌, Bool, false, true, not, ◌==◌, ◌&&◌, ◌||◌, if◌then◌else◌, List, []}
+use Rattle.std.specs.Prelude.{Option, Some, None, filter, length, slice_index_or}
 use Rattle.com_books.specs.Changes.{Books}
 use Rattle.com_model.specs.declared.scenario.Scenario.{Scenario}
 use Rattle.com_model.specs.declared.keeps.Phase.TheVariants.{Unposted}
@@ -13,11 +14,13 @@ use Rattle.com_model.specs.Frames.{actor, act_by}
 use Rattle.com_model.specs.Sight.{Sight}
 use Rattle.com_model.specs.State.{SceneTables, scene_read}
 use Rattle.com_model.specs.Waiting.{no_mail}
-use Rattle.com_state.specs.Parts.{LaneTables, ObjectTables, openers_at, served_at, issue_at, admission_at, named_at, class_at}
+use Rattle.com_state.specs.Parts.{LaneTables, ObjectTables, openers_at, served_at, issue_at, admission_at}
+use Rattle.com_state.specs.Parts.{named_at, class_at}
 use Rattle.com_calls.specs.Kept.{Kept, inbox_at}
 
--- What is read: the scenario, the tables of lanes, of objects, of calls with their inboxes, what frames and cells hold, the objects
--- that wait for their Final, and the clock in milliseconds. Who holds references stands beside.
+-- What is read: the scenario, the tables of lanes, of objects, of calls with their inboxes, what frames and
+-- cells hold, the objects that wait for their Final, and the clock in milliseconds. Who holds references
+-- stands beside.
 pub record Seen : Type 0 where
   pub scenario : Scenario
   pub lanes : LaneTables

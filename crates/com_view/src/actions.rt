@@ -2,7 +2,8 @@
 
 ghost use Rattle.std.specs.Prelude.{◌≡◌, ◌+◌, ◌<◌, ◌≤◌, ◌^◌, ◌&&◌, not, length, ℕ, Some};
 ghost use Rattle.com_books.specs.Changes.{Books};
-ghost use Rattle.com_model.specs.Deeds.{initialised, uninitialised, filter_set, word_answer, takes_words, deed_of};
+ghost use Rattle.com_model.specs.Deeds.{initialised, uninitialised, filter_set, word_answer, takes_words};
+ghost use Rattle.com_model.specs.Deeds.{deed_of};
 ghost use Rattle.com_model.specs.Tables.{is_thread};
 ghost use Rattle.com_body.specs.declared.actions.Action.TheVariants as action;
 ghost use Rattle.com_model.specs.declared.deeds.Deed.TheVariants as deed;
@@ -18,7 +19,8 @@ impl<'a> View<'a> {
     /// The entry of `init` (CoInitializeEx).
     pub fn initialised(&self, lane: u32, mode: Mode) -> Deed
         requires { length self.now.lanes.stas + 4 ≤ 2 ^ 32 }
-        ensures { (b : Books) → result ≡ deed_of self.now.scenario (sight_by self.now b) lane (action.Init mode) }
+        ensures { (b : Books) → result
+            ≡ deed_of self.now.scenario (sight_by self.now b) lane (action.Init mode) }
     {
         initialised(mode, self.home(lane), self.lanes.next_sta())
     }
@@ -32,15 +34,18 @@ impl<'a> View<'a> {
 
     /// The entry of `setfilter` (CoRegisterMessageFilter).
     pub fn filter_set(&self, lane: u32, filter: Option<u32>) -> Deed
-        ensures { (b : Books) → result ≡ deed_of self.now.scenario (sight_by self.now b) lane (action.SetFilter filter) }
+        ensures { (b : Books) → result
+            ≡ deed_of self.now.scenario (sight_by self.now b) lane (action.SetFilter filter) }
     {
         filter_set(filter, self.home(lane))
     }
 
-    /// The entry of `post`: S_OK where the number is that of a thread's lane that is not over, else E_INVALIDARG.
+    /// The entry of `post`: S_OK where the number is that of a thread's lane that is not over, else
+    /// E_INVALIDARG.
     pub fn posted(&self, to: i64, word: i64) -> Deed
         requires { length self.now.scenario.threads < 2 ^ 32 }
-        ensures { (b : Books) (l : ℕ) → result ≡ deed_of self.now.scenario (sight_by self.now b) l (action.Post to word) }
+        ensures { (b : Books) (l : ℕ)
+            → result ≡ deed_of self.now.scenario (sight_by self.now b) l (action.Post to word) }
     {
         Deed::Post {
             lane: to,
@@ -52,7 +57,8 @@ impl<'a> View<'a> {
     /// The entry of `quit`, with the answers of `post`.
     pub fn quit(&self, to: i64) -> Deed
         requires { length self.now.scenario.threads < 2 ^ 32 }
-        ensures { (b : Books) (l : ℕ) → result ≡ deed_of self.now.scenario (sight_by self.now b) l (action.Quit to) }
+        ensures { (b : Books) (l : ℕ)
+            → result ≡ deed_of self.now.scenario (sight_by self.now b) l (action.Quit to) }
     {
         Deed::Quit {
             lane: to,

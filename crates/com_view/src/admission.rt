@@ -66,7 +66,8 @@ impl<'a> View<'a> {
         }
     }
 
-    /// The call type of a call in a lane, over the causalities of the lane's open calls (CALLTYPE of IMessageFilter).
+    /// The call type of a call in a lane, over the causalities of the lane's open calls (CALLTYPE of
+    /// IMessageFilter).
     pub fn call_sort(&self, lane: u32, call: u32) -> u8
         ensures { result ≡ call_sort (bare self.now) lane call }
     {
@@ -77,7 +78,8 @@ impl<'a> View<'a> {
     /// How many milliseconds a lane's innermost open call has waited, and 0 where none is open.
     #[tactic(auto, using(crate::proofs::Causes::waited_none, crate::proofs::Causes::waited_last))]
     pub fn waited(&self, lane: u32) -> u64
-        ensures { result ≡ waited (bare self.now).issued_at self.now.clock (open_calls (openers_at self.now.lanes lane)) }
+        ensures { result ≡ waited (bare self.now).issued_at self.now.clock (open_calls
+            (openers_at self.now.lanes lane)) }
     {
         let open = self.lanes.open_calls(lane);
         if open.len() == 0 {

@@ -2,7 +2,8 @@
 
 ghost use Rattle.std.specs.Prelude.{◌≡◌, ◌&&◌, not, IfOk, if◌then◌else◌};
 ghost use Rattle.com_books.specs.Changes.{Books};
-ghost use Rattle.com_model.specs.Rules.{admission, arguments_gone, call_sort, is_handled_in, posted_to_sta, verdict_on};
+ghost use Rattle.com_model.specs.Rules.{admission, arguments_gone, call_sort, is_handled_in, posted_to_sta};
+ghost use Rattle.com_model.specs.Rules.{verdict_on};
 ghost use Rattle.com_model.specs.Answers.{RPC_E_SERVER_CANTUNMARSHAL_DATA};
 ghost use Rattle.com_model.specs.Lists.{where_true};
 ghost use Rattle.com_model.specs.Calls.{object_of};
@@ -32,7 +33,8 @@ fn copied(alloc: Global, values: &[Value]) -> Result<Rows<Value>, Memory>
 impl<'a> View<'a> {
     // The call type that the Enter of a call has: of one that was posted to an STA.
     fn shown_sort(&self, lane: u32, call: u32) -> Option<u8>
-        ensures { result ≡ where_true (posted_to_sta (bare self.now) call) (call_sort (bare self.now) lane call) }
+        ensures { result ≡ where_true (posted_to_sta (bare self.now) call) (call_sort
+            (bare self.now) lane call) }
     {
         if self.posted_to_sta(call) {
             Some(self.call_sort(lane, call))
@@ -42,7 +44,9 @@ impl<'a> View<'a> {
     }
 
     fn entered(&self, alloc: Global, lane: u32, call: u32) -> Result<Deed, Memory>
-        ensures { IfOk result (λ made. made ≡ deed.Enter call (object_of ((bare self.now).issue call)) ((bare self.now).owner (object_of ((bare self.now).issue call)) lane)
+        ensures { IfOk result (λ made. made
+            ≡ deed.Enter call (object_of ((bare self.now).issue call)) ((bare self.now).owner (object_of
+            ((bare self.now).issue call)) lane)
             (where_true (posted_to_sta (bare self.now) call) (call_sort (bare self.now) lane call)) ((bare self.now).unread call)) }
     {
         let object = self.object_of(call);
@@ -58,9 +62,13 @@ impl<'a> View<'a> {
         })
     }
 
-    // A call that neither the depth of the lane nor its filter turns away. `gone` says that the packet of an argument was given up.
+    // A call that neither the depth of the lane nor its filter turns away. `gone` says that the packet of an
+    // argument was given up.
     fn let_in(&self, alloc: Global, lane: u32, call: u32, gone: bool) -> Result<Deed, Memory>
-        ensures { IfOk result (λ made. made ≡ (if gone then deed.Refuse call RPC_E_SERVER_CANTUNMARSHAL_DATA else deed.Enter call (object_of ((bare self.now).issue call)) ((bare self.now).owner (object_of ((bare self.now).issue call)) lane)
+        ensures { IfOk result (λ made. made ≡ (if gone
+            then deed.Refuse call RPC_E_SERVER_CANTUNMARSHAL_DATA
+            else deed.Enter call (object_of ((bare self.now).issue call)) ((bare self.now).owner (object_of
+            ((bare self.now).issue call)) lane)
             (where_true (posted_to_sta (bare self.now) call) (call_sort (bare self.now) lane call)) ((bare self.now).unread call))) }
     {
         if gone {
@@ -74,7 +82,8 @@ impl<'a> View<'a> {
 
     // The Verdict of the lane's filter that turns a call away.
     fn turned_away(&self, lane: u32, call: u32) -> Option<Deed>
-        ensures { result ≡ where_true (posted_to_sta (bare self.now) call && not (is_handled_in self.now.scenario (bare self.now) lane call))
+        ensures { result ≡ where_true (posted_to_sta (bare self.now) call && not
+            (is_handled_in self.now.scenario (bare self.now) lane call))
             (deed.Verdict call (call_sort (bare self.now) lane call) (verdict_on self.now.scenario (bare self.now) lane call)) }
     {
         if !self.posted_to_sta(call) {
@@ -92,11 +101,12 @@ impl<'a> View<'a> {
         })
     }
 
-    /// The admission of a call in a lane: a refusal at 256 openers, the verdict of the lane's filter on a call posted to an STA where it
-    /// turns the call away, a refusal where the packet of an argument was given up, as `gone` says, else the Enter. The only error is
-    /// want of memory.
+    /// The admission of a call in a lane: a refusal at 256 openers, the verdict of the lane's filter on a
+    /// call posted to an STA where it turns the call away, a refusal where the packet of an argument was
+    /// given up, as `gone` says, else the Enter. The only error is want of memory.
     pub fn admission(&self, alloc: Global, lane: u32, call: u32, gone: bool) -> Result<Deed, Memory>
-        ensures { (b : Books) → arguments_gone (sight_by self.now b) call ≡ gone → IfOk result (λ made. made ≡ admission self.now.scenario (sight_by self.now b) lane call) }
+        ensures { (b : Books) → arguments_gone (sight_by self.now b) call ≡ gone
+            → IfOk result (λ made. made ≡ admission self.now.scenario (sight_by self.now b) lane call) }
     {
         if self.lanes.depth(lane) >= MOST_OPENERS {
             return Ok(Deed::Refuse {

@@ -5,7 +5,9 @@ ghost use Rattle.com_books.specs.Changes.{Books, cookie, packet};
 ghost use Rattle.com_model.specs.Deeds.{cookie_number};
 ghost use Rattle.com_model.specs.Endings.{is_leave};
 ghost use Rattle.com_model.specs.Lists.{any_of, first_that, or_else};
-ghost use Rattle.com_model.specs.Rules.{answered, arguments_gone, due_of, packet_left, result_gone, rule_answer, rule_inbox, rule_again, rule_own, rule_pending, rule_retry, rule_word};
+ghost use Rattle.com_model.specs.Rules.{answered, arguments_gone, due_of, packet_left, result_gone};
+ghost use Rattle.com_model.specs.Rules.{rule_answer, rule_inbox, rule_again, rule_own, rule_pending};
+ghost use Rattle.com_model.specs.Rules.{rule_retry, rule_word};
 ghost use Rattle.com_view.specs.Seen.{bare, sight_by};
 ghost use Rattle.com_view.specs.Given.{gone_in};
 
@@ -35,11 +37,13 @@ pub trait References {
 
     /// Whether the packet of one of a call's arguments was given up.
     fn lost_argument(&self, call: u32) -> bool
-        ensures { result ≡ any_of (λ p. not (packet (books self.now) p).outstanding) ((books self.now).arguments call) };
+        ensures { result ≡ any_of (λ p. not (packet (books self.now) p).outstanding)
+            ((books self.now).arguments call) };
 
     /// The first packet of a call's arguments that was not given up.
     fn left_argument(&self, call: u32) -> Option<u32>
-        ensures { result ≡ first_that (λ p. not (not (packet (books self.now) p).outstanding)) ((books self.now).arguments call) };
+        ensures { result ≡ first_that (λ p. not (not (packet (books self.now) p).outstanding))
+            ((books self.now).arguments call) };
 
     /// Whether a call's result has a packet that was given up.
     fn lost_result(&self, call: u32) -> bool
@@ -76,7 +80,8 @@ impl<'a> View<'a> {
     // Whether the packet of the result was given up that a body left a call with.
     #[tactic(auto, using(crate::proofs::Gone::result_left, crate::proofs::Gone::result_not_left))]
     fn has_lost_result<R: References>(&self, refs: &R, call: u32) -> bool
-        ensures { result ≡ result_gone (sight_by self.now (R.books refs.now)) call ((R.books refs.now).result call) }
+        ensures { result ≡ result_gone (sight_by self.now (R.books refs.now)) call
+            ((R.books refs.now).result call) }
     {
         if self.is_left(call) {
             refs.lost_result(call)
@@ -97,7 +102,10 @@ impl<'a> View<'a> {
 
     // What a call with an answer gives up or comes back with.
     fn answer_of<R: References>(&self, refs: &R, call: u32) -> Result<Option<Deed>, Memory>
-        ensures { IfOk result (λ deed. deed ≡ option_map (λ x. answered (sight_by self.now (R.books refs.now)) call x (packet_left (sight_by self.now (R.books refs.now)) call)) (due_of (sight_by self.now (R.books refs.now)) call)) }
+        ensures { IfOk result (λ deed. deed
+            ≡ option_map (λ x. answered (sight_by self.now (R.books refs.now)) call x (packet_left
+            (sight_by self.now (R.books refs.now)) call)) (due_of (sight_by self.now
+            (R.books refs.now)) call)) }
     {
         if !self.is_answered(call) {
             return Ok(None);
@@ -112,7 +120,8 @@ impl<'a> View<'a> {
         self.back(call, gone)
     }
 
-    /// What the lane's own call with an answer gives up, or comes back with. The only error is want of memory.
+    /// What the lane's own call with an answer gives up, or comes back with. The only error is want of
+    /// memory.
     pub fn answer<R: References>(&self, refs: &R, lane: u32) -> Result<Option<Deed>, Memory>
         ensures { IfOk result (λ deed. deed ≡ rule_answer (sight_by self.now (R.books refs.now)) lane) }
     {
@@ -129,7 +138,8 @@ impl<'a> View<'a> {
         alloc: Global,
         lane: u32,
     ) -> Result<Option<Deed>, Memory>
-        ensures { IfOk result (λ deed. deed ≡ rule_own self.now.scenario (sight_by self.now (R.books refs.now)) lane) }
+        ensures { IfOk result (λ deed. deed
+            ≡ rule_own self.now.scenario (sight_by self.now (R.books refs.now)) lane) }
     {
         let Some(call) = self.own_call(lane) else {
             return Ok(None);
@@ -149,7 +159,8 @@ impl<'a> View<'a> {
         alloc: Global,
         lane: u32,
     ) -> Result<Option<Deed>, Memory>
-        ensures { IfOk result (λ deed. deed ≡ rule_inbox self.now.scenario (sight_by self.now (R.books refs.now)) lane) }
+        ensures { IfOk result (λ deed. deed
+            ≡ rule_inbox self.now.scenario (sight_by self.now (R.books refs.now)) lane) }
     {
         let Some(call) = self.admits_next(lane) else {
             return Ok(None);
@@ -159,7 +170,8 @@ impl<'a> View<'a> {
         Ok(Some(deed))
     }
 
-    /// The entry that the first of the rules after that of the inbox gives a lane, but for that of its script.
+    /// The entry that the first of the rules after that of the inbox gives a lane, but for that of its
+    /// script.
     pub fn ruled_later(&self, lane: u32) -> Option<Deed>
         ensures { (b : Books) → result ≡ or_else (rule_retry self.now.scenario (sight_by self.now b) lane)
             (or_else (rule_again (sight_by self.now b) lane)

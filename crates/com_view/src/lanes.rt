@@ -20,8 +20,8 @@ impl<'a> View<'a> {
         sort_of(self.scenario, lane)
     }
 
-    /// The home of a lane: the apartment that a thread initialised, the host's STA for the host's lane, and the multithreaded
-    /// one for a lane of the pool.
+    /// The home of a lane: the apartment that a thread initialised, the host's STA for the host's lane, and
+    /// the multithreaded one for a lane of the pool.
     pub fn home(&self, lane: u32) -> Option<u32>
         ensures { result ≡ home_seen self.now lane }
     {

@@ -2,7 +2,9 @@
 
 ghost use Rattle.std.specs.Prelude.{◌≡◌, ◌&&◌, ◌||◌, is_some};
 ghost use Rattle.com_books.specs.Changes.{Books};
-ghost use Rattle.com_model.specs.Rules.{asked_on, enters_itself, ruled, rule_final, rule_own, rule_answer, rule_bound, rule_inbox, rule_retry, rule_again, posted_again, rule_pending, rule_word, rule_script, top};
+ghost use Rattle.com_model.specs.Rules.{asked_on, enters_itself, ruled, rule_final, rule_own, rule_answer};
+ghost use Rattle.com_model.specs.Rules.{rule_bound, rule_inbox, rule_retry, rule_again, posted_again};
+ghost use Rattle.com_model.specs.Rules.{rule_pending, rule_word, rule_script, top};
 ghost use Rattle.com_model.specs.Waiting.{not_asked, mark_of};
 ghost use Rattle.com_view.specs.Nexts.{is_body, kind_of};
 ghost use Rattle.com_view.specs.Seen.{bare, sight_by};
@@ -209,10 +211,12 @@ impl<'a> View<'a> {
         self.has_script(lane)
     }
 
-    /// What a lane does next: its body acts where one is innermost; else it makes an entry by the rules, where one gives it one; else
-    /// it has ended, or waits.
+    /// What a lane does next: its body acts where one is innermost; else it makes an entry by the rules,
+    /// where one gives it one; else it has ended, or waits.
     pub fn next(&self, lane: u32) -> Next
-        ensures { (b : Books) → result ≡ kind_of (is_body (top (sight_by self.now b) lane)) (is_some (ruled self.now.scenario (sight_by self.now b) lane)) ((sight_by self.now b).over lane) }
+        ensures { (b : Books) → result
+            ≡ kind_of (is_body (top (sight_by self.now b) lane)) (is_some (ruled self.now.scenario
+            (sight_by self.now b) lane)) ((sight_by self.now b).over lane) }
     {
         if self.is_in_body(lane) {
             return Next::Body;

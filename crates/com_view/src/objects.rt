@@ -17,8 +17,8 @@ use com_deeds::{HOST_STA, MTA, Target, is_agile, number_or_zero};
 use com_model::Deed;
 
 impl<'a> View<'a> {
-    /// Whether a lane serves an apartment: a thread's the STAs that it made, the host's lane the host's STA, and one of the pool
-    /// the neutral and the multithreaded apartment.
+    /// Whether a lane serves an apartment: a thread's the STAs that it made, the host's lane the host's STA,
+    /// and one of the pool the neutral and the multithreaded apartment.
     pub fn serves(&self, lane: u32, apartment: u32) -> bool
         ensures { result ≡ serves_seen self.now lane apartment }
     {
@@ -32,7 +32,8 @@ impl<'a> View<'a> {
 
     // The first of these objects that the lane serves.
     fn first_served(&self, lane: u32, objects: &[u32]) -> Option<u32>
-        ensures { result ≡ first (filter (λ o. serves_seen self.now lane (named_at self.now.objects o)) objects.now) }
+        ensures { result ≡ first (filter (λ o. serves_seen self.now lane
+            (named_at self.now.objects o)) objects.now) }
     {
         for object in objects {
             if self.serves(lane, self.objects.owner(*object)) {
@@ -79,7 +80,8 @@ impl<'a> View<'a> {
         number_or_zero(self.running(lane)) == self.objects.owner(object)
     }
 
-    /// The apartment in which a lane's body of an object runs: the object's own, and of an agile object the lane's.
+    /// The apartment in which a lane's body of an object runs: the object's own, and of an agile object the
+    /// lane's.
     pub fn owner(&self, object: u32, lane: u32) -> u32
         ensures { result ≡ (bare self.now).owner object lane }
     {
@@ -91,7 +93,8 @@ impl<'a> View<'a> {
 
     /// What a lane finds of an object, which is connected or is not.
     pub fn target(&self, lane: u32, object: u32, connected: bool) -> Target
-        ensures { (b : Books) → b.live object ≡ connected → SeesObject (sight_by self.now b) lane object result }
+        ensures { (b : Books) → b.live object ≡ connected
+            → SeesObject (sight_by self.now b) lane object result }
     {
         Target {
             owned: self.owns(lane, object),

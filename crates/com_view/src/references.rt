@@ -26,7 +26,8 @@ impl<'a> View<'a> {
     pub fn created(&self, lane: u32, class: Asked, iface: Asked) -> Deed
         requires number { FitsNumber iface }
         requires room { length self.now.objects.makings + 1 < 2 ^ 32 }
-        ensures { (b : Books) (slot : ℕ) → result ≡ deed_of self.now.scenario (sight_by self.now b) lane (action.Create slot class iface) }
+        ensures { (b : Books) (slot : ℕ)
+            → result ≡ deed_of self.now.scenario (sight_by self.now b) lane (action.Create slot class iface) }
     {
         let home = self.home(lane);
         let running = self.running(lane);
@@ -46,7 +47,8 @@ impl<'a> View<'a> {
     /// The entry of `query` of a reference whose object is connected or is not (IUnknown::QueryInterface).
     pub fn queried(&self, lane: u32, held: Option<RefValue>, iface: Asked, connected: bool) -> Deed
         requires { FitsNumber iface }
-        ensures { (b : Books) (to : ℕ) → Says b held connected → result ≡ deed_of self.now.scenario (sight_by self.now b) lane (action.Query to held iface) }
+        ensures { (b : Books) (to : ℕ) → Says b held connected
+            → result ≡ deed_of self.now.scenario (sight_by self.now b) lane (action.Query to held iface) }
     {
         let home = self.home(lane);
         let target = self.target_of(lane, held, connected);
@@ -55,15 +57,16 @@ impl<'a> View<'a> {
 
     /// The entry of `disconnect` of a reference whose object is connected or is not (CoDisconnectObject).
     pub fn disconnected(&self, lane: u32, held: Option<RefValue>, connected: bool) -> Deed
-        ensures { (b : Books) → Says b held connected → result ≡ deed_of self.now.scenario (sight_by self.now b) lane (action.Disconnect held) }
+        ensures { (b : Books) → Says b held connected
+            → result ≡ deed_of self.now.scenario (sight_by self.now b) lane (action.Disconnect held) }
     {
         let home = self.home(lane);
         let target = self.target_of(lane, held, connected);
         disconnected(held, home, target)
     }
 
-    /// The entry of `register` of a reference whose object is connected or is not, where so many cookies were given so far
-    /// (IGlobalInterfaceTable::RegisterInterfaceInGlobal).
+    /// The entry of `register` of a reference whose object is connected or is not, where so many cookies were
+    /// given so far (IGlobalInterfaceTable::RegisterInterfaceInGlobal).
     pub fn registered(
         &self,
         lane: u32,
@@ -72,7 +75,8 @@ impl<'a> View<'a> {
         cookies: u32,
     ) -> Deed
         requires { cookies + 1 < 2 ^ 32 }
-        ensures { (b : Books) (to : ℕ) → length b.cookies ≡ cookies → Says b held connected → result ≡ deed_of self.now.scenario (sight_by self.now b) lane (action.Register to held) }
+        ensures { (b : Books) (to : ℕ) → length b.cookies ≡ cookies → Says b held connected
+            → result ≡ deed_of self.now.scenario (sight_by self.now b) lane (action.Register to held) }
     {
         let refusal = hold_refusal(self.home(lane), held, connected);
         registered(held, refusal, cookies)
@@ -81,24 +85,29 @@ impl<'a> View<'a> {
     /// The entry of `get` of a cookie whose row is `kept`, where that row's object is connected or is not
     /// (IGlobalInterfaceTable::GetInterfaceFromGlobal).
     pub fn got(&self, lane: u32, number: i64, kept: Cookie, connected: bool) -> Deed
-        ensures { (b : Books) (slot : ℕ) → cookie b (cookie_number number) ≡ kept → b.live kept.object ≡ connected → result ≡ deed_of self.now.scenario (sight_by self.now b) lane (action.Get slot number) }
+        ensures { (b : Books) (slot : ℕ) → cookie b (cookie_number number) ≡ kept
+            → b.live kept.object ≡ connected
+            → result ≡ deed_of self.now.scenario (sight_by self.now b) lane (action.Get slot number) }
     {
         let home = self.home(lane);
         let target = self.target(lane, kept.object, connected);
         got(number, home, kept, target)
     }
 
-    /// The entry of `revoke` of a cookie whose row is `kept` (IGlobalInterfaceTable::RevokeInterfaceFromGlobal).
+    /// The entry of `revoke` of a cookie whose row is `kept`
+    /// (IGlobalInterfaceTable::RevokeInterfaceFromGlobal).
     pub fn revoked(&self, lane: u32, number: i64, kept: Cookie) -> Deed
-        ensures { (b : Books) → cookie b (cookie_number number) ≡ kept → result ≡ deed_of self.now.scenario (sight_by self.now b) lane (action.Revoke number) }
+        ensures { (b : Books) → cookie b (cookie_number number) ≡ kept
+            → result ≡ deed_of self.now.scenario (sight_by self.now b) lane (action.Revoke number) }
     {
         revoked(number, self.home(lane), kept)
     }
 
-    /// The entry of `unmarshal` of bytes that name a packet whose row is `kept`, where that row's object is connected or is not
-    /// (CoUnmarshalInterface).
+    /// The entry of `unmarshal` of bytes that name a packet whose row is `kept`, where that row's object is
+    /// connected or is not (CoUnmarshalInterface).
     pub fn unmarshalled(&self, lane: u32, found: Named, kept: Packet, connected: bool) -> Deed
-        ensures { (b : Books) → b.live kept.object ≡ connected → ((p : ℕ) → found ≡ named.Packet p → packet b p ≡ kept) → result ≡ unmarshalled (sight_by self.now b) lane (named_as found) }
+        ensures { (b : Books) → b.live kept.object ≡ connected → ((p : ℕ) → found ≡ named.Packet p
+            → packet b p ≡ kept) → result ≡ unmarshalled (sight_by self.now b) lane (named_as found) }
     {
         let target = self.target(lane, kept.object, connected);
         unmarshalled(found, kept, target)
@@ -113,7 +122,9 @@ impl<'a> View<'a> {
         method: u16,
         connected: bool,
     ) -> Option<HResult>
-        ensures { (b : Books) → Says b held connected → result ≡ call_refusal self.now.scenario (home_seen self.now lane) ((sight_by self.now b).running lane) (sight_by self.now b).owns b.live held iface method }
+        ensures { (b : Books) → Says b held connected
+            → result ≡ call_refusal self.now.scenario (home_seen self.now lane)
+            ((sight_by self.now b).running lane) (sight_by self.now b).owns b.live held iface method }
     {
         let home = self.home(lane);
         let target = self.target_of(lane, held, connected);
@@ -129,7 +140,8 @@ impl<'a> View<'a> {
         route_to(held, home, target)
     }
 
-    /// The causality of the next call of a lane: that of its innermost body, else a new one ([MS-DCOM] 2.2.13.3, ORPCTHIS).
+    /// The causality of the next call of a lane: that of its innermost body, else a new one ([MS-DCOM]
+    /// 2.2.13.3, ORPCTHIS).
     pub fn next_cause(&self, lane: u32) -> u32
         requires { self.now.calls.tables.causes + 1 < 2 ^ 32 }
         ensures { result ≡ next_cause (bare self.now) lane }

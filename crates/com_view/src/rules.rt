@@ -4,7 +4,9 @@ ghost use Rattle.std.specs.Prelude.{◌≡◌, ◌&&◌, if◌then◌else◌, Op
 ghost use Rattle.com_books.specs.Changes.{Books};
 ghost use Rattle.com_model.specs.Deeds.{in_sta};
 ghost use Rattle.com_model.specs.Lists.{first};
-ghost use Rattle.com_model.specs.Rules.{is_open_to_calls, admits_next, admits_sta, rule_bound, rule_retry, retried, rule_again, posted_again, rule_pending, asked_on, rule_word, pumped, takes_word, is_script_turn, after_script, top};
+ghost use Rattle.com_model.specs.Rules.{is_open_to_calls, admits_next, admits_sta, rule_bound, rule_retry};
+ghost use Rattle.com_model.specs.Rules.{retried, rule_again, posted_again, rule_pending, asked_on, rule_word};
+ghost use Rattle.com_model.specs.Rules.{pumped, takes_word, is_script_turn, after_script, top};
 ghost use Rattle.com_model.specs.Tables.{lane_sort};
 ghost use Rattle.com_model.specs.Waiting.{not_asked, mark_of, no_mail};
 ghost use Rattle.com_view.specs.Seen.{bare, sight_by};
@@ -75,7 +77,8 @@ impl<'a> View<'a> {
         }
     }
 
-    /// The question to the filter of a waiting caller what to do with a word (IMessageFilter::MessagePending).
+    /// The question to the filter of a waiting caller what to do with a word
+    /// (IMessageFilter::MessagePending).
     pub fn pending(&self, lane: u32) -> Option<Deed>
         ensures { (b : Books) → result ≡ rule_pending self.now.scenario (sight_by self.now b) lane }
     {
@@ -128,7 +131,8 @@ impl<'a> View<'a> {
 
     /// Whether the script of a lane acts next: of a thread's lane with nothing open that is not over.
     pub fn is_script_turn(&self, lane: u32) -> bool
-        ensures { result ≡ is_script_turn (lane_sort self.now.scenario lane) (top (bare self.now) lane) ((bare self.now).over lane) }
+        ensures { result ≡ is_script_turn (lane_sort self.now.scenario lane) (top (bare self.now) lane)
+            ((bare self.now).over lane) }
     {
         if self.lanes.top(lane).is_some() {
             return false;
@@ -139,7 +143,8 @@ impl<'a> View<'a> {
         }
     }
 
-    /// What a thread's lane does after its script: it ends where it has no initialisation left, else it drops one.
+    /// What a thread's lane does after its script: it ends where it has no initialisation left, else it drops
+    /// one.
     pub fn after_script(&self, lane: u32) -> Deed
         ensures { (b : Books) → result ≡ after_script (sight_by self.now b) lane }
     {
@@ -149,8 +154,8 @@ impl<'a> View<'a> {
         self.uninitialised(lane)
     }
 
-    /// Whether a lane lets a posted call in. An STA's lane does while it pumps or waits for a posted call, the host's also with
-    /// nothing open; a lane of the pool only with nothing open.
+    /// Whether a lane lets a posted call in. An STA's lane does while it pumps or waits for a posted call,
+    /// the host's also with nothing open; a lane of the pool only with nothing open.
     fn is_open_to_calls(&self, lane: u32, sort: Sort) -> bool
         ensures { result ≡ is_open_to_calls (bare self.now) (sort_as sort) (top (bare self.now) lane) }
     {

@@ -19,7 +19,8 @@ pub enum Sort {
     NoLane,
 }
 
-/// The sort of a lane of a scenario: lane 0 is the clock, then come the threads in their order, the host's lane and the pool's.
+/// The sort of a lane of a scenario: lane 0 is the clock, then come the threads in their order, the host's
+/// lane and the pool's.
 pub fn sort_of(scenario: &Scenario, lane: u32) -> Sort
     ensures { sort_as result ≡ lane_sort scenario.now lane }
 {

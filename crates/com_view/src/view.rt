@@ -31,5 +31,13 @@ impl<'a> Model for View<'a> {
 
     ghost Value = { Seen };
 
-    ghost view = { λ w. record { scenario = w.scenario.now; lanes = w.lanes.now; objects = w.objects.now; calls = w.calls.now; scene = w.scene.now; fallen = w.fallen.now; clock = w.clock } };
+    ghost view = { λ w. record {
+      scenario = w.scenario.now;
+      lanes = w.lanes.now;
+      objects = w.objects.now;
+      calls = w.calls.now;
+      scene = w.scene.now;
+      fallen = w.fallen.now;
+      clock = w.clock;
+    } };
 }

@@ -1,5 +1,7 @@
--- The chain of a lane: from the lane to the one that it waits for, until one waits for a message, or came before. And the cycle.
-use Rattle.std.specs.Prelude.{ℕ, zero, suc, ◌+◌, Bool, true, false, ◌==◌, if◌then◌else◌, List, [], ◌∷◌, ◌++◌, length, Option, Some, None}
+-- The chain of a lane: from the lane to the one that it waits for, until one waits for a message, or came
+-- before. And the cycle.
+use Rattle.std.specs.Prelude.{ℕ, zero, suc, ◌+◌, Bool, true, false, ◌==◌, if◌then◌else◌, List, [], ◌∷◌, ◌++◌}
+use Rattle.std.specs.Prelude.{length, Option, Some, None}
 use Rattle.com_model.specs.declared.deeds.Entry.{Entry}
 use Rattle.com_model.specs.declared.scenario.Scenario.{Scenario}
 use Rattle.com_model.specs.Lists.{is_member, least}
@@ -40,8 +42,9 @@ abbrev pub before_lane : ℕ → List ℕ → List ℕ
 before_lane l [] = []
 before_lane l (x ∷ xs) = if x == l then [] else x ∷ before_lane l xs
 
--- The cycle that a chain enters: the chain goes on from a lane, and these lanes came before, in the chain's order. It ends without
--- cycle where a lane waits for a message. As many steps as there are lanes that wait, and one more, are enough.
+-- The cycle that a chain enters: the chain goes on from a lane, and these lanes came before, in the chain's
+-- order. It ends without cycle where a lane waits for a message. As many steps as there are lanes that wait,
+-- and one more, are enough.
 abbrev pub goes_on : (List ℕ → ℕ → List ℕ) → List ℕ → Option ℕ → List ℕ
 goes_on go chain None = []
 goes_on go chain (Some m) = go chain m
@@ -59,7 +62,8 @@ from_least_of xs (Some m) = from_lane m xs ++ before_lane m xs
 abbrev pub from_least : List ℕ → List ℕ
 from_least xs = from_least_of xs (least xs)
 
--- The cycle that the chain of the least lane enters that does not wait for a message; empty where each lane does.
+-- The cycle that the chain of the least lane enters that does not wait for a message; empty where each lane
+-- does.
 abbrev pub cycle_from : List Wait → Option ℕ → List ℕ
 cycle_from ws None = []
 cycle_from ws (Some l) = from_least (entered (next_in ws) (length ws + 1) [] l)

@@ -1,5 +1,6 @@
 -- What holds of every stuck history, whatever it waits for.
-use Rattle.std.specs.Prelude.{◌≡◌, ℕ, Bool, true, false, List, [], ◌∷◌, Option, Some, None, is_some, option_and_then}
+use Rattle.std.specs.Prelude.{◌≡◌, ℕ, Bool, true, false, List, [], ◌∷◌, Option, Some, None, is_some}
+use Rattle.std.specs.Prelude.{option_and_then}
 use Rattle.com_model.specs.declared.deeds.Entry.{Entry}
 use Rattle.com_model.specs.declared.keeps.Opener.{Opener}
 use Rattle.com_model.specs.declared.keeps.Opener.TheVariants as opener
@@ -27,7 +28,8 @@ TopWaits h (Some (opener.Enters c o a)) = ⊥
 abbrev pub TopsWait : Scenario → List Entry → Type 0
 TopsWait s h = (l : ℕ) → TopWaits h (first (openers h l))
 
--- A call on top has no answer; and where it was not entered, it stands in the inbox of its target's apartment.
+-- A call on top has no answer; and where it was not entered, it stands in the inbox of its target's
+-- apartment.
 pub record CallWaits (s : Scenario) (h : List Entry) (c : ℕ) : Type 0 where
   pub unanswered : ending s h c ≡ None
   pub queued : admitted h c ≡ None → is_member c (inbox s h (named h (target h c))) ≡ true

@@ -1,8 +1,9 @@
 -- Why lanes wait in a stuck history.
 --
--- In a stuck history every lane with an opener has a pump or an Out of route post on top. At a pump it waits for a message. At the
--- Out of a call that was entered it waits for the body, in the lane of that Enter. At the Out of a call that stands in the inbox of
--- the multithreaded apartment it waits for the pool, for whose lanes the least stands.
+-- In a stuck history every lane with an opener has a pump or an Out of route post on top. At a pump it waits
+-- for a message. At the Out of a call that was entered it waits for the body, in the lane of that Enter. At
+-- the Out of a call that stands in the inbox of the multithreaded apartment it waits for the pool, for whose
+-- lanes the least stands.
 use Rattle.std.specs.Prelude.{ℕ, ◌+◌, List, Option, Some, None, option_map, filter_map}
 use Rattle.com_model.specs.declared.deeds.Entry.{Entry}
 use Rattle.com_model.specs.declared.keeps.Admission.{Admission}

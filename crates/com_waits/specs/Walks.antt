@@ -1,5 +1,6 @@
 -- What is read of a history's entries, from the newest on.
-use Rattle.std.specs.Prelude.{ℕ, zero, suc, ◌+◌, Bool, ◌==◌, List, [], ◌∷◌, Option, Some, None, option_map, filter_map, reverse}
+use Rattle.std.specs.Prelude.{ℕ, zero, suc, ◌+◌, Bool, ◌==◌, List, [], ◌∷◌, Option, Some, None, option_map}
+use Rattle.std.specs.Prelude.{filter_map, reverse}
 use Rattle.com_model.specs.declared.deeds.Entry.{Entry}
 use Rattle.com_model.specs.declared.keeps.Admission.{Admission}
 use Rattle.com_model.specs.declared.keeps.Issue.{Issue}
@@ -33,7 +34,8 @@ change_by Keeps = change.Keeps
 abbrev pub change_of : ℕ → Entry → Change
 change_of l e = change_by (effect_on l e)
 
--- So many openers above are closed later: what the entry opened is the one that is looked for, or how many are closed before it.
+-- So many openers above are closed later: what the entry opened is the one that is looked for, or how many
+-- are closed before it.
 abbrev pub opens_at : Opener → ℕ → Passed
 opens_at o zero = passed.Found o
 opens_at o (suc n) = passed.On n

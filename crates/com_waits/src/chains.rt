@@ -1,7 +1,8 @@
 //! The cycle in which lanes wait for each other.
 ghost use Rattle.std.specs.Prelude.{◌≡◌, ◌++◌, ◌+◌, [], IfOk, OnOk, length};
 ghost use Rattle.com_model.specs.Lists.{is_member, least, lesser};
-ghost use Rattle.com_waits.specs.Chains.{before_lane, cycle_from, cycle_of, entered, explained, first_in, from_lane, from_least, lane_named, is_message, next_in};
+ghost use Rattle.com_waits.specs.Chains.{before_lane, cycle_from, cycle_of, entered, explained, first_in};
+ghost use Rattle.com_waits.specs.Chains.{from_lane, from_least, lane_named, is_message, next_in};
 
 use crate::reasons::{Wait, Waits, Why};
 use com_base::{Memory, Rows};
@@ -111,7 +112,8 @@ fn push_before(out: &mut Vec<u32>, lanes: &[u32], lane: u32) -> Result<(), Memor
 // The cycle that the chain of a lane enters. The only error is want of memory.
 #[tactic(auto, using(crate::proofs::Chained::goes_in, crate::proofs::Chained::goes_nowhere, crate::proofs::Chained::goes_on, crate::proofs::Chained::goes_out))]
 fn entered(alloc: Global, waits: &[Wait], lane: u32) -> Result<Vec<u32>, Memory>
-    ensures { IfOk result (λ cycle. cycle.items ≡ entered (next_in waits.now) (length waits.now + 1) [] lane) }
+    ensures { IfOk result (λ cycle. cycle.items
+        ≡ entered (next_in waits.now) (length waits.now + 1) [] lane) }
 {
     let mut chain = Vec::new(alloc);
     let mut lane = lane;

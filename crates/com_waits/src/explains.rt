@@ -23,7 +23,8 @@ pub struct LaneNumbers {
     pub pool: u32,
 }
 
-/// The numbers of a scenario's lanes. The only error is want of memory, which comes for more lanes than a number of 32 bits holds.
+/// The numbers of a scenario's lanes. The only error is want of memory, which comes for more lanes than a
+/// number of 32 bits holds.
 pub fn lane_numbers(scenario: &Scenario) -> Result<LaneNumbers, Memory>
     ensures lanes { IfOk result (λ numbers. numbers.lanes ≡ lanes scenario.now) }
     ensures pool { IfOk result (λ numbers. numbers.pool ≡ pool_lane scenario.now) }
@@ -39,14 +40,15 @@ pub fn lane_numbers(scenario: &Scenario) -> Result<LaneNumbers, Memory>
 
 // Why the lanes of a stuck history wait.
 fn explain_rows(alloc: Global, numbers: LaneNumbers, history: &[Entry]) -> Result<Waits, Memory>
-    ensures { IfOk result (λ waits. waits ≡ explained (seen_waits numbers.pool (told history.now) numbers.lanes)) }
+    ensures { IfOk result (λ waits. waits
+        ≡ explained (seen_waits numbers.pool (told history.now) numbers.lanes)) }
 {
     let waits = wait_rows(alloc, history, numbers.lanes, numbers.pool)?;
     explained(alloc, waits)
 }
 
-/// Why a history that has ended so is stuck, by its entries in the order of their making, for any scenario with these numbers of
-/// lanes; nothing where it is not stuck. The only error is want of memory.
+/// Why a history that has ended so is stuck, by its entries in the order of their making, for any scenario
+/// with these numbers of lanes; nothing where it is not stuck. The only error is want of memory.
 #[tactic(auto, using(crate::proofs::Explained::ended_by, crate::proofs::Explained::ended_ok, crate::proofs::Explained::ended_budget))]
 pub fn explain_by(
     alloc: Global,
@@ -54,8 +56,10 @@ pub fn explain_by(
     history: &[Entry],
     ended: Ended,
 ) -> Result<Option<Waits>, Memory>
-    ensures { IfOk result (λ waits. (s : AnyScenario) → numbers.lanes ≡ lanes s → numbers.pool ≡ pool_lane s → Formed s
-        → legal s (told history.now) → ended_as s (told history.now) ≡ Some ended → waits ≡ explanation_of s (told history.now)) }
+    ensures { IfOk result (λ waits. (s : AnyScenario) → numbers.lanes ≡ lanes s
+        → numbers.pool ≡ pool_lane s → Formed s
+        → legal s (told history.now) → ended_as s (told history.now) ≡ Some ended
+        → waits ≡ explanation_of s (told history.now)) }
 {
     match ended {
         Ended::Stuck => {
@@ -67,8 +71,8 @@ pub fn explain_by(
     }
 }
 
-/// Why a history that has ended so is stuck, by its entries in the order of their making; nothing where it is not stuck. The only
-/// error is want of memory.
+/// Why a history that has ended so is stuck, by its entries in the order of their making; nothing where it is
+/// not stuck. The only error is want of memory.
 pub fn explain(
     alloc: Global,
     scenario: &Scenario,
@@ -76,7 +80,8 @@ pub fn explain(
     ended: Ended,
 ) -> Result<Option<Waits>, Memory>
     ensures { IfOk result (λ waits. Formed scenario.now → legal scenario.now (told history.now)
-        → ended_as scenario.now (told history.now) ≡ Some ended → waits ≡ explanation_of scenario.now (told history.now)) }
+        → ended_as scenario.now (told history.now) ≡ Some ended
+        → waits ≡ explanation_of scenario.now (told history.now)) }
 {
     let numbers = lane_numbers(scenario)?;
     explain_by(alloc, numbers, history, ended)
@@ -86,7 +91,8 @@ pub fn explain(
 #[tactic(auto, using(crate::proofs::Explained::stuck_rows))]
 fn explain_stuck(alloc: Global, scenario: &Scenario, history: &[Entry]) -> Result<Waits, Memory>
     ensures { IfOk result (λ waits. Formed scenario.now → legal scenario.now (told history.now)
-        → stuck scenario.now (told history.now) ≡ true → waits ≡ explanation scenario.now (told history.now)) }
+        → stuck scenario.now (told history.now) ≡ true
+        → waits ≡ explanation scenario.now (told history.now)) }
 {
     let numbers = lane_numbers(scenario)?;
     explain_rows(alloc, numbers, history)
@@ -129,8 +135,9 @@ fn same(left: &Waits, right: &Waits) -> bool
         && left.cycle.as_slice() == right.cycle.as_slice()
 }
 
-/// Whether these are the lanes that wait in a stuck history, with their reasons and their cycle. It is judged by the entries alone,
-/// in the order of their making, so it asks for no trust in what made the explanation. The only error is want of memory.
+/// Whether these are the lanes that wait in a stuck history, with their reasons and their cycle. It is judged
+/// by the entries alone, in the order of their making, so it asks for no trust in what made the explanation.
+/// The only error is want of memory.
 pub fn confirms(
     alloc: Global,
     scenario: &Scenario,

@@ -20,8 +20,8 @@ pub struct Wait {
     pub why: Why,
 }
 
-/// Why a history is stuck: each lane that waits, by lane, and the cycle in which lanes wait for each other, beginning with its
-/// least lane. The cycle is empty where each lane waits for a message.
+/// Why a history is stuck: each lane that waits, by lane, and the cycle in which lanes wait for each other,
+/// beginning with its least lane. The cycle is empty where each lane waits for a message.
 #[derive(Debug, Drop)]
 pub struct Waits {
     pub waits: Rows<Wait>,

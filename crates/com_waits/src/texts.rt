@@ -1,6 +1,7 @@
 //! What is printed of an explanation.
 ghost use Rattle.std.specs.Prelude.{◌≡◌, ◌++◌, IfOk, OnOk, codes, decimal};
-ghost use Rattle.com_waits.specs.Texts.{at_call, cycle_line, lane_words, text_of, wait_line, wait_lines, waits_text, why_text};
+ghost use Rattle.com_waits.specs.Texts.{at_call, cycle_line, lane_words, text_of, wait_line, wait_lines};
+ghost use Rattle.com_waits.specs.Texts.{waits_text, why_text};
 
 use crate::reasons::{Wait, Waits, Why};
 use com_base::{ByteList, Memory};
@@ -95,8 +96,8 @@ fn push_text(out: &mut ByteList, waits: &Option<Waits>) -> Result<(), Memory>
     }
 }
 
-/// The text of an explanation: a line for each lane that waits, and a line with the cycle; or a line that says that the history is
-/// not stuck. The only error is want of memory.
+/// The text of an explanation: a line for each lane that waits, and a line with the cycle; or a line that
+/// says that the history is not stuck. The only error is want of memory.
 pub fn text_of(alloc: Global, waits: &Option<Waits>) -> Result<ByteList, Memory>
     ensures { IfOk result (λ text. text ≡ text_of waits.now) }
 {

@@ -5,7 +5,8 @@ ghost use Rattle.com_model.specs.Tables.{lanes};
 ghost use Rattle.com_model.specs.Openers.{openers, effect};
 ghost use Rattle.com_model.specs.Objects.{made_or, makes, making};
 ghost use Rattle.com_model.specs.Calls.{admitted, admits, admission_or, issue, issues, issue_or};
-ghost use Rattle.com_waits.specs.Walks.{apartment_in, change_by, change_of, is_for_pool, lane_in, object_in, passed_by, row_of, seen, seen_at_call, seen_waits, told};
+ghost use Rattle.com_waits.specs.Walks.{apartment_in, change_by, change_of, is_for_pool, lane_in, object_in};
+ghost use Rattle.com_waits.specs.Walks.{passed_by, row_of, seen, seen_at_call, seen_waits, told};
 
 use crate::reasons::{Wait, Why};
 use com_base::Memory;
@@ -210,7 +211,8 @@ fn is_for_pool(history: &[Entry], call: u32) -> bool
 
 // Why a call is waited for, where this is the least lane of the pool.
 fn why_call(history: &[Entry], call: u32, pool: u32) -> Option<Why>
-    ensures { result ≡ seen_at_call pool call (is_for_pool (told history.now) call) (lane_in (admitted (told history.now) call)) }
+    ensures { result ≡ seen_at_call pool call (is_for_pool (told history.now) call) (lane_in (admitted
+        (told history.now) call)) }
 {
     if let Some(lane) = entered_lane(history, call) {
         return Some(Why::Body { call, lane });
@@ -235,7 +237,8 @@ fn reason_of(history: &[Entry], lane: u32, pool: u32) -> Option<Why>
 
 // Puts the row of a lane behind the rows, where it waits. The only error is want of memory.
 fn push_row(rows: &mut Vec<Wait>, history: &[Entry], lane: u32, pool: u32) -> Result<(), Memory>
-    ensures { OnOk result (rows.new.items ≡ rows.old.items ++ row_of lane (seen pool (told history.now) lane)) }
+    ensures { OnOk result (rows.new.items
+        ≡ rows.old.items ++ row_of lane (seen pool (told history.now) lane)) }
 {
     match reason_of(history, lane, pool) {
         Some(why) => {
@@ -263,8 +266,8 @@ pub(crate) fn wait_rows(
     Ok(rows)
 }
 
-// How many lanes a scenario has: one for each thread, the host's, and the pool's. `None` only where a number of 32 bits does not
-// hold that.
+// How many lanes a scenario has: one for each thread, the host's, and the pool's. `None` only where a number
+// of 32 bits does not hold that.
 pub(crate) fn lanes_of(scenario: &Scenario) -> Option<u32>
     ensures lanes { IfSome result (λ count. count ≡ lanes scenario.now) }
     ensures threads { IfSome result (λ count. length scenario.now.threads + 2 < 2 ^ 32) }

@@ -10,14 +10,17 @@ ghost use Rattle.ndr_args.specs.Written.{written_args, CanSendAll, IsInRange};
 /// What the writer writes is in the grammar, and is read again as the values that were written. Each
 /// referent fits where there are fewer than about a thousand million references.
 pub fn written_is_read()
-    ensures grammar { (kinds : List Kind) (values : List Wire) → CanSendAll kinds values → AllByRecursion IsInRange values
+    ensures grammar { (kinds : List Kind) (values : List Wire) → CanSendAll kinds values
+        → AllByRecursion IsInRange values
         → 0x20000 + 4 * length values ≤ 2 ^ 32 → IsArgs kinds 0 values (written_args values) }
-    ensures again { (kinds : List Kind) (values : List Wire) → CanSendAll kinds values → AllByRecursion IsInRange values
+    ensures again { (kinds : List Kind) (values : List Wire) → CanSendAll kinds values
+        → AllByRecursion IsInRange values
         → 0x20000 + 4 * length values ≤ 2 ^ 32 → args_of kinds (written_args values) ≡ Ok values }
 {}
 
 /// No stream is the front of another one of the same kinds, so the kinds tell where it ends.
 pub fn no_front_is_whole()
-    ensures { (kinds : List Kind) (values others : List Wire) (front more : List ℕ) → IsArgs kinds 0 values front
+    ensures { (kinds : List Kind) (values others : List Wire) (front more : List ℕ)
+        → IsArgs kinds 0 values front
         → IsArgs kinds 0 others (front ++ more) → (values ≡ others) × (more ≡ []) }
 {}

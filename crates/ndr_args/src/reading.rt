@@ -5,7 +5,9 @@ ghost use Rattle.com_base.specs.declared.value.Kind.{Kind};
 ghost use Rattle.objref.specs.Reading.{objref_of};
 ghost use Rattle.ndr_args.specs.declared.wire.Wire.{Wire};
 ghost use Rattle.ndr_args.specs.Grammar.{gap, align_of, IsArgs};
-ghost use Rattle.ndr_args.specs.Reading.{Gives, short, u32_field, zeros_at, count_at, part_at, counted_at, int_at, bool_at, text_at, bytes_at, guid_arg_at, std_fields, held_at, ref_at, arg_at, args_at, args_of};
+ghost use Rattle.ndr_args.specs.Reading.{Gives, short, u32_field, zeros_at, count_at, part_at, counted_at};
+ghost use Rattle.ndr_args.specs.Reading.{int_at, bool_at, text_at, bytes_at, guid_arg_at, std_fields};
+ghost use Rattle.ndr_args.specs.Reading.{held_at, ref_at, arg_at, args_at, args_of};
 
 use crate::wire::{ArgError, ArgFault, Wire};
 use com_base::{ByteList, Kind, StdFields};
@@ -257,7 +259,8 @@ pub fn read_args(alloc: Global, kinds: &[Kind], bytes: &[u8]) -> Result<Vec<Wire
     // What is read is spelled so, each byte of it.
     ensures found { IfOk result (λ values. IsArgs kinds.now 0 values.items bytes.now) }
     // What is spelled so is read, unless memory runs out.
-    ensures only { (values : List Wire) → IsArgs kinds.now 0 values bytes.now → Gives (λ v. v.items) result (Ok values) }
+    ensures only { (values : List Wire) → IsArgs kinds.now 0 values bytes.now
+        → Gives (λ v. v.items) result (Ok values) }
     // Which fault it is.
     ensures exact { Gives (λ v. v.items) result (args_of kinds.now bytes.now) }
 {

@@ -5,7 +5,8 @@ ghost use Rattle.std.specs.List.{AllByRecursion};
 ghost use Rattle.com_wire.specs.Fields.{number};
 ghost use Rattle.objref.specs.Grammar.{written_of};
 ghost use Rattle.ndr_args.specs.Grammar.{gap, zeros, counted};
-ghost use Rattle.ndr_args.specs.Written.{align_of_value, written_arg, next_referent, written_args, CanSend, CanSendAll};
+ghost use Rattle.ndr_args.specs.Written.{align_of_value, written_arg, next_referent, written_args, CanSend};
+ghost use Rattle.ndr_args.specs.Written.{CanSendAll};
 
 use crate::reading::gap;
 use crate::wire::Wire;
@@ -56,7 +57,8 @@ fn counts(referent: u32) -> [u8; 12]
 // Appends a reference that is not null.
 #[tactic(auto, using(crate::proofs::Fronts::take_front))]
 fn put_ref(fields: &StdFields, referent: u32, out: &mut ByteList) -> Result<(), Memory>
-    ensures ok { OnOk result (out.new ≡ out.old ++ (number w32 referent ++ (number w32 72 ++ (number w32 72 ++ written_of fields.now)))) }
+    ensures ok { OnOk result (out.new
+        ≡ out.old ++ (number w32 referent ++ (number w32 72 ++ (number w32 72 ++ written_of fields.now)))) }
     ensures err { OnErr result (take (length out.old) out.new ≡ out.old) }
 {
     out.push_all(&counts(referent))?;
@@ -109,7 +111,8 @@ fn next_referent(referent: u32, value: &Wire) -> Result<u32, Memory>
 fn put_value(value: &Wire, place: usize, referent: u32, out: &mut ByteList) -> Result<u32, Memory>
     requires { CanSend value.now }
     ensures next { IfOk result (λ next. next ≡ next_referent referent value.now) }
-    ensures ok { OnOk result (out.new ≡ out.old ++ (zeros (gap place (align_of_value value.now)) ++ written_arg referent value.now)) }
+    ensures ok { OnOk result (out.new
+        ≡ out.old ++ (zeros (gap place (align_of_value value.now)) ++ written_arg referent value.now)) }
     ensures err { OnErr result (take (length out.old) out.new ≡ out.old) }
 {
     let next = next_referent(referent, value)?;

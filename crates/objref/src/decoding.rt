@@ -1,7 +1,8 @@
 //! Reading OBJREFs. Nothing here takes memory.
 ghost use Rattle.std.specs.Prelude.{◌≡◌, ◌≤◌, IfOk, Ok};
 ghost use Rattle.objref.specs.Grammar.{Reference, IsObjRef, reference_of};
-ghost use Rattle.objref.specs.Reading.{Gives, whole, standard_at, strings_at, strings_of, standard_ref, handler_ref, custom_ref, objref_of};
+ghost use Rattle.objref.specs.Reading.{Gives, whole, standard_at, strings_at, strings_of, standard_ref};
+ghost use Rattle.objref.specs.Reading.{handler_ref, custom_ref, objref_of};
 
 use com_base::{Guid, StdFields};
 use com_wire::{guid_at, u16_at, u32_at, u64_at};

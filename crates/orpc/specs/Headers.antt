@@ -1,5 +1,6 @@
 -- The headers of a request and of a reply: their fields, their bytes, and reading them from the front.
-use Rattle.std.specs.Prelude.{ℕ, ◌^◌, ◌<◌, List, ◌++◌, length, Option, Some, None, Result, Ok, Err, ◌==◌, if◌then◌else◌}
+use Rattle.std.specs.Prelude.{ℕ, ◌^◌, ◌<◌, List, ◌++◌, length, Option, Some, None, Result, Ok, Err, ◌==◌}
+use Rattle.std.specs.Prelude.{if◌then◌else◌}
 use Rattle.std.specs.Int.{w16, w32}
 use Rattle.com_base.specs.declared.guid.Guid.{Guid}
 use Rattle.com_wire.specs.Fields.{number, guid, IsGuid, number_at, guid_at}

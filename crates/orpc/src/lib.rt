@@ -5,7 +5,8 @@
 ghost use Rattle.std.specs.Prelude.{◌≡◌, ◌<◌, ◌^◌, List, ℕ, [], ◌++◌, OnOk, OnErr, IfOk, Ok, length};
 ghost use Rattle.com_base.specs.declared.guid.Guid.{Guid};
 ghost use Rattle.com_wire.specs.Fields.{IsGuid};
-ghost use Rattle.orpc.specs.Headers.{This, IsThis, this_text, this_of, that_text, whole, request_of, reply_of};
+ghost use Rattle.orpc.specs.Headers.{This, IsThis, this_text, this_of, that_text, whole, request_of};
+ghost use Rattle.orpc.specs.Headers.{reply_of};
 
 use com_base::{ByteList, Guid, Memory};
 use com_wire::{guid_at, put, u16_at, u32_at};
@@ -108,9 +109,11 @@ fn cause_of(bytes: &[u8]) -> Result<Guid, OrpcFault>
 /// it takes no memory. Source: MS-DCOM 2.2.13.3, "ORPCTHIS".
 pub fn read_request(bytes: &[u8]) -> Result<Guid, OrpcFault>
     // What is read is spelled so, in the first 32 bytes.
-    ensures found { IfOk result (λ cause. (h : This) × (rest : List ℕ) × IsThis h × (h.cause ≡ cause) × (bytes.now ≡ this_text h ++ rest)) }
+    ensures found { IfOk result (λ cause. (h : This) × (rest : List ℕ) × IsThis h × (h.cause ≡ cause)
+        × (bytes.now ≡ this_text h ++ rest)) }
     // What is spelled so is read, whatever stands behind it.
-    ensures only { (h : This) (rest : List ℕ) → IsThis h → bytes.now ≡ this_text h ++ rest → result ≡ Ok h.cause }
+    ensures only { (h : This) (rest : List ℕ) → IsThis h → bytes.now ≡ this_text h ++ rest
+        → result ≡ Ok h.cause }
     // Which fault it is.
     ensures exact { result ≡ request_of bytes.now }
 {
@@ -136,9 +139,11 @@ fn that_at(bytes: &[u8]) -> Result<(), OrpcFault>
 /// Source: MS-DCOM 2.2.13.4, "ORPCTHAT".
 pub fn read_reply(bytes: &[u8]) -> Result<(), OrpcFault>
     // What is read is spelled so, in the first 8 bytes.
-    ensures found { OnOk result ((flags : ℕ) × (rest : List ℕ) × (flags < 2 ^ 32) × (bytes.now ≡ that_text flags ++ rest)) }
+    ensures found { OnOk result ((flags : ℕ) × (rest : List ℕ) × (flags < 2 ^ 32)
+        × (bytes.now ≡ that_text flags ++ rest)) }
     // What is spelled so is read, whatever stands behind it.
-    ensures only { (flags : ℕ) (rest : List ℕ) → flags < 2 ^ 32 → bytes.now ≡ that_text flags ++ rest → result ≡ Ok tt }
+    ensures only { (flags : ℕ) (rest : List ℕ) → flags < 2 ^ 32 → bytes.now ≡ that_text flags ++ rest
+        → result ≡ Ok tt }
     // Which fault it is.
     ensures exact { result ≡ reply_of bytes.now }
 {
@@ -148,7 +153,8 @@ pub fn read_reply(bytes: &[u8]) -> Result<(), OrpcFault>
 /// What the writers write is a header, and is read again whatever stands behind it.
 pub fn written_is_read()
     ensures grammar { (cause : Guid) → IsGuid cause → IsThis (this_of cause) }
-    ensures request { (cause : Guid) (rest : List ℕ) → IsGuid cause → request_of (this_text (this_of cause) ++ rest) ≡ Ok cause }
+    ensures request { (cause : Guid) (rest : List ℕ) → IsGuid cause
+        → request_of (this_text (this_of cause) ++ rest) ≡ Ok cause }
     ensures reply { (rest : List ℕ) → reply_of (that_text 0 ++ rest) ≡ Ok tt }
     ensures request_size { (cause : Guid) → IsGuid cause → length (this_text (this_of cause)) ≡ 32 }
     ensures reply_size { length (that_text 0) ≡ 8 }
