@@ -5,9 +5,9 @@ mod Lists
 mod Fired
 mod Advised
 mod Stepped
-mod Framed
+pub mod Framed
 mod Servers
-mod Runs
+pub mod Runs
 mod Sourced
 mod Fitting
 mod Cookies

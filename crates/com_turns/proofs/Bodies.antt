@@ -1,5 +1,5 @@
 -- The step of a body by its servant, and that of a script.
-use Rattle.std.proofs.Common.{◌≡◌, ℕ, zero, suc, ◌-◌, List, Option, Some, slice_get, slice_index, slice_set, [], refl, ap, sym, ◌∙◌, arith}
+use Rattle.std.proofs.Common.{◌≡◌, ℕ, zero, suc, ◌-◌, List, Option, Some, slice_get, slice_index, slice_set, [], None, refl, ap, sym, subst, ◌∙◌, arith}
 use Rattle.std.proofs.lemmas.Option.{get_or_from_slice_get}
 use Rattle.com_body.specs.declared.frame.Cells.{Cells}
 use Rattle.com_body.specs.declared.frame.Job.{Job}
@@ -14,24 +14,33 @@ use Rattle.com_model.specs.declared.scenario.Scenario.{Scenario}
 use Rattle.com_model.specs.Frames.{issued_body, new_cells}
 use Rattle.com_model.specs.Tables.{script}
 use Rattle.com_servant.specs.Rows.{one_more, place}
-use Rattle.com_servant.specs.Steps.{job_step}
+use Rattle.com_jobs.specs.Jobs.{job_by}
+use Rattle.com_servant.specs.Steps.{job_step, native_at}
 use Rattle.com_state.specs.Parts.{class_at, issue_at}
 use Rattle.com_state.specs.SceneParts.{body_at, cells_at, script_at}
 use Rattle.com_view.specs.Seen.{Seen}
 use Rattle.com_turns.specs.Turns.{body_seen, one_served, script_seen}
+use Rattle.com_work.specs.Work.{work_seen}
 
-pub job_steps : (w : Seen) (c o : ℕ) (i : Issue) (job : Job) → issue_at w.calls.tables c ≡ Some i
-    → job.class ≡ class_at w.objects o → job.iface ≡ i.iface → job.method ≡ i.method
-    → job.frame ≡ body_at w.scene c → job.cells ≡ cells_at w.scene o
-    → job_step w.scenario.classes job ≡ body_seen w c o
-job_steps w c o i job e k n m p q =
-    let t : Tables = w.scenario.classes in
-    ap (λ (y : ℕ). body_step (body_of t y job.iface job.method) job.frame job.cells) k
-    ∙ ap (λ (y : ℕ). body_step (body_of t (class_at w.objects o) y job.method) job.frame job.cells) n
-    ∙ ap (λ (y : ℕ). body_step (body_of t (class_at w.objects o) i.iface y) job.frame job.cells) m
-    ∙ ap (λ (y : FrameView). body_step (body_of t (class_at w.objects o) i.iface i.method) y job.cells) p
-    ∙ ap (λ (y : Cells). body_step (body_of t (class_at w.objects o) i.iface i.method) (body_at w.scene c) y) q
-    ∙ ap (λ (y : Option Issue). issued_body w.scenario (class_at w.objects o) y (body_at w.scene c) (cells_at w.scene o)) (sym e)
+-- A job that is the work of a body has its kind, and its step is that of the body.
+by-kind : (n : ℕ) (k : Option Native) (i : Option Issue) (f : FrameView) (c : Cells) (job : Job) → job_by n k i f c ≡ Some job → k ≡ Some job.kind
+by-kind n None i f c job e = absurd cc
+by-kind n (Some k) None f c job e = absurd cc
+by-kind n (Some k) (Some i) f c job e = cc
+
+pub job_kind : (w : Seen) (c o : ℕ) (job : Job) → work_seen w c o ≡ Some job → native_at w.scenario.classes (class_at w.objects o) ≡ Some job.kind
+job_kind w c o job e = by-kind (class_at w.objects o) (native_at w.scenario.classes (class_at w.objects o)) (issue_at w.calls.tables c) (body_at w.scene c) (cells_at w.scene o) job e
+
+by-step : (s : Scenario) (n : ℕ) (k : Option Native) (i : Option Issue) (f : FrameView) (c : Cells) (job : Job) → job_by n k i f c ≡ Some job → job_step s.classes job ≡ issued_body s n i f c
+by-step s n None i f c job e = absurd cc
+by-step s n (Some k) None f c job e = absurd cc
+by-step s n (Some k) (Some i) f c job e =
+    let P : Job → Type 0 = λ j. job_step s.classes j ≡ issued_body s n (Some i) f c in
+    let same : record { kind = k; class = n; iface = i.iface; method = i.method; frame = f; cells = c } ≡ job = cc in
+    subst P same refl
+
+pub job_steps : (w : Seen) (c o : ℕ) (job : Job) → work_seen w c o ≡ Some job → job_step w.scenario.classes job ≡ body_seen w c o
+job_steps w c o job e = by-step w.scenario (class_at w.objects o) (native_at w.scenario.classes (class_at w.objects o)) (issue_at w.calls.tables c) (body_at w.scene c) (cells_at w.scene o) job e
 
 pub served_one : (k : Option Native) (n : Native) (steps : List ℕ) → k ≡ Some n
     → slice_set steps (place n) (one_more (slice_index steps (place n))) ≡ one_served k steps

@@ -250,3 +250,14 @@ body_next w b l c o a r e h =
     let s : Scenario = w.scenario in
     let v : Sight = sight_by w b in
     ap (λ (x : Option Opener). stepped s v l x) e ∙ ap (λ (x : Option Action). option_map (deed_of s v l) x) (act_of w b l (Body c o) r h)
+
+-- The turn of a body whose step was computed before.
+pub given_turn : (w : Seen) (b : Books) (l c o a : ℕ) (r : Outcome) (t : Turn) → Some (Enters c o a) ≡ first (openers_at w.lanes l)
+    → ((c o a : ℕ) → first (openers_at w.lanes l) ≡ Some (Enters c o a) → r ≡ body_seen w c o)
+    → t.doing.deed ≡ deed_of w.scenario (sight_by w b) l r.action
+    → Issues w.scenario (sight_by w b) l r.action t.doing.deed t.doing.issued
+    → t.doing.carried ≡ carried_by w.scenario b r.action t.doing.deed
+    → acting_of t.acting ≡ Body c o → t.outcome ≡ Some r → IsTurn w b l t
+given_turn w b l c o a r t e f d i k p q =
+    let steps : Steps w l (Body c o) r = body_steps w l c o a r (sym e) (f c o a (sym e)) in
+    step_turn w b l (Body c o) r t steps (body_next w b l c o a r (sym e) steps) d i k p q

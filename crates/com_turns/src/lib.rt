@@ -12,4 +12,4 @@ pub use after::{actor_after, is_filtered};
 pub use com_base::Memory;
 pub use fitting::fits_deed;
 pub use laws::{nobody_acts_for_the_clock, reads_the_turn};
-pub use turns::{Turn, next_turn};
+pub use turns::{Turn, given_turn, next_turn, own_turn};

@@ -1,9 +1,11 @@
 //! The turn of a lane.
 
-ghost use Rattle.std.specs.Prelude.{◌≡◌, ◌+◌, ◌≤◌, ◌^◌, [], IfOk, IfSome, None, OnOk, Some};
+ghost use Rattle.std.specs.Prelude.{◌≡◌, ℕ, ◌+◌, ◌≤◌, ◌^◌, [], IfErr, IfOk, IfSome, None, OnOk, Some};
 ghost use Rattle.std.specs.Prelude.{false, length, map, true};
+ghost use Rattle.com_model.specs.declared.keeps.Opener.TheVariants.{Enters};
 ghost use Rattle.com_model.specs.Deeds.{deed_of};
 ghost use Rattle.com_model.specs.Frames.{Nobody, is_leave};
+ghost use Rattle.com_model.specs.Lists.{first};
 ghost use Rattle.com_model.specs.Rules.{is_script_turn, lane_next, next_by, rule_final, top};
 ghost use Rattle.com_model.specs.Tables.{lane_sort, lanes};
 ghost use Rattle.com_moves.specs.Steps.{BodiesWhole, IsWhole};
@@ -11,7 +13,8 @@ ghost use Rattle.com_rules.specs.Acts.{Issues, carried_by};
 ghost use Rattle.com_scene.specs.Actors.{acting_of};
 ghost use Rattle.com_scene.specs.Kept.{HasSlots};
 ghost use Rattle.com_servant.specs.Rows.{row};
-ghost use Rattle.com_turns.specs.Turns.{IsNext, IsTurn, Steps, deed_made, kind_seen, one_served};
+ghost use Rattle.com_state.specs.Parts.{openers_at};
+ghost use Rattle.com_turns.specs.Turns.{IsNext, IsTurn, Steps, body_seen, deed_made, kind_seen, one_served};
 ghost use Rattle.com_view.specs.Nexts.{is_body};
 ghost use Rattle.com_view.specs.Seen.{bare, sight_by};
 
@@ -172,8 +175,9 @@ fn rule_turn<B: Found>(
     }
 }
 
-// The turn of a lane in which no body is innermost.
-fn own_turn<B: Found>(
+/// The turn of a lane in which no body is innermost, and none where it makes no entry as things stand. The
+/// only error is want of memory.
+pub fn own_turn<B: Found>(
     view: &View<'_>,
     books: &B,
     alloc: Global,
@@ -188,6 +192,37 @@ fn own_turn<B: Found>(
         return rule_turn(view, books, alloc, lane);
     }
     Ok(Some(script_turn(view, books, alloc, lane)?))
+}
+
+/// The turn of a lane in which a body is innermost, whose step was computed before. Where memory is wanting
+/// the step comes back.
+#[tactic(auto, using(crate::proofs::Stepping::given_turn))]
+pub fn given_turn<B: Found>(
+    view: &View<'_>,
+    books: &B,
+    alloc: Global,
+    lane: u32,
+    outcome: Outcome,
+) -> Result<Turn, Outcome>
+    requires stas { length view.now.lanes.stas + 4 ≤ 2 ^ 32 }
+    requires whole { HasSlots outcome.frame }
+    requires step { (c o a : ℕ) → first (openers_at view.now.lanes lane) ≡ Some (Enters c o a)
+        → outcome ≡ body_seen view.now c o }
+    ensures whole { IfOk result (λ made. IsWhole made.outcome) }
+    ensures turn { IfOk result (λ made. IsTurn view.now (B.books books.now) lane made) }
+    ensures back { IfErr result (λ step. step ≡ outcome) }
+{
+    let Some(Opener::Enters { call, object, .. }) = view.lanes.top(lane) else {
+        return Err(outcome);
+    };
+    match doing_of(view, books, alloc, lane, &outcome.action) {
+        Ok(doing) => Ok(Turn {
+            acting: Actor::Body { call, object },
+            outcome: Some(outcome),
+            doing,
+        }),
+        Err(_) => Err(outcome),
+    }
 }
 
 /// The turn of a lane, and none where it makes no entry as things stand: the entry that the rules give the
