@@ -10,6 +10,10 @@ use Rattle.com_calls.specs.Kept.{Kept, inbox_at}
 use Rattle.com_view.specs.Seen.{Seen, dying_seen}
 use Rattle.com_drive.specs.declared.runtime.Standing.{Standing}
 use Rattle.com_drive.specs.declared.runtime.Standing.TheVariants as standing
+use Rattle.com_jobs.specs.declared.jobs.Next.{Next}
+use Rattle.com_jobs.specs.declared.jobs.Next.TheVariants as next
+use Rattle.com_view.specs.declared.next.Next.{Next as Seeing}
+use Rattle.com_view.specs.declared.next.Next.TheVariants as seeing
 
 -- Finished where all is done; else it runs where a lane can step, and the clock goes on where a call waits
 -- for a time.
@@ -30,3 +34,10 @@ is_quiet w l = is_empty (openers_at w.lanes l) && is_empty (dying_seen w l)
 -- No call waits in the inbox of an apartment.
 abbrev pub is_unasked : Kept → (apartment : ℕ) → Bool
 is_unasked b a = is_empty (inbox_at b a)
+
+-- What a lane does next, as it is seen in the parts, in the words of the jobs.
+abbrev pub next_as : Seeing → Next
+next_as seeing.Body = next.Body
+next_as seeing.Own = next.Own
+next_as seeing.Wait = next.Wait
+next_as seeing.Over = next.Over
