@@ -19,7 +19,8 @@ use Rattle.com_drive.specs.Standings.{can_step_in, standing_of}
 use Rattle.com_jobs.specs.Jobs.{is_enter, next_by, next_in}
 use Rattle.com_view.specs.declared.next.Next.{Next as Seeing}
 use Rattle.com_view.specs.Nexts.{is_body, kind_of}
-use Rattle.com_core.specs.Standings.{next_as, standing_by}
+use Rattle.com_standing.specs.Standings.{standing_by}
+use Rattle.com_core.specs.Nexts.{next_as}
 use Rattle.com_core.specs.Stands.{IsReached, seen_by, state_read}
 use Rattle.com_core.proofs.Entries.{reads_state}
 

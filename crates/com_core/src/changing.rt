@@ -10,9 +10,10 @@ ghost use Rattle.com_drive.specs.Standings.{standing_of};
 ghost use Rattle.com_ledger.specs.Books.{books_held};
 ghost use Rattle.com_model.specs.Tables.{lanes};
 ghost use Rattle.com_turns.specs.Turns.{IsTurn, actor_later, kind_seen, one_served};
-ghost use Rattle.com_core.specs.Bodies.{entered_after};
+ghost use Rattle.com_fates.specs.Bodies.{entered_after};
 ghost use Rattle.com_core.specs.Changes.{Becomes, Settles, sent_by};
-ghost use Rattle.com_core.specs.Sound.{Few, Most, Sound, SoundUnless};
+ghost use Rattle.com_core.specs.Sound.{Few, Sound, SoundUnless};
+ghost use Rattle.com_fates.specs.Most.{Most};
 ghost use Rattle.com_core.specs.Stands.{seen_by, state_read};
 ghost use Rattle.com_model.specs.Calls.{lane_of};
 ghost use Rattle.com_model.specs.Clock.{ticked};
@@ -27,10 +28,10 @@ ghost use Rattle.com_state.specs.After.{filtered_by};
 ghost use Rattle.com_state.specs.Parts.{issue_at, openers_at};
 ghost use Rattle.com_view.specs.Seen.{filter_seen, home_seen, running_seen};
 
-use crate::dying::{Fates, count_bodies, other_by, released_by};
 use crate::running::{Running, unproved};
 use com_base::{Memory, RefValue};
 use com_body::Outcome;
+use com_fates::{Fates, count_bodies, other_by, released_by};
 use com_ledger::Context;
 use com_model::{Deed, Entry, Scenario};
 use com_parts::{Change, Sent};
@@ -354,7 +355,12 @@ impl Running {
     }
 
     // The same, where the history is shorter than it may be, and the entry's numbers fit.
-    pub(crate) fn finish(&mut self, scenario: &Scenario, lane: u32, made: Turn) -> Result<Entry, Memory>
+    pub(crate) fn finish(
+        &mut self,
+        scenario: &Scenario,
+        lane: u32,
+        made: Turn,
+    ) -> Result<Entry, Memory>
         requires sound { Sound self.old.parts self.old.entered }
         requires few { Few self.old.parts }
         requires whole { IsWhole made.outcome }

@@ -6,11 +6,9 @@
 #![tactic(auto)]
 
 mod changing;
-mod dying;
 mod laws;
 mod running;
 mod runtime;
-mod standing;
 mod working;
 
 pub use com_base::Memory;

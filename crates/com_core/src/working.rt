@@ -198,7 +198,12 @@ impl Running {
     }
 
     /// Makes the next entry of a lane in which no body is innermost. The only error is want of memory.
-    pub fn advance(&mut self, scenario: &Scenario, alloc: Global, lane: u32) -> Result<Entry, Memory>
+    pub fn advance(
+        &mut self,
+        scenario: &Scenario,
+        alloc: Global,
+        lane: u32,
+    ) -> Result<Entry, Memory>
         requires sound { SoundUnless self.old.broken self.old.parts self.old.entered }
         requires few { Few self.old.parts }
         requires body { is_body (first (openers_at self.old.parts.lanes lane)) ≡ false }

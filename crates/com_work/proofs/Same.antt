@@ -1,7 +1,7 @@
 -- Frames are the same where their places, registers and slots are, and jobs where their parts are.
 use Rattle.std.proofs.Common.{refl, sym, ap, subst, ◌∙◌, arith}
 use Rattle.std.proofs.lemmas.List.{ext_get_or}
-use Rattle.std.specs.Prelude.{◌≡◌, ℕ, ◌<◌, ◌↔◌, Bool, true, false, IsTrue, List, [], ◌∷◌, length, Option, Some, None, slice_index_or}
+use Rattle.std.specs.Prelude.{◌≡◌, ℕ, zero, suc, ◌<◌, List, [], length, Option, None, replicate, slice_index_or}
 use Rattle.com_base.specs.declared.value.RefValue.{RefValue}
 use Rattle.com_base.specs.declared.value.Value.{Value}
 use Rattle.com_body.specs.Frames.{FrameView, entered, no_number}
@@ -19,3 +19,17 @@ same_frames f g a b p s r =
     same-parts f g p
     (ext_get_or no_number f.registers g.registers (a.registers ∙ sym b.registers) (λ i h. r i (subst (λ (n : ℕ). i < n) a.registers h)))
     (ext_get_or None f.slots g.slots (a.slots ∙ sym b.slots) (λ i h. s i (subst (λ (n : ℕ). i < n) a.slots h)))
+
+-- ---- the frame of a body that was entered without values
+
+rep-read : {X : Type 0} (n i : ℕ) (x : X) → slice_index_or (replicate n x) i x ≡ x
+rep-read zero i x = refl
+rep-read (suc n) zero x = refl
+rep-read (suc n) (suc i) x = rep-read n i x
+
+none-shape : HasShape (entered [])
+none-shape = record { registers = refl; slots = refl }
+
+pub first_frame : (f : FrameView) → HasShape f → f.place ≡ 0 → ((k : ℕ) → k < 8 → slot_of f k ≡ None) → ((r : ℕ) → r < 16 → register_of f r ≡ no_number) → f ≡ entered []
+first_frame f a p s r =
+    same_frames f (entered []) a none-shape p (λ k h. s k h ∙ sym (rep-read 8 k None)) (λ i h. r i h ∙ sym (rep-read 16 i no_number))
