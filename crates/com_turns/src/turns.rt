@@ -196,7 +196,6 @@ pub fn own_turn<B: Found>(
 
 /// The turn of a lane in which a body is innermost, whose step was computed before. Where memory is wanting
 /// the step comes back.
-#[tactic(auto, using(crate::proofs::Stepping::given_turn))]
 pub fn given_turn<B: Found>(
     view: &View<'_>,
     books: &B,
