@@ -28,6 +28,7 @@ use Rattle.com_view.specs.Nexts.{is_body}
 use Rattle.com_view.specs.Seen.{Seen}
 use Rattle.com_work.specs.Work.{IsWork, work_seen}
 use Rattle.com_core.specs.declared.running.Running.{Running}
+use Rattle.com_core.specs.Nexts.{FitsTop, kept_top}
 use Rattle.com_core.specs.Seen.{core_of, core_state}
 use Rattle.com_core.specs.Stands.{seen_by}
 
@@ -41,6 +42,16 @@ pub kept_read : (s : Scenario) (r : Running) (l c o a : ℕ) → Some (Enters c 
     → cells_at r.parts.scene o ≡ kept_in (core_state (core_of s r)) l
 unfolding kept_in
 kept_read s r l c o a e = ap (λ (t : Option Opener). kept_above (core_state (core_of s r)) t) e
+
+kept-tops : (s : Scenario) (r : Running) (t : Option Opener) → kept_top r.parts.scene t ≡ kept_above (core_state (core_of s r)) t
+kept-tops s r None = refl
+kept-tops s r (Some (Pumps n)) = refl
+kept-tops s r (Some (Waits c)) = refl
+kept-tops s r (Some (Enters c o a)) = refl
+
+pub kept_same : (s : Scenario) (r : Running) (l : ℕ) → kept_top r.parts.scene (first (openers_at r.parts.lanes l)) ≡ kept_in (core_state (core_of s r)) l
+unfolding kept_in
+kept_same s r l = kept-tops s r (first (openers_at r.parts.lanes l))
 
 -- ---- the innermost opener
 
@@ -100,6 +111,24 @@ pub fits_work : (s : Scenario) (r : Running) (l c o a : ℕ) (job : Job) → Som
     → Fits s (core_state (core_of s r)) l job → IsWork (seen_by s r.parts r.fallen r.clock) c o job
 fits_work s r l c o a job e f =
     sym (job_read s r l c o a _ e refl) ∙ f.same ∙ ap (λ (k : Cells). Some (record job { cells = k })) (sym (kept_read s r l c o a e))
+
+top-fits : (s : Scenario) (r : Running) (l : ℕ) (job : Job) (t : Option Opener) → t ≡ first (openers_at r.parts.lanes l) → FitsTop (seen_by s r.parts r.fallen r.clock) t job
+    → Fits s (core_state (core_of s r)) l job
+top-fits s r l job None e f = absurd f
+top-fits s r l job (Some (Pumps n)) e f = absurd f
+top-fits s r l job (Some (Waits c)) e f = absurd f
+top-fits s r l job (Some (Enters c o a)) e f = work_fits s r l c o a job e f
+
+fits-at : (s : Scenario) (r : Running) (l : ℕ) (job : Job) → Fits s (core_state (core_of s r)) l job → Top (first (openers_at r.parts.lanes l))
+    → FitsTop (seen_by s r.parts r.fallen r.clock) (first (openers_at r.parts.lanes l)) job
+fits-at s r l job f (top c o a e) =
+    subst (λ (t : Option Opener). FitsTop (seen_by s r.parts r.fallen r.clock) t job) e (fits_work s r l c o a job e f)
+
+-- A job is that of the innermost body where it fits the lane.
+pub fits_tops : (s : Scenario) (r : Running) (l : ℕ) (job : Job) (b : Bool) → (IsTrue b ↔ FitsTop (seen_by s r.parts r.fallen r.clock) (first (openers_at r.parts.lanes l)) job)
+    → (IsTrue b ↔ Fits s (core_state (core_of s r)) l job)
+fits_tops s r l job b p =
+    (λ t. top-fits s r l job (first (openers_at r.parts.lanes l)) refl (p.0 t), λ f. p.1 (fits-at s r l job f (body-top s r l f.body)))
 
 -- ---- the step of a job that fits and has the object's cells
 

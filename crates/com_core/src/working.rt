@@ -2,13 +2,13 @@
 
 ghost use Rattle.std.specs.Prelude.{◌≡◌, ℕ, ◌+◌, ◌↔◌, IfErr, IfOk, IsTrue, OnErr, OnOk, Some, false};
 ghost use Rattle.com_calls.specs.Kept.{IsNamed};
+ghost use Rattle.com_core.specs.Nexts.{FitsTop, kept_top};
 ghost use Rattle.com_core.specs.Seen.{TurnsTo, core_of, core_state};
 ghost use Rattle.com_core.specs.Sound.{Few, Sound, SoundUnless};
 ghost use Rattle.com_core.specs.Stands.{seen_by};
 ghost use Rattle.com_jobs.specs.Jobs.{Fits, HasShape, IsGivenBack, IsRefused, job_of, kept_in};
 ghost use Rattle.com_ledger.specs.Books.{books_held};
 ghost use Rattle.com_model.specs.declared.keeps.Opener.TheVariants.{Enters};
-ghost use Rattle.com_model.specs.declared.scenario.Scenario.{Scenario as AnyScenario};
 ghost use Rattle.com_model.specs.Clock.{ticked};
 ghost use Rattle.com_model.specs.Lists.{first};
 ghost use Rattle.com_moves.specs.Steps.{IsWhole};
@@ -51,19 +51,19 @@ impl Running {
     /// 8 slots.
     pub fn fits(&self, scenario: &Scenario, lane: u32, job: &Job) -> bool
         ensures { ((c : ℕ) → HasShape (body_at self.now.parts.scene c)) → HasShape job.now.frame
-            → (IsTrue result
-            ↔ Fits scenario.now (core_state (core_of scenario.now self.now)) lane job.now) }
+            → (IsTrue result ↔ FitsTop (seen_by scenario.now self.now.parts self.now.fallen self.now.clock)
+            (first (openers_at self.now.parts.lanes lane)) job.now) }
     {
         let view = self.view(scenario);
-        let Some(Opener::Enters { call, object, .. }) = view.lanes.top(lane) else {
-            return false;
-        };
-        fits_work(&view, call, object, job)
+        match view.lanes.top(lane) {
+            Some(Opener::Enters { call, object, .. }) => fits_work(&view, call, object, job),
+            _ => false,
+        }
     }
 
     // The cells of the object whose body is innermost in a lane.
     fn kept(&self, lane: u32) -> Cells
-        ensures { (s : AnyScenario) → result ≡ kept_in (core_state (core_of s self.now)) lane }
+        ensures { result ≡ kept_top self.now.parts.scene (first (openers_at self.now.parts.lanes lane)) }
     {
         match self.parts.lanes().top(lane) {
             Some(Opener::Enters { object, .. }) => self.parts.scene().cells(object),
