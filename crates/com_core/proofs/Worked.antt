@@ -156,3 +156,11 @@ pub given_whole : (s : Scenario) (r : Running) (l : ℕ) (job : Job) (x : Outcom
     → job.cells ≡ kept_in (core_state (core_of s r)) l → x ≡ job_step s.classes job → HasSlots x.frame
 given_whole s r l job x p f k e =
     subst (λ (y : Outcome). HasSlots y.frame) (sym e) (job_whole s.classes job (frame-slots s r l job p f k (body-top s r l f.body)))
+
+-- A test that fails tells that what it decides is not so.
+pub unlike : {P : Type 0} (b : Bool) → (IsTrue b ↔ P) → b ≡ false → P → ⊥
+unlike true h e p = absurd cc
+unlike false h e p = absurd (not-true (h.1 p))
+  where
+    not-true : false ≡ true → ⊥
+    not-true e = cc

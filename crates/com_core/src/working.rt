@@ -25,7 +25,7 @@ use com_body::{Cells, Job, Outcome};
 use com_jobs::CommitError;
 use com_model::{Entry, Opener, Scenario};
 use com_turns::{Turn, given_turn, own_turn};
-use com_work::{fits_work, work_of};
+use com_work::{fits_work, same_cells, work_of};
 use std::alloc::Global;
 
 impl Running {
@@ -140,7 +140,6 @@ impl Running {
 
     /// Makes the next entry of a lane in which a body acts, by the outcome of a job that fits it. `Stale`
     /// comes where the object's cells are others than the job's.
-    #[tactic(auto, using(crate::proofs::Worked::given_step, crate::proofs::Worked::given_whole))]
     pub fn commit(
         &mut self,
         scenario: &Scenario,
@@ -170,7 +169,7 @@ impl Running {
         ensures was { OnOk result (self.old.broken ≡ false) }
     {
         let kept = self.kept(lane);
-        if job.cells != kept {
+        if !same_cells(&job.cells, &kept) {
             return Err(CommitError::Stale { job, kept });
         }
         match self.take(scenario, alloc, lane, outcome) {

@@ -10,7 +10,7 @@ ghost use Rattle.com_work.specs.Work.{IsWork, work_seen};
 
 use crate::frames::{is_first_frame, same_frame};
 use com_base::Memory;
-use com_body::{Frame, Job};
+use com_body::{Cells, Frame, Job};
 use com_scene::Actor;
 use com_view::View;
 use std::alloc::Global;
@@ -96,4 +96,11 @@ pub fn fits_work(view: &View<'_>, call: u32, object: u32, job: &Job) -> bool
         return false;
     }
     fits_frame(view, call, object, &job.frame)
+}
+
+/// Whether two objects have the same cells.
+pub fn same_cells(left: &Cells, right: &Cells) -> bool
+    ensures { IsTrue result ↔ (left.now ≡ right.now) }
+{
+    *left == *right
 }
