@@ -1,6 +1,6 @@
 -- Jobs that are read from the parts are those of the state.
 use Rattle.std.proofs.Common.{◌≡◌, ℕ, refl, sym, ap, subst, ◌∙◌}
-use Rattle.std.specs.Prelude.{◌↔◌, Bool, true, false, IsTrue, List, [], ◌∷◌, length, Option, Some, None, slice_index_or}
+use Rattle.std.specs.Prelude.{◌↔◌, Bool, true, false, IsTrue, Option, Some, None, slice_index_or}
 use Rattle.com_body.specs.declared.frame.Cells.{Cells}
 use Rattle.com_body.specs.declared.frame.Job.{Job}
 use Rattle.com_body.specs.declared.frame.Native.{Native}
@@ -11,13 +11,11 @@ use Rattle.com_model.specs.declared.keeps.Opener.{Opener}
 use Rattle.com_model.specs.declared.keeps.Opener.TheVariants.{Pumps, Waits, Enters}
 use Rattle.com_model.specs.declared.scenario.Scenario.{Scenario}
 use Rattle.com_model.specs.Lists.{first}
-use Rattle.com_model.specs.State.{State, class_in, issue_in, openers_in, scene_in}
 use Rattle.com_scene.specs.Kept.{HasSlots}
 use Rattle.com_servant.specs.Steps.{job_step, native_at}
 use Rattle.com_state.specs.Parts.{class_at, issue_at, openers_at}
 use Rattle.com_state.specs.SceneParts.{body_at, cells_at}
 use Rattle.com_drive.specs.Standings.{can_step_in}
-use Rattle.com_jobs.specs.declared.jobs.Next.{Next}
 use Rattle.com_jobs.specs.declared.jobs.Next.TheVariants as next
 use Rattle.com_jobs.specs.Jobs.{Fits, is_enter, job_above, job_by, job_of, kept_above, kept_in, next_by, next_in}
 use Rattle.com_jobs.proofs.Taken.{fitting-job}

@@ -4,7 +4,6 @@ ghost use Rattle.std.specs.Prelude.{◌≡◌, ℕ, ◌+◌, ◌<◌, ◌^◌, A
 ghost use Rattle.std.specs.Prelude.{map, slice_index_or, true, ◌≤◌};
 ghost use Rattle.com_calls.specs.Kept.{IsNamed};
 ghost use Rattle.com_core.specs.Making.{BookedBy, Changed, IsCore, MakesNext};
-ghost use Rattle.com_core.specs.Seen.{TurnsTo};
 ghost use Rattle.com_drive.specs.declared.runtime.Standing.TheVariants as standing;
 ghost use Rattle.com_drive.specs.Standings.{standing_of};
 ghost use Rattle.com_ledger.specs.Books.{books_held};
@@ -354,34 +353,6 @@ impl Running {
         Ok(entry)
     }
 
-    // The same, where the history is shorter than it may be, and the entry's numbers fit.
-    pub(crate) fn finish(
-        &mut self,
-        scenario: &Scenario,
-        lane: u32,
-        made: Turn,
-    ) -> Result<Entry, Memory>
-        requires sound { Sound self.old.parts self.old.entered }
-        requires few { Few self.old.parts }
-        requires whole { IsWhole made.outcome }
-        requires named { IsNamed self.old.parts.objects self.old.parts.calls }
-        requires turn { IsTurn (seen_by scenario.now self.old.parts self.old.fallen self.old.clock)
-            (books_held self.old.ledger) lane made }
-        ensures few { Few self.new.parts }
-        ensures sound { SoundUnless self.new.broken self.new.parts self.new.entered }
-        ensures lane { IfOk result (λ entry. entry.lane ≡ lane) }
-        ensures entries { OnOk result (self.new.parts.entries ≡ self.old.parts.entries + 1) }
-        ensures clock { IfOk result (λ entry. self.new.clock ≡ ticked entry.deed self.old.clock) }
-        ensures next { IfOk result (λ entry. TurnsTo scenario.now lane self.old self.new entry) }
-        ensures unbroken { OnOk result (self.new.broken ≡ false) }
-        ensures err { OnErr result (self.new.broken ≡ false → self.new ≡ self.old) }
-    {
-        if !self.can_make(&made.doing.deed) {
-            return Err(unproved());
-        }
-        self.make_turn(scenario, lane, made)
-    }
-
     // The turn of a lane that can step.
     #[tactic(auto, using(crate::proofs::Whole::bodies_whole, crate::proofs::Runs::room_for_sta))]
     fn turn_of(
@@ -446,7 +417,10 @@ impl Running {
             return Err(Memory);
         }
         let made = self.turn_of(scenario, alloc, lane, servants)?;
-        self.finish(scenario, lane, made)
+        if !self.can_make(&made.doing.deed) {
+            return Err(unproved());
+        }
+        self.make_turn(scenario, lane, made)
     }
 
     /// Makes the clock's entry. The only error is want of memory.

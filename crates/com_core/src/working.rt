@@ -220,6 +220,9 @@ impl Running {
             return Err(Memory);
         }
         let made = self.own_turn_of(scenario, alloc, lane)?;
-        self.finish(scenario, lane, made)
+        if !self.can_make(&made.doing.deed) {
+            return Err(unproved());
+        }
+        self.make_turn(scenario, lane, made)
     }
 }

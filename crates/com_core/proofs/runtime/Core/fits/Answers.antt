@@ -11,7 +11,7 @@ use Rattle.com_drive.proofs.Resting.{reached_by}
 use Rattle.com_jobs.specs.Jobs.{Fits, HasShape}
 use Rattle.com_shapes.proofs.Shapes.{reached-shape}
 use Rattle.com_core.specs.Nexts.{FitsTop}
-use Rattle.com_core.specs.Seen.{CoreView, core_of, core_state}
+use Rattle.com_core.specs.Seen.{CoreView, core_state}
 use Rattle.com_core.specs.Stands.{seen_by}
 use Rattle.com_core.proofs.Worked.{fits_tops}
 use Rattle.com_core.proofs.runtime.Core.fits.Goals as goal

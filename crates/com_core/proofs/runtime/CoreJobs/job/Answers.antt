@@ -1,6 +1,4 @@
 -- A job of a state that a legal history comes to has a frame of the shape that all have.
-use Rattle.std.proofs.Common.{◌≡◌}
-use Rattle.std.specs.Prelude.{Some}
 use Rattle.std.proofs.lemmas.Result.{IfOk-weaker}
 use Rattle.com_body.specs.declared.frame.Job.{Job}
 use Rattle.com_jobs.specs.Jobs.{HasShape}
