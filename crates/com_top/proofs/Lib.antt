@@ -1,7 +1,4 @@
-pub mod Causes
-pub mod CheckCauses
-pub mod Entries
-pub mod ExplainCauses
-pub mod LoadCauses
-pub mod ReplyCauses
-pub mod Responding
+pub mod Explained
+pub mod Histories
+pub mod Loaded
+pub mod Replayed
