@@ -1,3 +1,4 @@
+pub mod Checked
 pub mod Explained
 pub mod Histories
 pub mod Loaded

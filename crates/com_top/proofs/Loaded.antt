@@ -12,7 +12,7 @@ use Rattle.com_scenario.specs.Scenarios.{reading}
 use Rattle.com_commands.specs.declared.statuses.Status.{Status}
 use Rattle.com_commands.specs.declared.statuses.Status.TheVariants as status
 use Rattle.com_commands.specs.Responses.{Causes, FitsServed, GivesWhole}
-use Rattle.com_commands.specs.Statuses.{Concludes, IsEnd, Says, Sides, end_concludes, sides_without_source, status_at}
+use Rattle.com_commands.specs.Statuses.{Concludes, IsEnd, Says, end_concludes, sides_without_source, status_at}
 use Rattle.com_commands.proofs.Answering.{alone_serves, said_answered, said_causes, said_no_memory}
 use Rattle.com_top.specs.Loading.{IsLoaded, load_input, load_lines, loaded_served}
 

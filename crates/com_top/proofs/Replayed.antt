@@ -1,5 +1,5 @@
 -- Every input that is a scenario is replayed.
-use Rattle.std.proofs.Common.{◌≡◌, ℕ, inl, inr, ◌⊎◌, List, ◌∙◌, ap, subst, Option}
+use Rattle.std.proofs.Common.{◌≡◌, ℕ, inl, inr, ◌⊎◌, List, ◌∙◌, ap, subst}
 use Rattle.com_io.specs.Told.{Gains}
 use Rattle.com_model.specs.declared.scenario.Scenario.{Scenario}
 use Rattle.com_commands.specs.declared.inputs.Input.{Input}

@@ -3,7 +3,6 @@ use Rattle.std.specs.Prelude.{◌≡◌, ℕ, List, [], ◌++◌, Some, Ok, leng
 use Rattle.com_gen.specs.Loads.{load_text}
 use Rattle.com_load_laws.specs.LoadScenarios.{load_scenario}
 use Rattle.com_model.specs.declared.counts.Ended.{Ended}
-use Rattle.com_model.specs.declared.scenario.Scenario.{Scenario}
 use Rattle.com_model.specs.Clock.{clock}
 use Rattle.com_model.specs.Ends.{ended_as, scheduled}
 use Rattle.com_model.specs.Text.{report_text}
