@@ -64,4 +64,5 @@ judged_concludes judged.Agrees = tt
 judged_concludes (judged.Differs line found legal) = tt
 
 pub verdict_concludes : (q : Question) (s : Status) (text : List ℕ) → IsVerdict q s text → Concludes s
-verdict_concludes q s text v = subst (λ (x : Status). Concludes x) (sym v.status_is) (judged_concludes v.verdict)
+verdict_concludes q s text v =
+    subst (λ (x : Status). Concludes x) (sym v.status_is) (judged_concludes v.verdict)

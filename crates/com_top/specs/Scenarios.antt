@@ -29,7 +29,8 @@ pub record IsHistory (scenario : Scenario) (s : Status) (text : List ℕ) : Type
 
 pub history_concludes : (scenario : Scenario) (s : Status) (text : List ℕ) → IsHistory scenario s text
     → Concludes s
-history_concludes scenario s text h = subst (λ (x : Status). Concludes x) (sym h.status_is) (end_concludes h.ends)
+history_concludes scenario s text h =
+    subst (λ (x : Status). Concludes x) (sym h.status_is) (end_concludes h.ends)
 
 -- The number is that of the end of the one history of a scenario, and the sink gained exactly the text and
 -- the report of that history.

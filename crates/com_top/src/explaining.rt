@@ -121,8 +121,8 @@ fn answer<S: Source, K: Sink>(
     ensures answers { Causes scenario_input IsExplained result
         (sides_of S.left S.faults_of K.held K.faults_of source.old source.new sink.old sink.new) }
     ensures served { IsEnd result → GivesWhole scenario_input
-        (FitsServed IsExplained whole_served (map stepped servants.old.items) (map stepped servants.new.items))
-        result
+        (FitsServed IsExplained whole_served (map stepped servants.old.items)
+        (map stepped servants.new.items)) result
         (sides_of S.left S.faults_of K.held K.faults_of source.old source.new sink.old sink.new) }
     ensures row { map kind_of servants.new.items ≡ row }
     ensures unwritten { result ≡ status.Memory → K.held sink.new ≡ K.held sink.old }

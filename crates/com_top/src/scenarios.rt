@@ -14,8 +14,8 @@ use com_scenario::{is_too_long, parse};
 use std::alloc::{AllocError, Global};
 use std::sync::Arc;
 
-/// What an input of these bytes is: too long for its version, faulty, or a scenario. The only error is want of
-/// memory.
+/// What an input of these bytes is: too long for its version, faulty, or a scenario. The only error is want
+/// of memory.
 #[tactic(auto, unfolding(com_commands::specs::Inputs::input_of))]
 pub fn scenario_input(alloc: Global, text: &[u8]) -> Result<Input<Scenario>, Memory>
     ensures value { IfOk result (λ input. input ≡ scenario_input text.now) }

@@ -29,8 +29,8 @@ fn main(rt: HostRuntime) -> ExitCode {
     }
 }
 
-// Does what the words ask for, with a row of servants that have made no step. The only error is want of memory
-// for the row.
+// Does what the words ask for, with a row of servants that have made no step. The only error is want of
+// memory for the row.
 fn served<S: Source, K: Sink>(
     alloc: Global,
     words: &[String],
