@@ -6,4 +6,6 @@ mod explanations;
 #[cfg(test)]
 mod replays;
 #[cfg(test)]
+mod rows;
+#[cfg(test)]
 mod tests;

@@ -1,7 +1,8 @@
 //! What the top call writes for an input in memory, and its status.
+use crate::rows::{answer, replay};
 use com_base::ByteList;
 use com_io::{MemorySink, MemorySource};
-use com_top::{com_main, objref_main, replay_main};
+use com_top::objref_main;
 use std::alloc::Global;
 use std::test::Fail;
 
@@ -34,8 +35,27 @@ fn worked_cases_are_written_whole(rt: HostRuntime) -> Result<(), Fail> {
         let bytes = ByteList::from_slice(rt.alloc(), input)?;
         let mut source = MemorySource::new(bytes, 1000, Vec::new(rt.alloc()));
         let mut sink = MemorySink::new(rt.alloc(), 10_000, 1000, Vec::new(rt.alloc()))?;
-        assert_eq!(rt; replay_main(rt.alloc(), &mut source, &mut sink), 0);
+        assert_eq!(rt; replay(rt.alloc(), &mut source, &mut sink)?, 0);
         assert_eq!(rt; sink.held(), text);
+    }
+    Ok(())
+}
+
+#[test]
+fn the_servants_count_the_steps_of_bodies(rt: HostRuntime) -> Result<(), Fail> {
+    let cases: [(&str, &[u8], u64); 4] = [
+        ("replay", DIRECT_CALL, 1),
+        ("replay", NULL_CALL, 0),
+        ("waits", DIRECT_CALL, 1),
+        ("check", DIRECT_CALL, 0),
+    ];
+    for (word, input, wanted) in cases {
+        let words = vec![in rt.alloc(); String::from_str(rt.alloc(), word)?]?;
+        let bytes = ByteList::from_slice(rt.alloc(), input)?;
+        let mut source = MemorySource::new(bytes, 1000, Vec::new(rt.alloc()));
+        let mut sink = MemorySink::new(rt.alloc(), 10_000, 1000, Vec::new(rt.alloc()))?;
+        let (_, steps) = answer(rt.alloc(), words.as_slice(), &mut source, &mut sink)?;
+        assert_eq!(rt; steps, wanted);
     }
     Ok(())
 }
@@ -45,7 +65,7 @@ fn pieces_of_one_byte_change_nothing(rt: HostRuntime) -> Result<(), Fail> {
     let bytes = ByteList::from_slice(rt.alloc(), DIRECT_CALL)?;
     let mut source = MemorySource::new(bytes, 1, Vec::new(rt.alloc()));
     let mut sink = MemorySink::new(rt.alloc(), 10_000, 1, Vec::new(rt.alloc()))?;
-    assert_eq!(rt; replay_main(rt.alloc(), &mut source, &mut sink), 0);
+    assert_eq!(rt; replay(rt.alloc(), &mut source, &mut sink)?, 0);
     assert_eq!(rt; sink.held(), DIRECT_CALL_TEXT);
     Ok(())
 }
@@ -55,7 +75,7 @@ fn a_first_read_that_fails_is_a_read_fault(rt: HostRuntime) -> Result<(), Fail> 
     let bytes = ByteList::from_slice(rt.alloc(), DIRECT_CALL)?;
     let mut source = MemorySource::new(bytes, 1000, vec![in rt.alloc(); 1u64]?);
     let mut sink = MemorySink::new(rt.alloc(), 10_000, 1000, Vec::new(rt.alloc()))?;
-    assert_eq!(rt; replay_main(rt.alloc(), &mut source, &mut sink), 3);
+    assert_eq!(rt; replay(rt.alloc(), &mut source, &mut sink)?, 3);
     assert_eq!(rt; sink.held(), b"read fault\n".as_slice());
     Ok(())
 }
@@ -65,7 +85,7 @@ fn a_first_write_that_fails_leaves_nothing_written(rt: HostRuntime) -> Result<()
     let bytes = ByteList::from_slice(rt.alloc(), DIRECT_CALL)?;
     let mut source = MemorySource::new(bytes, 1000, Vec::new(rt.alloc()));
     let mut sink = MemorySink::new(rt.alloc(), 10_000, 1000, vec![in rt.alloc(); 1u64]?)?;
-    assert_eq!(rt; replay_main(rt.alloc(), &mut source, &mut sink), 4);
+    assert_eq!(rt; replay(rt.alloc(), &mut source, &mut sink)?, 4);
     assert_eq!(rt; sink.held(), b"".as_slice());
     Ok(())
 }
@@ -74,7 +94,7 @@ fn a_first_write_that_fails_leaves_nothing_written(rt: HostRuntime) -> Result<()
 fn replayed(alloc: Global, text: ByteList) -> Result<(u8, ByteList), Fail> {
     let mut source = MemorySource::new(text, 65_536, Vec::new(alloc));
     let mut sink = MemorySink::new(alloc, 10_000, 1000, Vec::new(alloc))?;
-    let status = replay_main(alloc, &mut source, &mut sink);
+    let status = replay(alloc, &mut source, &mut sink)?;
     Ok((status, ByteList::from_slice(alloc, sink.held())?))
 }
 
@@ -97,10 +117,10 @@ fn other_words_are_usage_and_read_nothing(rt: HostRuntime) -> Result<(), Fail> {
     );
     let mut sink = MemorySink::new(rt.alloc(), 1000, 1000, Vec::new(rt.alloc()))?;
     assert_eq!(rt;
-        com_main(rt.alloc(), words.as_slice(), &mut source, &mut sink),
+        answer(rt.alloc(), words.as_slice(), &mut source, &mut sink)?.0,
         1
     );
-    assert_eq!(rt; replay_main(rt.alloc(), &mut source, &mut sink), 2);
+    assert_eq!(rt; replay(rt.alloc(), &mut source, &mut sink)?, 2);
     assert_eq!(rt;
         sink.held(),
         b"usage: comrun replay|check|load N|objref|waits\nrefused 1 1 1\n".as_slice()

@@ -1,7 +1,5 @@
-pub mod Causes
-pub mod CheckCauses
-pub mod Entries
-pub mod ExplainCauses
-pub mod LoadCauses
-pub mod ReplyCauses
-pub mod Responding
+pub mod Checked
+pub mod Explained
+pub mod Histories
+pub mod Loaded
+pub mod Replayed

@@ -1,7 +1,9 @@
 -- What the command `check` answers for an input.
-use Rattle.std.specs.Prelude.{◌≡◌, ℕ, List, Result, Ok, Err, length, nat_lt, drop, take, if◌then◌else◌}
+use Rattle.std.specs.Prelude.{◌≡◌, ℕ, ◌≤◌, List, Bool, Result, Ok, Err, length, nat_lt, drop, take}
+use Rattle.std.proofs.Common.{subst, sym}
 use Rattle.com_read_operands.specs.declared.faults.Fault.{Fault}
 use Rattle.com_model.specs.declared.scenario.Scenario.{Scenario}
+use Rattle.com_model.specs.Formed.{Formed}
 use Rattle.com_text.specs.Scanning.{lines_of}
 use Rattle.com_scenario.specs.Scenarios.{reading}
 use Rattle.com_check.specs.declared.cut.Cut.{Cut}
@@ -10,55 +12,57 @@ use Rattle.com_check.specs.declared.judged.Judged.{Judged}
 use Rattle.com_check.specs.declared.judged.Judged.TheVariants as judged
 use Rattle.com_check.specs.Cuts.{cut_of}
 use Rattle.com_check.specs.Judging.{IsJudged, judged_text}
-use Rattle.com_top.specs.declared.statuses.Status.{Status}
-use Rattle.com_top.specs.declared.statuses.Status.TheVariants as status
-use Rattle.com_top.specs.Inputs.{refused_line, too_long_line}
+use Rattle.com_commands.specs.declared.inputs.Input.{Input}
+use Rattle.com_commands.specs.declared.statuses.Status.{Status}
+use Rattle.com_commands.specs.declared.statuses.Status.TheVariants as status
+use Rattle.com_commands.specs.Inputs.{input_of}
+use Rattle.com_commands.specs.Statuses.{Concludes}
+use Rattle.com_top.specs.declared.questions.Question.{Question}
 
--- The longest input, in bytes: a scenario's text and a trace.
-abbrev pub longest_trace : ℕ
-longest_trace = 67108864
-
--- What an input is: too long; a text with its first fault; or a scenario, and the trace behind the line
--- `trace`.
-pub data Question : Type 0 where
-  TooLong : Question
-  Faulty : (fault : Fault) → Question
-  Judges : (scenario : Scenario) → (trace : List ℕ) → Question
+-- The longest input is one of 67,108,864 bytes: a scenario's text and a trace.
+abbrev pub is_long_trace : List ℕ → Bool
+is_long_trace bytes = nat_lt 67108864 (length bytes)
 
 -- A text without the line `trace` has a fault at its end, if it has none before.
-abbrev pub without_trace : (line column : ℕ) → Result Scenario Fault → Question
-without_trace line column (Err fault) = Faulty fault
-without_trace line column (Ok scenario) = Faulty (record { number = 11; line = line; column = column })
+abbrev pub without_trace : (line column : ℕ) → Result Scenario Fault → Result Question Fault
+without_trace line column (Err fault) = Err fault
+without_trace line column (Ok scenario) = Err (record { number = 11; line = line; column = column })
 
-abbrev pub with_trace : List ℕ → Result Scenario Fault → Question
-with_trace trace (Err fault) = Faulty fault
-with_trace trace (Ok scenario) = Judges scenario trace
+abbrev pub with_trace : (text : List ℕ) (from : ℕ) → Result Scenario Fault → Result Question Fault
+with_trace text from (Err fault) = Err fault
+with_trace text from (Ok scenario) = Ok (record { scenario = scenario; text = text; from = from })
 
-abbrev pub asked_by : List ℕ → Cut → Question
+abbrev pub asked_by : List ℕ → Cut → Result Question Fault
 asked_by bytes (cuts.Missing line column) = without_trace line column (reading bytes)
-asked_by bytes (cuts.At until from) = with_trace (drop from bytes) (reading (take until bytes))
+asked_by bytes (cuts.At until from) = with_trace bytes from (reading (take until bytes))
 
--- What an input is whose length is allowed: its first line `trace` parts the scenario's text from the trace.
-unfoldable pub asked_of : List ℕ → Question
-asked_of bytes = asked_by bytes (cut_of 0 (lines_of bytes))
+-- What a text asks: its first line `trace` parts the scenario's text from the trace.
+unfoldable pub question_of : List ℕ → Result Question Fault
+question_of bytes = asked_by bytes (cut_of 0 (lines_of bytes))
 
-unfoldable pub question_of : List ℕ → Question
-question_of bytes = if nat_lt longest_trace (length bytes) then TooLong else asked_of bytes
+abbrev pub question_input : List ℕ → Input Question
+question_input = input_of is_long_trace question_of
+
+-- The scenario is formed, and the trace lies in the text.
+pub record IsAskable (q : Question) : Type 0 where
+  pub formed : Formed q.scenario
+  pub within : q.from ≤ length q.text
 
 abbrev pub status_of : Judged → Status
 status_of judged.Agrees = status.Done
 status_of (judged.Differs line found legal) = status.Differs
 
--- A scenario's trace was judged.
-pub record IsVerdict (scenario : Scenario) (trace : List ℕ) (s : Status) (text : List ℕ) : Type 0 where
+-- A scenario's trace was judged, and this is the status and the text of the judgement.
+pub record IsVerdict (q : Question) (s : Status) (text : List ℕ) : Type 0 where
   pub verdict : Judged
-  pub is : IsJudged scenario trace verdict
+  pub is : IsJudged q.scenario (drop q.from q.text) verdict
   pub status_is : s ≡ status_of verdict
   pub written : text ≡ judged_text verdict
 
--- The status of an input and the text that is written for it: the line of a refusal; or what a trace was
--- judged to be.
-abbrev pub IsReply : Question → Status → List ℕ → Type 0
-IsReply TooLong s text = (s ≡ status.Refused) × (text ≡ too_long_line)
-IsReply (Faulty fault) s text = (s ≡ status.Refused) × (text ≡ refused_line fault)
-IsReply (Judges scenario trace) s text = IsVerdict scenario trace s text
+judged_concludes : (j : Judged) → Concludes (status_of j)
+judged_concludes judged.Agrees = tt
+judged_concludes (judged.Differs line found legal) = tt
+
+pub verdict_concludes : (q : Question) (s : Status) (text : List ℕ) → IsVerdict q s text → Concludes s
+verdict_concludes q s text v =
+    subst (λ (x : Status). Concludes x) (sym v.status_is) (judged_concludes v.verdict)

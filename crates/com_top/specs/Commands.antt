@@ -1,25 +1,49 @@
 -- What is answered to each command.
-use Rattle.std.specs.Prelude.{ℕ, ⊤}
+use Rattle.std.specs.Prelude.{◌≡◌, ℕ, ◌⊎◌, List, codes, ⊤}
+use Rattle.com_io.specs.Faults.{Rose}
+use Rattle.com_io.specs.Told.{Gains, GainsPrefix}
+use Rattle.com_drive.specs.Replays.{whole_served}
+use Rattle.com_commands.specs.Responses.{Responds, Serves}
+use Rattle.com_commands.specs.Statuses.{Sides}
 use Rattle.com_top.specs.declared.words.Command.{Command}
 use Rattle.com_top.specs.declared.words.Command.TheVariants as command
-use Rattle.com_top.specs.Checking.{IsReply, question_of}
+use Rattle.com_top.specs.Checking.{IsVerdict, question_input}
 use Rattle.com_top.specs.Explaining.{IsExplained}
-use Rattle.com_top.specs.Inputs.{input_of}
-use Rattle.com_top.specs.Loading.{Loads}
-use Rattle.com_top.specs.Replies.{IsShown, digits_of}
-use Rattle.com_top.specs.Responses.{Responds}
-use Rattle.com_top.specs.Statuses.{Answers, IsSaid, Sides, usage_line}
+use Rattle.com_top.specs.Loading.{IsLoaded, load_input, loaded_served}
+use Rattle.com_top.specs.Scenarios.{IsHistory, scenario_input}
+use Rattle.com_top.specs.Showing.{IsShown, digits_input}
 
--- Each exit status has its cause. Status 1 is that of other words alone.
-abbrev pub Answered : Command → (code : ℕ) → Sides → Type 0
-Answered command.Replay code sides = Answers code sides
-Answered command.Check code sides = Responds question_of IsReply code sides
-Answered (command.Load number) code sides =
-    Loads code number sides.held sides.held_after sides.write_faults sides.write_faults_after
-Answered command.ObjRef code sides = Responds digits_of IsShown code sides
-Answered command.Waits code sides = Responds input_of IsExplained code sides
-Answered command.Usage code sides =
-    IsSaid code 1 usage_line sides.held sides.held_after sides.write_faults sides.write_faults_after
+abbrev pub usage_line : List ℕ
+usage_line = codes "usage: comrun replay|check|load N|objref|waits\n"
+
+-- The usage line was written, and the code is 1; or the sink's count rose, a prefix of the line was written,
+-- and the code is 4.
+abbrev pub IsUsage : (code : ℕ) → Sides → Type 0
+IsUsage code sides =
+    ((code ≡ 1) × Gains sides.held sides.held_after usage_line)
+    ⊎ ((code ≡ 4) × Rose sides.write_faults sides.write_faults_after
+    × GainsPrefix sides.held sides.held_after usage_line)
+
+-- Each exit status has its cause. Status 1 is that of other words alone. The sides of a command that reads
+-- nothing are those without a source (`alone`).
+abbrev pub Answered : Command → (code : ℕ) → (sides alone : Sides) → Type 0
+Answered command.Replay code sides alone = Responds scenario_input IsHistory code sides
+Answered command.Check code sides alone = Responds question_input IsVerdict code sides
+Answered (command.Load number) code sides alone = Responds (load_input number) IsLoaded code alone
+Answered command.ObjRef code sides alone = Responds digits_input IsShown code sides
+Answered command.Waits code sides alone = Responds scenario_input IsExplained code sides
+Answered command.Usage code sides alone = IsUsage code alone
+
+-- The servants' counts of steps: a command that replays has had them count its history, and no other command
+-- has had one make a step.
+abbrev pub Served : Command → (code : ℕ) → (sides alone : Sides) → (steps steps_after : List ℕ) → Type 0
+Served command.Replay code sides alone steps steps_after =
+    Serves scenario_input IsHistory whole_served code sides steps steps_after
+Served (command.Load number) code sides alone steps steps_after =
+    Serves (load_input number) IsLoaded loaded_served code alone steps steps_after
+Served command.Waits code sides alone steps steps_after =
+    Serves scenario_input IsExplained whole_served code sides steps steps_after
+Served _ code sides alone steps steps_after = steps_after ≡ steps
 
 -- The commands that read no input.
 abbrev pub ReadsNone : Command → Type 0

@@ -1,9 +1,7 @@
-pub mod Inputs
-pub mod Statuses
-pub mod Responses
-pub mod Replies
+pub mod Scenarios
 pub mod Checking
 pub mod Explaining
 pub mod Loading
+pub mod Showing
 pub mod Words
 pub mod Commands

@@ -1,72 +1,36 @@
--- What the command `load` answers for a number, and when each of its statuses comes.
-use Rattle.std.specs.Prelude.{◌≡◌, ℕ, ◌⊎◌, List, [], ◌++◌, Option, Some, Ok, length, codes, decimal}
+-- What the command `load` answers for a number.
+use Rattle.std.specs.Prelude.{◌≡◌, ℕ, List, [], ◌++◌, Some, Ok, length, codes, decimal}
 use Rattle.com_gen.specs.Loads.{load_text}
-use Rattle.com_io.specs.Faults.{Rose}
-use Rattle.com_io.specs.Told.{Gains, GainsPrefix}
+use Rattle.com_load_laws.specs.LoadScenarios.{load_scenario}
 use Rattle.com_model.specs.declared.counts.Ended.{Ended}
-use Rattle.com_model.specs.declared.scenario.Scenario.{Scenario}
 use Rattle.com_model.specs.Clock.{clock}
 use Rattle.com_model.specs.Ends.{ended_as, scheduled}
 use Rattle.com_model.specs.Text.{report_text}
+use Rattle.com_drive.specs.Replays.{whole_served}
 use Rattle.com_scenario.specs.Scenarios.{reading}
-use Rattle.com_top.specs.declared.statuses.Status.{Status}
-use Rattle.com_top.specs.declared.statuses.Status.TheVariants as status
-use Rattle.com_top.specs.Inputs.{status_at}
-use Rattle.com_top.specs.Statuses.{code_of}
+use Rattle.com_commands.specs.declared.inputs.Input.{Input}
+use Rattle.com_commands.specs.declared.statuses.Status.{Status}
+use Rattle.com_commands.specs.Inputs.{always}
+use Rattle.com_commands.specs.Statuses.{status_at}
 
 -- What is printed: the number, and the last two lines of the report of a history with so many entries.
 abbrev pub load_lines : (number entries clock : ℕ) → Ended → List ℕ
-load_lines number entries time x = codes "load " ++ decimal number ++ codes "\n" ++ report_text [] entries time x
+load_lines number entries time x =
+    codes "load " ++ decimal number ++ codes "\n" ++ report_text [] entries time x
 
--- The number's text is that of a scenario, and its one history ends so.
+-- The number's text is that of its scenario, whose one history ends so.
 pub record IsLoaded (number : ℕ) (s : Status) (text : List ℕ) : Type 0 where
-  pub scenario : Scenario
-  pub reads : reading (load_text number) ≡ Ok scenario
+  pub reads : reading (load_text number) ≡ Ok (load_scenario number)
   pub ends : Ended
-  pub ended_is : ended_as scenario (scheduled scenario) ≡ Some ends
-  pub written : text ≡ load_lines number (length (scheduled scenario)) (clock (scheduled scenario)) ends
+  pub ended_is : ended_as (load_scenario number) (scheduled (load_scenario number)) ≡ Some ends
+  pub written : text ≡ load_lines number (length (scheduled (load_scenario number)))
+      (clock (scheduled (load_scenario number))) ends
   pub status_is : s ≡ status_at ends
 
--- The sink gained the whole text.
-pub record LoadsWhole (number : ℕ) (s : Status) (held held_after : Option (List ℕ)) : Type 0 where
-  pub text : List ℕ
-  pub loaded : IsLoaded number s text
-  pub gained : Gains held held_after text
+-- The servants' counts after the history of a number's scenario.
+abbrev pub loaded_served : ℕ → List ℕ → List ℕ
+loaded_served number = whole_served (load_scenario number)
 
--- The sink gained a prefix of the text.
-pub record LoadsPart (number : ℕ) (held held_after : Option (List ℕ)) : Type 0 where
-  pub status : Status
-  pub text : List ℕ
-  pub loaded : IsLoaded number status text
-  pub gained : GainsPrefix held held_after text
-
--- Each status has its cause. Want of memory is free, and nothing was written.
-abbrev pub HasLoadCause : Status → (number : ℕ) → (held held_after : Option (List ℕ)) → (faults faults_after : ℕ) → Type 0
-HasLoadCause status.Done number held held_after faults faults_after = LoadsWhole number status.Done held held_after
-HasLoadCause status.Usage number held held_after faults faults_after = ⊥
-HasLoadCause status.Refused number held held_after faults faults_after = ⊥
-HasLoadCause status.ReadFault number held held_after faults faults_after = ⊥
-HasLoadCause status.WriteFault number held held_after faults faults_after =
-    Rose faults faults_after × LoadsPart number held held_after
-HasLoadCause status.Stuck number held held_after faults faults_after = LoadsWhole number status.Stuck held held_after
-HasLoadCause status.Budget number held held_after faults faults_after = LoadsWhole number status.Budget held held_after
-HasLoadCause status.Differs number held held_after faults faults_after = ⊥
-HasLoadCause status.Memory number held held_after faults faults_after = held_after ≡ held
-
--- The number is that of a status that has its cause.
-pub record Loads (code number : ℕ) (held held_after : Option (List ℕ)) (faults faults_after : ℕ) : Type 0 where
-  pub status : Status
-  pub number_is : code ≡ code_of status
-  pub cause : HasLoadCause status number held held_after faults faults_after
-
--- The whole text was written, and the code is that of the history's end.
-pub record IsLoadedWhole (code number : ℕ) (held held_after : Option (List ℕ)) : Type 0 where
-  pub status : Status
-  pub number_is : code ≡ code_of status
-  pub whole : LoadsWhole number status held held_after
-
--- Where the sink's count of faults did not rise, the whole text was written; or memory wanted.
-abbrev pub LoadsAreWhole : Type 0
-LoadsAreWhole = (code number : ℕ) (held held_after : Option (List ℕ)) (faults faults_after : ℕ)
-    → Loads code number held held_after faults faults_after → (Rose faults faults_after → ⊥)
-    → IsLoadedWhole code number held held_after ⊎ (code ≡ 9)
+-- Nothing is read: what is asked is the number.
+abbrev pub load_input : ℕ → List ℕ → Input ℕ
+load_input number = always number

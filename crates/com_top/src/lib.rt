@@ -4,20 +4,26 @@
 mod checks;
 mod commands;
 mod explaining;
-mod inputs;
 mod laws;
 mod loads;
-mod recording;
-mod sides;
-mod statuses;
+mod questions;
+mod replays;
+mod scenarios;
+mod shows;
 mod words;
 
+pub use checks::{CheckCommand, check_main};
 pub use com_base::Memory;
-pub use commands::{check_main, com_main, load_main, objref_main, replay_main, waits_main};
-pub use inputs::{Input, input_of};
+pub use com_commands::Status;
+pub use commands::com_main;
+pub use explaining::{WaitsCommand, waits_main};
 pub use laws::{
     check_completeness, completeness, load_completeness, objref_completeness, scenarios_replay,
     waits_completeness,
 };
-pub use statuses::Status;
+pub use loads::load_main;
+pub use questions::Question;
+pub use replays::{ReplayCommand, replay_main};
+pub use scenarios::scenario_input;
+pub use shows::{ObjRefCommand, objref_main};
 pub use words::{Command, command_of};

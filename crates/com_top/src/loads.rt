@@ -1,38 +1,74 @@
-//! What is answered to `load`.
-ghost use Rattle.std.specs.Prelude.{◌≡◌, ◌++◌, [], IfOk, decimal};
-ghost use Rattle.com_top.specs.Loading.{IsLoaded, load_lines};
+//! The command `load`.
+ghost use Rattle.std.specs.Prelude.{◌≡◌, ◌++◌, [], IfOk, OnOk, decimal, map};
+ghost use Rattle.com_model.specs.Formed.{Formed};
+ghost use Rattle.com_servant.specs.Rows.{row};
+ghost use Rattle.com_drive.specs.Replays.{IsReplay, whole_served};
+ghost use Rattle.com_load_laws.specs.LoadScenarios.{load_scenario};
+ghost use Rattle.com_commands.specs.declared.statuses.Status.TheVariants as status;
+ghost use Rattle.com_commands.specs.Responses.{Causes, FitsServed, GivesWhole, Responds, Serves};
+ghost use Rattle.com_commands.specs.Statuses.{IsEnd, sides_without_source};
+ghost use Rattle.com_top.specs.Loading.{IsLoaded, load_input, load_lines, loaded_served};
 
-use crate::statuses::{Reply, status_at};
+use crate::scenarios::{read_scenario, shared};
 use com_base::{ByteList, Memory};
+use com_commands::{Reply, Status, say, status_at};
 use com_gen::generate;
-use com_io::Discard;
-use com_play::{Replayed, play};
+use com_io::{Discard, Sink};
+use com_model::Scenario;
+use com_play::{Replayed, replay};
 use com_report::report;
-use com_scenario::parse;
+use com_servant::Servant;
 use itoa::Buffer;
 use std::alloc::{AllocError, Global};
 
-/// Want of memory, in place of a fault of a number's text. That it has none is not proved.
-fn unproved() -> Memory {
-    AllocError
-}
-
-/// Replays the scenario of a number, and answers the status and the text that go with its end. The only error
-/// is want of memory.
-#[tactic(auto, using(crate::proofs::LoadCauses::loaded_is))]
-pub fn loaded(alloc: Global, number: u32) -> Result<Reply, Memory>
-    ensures { IfOk result (λ reply. IsLoaded number reply.status reply.text) }
+// The scenario of a number. The only error is want of memory.
+#[tactic(auto, using(crate::proofs::Loaded::no_fault, crate::proofs::Loaded::load_scenario_is))]
+fn load_scenario(alloc: Global, number: u32) -> Result<Scenario, Memory>
+    ensures value { IfOk result (λ scenario. scenario ≡ load_scenario number) }
+    ensures formed { IfOk result Formed }
 {
     let text = generate(alloc, number)?;
-    let scenario = match parse(alloc, text.as_slice()) {
-        Ok(scenario) => scenario,
-        Err(_) => return Err(unproved()),
-    };
+    match read_scenario(alloc, text.as_slice())? {
+        Ok(scenario) => Ok(scenario),
+        Err(_) => unreachable!(),
+    }
+}
+
+// Makes the one history of a number's scenario, which is written nowhere. The only error is want of memory.
+fn replayed(
+    alloc: Global,
+    scenario: Scenario,
+    servants: &mut Vec<Box<dyn Servant + Send>>,
+) -> Result<Replayed, Memory>
+    requires formed { Formed scenario }
+    requires row { map kind_of servants.old.items ≡ row }
+    ensures answer { IfOk result (λ replayed. IsReplay scenario replayed) }
+    ensures served { OnOk result (map stepped servants.new.items
+        ≡ whole_served scenario (map stepped servants.old.items)) }
+    ensures row { map kind_of servants.new.items ≡ row }
+{
     let mut nowhere = Discard;
-    let replayed = match play(alloc, scenario, &mut nowhere) {
-        Ok(replayed) => replayed,
-        Err(_) => return Err(AllocError),
-    };
+    match replay(alloc, shared(alloc, scenario)?, servants, &mut nowhere) {
+        Ok(replayed) => Ok(replayed),
+        Err(_) => Err(AllocError),
+    }
+}
+
+// The status and the text that go with the end of a number's history. The only error is want of memory.
+#[tactic(auto, using(crate::proofs::Loaded::loaded_is))]
+fn loaded(
+    alloc: Global,
+    number: u32,
+    servants: &mut Vec<Box<dyn Servant + Send>>,
+) -> Result<Reply, Memory>
+    requires { map kind_of servants.old.items ≡ row }
+    ensures loaded { IfOk result (λ reply. IsLoaded number reply.status reply.text) }
+    ensures served { OnOk result (map stepped servants.new.items
+        ≡ loaded_served number (map stepped servants.old.items)) }
+    ensures row { map kind_of servants.new.items ≡ row }
+{
+    let scenario = load_scenario(alloc, number)?;
+    let replayed = replayed(alloc, scenario, servants)?;
     let text = load_lines(alloc, number, replayed)?;
     Ok(Reply {
         status: status_at(replayed.ended),
@@ -58,4 +94,51 @@ fn load_lines(alloc: Global, number: u32, replayed: Replayed) -> Result<ByteList
         &mut text,
     )?;
     Ok(text)
+}
+
+#[tactic(auto, using(crate::proofs::Loaded::loaded_causes, crate::proofs::Loaded::loaded_serves, crate::proofs::Loaded::loaded_unwritten, com_commands::proofs::Answering::same_causes))]
+fn load<K: Sink>(
+    alloc: Global,
+    number: u32,
+    servants: &mut Vec<Box<dyn Servant + Send>>,
+    sink: &mut K,
+) -> Status
+    requires { map kind_of servants.old.items ≡ row }
+    ensures answers { Causes (load_input number) IsLoaded result
+        (sides_without_source K.held K.faults_of sink.old sink.new) }
+    ensures served { IsEnd result → GivesWhole (load_input number)
+        (FitsServed IsLoaded loaded_served (map stepped servants.old.items) (map stepped servants.new.items))
+        result
+        (sides_without_source K.held K.faults_of sink.old sink.new) }
+    ensures row { map kind_of servants.new.items ≡ row }
+    ensures unwritten { result ≡ status.Memory → K.held sink.new ≡ K.held sink.old }
+{
+    match loaded(alloc, number, servants) {
+        Ok(reply) => say(reply.text.as_slice(), reply.status, sink),
+        Err(_) => Status::Memory,
+    }
+}
+
+/// Replays the scenario of a number, and writes the number and the last two lines of its report. The answer
+/// is the exit status: each has its cause (`answers`). Where memory wanted, nothing was written
+/// (`unwritten`).
+///
+/// The row has one servant of each kind, in the order of the kinds, and keeps them so (`row`). Where the
+/// status is 0, 5 or 6, each has counted the entries that bodies of its kind made (`served`).
+pub fn load_main<K: Sink>(
+    alloc: Global,
+    number: u32,
+    servants: &mut Vec<Box<dyn Servant + Send>>,
+    sink: &mut K,
+) -> u8
+    requires { map kind_of servants.old.items ≡ row }
+    ensures answers { Responds (load_input number) IsLoaded result
+        (sides_without_source K.held K.faults_of sink.old sink.new) }
+    ensures served { Serves (load_input number) IsLoaded loaded_served result
+        (sides_without_source K.held K.faults_of sink.old sink.new)
+        (map stepped servants.old.items) (map stepped servants.new.items) }
+    ensures row { map kind_of servants.new.items ≡ row }
+    ensures unwritten { result ≡ 9 → K.held sink.new ≡ K.held sink.old }
+{
+    load(alloc, number, servants, sink).code()
 }

@@ -1,14 +1,19 @@
 //! `comrun`: the program over the top call. All that it prints goes to the standard output.
 #![tactic(auto)]
 
-use com_io::{StdSink, StdSource};
+ghost use Rattle.std.specs.Prelude.{◌≡◌, ◌∷◌, ◌++◌, [], IfOk, OnOk, map};
+
+use com_base::Memory;
+use com_body::Native;
+use com_io::{Sink, Source, StdSink, StdSource};
+use com_servant::{Counter, Interpreter, Latch, Relay, Servant};
 use com_top::com_main;
-use std::alloc::AllocError;
+use std::alloc::{AllocError, Global};
 use std::env;
 use std::io::ErrorKind;
 use std::process::ExitCode;
 
-// Want of memory for the words.
+// Want of memory for the words or for the servants.
 const NO_MEMORY: u8 = 9;
 
 fn main(rt: HostRuntime) -> ExitCode {
@@ -18,7 +23,54 @@ fn main(rt: HostRuntime) -> ExitCode {
     };
     let mut source = StdSource::new(rt.stdin());
     let mut sink = StdSink::new(rt.stdout());
-    ExitCode::from(com_main(rt.alloc(), words.as_slice(), &mut source, &mut sink))
+    match served(rt.alloc(), words.as_slice(), &mut source, &mut sink) {
+        Ok(status) => ExitCode::from(status),
+        Err(_) => ExitCode::from(NO_MEMORY),
+    }
+}
+
+// Does what the words ask for, with a row of servants that have made no step. The only error is want of
+// memory for the row.
+fn served<S: Source, K: Sink>(
+    alloc: Global,
+    words: &[String],
+    source: &mut S,
+    sink: &mut K,
+) -> Result<u8, Memory> {
+    let mut servants: Vec<Box<dyn Servant + Send>> = Vec::new(alloc);
+    add(
+        &mut servants,
+        boxed(alloc, Interpreter::new())?,
+        Native::Bodies,
+    )?;
+    add(
+        &mut servants,
+        boxed(alloc, Counter::new())?,
+        Native::Counter,
+    )?;
+    add(&mut servants, boxed(alloc, Relay::new())?, Native::Relay)?;
+    add(&mut servants, boxed(alloc, Latch::new())?, Native::Latch)?;
+    Ok(com_main(alloc, words, &mut servants, source, sink))
+}
+
+// A value in a box. The only error is want of memory.
+fn boxed<T: Drop>(alloc: Global, value: T) -> Result<Box<T>, Memory>
+    ensures { IfOk result (λ boxed. boxed.value ≡ value) }
+{
+    Ok(Box::new(alloc, value)?)
+}
+
+// Puts one servant more behind a row. Its kind is told to the proof alone. The only error is want of memory.
+fn add(
+    servants: &mut Vec<Box<dyn Servant + Send>>,
+    servant: Box<dyn Servant + Send>,
+    _kind: Native,
+) -> Result<(), Memory>
+    requires { kind_of servant ≡ _kind }
+    ensures { OnOk result (map kind_of servants.new.items ≡ map kind_of servants.old.items ++ (_kind ∷ [])) }
+{
+    servants.push(servant)?;
+    Ok(())
 }
 
 // The words after the program's name. Where they cannot be had for another cause than memory, one empty word

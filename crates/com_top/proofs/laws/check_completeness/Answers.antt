@@ -1,6 +1,6 @@
-use Rattle.com_top.specs.Checking.{IsReply, question_of}
-use Rattle.com_top.proofs.Responding.{responds_whole}
+use Rattle.com_commands.proofs.Answering.{responds_whole}
+use Rattle.com_top.specs.Checking.{IsVerdict, question_input}
 use Rattle.com_top.proofs.laws.check_completeness.Goals as goal
 
 pub returns : goal.returns
-returns c = responds_whole question_of IsReply
+returns c = responds_whole question_input IsVerdict

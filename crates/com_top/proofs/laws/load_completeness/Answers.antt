@@ -1,5 +1,6 @@
-use Rattle.com_top.proofs.LoadCauses.{loads_are_whole}
+use Rattle.com_commands.proofs.Answering.{responds_whole}
+use Rattle.com_top.specs.Loading.{IsLoaded, load_input}
 use Rattle.com_top.proofs.laws.load_completeness.Goals as goal
 
 pub returns : goal.returns
-returns c = loads_are_whole
+returns c = λ number. responds_whole (load_input number) IsLoaded

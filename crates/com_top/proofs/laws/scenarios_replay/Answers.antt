@@ -1,4 +1,4 @@
-use Rattle.com_top.proofs.Causes.{scenarios_replay}
+use Rattle.com_top.proofs.Replayed.{scenarios_replay}
 use Rattle.com_top.proofs.laws.scenarios_replay.Goals as goal
 
 pub returns : goal.returns

@@ -1,7 +1,7 @@
+use Rattle.com_commands.proofs.Answering.{responds_whole}
 use Rattle.com_top.specs.Explaining.{IsExplained}
-use Rattle.com_top.specs.Inputs.{input_of}
-use Rattle.com_top.proofs.Responding.{responds_whole}
+use Rattle.com_top.specs.Scenarios.{scenario_input}
 use Rattle.com_top.proofs.laws.waits_completeness.Goals as goal
 
 pub returns : goal.returns
-returns c = responds_whole input_of IsExplained
+returns c = responds_whole scenario_input IsExplained
