@@ -130,7 +130,7 @@ spaced : (v : ℕ) (d : Deed) → deed_line v [] d ≡ 32 ∷ without_first (dee
 spaced v deed.End = refl
 spaced v _ = refl
 
-line_is : (v n : ℕ) (e : Entry) → entry_line v n e ≡ decimal n ++ 32 ∷ 76 ∷ (decimal e.lane ++ 32 ∷ without_first (deed_line v [] e.deed))
+pub line_is : (v n : ℕ) (e : Entry) → entry_line v n e ≡ decimal n ++ 32 ∷ 76 ∷ (decimal e.lane ++ 32 ∷ without_first (deed_line v [] e.deed))
 unfolding entry_line
 line_is v n e =
     let front : List ℕ = decimal n ++ codes " L" ++ decimal e.lane in

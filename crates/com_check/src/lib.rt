@@ -21,9 +21,11 @@ use com_core::Core;
 use com_model::Scenario;
 use com_servant::{Counter, Interpreter, Latch, Relay, Servant};
 pub use cut::{Cut, cut_text};
+pub use fronts::named;
 pub use judge::judge_trace;
 pub use judged::Judged;
 pub use laws::{agrees_with_text, judged_alone};
+pub use lines::split_line;
 use std::alloc::{AllocError, Global};
 use std::sync::Arc;
 

@@ -1,0 +1,150 @@
+-- Where the clock goes on, a call waits for a time, so something is open in a lane, and not all is done.
+use Rattle.std.proofs.Common.{ap, subst, ◌∙◌, inl, inr, arith}
+use Rattle.std.proofs.lemmas.Grind.{common_steps}
+use Rattle.std.specs.Prelude.{◌≡◌, refl, ℕ, zero, suc, ◌≤◌, Bool, true, false, ◌&&◌, nat_le, List, [], ◌∷◌, ◌++◌, Option, Some, None, is_some, option_map, cond, filter_map}
+use Rattle.std.specs.List.{cons_option}
+use Rattle.com_books.specs.Counting.{numbers_from}
+use Rattle.com_model.specs.declared.deeds.Deed.{Deed}
+use Rattle.com_model.specs.declared.deeds.Deed.TheVariants as deed
+use Rattle.com_model.specs.declared.deeds.Entry.{Entry}
+use Rattle.com_model.specs.declared.keeps.Ending.{Ending}
+use Rattle.com_model.specs.declared.keeps.Issue.{Issue}
+use Rattle.com_model.specs.declared.keeps.Opener.{Opener}
+use Rattle.com_model.specs.declared.keeps.Opener.TheVariants.{Waits}
+use Rattle.com_model.specs.declared.keeps.Phase.{Phase}
+use Rattle.com_model.specs.declared.keeps.Phase.TheVariants.{Unposted, Queued, Judged, Delayed, GivenUp}
+use Rattle.com_model.specs.declared.scenario.Scenario.{Scenario}
+use Rattle.com_model.specs.Lists.{each_of, is_empty, least, one_to}
+use Rattle.com_model.specs.Tables.{lanes, threads}
+use Rattle.com_model.specs.Openers.{Opens, Keeps, effect, effect_on, openers}
+use Rattle.com_model.specs.Calls.{is_post, issue, lane_of, route_of}
+use Rattle.com_model.specs.Endings.{ending}
+use Rattle.com_model.specs.Waiting.{phase}
+use Rattle.com_model.specs.Sight.{Sight, sight}
+use Rattle.com_model.specs.Rules.{legal, next, no_lane_can, tick_time, time_of, time_waited}
+use Rattle.com_model.specs.Ends.{finished_by}
+use Rattle.com_balance.proofs.Answered.{lane-low}
+use Rattle.com_balance.proofs.Counts.{Among}
+use Rattle.com_balance.proofs.Homes.{among-any}
+use Rattle.com_balance.proofs.Steps.{opens-own}
+use Rattle.com_release.proofs.Lives.{legal-waits}
+use Rattle.com_safety.proofs.Posted.{At, Known, legal-posted}
+
+-- ---- a call that waits for a time
+
+record Timed (v : Sight) : Type 0 where
+  call : ℕ
+  time : ℕ
+  waits : time_of v call ≡ Some time
+
+first-or : (v : Sight) (c : ℕ) (cs : List ℕ) (t : ℕ) (x : Option ℕ) → (least (filter_map (time_of v) cs) ≡ Some t → Timed v) → time_of v c ≡ x
+    → least (cons_option x (filter_map (time_of v) cs)) ≡ Some t → Timed v
+first-or v c cs t None f q e = f e
+first-or v c cs t (Some u) f q e = record { call = c; time = u; waits = q }
+
+timed-in : (v : Sight) (cs : List ℕ) (t : ℕ) → least (filter_map (time_of v) cs) ≡ Some t → Timed v
+timed-in v [] t e = cc
+timed-in v (c ∷ cs) t e = first-or v c cs t (time_of v c) (timed-in v cs t) refl e
+
+-- It was posted, and has no answer.
+record Unanswered (s : Scenario) (h : List Entry) (c : ℕ) : Type 0 where
+  known : Known h c
+  unanswered : ending s h c ≡ None
+
+timed-waits : (s : Scenario) (h : List Entry) (c t : ℕ) (p : Phase) (x : Option Ending) → ending s h c ≡ x → At (Known h) c p
+    → time_waited (sight s h) p (is_some x) ≡ Some t → Unanswered s h c
+timed-waits s h c t (Delayed u) None q k e = record { known = k; unanswered = q }
+timed-waits s h c t (Delayed u) (Some y) q k e = cc
+timed-waits s h c t Unposted x q k e = cc
+timed-waits s h c t Queued x q k e = cc
+timed-waits s h c t (Judged v) x q k e = cc
+timed-waits s h c t GivenUp x q k e = cc
+
+was-issued : (x : Option Issue) → is_post (route_of x) ≡ true → is_some x ≡ true
+was-issued None e = cc
+was-issued (Some i) e = refl
+
+-- So it stands open in its lane.
+timed-open : (s : Scenario) (h : List Entry) → legal s h → (t : Timed (sight s h)) → Among (Waits t.call) (openers h (lane_of (issue h t.call)))
+timed-open s h q t =
+    let w : Unanswered s h t.call = timed-waits s h t.call t.time (phase h t.call) (ending s h t.call) refl (legal-posted s h q t.call) t.waits in
+    legal-waits s h t.call q (was-issued (issue h t.call) w.known.post) w.unanswered
+
+-- ---- nothing is open in the clock's lane
+
+tick-keeps : (o : Opener) (n : Bool) (t : Option ℕ) (d : Deed) → cond n (option_map (λ u. deed.Tick u) t) None ≡ Some d → effect d ≡ Opens o → ⊥
+tick-keeps o true (Some u) d e p = keeps (ap effect (one e) ∙ p)
+  where
+    one : Some (deed.Tick u) ≡ Some d → deed.Tick u ≡ d
+    one e = cc
+
+    keeps : Keeps ≡ Opens o → ⊥
+    keeps e = cc
+tick-keeps o true None d e p = cc
+tick-keeps o false t d e p = cc
+
+opens-lane : (s : Scenario) (h : List Entry) (o : Opener) (l : ℕ) (d : Deed) → next s h l ≡ Some d → effect d ≡ Opens o → 1 ≤ l
+opens-lane s h o zero d e p = absurd (tick-keeps o (no_lane_can s (sight s h)) (tick_time (sight s h)) d e p)
+opens-lane s h o (suc l) d e p = omega arith
+
+open-lane : (s : Scenario) (h : List Entry) (l : ℕ) (o : Opener) → legal s h → Among o (openers h l) → 1 ≤ l
+open-lane s [] l o q m = absurd m
+open-lane s (e ∷ h) l o q m =
+    elim (among-any o (effect_on l e) (openers h l) m) as (λ _. 1 ≤ l) [
+      | inl p ↦ open-lane s h l o q.0 p
+      | inr p ↦ subst (λ (k : ℕ). 1 ≤ k) (opens-own l e o p).0 (opens-lane s h o e.lane e.deed q.1 (opens-own l e o p).1)
+    ]
+
+-- ---- where all is done, nothing is open
+
+each-last : (test : ℕ → Bool) (xs : List ℕ) (y : ℕ) → each_of test (xs ++ y ∷ []) ≡ true → (each_of test xs ≡ true) × (test y ≡ true)
+each-last test [] y e = (refl, both-left (test y) true e)
+  where
+    both-left : (a b : Bool) → (a && b) ≡ true → a ≡ true
+    both-left true b e = refl
+    both-left false b e = cc
+each-last test (x ∷ xs) y e = onto (test x) (each-last test xs y (right (test x) _ e)) e
+  where
+    right : (a b : Bool) → (a && b) ≡ true → b ≡ true
+    right true b e = e
+    right false b e = cc
+
+    onto : (a : Bool) → (each_of test xs ≡ true) × (test y ≡ true) → (a && each_of test (xs ++ y ∷ [])) ≡ true → ((a && each_of test xs) ≡ true) × (test y ≡ true)
+    onto true r e = r
+    onto false r e = cc
+
+each-one : (test : ℕ → Bool) (n l : ℕ) → each_of test (one_to n) ≡ true → 1 ≤ l → l ≤ n → test l ≡ true
+each-one test zero l e p q = absurd (omega (arith, p, q))
+each-one test (suc n) l e p q =
+    let r : (each_of test (one_to n) ≡ true) × (test (suc n) ≡ true) = each-last test (one_to n) (suc n) e in
+    elim (nat_le l n) as (λ t. nat_le l n ≡ t → test l ≡ true) [
+      | true ↦ λ z. each-one test n l r.0 p (grind (arith, common_steps, z))
+      | false ↦ λ z. let same : suc n ≡ l = grind (arith, common_steps, z, q) in subst (λ (k : ℕ). test k ≡ true) same r.1
+    ] refl
+
+closed-of : (a b c : Bool) → (a && (b && c)) ≡ true → b ≡ true
+closed-of true true c e = refl
+closed-of true false c e = cc
+closed-of false b c e = cc
+
+bare-of : (xs ys : List Opener) (b : Bool) → xs ≡ ys → (is_empty xs && b) ≡ true → ys ≡ []
+bare-of xs [] b e p = refl
+bare-of xs (y ∷ ys) b e p = let z : (is_empty (y ∷ ys) && b) ≡ true = subst (λ (zs : List Opener). (is_empty zs && b) ≡ true) e p in cc
+
+nothing-open : (s : Scenario) (h : List Entry) (l : ℕ) → finished_by s (sight s h) ≡ true → 1 ≤ l → l ≤ lanes s → openers h l ≡ []
+nothing-open s h l e low high =
+    let v : Sight = sight s h in
+    let all : each_of (λ k. is_empty (v.openers k) && is_empty (v.dying k)) (one_to (lanes s)) ≡ true =
+    closed-of (each_of v.over (one_to (threads s))) (each_of (λ k. is_empty (v.openers k) && is_empty (v.dying k)) (one_to (lanes s)))
+    (each_of (λ a. is_empty (v.inbox a)) (numbers_from 0 v.next_sta)) e in
+    bare-of (openers h l) (openers h l) (is_empty (v.dying l)) refl (each-one (λ k. is_empty (v.openers k) && is_empty (v.dying k)) (lanes s) l all low high)
+
+-- A history whose clock goes on is not finished.
+pub ticks_unfinished : (s : Scenario) (h : List Entry) (t : ℕ) → legal s h → tick_time (sight s h) ≡ Some t → finished_by s (sight s h) ≡ true → ⊥
+ticks_unfinished s h t q e done =
+    let v : Sight = sight s h in
+    let c : Timed v = timed-in v (one_to v.calls) t e in
+    let l : ℕ = lane_of (issue h c.call) in
+    let m : Among (Waits c.call) (openers h l) = timed-open s h q c in
+    subst (λ (os : List Opener). Among (Waits c.call) os)
+    (nothing-open s h l done (open-lane s h l (Waits c.call) q m) (lane-low s h l (Waits c.call) q m)) m

@@ -1,0 +1,64 @@
+//! Making a legal history again, entry by entry, on any runtime that keeps the rules: what callers share who
+//! have a history's entries or its text, and ask how a core stands behind them.
+#![tactic(auto)]
+
+ghost use Rattle.std.specs.Prelude.{◌≡◌, ◌<◌, ◌∷◌, ◌++◌, [], false, IfOk, OnOk, map};
+ghost use Rattle.com_model.specs.Ends.{limit};
+ghost use Rattle.com_servant.specs.Rows.{row};
+ghost use Rattle.com_drive.specs.Standings.{Reached};
+ghost use Rattle.com_drive.specs.Turns.{IsNext};
+ghost use Rattle.com_retrace.specs.Nexts.{HasNext};
+
+pub use com_base::Memory;
+use com_body::Native;
+use com_drive::Runtime;
+use com_model::Entry;
+use com_servant::Servant;
+use std::alloc::Global;
+
+/// Makes the next entry of a lane that has one, or of the clock as lane 0: the lane that a legal history
+/// names next has exactly this entry. The row has one servant of each kind, in the order of the kinds. The
+/// only error is want of memory.
+#[tactic(auto, using(crate::proofs::Nexts::clock_goes_on, crate::proofs::Nexts::lane_is_one, crate::proofs::Nexts::lane_can_step))]
+pub fn make_next<C: Runtime>(
+    alloc: Global,
+    runtime: &mut C,
+    servants: &mut Vec<Box<dyn Servant + Send>>,
+    lane: u32,
+) -> Result<Entry, Memory>
+    requires next { HasNext (C.scenario runtime.old) (C.state runtime.old) lane }
+    requires room { (C.state runtime.old).entries < limit (C.scenario runtime.old) }
+    requires reached { Reached (C.scenario runtime.old) (C.state runtime.old) }
+    requires whole { C.broken runtime.old ≡ false }
+    requires row { map kind_of servants.old.items ≡ row }
+    ensures scenario { C.scenario runtime.new ≡ C.scenario runtime.old }
+    ensures whole { OnOk result (C.broken runtime.new ≡ false) }
+    ensures row { map kind_of servants.new.items ≡ row }
+    ensures made { IfOk result (λ entry. IsNext (C.scenario runtime.old)
+        (C.state runtime.old) lane entry (C.state runtime.new)) }
+{
+    if lane == 0 {
+        return runtime.tick();
+    }
+    runtime.step(alloc, lane, servants)
+}
+
+/// A value in a box. The only error is want of memory.
+pub fn boxed<T: Drop>(alloc: Global, value: T) -> Result<Box<T>, Memory>
+    ensures { IfOk result (λ boxed. boxed.value ≡ value) }
+{
+    Ok(Box::new(alloc, value)?)
+}
+
+/// Puts one servant more behind a row. Its kind is told to the proof alone. The only error is want of memory.
+pub fn add(
+    servants: &mut Vec<Box<dyn Servant + Send>>,
+    servant: Box<dyn Servant + Send>,
+    _kind: Native,
+) -> Result<(), Memory>
+    requires { kind_of servant ≡ _kind }
+    ensures { OnOk result (map kind_of servants.new.items ≡ map kind_of servants.old.items ++ (_kind ∷ [])) }
+{
+    servants.push(servant)?;
+    Ok(())
+}
