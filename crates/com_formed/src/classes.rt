@@ -3,8 +3,8 @@
 ghost use Rattle.std.specs.Prelude.{◌≡◌, ◌∷◌, [], ◌+◌, ◌≤◌, ◌<◌, ◌↔◌, IsTrue, All, false, length, drop};
 ghost use Rattle.com_classes.specs.Activation.{is_agile};
 ghost use Rattle.com_classes.specs.Lookups.{interface_at};
-ghost use Rattle.com_model.specs.Formed.{in_class, methods_of, IsBody, same_body, IsNative, IsClass, same_class};
-ghost use Rattle.com_model.specs.Formed.{EachFrom, Distinct, FormedClasses};
+ghost use Rattle.com_model.specs.Formed.{in_class, methods_of, IsBody, same_body, IsNative, IsClass};
+ghost use Rattle.com_model.specs.Formed.{same_class, EachFrom, Distinct, FormedClasses};
 
 use crate::statements::{Standing, is_body};
 use crate::tables::{class_at, is_declared, same_guid};

@@ -28,7 +28,8 @@ fn in_script(scenario: &Scenario) -> Standing
 fn are_threads(scenario: &Scenario) -> bool
     requires few { length scenario.now.classes.classes ≤ 64 }
     requires named { length scenario.now.classes.interfaces ≤ 64 }
-    ensures { IsTrue result ↔ (All (FormedBody scenario.now (in_script scenario.now) 2000) scenario.now.threads
+    ensures { IsTrue result
+        ↔ (All (FormedBody scenario.now (in_script scenario.now) 2000) scenario.now.threads
         × (length scenario.now.threads ≤ 16)) }
 {
     let at = in_script(scenario);
