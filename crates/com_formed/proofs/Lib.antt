@@ -1,0 +1,4 @@
+pub mod Walks
+pub mod Same
+pub mod Retries
+pub mod Whole

@@ -1,0 +1,5 @@
+use Rattle.std.proofs.Common.{◌-◌}
+use Rattle.com_formed.proofs.interfaces.+are_interfaces.Given as goal
+
+abbrev pub decreases-are_interfaces : goal.decreases-are_interfaces
+decreases-are_interfaces l = 64 - l.number

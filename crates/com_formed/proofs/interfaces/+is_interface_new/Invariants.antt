@@ -1,0 +1,5 @@
+use Rattle.std.proofs.Common.{◌-◌}
+use Rattle.com_formed.proofs.interfaces.+is_interface_new.Given as goal
+
+abbrev pub decreases-is_interface_new : goal.decreases-is_interface_new
+decreases-is_interface_new l = 64 - l.number

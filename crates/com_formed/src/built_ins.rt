@@ -1,0 +1,135 @@
+//! The interfaces that each scenario has.
+
+ghost use Rattle.std.specs.Prelude.{◌≡◌, ◌∷◌, [], ◌↔◌, IsTrue, take};
+ghost use Rattle.com_classes.specs.BuiltIns.{iunknown, icounter, irelay, ilatch, built_in_interfaces};
+ghost use Rattle.com_formed.specs.Methods.{method_of};
+
+use crate::tables::same_guid;
+use com_base::{Guid, IID_IUNKNOWN, Kind};
+use com_classes::{Classes, Interface, Method};
+
+// The IID of a built-in interface, by its first field.
+fn own_iid(data1: u32) -> Guid
+    ensures { result
+        ≡ record { data1 = data1; data2 = 0; data3 = 0x4000; data4 = 0x80 ∷ 0 ∷ 0 ∷ 0 ∷ 0 ∷ 0 ∷ 0 ∷ 1 ∷ [] } }
+{
+    Guid {
+        data1,
+        data2: 0x0000,
+        data3: 0x4000,
+        data4: [0x80, 0, 0, 0, 0, 0, 0, 1],
+    }
+}
+
+// Whether an IID is this one.
+#[tactic(auto, using(crate::proofs::Same::guids_same))]
+fn is_iid(iid: &Guid, wanted: &Guid) -> bool
+    ensures { IsTrue result ↔ (iid.now ≡ wanted.now) }
+{
+    same_guid(iid, wanted)
+}
+
+fn same_kind(left: Kind, right: Kind) -> bool
+    ensures { IsTrue result ↔ (left ≡ right) }
+{
+    left == right
+}
+
+// Whether the kinds are these.
+fn are_kinds(kinds: &[Kind], wanted: &[Kind]) -> bool
+    ensures { IsTrue result ↔ (kinds.now ≡ wanted.now) }
+{
+    match (kinds, wanted) {
+        ([], []) => true,
+        ([kind, kinds @ ..], [other, others @ ..]) => {
+            same_kind(*kind, *other) && are_kinds(kinds, others)
+        }
+        _ => false,
+    }
+}
+
+fn is_result(kind: Option<Kind>, wanted: Option<Kind>) -> bool
+    ensures { IsTrue result ↔ (kind ≡ wanted) }
+{
+    match (kind, wanted) {
+        (None, None) => true,
+        (Some(kind), Some(wanted)) => same_kind(kind, wanted),
+        _ => false,
+    }
+}
+
+// Whether a method is the one with this name, these parameters and this result.
+#[tactic(auto, using(crate::proofs::Same::method_is))]
+fn is_method(method: &Method, name: &[u8], params: &[Kind], kind: Option<Kind>) -> bool
+    ensures { IsTrue result ↔ (method.now ≡ method_of name.now params.now kind) }
+{
+    method.name.as_slice() == name
+        && are_kinds(method.params.as_slice(), params)
+        && is_result(method.result, kind)
+}
+
+// Whether an interface has this name and this IID.
+fn is_named(interface: &Interface, name: &[u8], iid: &Guid) -> bool
+    ensures { IsTrue result ↔ ((interface.now.name ≡ name.now) × (interface.now.iid ≡ iid.now)) }
+{
+    interface.name.as_slice() == name && is_iid(&interface.iid, iid)
+}
+
+fn is_iunknown(interface: &Interface) -> bool
+    ensures { IsTrue result ↔ (interface.now ≡ iunknown) }
+{
+    is_named(interface, b"IUnknown", &IID_IUNKNOWN) && interface.methods.len() == 0
+}
+
+fn is_icounter(interface: &Interface) -> bool
+    ensures { IsTrue result ↔ (interface.now ≡ icounter) }
+{
+    let [add, get] = interface.methods.as_slice() else {
+        return false;
+    };
+    is_named(interface, b"ICounter", &own_iid(0x5C0B_0001))
+        && is_method(add, b"add", &[Kind::Int], Some(Kind::Int))
+        && is_method(get, b"get", &[], Some(Kind::Int))
+}
+
+fn is_irelay(interface: &Interface) -> bool
+    ensures { IsTrue result ↔ (interface.now ≡ irelay) }
+{
+    let [set, forward] = interface.methods.as_slice() else {
+        return false;
+    };
+    is_named(interface, b"IRelay", &own_iid(0x5C0B_0002))
+        && is_method(set, b"set", &[Kind::Ref(1)], None)
+        && is_method(forward, b"forward", &[Kind::Int], Some(Kind::Int))
+}
+
+fn is_ilatch(interface: &Interface) -> bool
+    ensures { IsTrue result ↔ (interface.now ≡ ilatch) }
+{
+    let [set, test] = interface.methods.as_slice() else {
+        return false;
+    };
+    is_named(interface, b"ILatch", &own_iid(0x5C0B_0003))
+        && is_method(set, b"set", &[], None)
+        && is_method(test, b"test", &[], Some(Kind::Bool))
+}
+
+/// Whether the interfaces begin with IUnknown, ICounter, IRelay and ILatch.
+#[tactic(auto, using(crate::proofs::Same::four_at, crate::proofs::Same::four_there))]
+pub(crate) fn begins_built_in(classes: &Classes) -> bool
+    ensures { IsTrue result ↔ (take 4 classes.now.interfaces ≡ built_in_interfaces) }
+{
+    let Some(unknown) = classes.interface(0) else {
+        return false;
+    };
+    let Some(counter) = classes.interface(1) else {
+        return false;
+    };
+    let Some(relay) = classes.interface(2) else {
+        return false;
+    };
+    let Some(latch) = classes.interface(3) else {
+        return false;
+    };
+    is_iunknown(unknown) && is_icounter(counter) && is_irelay(relay) && is_ilatch(latch)
+}

@@ -1,0 +1,69 @@
+//! Message filters and their rules.
+
+ghost use Rattle.std.specs.Prelude.{◌≡◌, ◌≤◌, ◌↔◌, IsTrue, All, length};
+ghost use Rattle.com_model.specs.Formed.{IsType, IsAsked, IsRetryAnswer, IsRule, IsFilter, last_ms};
+
+use com_base::Rows;
+use com_filter::{Filter, Rule, Verdict};
+
+/// The greatest time of a rule, in milliseconds.
+const LAST_MS: u32 = 2_147_483_647;
+
+// Whether a call type is one of the three that are asked about, or any.
+fn is_type(call_type: Option<u8>) -> bool
+    ensures { IsTrue result ↔ IsType call_type }
+{
+    match call_type {
+        None => true,
+        Some(number) => number == 1 || number == 2 || number == 4,
+    }
+}
+
+// Whether a verdict is one that a caller is asked about, or any.
+fn is_asked(verdict: Option<Verdict>) -> bool
+    ensures { IsTrue result ↔ IsAsked verdict }
+{
+    !matches!(verdict, Some(Verdict::Handled))
+}
+
+// Whether a number may answer a retry.
+#[tactic(auto, using(crate::proofs::Retries::answers, crate::proofs::Retries::answer_low, crate::proofs::Retries::answer_high))]
+fn is_retry_answer(answer: i64) -> bool
+    ensures { IsTrue result ↔ IsRetryAnswer answer }
+{
+    -1 <= answer && answer <= 2_147_483_647
+}
+
+fn is_time(ms: u32) -> bool
+    ensures { IsTrue result ↔ (ms ≤ last_ms) }
+{
+    ms <= LAST_MS
+}
+
+// Whether a rule keeps its ranges.
+fn is_rule(rule: &Rule) -> bool
+    ensures { IsTrue result ↔ IsRule rule.now }
+{
+    match *rule {
+        Rule::Incoming { call_type, ms, .. } => is_type(call_type) && is_time(ms),
+        Rule::Retry {
+            verdict,
+            ms,
+            answer,
+        } => is_asked(verdict) && is_time(ms) && is_retry_answer(answer),
+        Rule::Pending { ms, answer } => is_time(ms) && answer <= 2,
+    }
+}
+
+fn is_filter(filter: &Filter) -> bool
+    ensures { IsTrue result ↔ IsFilter filter.now }
+{
+    filter.rules().iter().all(|rule| is_rule(rule)) && filter.rules().len() <= 32
+}
+
+/// Whether there are at most 16 filters, each of at most 32 rules that keep their ranges.
+pub(crate) fn are_filters(filters: &Rows<Filter>) -> bool
+    ensures { IsTrue result ↔ (All IsFilter filters.now × (length filters.now ≤ 16)) }
+{
+    filters.as_slice().iter().all(|filter| is_filter(filter)) && filters.len() <= 16
+}
