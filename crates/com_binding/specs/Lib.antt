@@ -1,0 +1,3 @@
+pub mod Coercing
+pub mod Binding
+pub mod Ranges
