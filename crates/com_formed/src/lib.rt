@@ -12,3 +12,6 @@ mod tables;
 mod words;
 
 pub use scenarios::is_formed;
+
+#[cfg(test)]
+mod tests;

@@ -4,7 +4,11 @@ use Rattle.com_io.specs.Faults.{Rose}
 use Rattle.com_io.specs.Told.{Gains, GainsPrefix}
 use Rattle.com_drive.specs.Replays.{whole_served}
 use Rattle.com_commands.specs.Responses.{Responds, Serves}
+use Rattle.com_commands.specs.Inputs.{input_of}
 use Rattle.com_commands.specs.Statuses.{Sides}
+use Rattle.com_scenario.specs.Sizes.{is_too_long}
+use Rattle.com_read_points.specs.Sources.{reading_points}
+use Rattle.com_points_main.specs.Playing.{IsPlayed}
 use Rattle.com_top.specs.declared.words.Command.{Command}
 use Rattle.com_top.specs.declared.words.Command.TheVariants as command
 use Rattle.com_top.specs.Checking.{IsVerdict, question_input}
@@ -14,7 +18,7 @@ use Rattle.com_top.specs.Scenarios.{IsHistory, scenario_input}
 use Rattle.com_top.specs.Showing.{IsShown, digits_input}
 
 abbrev pub usage_line : List ℕ
-usage_line = codes "usage: comrun replay|check|load N|objref|waits\n"
+usage_line = codes "usage: comrun replay|check|load N|objref|waits|points\n"
 
 -- The usage line was written, and the code is 1; or the sink's count rose, a prefix of the line was written,
 -- and the code is 4.
@@ -32,6 +36,7 @@ Answered command.Check code sides alone = Responds question_input IsVerdict code
 Answered (command.Load number) code sides alone = Responds (load_input number) IsLoaded code alone
 Answered command.ObjRef code sides alone = Responds digits_input IsShown code sides
 Answered command.Waits code sides alone = Responds scenario_input IsExplained code sides
+Answered command.Points code sides alone = Responds (input_of is_too_long reading_points) IsPlayed code sides
 Answered command.Usage code sides alone = IsUsage code alone
 
 -- The servants' counts of steps: a command that replays has had them count its history, and no other command
@@ -43,6 +48,8 @@ Served (command.Load number) code sides alone steps steps_after =
     Serves (load_input number) IsLoaded loaded_served code alone steps steps_after
 Served command.Waits code sides alone steps steps_after =
     Serves scenario_input IsExplained whole_served code sides steps steps_after
+Served command.Points code sides alone steps steps_after =
+    Serves (input_of is_too_long reading_points) IsPlayed whole_served code sides steps steps_after
 Served _ code sides alone steps steps_after = steps_after ≡ steps
 
 -- The commands that read no input.

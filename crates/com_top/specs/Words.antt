@@ -12,6 +12,7 @@ of_word word =
     else if bytes_eq word (codes "check") then command.Check
     else if bytes_eq word (codes "objref") then command.ObjRef
     else if bytes_eq word (codes "waits") then command.Waits
+    else if bytes_eq word (codes "points") then command.Points
     else command.Usage
 
 abbrev pub of_load : Option ℕ → Command

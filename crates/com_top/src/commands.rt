@@ -13,6 +13,7 @@ use crate::shows::objref_main;
 use crate::words::{Command, command_of};
 use com_commands::{Status, say};
 use com_io::{Sink, Source};
+use com_points_main::points_main;
 use com_servant::Servant;
 use std::alloc::Global;
 
@@ -20,8 +21,8 @@ use std::alloc::Global;
 /// to the sink, or the line of the refusal; `check` reads a scenario with a trace, and says whether the trace
 /// agrees with the rules, or which line differs; `load` and a number replay the scenario of that number, and
 /// show how it ended; `objref` reads hexadecimal text and shows the OBJREF that it spells; `waits` reads a
-/// scenario, and says why its history is stuck, or that it is not. The answer is the exit status: each has
-/// its cause (`answers`). Status 1 comes exactly for other words, unless the line that says so cannot be
+/// scenario, and says why its history is stuck, or that it is not; `points` replays a scenario that may have
+/// event sources, and says who got each event. The answer is the exit status: each has its cause (`answers`). Status 1 comes exactly for other words, unless the line that says so cannot be
 /// written; then nothing was read (`unread`).
 ///
 /// The row has one servant of each kind, in the order of the kinds, and keeps them so (`row`). A command that
@@ -51,6 +52,7 @@ pub fn com_main<S: Source, K: Sink>(
         Command::Load(number) => load_main(alloc, number, servants, sink),
         Command::ObjRef => objref_main(alloc, source, sink),
         Command::Waits => waits_main(alloc, servants, source, sink),
+        Command::Points => points_main(alloc, servants, source, sink),
         Command::Usage => usage(sink),
     }
 }
@@ -60,7 +62,7 @@ fn usage<K: Sink>(sink: &mut K) -> u8
     ensures { IsUsage result (sides_without_source K.held K.faults_of sink.old sink.new) }
 {
     say(
-        b"usage: comrun replay|check|load N|objref|waits\n",
+        b"usage: comrun replay|check|load N|objref|waits|points\n",
         Status::Usage,
         sink,
     )

@@ -17,6 +17,8 @@ pub enum Command {
     ObjRef,
     /// `waits`.
     Waits,
+    /// `points`.
+    Points,
     /// Any other words.
     Usage,
 }
@@ -40,6 +42,7 @@ fn of_word(word: &str) -> Command
         "check" => Command::Check,
         "objref" => Command::ObjRef,
         "waits" => Command::Waits,
+        "points" => Command::Points,
         _ => Command::Usage,
     }
 }
