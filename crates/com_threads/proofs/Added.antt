@@ -1,6 +1,6 @@
 -- Entries that were added, and the runtime that made them.
 use Rattle.std.proofs.Common.{◌≡◌, ◌⊎◌, inl, inr, ⊎_elim, Bool, false, cond, true, ℕ, zero, suc, ◌+◌, ◌^◌, ◌<◌, ◌≤◌, ◌==◌, List, [], ◌∷◌, ◌++◌, length, reverse, refl, sym, ap, ◌∙◌, subst, arith, append_assoc, length-append, append-nil}
-use Rattle.std.specs.Prelude.{All, Some, None, nat_le}
+use Rattle.std.specs.Prelude.{All, Some, None, nat_le, Result, Ok, Err, OnOk, OnErr}
 use Rattle.std.proofs.lemmas.Grind.{common_steps}
 use Rattle.std.proofs.lemmas.List.{reverse-append}
 use Rattle.std.proofs.lemmas.List.Elements.{All-nil, All-cons, All-append, All-weaker}
@@ -136,3 +136,33 @@ ended_told s running st broken w x h u e is = subst (λ (k : List Entry). ended_
 
 pub counts_told : (s running : Scenario) (st : State) (broken : Bool) (w : Written) (all : List Counts) (h : List Entry) → UpToDate s running st broken w → all ≡ all_counts_in s st → h ≡ w.entries → all ≡ all_counts s (newest_first h)
 counts_told s running st broken w all h u e is = subst (λ (k : List Entry). all ≡ all_counts s (newest_first k)) (sym is) (e ∙ all-counted s st (newest_first w.entries) u.stands)
+
+-- ---- before the first entry
+
+pub first_told : (s t running : Scenario) (st : State) (broken : Bool) (w : Written) (count : ℕ) → s ≡ t → Formed s → running ≡ s → broken ≡ false → st ≡ first_tables s → count ≡ lanes running
+    → w ≡ record { entries = []; rows = count + 1 } → UpToDate t running st broken w
+first_told s t running st broken w count named f same whole first counted is =
+    named_at s t running st broken w named
+    (subst (λ (x : Written). UpToDate s running st broken x) (sym (is ∙ ap (λ (k : ℕ). written_at k) (counted ∙ ap lanes same))) (first_up_to_date s running st broken f same whole first))
+  where
+    written_at : ℕ → Written
+    written_at k = record { entries = []; rows = k + 1 }
+
+-- A formed scenario has 25 lanes at most.
+pub few_lanes : (s running : Scenario) (count : ℕ) → Formed s → running ≡ s → count ≡ lanes running → count ≤ 25
+few_lanes s running count f same counted = let pool = f.pool in let threads = f.threads in let is : count ≡ lanes s = counted ∙ ap lanes same in omega arith
+
+-- ---- what was written of an entry that was made
+
+pub written_adds : {A E : Type 0} (r : Result A E) (l : ℕ) (w x : Written) (e : Entry) → e.lane ≡ l → OnOk r (x ≡ record { entries = w.entries ++ e ∷ []; rows = w.rows }) → OnErr r (x ≡ w) → Adds l w.entries x.entries
+written_adds (Ok u) l w x e own ok err = adds_one l w.entries x.entries e own (ap (λ (y : Written). y.entries) ok)
+written_adds (Err z) l w x e own ok err = subst (λ (y : Written). Adds l w.entries y.entries) (sym err) (adds_none l w.entries)
+
+pub entries_within : (s running : Scenario) (st : State) (broken : Bool) (w : Written) → UpToDate s running st broken w → st.entries ≤ limit s
+entries_within s running st broken w u = let n = entries_at s running st broken w u in let m = u.within in omega (arith, n, m)
+
+pub few_passes : (s running : Scenario) (count : ℕ) → Formed s → running ≡ s → count ≡ lanes running → (0 < count + 1) × (count + 1 ≤ 64)
+few_passes s running count f same counted = let few = few_lanes s running count f same counted in (omega arith, omega (arith, few))
+
+pub few_sum : (s running : Scenario) (count : ℕ) → Formed s → running ≡ s → count ≡ lanes running → count + 1 < 2 ^ 32
+few_sum s running count f same counted = let few = few_lanes s running count f same counted in omega (arith, few)

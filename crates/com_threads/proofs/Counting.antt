@@ -10,21 +10,29 @@ use Rattle.com_threads.specs.Commits.{count_of, Tallies}
 
 -- ---- before the first entry
 
-none_at : (n l : ℕ) → get_or (replicate n 0) l 0 ≡ 0
+abbrev pub zeros : ℕ → List ℕ
+zeros n = replicate n 0
+
+none_at : (n l : ℕ) → get_or (zeros n) l 0 ≡ 0
 none_at zero l = refl
 none_at (suc n) zero = refl
 none_at (suc n) (suc l) = none_at n l
 
-length_replicated : (n : ℕ) → length (replicate n 0) ≡ n
+length_replicated : (n : ℕ) → length (zeros n) ≡ n
 length_replicated zero = refl
 length_replicated (suc n) = ap suc (length_replicated n)
 
-pub none_written : (n : ℕ) → Tallies (length (replicate n 0)) [] (replicate n 0)
+none_written : (n : ℕ) → Tallies (length (zeros n)) [] (zeros n)
 none_written n = record {
   one_each = refl;
   each = λ l at. none_at n l;
-  all = sum_by-replicate (λ x. x) n 0 ∙ omega arith;
+  all = sum_by-replicate (λ (x : ℕ). x) n 0 ∙ omega arith;
 }
+
+pub none_written_yet : (h : List Entry) (commits : List ℕ) (n : ℕ) → h ≡ [] → commits ≡ zeros n → Tallies (length commits) h commits
+none_written_yet h commits n none is =
+    subst (λ (k : List Entry). Tallies (length commits) k commits) (sym none)
+    (subst (λ (c : List ℕ). Tallies (length c) [] c) (sym is) (none_written n))
 
 -- ---- with one entry more
 
@@ -65,11 +73,3 @@ one_written h new commits e v t less is value =
     subst (λ (n : List Entry). Tallies (length (set commits e.lane (v + 1))) n (set commits e.lane (v + 1))) (sym is)
     (subst (λ (k : ℕ). Tallies k (h ++ e ∷ []) (set commits e.lane (v + 1))) (sym (length-set commits e.lane (v + 1)))
     (subst (λ (k : ℕ). Tallies (length commits) (h ++ e ∷ []) (set commits e.lane (k + 1))) (sym (value ∙ any_default commits e.lane v less)) (one_more (length commits) h commits e t less)))
-
-pub none_written_yet : (h : List Entry) (commits : List ℕ) (n : ℕ) → h ≡ [] → commits ≡ replicate n 0 → Tallies (length commits) h commits
-none_written_yet h commits n none is =
-    subst (λ (k : List Entry). Tallies (length commits) k commits) (sym none)
-    (subst (λ (c : List ℕ). Tallies (length c) [] c) (sym is) (none_written n))
-
-pub rows_at_first : (commits : List ℕ) (n : ℕ) → commits ≡ replicate (n + 1) 0 → length commits ≡ n + 1
-rows_at_first commits n is = ap length is ∙ length_replicated (n + 1)

@@ -1,3 +1,5 @@
 pub mod Counting
 pub mod Added
 pub mod Dealt
+pub mod Driven
+pub mod Sent

@@ -101,6 +101,7 @@ impl<C: Jobs + Drop> Desk<C> {
         requires own { 1 ≤ lane → next_in scenario.now (C.state self.old.core) lane ≡ next.Own }
         ensures at { OnOk result (UpToDate scenario.now (C.scenario self.new.core) (C.state self.new.core)
             (C.broken self.new.core) self.new.pages) }
+        ensures one { OnOk result (length self.new.pages.entries ≡ length self.old.pages.entries + 1) }
         ensures adds { Adds lane self.old.pages.entries self.new.pages.entries }
     {
         let entry = self.core.advance(alloc, lane)?;
@@ -173,9 +174,32 @@ impl<C: Jobs + Drop> Desk<C> {
         }
     }
 
+    // Takes what a worker brings.
+    #[tactic(auto, using(crate::proofs::Added::adds_none))]
+    fn bring(
+        &mut self,
+        alloc: Global,
+        scenario: &Scenario,
+        lane: u32,
+        brought: Brought,
+    ) -> Result<(), Memory>
+        requires at { UpToDate scenario.now (C.scenario self.old.core) (C.state self.old.core)
+            (C.broken self.old.core) self.old.pages }
+        requires lane { (1 ≤ lane) × (lane ≤ lanes scenario.now) }
+        requires brought { IsComputed scenario.now brought }
+        ensures at { OnOk result (UpToDate scenario.now (C.scenario self.new.core) (C.state self.new.core)
+            (C.broken self.new.core) self.new.pages) }
+        ensures adds { Adds lane self.old.pages.entries self.new.pages.entries }
+    {
+        match brought {
+            Brought::Nothing => Ok(()),
+            Brought::Step(job, outcome) => self.commit(alloc, scenario, lane, job, outcome),
+            Brought::WantOfMemory => Err(Memory),
+        }
+    }
+
     // One turn of a lane's worker: what it brings is committed, the lane's own entry is made, and it is told
     // what is next.
-    #[tactic(auto, using(crate::proofs::Added::adds_none, crate::proofs::Added::adds_both, crate::proofs::Added::adds_clock))]
     pub(crate) fn turn(
         &mut self,
         alloc: Global,
@@ -192,11 +216,7 @@ impl<C: Jobs + Drop> Desk<C> {
         ensures adds { Adds lane self.old.pages.entries self.new.pages.entries }
         ensures turn { IfOk result (λ turn. IsTaken scenario.now turn) }
     {
-        match brought {
-            Brought::Nothing => {}
-            Brought::Step(job, outcome) => self.commit(alloc, scenario, lane, job, outcome)?,
-            Brought::WantOfMemory => return Err(Memory),
-        }
+        self.bring(alloc, scenario, lane, brought)?;
         self.go_on(alloc, scenario, lane)?;
         self.ask(alloc, scenario, lane)
     }

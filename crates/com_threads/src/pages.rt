@@ -28,7 +28,6 @@ impl Model for Pages {
 
 impl Pages {
     // No entries yet, for so many lanes and lane 0.
-    #[tactic(auto, using(crate::proofs::Counting::none_written_yet, crate::proofs::Counting::rows_at_first))]
     pub(crate) fn new(alloc: Global, lanes: u32) -> Result<Pages, Memory>
         ensures { IfOk result (λ pages. pages ≡ record { entries = []; rows = lanes + 1 }) }
     {

@@ -76,6 +76,7 @@ fn answer<C: Jobs + Drop>(
     })
 }
 
+#[tactic(auto, using(crate::proofs::Added::first_told, crate::proofs::Added::few_passes, crate::proofs::Added::few_sum, crate::proofs::Added::at_named))]
 // A run whose book names the scenario.
 fn run_named<
     C: Jobs + Drop + Send,

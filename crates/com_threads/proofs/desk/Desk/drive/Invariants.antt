@@ -4,7 +4,7 @@ use Rattle.com_model.specs.Ends.{limit}
 use Rattle.com_model.specs.Tables.{lanes}
 use Rattle.com_servant.specs.Rows.{row}
 use Rattle.com_threads.specs.Histories.{UpToDate}
-use Rattle.com_threads.proofs.drive.Desk.drive.Given as goal
+use Rattle.com_threads.proofs.desk.Desk.drive.Given as goal
 
 abbrev pub invariant-turns : goal.invariant-turns
 invariant-turns g l = record {
