@@ -1,6 +1,6 @@
 -- The numbers of entries by lane, with one entry more.
-use Rattle.std.proofs.Common.{◌≡◌, ◌⊎◌, Bool, cond, ℕ, zero, suc, ◌+◌, ◌*◌, ◌<◌, ◌≤◌, ◌==◌, List, [], ◌∷◌, ◌++◌, length, get_or, set, replicate, refl, sym, ap, ◌∙◌, subst, arith, get_or-set_other, get_or-set_same, length-set, length-append, eq-eqb, ne_eqb}
-use Rattle.std.specs.Prelude.{slice_index, count_by, sum}
+use Rattle.std.proofs.Common.{◌≡◌, cond, ℕ, zero, suc, ◌+◌, ◌<◌, ◌≤◌, ◌==◌, List, [], ◌∷◌, ◌++◌, length, get_or, set, replicate, refl, sym, ap, ◌∙◌, subst, arith, get_or-set_other, get_or-set_same, length-set, length-append, eq-eqb, ne_eqb}
+use Rattle.std.specs.Prelude.{slice_index, sum}
 use Rattle.std.proofs.lemmas.List.Sums.{sum_by-append, sum_by-set, count_by-le-length}
 use Rattle.std.proofs.lemmas.List.Folds.{sum_by-replicate}
 use mathlib.Core.Logic.{dite}
@@ -58,10 +58,10 @@ one_more rows h commits e t less = record { one_each = length-set commits e.lane
     each l at = let was : get_or commits l 0 ≡ count_of l h = t.each l at in let more = count_more l h e in
         dite (ℕ_discrete l e.lane)
         (λ is. let one : count_of l (e ∷ []) ≡ 1 = rw (eq-eqb e.lane l (sym is)) refl in
-            let here : get_or (set commits e.lane (get_or commits e.lane 0 + 1)) l 0 ≡ get_or commits e.lane 0 + 1 = ap (λ (k : ℕ). get_or (set commits e.lane (get_or commits e.lane 0 + 1)) k 0) is ∙ get_or-set_same commits e.lane (get_or commits e.lane 0 + 1) 0 there in
-            let same : get_or commits e.lane 0 ≡ get_or commits l 0 = ap (λ (k : ℕ). get_or commits k 0) (sym is) in omega arith)
+        let here : get_or (set commits e.lane (get_or commits e.lane 0 + 1)) l 0 ≡ get_or commits e.lane 0 + 1 = ap (λ (k : ℕ). get_or (set commits e.lane (get_or commits e.lane 0 + 1)) k 0) is ∙ get_or-set_same commits e.lane (get_or commits e.lane 0 + 1) 0 there in
+        let same : get_or commits e.lane 0 ≡ get_or commits l 0 = ap (λ (k : ℕ). get_or commits k 0) (sym is) in omega arith)
         (λ ne. let none : count_of l (e ∷ []) ≡ 0 = rw (ne_eqb e.lane l (λ q. ne (sym q))) refl in
-            let other = get_or-set_other commits e.lane l (get_or commits e.lane 0 + 1) 0 ne in omega arith)
+        let other = get_or-set_other commits e.lane l (get_or commits e.lane 0 + 1) 0 ne in omega arith)
 
     all : sum (set commits e.lane (get_or commits e.lane 0 + 1)) ≡ length (h ++ e ∷ [])
     all = let s = sum_by-set (λ (x : ℕ). x) commits e.lane (get_or commits e.lane 0 + 1) 0 there in let n = length-append h (e ∷ []) in let a = t.all in omega arith

@@ -1,6 +1,5 @@
 -- What the driver cannot find.
-use Rattle.std.proofs.Common.{◌≡◌, sym, subst, ◌∙◌, ap, true, None}
-use Rattle.com_drive.specs.declared.runtime.Standing.{Standing}
+use Rattle.std.proofs.Common.{◌≡◌, ◌∙◌, ap, true, None}
 use Rattle.com_drive.specs.declared.runtime.Standing.TheVariants as standing
 use Rattle.com_drive.specs.Standings.{standing_of, ended_now, none_can_in}
 use Rattle.com_drive.proofs.Choices.{not_runs}

@@ -2,4 +2,3 @@ pub mod Counting
 pub mod Added
 pub mod Dealt
 pub mod Driven
-pub mod Sent

@@ -1,13 +1,7 @@
 -- What a run answers.
-use Rattle.std.specs.Prelude.{◌≡◌, ℕ, ◌+◌, List, Some}
+use Rattle.std.specs.Prelude.{List}
 use Rattle.com_model.specs.declared.deeds.Entry.{Entry}
-use Rattle.com_model.specs.declared.scenario.Scenario.{Scenario}
-use Rattle.com_model.specs.Clock.{clock}
-use Rattle.com_model.specs.Ends.{all_counts, ended_as}
-use Rattle.com_model.specs.Rules.{legal}
-use Rattle.com_model.specs.Tables.{lanes}
 use Rattle.com_threads.specs.declared.run.Ran.{Ran}
-use Rattle.com_threads.specs.Commits.{Tallies}
 use Rattle.com_threads.specs.Histories.{newest_first}
 
 -- The history of a run, as the rules speak of it: the newest entry first.

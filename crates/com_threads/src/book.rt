@@ -52,7 +52,8 @@ impl<C: Jobs + Drop, J: Plays> Model for Book<C, J> {
 impl<C: Jobs + Drop, J: Plays> Book<C, J> {
     // A book round a runtime that has made no entry.
     pub(crate) fn new(desk: Desk<C>) -> Book<C, J>
-        requires { UpToDate J.scenario (C.scenario desk.core) (C.state desk.core) (C.broken desk.core) desk.pages }
+        requires { UpToDate J.scenario (C.scenario desk.core) (C.state desk.core) (C.broken desk.core)
+            desk.pages }
         ensures { result ≡ desk.pages.entries }
     {
         Book {

@@ -91,7 +91,12 @@ impl<C: Jobs + Drop> Desk<C> {
 
     // Makes an entry for which no servant is needed; that of lane 0 is the clock's.
     #[tactic(auto, using(crate::proofs::Added::reached_at, crate::proofs::Added::adds_none, crate::proofs::Added::adds_one, crate::proofs::Added::one_later, crate::proofs::Added::few_entries, crate::proofs::Added::row_of_next))]
-    pub(crate) fn advance(&mut self, alloc: Global, scenario: &Scenario, lane: u32) -> Result<(), Memory>
+    pub(crate) fn advance(
+        &mut self,
+        alloc: Global,
+        scenario: &Scenario,
+        lane: u32,
+    ) -> Result<(), Memory>
         requires at { UpToDate scenario.now (C.scenario self.old.core) (C.state self.old.core)
             (C.broken self.old.core) self.old.pages }
         requires room { (C.state self.old.core).entries < limit scenario.now }

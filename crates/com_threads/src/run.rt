@@ -11,7 +11,6 @@ ghost use Rattle.com_servant.specs.Rows.{row};
 ghost use Rattle.com_threads.specs.Commits.{Tallies};
 ghost use Rattle.com_threads.specs.Histories.{UpToDate};
 ghost use Rattle.com_threads.specs.Runs.{history_of};
-ghost use Rattle.com_threads.specs.Turns.{IsComputed};
 ghost use Rattle.com_turnstile.specs.Passes.{IsPassOf, lane_of};
 
 use crate::bells::Bells;
@@ -19,7 +18,7 @@ use crate::book::{Book, Plays};
 use crate::desk::Desk;
 use crate::gate::Gate;
 use crate::pages::Pages;
-use crate::worker::{Row, Worker, deal};
+use crate::worker::{Row, Worker, deal, in_threads, work};
 use com_base::{Memory, Rows};
 use com_drive::all_counts;
 use com_jobs::Jobs;
@@ -28,7 +27,6 @@ use com_turnstile::{Guard, Turnstile};
 use std::alloc::Global;
 use std::marker::Brand;
 use std::sync::Wait;
-use std::thread;
 use std::thread::Threads;
 
 /// What a run has made.
@@ -115,17 +113,16 @@ fn run_named<
     let bells = Bells::new();
     let bell = &bells;
     let workers = deal(alloc, scenario, lock, passes, crew, count)?;
-    let mut rows = thread::map_vec(
+    let mut rows = in_threads(
         rt,
         workers,
-        &|worker: Worker<C, J>| -> Row
+        &|worker: Worker<Book<C, J>, Row>| -> Row
             requires pass { IsPassOf lock.now worker.pass × (lane_of worker.pass ≡ worker.lane) }
             requires named { scenario.now ≡ J.scenario }
             requires lane { (1 ≤ worker.lane) × (worker.lane ≤ lanes scenario.now) }
-            requires brought { IsComputed scenario.now worker.brought }
             requires servants { map kind_of worker.servants.items ≡ row }
             ensures { map kind_of result.items ≡ row }
-        { worker.run(rt, alloc, scenario, lock, bell, gate) },
+        { work(rt, alloc, scenario, lock, bell, gate, worker) },
     )?;
     let Guard { value, pass: _ } = turnstile.enter(rt, driver);
     let mut desk = value.into_desk()?;
@@ -142,8 +139,8 @@ fn run_named<
 /// computed anew. The crew has a row of servants for each lane at least, that of lane 1 first, each with one
 /// servant of each kind in the order of the kinds.
 ///
-/// The history is legal in the scenario and has ended (`lawful`, `ended`), and what is told with it is its own
-/// (`counts`, `clock`, `commits`). Which history it is rests on how the threads fall. The only error is want
+/// The history is legal in the scenario and has ended (`lawful`, `ended`), and what is told with it is its
+/// own (`counts`, `clock`, `commits`). Which history it is rests on how the threads fall. The only error is want
 /// of memory, which is answered only once all workers were joined; the crew is gone then.
 pub fn run_on<C: Jobs + Drop + Send, R: Threads + Wait + Sync, G: Gate + Sync>(
     rt: &R,

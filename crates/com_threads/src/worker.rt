@@ -1,5 +1,6 @@
 //! One worker for each lane.
 ghost use Rattle.std.specs.Prelude.{◌≡◌, ℕ, ◌+◌, ◌≤◌, All, IfOk, Some, map, slice_get, vec_len};
+ghost use Rattle.std.specs.Fork.{AcceptsJobs, GivesJobs};
 ghost use Rattle.com_jobs.specs.Jobs.{HasShape};
 ghost use Rattle.com_model.specs.Tables.{lanes};
 ghost use Rattle.com_servant.specs.Rows.{row};
@@ -16,10 +17,11 @@ use com_body::Job;
 use com_jobs::Jobs;
 use com_model::Scenario;
 use com_servant::{Servant, serve};
-use com_turnstile::{Pass, Turnstile};
+use com_turnstile::{Grows, Pass, Turnstile};
 use std::alloc::Global;
 use std::sync::Wait;
 use std::thread;
+use std::thread::Threads;
 use std::time::Duration;
 
 /// The servants of one lane: one of each kind, in the order of the kinds.
@@ -35,17 +37,25 @@ const LONG: u64 = 1_000;
 // for them before this worker ends.
 const SHORT: u64 = 20;
 
-// What a worker has of its own.
+// What a worker begins with.
 #[derive(Drop)]
-pub(crate) struct Worker<C: Jobs + Drop, J: Plays> {
+pub(crate) struct Worker<B: Grows, S: Drop> {
     pub(crate) lane: u32,
-    pub(crate) pass: Pass<Book<C, J>>,
-    pub(crate) servants: Row,
-    pub(crate) brought: Brought,
+    pub(crate) pass: Pass<B>,
+    pub(crate) servants: S,
+}
+
+// A worker between two turns.
+#[derive(Drop)]
+struct Shift<C: Jobs + Drop, J: Plays> {
+    lane: u32,
+    pass: Pass<Book<C, J>>,
+    servants: Row,
+    brought: Brought,
     // How many jobs it has taken.
-    pub(crate) jobs: u64,
+    jobs: u64,
     // For how many turns its lane could not step, one after the other.
-    pub(crate) idle: u32,
+    idle: u32,
 }
 
 // What a worker has learned under the lock: what its lane does next, and for how long it may sleep, in
@@ -166,7 +176,7 @@ fn pause<R: Wait>(rt: &R, bells: &Bells, lane: u32, sleep: u64) {
     bells.sleep(rt, lane, Duration::from_micros(sleep));
 }
 
-impl<C: Jobs + Drop, J: Plays> Worker<C, J> {
+impl<C: Jobs + Drop, J: Plays> Shift<C, J> {
     // One turn: what the worker brings is committed and its lane's own entry is made, under the lock. The step
     // of a body is then computed outside of it, and the gate is called. Answers whether the worker goes on.
     fn turn<R: Wait, G: Gate>(
@@ -177,7 +187,7 @@ impl<C: Jobs + Drop, J: Plays> Worker<C, J> {
         lock: &Turnstile<Book<C, J>>,
         bells: &Bells,
         gate: &G,
-    ) -> (Worker<C, J>, bool)
+    ) -> (Shift<C, J>, bool)
         requires pass { IsPassOf lock.now self.pass × (lane_of self.pass ≡ self.lane) }
         requires scenario { scenario.now ≡ J.scenario }
         requires lane { (1 ≤ self.lane) × (self.lane ≤ lanes scenario.now) }
@@ -188,7 +198,7 @@ impl<C: Jobs + Drop, J: Plays> Worker<C, J> {
         ensures brought { IsComputed scenario.now result.0.brought }
         ensures servants { map kind_of result.0.servants.items ≡ row }
     {
-        let Worker {
+        let Shift {
             lane,
             pass,
             mut servants,
@@ -196,66 +206,118 @@ impl<C: Jobs + Drop, J: Plays> Worker<C, J> {
             jobs,
             idle,
         } = self;
-        let Held { pass, turn, sleep } = hold(rt, alloc, scenario, lock, bells, pass, lane, brought);
+        let Held { pass, turn, sleep } = hold(
+            rt, alloc, scenario, lock, bells, pass, lane, brought,
+        );
         match turn {
             Turn::Works(job) => {
                 let brought = compute(alloc, scenario, &mut servants, job);
                 let jobs = jobs.saturating_add(1);
                 gate.between(lane, jobs);
                 let idle = 0;
-                (Worker { lane, pass, servants, brought, jobs, idle }, true)
+                (
+                    Shift {
+                        lane,
+                        pass,
+                        servants,
+                        brought,
+                        jobs,
+                        idle,
+                    },
+                    true,
+                )
             }
             Turn::Goes => {
                 let brought = Brought::Nothing;
                 let idle = 0;
-                (Worker { lane, pass, servants, brought, jobs, idle }, true)
+                (
+                    Shift {
+                        lane,
+                        pass,
+                        servants,
+                        brought,
+                        jobs,
+                        idle,
+                    },
+                    true,
+                )
             }
             Turn::Waits => {
                 pause(rt, bells, lane, sleep);
                 let brought = Brought::Nothing;
                 let idle = idle.saturating_add(1);
                 let goes_on = idle < IDLE_TURNS;
-                (Worker { lane, pass, servants, brought, jobs, idle }, goes_on)
+                (
+                    Shift {
+                        lane,
+                        pass,
+                        servants,
+                        brought,
+                        jobs,
+                        idle,
+                    },
+                    goes_on,
+                )
             }
             Turn::Over => {
                 let brought = Brought::Nothing;
-                (Worker { lane, pass, servants, brought, jobs, idle }, false)
+                (
+                    Shift {
+                        lane,
+                        pass,
+                        servants,
+                        brought,
+                        jobs,
+                        idle,
+                    },
+                    false,
+                )
             }
         }
     }
+}
 
-    // Makes the entries of its lane, until the lane is over or the run is, or until the lane could not step
-    // for a thousand turns. Gives the servants back.
-    pub(crate) fn run<R: Wait, G: Gate>(
-        self,
-        rt: &R,
-        alloc: Global,
-        scenario: &Scenario,
-        lock: &Turnstile<Book<C, J>>,
-        bells: &Bells,
-        gate: &G,
-    ) -> Row
-        requires pass { IsPassOf lock.now self.pass × (lane_of self.pass ≡ self.lane) }
-        requires scenario { scenario.now ≡ J.scenario }
-        requires lane { (1 ≤ self.lane) × (self.lane ≤ lanes scenario.now) }
-        requires brought { IsComputed scenario.now self.brought }
-        requires servants { map kind_of self.servants.items ≡ row }
-        ensures { map kind_of result.items ≡ row }
-    {
-        let lane = self.lane;
-        bells.awake(lane);
-        let mut worker = self;
-        for _ in rt.forever() {
-            let (later, goes_on) = worker.turn(rt, alloc, scenario, lock, bells, gate);
-            worker = later;
-            if !goes_on {
-                break;
-            }
+// Makes the entries of its lane, until the lane is over or the run is, or until the lane could not step
+// for a thousand turns. Gives the servants back.
+pub(crate) fn work<C: Jobs + Drop, J: Plays, R: Wait, G: Gate>(
+    rt: &R,
+    alloc: Global,
+    scenario: &Scenario,
+    lock: &Turnstile<Book<C, J>>,
+    bells: &Bells,
+    gate: &G,
+    worker: Worker<Book<C, J>, Row>,
+) -> Row
+    requires pass { IsPassOf lock.now worker.pass × (lane_of worker.pass ≡ worker.lane) }
+    requires scenario { scenario.now ≡ J.scenario }
+    requires lane { (1 ≤ worker.lane) × (worker.lane ≤ lanes scenario.now) }
+    requires servants { map kind_of worker.servants.items ≡ row }
+    ensures { map kind_of result.items ≡ row }
+{
+    let Worker {
+        lane,
+        pass,
+        servants,
+    } = worker;
+    bells.awake(lane);
+    let mut shift = Shift {
+        lane,
+        pass,
+        servants,
+        brought: Brought::Nothing,
+        jobs: 0,
+        idle: 0,
+    };
+    for _ in rt.forever() {
+        let (later, goes_on) = shift.turn(rt, alloc, scenario, lock, bells, gate);
+        shift = later;
+        if !goes_on {
+            break;
         }
-        bells.end(lane);
-        let Worker { servants, .. } = worker;
-        servants
     }
+    bells.end(lane);
+    let Shift { servants, .. } = shift;
+    servants
 }
 
 // A worker for each lane, with the lane's pass and servants, that of the last lane first. What the crew has
@@ -267,7 +329,7 @@ pub(crate) fn deal<C: Jobs + Drop, J: Plays>(
     passes: Vec<Pass<Book<C, J>>>,
     crew: Vec<Row>,
     count: u32,
-) -> Result<Vec<Worker<C, J>>, Memory>
+) -> Result<Vec<Worker<Book<C, J>, Row>>, Memory>
     requires count { count ≡ lanes scenario.now }
     requires passes { vec_len passes ≡ count }
     requires new { (i : ℕ) (p : _) → slice_get passes.items i ≡ Some p
@@ -279,8 +341,6 @@ pub(crate) fn deal<C: Jobs + Drop, J: Plays>(
         × (lane_of worker.pass ≡ worker.lane)) workers.items) }
     ensures lanes { IfOk result (λ workers. All (λ worker. (1 ≤ worker.lane)
         × (worker.lane ≤ lanes scenario.now)) workers.items) }
-    ensures brought { IfOk result (λ workers. All (λ worker. IsComputed scenario.now worker.brought)
-        workers.items) }
     ensures servants { IfOk result (λ workers. All (λ worker. map kind_of worker.servants.items ≡ row)
         workers.items) }
 {
@@ -297,11 +357,23 @@ pub(crate) fn deal<C: Jobs + Drop, J: Plays>(
             lane,
             pass,
             servants,
-            brought: Brought::Nothing,
-            jobs: 0,
-            idle: 0,
         })?;
         lane = lane.saturating_sub(1);
     }
     Ok(workers)
+}
+
+// Has each worker do its work in a thread of its own, where one can be made, and joins them all.
+pub(crate) fn in_threads<
+    B: Grows + Send,
+    S: Send + Drop,
+    X: Send + Drop,
+    R: Threads + Sync,
+    F: Fn(Worker<B, S>) -> X + Sync,
+>(rt: &R, workers: Vec<Worker<B, S>>, work: &F) -> Result<Vec<X>, Memory>
+    requires { AcceptsJobs F.Fn work.now workers.items }
+    ensures len { IfOk result (λ rows. vec_len rows ≡ vec_len workers) }
+    ensures each { IfOk result (λ rows. GivesJobs F.Fn work.now workers.items rows.items) }
+{
+    thread::map_vec(rt, workers, work)
 }

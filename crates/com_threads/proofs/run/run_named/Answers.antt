@@ -1,13 +1,10 @@
-use Rattle.std.proofs.Common.{◌≡◌, ◌+◌, ◌≤◌, ◌<◌, ℕ, arith, ap, sym, ◌∙◌, refl, length}
+use Rattle.std.proofs.Common.{rules, ◌≡◌, ◌≤◌, arith, ap, ◌∙◌, refl, length}
 use Rattle.std.specs.Prelude.{slice_get}
-use denote.Param.Send.{sendable}
 use Rattle.com_drive.proofs.Driving.{mapped}
 use Rattle.com_model.specs.Tables.{lanes}
 use Rattle.com_servant.specs.Rows.{row}
-use Rattle.com_threads.specs.Turns.{IsComputed}
 use Rattle.com_threads.proofs.Added.{first_told}
 use Rattle.com_threads.proofs.Dealt.{all_at}
-use Rattle.com_threads.proofs.Sent.{entry_send, job_send, outcome_send}
 use Rattle.com_turnstile.proofs.Lists.{slice_get_longer, slice_get_last}
 use Rattle.com_turnstile.specs.Passes.{IsPassOf, lane_of}
 use Rattle.com_threads.proofs.run.run_named.Goals as goal
@@ -21,30 +18,26 @@ deal-requires-clause-new g c = λ i p at.
     let new = c.in_ok-turnstile.ensures.passes i p (ap (λ l. slice_get l i) c.in-Some.ensures.items ∙ slice_get_longer c.pop.new.self.items _ i p at) in
     (new.pass, new.lane)
 
-pub map_vec-requires-send-J : goal.map_vec-requires-send-J
-map_vec-requires-send-J g c κs within =
-    let core = c.type_bounds.send-C in
-    let named = c.type_bounds.send-J in
-    let entry = entry_send in
-    let job = job_send in
-    let outcome = outcome_send in
-    search sendable depth 40
-
-pub map_vec-requires-after_bounds : goal.map_vec-requires-after_bounds
-map_vec-requires-after_bounds g c κs within = λ i x less is. (
-  all_at (λ w. IsPassOf c.in_ok-turnstile.turnstile w.pass × (lane_of w.pass ≡ w.lane)) _ i x c.in_ok-workers.ensures.passes less is,
-  c.requires.named,
-  all_at (λ w. (1 ≤ w.lane) × (w.lane ≤ lanes c.args.scenario.now)) _ i x c.in_ok-workers.ensures.lanes less is,
-  all_at (λ w. IsComputed c.args.scenario.now w.brought) _ i x c.in_ok-workers.ensures.brought less is,
-  all_at (λ w. mapped w.servants.items (λ b. (goal.Servant-dyn g (b.vtable, b.value)).kind_of b.value) ≡ row) _ i x c.in_ok-workers.ensures.servants less is,
+pub in_threads-requires-after_bounds : goal.in_threads-requires-after_bounds
+in_threads-requires-after_bounds g c κs within = λ i x less is. (
+  all_at (λ w. IsPassOf c.in_ok-turnstile.turnstile w.pass × (lane_of w.pass ≡ w.lane)) c.in_ok-workers.workers.items i x c.in_ok-workers.ensures.passes less is,
+  (
+    c.requires.named,
+    (
+      all_at (λ w. (1 ≤ w.lane) × (w.lane ≤ lanes c.args.scenario.now)) c.in_ok-workers.workers.items i x c.in_ok-workers.ensures.lanes less is,
+      all_at (λ w. mapped w.servants.items (λ b. (goal.Servant-dyn g (b.vtable, b.value)).kind_of b.value) ≡ row) c.in_ok-workers.workers.items i x c.in_ok-workers.ensures.servants less is,
+    ),
+  ),
 )
 
 pub enter-value-requires : goal.enter-value-requires
 enter-value-requires g c =
     (c.in_ok-turnstile.ensures.passes (length c.pop.new.self.items) c.in-Some.driver
-        (ap (λ l. slice_get l (length c.pop.new.self.items)) c.in-Some.ensures.items ∙ slice_get_last c.pop.new.self.items c.in-Some.driver _ refl)).pass
+    (ap (λ l. slice_get l (length c.pop.new.self.items)) c.in-Some.ensures.items ∙ slice_get_last c.pop.new.self.items c.in-Some.driver _ refl)).pass
 
 pub drive-requires-clause-rows : goal.drive-requires-clause-rows
 drive-requires-clause-rows g c = λ k d lt.
     let len = c.in_ok-rows.ensures.len in
-    (c.in_ok-rows.ensures.each k d (omega (arith, len, lt))).1.call.met
+    let gives = (c.in_ok-rows.ensures.each k d (omega (arith, len, lt))).1 in
+    let met = gives.call.met in
+    search rules

@@ -1,9 +1,8 @@
-use Rattle.std.proofs.Common.{◌≡◌, ◌+◌, ◌≤◌, ◌<◌, ℕ, arith, ap, sym, ◌∙◌, subst, refl, length, All}
+use Rattle.std.proofs.Common.{◌≡◌, ◌+◌, ◌≤◌, ℕ, arith, ap, ◌∙◌, length}
 use Rattle.std.proofs.lemmas.List.Elements.{All-same, All-push}
 use Rattle.com_drive.proofs.Driving.{mapped}
 use Rattle.com_model.specs.Tables.{lanes}
 use Rattle.com_servant.specs.Rows.{row}
-use Rattle.com_threads.specs.Turns.{IsComputed}
 use Rattle.com_threads.proofs.Dealt.{all_taken, length_taken, all_popped, one_less, each_before, last_of_each}
 use Rattle.com_turnstile.specs.Passes.{IsPassOf, lane_of}
 use Rattle.com_threads.proofs.worker.deal.Goals as goal
@@ -23,7 +22,6 @@ loop-pass-init g c =
           (all_taken (λ r. mapped r.items (λ b. (goal.Servant-dyn g (b.vtable, b.value)).kind_of b.value) ≡ row) c.args.count c.args.crew.items c.requires.crew);
       own = λ k d lt. absurd (omega (arith, none, lt));
       lane_is = λ k d lt. absurd (omega (arith, none, lt));
-      brought = λ k d lt. absurd (omega (arith, none, lt));
       servants = λ k d lt. absurd (omega (arith, none, lt));
     }
 
@@ -52,8 +50,6 @@ loop-pass-preserved g c =
           (All-push (λ w. IsPassOf c.args.lock.now w.pass × (lane_of w.pass ≡ w.lane)) _ _ inv.own (mine.0, mine.1 ∙ omega (arith, one, passes)));
       lane_is = All-same (λ w. (1 ≤ w.lane) × (w.lane ≤ lanes c.args.scenario.now)) _ _ more
           (All-push (λ w. (1 ≤ w.lane) × (w.lane ≤ lanes c.args.scenario.now)) _ _ inv.lane_is (omega (arith, one, passes), within));
-      brought = All-same (λ w. IsComputed c.args.scenario.now w.brought) _ _ more
-          (All-push (λ w. IsComputed c.args.scenario.now w.brought) _ _ inv.brought tt);
       servants = All-same (λ w. mapped w.servants.items (λ b. (goal.Servant-dyn g (b.vtable, b.value)).kind_of b.value) ≡ row) _ _ more
           (All-push (λ w. mapped w.servants.items (λ b. (goal.Servant-dyn g (b.vtable, b.value)).kind_of b.value) ≡ row) _ _ inv.servants both.1);
     }

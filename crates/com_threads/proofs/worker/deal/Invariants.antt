@@ -3,7 +3,6 @@ use Rattle.std.specs.Prelude.{slice_get}
 use Rattle.com_drive.proofs.Driving.{mapped}
 use Rattle.com_model.specs.Tables.{lanes}
 use Rattle.com_servant.specs.Rows.{row}
-use Rattle.com_threads.specs.Turns.{IsComputed}
 use Rattle.com_turnstile.specs.Passes.{IsPassOf, lane_of}
 use Rattle.com_threads.proofs.worker.deal.Given as goal
 
@@ -17,7 +16,6 @@ invariant-loop-pass g l = record {
   rows : All (λ r. mapped r.items (λ b. (goal.Servant-dyn g (b.vtable, b.value)).kind_of b.value) ≡ row) l.crew.items;
   own : All (λ w. IsPassOf l.lock w.pass × (lane_of w.pass ≡ w.lane)) l.workers.items;
   lane_is : All (λ w. (1 ≤ w.lane) × (w.lane ≤ lanes l.scenario)) l.workers.items;
-  brought : All (λ w. IsComputed l.scenario w.brought) l.workers.items;
   servants : All (λ w. mapped w.servants.items (λ b. (goal.Servant-dyn g (b.vtable, b.value)).kind_of b.value) ≡ row) l.workers.items;
 }
 

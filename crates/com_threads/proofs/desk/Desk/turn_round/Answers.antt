@@ -1,5 +1,4 @@
-use Rattle.std.proofs.Common.{◌≡◌, sym, ◌∙◌, ap, subst}
-use Rattle.com_drive.specs.Standings.{standing_of}
+use Rattle.std.proofs.Common.{sym, ◌∙◌}
 use Rattle.com_drive.proofs.Turning.{below_limit}
 use Rattle.com_threads.proofs.Added.{reached_at, entries_within}
 use Rattle.com_threads.proofs.Driven.{no_finish, no_stuck, no_runs}

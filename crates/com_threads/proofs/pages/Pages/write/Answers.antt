@@ -1,4 +1,4 @@
-use Rattle.std.proofs.Common.{◌≡◌, arith, ap, ◌<◌, length}
+use Rattle.std.proofs.Common.{arith, ap}
 use Rattle.com_threads.proofs.Counting.{one_written}
 use Rattle.com_threads.proofs.pages.Pages.write.Goals as goal
 
