@@ -36,7 +36,7 @@ use Rattle.com_view.specs.Reads.{Reads}
 use Rattle.com_core.specs.Stands.{Stands, state_by, state_read, IsReached, IsSent, IsGiven, seen_by}
 use Rattle.com_books.proofs.Sums.{sum-nothing}
 use Rattle.com_core.specs.Beginning.{BeginsParts}
-use Rattle.com_core.specs.Bodies.{bodies_among, entered_after, CountsBodies}
+use Rattle.com_fates.specs.Bodies.{bodies_among, entered_after, CountsBodies}
 use Rattle.com_model.specs.declared.keeps.Opener.{Opener}
 use Rattle.com_model.specs.Tables.{lanes}
 use Rattle.com_model.proofs.Tabled.{tabulated-row}
@@ -46,7 +46,7 @@ use Rattle.com_refs.specs.Counts.{holders_of}
 use Rattle.com_core.specs.Making.{BooksLater, IsCore, MakesNext}
 use Rattle.com_core.specs.Seen.{CoreView, IsWhole, Steps, core_state}
 use Rattle.com_core.specs.Changes.{Becomes, Settles, fresh_by}
-use Rattle.com_core.specs.Falling.{placed_in, other_object, Touches, CountsHolders}
+use Rattle.com_fates.specs.Falling.{placed_in, other_object, Touches, CountsHolders}
 use Rattle.com_core.proofs.Fallen.{fallen_found, dies_as}
 use Rattle.com_core.proofs.OpenBodies.{bodies_counted}
 

@@ -3,12 +3,8 @@ pub mod Runs
 pub mod OpenBodies
 pub mod Fallen
 pub mod Entries
-pub mod Each
-pub mod Begins
-pub mod Timed
 pub mod Readings
 pub mod Moved
-pub mod Keeping
 pub mod Ticking
 pub mod Turned
 pub mod Tied
@@ -16,3 +12,4 @@ pub mod Booking
 pub mod Kept
 pub mod Counted
 pub mod Served
+pub mod Worked

@@ -1,9 +1,7 @@
 pub mod Sound
 pub mod Seen
-pub mod Bodies
-pub mod Falling
 pub mod Stands
-pub mod Standings
+pub mod Nexts
 pub mod Changes
 pub mod Beginning
 pub mod Making

@@ -1,5 +1,5 @@
 -- What a contract sees of a core.
-use Rattle.std.specs.Prelude.{◌≡◌, ℕ, ◌+◌, Bool, false, List}
+use Rattle.std.specs.Prelude.{◌≡◌, ℕ, ◌+◌, ◌≤◌, Bool, false, List}
 use Rattle.com_ledger.specs.Books.{Held, books_held}
 use Rattle.com_model.specs.declared.deeds.Entry.{Entry}
 use Rattle.com_model.specs.declared.scenario.Scenario.{Scenario}
@@ -7,6 +7,7 @@ use Rattle.com_model.specs.Clock.{ticked}
 use Rattle.com_ledger.specs.Ties.{Ties}
 use Rattle.com_model.specs.Formed.{Formed}
 use Rattle.com_model.specs.State.{State, first_tables}
+use Rattle.com_model.specs.Tables.{lanes}
 use Rattle.com_parts.specs.Tables.{PartTables}
 use Rattle.com_core.specs.declared.running.Running.{Running}
 use Rattle.com_core.specs.Making.{IsCore, MakesNext}
@@ -54,6 +55,11 @@ IsWhole c = IsCore c.scenario (core_state c) c.parts (books_held c.held) c.enter
 abbrev pub Steps : (lane : ℕ) → (old new : CoreView) → Entry → Type 0
 Steps lane old new e =
     MakesNext old.scenario (core_state old) old.parts new.parts old.held new.held old.entered new.entered old.fallen new.fallen old.clock lane e.deed
+
+-- What a core keeps has come to this by an entry of a lane: where the core is whole, that is the lane's next
+-- one, and all has changed by it.
+abbrev pub TurnsTo : Scenario → (lane : ℕ) → (old new : Running) → Entry → Type 0
+TurnsTo s lane old new e = IsWhole (core_of s old) → 1 ≤ lane → lane ≤ lanes s → Steps lane (core_of s old) (core_of s new) e
 
 -- A core is whole, and its ledger is tied to its state.
 pub record IsKept (c : CoreView) : Type 0 where

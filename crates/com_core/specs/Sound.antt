@@ -1,11 +1,8 @@
 -- What holds of a core between entries, where no change was left half done.
-use Rattle.std.specs.Prelude.{◌≡◌, ℕ, ◌≤◌, Bool, false, List, All, length, slice_index_or}
+use Rattle.std.specs.Prelude.{◌≡◌, ℕ, ◌≤◌, Bool, false, List, All, length}
 use Rattle.com_scene.specs.Kept.{HasSlots}
 use Rattle.com_parts.specs.Tables.{PartTables}
-
--- Each number in the list is at most so much.
-abbrev pub Most : ℕ → List ℕ → Type 0
-Most n xs = (o : ℕ) → slice_index_or xs o 0 ≤ n
+use Rattle.com_fates.specs.Most.{Most}
 
 -- The frame of each body has 8 slots, and an object runs at most as many bodies as there were entries.
 pub record Sound (parts : PartTables) (entered : List ℕ) : Type 0 where

@@ -1,7 +1,7 @@
 //! The change of a core by an entry.
 
-ghost use Rattle.std.specs.Prelude.{◌≡◌, ℕ, ◌+◌, ◌<◌, ◌^◌, All, IfOk, OnErr, OnOk, false, is_some, length};
-ghost use Rattle.std.specs.Prelude.{map, slice_index_or, ◌≤◌};
+ghost use Rattle.std.specs.Prelude.{◌≡◌, ℕ, ◌+◌, ◌<◌, ◌^◌, All, IfOk, IsTrue, OnErr, OnOk, false, is_some, length};
+ghost use Rattle.std.specs.Prelude.{map, slice_index_or, true, ◌≤◌};
 ghost use Rattle.com_calls.specs.Kept.{IsNamed};
 ghost use Rattle.com_core.specs.Making.{BookedBy, Changed, IsCore, MakesNext};
 ghost use Rattle.com_drive.specs.declared.runtime.Standing.TheVariants as standing;
@@ -9,9 +9,10 @@ ghost use Rattle.com_drive.specs.Standings.{standing_of};
 ghost use Rattle.com_ledger.specs.Books.{books_held};
 ghost use Rattle.com_model.specs.Tables.{lanes};
 ghost use Rattle.com_turns.specs.Turns.{IsTurn, actor_later, kind_seen, one_served};
-ghost use Rattle.com_core.specs.Bodies.{entered_after};
+ghost use Rattle.com_fates.specs.Bodies.{entered_after};
 ghost use Rattle.com_core.specs.Changes.{Becomes, Settles, sent_by};
-ghost use Rattle.com_core.specs.Sound.{Few, Most, Sound, SoundUnless};
+ghost use Rattle.com_core.specs.Sound.{Few, Sound, SoundUnless};
+ghost use Rattle.com_fates.specs.Most.{Most};
 ghost use Rattle.com_core.specs.Stands.{seen_by, state_read};
 ghost use Rattle.com_model.specs.Calls.{lane_of};
 ghost use Rattle.com_model.specs.Clock.{ticked};
@@ -26,10 +27,10 @@ ghost use Rattle.com_state.specs.After.{filtered_by};
 ghost use Rattle.com_state.specs.Parts.{issue_at, openers_at};
 ghost use Rattle.com_view.specs.Seen.{filter_seen, home_seen, running_seen};
 
-use crate::dying::{Fates, count_bodies, other_by, released_by};
 use crate::running::{Running, unproved};
 use com_base::{Memory, RefValue};
 use com_body::Outcome;
+use com_fates::{Fates, count_bodies, other_by, released_by};
 use com_ledger::Context;
 use com_model::{Deed, Entry, Scenario};
 use com_parts::{Change, Sent};
@@ -255,7 +256,18 @@ impl Running {
         Ok(())
     }
 
-    // The same, where the history is shorter than it may be. After want of memory it is broken.
+    // Whether the history is shorter than it may be, and the numbers of an entry fit.
+    pub(crate) fn can_make(&self, deed: &Deed) -> bool
+        ensures room { IsTrue result → self.now.parts.entries < 1_000_000 }
+        ensures deed { IsTrue result → FitsDeed deed.now }
+    {
+        if self.parts.entries() >= 1_000_000 {
+            return false;
+        }
+        fits_deed(deed)
+    }
+
+    // The same, with what it rests on. After want of memory it is broken.
     fn make(
         &mut self,
         scenario: &Scenario,
@@ -268,6 +280,8 @@ impl Running {
         requires sound { Sound self.old.parts self.old.entered }
         requires few { Few self.old.parts }
         requires whole { IsWhole outcome }
+        requires room { self.old.parts.entries < 1_000_000 }
+        requires deed { FitsDeed entry.now.deed }
         ensures few { Few self.new.parts }
         ensures sound { SoundUnless self.new.broken self.new.parts self.new.entered }
         ensures entries { OnOk result (self.new.parts.entries ≡ self.old.parts.entries + 1) }
@@ -277,14 +291,8 @@ impl Running {
             self.old.entered self.new.entered self.old.fallen self.new.fallen self.old.clock entry.now (acting_of acting)
             outcome carried.now (sent_by issued)) }
         ensures whole { OnOk result (self.new.broken ≡ false) }
-        ensures err { OnErr result (self.new.broken ≡ false → self.new ≡ self.old) }
+        ensures breaks { OnErr result (self.new.broken ≡ true) }
     {
-        if self.parts.entries() >= 1_000_000 {
-            return Err(unproved());
-        }
-        if !fits_deed(&entry.deed) {
-            return Err(unproved());
-        }
         let glance = self.glance(scenario, entry);
         self.broken = true;
         self.change(scenario, glance, acting, outcome, issued, carried, entry)?;
@@ -294,11 +302,18 @@ impl Running {
 
     // The entry of a turn of a lane.
     #[tactic(auto, using(crate::proofs::Turned::next_made))]
-    fn make_turn(&mut self, scenario: &Scenario, lane: u32, made: Turn) -> Result<Entry, Memory>
+    pub(crate) fn make_turn(
+        &mut self,
+        scenario: &Scenario,
+        lane: u32,
+        made: Turn,
+    ) -> Result<Entry, Memory>
         requires sound { Sound self.old.parts self.old.entered }
         requires few { Few self.old.parts }
         requires whole { IsWhole made.outcome }
         requires named { IsNamed self.old.parts.objects self.old.parts.calls }
+        requires room { self.old.parts.entries < 1_000_000 }
+        requires deed { FitsDeed made.doing.deed }
         requires turn { IsTurn (seen_by scenario.now self.old.parts self.old.fallen self.old.clock)
             (books_held self.old.ledger) lane made }
         ensures few { Few self.new.parts }
@@ -314,7 +329,7 @@ impl Running {
             self.old.clock) self.old.parts self.new.parts self.old.ledger self.new.ledger self.old.entered
             self.new.entered self.old.fallen self.new.fallen self.old.clock lane entry.deed) }
         ensures unbroken { OnOk result (self.new.broken ≡ false) }
-        ensures err { OnErr result (self.new.broken ≡ false → self.new ≡ self.old) }
+        ensures breaks { OnErr result (self.new.broken ≡ true) }
     {
         let Turn {
             acting,
@@ -402,6 +417,9 @@ impl Running {
             return Err(Memory);
         }
         let made = self.turn_of(scenario, alloc, lane, servants)?;
+        if !self.can_make(&made.doing.deed) {
+            return Err(unproved());
+        }
         self.make_turn(scenario, lane, made)
     }
 
@@ -438,6 +456,9 @@ impl Running {
             lane: 0,
             deed: Deed::Tick { clock },
         };
+        if !self.can_make(&entry.deed) {
+            return Err(unproved());
+        }
         self.make(scenario, Actor::Nobody, None, None, &[], &entry)?;
         Ok(entry)
     }

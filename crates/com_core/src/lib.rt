@@ -6,13 +6,13 @@
 #![tactic(auto)]
 
 mod changing;
-mod dying;
 mod laws;
 mod running;
 mod runtime;
-mod standing;
+mod working;
 
 pub use com_base::Memory;
 pub use com_drive::Standing;
+pub use com_jobs::{CommitError, Next};
 pub use laws::{begins_first, steps_are_next};
 pub use runtime::Core;

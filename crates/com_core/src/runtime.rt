@@ -1,15 +1,19 @@
 //! A runtime that makes one entry at a time.
 
-ghost use Rattle.std.specs.Prelude.{◌≡◌, ◌<◌, ◌^◌, ◌∷◌, [], IfOk, IfSome, OnErr, OnOk, false, length, map};
+ghost use Rattle.std.specs.Prelude.{◌≡◌, ◌<◌, ◌≤◌, ◌^◌, ◌∷◌, ◌↔◌, [], IfErr, IfOk, IfSome, IsTrue, OnErr, OnOk};
+ghost use Rattle.std.specs.Prelude.{Some, false, length, map};
 ghost use Rattle.std.specs.Arc.{arc_value};
 ghost use Rattle.com_books.specs.Changes.{Books};
 ghost use Rattle.com_core.specs.Beginning.{BeginsParts};
 ghost use Rattle.com_core.specs.Seen.{IsFirst, IsWhole, Makes, Steps, core_state};
 ghost use Rattle.com_drive.specs.declared.runtime.Standing.TheVariants as standing;
 ghost use Rattle.com_core.specs.Stands.{IsReached};
+ghost use Rattle.com_core.specs.Nexts.{next_as};
 ghost use Rattle.com_drive.specs.Standings.{can_step_in, standing_of};
 ghost use Rattle.com_drive.specs.Reports.{counts_in};
 ghost use Rattle.com_drive.specs.Turns.{IsNext, served_in};
+ghost use Rattle.com_jobs.specs.declared.jobs.Next.TheVariants as next;
+ghost use Rattle.com_jobs.specs.Jobs.{Fits, HasShape, IsGivenBack, IsRefused, job_of, kept_in, next_in};
 ghost use Rattle.com_ledger.specs.Books.{books_held};
 ghost use Rattle.com_ledger.specs.Ties.{IsNew};
 ghost use Rattle.com_model.specs.Ends.{state_of};
@@ -18,14 +22,17 @@ ghost use Rattle.com_model.specs.Formed.{Formed};
 ghost use Rattle.com_model.specs.State.{objects_in};
 ghost use Rattle.com_model.specs.Tables.{lanes};
 ghost use Rattle.com_servant.specs.Rows.{row};
+ghost use Rattle.com_servant.specs.Steps.{IsOfItsClass, job_step};
 
 use crate::running::{Running, unproved};
-use crate::standing::standing_of;
 use com_base::Memory;
+use com_body::{Job, Outcome};
 use com_drive::{Runtime, Standing};
+use com_jobs::{CommitError, Jobs, Next};
 use com_model::{Counts, Entry, ObjectState, Scenario};
 use com_servant::Servant;
-use com_view::References;
+use com_standing::standing_of;
+use com_view::{Next as ViewNext, References};
 use std::alloc::Global;
 use std::marker::Model;
 use std::sync::Arc;
@@ -252,6 +259,118 @@ impl Core {
     }
 }
 
+// What a lane does next, in the words of the trait.
+fn next_of(next: ViewNext) -> Next
+    ensures { result ≡ next_as next }
+{
+    match next {
+        ViewNext::Body => Next::Body,
+        ViewNext::Own => Next::Own,
+        ViewNext::Wait => Next::Wait,
+        ViewNext::Over => Next::Over,
+    }
+}
+
+impl Core {
+    /// What a lane, from 1 to `lanes`, does next: a body acts, where one is innermost; or another next entry
+    /// exists; or it has ended; or it waits.
+    pub fn next(&self, lane: u32) -> Next
+        ensures { IsReached self.now.scenario (core_state self.now)
+            → result ≡ next_in self.now.scenario (core_state self.now) lane }
+    {
+        next_of(self.running.view(&self.scenario).next(lane))
+    }
+
+    /// The step of the body that acts in a lane, as a job for a servant of its kind: on copies of the body's
+    /// frame and of its object's cells. The only error is want of memory; a runtime that makes no more
+    /// entries answers it too.
+    pub fn job(&self, alloc: Global, lane: u32) -> Result<Job, Memory>
+        ensures job { IfOk result (λ job.
+            job_of self.now.scenario (core_state self.now) lane ≡ Some job) }
+        ensures class { IfOk result (λ job. IsOfItsClass self.now.scenario.classes job) }
+    {
+        self.running.job(&self.scenario, alloc, lane)
+    }
+
+    /// Whether a job is that of a lane, but for its cells: a body acts there, and the job's kind, class,
+    /// interface, method and frame are those of the lane's topmost Enter. The job's frame has 16 registers
+    /// and 8 slots, as each frame has.
+    pub fn fits(&self, lane: u32, job: &Job) -> bool
+        ensures { IsReached self.now.scenario (core_state self.now) → HasShape job.now.frame
+            → (IsTrue result ↔ Fits self.now.scenario (core_state self.now) lane job.now) }
+    {
+        self.running.fits(&self.scenario, lane, job)
+    }
+
+    /// Makes the next entry of a lane in which a body acts, by the outcome of a job that fits it.
+    ///
+    /// `Stale` comes exactly where the object's cells differ from the job's, which is tested first; then
+    /// nothing has changed. `Memory` is want of memory. Where it came while the entry was being made, the
+    /// outcome does not come back, and the runtime makes no more entries.
+    pub fn commit(
+        &mut self,
+        alloc: Global,
+        lane: u32,
+        job: Job,
+        outcome: Outcome,
+    ) -> Result<Entry, CommitError>
+        requires above { 1 ≤ lane }
+        requires below { lane ≤ lanes self.old.scenario }
+        requires fits { Fits self.old.scenario (core_state self.old) lane job }
+        requires outcome { outcome ≡ job_step self.old.scenario.classes job }
+        ensures entry { IfOk result (λ entry. Makes lane self.old self.new entry) }
+        ensures next { IfOk result (λ entry. IsWhole self.old → Steps lane self.old self.new entry) }
+        ensures follows { IfOk result (λ entry. Formed self.old.scenario
+            → IsNext self.old.scenario (core_state self.old) lane entry (core_state self.new)) }
+        ensures fresh { OnOk result (job.cells ≡ kept_in (core_state self.old) lane) }
+        ensures refused { IfErr result (λ error. IsRefused (kept_in (core_state self.old) lane) job
+            self.old.broken self.new.broken error) }
+        ensures back { IfErr result (λ error. IsGivenBack job outcome self.new.broken error) }
+        ensures whole { OnOk result (self.new.broken ≡ false) }
+        ensures err { OnErr result (self.new.broken ≡ false → self.new ≡ self.old) }
+        ensures scenario { self.new.scenario ≡ self.old.scenario }
+    {
+        self.running
+            .commit(&self.scenario, alloc, lane, job, outcome)
+    }
+
+    // The next entry of a lane that needs no servant.
+    fn advance_lane(&mut self, alloc: Global, lane: u32) -> Result<Entry, Memory>
+        requires above { 1 ≤ lane }
+        requires below { lane ≤ lanes self.old.scenario }
+        requires own { next_in self.old.scenario (core_state self.old) lane ≡ next.Own }
+        ensures entry { IfOk result (λ entry. Makes lane self.old self.new entry) }
+        ensures next { IfOk result (λ entry. IsWhole self.old → Steps lane self.old self.new entry) }
+        ensures follows { IfOk result (λ entry. Formed self.old.scenario
+            → IsNext self.old.scenario (core_state self.old) lane entry (core_state self.new)) }
+        ensures whole { OnOk result (self.new.broken ≡ false) }
+        ensures err { OnErr result (self.new.broken ≡ false → self.new ≡ self.old) }
+        ensures scenario { self.new.scenario ≡ self.old.scenario }
+    {
+        self.running.advance(&self.scenario, alloc, lane)
+    }
+
+    /// Makes the next entry of a lane that needs no servant, or of lane 0 the clock's entry, where the clock
+    /// goes on. The only error is want of memory; where it came while the entry was being made, the runtime
+    /// makes no more entries.
+    pub fn advance(&mut self, alloc: Global, lane: u32) -> Result<Entry, Memory>
+        requires below { lane ≤ lanes self.old.scenario }
+        requires clock { lane ≡ 0 → standing_of self.old.scenario (core_state self.old) ≡ standing.Ticks }
+        requires own { 1 ≤ lane → next_in self.old.scenario (core_state self.old) lane ≡ next.Own }
+        ensures entry { IfOk result (λ entry. Makes lane self.old self.new entry) }
+        ensures follows { IfOk result (λ entry. Formed self.old.scenario
+            → IsNext self.old.scenario (core_state self.old) lane entry (core_state self.new)) }
+        ensures whole { OnOk result (self.new.broken ≡ false) }
+        ensures err { OnErr result (self.new.broken ≡ false → self.new ≡ self.old) }
+        ensures scenario { self.new.scenario ≡ self.old.scenario }
+    {
+        if lane == 0 {
+            return self.make_tick();
+        }
+        self.advance_lane(alloc, lane)
+    }
+}
+
 impl Runtime for Core {
     ghost scenario = { λ c. c.scenario };
 
@@ -298,5 +417,33 @@ impl Runtime for Core {
 
     fn tick(&mut self) -> Result<Entry, Memory> {
         self.make_tick()
+    }
+}
+
+impl Jobs for Core {
+    fn next(&self, lane: u32) -> Next {
+        Core::next(self, lane)
+    }
+
+    fn job(&self, alloc: Global, lane: u32) -> Result<Job, Memory> {
+        Core::job(self, alloc, lane)
+    }
+
+    fn fits(&self, lane: u32, job: &Job) -> bool {
+        Core::fits(self, lane, job)
+    }
+
+    fn commit(
+        &mut self,
+        alloc: Global,
+        lane: u32,
+        job: Job,
+        outcome: Outcome,
+    ) -> Result<Entry, CommitError> {
+        Core::commit(self, alloc, lane, job, outcome)
+    }
+
+    fn advance(&mut self, alloc: Global, lane: u32) -> Result<Entry, Memory> {
+        Core::advance(self, alloc, lane)
     }
 }

@@ -1,7 +1,7 @@
 -- What entries of other lanes leave of the body that is innermost in a lane.
 use Rattle.std.proofs.Common.{refl, sym, ap, subst, ◌∙◌, eqb-true}
 use Rattle.std.proofs.lemmas.Bool.{false_from_ne_true}
-use Rattle.std.specs.Prelude.{◌≡◌, ℕ, Bool, true, false, ◌==◌, List, [], ◌∷◌, ◌++◌, Option, Some, None, option_map, slice_index_or}
+use Rattle.std.specs.Prelude.{◌≡◌, ℕ, true, false, ◌==◌, List, [], ◌∷◌, ◌++◌, Option, Some, option_map, slice_index_or}
 use Rattle.com_body.specs.declared.frame.Cells.{Cells}
 use Rattle.com_body.specs.declared.frame.Job.{Job}
 use Rattle.com_body.specs.Frames.{FrameView}
@@ -52,10 +52,6 @@ record Unmoved (s : Scenario) (h g : List Entry) (l c o : ℕ) : Type 0 where
   issued : issue g c ≡ issue h c
   class : class_of g o ≡ class_of h o
   frame : (scene s g).bodies c ≡ (scene s h).bodies c
-
-older : (s : Scenario) (h more : List Entry) → legal s (more ++ h) → legal s h
-older s h [] q = q
-older s h (e ∷ more) q = older s h more q.0
 
 away-from : (l k : ℕ) → (k ≡ l → ⊥) → l ≡ k → ⊥
 away-from l k n e = n (sym e)

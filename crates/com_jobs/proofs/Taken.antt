@@ -131,6 +131,6 @@ legal-next s st new h l e p n =
 pub stands-next : (s : Scenario) (st new : State) (h : List Entry) (l : ℕ) (e : Entry) → Formed s → StandsFor s st h → IsNext s st l e new → StandsFor s new (e ∷ h)
 stands-next s st new h l e f p n =
     let own : StandsFor s new (record { lane = l; deed = e.deed } ∷ h) =
-        subst (λ (x : State). StandsFor s x (record { lane = l; deed = e.deed } ∷ h)) (sym n.becomes)
-        (stands-later s st h l e.deed f (p.lawful, sym (same-next s st h l p) ∙ n.deed) p) in
+    subst (λ (x : State). StandsFor s x (record { lane = l; deed = e.deed } ∷ h)) (sym n.becomes)
+    (stands-later s st h l e.deed f (p.lawful, sym (same-next s st h l p) ∙ n.deed) p) in
     subst (λ (k : ℕ). StandsFor s new (record { lane = k; deed = e.deed } ∷ h)) (sym n.by) own

@@ -36,12 +36,13 @@ next_by false false true = next.Over
 next_by false false false = next.Wait
 
 unfoldable pub next_in : Scenario → State → (lane : ℕ) → Next
-next_in s st l = next_by (is_enter (first (openers_in st l))) (can_step_in s st l) (slice_index_or st.over l false)
+next_in s st l =
+    next_by (is_enter (first (openers_in st l))) (can_step_in s st l) (slice_index_or st.over l false)
 
 -- ---- the job of a lane
 
--- The step of a body on an object: of the kind of the object's class, with the class's number; by the interface
--- and the method of the call; on the body's frame and the object's cells.
+-- The step of a body on an object: of the kind of the object's class, with the class's number; by the
+-- interface and the method of the call; on the body's frame and the object's cells.
 abbrev pub job_by : (class : ℕ) → Option Native → Option Issue → FrameView → Cells → Option Job
 job_by n (Some k) (Some i) f c = Some (record {
   kind = k;
@@ -56,7 +57,8 @@ job_by n _ _ f c = None
 -- That of the innermost body, where one is.
 abbrev pub job_above : Scenario → State → Option Opener → Option Job
 job_above s st (Some (Enters c o a)) =
-    job_by (class_in st o) (native_at s.classes (class_in st o)) (issue_in st c) ((scene_in st).bodies c) ((scene_in st).cells o)
+    job_by (class_in st o) (native_at s.classes (class_in st o)) (issue_in st c)
+    ((scene_in st).bodies c) ((scene_in st).cells o)
 job_above s st _ = None
 
 unfoldable pub job_of : Scenario → State → (lane : ℕ) → Option Job
@@ -83,8 +85,8 @@ pub record Fits (s : Scenario) (st : State) (l : ℕ) (job : Job) : Type 0 where
   pub body : next_in s st l ≡ next.Body
   pub same : job_of s st l ≡ Some (record job { cells = kept_in st l })
 
--- A job is refused as stale where the object's cells differ from the job's, and then the runtime is as it was.
--- Memory can be wanting only where they are the same.
+-- A job is refused as stale where the object's cells differ from the job's, and then the runtime is as it
+-- was. Memory can be wanting only where they are the same.
 abbrev pub IsRefused : (kept : Cells) → Job → (was is : Bool) → CommitError → Type 0
 IsRefused kept job was is (error.Stale j found) = (found ≡ kept) × (¬ (job.cells ≡ kept)) × (is ≡ was)
 IsRefused kept job was is (error.Memory j r) = job.cells ≡ kept

@@ -88,7 +88,8 @@ pub trait Jobs: Runtime {
             (Self.broken self.old) (Self.broken self.new) error) }
         ensures back { IfErr result (λ error. IsGivenBack job outcome (Self.broken self.new) error) }
         ensures whole { OnOk result (Self.broken self.new ≡ false) }
-        ensures err { OnErr result (Self.broken self.new ≡ false → Self.state self.new ≡ Self.state self.old) };
+        ensures err { OnErr result (Self.broken self.new ≡ false
+            → Self.state self.new ≡ Self.state self.old) };
 
     /// Makes the next entry of a lane that needs no servant, or of lane 0 the clock's entry, where the clock
     /// goes on.
@@ -107,5 +108,6 @@ pub trait Jobs: Runtime {
         ensures entry { IfOk result (λ entry. IsNext (Self.scenario self.old) (Self.state self.old) lane
             entry (Self.state self.new)) }
         ensures whole { OnOk result (Self.broken self.new ≡ false) }
-        ensures err { OnErr result (Self.broken self.new ≡ false → Self.state self.new ≡ Self.state self.old) };
+        ensures err { OnErr result (Self.broken self.new ≡ false
+            → Self.state self.new ≡ Self.state self.old) };
 }

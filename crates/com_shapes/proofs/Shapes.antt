@@ -1,7 +1,7 @@
 -- Every entry leaves the frame of each body with 16 registers and 8 slots.
-use Rattle.std.proofs.Common.{refl, sym, subst, ap, ◌∙◌, arith}
+use Rattle.std.proofs.Common.{sym, subst, ◌∙◌, arith}
 use Rattle.std.proofs.lemmas.List.{length-append, length-replicate, length-set}
-use Rattle.std.specs.Prelude.{◌≡◌, ℕ, zero, suc, ◌+◌, ◌-◌, ◌≤◌, Bool, ◌==◌, List, [], ◌∷◌, ◌++◌, length, Option, Some, None, fold, replicate, drop}
+use Rattle.std.specs.Prelude.{◌≡◌, ℕ, zero, suc, ◌+◌, ◌-◌, ◌≤◌, ◌==◌, List, [], ◌∷◌, ◌++◌, length, Option, Some, None, fold, replicate, drop}
 use Rattle.com_base.specs.declared.value.RefValue.{RefValue}
 use Rattle.com_base.specs.declared.value.Value.{Value}
 use Rattle.com_base.specs.declared.value.Value.TheVariants as value
@@ -10,6 +10,8 @@ use Rattle.com_body.specs.declared.statements.Stmt.TheVariants as stmt
 use Rattle.com_body.specs.declared.actions.Action.{Action}
 use Rattle.com_body.specs.declared.actions.Action.TheVariants as action
 use Rattle.com_body.specs.declared.frame.Cells.{Cells}
+use Rattle.com_body.specs.declared.frame.Job.{Job}
+use Rattle.com_body.specs.declared.frame.Native.{Native}
 use Rattle.com_body.specs.declared.frame.Outcome.{Outcome}
 use Rattle.com_body.specs.Frames.{FrameView, entered, plain_values, references, no_number, with_register, with_slot, moved}
 use Rattle.com_body.specs.BodySteps.{walk, body_step}
@@ -18,16 +20,18 @@ use Rattle.com_model.specs.declared.deeds.Deed.{Deed}
 use Rattle.com_model.specs.declared.deeds.Deed.TheVariants as deed
 use Rattle.com_model.specs.declared.deeds.Entry.{Entry}
 use Rattle.com_model.specs.declared.keeps.Issue.{Issue}
+use Rattle.com_model.specs.declared.keeps.Opener.{Opener}
+use Rattle.com_model.specs.declared.keeps.Opener.TheVariants.{Pumps, Waits, Enters}
 use Rattle.com_model.specs.declared.scenario.Scenario.{Scenario}
 use Rattle.com_model.specs.Answers.{S_OK}
 use Rattle.com_model.specs.Apartments.{ends_sta}
 use Rattle.com_model.specs.Calls.{issue}
 use Rattle.com_model.specs.Formed.{Formed}
 use Rattle.com_model.specs.Frames.{Scene, Actor, Body, Script, Nobody, Write, ToRegister, ToSlot, ToLink, ToBuffer, issued_body, outcome, writes, to_answer, to_destination, written, with_frame, wants, acted, arrived, cut_links, acting, scene_after, actor_in, scene}
-use Rattle.com_model.specs.Lists.{put}
+use Rattle.com_model.specs.Lists.{first, put}
 use Rattle.com_model.specs.Objects.{class_of, named}
 use Rattle.com_model.specs.Rules.{legal}
-use Rattle.com_model.specs.State.{State, StandsFor, first_tables, after, scene_in}
+use Rattle.com_model.specs.State.{State, StandsFor, first_tables, after, class_in, issue_in, openers_in, scene_in}
 use Rattle.com_model.proofs.Fines.{cond-is}
 use Rattle.com_model.proofs.Sights.{same-next}
 use Rattle.com_model.proofs.Whole.{first-stands}
@@ -35,7 +39,8 @@ use Rattle.com_bounds.proofs.Fitting.{entry-fits}
 use Rattle.com_schedule.proofs.Runs.{stands-later}
 use Rattle.com_scene.specs.Ranges.{FitsDeed}
 use Rattle.com_drive.specs.Standings.{Reached}
-use Rattle.com_jobs.specs.Jobs.{HasShape}
+use Rattle.com_jobs.specs.Jobs.{HasShape, job_above, job_by, job_of}
+use Rattle.com_servant.specs.Steps.{native_at}
 
 -- ---- one frame
 
@@ -190,3 +195,23 @@ unfolding Reached
 reached-shape s st c r =
     let p : StandsFor s st r.1.0 = r.1.1 in
     subst HasShape (sym (p.scene.bodies c)) (shaped s r.1.0 r.0 p.lawful c)
+
+-- ---- jobs
+
+by-shape : (n : ℕ) (k : Option Native) (i : Option Issue) (f : FrameView) (c : Cells) (job : Job) → job_by n k i f c ≡ Some job → HasShape f → HasShape job.frame
+by-shape n None i f c job e h = absurd cc
+by-shape n (Some k) None f c job e h = absurd cc
+by-shape n (Some k) (Some i) f c job e h =
+    let same : f ≡ job.frame = cc in
+    subst HasShape same h
+
+above-shape : (s : Scenario) (st : State) (t : Option Opener) (job : Job) → ((c : ℕ) → HasShape ((scene_in st).bodies c)) → job_above s st t ≡ Some job → HasShape job.frame
+above-shape s st None job p e = absurd cc
+above-shape s st (Some (Pumps n)) job p e = absurd cc
+above-shape s st (Some (Waits c)) job p e = absurd cc
+above-shape s st (Some (Enters c o a)) job p e =
+    by-shape (class_in st o) (native_at s.classes (class_in st o)) (issue_in st c) ((scene_in st).bodies c) ((scene_in st).cells o) job e (p c)
+
+pub job-shape : (s : Scenario) (st : State) (l : ℕ) (job : Job) → Reached s st → job_of s st l ≡ Some job → HasShape job.frame
+unfolding job_of
+job-shape s st l job r e = above-shape s st (first (openers_in st l)) job (λ c. reached-shape s st c r) e

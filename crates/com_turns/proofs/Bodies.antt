@@ -7,8 +7,6 @@ use Rattle.com_body.specs.declared.frame.Native.{Native}
 use Rattle.com_body.specs.declared.statements.Stmt.{Stmt}
 use Rattle.com_body.specs.BodySteps.{body_step}
 use Rattle.com_body.specs.Frames.{FrameView}
-use Rattle.com_classes.specs.Lookups.{body_of}
-use Rattle.com_classes.specs.Tables.{Tables}
 use Rattle.com_model.specs.declared.keeps.Issue.{Issue}
 use Rattle.com_model.specs.declared.scenario.Scenario.{Scenario}
 use Rattle.com_model.specs.Frames.{issued_body, new_cells}

@@ -196,7 +196,6 @@ pub fn own_turn<B: Found>(
 
 /// The turn of a lane in which a body is innermost, whose step was computed before. Where memory is wanting
 /// the step comes back.
-#[tactic(auto, using(crate::proofs::Stepping::given_turn))]
 pub fn given_turn<B: Found>(
     view: &View<'_>,
     books: &B,
@@ -210,6 +209,7 @@ pub fn given_turn<B: Found>(
         → outcome ≡ body_seen view.now c o }
     ensures whole { IfOk result (λ made. IsWhole made.outcome) }
     ensures turn { IfOk result (λ made. IsTurn view.now (B.books books.now) lane made) }
+    ensures step { IfOk result (λ made. made.outcome ≡ Some outcome) }
     ensures back { IfErr result (λ step. step ≡ outcome) }
 {
     let Some(Opener::Enters { call, object, .. }) = view.lanes.top(lane) else {

@@ -10,7 +10,8 @@ use Rattle.com_view.specs.Seen.{Seen}
 -- The job of the body of a call on an object.
 abbrev pub work_seen : Seen → (call object : ℕ) → Option Job
 work_seen w c o =
-    job_by (class_at w.objects o) (native_at w.scenario.classes (class_at w.objects o)) (issue_at w.calls.tables c) (body_at w.scene c) (cells_at w.scene o)
+    job_by (class_at w.objects o) (native_at w.scenario.classes (class_at w.objects o))
+    (issue_at w.calls.tables c) (body_at w.scene c) (cells_at w.scene o)
 
 -- A job is that of the body, but for its cells.
 abbrev pub IsWork : Seen → (call object : ℕ) → Job → Type 0

@@ -35,10 +35,9 @@ fn same_slots(left: &Frame, right: &Frame) -> bool
 }
 
 /// Whether two frames are the same.
+#[tactic(auto, using(crate::proofs::Same::same_frames))]
 pub fn same_frame(left: &Frame, right: &Frame) -> bool
-    requires left { HasShape left.now }
-    requires right { HasShape right.now }
-    ensures { IsTrue result ↔ (left.now ≡ right.now) }
+    ensures { HasShape left.now → HasShape right.now → (IsTrue result ↔ (left.now ≡ right.now)) }
 {
     if left.place() != right.place() {
         return false;
@@ -76,9 +75,9 @@ fn has_no_slots(frame: &Frame) -> bool
 }
 
 /// Whether a frame is that of a body that was entered without values.
+#[tactic(auto, using(crate::proofs::Same::first_frame))]
 pub fn is_first_frame(frame: &Frame) -> bool
-    requires { HasShape frame.now }
-    ensures { IsTrue result ↔ (frame.now ≡ entered []) }
+    ensures { HasShape frame.now → (IsTrue result ↔ (frame.now ≡ entered [])) }
 {
     if frame.place() != 0 {
         return false;

@@ -7,4 +7,4 @@ mod values;
 mod work;
 
 pub use com_base::Memory;
-pub use work::{fits_work, work_of};
+pub use work::{fits_work, same_cells, work_of};

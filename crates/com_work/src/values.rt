@@ -1,66 +1,66 @@
 //! Whether two values are the same.
 
-ghost use Rattle.std.specs.Prelude.{◌≡◌, ◌↔◌, IsTrue, pos};
+ghost use Rattle.std.specs.Prelude.{◌≡◌, ◌↔◌, IsTrue};
 ghost use Rattle.com_base.specs.declared.value.Value.TheVariants as value;
 ghost use Rattle.com_body.specs.Frames.{no_number};
 
 use com_base::{ByteList, Guid, RefValue, Value};
 
 // Whether a value is this number.
-fn is_int(value: &Value, number: i64) -> bool
-    ensures { IsTrue result ↔ (value.now ≡ value.Int number) }
+fn is_int(left: &Value, number: i64) -> bool
+    ensures { IsTrue result ↔ (left.now ≡ value.Int number) }
 {
-    match value {
+    match left {
         Value::Int(other) => *other == number,
         _ => false,
     }
 }
 
 // Whether a value is this truth value.
-fn is_bool(value: &Value, truth: bool) -> bool
-    ensures { IsTrue result ↔ (value.now ≡ value.Bool truth) }
+fn is_bool(left: &Value, truth: bool) -> bool
+    ensures { IsTrue result ↔ (left.now ≡ value.Bool truth) }
 {
-    match value {
+    match left {
         Value::Bool(other) => *other == truth,
         _ => false,
     }
 }
 
 // Whether a value is this text.
-fn is_text(value: &Value, text: &ByteList) -> bool
-    ensures { IsTrue result ↔ (value.now ≡ value.Text text.now) }
+fn is_text(left: &Value, text: &ByteList) -> bool
+    ensures { IsTrue result ↔ (left.now ≡ value.Text text.now) }
 {
-    match value {
+    match left {
         Value::Text(other) => other.same(text),
         _ => false,
     }
 }
 
 // Whether a value is these bytes.
-fn is_bytes(value: &Value, bytes: &ByteList) -> bool
-    ensures { IsTrue result ↔ (value.now ≡ value.Bytes bytes.now) }
+fn is_bytes(left: &Value, bytes: &ByteList) -> bool
+    ensures { IsTrue result ↔ (left.now ≡ value.Bytes bytes.now) }
 {
-    match value {
+    match left {
         Value::Bytes(other) => other.same(bytes),
         _ => false,
     }
 }
 
 // Whether a value is this GUID.
-fn is_guid(value: &Value, guid: Guid) -> bool
-    ensures { IsTrue result ↔ (value.now ≡ value.Guid guid) }
+fn is_guid(left: &Value, guid: Guid) -> bool
+    ensures { IsTrue result ↔ (left.now ≡ value.Guid guid) }
 {
-    match value {
+    match left {
         Value::Guid(other) => *other == guid,
         _ => false,
     }
 }
 
 // Whether a value is this reference.
-fn is_reference(value: &Value, held: Option<RefValue>) -> bool
-    ensures { IsTrue result ↔ (value.now ≡ value.Ref held) }
+fn is_reference(left: &Value, held: Option<RefValue>) -> bool
+    ensures { IsTrue result ↔ (left.now ≡ value.Ref held) }
 {
-    match value {
+    match left {
         Value::Ref(other) => *other == held,
         _ => false,
     }
@@ -81,8 +81,8 @@ pub fn same_value(left: &Value, right: &Value) -> bool
 }
 
 /// Whether a value is the Int 0.
-pub fn is_zero(value: &Value) -> bool
-    ensures { IsTrue result ↔ (value.now ≡ no_number) }
+pub fn is_zero(left: &Value) -> bool
+    ensures { IsTrue result ↔ (left.now ≡ no_number) }
 {
-    is_int(value, 0)
+    is_int(left, 0)
 }

@@ -10,7 +10,7 @@ ghost use Rattle.com_work.specs.Work.{IsWork, work_seen};
 
 use crate::frames::{is_first_frame, same_frame};
 use com_base::Memory;
-use com_body::{Frame, Job};
+use com_body::{Cells, Frame, Job};
 use com_scene::Actor;
 use com_view::View;
 use std::alloc::Global;
@@ -61,9 +61,8 @@ pub fn work_of(view: &View<'_>, alloc: Global, call: u32, object: u32) -> Result
 
 // Whether a frame is that of a body.
 fn fits_frame(view: &View<'_>, call: u32, object: u32, frame: &Frame) -> bool
-    requires body { HasShape (body_at view.now.scene call) }
-    requires shape { HasShape frame.now }
-    ensures { IsTrue result ↔ (body_at view.now.scene call ≡ frame.now) }
+    ensures { HasShape (body_at view.now.scene call) → HasShape frame.now
+        → (IsTrue result ↔ (body_at view.now.scene call ≡ frame.now)) }
 {
     match view.scene.frame(Actor::Body { call, object }) {
         Some(own) => same_frame(own, frame),
@@ -71,11 +70,11 @@ fn fits_frame(view: &View<'_>, call: u32, object: u32, frame: &Frame) -> bool
     }
 }
 
-/// Whether a job is that of the body of a call on an object, but for its cells.
+/// Whether a job is that of the body of a call on an object, but for its cells. The frames of both have 16
+/// registers and 8 slots, as each frame has.
 pub fn fits_work(view: &View<'_>, call: u32, object: u32, job: &Job) -> bool
-    requires body { HasShape (body_at view.now.scene call) }
-    requires shape { HasShape job.now.frame }
-    ensures { IsTrue result ↔ IsWork view.now call object job.now }
+    ensures { HasShape (body_at view.now.scene call) → HasShape job.now.frame
+        → (IsTrue result ↔ IsWork view.now call object job.now) }
 {
     let class = view.objects.class(object);
     if job.class != class {
@@ -97,4 +96,11 @@ pub fn fits_work(view: &View<'_>, call: u32, object: u32, job: &Job) -> bool
         return false;
     }
     fits_frame(view, call, object, &job.frame)
+}
+
+/// Whether two objects have the same cells.
+pub fn same_cells(left: &Cells, right: &Cells) -> bool
+    ensures { IsTrue result ↔ (left.now ≡ right.now) }
+{
+    *left == *right
 }

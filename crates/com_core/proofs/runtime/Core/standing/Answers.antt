@@ -5,7 +5,7 @@ use Rattle.com_ledger.specs.Books.{books_held}
 use Rattle.com_model.specs.declared.scenario.Scenario.{Scenario}
 use Rattle.com_view.specs.Seen.{Seen, sight_by}
 use Rattle.com_core.specs.Seen.{CoreView}
-use Rattle.com_core.specs.Standings.{standing_by}
+use Rattle.com_standing.specs.Standings.{standing_by}
 use Rattle.com_core.specs.Stands.{seen_by}
 use Rattle.com_core.proofs.Readings.{standing_read}
 use Rattle.com_core.proofs.runtime.Core.standing.Goals as goal

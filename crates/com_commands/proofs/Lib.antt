@@ -1,0 +1,4 @@
+pub mod Unreading
+pub mod Asking
+pub mod Answering
+pub mod TestCommands

@@ -1,0 +1,5 @@
+pub mod Statuses
+pub mod Inputs
+pub mod Responses
+pub mod Unread
+pub mod Lengths

@@ -1,0 +1,76 @@
+-- A commit of a core is that of what it keeps.
+use Rattle.std.proofs.Common.{◌≡◌, ◌≤◌, IfOk, refl, subst, sym}
+use Rattle.std.specs.Prelude.{IfErr, OnOk}
+use Rattle.std.specs.Arc.{arc_value}
+use Rattle.com_model.specs.declared.deeds.Entry.{Entry}
+use Rattle.com_model.specs.declared.scenario.Scenario.{Scenario}
+use Rattle.com_model.specs.Formed.{Formed}
+use Rattle.com_model.specs.Tables.{lanes}
+use Rattle.com_servant.specs.Steps.{job_step}
+use Rattle.com_drive.specs.Turns.{IsNext}
+use Rattle.com_jobs.specs.declared.errors.CommitError.{CommitError}
+use Rattle.com_jobs.specs.Jobs.{Fits, IsRefused, kept_in}
+use Rattle.com_core.specs.Seen.{CoreView, IsWhole, Steps, core_of, core_state}
+use Rattle.com_core.proofs.Kept.{kept_stepped, next_stepped, same_core, step_taken}
+use Rattle.com_core.proofs.runtime.Core.commit.Goals as goal
+
+pub commit-requires-clause-fits : goal.commit-requires-clause-fits
+commit-requires-clause-fits c =
+    let r = c.self.inside.running in
+    subst (λ (s : Scenario). Fits s (core_state (core_of s r)) c.args.lane c.args.job) (sym c.deref.ensures)
+    (subst (λ (w : CoreView). Fits w.scenario (core_state w) c.args.lane c.args.job) (sym c.self.view_is) c.requires.fits)
+
+pub commit-requires-clause-outcome : goal.commit-requires-clause-outcome
+commit-requires-clause-outcome c =
+    subst (λ (s : Scenario). c.args.outcome ≡ job_step s.classes c.args.job) (sym c.deref.ensures)
+    (subst (λ (w : CoreView). c.args.outcome ≡ job_step w.scenario.classes c.args.job) (sym c.self.view_is) c.requires.outcome)
+
+pub returns-clause-follows : goal.returns-clause-follows
+returns-clause-follows c =
+    let s = arc_value c.self.inside.scenario in
+    let r = c.self.inside.running in
+    let u = c.commit.new.self in
+    let e = c.commit.ensures in
+    let l = c.args.lane in
+    let high : l ≤ lanes s = subst (λ (w : CoreView). l ≤ lanes w.scenario) (sym c.self.view_is) c.requires.below in
+    let steps : IfOk c.commit.result (λ (n : Entry). IsWhole (core_of s r) → Steps l (core_of s r) (core_of s u) n) =
+    step_taken c.commit.result l c.deref.result.now s r u c.deref.ensures c.requires.above high e.next in
+    subst (λ (w : CoreView). IfOk c.commit.result (λ (n : Entry). Formed w.scenario → IsNext w.scenario (core_state w) l n (core_state (core_of s u)))) c.self.view_is
+    (next_stepped c.commit.result l (core_of s r) (core_of s u) c.self.invariant.4 refl e.was steps e.lane e.clock)
+
+pub returns-clause-next : goal.returns-clause-next
+returns-clause-next c =
+    let s = arc_value c.self.inside.scenario in
+    let r = c.self.inside.running in
+    let u = c.commit.new.self in
+    let l = c.args.lane in
+    let high : l ≤ lanes s = subst (λ (w : CoreView). l ≤ lanes w.scenario) (sym c.self.view_is) c.requires.below in
+    subst (λ (w : CoreView). IfOk c.commit.result (λ (n : Entry). IsWhole w → Steps l w (core_of s u) n)) c.self.view_is
+    (step_taken c.commit.result l c.deref.result.now s r u c.deref.ensures c.requires.above high c.commit.ensures.next)
+
+pub returns-clause-fresh : goal.returns-clause-fresh
+returns-clause-fresh c =
+    let r = c.self.inside.running in
+    let l = c.args.lane in
+    subst (λ (w : CoreView). OnOk c.commit.result (c.args.job.cells ≡ kept_in (core_state w) l)) c.self.view_is
+    (subst (λ (s : Scenario). OnOk c.commit.result (c.args.job.cells ≡ kept_in (core_state (core_of s r)) l)) c.deref.ensures c.commit.ensures.fresh)
+
+pub returns-clause-refused : goal.returns-clause-refused
+returns-clause-refused c =
+    let r = c.self.inside.running in
+    let u = c.commit.new.self in
+    let l = c.args.lane in
+    subst (λ (w : CoreView). IfErr c.commit.result (λ (e : CommitError). IsRefused (kept_in (core_state w) l) c.args.job w.broken u.broken e)) c.self.view_is
+    (subst (λ (s : Scenario). IfErr c.commit.result (λ (e : CommitError). IsRefused (kept_in (core_state (core_of s r)) l) c.args.job r.broken u.broken e)) c.deref.ensures c.commit.ensures.refused)
+
+pub invariant_of-self : goal.invariant_of-self
+invariant_of-self c =
+    let s = arc_value c.self.inside.scenario in
+    let r = c.self.inside.running in
+    let u = c.commit.new.self in
+    let e = c.commit.ensures in
+    let l = c.args.lane in
+    let high : l ≤ lanes s = subst (λ (w : CoreView). l ≤ lanes w.scenario) (sym c.self.view_is) c.requires.below in
+    let steps : IfOk c.commit.result (λ (n : Entry). IsWhole (core_of s r) → Steps l (core_of s r) (core_of s u) n) =
+    step_taken c.commit.result l c.deref.result.now s r u c.deref.ensures c.requires.above high e.next in
+    (e.sound, e.few, c.self.invariant.2, c.self.invariant.3, kept_stepped c.commit.result l (core_of s r) (core_of s u) c.self.invariant.4 refl e.was steps e.clock (same_core c.commit.result s r u e.err))

@@ -1,0 +1,228 @@
+//! The steps of bodies as jobs, and the entries that need no servant.
+
+ghost use Rattle.std.specs.Prelude.{◌≡◌, ℕ, ◌+◌, ◌↔◌, IfErr, IfOk, IsTrue, OnErr, OnOk, Some, false};
+ghost use Rattle.com_calls.specs.Kept.{IsNamed};
+ghost use Rattle.com_core.specs.Nexts.{FitsTop, kept_top};
+ghost use Rattle.com_core.specs.Seen.{TurnsTo, core_of, core_state};
+ghost use Rattle.com_core.specs.Sound.{Few, Sound, SoundUnless};
+ghost use Rattle.com_core.specs.Stands.{seen_by};
+ghost use Rattle.com_jobs.specs.Jobs.{Fits, HasShape, IsGivenBack, IsRefused, job_of, kept_in};
+ghost use Rattle.com_ledger.specs.Books.{books_held};
+ghost use Rattle.com_model.specs.declared.keeps.Opener.TheVariants.{Enters};
+ghost use Rattle.com_model.specs.Clock.{ticked};
+ghost use Rattle.com_model.specs.Lists.{first};
+ghost use Rattle.com_moves.specs.Steps.{IsWhole};
+ghost use Rattle.com_scene.specs.Kept.{HasSlots};
+ghost use Rattle.com_servant.specs.Steps.{IsOfItsClass, job_step};
+ghost use Rattle.com_state.specs.Parts.{openers_at};
+ghost use Rattle.com_state.specs.SceneParts.{body_at};
+ghost use Rattle.com_turns.specs.Turns.{IsTurn, body_seen};
+ghost use Rattle.com_view.specs.Nexts.{is_body};
+
+use crate::running::{Running, unproved};
+use com_base::Memory;
+use com_body::{Cells, Job, Outcome};
+use com_jobs::CommitError;
+use com_model::{Entry, Opener, Scenario};
+use com_turns::{Turn, given_turn, own_turn};
+use com_work::{fits_work, same_cells, work_of};
+use std::alloc::Global;
+
+impl Running {
+    /// The step of the body that acts in a lane, as a job. The only error is want of memory.
+    #[tactic(auto, using(crate::proofs::Whole::bodies_whole, crate::proofs::Worked::job_read))]
+    pub fn job(&self, scenario: &Scenario, alloc: Global, lane: u32) -> Result<Job, Memory>
+        requires sound { SoundUnless self.now.broken self.now.parts self.now.entered }
+        ensures job { IfOk result (λ job.
+            job_of scenario.now (core_state (core_of scenario.now self.now)) lane ≡ Some job) }
+        ensures class { IfOk result (λ job. IsOfItsClass scenario.now.classes job) }
+    {
+        if self.broken {
+            return Err(Memory);
+        }
+        let view = self.view(scenario);
+        let Some(Opener::Enters { call, object, .. }) = view.lanes.top(lane) else {
+            return Err(unproved());
+        };
+        work_of(&view, alloc, call, object)
+    }
+
+    /// Whether a job is that of the body that acts in a lane, but for its cells. Frames have 16 registers and
+    /// 8 slots.
+    pub fn fits(&self, scenario: &Scenario, lane: u32, job: &Job) -> bool
+        ensures { ((c : ℕ) → HasShape (body_at self.now.parts.scene c)) → HasShape job.now.frame
+            → (IsTrue result ↔ FitsTop (seen_by scenario.now self.now.parts self.now.fallen self.now.clock)
+            (first (openers_at self.now.parts.lanes lane)) job.now) }
+    {
+        let view = self.view(scenario);
+        match view.lanes.top(lane) {
+            Some(Opener::Enters { call, object, .. }) => fits_work(&view, call, object, job),
+            _ => false,
+        }
+    }
+
+    // The cells of the object whose body is innermost in a lane.
+    fn kept(&self, lane: u32) -> Cells
+        ensures { result ≡ kept_top self.now.parts.scene (first (openers_at self.now.parts.lanes lane)) }
+    {
+        match self.parts.lanes().top(lane) {
+            Some(Opener::Enters { object, .. }) => self.parts.scene().cells(object),
+            _ => Cells::new(),
+        }
+    }
+
+    // The turn of a lane in which a body acts, by a step that was computed before. Where memory is wanting
+    // the step comes back.
+    #[tactic(auto, using(crate::proofs::Runs::room_for_sta))]
+    fn given_turn_of(
+        &self,
+        scenario: &Scenario,
+        alloc: Global,
+        lane: u32,
+        outcome: Outcome,
+    ) -> Result<Turn, Outcome>
+        requires few { Few self.now.parts }
+        requires whole { HasSlots outcome.frame }
+        requires step { (c o a : ℕ) → first (openers_at self.now.parts.lanes lane) ≡ Some (Enters c o a)
+            → outcome ≡ body_seen (seen_by scenario.now self.now.parts self.now.fallen self.now.clock) c o }
+        ensures whole { IfOk result (λ made. IsWhole made.outcome) }
+        ensures named { IsNamed self.now.parts.objects self.now.parts.calls }
+        ensures turn { IfOk result (λ made. IsTurn
+            (seen_by scenario.now self.now.parts self.now.fallen self.now.clock)
+            (books_held self.now.ledger) lane made) }
+        ensures step { IfOk result (λ made. made.outcome ≡ Some outcome) }
+        ensures back { IfErr result (λ step. step ≡ outcome) }
+    {
+        let view = self.view(scenario);
+        given_turn(&view, &self.ledger, alloc, lane, outcome)
+    }
+
+    // The entry of a lane in which a body acts, by a step that was computed before. Where memory is wanting
+    // the step comes back, unless the entry was half made.
+    fn take(
+        &mut self,
+        scenario: &Scenario,
+        alloc: Global,
+        lane: u32,
+        outcome: Outcome,
+    ) -> Result<Entry, Option<Outcome>>
+        requires sound { SoundUnless self.old.broken self.old.parts self.old.entered }
+        requires few { Few self.old.parts }
+        requires whole { self.old.broken ≡ false → HasSlots outcome.frame }
+        requires step { (c o a : ℕ) → first (openers_at self.old.parts.lanes lane) ≡ Some (Enters c o a)
+            → outcome ≡ body_seen (seen_by scenario.now self.old.parts self.old.fallen self.old.clock) c o }
+        ensures few { Few self.new.parts }
+        ensures sound { SoundUnless self.new.broken self.new.parts self.new.entered }
+        ensures lane { IfOk result (λ entry. entry.lane ≡ lane) }
+        ensures entries { OnOk result (self.new.parts.entries ≡ self.old.parts.entries + 1) }
+        ensures clock { IfOk result (λ entry. self.new.clock ≡ ticked entry.deed self.old.clock) }
+        ensures next { IfOk result (λ entry. TurnsTo scenario.now lane self.old self.new entry) }
+        ensures unbroken { OnOk result (self.new.broken ≡ false) }
+        ensures err { OnErr result (self.new.broken ≡ false → self.new ≡ self.old) }
+        ensures was { OnOk result (self.old.broken ≡ false) }
+        ensures back { IfErr result (λ step. self.new.broken ≡ false → step ≡ Some outcome) }
+    {
+        if self.broken {
+            return Err(Some(outcome));
+        }
+        let made = match self.given_turn_of(scenario, alloc, lane, outcome) {
+            Ok(made) => made,
+            Err(step) => return Err(Some(step)),
+        };
+        if !self.can_make(&made.doing.deed) {
+            return Err(made.outcome);
+        }
+        match self.make_turn(scenario, lane, made) {
+            Ok(entry) => Ok(entry),
+            Err(_) => Err(None),
+        }
+    }
+
+    /// Makes the next entry of a lane in which a body acts, by the outcome of a job that fits it. `Stale`
+    /// comes where the object's cells are others than the job's.
+    pub fn commit(
+        &mut self,
+        scenario: &Scenario,
+        alloc: Global,
+        lane: u32,
+        job: Job,
+        outcome: Outcome,
+    ) -> Result<Entry, CommitError>
+        requires sound { SoundUnless self.old.broken self.old.parts self.old.entered }
+        requires few { Few self.old.parts }
+        requires fits { Fits scenario.now (core_state (core_of scenario.now self.old)) lane job }
+        requires outcome { outcome ≡ job_step scenario.now.classes job }
+        ensures few { Few self.new.parts }
+        ensures sound { SoundUnless self.new.broken self.new.parts self.new.entered }
+        ensures lane { IfOk result (λ entry. entry.lane ≡ lane) }
+        ensures entries { OnOk result (self.new.parts.entries ≡ self.old.parts.entries + 1) }
+        ensures clock { IfOk result (λ entry. self.new.clock ≡ ticked entry.deed self.old.clock) }
+        ensures next { IfOk result (λ entry. TurnsTo scenario.now lane self.old self.new entry) }
+        ensures fresh { OnOk result
+            (job.cells ≡ kept_in (core_state (core_of scenario.now self.old)) lane) }
+        ensures refused { IfErr result (λ error.
+            IsRefused (kept_in (core_state (core_of scenario.now self.old)) lane) job
+            self.old.broken self.new.broken error) }
+        ensures back { IfErr result (λ error. IsGivenBack job outcome self.new.broken error) }
+        ensures unbroken { OnOk result (self.new.broken ≡ false) }
+        ensures err { OnErr result (self.new.broken ≡ false → self.new ≡ self.old) }
+        ensures was { OnOk result (self.old.broken ≡ false) }
+    {
+        let kept = self.kept(lane);
+        if !same_cells(&job.cells, &kept) {
+            return Err(CommitError::Stale { job, kept });
+        }
+        match self.take(scenario, alloc, lane, outcome) {
+            Ok(entry) => Ok(entry),
+            Err(outcome) => Err(CommitError::Memory { job, outcome }),
+        }
+    }
+
+    // The turn of a lane in which no body is innermost.
+    #[tactic(auto, using(crate::proofs::Runs::room_for_sta))]
+    fn own_turn_of(&self, scenario: &Scenario, alloc: Global, lane: u32) -> Result<Turn, Memory>
+        requires few { Few self.now.parts }
+        requires body { is_body (first (openers_at self.now.parts.lanes lane)) ≡ false }
+        ensures whole { IfOk result (λ made. IsWhole made.outcome) }
+        ensures named { IsNamed self.now.parts.objects self.now.parts.calls }
+        ensures turn { IfOk result (λ made. IsTurn
+            (seen_by scenario.now self.now.parts self.now.fallen self.now.clock)
+            (books_held self.now.ledger) lane made) }
+    {
+        let view = self.view(scenario);
+        match own_turn(&view, &self.ledger, alloc, lane)? {
+            Some(made) => Ok(made),
+            None => Err(unproved()),
+        }
+    }
+
+    /// Makes the next entry of a lane in which no body is innermost. The only error is want of memory.
+    pub fn advance(
+        &mut self,
+        scenario: &Scenario,
+        alloc: Global,
+        lane: u32,
+    ) -> Result<Entry, Memory>
+        requires sound { SoundUnless self.old.broken self.old.parts self.old.entered }
+        requires few { Few self.old.parts }
+        requires body { is_body (first (openers_at self.old.parts.lanes lane)) ≡ false }
+        ensures few { Few self.new.parts }
+        ensures sound { SoundUnless self.new.broken self.new.parts self.new.entered }
+        ensures lane { IfOk result (λ entry. entry.lane ≡ lane) }
+        ensures entries { OnOk result (self.new.parts.entries ≡ self.old.parts.entries + 1) }
+        ensures clock { IfOk result (λ entry. self.new.clock ≡ ticked entry.deed self.old.clock) }
+        ensures next { IfOk result (λ entry. TurnsTo scenario.now lane self.old self.new entry) }
+        ensures unbroken { OnOk result (self.new.broken ≡ false) }
+        ensures err { OnErr result (self.new.broken ≡ false → self.new ≡ self.old) }
+        ensures was { OnOk result (self.old.broken ≡ false) }
+    {
+        if self.broken {
+            return Err(Memory);
+        }
+        let made = self.own_turn_of(scenario, alloc, lane)?;
+        if !self.can_make(&made.doing.deed) {
+            return Err(unproved());
+        }
+        self.make_turn(scenario, lane, made)
+    }
+}

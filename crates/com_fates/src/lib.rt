@@ -1,0 +1,210 @@
+//! Which objects begin to die by an entry: those that nothing holds any more, and none of whose bodies runs.
+#![tactic(auto)]
+
+ghost use Rattle.std.specs.Prelude.{◌≡◌, ℕ, ◌+◌, ◌++◌, ◌∷◌, [], ◌<◌, ◌^◌, List, IfOk, OnOk, filter, is_some};
+ghost use Rattle.std.specs.Prelude.{slice_index_or};
+ghost use Rattle.com_fates.specs.Bodies.{entered_after, left_object, without_body};
+ghost use Rattle.com_fates.specs.Falling.{begins_by, other_object, placed_in};
+ghost use Rattle.com_fates.specs.Most.{Most};
+ghost use Rattle.com_model.specs.Lists.{is_member};
+ghost use Rattle.com_model.specs.Objects.{finals, makes};
+ghost use Rattle.com_refs.specs.Counts.{holders_of};
+ghost use Rattle.com_scene.specs.Actors.{acting_of};
+
+pub use com_base::Memory;
+use com_ledger::Ledger;
+use com_model::Deed;
+use com_objects::{Entered, Fallen, Objects};
+use com_scene::Actor;
+
+/// What says whether an object is dying: the objects, who holds references, how many bodies of each object
+/// run, and the objects that were dying before.
+#[derive(Clone, Copy)]
+pub struct Fates<'a> {
+    pub objects: &'a Objects,
+    pub ledger: &'a Ledger,
+    pub entered: &'a Entered,
+    pub fallen: &'a Fallen,
+}
+
+// The object whose body an entry ends.
+fn left_by(deed: &Deed, acting: Actor) -> Option<u32>
+    ensures { result ≡ left_object deed.now (acting_of acting) }
+{
+    match deed {
+        Deed::Leave { .. } => match acting {
+            Actor::Body { object, .. } => Some(object),
+            _ => None,
+        },
+        _ => None,
+    }
+}
+
+// Whether an entry makes an object.
+fn is_making(deed: &Deed) -> bool
+    ensures { result ≡ is_some (makes deed.now) }
+{
+    match deed {
+        Deed::Made {
+            object: Some(_),
+            apartment: Some(_),
+            ..
+        } => true,
+        _ => false,
+    }
+}
+
+/// The object that may be without holder and body though it lost no holder: the last one, where the entry
+/// made it, or the one whose body the entry ends.
+pub fn other_by(deed: &Deed, acting: Actor, objects: u32) -> Option<u32>
+    ensures { result ≡ other_object objects deed.now (acting_of acting) }
+{
+    if is_making(deed) {
+        return Some(objects);
+    }
+    left_by(deed, acting)
+}
+
+/// The object that an entry releases.
+pub fn released_by(deed: &Deed) -> Option<u32>
+    ensures { result ≡ finals deed.now }
+{
+    match deed {
+        Deed::Final { object } => Some(*object),
+        _ => None,
+    }
+}
+
+// Counts a body that ends, where one does.
+#[tactic(auto, using(crate::proofs::Runs::left_most, crate::proofs::Runs::kept_most))]
+fn count_left(entered: &mut Entered, left: Option<u32>)
+    ensures counts { entered.new ≡ without_body left entered.old }
+    ensures most { (n : ℕ) → Most n entered.old → Most (n + 1) entered.new }
+{
+    if let Some(object) = left {
+        entered.leave(object);
+    }
+}
+
+/// Counts the bodies that an entry begins and ends. The only error is want of memory.
+#[tactic(auto, using(crate::proofs::Runs::entered_most, crate::proofs::Runs::made_most))]
+pub fn count_bodies(entered: &mut Entered, deed: &Deed, acting: Actor) -> Result<(), Memory>
+    requires { (o : ℕ) → slice_index_or entered.old o 0 + 1 < 2 ^ 32 }
+    ensures counts { OnOk result (entered.new ≡ entered_after deed.now (acting_of acting) entered.old) }
+    ensures most { OnOk result ((n : ℕ) → Most n entered.old → Most (n + 1) entered.new) }
+{
+    match deed {
+        Deed::Made {
+            object: Some(_),
+            apartment: Some(_),
+            ..
+        } => entered.make(),
+        Deed::Enter { object, .. } => {
+            entered.enter(*object);
+            Ok(())
+        }
+        _ => {
+            count_left(entered, left_by(deed, acting));
+            Ok(())
+        }
+    }
+}
+
+// Whether an object is among those that are given.
+fn is_among(objects: &[u32], object: u32) -> bool
+    ensures { result ≡ is_member object objects.now }
+{
+    for other in objects {
+        if *other == object {
+            return true;
+        }
+    }
+    false
+}
+
+impl<'a> Fates<'a> {
+    // Whether an object is dying and was not before: it was made and is not released, nothing holds it, and
+    // none of its bodies runs.
+    #[tactic(auto, using(crate::proofs::Begins::not_zero, crate::proofs::Begins::not_above, crate::proofs::Begins::not_held, crate::proofs::Begins::not_running, crate::proofs::Begins::not_released, crate::proofs::Begins::else_begins))]
+    fn begins_to_die(&self, object: u32) -> bool
+        ensures { result ≡ begins_by self.now.objects.now
+            (holders_of self.now.ledger.now.tables) self.now.entered.now self.now.fallen.now object }
+    {
+        if object == 0 {
+            return false;
+        }
+        if object > self.objects.len() {
+            return false;
+        }
+        if self.ledger.is_held(object) {
+            return false;
+        }
+        if self.entered.runs(object) {
+            return false;
+        }
+        if self.objects.is_released(object) {
+            return false;
+        }
+        !is_among(self.fallen.as_slice(), object)
+    }
+
+    // Keeps an object where it begins to die.
+    fn keep(&self, fresh: &mut Vec<u32>, object: u32) -> Result<(), Memory>
+        ensures { OnOk result (fresh.new.items ≡ fresh.old.items ++ filter (begins_by self.now.objects.now
+            (holders_of self.now.ledger.now.tables) self.now.entered.now self.now.fallen.now) (object ∷ [])) }
+    {
+        if self.begins_to_die(object) {
+            fresh.push(object)?;
+        }
+        Ok(())
+    }
+
+    // Keeps the same of two lists: the one object beside, where its number is the next, and the next that
+    // lost a holder. Answers the one beside where its turn is yet to come.
+    fn keep_next(
+        &self,
+        fresh: &mut Vec<u32>,
+        other: Option<u32>,
+        object: u32,
+    ) -> Result<Option<u32>, Memory>
+        ensures { IfOk result (λ left. (rest : List ℕ)
+            → fresh.new.items ++ filter (begins_by self.now.objects.now
+            (holders_of self.now.ledger.now.tables) self.now.entered.now self.now.fallen.now) (placed_in left rest)
+            ≡ fresh.old.items ++ filter (begins_by self.now.objects.now
+            (holders_of self.now.ledger.now.tables)
+            self.now.entered.now self.now.fallen.now) (placed_in other (object ∷ rest))) }
+    {
+        let Some(number) = other else {
+            self.keep(fresh, object)?;
+            return Ok(None);
+        };
+        if number < object {
+            self.keep(fresh, number)?;
+            self.keep(fresh, object)?;
+            return Ok(None);
+        }
+        self.keep(fresh, object)?;
+        if number == object {
+            return Ok(None);
+        }
+        Ok(other)
+    }
+
+    /// Keeps the objects that begin to die, by number: of those that lost a holder, and of one beside. The
+    /// only error is want of memory.
+    pub fn find_dying(&self, fresh: &mut Vec<u32>, other: Option<u32>) -> Result<(), Memory>
+        ensures { OnOk result (fresh.new.items
+            ≡ filter (begins_by self.now.objects.now (holders_of self.now.ledger.now.tables)
+            self.now.entered.now self.now.fallen.now) (placed_in other self.now.ledger.now.touched)) }
+    {
+        fresh.clear();
+        let mut left = other;
+        for object in self.ledger.touched() {
+            left = self.keep_next(fresh, left, *object)?;
+        }
+        match left {
+            Some(object) => self.keep(fresh, object),
+            None => Ok(()),
+        }
+    }
+}
