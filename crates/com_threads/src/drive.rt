@@ -1,5 +1,6 @@
 //! What is left when the workers have ended: the calling thread makes the rest of the entries.
-ghost use Rattle.std.specs.Prelude.{◌≡◌, ◌+◌, ◌≤◌, ◌<◌, [], Some, All, IfOk, IfSome, OnOk, length, map, vec_len};
+ghost use Rattle.std.specs.Prelude.{◌≡◌, ◌+◌, ◌≤◌, ◌<◌, [], Some, All, IfOk, IfSome, OnOk, length, map};
+ghost use Rattle.std.specs.Prelude.{vec_len};
 ghost use Rattle.com_drive.specs.Standings.{ended_now, standing_of, CanGo, Reached};
 ghost use Rattle.com_drive.specs.declared.runtime.Standing.TheVariants as standing;
 ghost use Rattle.com_model.specs.Ends.{limit};

@@ -74,8 +74,8 @@ fn rouse<C: Jobs + Drop, J: Plays>(book: &Book<C, J>, bells: &Bells, lane: u32) 
     }
 }
 
-// Rings for all workers that sleep and whose lanes can step. Answers for how long the worker of the lane `own`
-// may sleep: not at all where nobody is at work on a lane that can step.
+// Rings for all workers that sleep and whose lanes can step. Answers for how long the worker of the lane
+// `own` may sleep: not at all where nobody is at work on a lane that can step.
 fn rouse_all<C: Jobs + Drop, J: Plays>(book: &Book<C, J>, bells: &Bells, own: u32) -> u64 {
     let mut sleep = 0;
     for lane in 1..=book.lanes() {
@@ -102,8 +102,8 @@ fn ring_all<C: Jobs + Drop, J: Plays>(book: &Book<C, J>, bells: &Bells) {
     }
 }
 
-// Rings for those who have something to do after a turn. While a lane can step it looks at one other lane each
-// time, since the others lose nothing: there is one core. Answers for how long the lane's worker may sleep.
+// Rings for those who have something to do after a turn. While a lane can step it looks at one other lane
+// each time, since the others lose nothing: there is one core. Answers for how long the lane's worker may sleep.
 fn look_round<C: Jobs + Drop, J: Plays>(
     book: &Book<C, J>,
     bells: &Bells,
@@ -177,8 +177,8 @@ fn pause<R: Wait>(rt: &R, bells: &Bells, lane: u32, sleep: u64) {
 }
 
 impl<C: Jobs + Drop, J: Plays> Shift<C, J> {
-    // One turn: what the worker brings is committed and its lane's own entry is made, under the lock. The step
-    // of a body is then computed outside of it, and the gate is called. Answers whether the worker goes on.
+    // One turn: what the worker brings is committed and its lane's own entry is made, under the lock. The
+    // step of a body is then computed outside of it, and the gate is called. Answers whether the worker goes on.
     fn turn<R: Wait, G: Gate>(
         self,
         rt: &R,
