@@ -1,0 +1,4 @@
+pub mod Counting
+pub mod Added
+pub mod Dealt
+pub mod Driven

@@ -1,0 +1,15 @@
+use Rattle.std.proofs.Common.{◌≡◌, ◌≤◌}
+use Rattle.com_drive.proofs.Driving.{mapped}
+use Rattle.com_model.specs.Tables.{lanes}
+use Rattle.com_servant.specs.Rows.{row}
+use Rattle.com_threads.specs.Turns.{IsComputed}
+use Rattle.com_turnstile.specs.Passes.{IsPassOf, lane_of}
+use Rattle.com_threads.proofs.worker.work.Given as goal
+
+abbrev pub invariant-loop : goal.invariant-loop
+invariant-loop g l = record {
+  pass : IsPassOf l.lock l.shift.pass × (lane_of l.shift.pass ≡ l.shift.lane);
+  lane : (1 ≤ l.shift.lane) × (l.shift.lane ≤ lanes l.scenario);
+  brought : IsComputed l.scenario l.shift.brought;
+  servants : mapped l.shift.servants.items (λ b. (goal.Servant-dyn g (b.vtable, b.value)).kind_of b.value) ≡ row;
+}

@@ -1,0 +1,5 @@
+pub mod Commits
+pub mod Histories
+pub mod Turns
+pub mod Drives
+pub mod Runs

@@ -1,0 +1,142 @@
+//! The book behind the turnstile. Its type names the scenario, so that what is taken out at the end is known
+//! to belong to it.
+ghost use Rattle.std.specs.Prelude.{◌≡◌, ◌≤◌, IfOk};
+ghost use Rattle.com_model.specs.Tables.{lanes};
+ghost use Rattle.com_threads.specs.Histories.{Adds, UpToDate};
+ghost use Rattle.com_threads.specs.Turns.{IsComputed, IsTaken};
+
+use crate::desk::{Brought, Desk, Turn};
+use com_base::Memory;
+use com_jobs::Jobs;
+use com_model::{Entry, Scenario};
+use com_turnstile::Grows;
+use std::alloc::Global;
+use std::marker::{Brand, Model, PhantomData};
+
+/// Names the scenario of a run.
+pub trait Plays {
+    ghost use Rattle.com_model.specs.declared.scenario.Scenario.{Scenario as AnyScenario};
+
+    // The scenario.
+    ghost scenario: { AnyScenario };
+}
+
+impl Plays for Brand {
+    ghost use Rattle.com_model.specs.Cases.{direct_call};
+
+    // Each call names its own scenario in place of this one.
+    ghost scenario = { direct_call };
+}
+
+// A runtime and its history. Once memory was wanting, no entry is made any more.
+#[derive(Drop)]
+pub(crate) struct Book<C: Jobs + Drop, J: Plays> {
+    desk: Desk<C>,
+    failed: bool,
+    of: PhantomData<J>,
+}
+
+impl<C: Jobs + Drop, J: Plays> Model for Book<C, J> {
+    ghost use Rattle.std.specs.Prelude.{◌≡◌, List, false};
+    ghost use Rattle.com_model.specs.declared.deeds.Entry.{Entry as AnyEntry};
+    ghost use Rattle.com_threads.specs.Histories.{UpToDate};
+
+    ghost Value = { List AnyEntry };
+
+    ghost view = { λ b. b.desk.pages.entries };
+
+    ghost invariant = { λ b. b.failed ≡ false → UpToDate J.scenario (C.scenario b.desk.core)
+        (C.state b.desk.core) (C.broken b.desk.core) b.desk.pages };
+}
+
+impl<C: Jobs + Drop, J: Plays> Book<C, J> {
+    // A book round a runtime that has made no entry.
+    pub(crate) fn new(desk: Desk<C>) -> Book<C, J>
+        requires { UpToDate J.scenario (C.scenario desk.core) (C.state desk.core) (C.broken desk.core)
+            desk.pages }
+        ensures { result ≡ desk.pages.entries }
+    {
+        Book {
+            desk,
+            failed: false,
+            of: PhantomData,
+        }
+    }
+
+    #[tactic(auto, using(crate::proofs::Added::at_named, crate::proofs::Added::named_at, crate::proofs::Added::adds_none))]
+    // One turn of a lane's worker. Once memory was wanting, each lane is over.
+    pub(crate) fn turn(
+        &mut self,
+        alloc: Global,
+        scenario: &Scenario,
+        lane: u32,
+        brought: Brought,
+    ) -> Turn
+        requires scenario { scenario.now ≡ J.scenario }
+        requires lane { (1 ≤ lane) × (lane ≤ lanes scenario.now) }
+        requires brought { IsComputed scenario.now brought }
+        ensures adds { Adds lane self.old self.new }
+        ensures turn { IsTaken scenario.now result }
+    {
+        if self.failed {
+            return Turn::Over;
+        }
+        match self.desk.turn(alloc, scenario, lane, brought) {
+            Ok(turn) => turn,
+            Err(_) => {
+                self.failed = true;
+                Turn::Over
+            }
+        }
+    }
+
+    #[tactic(auto, using(crate::proofs::Added::reached_at))]
+    // Whether the worker of a lane has something to do.
+    pub(crate) fn calls(&self, lane: u32) -> bool {
+        if self.failed {
+            return true;
+        }
+        if lane < 1 || lane > self.desk.core.lanes() {
+            return false;
+        }
+        self.desk.core.can_step(lane)
+    }
+
+    // How many lanes there are.
+    pub(crate) fn lanes(&self) -> u32 {
+        self.desk.core.lanes()
+    }
+
+    // A lane, another one after each entry.
+    pub(crate) fn other_lane(&self) -> u32 {
+        (self.desk.pages.len() % (self.desk.core.lanes() as u64 + 1)) as u32
+    }
+
+    // What lies in the book, unless memory was wanting.
+    pub(crate) fn into_desk(self) -> Result<Desk<C>, Memory>
+        ensures { IfOk result (λ desk. UpToDate J.scenario (C.scenario desk.core) (C.state desk.core)
+            (C.broken desk.core) desk.pages) }
+    {
+        let Book {
+            desk,
+            failed,
+            of: _,
+        } = self;
+        if failed {
+            return Err(Memory);
+        }
+        Ok(desk)
+    }
+}
+
+impl<C: Jobs + Drop, J: Plays> Grows for Book<C, J> {
+    type Entry = Entry;
+
+    ghost list = { λ b. b };
+
+    ghost lane = { λ e. e.lane };
+
+    fn length(&self) -> u64 {
+        self.desk.pages.len()
+    }
+}
