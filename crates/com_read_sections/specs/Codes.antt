@@ -6,7 +6,7 @@ use Rattle.com_body.specs.declared.body.BodyFault.TheVariants as faults
 use Rattle.com_body.specs.Bodies.{fault_of}
 use Rattle.com_read_operands.specs.declared.faults.Fault.{Fault}
 
--- the statements, and for each the fault that it is where its skip passes the end
+-- the statements, and for each its fault if it skips beyond the end
 pub record CodeAt : Type 0 where
   pub statements : List Stmt
   pub spots : List Fault

@@ -22,12 +22,19 @@ use std::mem;
 /// The word that begins a line outside of sections.
 #[derive(Clone, Copy, Debug, PartialEq, Eq)]
 pub enum SectionWord {
+    /// `pool`: how many lanes the multithreaded apartment has.
     Pool,
+    /// `interface`, with its methods up to the next section.
     Interface,
+    /// `class`, with its bodies.
     Class,
+    /// `native`: a class whose bodies are built in.
     Native,
+    /// `filter`, with its rules.
     Filter,
+    /// `thread`, with the statements of its script.
     Thread,
+    /// `picks`: the lanes of the schedule.
     Picks,
 }
 
@@ -57,7 +64,9 @@ fn section_word_of(bytes: &[u8]) -> Option<SectionWord>
 const INTERFACE_LIMIT: usize = 64;
 /// The classes and natives are at most this many.
 const CLASS_LIMIT: usize = 64;
-/// The filters are at most this many, and so are the threads.
+/// The filters are at most this many.
+const FILTER_LIMIT: usize = 16;
+/// The threads are at most this many.
 const THREAD_LIMIT: usize = 16;
 
 #[tactic(auto, unfolding(crate::specs::Beginning::pool_line))]
@@ -172,7 +181,7 @@ fn filter_line(
 ) -> Result<(), ScenarioError>
     ensures { Gives (λ u. st.new) result (filter_line st.old word.now line.now) }
 {
-    if st.names.filters.len() >= THREAD_LIMIT {
+    if st.names.filters.len() >= FILTER_LIMIT {
         return Err(fault(Fault::LIMIT, word));
     }
     let name = filter_name(st.names.filters.as_slice(), line)?;

@@ -16,6 +16,7 @@ mod tables;
 pub use begin::SectionWord;
 pub use com_base::Memory;
 pub use methods::{Signature, TypeWord};
-pub use outline::{Outline, outline_of};
+pub use open::step;
+pub use outline::{Outline, begun, finish, outline_of};
 pub use rules::RuleWord;
 pub use state::{Code, Section, State};

@@ -22,8 +22,10 @@ use com_text::Word;
 use std::alloc::{AllocError, Global};
 use std::mem;
 
-/// An interface has at most this many methods, and a filter this many rules.
+/// An interface has at most this many methods.
 const METHOD_LIMIT: usize = 32;
+/// A filter has at most this many rules.
+const RULE_LIMIT: usize = 32;
 /// A body has at most this many statements.
 const BODY_LIMIT: u32 = 200;
 /// A script has at most this many statements.
@@ -204,7 +206,7 @@ fn inner_filter(alloc: Global, st: &mut State, line: &[Word]) -> Result<(), Scen
     match rule_word_of(word.bytes) {
         None => Err(fault(Fault::UNEXPECTED, word)),
         Some(keyword) => {
-            if st.rules.len() >= METHOD_LIMIT {
+            if st.rules.len() >= RULE_LIMIT {
                 return Err(fault(Fault::LIMIT, word));
             }
             let rule = rule(keyword, line)?;
@@ -214,9 +216,10 @@ fn inner_filter(alloc: Global, st: &mut State, line: &[Word]) -> Result<(), Scen
     }
 }
 
-/// What a line makes of what was read so far. A line without words is passed over.
+/// What a line makes of what was read so far, or the first fault of its words. A line without words is passed over.
+/// After an error what was read is not to be used.
 #[tactic(auto, unfolding(crate::specs::Opened::step))]
-pub(crate) fn step(alloc: Global, st: &mut State, line: &[Word]) -> Result<(), ScenarioError>
+pub fn step(alloc: Global, st: &mut State, line: &[Word]) -> Result<(), ScenarioError>
     ensures { Gives (λ u. st.new) result (step st.old line.now) }
 {
     if line.is_empty() {

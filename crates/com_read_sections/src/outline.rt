@@ -40,9 +40,15 @@ pub struct Outline {
     pub picks: Rows<u32>,
 }
 
-/// The text's end, in a line with a number.
+/// What was read at the text's end, which stands in a line at a column. Above a header it is fault 1 at the text's
+/// first place, and inside of a section other than an interface fault 11 at the end.
 #[tactic(auto, unfolding(crate::specs::Outlines::finish))]
-fn finish(alloc: Global, mut st: State, line: u32, column: u32) -> Result<Outline, ScenarioError>
+pub fn finish(
+    alloc: Global,
+    mut st: State,
+    line: u32,
+    column: u32,
+) -> Result<Outline, ScenarioError>
     ensures { Gives (λ o. o) result (finish st line column) }
 {
     match st.section {
@@ -133,8 +139,8 @@ fn taken_iids(alloc: Global, tables: &[Interface]) -> Result<Rows<Guid>, AllocEr
     Ok(Rows::from_vec(iids))
 }
 
-/// What was read above the first line.
-fn begun(alloc: Global, built_in: Rows<Interface>) -> Result<State, AllocError>
+/// What was read above the first line: the interfaces that are declared from the start.
+pub fn begun(alloc: Global, built_in: Rows<Interface>) -> Result<State, AllocError>
     ensures { IfOk result (λ st. st ≡ begun built_in) }
 {
     let interfaces = names_of(alloc, built_in.as_slice())?;

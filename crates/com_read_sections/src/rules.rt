@@ -12,8 +12,11 @@ use com_text::Word;
 /// The word that begins a rule.
 #[derive(Clone, Copy, Debug, PartialEq, Eq)]
 pub enum RuleWord {
+    /// `incoming`: what is answered to a call that comes in.
     Incoming,
+    /// `retry`: what is done with a call that was refused.
     Retry,
+    /// `pending`: what is done with a message that comes while a call waits.
     Pending,
 }
 

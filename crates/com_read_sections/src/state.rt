@@ -34,9 +34,9 @@ pub enum Section {
     Thread,
 }
 
-/// The statements of a body or a script so far, and for each the fault that it is where its skip
-/// passes the end. Contracts see the record of these two lists. Each statement's numbers of
-/// registers, slots, cells, links and buffers are in their ranges.
+/// The statements of a body or a script so far, and for each its fault if it skips beyond the end.
+/// Contracts see the record of these two lists. Each statement's numbers of registers, slots, cells,
+/// links and buffers are in their ranges.
 #[derive(Drop)]
 pub struct Code {
     statements: Vec<Stmt>,
@@ -73,7 +73,7 @@ impl Code {
         self.statements.len()
     }
 
-    /// Appends a statement, and the fault that it is where its skip passes the end.
+    /// Appends a statement, and its fault if it skips beyond the end. The only error is want of memory.
     pub fn push(&mut self, statement: Stmt, spot: Fault) -> Result<(), AllocError>
         requires { IsInRange statement }
         ensures { OnOk result (self.new ≡ code_more self.old statement spot) }

@@ -65,7 +65,7 @@ top_formed st h =
       picks = c.lanes_first;
     }
 
-IsOutline : Outline → Type 0
+unfoldable pub IsOutline : Outline → Type 0
 IsOutline o = Formed (scenario_of o)
 
 finished_formed : (st : State) (line column : ℕ) (sec : Section) → StandsAt st sec → Holds IsOutline (finished st line column sec)
@@ -78,7 +78,7 @@ finished_formed st line column sections.Body h = fails _
 finished_formed st line column sections.Filter h = fails _
 finished_formed st line column sections.Thread h = fails _
 
-finish_formed : (st : State) (line column : ℕ) → Stands st → Holds IsOutline (finish st line column)
+pub finish_formed : (st : State) (line column : ℕ) → Stands st → Holds IsOutline (finish st line column)
 unfolding finish
 finish_formed st line column h = finished_formed st line column st.section h
 
@@ -142,7 +142,7 @@ built_in_formed = record {
   );
 }
 
-begun_stands : AtHeader (begun built_in_interfaces)
+pub begun_stands : AtHeader (begun built_in_interfaces)
 begun_stands = record {
   closed = record {
     lanes = tt;

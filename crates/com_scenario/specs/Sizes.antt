@@ -1,11 +1,12 @@
 -- How long a text may be.
-use Rattle.std.specs.Prelude.{ℕ, List, [], ◌∷◌, Bool, true, false, Option, Some, None, ◌&&◌, not, nat_lt}
+use Rattle.std.specs.Prelude.{ℕ, List, [], ◌∷◌, Bool, true, false, Option, Some, None, nat_lt}
 use Rattle.std.specs.Prelude.{if◌then◌else◌, length, codes}
 use Rattle.std.specs.Str.{bytes_eq}
 use Rattle.com_text.specs.declared.word.Sort.{Sort}
 use Rattle.com_text.specs.declared.word.Sort.TheVariants as sorts
 use Rattle.com_text.specs.Words.{WordAt, LineAt}
 use Rattle.com_text.specs.Scanning.{lines_of}
+use Rattle.com_scenario.specs.declared.sizes.SecondVersion.{SecondVersion}
 
 -- A comment is no word, and it ends its line.
 abbrev pub is_remark : Sort → Bool
@@ -16,24 +17,37 @@ abbrev pub is_over : List WordAt → Bool
 is_over [] = true
 is_over (w ∷ ws) = is_remark w.sort
 
-abbrev pub is_last : List ℕ → List WordAt → Bool
-is_last word [] = false
-is_last word (w ∷ ws) = not (is_remark w.sort) && bytes_eq w.bytes word && is_over ws
+-- Where the first word is `2`, and whether it is the last one.
+abbrev pub second_word : List WordAt → Option SecondVersion
+second_word [] = None
+second_word (w ∷ ws) =
+    if is_remark w.sort then None
+    else if bytes_eq w.bytes (codes "2") then Some (record { line = w.line; column = w.column; ends = is_over ws })
+    else None
 
--- Whether a line's words are `scenario` and `2`, as they stand; nothing for a line without words.
-abbrev pub says_version_2 : List WordAt → Option Bool
+-- Where a line's first words are `scenario` and `2`, as they stand; nothing for a line without words.
+abbrev pub says_version_2 : List WordAt → Option (Option SecondVersion)
 says_version_2 [] = None
 says_version_2 (w ∷ ws) =
-    if is_remark w.sort then None else Some (bytes_eq w.bytes (codes "scenario") && is_last (codes "2") ws)
+    if is_remark w.sort then None
+    else Some (if bytes_eq w.bytes (codes "scenario") then second_word ws else None)
 
-abbrev pub or_later : Option Bool → Bool → Bool
+abbrev pub or_later : Option (Option SecondVersion) → Option SecondVersion → Option SecondVersion
 or_later None later = later
 or_later (Some answer) later = answer
 
--- Whether the first line with words says so.
+-- Where the first line with words begins so.
+abbrev pub second_version : List LineAt → Option SecondVersion
+second_version [] = None
+second_version (l ∷ ls) = or_later (says_version_2 l.words) (second_version ls)
+
+abbrev pub ends_so : Option SecondVersion → Bool
+ends_so None = false
+ends_so (Some header) = header.ends
+
+-- Whether the words of the first line with words are these two.
 abbrev pub begins_version_2 : List LineAt → Bool
-begins_version_2 [] = false
-begins_version_2 (l ∷ ls) = or_later (says_version_2 l.words) (begins_version_2 ls)
+begins_version_2 ls = ends_so (second_version ls)
 
 -- The longest text of version 2, and of every other, in bytes.
 abbrev pub longest_of : Bool → ℕ

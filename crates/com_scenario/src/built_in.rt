@@ -91,7 +91,7 @@ fn ilatch(alloc: Global) -> Result<Interface, Memory>
 }
 
 /// IUnknown, ICounter, IRelay and ILatch.
-pub(crate) fn built_in(alloc: Global) -> Result<Rows<Interface>, Memory>
+pub fn built_in_interfaces(alloc: Global) -> Result<Rows<Interface>, Memory>
     ensures { IfOk result (λ r. r ≡ built_in_interfaces) }
 {
     let unknown = iunknown(alloc)?;

@@ -5,7 +5,7 @@ ghost use Rattle.com_read_operands.specs.Reading.{Gives};
 ghost use Rattle.com_model.specs.Formed.{Formed};
 ghost use Rattle.com_scenario.specs.Scenarios.{tables_of, scenario_of, reading};
 
-use crate::built_in::built_in;
+use crate::built_in::built_in_interfaces;
 use com_base::{Memory, Rows};
 use com_classes::{Class, Classes, Interface};
 use com_model::Scenario;
@@ -59,8 +59,8 @@ fn tables(alloc: Global, interfaces: Rows<Interface>, list: Rows<Class>) -> Resu
     Ok(classes)
 }
 
-/// The scenario of an outline.
-fn scenario(alloc: Global, outline: Outline) -> Result<Scenario, Memory>
+/// The scenario of an outline. The only error is want of memory.
+pub fn scenario(alloc: Global, outline: Outline) -> Result<Scenario, Memory>
     ensures { IfOk result (λ s. s ≡ scenario_of outline) }
 {
     Ok(Scenario {
@@ -82,6 +82,6 @@ pub fn parse(alloc: Global, text: &[u8]) -> Result<Scenario, ScenarioError>
     ensures value { Gives (λ s. s) result (reading text.now) }
     ensures formed { IfOk result (λ s. Formed s) }
 {
-    let outline = outline_of(alloc, built_in(alloc)?, text)?;
+    let outline = outline_of(alloc, built_in_interfaces(alloc)?, text)?;
     Ok(scenario(alloc, outline)?)
 }

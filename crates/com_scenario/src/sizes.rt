@@ -2,7 +2,8 @@
 
 ghost use Rattle.std.specs.Prelude.{◌≡◌, ◌<◌, ◌-◌, ◌^◌, IfOk, length};
 ghost use Rattle.com_text.specs.Scanning.{lines_of};
-ghost use Rattle.com_scenario.specs.Sizes.{is_remark, is_over, is_last, says_version_2, begins_version_2};
+ghost use Rattle.com_scenario.specs.Sizes.{is_remark, is_over, says_version_2, begins_version_2};
+ghost use Rattle.com_scenario.specs.Sizes.{second_version, second_word};
 ghost use Rattle.com_scenario.specs.Sizes.{is_too_long};
 
 use com_base::Memory;
@@ -30,11 +31,34 @@ pub fn is_too_long(alloc: Global, text: &[u8]) -> Result<bool, Memory>
     Ok(!begins_version_2(alloc, text)?)
 }
 
+/// The header of version 2, where a text's first line with words begins so.
+#[derive(Debug, Clone, Copy, PartialEq, Eq)]
+pub struct SecondVersion {
+    /// The line of the word `2`.
+    pub line: u32,
+    /// The column of its byte.
+    pub column: u32,
+    /// Whether it is the last word of its line. A comment is none.
+    pub ends: bool,
+}
+
 /// Whether the first line with words is `scenario 2`.
-#[tactic(auto, unfolding(com_text::specs::Scanning::lines_of))]
 fn begins_version_2(alloc: Global, text: &[u8]) -> Result<bool, Memory>
     requires { length text.now < 2 ^ 32 - 2 }
     ensures { IfOk result (λ answer. answer ≡ begins_version_2 (lines_of text.now)) }
+{
+    match second_version(alloc, text)? {
+        Some(header) => Ok(header.ends),
+        None => Ok(false),
+    }
+}
+
+/// Where the first line with words begins with `scenario` and `2`, as they stand; nothing where it begins
+/// otherwise, or where no line has a word. The only error is want of memory.
+#[tactic(auto, unfolding(com_text::specs::Scanning::lines_of))]
+pub fn second_version(alloc: Global, text: &[u8]) -> Result<Option<SecondVersion>, Memory>
+    requires { length text.now < 2 ^ 32 - 2 }
+    ensures { IfOk result (λ header. header ≡ second_version (lines_of text.now)) }
 {
     let mut words = Vec::new(alloc);
     let mut line = 1;
@@ -45,36 +69,47 @@ fn begins_version_2(alloc: Global, text: &[u8]) -> Result<bool, Memory>
             return Ok(answer);
         }
         if end.last {
-            return Ok(false);
+            return Ok(None);
         }
         line += 1;
         at = end.at + 1;
     }
 }
 
-/// Whether a line's words are `scenario` and `2`. None for a line without words.
-fn says_version_2(line: &[Word]) -> Option<bool>
+/// Where a line's first words are `scenario` and `2`. None for a line without words.
+fn says_version_2(line: &[Word]) -> Option<Option<SecondVersion>>
     ensures { result ≡ says_version_2 line.now }
 {
     match line {
         [] => None,
         [word, rest @ ..] => {
             if is_remark(word.sort) {
-                None
-            } else {
-                Some(word.bytes == b"scenario".as_slice() && is_last(b"2", rest))
+                return None;
             }
+            if word.bytes != b"scenario".as_slice() {
+                return Some(None);
+            }
+            Some(second_word(rest))
         }
     }
 }
 
-/// Whether a word stands first and alone.
-fn is_last(word: &[u8], line: &[Word]) -> bool
-    ensures { result ≡ is_last word.now line.now }
+/// Where the first word is `2`.
+fn second_word(line: &[Word]) -> Option<SecondVersion>
+    ensures { result ≡ second_word line.now }
 {
     match line {
-        [] => false,
-        [first, rest @ ..] => !is_remark(first.sort) && first.bytes == word && is_over(rest),
+        [] => None,
+        [word, rest @ ..] => {
+            if is_remark(word.sort) || word.bytes != b"2".as_slice() {
+                return None;
+            }
+            Some(SecondVersion {
+                line: word.line,
+                column: word.column,
+                ends: is_over(rest),
+            })
+        }
     }
 }
 

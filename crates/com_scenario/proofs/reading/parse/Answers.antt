@@ -2,4 +2,4 @@ use Rattle.com_scenario.proofs.Forms.{outline_formed}
 use Rattle.com_scenario.proofs.reading.parse.Goals as goal
 
 pub returns-clause-formed : goal.returns-clause-formed
-returns-clause-formed c = outline_formed c.args.text.now _ _ _ c.in_ok-built_in.ensures c.in_ok-outline.ensures c.in_ok-scenario.ensures
+returns-clause-formed c = outline_formed c.args.text.now _ _ _ c.in_ok-built_in_interfaces.ensures c.in_ok-outline.ensures c.in_ok-scenario.ensures

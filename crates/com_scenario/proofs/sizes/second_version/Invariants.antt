@@ -1,14 +1,14 @@
 use Rattle.std.proofs.Common.{◌≡◌, ◌≤◌, ◌<◌, ◌^◌, ◌+◌, ◌-◌, [], length, drop}
 use Rattle.com_text.specs.Scanning.{lines_from, at_line, lines_of}
-use Rattle.com_scenario.specs.Sizes.{begins_version_2}
-use Rattle.com_scenario.proofs.sizes.begins_version_2.Given as goal
+use Rattle.com_scenario.specs.Sizes.{second_version}
+use Rattle.com_scenario.proofs.sizes.second_version.Given as goal
 
 abbrev pub invariant-lines : goal.invariant-lines
 invariant-lines l = record {
   size : length l.text < 2 ^ 32 - 2;
   at : l.at ≤ length l.text;
   line : l.line ≤ l.at + 1;
-  lines : begins_version_2 (lines_from (at_line l.line l.at) [] (drop l.at l.text)) ≡ begins_version_2 (lines_of l.text);
+  lines : second_version (lines_from (at_line l.line l.at) [] (drop l.at l.text)) ≡ second_version (lines_of l.text);
 }
 
 abbrev pub decreases-lines : goal.decreases-lines
