@@ -19,7 +19,9 @@ use std::alloc::{AllocError, Global};
 /// How many lanes a scenario has, and the least lane of its pool.
 #[derive(Debug, Clone, Copy)]
 pub struct LaneNumbers {
+    /// How many lanes there are.
     pub lanes: u32,
+    /// The least lane of the pool.
     pub pool: u32,
 }
 
@@ -73,7 +75,9 @@ pub fn explain_by(
 
 /// Why a history that has ended so is stuck, by its entries in the order of their making; nothing where it is
 /// not stuck. The only error is want of memory.
-pub fn explain(
+///
+/// It is for callers that made the history and know its end. `com_explain::explain` finds the end by itself.
+pub fn waits_at(
     alloc: Global,
     scenario: &Scenario,
     history: &[Entry],
@@ -87,9 +91,10 @@ pub fn explain(
     explain_by(alloc, numbers, history, ended)
 }
 
-// Why the lanes of a scenario's stuck history wait.
+/// Why the lanes of a scenario's stuck history wait, by its entries in the order of their making. The only
+/// error is want of memory.
 #[tactic(auto, using(crate::proofs::Explained::stuck_rows))]
-fn explain_stuck(alloc: Global, scenario: &Scenario, history: &[Entry]) -> Result<Waits, Memory>
+pub fn waits_stuck(alloc: Global, scenario: &Scenario, history: &[Entry]) -> Result<Waits, Memory>
     ensures { IfOk result (λ waits. Formed scenario.now → legal scenario.now (told history.now)
         → stuck scenario.now (told history.now) ≡ true
         → waits ≡ explanation scenario.now (told history.now)) }
@@ -148,6 +153,6 @@ pub fn confirms(
         → stuck scenario.now (told history.now) ≡ true
         → (IsTrue yes ↔ (waits.now ≡ explanation scenario.now (told history.now)))) }
 {
-    let own = explain_stuck(alloc, scenario, history)?;
+    let own = waits_stuck(alloc, scenario, history)?;
     Ok(same(&own, waits))
 }

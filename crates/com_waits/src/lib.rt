@@ -9,7 +9,7 @@ mod texts;
 mod walks;
 
 pub use com_base::Memory;
-pub use explains::{LaneNumbers, confirms, explain, explain_by, lane_numbers};
+pub use explains::{LaneNumbers, confirms, explain_by, lane_numbers, waits_at, waits_stuck};
 pub use laws::{
     calls_wait, cycles_reach_the_pool, each_has_a_reason, the_pool_is_exhausted, tops_wait,
 };

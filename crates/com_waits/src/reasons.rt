@@ -16,7 +16,9 @@ pub enum Why {
 /// A lane, and why it waits.
 #[derive(Debug, Clone, Copy, PartialEq, Eq)]
 pub struct Wait {
+    /// The lane, from 1.
     pub lane: u32,
+    /// What it waits for.
     pub why: Why,
 }
 
@@ -24,6 +26,8 @@ pub struct Wait {
 /// beginning with its least lane. The cycle is empty where each lane waits for a message.
 #[derive(Debug, Drop)]
 pub struct Waits {
+    /// The lanes that wait, by lane, each with what it waits for.
     pub waits: Rows<Wait>,
+    /// The lanes of the cycle, from its least lane on.
     pub cycle: Rows<u32>,
 }

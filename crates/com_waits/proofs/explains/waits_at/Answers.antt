@@ -6,7 +6,7 @@ use Rattle.com_model.specs.Formed.{Formed}
 use Rattle.com_model.specs.Rules.{legal}
 use Rattle.com_waits.specs.Chains.{explanation_of}
 use Rattle.com_waits.specs.Walks.{told}
-use Rattle.com_waits.proofs.explains.explain.Goals as goal
+use Rattle.com_waits.proofs.explains.waits_at.Goals as goal
 
 pub returns : goal.returns
 returns c =

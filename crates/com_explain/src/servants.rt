@@ -1,0 +1,44 @@
+//! The row of servants by which a history is made again.
+ghost use Rattle.std.specs.Prelude.{◌≡◌, false, IfOk};
+ghost use Rattle.com_model.specs.State.{first_tables};
+ghost use Rattle.com_explain.specs.Stuck.{IsLawful, is_stuck_by};
+
+use crate::retracing::stuck_after;
+use com_base::Memory;
+use com_body::Native;
+use com_drive::Runtime;
+use com_model::{Entry, Scenario};
+use com_retrace::{add, boxed};
+use com_servant::{Counter, Interpreter, Latch, Relay, Servant};
+use std::alloc::Global;
+
+/// Whether a legal history of a formed scenario is stuck, by its entries in the order of their making, on a
+/// runtime that has made none: it makes them again, by servants that have made no step. The only error is
+/// want of memory.
+pub fn is_stuck_on<C: Runtime>(
+    alloc: Global,
+    scenario: &Scenario,
+    runtime: &mut C,
+    history: &[Entry],
+) -> Result<bool, Memory>
+    requires lawful { IsLawful scenario.now history.now }
+    requires scenario { C.scenario runtime.old ≡ scenario.now }
+    requires first { C.state runtime.old ≡ first_tables scenario.now }
+    requires whole { C.broken runtime.old ≡ false }
+    ensures { IfOk result (λ yes. yes ≡ is_stuck_by scenario.now history.now) }
+{
+    let mut servants: Vec<Box<dyn Servant + Send>> = Vec::new(alloc);
+    add(
+        &mut servants,
+        boxed(alloc, Interpreter::new())?,
+        Native::Bodies,
+    )?;
+    add(
+        &mut servants,
+        boxed(alloc, Counter::new())?,
+        Native::Counter,
+    )?;
+    add(&mut servants, boxed(alloc, Relay::new())?, Native::Relay)?;
+    add(&mut servants, boxed(alloc, Latch::new())?, Native::Latch)?;
+    stuck_after(alloc, scenario, runtime, &mut servants, history)
+}
