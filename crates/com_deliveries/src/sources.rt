@@ -1,5 +1,9 @@
 //! The sinks of each object of a source.
+ghost use Rattle.std.specs.Prelude.{◌≡◌, ℤ, [], OnOk, MatchOption, None, Some};
+ghost use Rattle.com_deliveries.specs.Book.{advised_of, cookies_of, has_iface, lost, no_source, one_more, took};
+ghost use Rattle.com_deliveries.specs.Rows.{next_in, row_at, with_row};
 
+use crate::cookies::Cookies;
 use com_base::Memory;
 use std::alloc::Global;
 
@@ -7,88 +11,107 @@ use std::alloc::Global;
 /// their advising, and how many were advised.
 #[derive(Debug, Drop)]
 pub(crate) struct Source {
-    iface: Option<u16>,
-    cookies: Vec<u64>,
-    advised: u64,
+    pub iface: Option<u16>,
+    pub cookies: Cookies,
+    pub advised: u64,
 }
 
 impl Source {
     /// An object without sinks.
-    pub fn new(alloc: Global, iface: Option<u16>) -> Source {
+    pub fn new(alloc: Global, iface: Option<u16>) -> Source
+        ensures { result ≡ record { iface = iface; cookies = []; advised = 0 } }
+    {
         Source {
             iface,
-            cookies: Vec::new(alloc),
+            cookies: Cookies::new(alloc),
             advised: 0,
         }
     }
 
-    /// Whether it is a source with this interface.
-    pub fn has(&self, iface: u16) -> bool {
-        match self.iface {
-            None => false,
-            Some(own) => own == iface,
-        }
+    /// A sink was advised under a cookie.
+    fn take(&mut self, cookie: u64) -> Result<(), Memory>
+        ensures { OnOk result (self.new ≡ took cookie self.old) }
+    {
+        self.advised = one_more(self.advised);
+        self.cookies.push(cookie)
     }
 
-    /// How many sinks were advised.
-    pub fn advised(&self) -> u64 {
-        self.advised
+    /// The sink with a cookie was unadvised.
+    fn lose(&mut self, number: i64)
+        ensures { self.new ≡ lost number self.old }
+    {
+        self.cookies.remove(number);
     }
+}
+
+/// One more.
+#[tactic(auto, unfolding(crate::specs::Book::one_more))]
+fn one_more(advised: u64) -> u64
+    ensures { result ≡ one_more advised }
+{
+    advised.saturating_add(1)
 }
 
 /// The row of an object.
-pub(crate) fn source_of(objects: &[Source], object: u32) -> Option<&Source> {
-    let place = object.checked_sub(1)?;
-    objects.get(place as usize)
+pub(crate) fn source_of(objects: &[Source], object: u32) -> Option<&Source>
+    ensures { MatchOption result (row_at objects.now object ≡ None)
+        (λ row. row_at objects.now object ≡ Some row.now) }
+{
+    if object == 0 {
+        return None;
+    }
+    objects.get(object as usize - 1)
+}
+
+/// Whether an object is of a source with this interface.
+pub(crate) fn has_iface(objects: &[Source], object: u32, iface: u16) -> bool
+    ensures { result ≡ has_iface (row_at objects.now object) iface }
+{
+    match source_of(objects, object) {
+        None => false,
+        Some(source) => match source.iface {
+            None => false,
+            Some(own) => iface == own,
+        },
+    }
+}
+
+/// How many sinks of an object were advised.
+pub(crate) fn advised_of(objects: &[Source], object: u32) -> u64
+    ensures { result ≡ advised_of (row_at objects.now object) }
+{
+    match source_of(objects, object) {
+        None => 0,
+        Some(source) => source.advised,
+    }
 }
 
 /// The first cookie that an object keeps above the one that was reached, and at most the last one.
-pub(crate) fn next_cookie(objects: &[Source], object: u32, reached: u64, last: u64) -> Option<u64> {
-    first_between(&source_of(objects, object)?.cookies, reached, last)
-}
-
-fn first_between(cookies: &[u64], reached: u64, last: u64) -> Option<u64> {
-    for cookie in cookies {
-        if reached < *cookie && *cookie <= last {
-            return Some(*cookie);
-        }
+pub(crate) fn next_cookie(objects: &[Source], object: u32, reached: u64, last: u64) -> Option<u64>
+    ensures { result ≡ next_in reached last (cookies_of (row_at objects.now object)) }
+{
+    match source_of(objects, object) {
+        None => None,
+        Some(source) => source.cookies.next(reached, last),
     }
-    None
 }
 
 /// A sink was advised under a cookie.
-pub(crate) fn advise(objects: &mut [Source], object: u32, cookie: u64) -> Result<(), Memory> {
+pub(crate) fn advise(objects: &mut [Source], object: u32, cookie: u64) -> Result<(), Memory>
+    ensures { OnOk result (objects.new ≡ with_row (took cookie) no_source object objects.old) }
+{
     if object == 0 || object as usize > objects.len() {
         return Ok(());
     }
-    let row = &mut objects[object as usize - 1];
-    row.advised = row.advised.saturating_add(1);
-    row.cookies.push(cookie)?;
-    Ok(())
+    objects[object as usize - 1].take(cookie)
 }
 
 /// The sink with a cookie was unadvised.
-pub(crate) fn unadvise(objects: &mut [Source], object: u32, number: i64) {
+pub(crate) fn unadvise(objects: &mut [Source], object: u32, number: i64)
+    ensures { objects.new ≡ with_row (lost number) no_source object objects.old }
+{
     if object == 0 || object as usize > objects.len() {
         return;
     }
-    remove(&mut objects[object as usize - 1].cookies, number);
-}
-
-/// Takes a cookie away.
-fn remove(cookies: &mut Vec<u64>, number: i64) {
-    let place = place_of(cookies, number);
-    if place < cookies.len() {
-        cookies.remove(place);
-    }
-}
-
-/// The first place of a cookie, or how many there are.
-fn place_of(cookies: &[u64], number: i64) -> usize {
-    for (place, cookie) in cookies.iter().enumerate() {
-        if number >= 0 && number as u64 == *cookie {
-            return place;
-        }
-    }
-    cookies.len()
+    objects[object as usize - 1].lose(number);
 }

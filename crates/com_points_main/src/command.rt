@@ -108,7 +108,7 @@ pub fn points_main<S: Source, K: Sink>(
     perform::<Points, S, K>(alloc, servants, source, sink)
 }
 
-/// Where the input is told and no count of faults rises, `points` answers it whole; or memory wanted.
+/// Where the input is told and no count of faults rises, `points` answers it whole; or want of memory comes.
 pub fn points_completeness()
     ensures { RespondsWhole (input_of is_too_long reading_points) IsPlayed }
 {}

@@ -1,21 +1,24 @@
 //! A replay, and the lines of its events.
-ghost use Rattle.std.specs.Prelude.{◌≡◌, ◌≤◌, Err, Some, IfOk, OnOk, map};
+ghost use Rattle.std.specs.Prelude.{◌≡◌, ◌≤◌, ◌<◌, ◌^◌, Err, Some, IfOk, OnOk, length, map, reverse};
 ghost use Rattle.std.specs.Arc.{arc_value};
 ghost use Rattle.com_commands.specs.Responses.{IsAnswered};
 ghost use Rattle.com_commands.specs.Statuses.{IsEnd};
+ghost use Rattle.com_deliveries.specs.Tables.{AreSources};
 ghost use Rattle.com_io.specs.Faults.{Rose};
 ghost use Rattle.com_io.specs.Told.{Gains, GainsPrefix};
 ghost use Rattle.com_drive.specs.declared.lines.ReplayError.TheVariants as replay_error;
 ghost use Rattle.com_drive.specs.Replays.{whole_served, whole_text};
 ghost use Rattle.com_model.specs.Ends.{ended_as, scheduled};
+ghost use Rattle.com_model.specs.declared.scenario.Scenario.{Scenario};
 ghost use Rattle.com_model.specs.Formed.{Formed};
+ghost use Rattle.com_model.specs.Rules.{legal};
 ghost use Rattle.com_points_main.specs.Playing.{IsPlayed, AreLines};
 ghost use Rattle.com_servant.specs.Rows.{row};
 
 use crate::events::event_lines;
 use com_base::{ByteList, Memory};
 use com_commands::{Status, say, status_at};
-use com_deliveries::deliveries;
+use com_deliveries::{deliveries_by, source_table};
 use com_io::Sink;
 use com_model::{Ended, Entry, Scenario};
 use com_record::{ReplayError, keep};
@@ -31,7 +34,9 @@ struct Played {
 }
 
 /// Writes the one history of a scenario and its report, and then a line for each event of a source.
-#[tactic(auto, using(crate::proofs::Answered::played_said, crate::proofs::Answered::played_fault, crate::proofs::Answered::played_memory))]
+///
+/// Which classes are sources is found first, so that nothing is written where memory is short for that.
+#[tactic(auto, using(crate::proofs::Answered::played_nothing, crate::proofs::Answered::sources_of))]
 pub(crate) fn play<K: Sink>(
     alloc: Global,
     scenario: Scenario,
@@ -46,7 +51,31 @@ pub(crate) fn play<K: Sink>(
         → map stepped servants.new.items ≡ whole_served scenario (map stepped servants.old.items) }
     ensures row { map kind_of servants.new.items ≡ row }
 {
-    match replayed(alloc, scenario, servants, sink) {
+    match source_table(alloc, &scenario) {
+        Ok(table) => play_by(alloc, scenario, table.as_slice(), servants, sink),
+        Err(_) => Status::Memory,
+    }
+}
+
+// The same by the table of the scenario's sources.
+#[tactic(auto, using(crate::proofs::Answered::played_said, crate::proofs::Answered::played_fault, crate::proofs::Answered::played_memory))]
+fn play_by<K: Sink>(
+    alloc: Global,
+    scenario: Scenario,
+    table: &[Option<u16>],
+    servants: &mut Vec<Box<dyn Servant + Send>>,
+    sink: &mut K,
+) -> Status
+    requires sound { Formed scenario }
+    requires sources { AreSources scenario table.now }
+    requires row { map kind_of servants.old.items ≡ row }
+    ensures answered { IsAnswered (IsPlayed scenario) result (K.held sink.old) (K.held sink.new)
+        (K.faults_of sink.old) (K.faults_of sink.new) }
+    ensures served { IsEnd result
+        → map stepped servants.new.items ≡ whole_served scenario (map stepped servants.old.items) }
+    ensures row { map kind_of servants.new.items ≡ row }
+{
+    match replayed(alloc, scenario, table, servants, sink) {
         Ok(played) => say(played.lines.as_slice(), status_at(played.ended), sink),
         Err(ReplayError::WriteFault) => Status::WriteFault,
         Err(ReplayError::Memory) => Status::Memory,
@@ -54,18 +83,20 @@ pub(crate) fn play<K: Sink>(
 }
 
 // Writes the one history of a scenario and its report, and makes the lines of its events.
-#[tactic(auto, using(com_io::proofs::Passing::prefix_of_none, crate::proofs::Answered::recorded_ends))]
+#[tactic(auto, using(com_io::proofs::Passing::prefix_of_none))]
 fn replayed<K: Sink>(
     alloc: Global,
     scenario: Scenario,
+    table: &[Option<u16>],
     servants: &mut Vec<Box<dyn Servant + Send>>,
     sink: &mut K,
 ) -> Result<Played, ReplayError>
     requires sound { Formed scenario }
+    requires sources { AreSources scenario table.now }
     requires row { map kind_of servants.old.items ≡ row }
     ensures ok { OnOk result (Gains (K.held sink.old) (K.held sink.new) (whole_text scenario)) }
     ensures ends { IfOk result (λ played. ended_as scenario (scheduled scenario) ≡ Some played.ended) }
-    ensures lines { IfOk result (λ played. AreLines played.lines) }
+    ensures lines { IfOk result (λ played. AreLines scenario (scheduled scenario) played.lines) }
     ensures prefix { GainsPrefix (K.held sink.old) (K.held sink.new) (whole_text scenario) }
     ensures served { OnOk result (map stepped servants.new.items
         ≡ whole_served scenario (map stepped servants.old.items)) }
@@ -76,19 +107,22 @@ fn replayed<K: Sink>(
 {
     let scenario = shared(alloc, scenario)?;
     let recorded = keep(alloc, &scenario, servants, sink)?;
-    let lines = lines_of(alloc, &*scenario, recorded.entries.as_slice())?;
+    let lines = lines_of(alloc, table, recorded.entries.as_slice())?;
     Ok(Played {
         lines,
         ended: recorded.ended,
     })
 }
 
-// The lines of the events of a history. The only error is want of memory.
-#[tactic(auto, using(crate::proofs::Answered::are_lines))]
-fn lines_of(alloc: Global, scenario: &Scenario, entries: &[Entry]) -> Result<ByteList, Memory>
-    ensures { IfOk result (λ lines. AreLines lines) }
+// The lines of the events of a history, by the table of its scenario's sources. The only error is want of
+// memory.
+#[tactic(auto, using(crate::proofs::Answered::lines_by))]
+fn lines_of(alloc: Global, table: &[Option<u16>], entries: &[Entry]) -> Result<ByteList, Memory>
+    ensures { IfOk result (λ lines. (s : Scenario) → AreSources s table.now → Formed s
+        → legal s (reverse entries.now) → length (reverse entries.now) < 2 ^ 63
+        → AreLines s (reverse entries.now) lines) }
 {
-    let events = deliveries(alloc, scenario, entries)?;
+    let events = deliveries_by(alloc, table, entries)?;
     event_lines(alloc, events.as_slice())
 }
 

@@ -15,7 +15,7 @@ use Rattle.com_points.specs.Bodies.{advise_body, unadvise_body, fire_body}
 use Rattle.com_points.specs.Sources.{IsPoint, IsSource, IsStaModel, point_body, source_body}
 use Rattle.com_sources.specs.Heads.{are_own_bodies}
 
-abbrev at : (j m : ℕ) → MethodBody → Bool
+abbrev pub at : (j m : ℕ) → MethodBody → Bool
 at j m b = b.iface == j && b.method == m
 
 -- What the test of the first body says.
@@ -41,7 +41,7 @@ and_no : (a b : Bool) → b ≡ false → (a && b) ≡ false
 and_no true b h = h
 and_no false b h = refl
 
-same_itself : (n : ℕ) → (n == n) ≡ true
+pub same_itself : (n : ℕ) → (n == n) ≡ true
 same_itself n = grind arith
 
 other_interface : (i j m : ℕ) → (j == i) ≡ false → (b : MethodBody) → b.iface ≡ i → nat_lt 2 b.method ≡ false → at j m b ≡ false

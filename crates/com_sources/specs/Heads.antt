@@ -1,10 +1,17 @@
 -- The first statements of a source's bodies.
-use Rattle.std.specs.Prelude.{ℕ, Bool, true, false, not, ◌||◌, ◌==◌, nat_lt, if◌then◌else◌, List, [], ◌∷◌}
+use Rattle.std.specs.Prelude.{◌≡◌, Some, ℕ, Bool, true, false, not, ◌||◌, ◌==◌, nat_lt, if◌then◌else◌, List, [], ◌∷◌}
 use Rattle.com_classes.specs.declared.classes.MethodBody.{MethodBody}
 use Rattle.com_body.specs.declared.statements.Stmt.{Stmt}
 use Rattle.com_body.specs.declared.statements.Stmt.TheVariants as stmt
 use Rattle.com_body.specs.declared.operands.Given.TheVariants as given
+use Rattle.com_body.specs.declared.frame.Native.TheVariants as native
+use Rattle.com_classes.specs.declared.classes.Class.{Class}
+use Rattle.com_classes.specs.Tables.{Tables}
+use Rattle.com_classes.specs.declared.interfaces.Interface.{Interface}
+use Rattle.com_classes.specs.Lookups.{body_at}
 use Rattle.com_points.specs.Bodies.{e_pointer, no_connection, int, register, leave_with}
+use Rattle.com_points.specs.Bodies.{advise_body, unadvise_body, fire_body}
+use Rattle.com_points.specs.Sources.{IsPoint, IsStaModel}
 
 -- Null is refused, and the new cookie is one more than the last one.
 abbrev pub advise_head : List Stmt
@@ -28,3 +35,10 @@ abbrev pub are_own_bodies : ℕ → List MethodBody → Bool
 are_own_bodies iface [] = true
 are_own_bodies iface (b ∷ bs) =
     if not (b.iface == iface) || nat_lt 2 b.method then false else are_own_bodies iface bs
+
+-- What is looked at in a class whose one interface is this one.
+abbrev pub Looks : Tables → (class : ℕ) → Class → (iface : ℕ) → Interface → Type 0
+Looks t class k i p =
+    IsStaModel k.model × (k.native ≡ native.Bodies) × IsPoint p × (are_own_bodies i k.bodies ≡ true)
+    × (body_at t class i 0 ≡ Some advise_body) × (body_at t class i 1 ≡ Some unadvise_body)
+    × (body_at t class i 2 ≡ Some fire_body)

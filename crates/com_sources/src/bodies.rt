@@ -1,5 +1,6 @@
 //! The three bodies of a source.
-ghost use Rattle.std.specs.Prelude.{◌≡◌, ◌<◌, ◌++◌, ◌∷◌, [], IfSome, IsTrue};
+ghost use Rattle.std.specs.Prelude.{◌≡◌, ◌↔◌, ◌<◌, ◌++◌, ◌∷◌, [], List, IfSome, IfNone, IsTrue};
+ghost use Rattle.com_body.specs.declared.statements.Stmt.{Stmt};
 ghost use Rattle.com_body.specs.declared.statements.Stmt.TheVariants as stmt;
 ghost use Rattle.com_body.specs.declared.operands.Given.TheVariants as given_of;
 ghost use Rattle.com_body.specs.declared.operands.Place.TheVariants as place;
@@ -25,7 +26,8 @@ const CONNECT_E_ADVISELIMIT: HResult = HResult(0x8004_0201);
 /// What stands behind the first statements of `advise`: null is refused, and the new cookie is one more than
 /// the last one.
 fn behind_advise_head(body: &[Stmt]) -> Option<&[Stmt]>
-    ensures { IfSome result (λ rest. body.now ≡ (advise_head) ++ rest.now) }
+    ensures some { IfSome result (λ rest. body.now ≡ (advise_head) ++ rest.now) }
+    ensures none { IfNone result ((rest : List Stmt) → body.now ≡ (advise_head) ++ rest → ⊥) }
 {
     match body {
         [same, test, null, load, add, rest @ ..] => {
@@ -46,7 +48,8 @@ fn behind_advise_head(body: &[Stmt]) -> Option<&[Stmt]>
 
 /// What stands behind the statements that take the place with a number.
 fn behind_take_place(body: &[Stmt], i: u8) -> Option<&[Stmt]>
-    ensures { IfSome result (λ rest. body.now ≡ (take_place i) ++ rest.now) }
+    ensures some { IfSome result (λ rest. body.now ≡ (take_place i) ++ rest.now) }
+    ensures none { IfNone result ((rest : List Stmt) → body.now ≡ (take_place i) ++ rest → ⊥) }
 {
     match body {
         [load, test, skip, cookie, last, copy, leave, rest @ ..] => {
@@ -69,7 +72,8 @@ fn behind_take_place(body: &[Stmt], i: u8) -> Option<&[Stmt]>
 
 /// What stands behind a statement that leaves with this HRESULT.
 fn behind_leave(body: &[Stmt], answer: HResult) -> Option<&[Stmt]>
-    ensures { IfSome result (λ rest. body.now ≡ (leave_with answer given_of.Nothing ∷ []) ++ rest.now) }
+    ensures some { IfSome result (λ rest. body.now ≡ (leave_with answer given_of.Nothing ∷ []) ++ rest.now) }
+    ensures none { IfNone result ((rest : List Stmt) → body.now ≡ (leave_with answer given_of.Nothing ∷ []) ++ rest → ⊥) }
 {
     match body {
         [leave, rest @ ..] => {
@@ -84,8 +88,10 @@ fn behind_leave(body: &[Stmt], answer: HResult) -> Option<&[Stmt]>
 }
 
 fn behind_advise(body: &[Stmt]) -> Option<&[Stmt]>
-    ensures { IfSome result (λ rest. body.now ≡ advise_head ++ (take_place 0 ++ (take_place 1 ++ (take_place 2
+    ensures some { IfSome result (λ rest. body.now ≡ advise_head ++ (take_place 0 ++ (take_place 1 ++ (take_place 2
         ++ (take_place 3 ++ (leave_with advise_limit given_of.Nothing ∷ rest.now)))))) }
+    ensures none { IfNone result ((rest : List Stmt) → body.now ≡ advise_head ++ (take_place 0 ++ (take_place 1 ++ (take_place 2
+        ++ (take_place 3 ++ (leave_with advise_limit given_of.Nothing ∷ rest))))) → ⊥) }
 {
     let rest = behind_advise_head(body)?;
     let rest = behind_take_place(rest, 0)?;
@@ -97,17 +103,28 @@ fn behind_advise(body: &[Stmt]) -> Option<&[Stmt]>
 
 /// Whether a body is that of `advise`.
 pub(crate) fn is_advise(body: &[Stmt]) -> bool
-    ensures { IsTrue result → body.now ≡ advise_body }
+    ensures { IsTrue result ↔ body.now ≡ advise_body }
 {
     match behind_advise(body) {
-        Some([]) => true,
+        None => false,
+        Some(rest) => is_end(rest),
+    }
+}
+
+/// Whether nothing stands behind.
+fn is_end(body: &[Stmt]) -> bool
+    ensures { IsTrue result ↔ body.now ≡ [] }
+{
+    match body {
+        [] => true,
         _ => false,
     }
 }
 
 /// What stands behind the first statements of `unadvise`: a cookie is above 0.
 fn behind_unadvise_head(body: &[Stmt]) -> Option<&[Stmt]>
-    ensures { IfSome result (λ rest. body.now ≡ (unadvise_head) ++ rest.now) }
+    ensures some { IfSome result (λ rest. body.now ≡ (unadvise_head) ++ rest.now) }
+    ensures none { IfNone result ((rest : List Stmt) → body.now ≡ (unadvise_head) ++ rest → ⊥) }
 {
     match body {
         [less, test, skip, leave, rest @ ..] => {
@@ -128,7 +145,8 @@ fn behind_unadvise_head(body: &[Stmt]) -> Option<&[Stmt]>
 /// What stands behind the statements that go on at the moves from a number on, if its cell is the argument.
 fn behind_look_in(body: &[Stmt], i: u8) -> Option<&[Stmt]>
     requires { i < 4 }
-    ensures { IfSome result (λ rest. body.now ≡ (look_in i) ++ rest.now) }
+    ensures some { IfSome result (λ rest. body.now ≡ (look_in i) ++ rest.now) }
+    ensures none { IfNone result ((rest : List Stmt) → body.now ≡ (look_in i) ++ rest → ⊥) }
 {
     match body {
         [set, load, sub, test, rest @ ..] => {
@@ -149,7 +167,8 @@ fn behind_look_in(body: &[Stmt], i: u8) -> Option<&[Stmt]>
 /// What stands behind the statements that put the next cookie and sink in the place with a number.
 fn behind_move_down(body: &[Stmt], i: u8) -> Option<&[Stmt]>
     requires { i < 3 }
-    ensures { IfSome result (λ rest. body.now ≡ (move_down i) ++ rest.now) }
+    ensures some { IfSome result (λ rest. body.now ≡ (move_down i) ++ rest.now) }
+    ensures none { IfNone result ((rest : List Stmt) → body.now ≡ (move_down i) ++ rest → ⊥) }
 {
     match body {
         [load, store, copy, rest @ ..] => {
@@ -167,8 +186,10 @@ fn behind_move_down(body: &[Stmt], i: u8) -> Option<&[Stmt]>
 }
 
 fn behind_looks(body: &[Stmt]) -> Option<&[Stmt]>
-    ensures { IfSome result (λ rest. body.now ≡ unadvise_head ++ (look_in 0 ++ (look_in 1 ++ (look_in 2
+    ensures some { IfSome result (λ rest. body.now ≡ unadvise_head ++ (look_in 0 ++ (look_in 1 ++ (look_in 2
         ++ (look_in 3 ++ (leave_with no_connection given_of.Nothing ∷ rest.now)))))) }
+    ensures none { IfNone result ((rest : List Stmt) → body.now ≡ unadvise_head ++ (look_in 0 ++ (look_in 1 ++ (look_in 2
+        ++ (look_in 3 ++ (leave_with no_connection given_of.Nothing ∷ rest))))) → ⊥) }
 {
     let rest = behind_unadvise_head(body)?;
     let rest = behind_look_in(rest, 0)?;
@@ -179,7 +200,8 @@ fn behind_looks(body: &[Stmt]) -> Option<&[Stmt]>
 }
 
 fn behind_moves(body: &[Stmt]) -> Option<&[Stmt]>
-    ensures { IfSome result (λ rest. body.now ≡ move_down 0 ++ (move_down 1 ++ (move_down 2 ++ rest.now))) }
+    ensures some { IfSome result (λ rest. body.now ≡ move_down 0 ++ (move_down 1 ++ (move_down 2 ++ rest.now))) }
+    ensures none { IfNone result ((rest : List Stmt) → body.now ≡ move_down 0 ++ (move_down 1 ++ (move_down 2 ++ rest)) → ⊥) }
 {
     let rest = behind_move_down(body, 0)?;
     let rest = behind_move_down(rest, 1)?;
@@ -187,7 +209,7 @@ fn behind_moves(body: &[Stmt]) -> Option<&[Stmt]>
 }
 
 fn is_unadvise_end(body: &[Stmt]) -> bool
-    ensures { IsTrue result → body.now
+    ensures { IsTrue result ↔ body.now
         ≡ stmt.Store 3 (int 0) ∷ stmt.Release (place.Link 3) ∷ leave_with ok given_of.Nothing ∷ [] }
 {
     match body {
@@ -202,7 +224,7 @@ fn is_unadvise_end(body: &[Stmt]) -> bool
 
 /// Whether a body is that of `unadvise`.
 pub(crate) fn is_unadvise(body: &[Stmt]) -> bool
-    ensures { IsTrue result → body.now ≡ unadvise_body }
+    ensures { IsTrue result ↔ body.now ≡ unadvise_body }
 {
     match behind_looks(body) {
         None => false,
@@ -217,7 +239,8 @@ pub(crate) fn is_unadvise(body: &[Stmt]) -> bool
 /// the one that was reached.
 fn behind_look_at(body: &[Stmt], i: u8) -> Option<&[Stmt]>
     requires { i < 4 }
-    ensures { IfSome result (λ rest. body.now ≡ (look_at i) ++ rest.now) }
+    ensures some { IfSome result (λ rest. body.now ≡ (look_at i) ++ rest.now) }
+    ensures none { IfNone result ((rest : List Stmt) → body.now ≡ (look_at i) ++ rest → ⊥) }
 {
     match body {
         [load, less, test, copy, skip, rest @ ..] => {
@@ -238,7 +261,8 @@ fn behind_look_at(body: &[Stmt], i: u8) -> Option<&[Stmt]>
 
 /// What stands behind the statements that send an event, or leave.
 fn behind_send_event(body: &[Stmt]) -> Option<&[Stmt]>
-    ensures { IfSome result (λ rest. body.now ≡ (leave_register 6 ∷ send_event) ++ rest.now) }
+    ensures some { IfSome result (λ rest. body.now ≡ (leave_register 6 ∷ send_event) ++ rest.now) }
+    ensures none { IfNone result ((rest : List Stmt) → body.now ≡ (leave_register 6 ∷ send_event) ++ rest → ⊥) }
 {
     match body {
         [none, less, test, leave, set, add, call, rest @ ..] => {
@@ -261,7 +285,8 @@ fn behind_send_event(body: &[Stmt]) -> Option<&[Stmt]>
 
 /// What stands behind one round of `fire`.
 fn behind_round(body: &[Stmt]) -> Option<&[Stmt]>
-    ensures { IfSome result (λ rest. body.now ≡ (event_round) ++ rest.now) }
+    ensures some { IfSome result (λ rest. body.now ≡ (event_round) ++ rest.now) }
+    ensures none { IfNone result ((rest : List Stmt) → body.now ≡ (event_round) ++ rest → ⊥) }
 {
     let rest = behind_look_at(body, 0)?;
     let rest = behind_look_at(rest, 1)?;
@@ -272,7 +297,8 @@ fn behind_round(body: &[Stmt]) -> Option<&[Stmt]>
 
 /// What stands behind the first statements of `fire`.
 fn behind_fire_head(body: &[Stmt]) -> Option<&[Stmt]>
-    ensures { IfSome result (λ rest. body.now ≡ (fire_head) ++ rest.now) }
+    ensures some { IfSome result (λ rest. body.now ≡ (fire_head) ++ rest.now) }
+    ensures none { IfNone result ((rest : List Stmt) → body.now ≡ (fire_head) ++ rest → ⊥) }
 {
     match body {
         [load, reached, sent, rest @ ..] => {
@@ -287,8 +313,10 @@ fn behind_fire_head(body: &[Stmt]) -> Option<&[Stmt]>
 }
 
 fn behind_rounds(body: &[Stmt]) -> Option<&[Stmt]>
-    ensures { IfSome result (λ rest. body.now ≡ fire_head ++ (event_round ++ (event_round ++ (event_round
+    ensures some { IfSome result (λ rest. body.now ≡ fire_head ++ (event_round ++ (event_round ++ (event_round
         ++ (event_round ++ rest.now))))) }
+    ensures none { IfNone result ((rest : List Stmt) → body.now ≡ fire_head ++ (event_round ++ (event_round ++ (event_round
+        ++ (event_round ++ rest)))) → ⊥) }
 {
     let rest = behind_fire_head(body)?;
     let rest = behind_round(rest)?;
@@ -299,10 +327,19 @@ fn behind_rounds(body: &[Stmt]) -> Option<&[Stmt]>
 
 /// Whether a body is that of `fire`.
 pub(crate) fn is_fire(body: &[Stmt]) -> bool
-    ensures { IsTrue result → body.now ≡ fire_body }
+    ensures { IsTrue result ↔ body.now ≡ fire_body }
 {
     match behind_rounds(body) {
-        Some([leave]) => is_leave_register(leave, 6),
+        None => false,
+        Some(rest) => is_fire_end(rest),
+    }
+}
+
+fn is_fire_end(body: &[Stmt]) -> bool
+    ensures { IsTrue result ↔ body.now ≡ leave_register 6 ∷ [] }
+{
+    match body {
+        [leave] => is_leave_register(leave, 6),
         _ => false,
     }
 }

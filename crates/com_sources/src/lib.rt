@@ -1,12 +1,12 @@
 //! Which classes of a scenario are event sources after IConnectionPoint.
 #![tactic(auto)]
 
-ghost use Rattle.std.specs.Prelude.{◌≡◌, ◌∷◌, [], IfSome, IsTrue, Some};
+ghost use Rattle.std.specs.Prelude.{◌≡◌, ◌↔◌, ◌∷◌, [], ℕ, IfNone, IfSome, IsTrue, Some};
 ghost use Rattle.com_body.specs.declared.frame.Native.TheVariants.{Bodies};
 ghost use Rattle.com_classes.specs.Lookups.{body_at};
 ghost use Rattle.com_points.specs.Bodies.{advise_body, unadvise_body, fire_body};
 ghost use Rattle.com_points.specs.Sources.{IsPoint, IsSource, IsStaModel, point_iid, point_methods};
-ghost use Rattle.com_sources.specs.Heads.{are_own_bodies};
+ghost use Rattle.com_sources.specs.Heads.{Looks, are_own_bodies};
 
 mod bodies;
 mod shapes;
@@ -24,33 +24,46 @@ pub const UNADVISE: u16 = 1;
 /// The number of the method `fire`.
 pub const FIRE: u16 = 2;
 
-/// The number of the interface of a source, if the class with this number is found to be one: a class with a
-/// model of an STA, whose one declared interface has the IID and the methods of a source's, and whose bodies
-/// are those of a source.
-#[tactic(auto, using(crate::proofs::Found::found))]
+/// The number of the interface of a source, if the class with this number is one (`some`), and `None` exactly
+/// where it is none (`none`): a source is a class with a model of an STA, whose one declared interface has the
+/// IID and the methods of a source's, and whose bodies are those of a source, whichever line declared it.
+#[tactic(auto, using(crate::proofs::Found::found, crate::proofs::Missed::no_class, crate::proofs::Missed::no_only, crate::proofs::Missed::no_interface, crate::proofs::Missed::no_looks))]
 pub fn source_interface(scenario: &Scenario, class: u32) -> Option<u16>
-    ensures { IfSome result (λ iface. IsSource scenario.now class iface) }
+    ensures some { IfSome result (λ iface. IsSource scenario.now class iface) }
+    ensures none { IfNone result ((iface : ℕ) → IsSource scenario.now class iface → ⊥) }
 {
     let classes = &scenario.classes;
     let declared = classes.class(class)?;
     let iface = only_interface(declared.interfaces.as_slice())?;
     let point = classes.interface(iface)?;
-    if is_sta_model(declared.model)
+    if looks_as_source(classes, class, declared, iface, point) {
+        return Some(iface);
+    }
+    None
+}
+
+/// Whether a class whose one interface is this one looks as a source.
+fn looks_as_source(
+    classes: &Classes,
+    class: u32,
+    declared: &Class,
+    iface: u16,
+    point: &Interface,
+) -> bool
+    ensures { IsTrue result ↔ Looks classes.now class declared.now iface point.now }
+{
+    is_sta_model(declared.model)
         && is_bodies(declared.native)
         && is_point(point)
         && are_own_bodies(declared.bodies.as_slice(), iface)
         && has_advise(classes, class, iface)
         && has_unadvise(classes, class, iface)
         && has_fire(classes, class, iface)
-    {
-        return Some(iface);
-    }
-    None
 }
 
 /// The objects of a source live in an STA.
 fn is_sta_model(model: ThreadingModel) -> bool
-    ensures { IsTrue result → IsStaModel model }
+    ensures { IsTrue result ↔ IsStaModel model }
 {
     match model {
         ThreadingModel::Nothing => true,
@@ -60,7 +73,7 @@ fn is_sta_model(model: ThreadingModel) -> bool
 }
 
 fn is_bodies(native: Native) -> bool
-    ensures { IsTrue result → native ≡ Bodies }
+    ensures { IsTrue result ↔ native ≡ Bodies }
 {
     match native {
         Native::Bodies => true,
@@ -69,7 +82,8 @@ fn is_bodies(native: Native) -> bool
 }
 
 fn only_interface(interfaces: &[u16]) -> Option<u16>
-    ensures { IfSome result (λ iface. interfaces.now ≡ iface ∷ []) }
+    ensures some { IfSome result (λ iface. interfaces.now ≡ iface ∷ []) }
+    ensures none { IfNone result ((iface : ℕ) → interfaces.now ≡ iface ∷ [] → ⊥) }
 {
     match interfaces {
         [iface] => Some(*iface),
@@ -79,13 +93,13 @@ fn only_interface(interfaces: &[u16]) -> Option<u16>
 
 /// Whether an interface has the IID and the methods of a source's.
 fn is_point(interface: &Interface) -> bool
-    ensures { IsTrue result → IsPoint interface.now }
+    ensures { IsTrue result ↔ IsPoint interface.now }
 {
     is_point_iid(interface.iid) && are_point_methods(interface.methods.as_slice())
 }
 
 fn is_point_iid(iid: Guid) -> bool
-    ensures { IsTrue result → iid ≡ point_iid }
+    ensures { IsTrue result ↔ iid ≡ point_iid }
 {
     iid.data1 == 0x5C0B_0030
         && iid.data2 == 0
@@ -94,7 +108,7 @@ fn is_point_iid(iid: Guid) -> bool
 }
 
 fn are_point_methods(methods: &[Method]) -> bool
-    ensures { IsTrue result → methods.now ≡ point_methods }
+    ensures { IsTrue result ↔ methods.now ≡ point_methods }
 {
     match methods {
         [advise, unadvise, fire] => {
@@ -108,7 +122,7 @@ fn are_point_methods(methods: &[Method]) -> bool
 
 fn is_method(method: &Method, name: &[u8], param: Kind, answer: Option<Kind>) -> bool
     ensures { IsTrue result
-        → method.now ≡ record { name = name.now; params = param ∷ []; result = answer } }
+        ↔ method.now ≡ record { name = name.now; params = param ∷ []; result = answer } }
 {
     method.name.as_slice() == name
         && is_one_kind(method.params.as_slice(), param)
@@ -116,7 +130,7 @@ fn is_method(method: &Method, name: &[u8], param: Kind, answer: Option<Kind>) ->
 }
 
 fn is_result(kind: Option<Kind>, wanted: Option<Kind>) -> bool
-    ensures { IsTrue result → kind ≡ wanted }
+    ensures { IsTrue result ↔ kind ≡ wanted }
 {
     match (kind, wanted) {
         (None, None) => true,
@@ -126,7 +140,7 @@ fn is_result(kind: Option<Kind>, wanted: Option<Kind>) -> bool
 }
 
 fn is_one_kind(kinds: &[Kind], kind: Kind) -> bool
-    ensures { IsTrue result → kinds.now ≡ kind ∷ [] }
+    ensures { IsTrue result ↔ kinds.now ≡ kind ∷ [] }
 {
     match kinds {
         [one] => *one == kind,
@@ -147,7 +161,7 @@ fn are_own_bodies(bodies: &[MethodBody], iface: u16) -> bool
 }
 
 fn has_advise(classes: &Classes, class: u32, iface: u16) -> bool
-    ensures { IsTrue result → body_at classes.now class iface 0 ≡ Some advise_body }
+    ensures { IsTrue result ↔ body_at classes.now class iface 0 ≡ Some advise_body }
 {
     match classes.body(class, iface, ADVISE) {
         None => false,
@@ -156,7 +170,7 @@ fn has_advise(classes: &Classes, class: u32, iface: u16) -> bool
 }
 
 fn has_unadvise(classes: &Classes, class: u32, iface: u16) -> bool
-    ensures { IsTrue result → body_at classes.now class iface 1 ≡ Some unadvise_body }
+    ensures { IsTrue result ↔ body_at classes.now class iface 1 ≡ Some unadvise_body }
 {
     match classes.body(class, iface, UNADVISE) {
         None => false,
@@ -165,7 +179,7 @@ fn has_unadvise(classes: &Classes, class: u32, iface: u16) -> bool
 }
 
 fn has_fire(classes: &Classes, class: u32, iface: u16) -> bool
-    ensures { IsTrue result → body_at classes.now class iface 2 ≡ Some fire_body }
+    ensures { IsTrue result ↔ body_at classes.now class iface 2 ≡ Some fire_body }
 {
     match classes.body(class, iface, FIRE) {
         None => false,

@@ -1,5 +1,5 @@
 //! Statements of a source's bodies, each by its form.
-ghost use Rattle.std.specs.Prelude.{◌≡◌, IsTrue, pos, [], ◌∷◌};
+ghost use Rattle.std.specs.Prelude.{◌≡◌, ◌↔◌, IsTrue, pos, [], ◌∷◌};
 ghost use Rattle.com_base.specs.declared.value.Value.TheVariants as value;
 ghost use Rattle.com_body.specs.declared.statements.Stmt.TheVariants as stmt;
 ghost use Rattle.com_body.specs.declared.operands.Op.TheVariants as op_of;
@@ -12,7 +12,7 @@ use com_base::{HResult, Value};
 use com_body::{Arg, Code, Destination, Given, Op, Place, Stmt};
 
 fn is_register(op: &Op, number: u8) -> bool
-    ensures { IsTrue result → (op.now ≡ register number) }
+    ensures { IsTrue result ↔ (op.now ≡ register number) }
 {
     match op {
         Op::Register(n) => *n == number,
@@ -21,7 +21,7 @@ fn is_register(op: &Op, number: u8) -> bool
 }
 
 fn is_number(op: &Op, number: u32) -> bool
-    ensures { IsTrue result → (op.now ≡ int number) }
+    ensures { IsTrue result ↔ (op.now ≡ int number) }
 {
     match op {
         Op::Literal(Value::Int(n)) => *n == number as i64,
@@ -30,7 +30,7 @@ fn is_number(op: &Op, number: u32) -> bool
 }
 
 pub(crate) fn is_set(statement: &Stmt, to: u8, from: u8) -> bool
-    ensures { IsTrue result → (statement.now ≡ stmt.Set to (register from)) }
+    ensures { IsTrue result ↔ (statement.now ≡ stmt.Set to (register from)) }
 {
     match statement {
         Stmt::Set { to: t, from: f } => *t == to && is_register(f, from),
@@ -39,7 +39,7 @@ pub(crate) fn is_set(statement: &Stmt, to: u8, from: u8) -> bool
 }
 
 pub(crate) fn is_set_zero(statement: &Stmt, to: u8) -> bool
-    ensures { IsTrue result → (statement.now ≡ stmt.Set to (int 0)) }
+    ensures { IsTrue result ↔ (statement.now ≡ stmt.Set to (int 0)) }
 {
     match statement {
         Stmt::Set { to: t, from } => *t == to && is_number(from, 0),
@@ -48,7 +48,7 @@ pub(crate) fn is_set_zero(statement: &Stmt, to: u8) -> bool
 }
 
 pub(crate) fn is_add_one(statement: &Stmt, to: u8) -> bool
-    ensures { IsTrue result → (statement.now ≡ stmt.Add to (int 1)) }
+    ensures { IsTrue result ↔ (statement.now ≡ stmt.Add to (int 1)) }
 {
     match statement {
         Stmt::Add { to: t, from } => *t == to && is_number(from, 1),
@@ -57,7 +57,7 @@ pub(crate) fn is_add_one(statement: &Stmt, to: u8) -> bool
 }
 
 pub(crate) fn is_sub(statement: &Stmt, to: u8, from: u8) -> bool
-    ensures { IsTrue result → (statement.now ≡ stmt.Sub to (register from)) }
+    ensures { IsTrue result ↔ (statement.now ≡ stmt.Sub to (register from)) }
 {
     match statement {
         Stmt::Sub { to: t, from: f } => *t == to && is_register(f, from),
@@ -66,7 +66,7 @@ pub(crate) fn is_sub(statement: &Stmt, to: u8, from: u8) -> bool
 }
 
 pub(crate) fn is_positive_test(statement: &Stmt, to: u8, right: u8) -> bool
-    ensures { IsTrue result → (statement.now ≡ stmt.Less to (int 0) (register right)) }
+    ensures { IsTrue result ↔ (statement.now ≡ stmt.Less to (int 0) (register right)) }
 {
     match statement {
         Stmt::Less {
@@ -79,7 +79,7 @@ pub(crate) fn is_positive_test(statement: &Stmt, to: u8, right: u8) -> bool
 }
 
 pub(crate) fn is_less(statement: &Stmt, to: u8, left: u8, right: u8) -> bool
-    ensures { IsTrue result → (statement.now ≡ stmt.Less to (register left) (register right)) }
+    ensures { IsTrue result ↔ (statement.now ≡ stmt.Less to (register left) (register right)) }
 {
     match statement {
         Stmt::Less {
@@ -92,7 +92,7 @@ pub(crate) fn is_less(statement: &Stmt, to: u8, left: u8, right: u8) -> bool
 }
 
 pub(crate) fn is_same(statement: &Stmt, to: u8, left: u8, right: u8) -> bool
-    ensures { IsTrue result → (statement.now ≡ stmt.Same to left right) }
+    ensures { IsTrue result ↔ (statement.now ≡ stmt.Same to left right) }
 {
     match statement {
         Stmt::Same {
@@ -105,7 +105,7 @@ pub(crate) fn is_same(statement: &Stmt, to: u8, left: u8, right: u8) -> bool
 }
 
 pub(crate) fn is_load(statement: &Stmt, to: u8, cell: u8) -> bool
-    ensures { IsTrue result → (statement.now ≡ stmt.Load to cell) }
+    ensures { IsTrue result ↔ (statement.now ≡ stmt.Load to cell) }
 {
     match statement {
         Stmt::Load { to: t, cell: c } => *t == to && *c == cell,
@@ -114,7 +114,7 @@ pub(crate) fn is_load(statement: &Stmt, to: u8, cell: u8) -> bool
 }
 
 pub(crate) fn is_store(statement: &Stmt, cell: u8, from: u8) -> bool
-    ensures { IsTrue result → (statement.now ≡ stmt.Store cell (register from)) }
+    ensures { IsTrue result ↔ (statement.now ≡ stmt.Store cell (register from)) }
 {
     match statement {
         Stmt::Store { cell: c, from: f } => *c == cell && is_register(f, from),
@@ -123,7 +123,7 @@ pub(crate) fn is_store(statement: &Stmt, cell: u8, from: u8) -> bool
 }
 
 pub(crate) fn is_store_zero(statement: &Stmt, cell: u8) -> bool
-    ensures { IsTrue result → (statement.now ≡ stmt.Store cell (int 0)) }
+    ensures { IsTrue result ↔ (statement.now ≡ stmt.Store cell (int 0)) }
 {
     match statement {
         Stmt::Store { cell: c, from } => *c == cell && is_number(from, 0),
@@ -132,7 +132,7 @@ pub(crate) fn is_store_zero(statement: &Stmt, cell: u8) -> bool
 }
 
 pub(crate) fn is_skip(statement: &Stmt, count: u32) -> bool
-    ensures { IsTrue result → (statement.now ≡ stmt.Skip count) }
+    ensures { IsTrue result ↔ (statement.now ≡ stmt.Skip count) }
 {
     match statement {
         Stmt::Skip { count: n } => *n == count,
@@ -141,7 +141,7 @@ pub(crate) fn is_skip(statement: &Stmt, count: u32) -> bool
 }
 
 pub(crate) fn is_skip_zero(statement: &Stmt, register: u8, count: u32) -> bool
-    ensures { IsTrue result → (statement.now ≡ stmt.SkipZero register count) }
+    ensures { IsTrue result ↔ (statement.now ≡ stmt.SkipZero register count) }
 {
     match statement {
         Stmt::SkipZero {
@@ -153,7 +153,7 @@ pub(crate) fn is_skip_zero(statement: &Stmt, register: u8, count: u32) -> bool
 }
 
 pub(crate) fn is_copy(statement: &Stmt, to: Place, from: Place) -> bool
-    ensures { IsTrue result → (statement.now ≡ stmt.Copy to from) }
+    ensures { IsTrue result ↔ (statement.now ≡ stmt.Copy to from) }
 {
     match statement {
         Stmt::Copy { to: t, from: f } => *t == to && *f == from,
@@ -162,7 +162,7 @@ pub(crate) fn is_copy(statement: &Stmt, to: Place, from: Place) -> bool
 }
 
 pub(crate) fn is_release(statement: &Stmt, place: Place) -> bool
-    ensures { IsTrue result → (statement.now ≡ stmt.Release place) }
+    ensures { IsTrue result ↔ (statement.now ≡ stmt.Release place) }
 {
     match statement {
         Stmt::Release { place: p } => *p == place,
@@ -171,7 +171,7 @@ pub(crate) fn is_release(statement: &Stmt, place: Place) -> bool
 }
 
 pub(crate) fn is_leave(statement: &Stmt, answer: HResult) -> bool
-    ensures { IsTrue result → (statement.now ≡ leave_with answer given_of.Nothing) }
+    ensures { IsTrue result ↔ (statement.now ≡ leave_with answer given_of.Nothing) }
 {
     match statement {
         Stmt::Leave {
@@ -183,7 +183,7 @@ pub(crate) fn is_leave(statement: &Stmt, answer: HResult) -> bool
 }
 
 pub(crate) fn is_leave_register(statement: &Stmt, number: u8) -> bool
-    ensures { IsTrue result → (statement.now ≡ leave_register number) }
+    ensures { IsTrue result ↔ (statement.now ≡ leave_register number) }
 {
     match statement {
         Stmt::Leave {
@@ -195,7 +195,7 @@ pub(crate) fn is_leave_register(statement: &Stmt, number: u8) -> bool
 }
 
 fn is_one_register(args: &[Arg], number: u8) -> bool
-    ensures { IsTrue result → (args.now ≡ arg.Op (register number) ∷ []) }
+    ensures { IsTrue result ↔ (args.now ≡ arg.Op (register number) ∷ []) }
 {
     match args {
         [Arg::Op(op)] => is_register(op, number),
@@ -205,7 +205,7 @@ fn is_one_register(args: &[Arg], number: u8) -> bool
 
 /// The call that brings an event to a sink: `ICounter.add` with one argument.
 pub(crate) fn is_event_call(statement: &Stmt) -> bool
-    ensures { IsTrue result → (statement.now
+    ensures { IsTrue result ↔ (statement.now
         ≡ stmt.Call 0 1 0 (arg.Op (register 0) ∷ []) (destination.Register 7)) }
 {
     match statement {

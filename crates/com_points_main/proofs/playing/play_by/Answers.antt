@@ -1,9 +1,10 @@
-use Rattle.std.proofs.Common.{◌≡◌, ℕ, List, subst, sym}
+use Rattle.std.proofs.Common.{ℕ, List, subst, sym}
 use Rattle.com_commands.specs.declared.statuses.Status.{Status}
 use Rattle.com_commands.specs.Statuses.{Says}
+use Rattle.com_model.specs.Ends.{scheduled}
 use Rattle.com_points_main.specs.Playing.{AreLines}
 use Rattle.com_points_main.proofs.Answered.{played_said, played_fault, played_memory}
-use Rattle.com_points_main.proofs.playing.play.Goals as goal
+use Rattle.com_points_main.proofs.playing.play_by.Goals as goal
 
 pub returns-in-Ok-clause-answered : goal.returns-in-Ok-clause-answered
 returns-in-Ok-clause-answered g c =
@@ -11,7 +12,7 @@ returns-in-Ok-clause-answered g c =
     (g.K.Sink.held c.args.sink.now) (g.K.Sink.held c.replayed.new.sink) (g.K.Sink.held c.say.new.sink)
     (g.K.Sink.faults_of c.args.sink.now) (g.K.Sink.faults_of c.replayed.new.sink) (g.K.Sink.faults_of c.say.new.sink)
     c.in-Ok.ensures.ends
-    (subst (λ (t : List ℕ). AreLines t) (sym c.as_slice.ensures) c.in-Ok.ensures.lines)
+    (subst (λ (t : List ℕ). AreLines c.args.scenario (scheduled c.args.scenario) t) (sym c.as_slice.ensures) c.in-Ok.ensures.lines)
     c.in-Ok.ensures.ok
     c.in-Ok.ensures.counts
     (subst
@@ -21,13 +22,15 @@ returns-in-Ok-clause-answered g c =
 
 pub returns-in-Err-WriteFault-clause-answered : goal.returns-in-Err-WriteFault-clause-answered
 returns-in-Err-WriteFault-clause-answered g c =
-    played_fault c.args.scenario (g.K.Sink.held c.args.sink.now) (g.K.Sink.held c.replayed.new.sink)
+    played_fault c.args.scenario c.args.table.now (g.K.Sink.held c.args.sink.now) (g.K.Sink.held c.replayed.new.sink)
     (g.K.Sink.faults_of c.args.sink.now) (g.K.Sink.faults_of c.replayed.new.sink)
+    c.requires.sources c.requires.sound
     (c.in-Err-WriteFault.ensures.fault (cc (c.in-Err-WriteFault.field-0-is)))
     c.in-Err-WriteFault.ensures.prefix
 
 pub returns-in-Err-Memory-clause-answered : goal.returns-in-Err-Memory-clause-answered
 returns-in-Err-Memory-clause-answered g c =
-    played_memory c.args.scenario (g.K.Sink.held c.args.sink.now) (g.K.Sink.held c.replayed.new.sink)
+    played_memory c.args.scenario c.args.table.now (g.K.Sink.held c.args.sink.now) (g.K.Sink.held c.replayed.new.sink)
     (g.K.Sink.faults_of c.args.sink.now) (g.K.Sink.faults_of c.replayed.new.sink)
+    c.requires.sources c.requires.sound
     c.in-Err-Memory.ensures.prefix
