@@ -1,0 +1,184 @@
+-- Every scenario with late-bound calls is formed.
+use Rattle.std.proofs.Common.{◌≡◌, ℕ, suc, nat_le, List, [], ◌∷◌, length, map, Option, Some, None, Result, Ok, Err, All, refl, sym, ap, subst, ◌∙◌, arith, inr}
+use Rattle.std.specs.Prelude.{slice_get, option_and_then}
+use Rattle.std.proofs.lemmas.List.Elements.{All-nil, All-cons, All-head, All-tail, All-push}
+use Rattle.com_base.specs.declared.hresult.HResult.{HResult}
+use Rattle.com_body.specs.Bodies.{IsArg}
+use Rattle.com_classes.specs.declared.interfaces.Interface.{Interface}
+use Rattle.com_classes.specs.declared.interfaces.Method.{Method}
+use Rattle.com_classes.specs.BuiltIns.{built_in_interfaces}
+use Rattle.com_classes.specs.Lookups.{method_at}
+use Rattle.com_binding.specs.declared.members.Bound.{Bound}
+use Rattle.com_binding.specs.declared.members.DispArg.{DispArg}
+use Rattle.com_binding.specs.declared.members.DispArg.TheVariants as given
+use Rattle.com_binding.specs.Binding.{bound_among, methods_of}
+use Rattle.com_binding.specs.Ranges.{IsDispArg}
+use Rattle.com_binding.proofs.InRange.{bound_to, bound_stays}
+use Rattle.com_invoke.specs.declared.Invocation.{Invocation}
+use Rattle.com_invoke.specs.Invoking.{invocation_at}
+use Rattle.com_invoke.specs.Standing.{sort_of, outcome_by, outcome_of, argument_of, statement_of}
+use Rattle.com_text.specs.Words.{WordAt, LineAt}
+use Rattle.com_text.specs.Scanning.{lines_of}
+use Rattle.com_read_operands.specs.Reading.{fault_at}
+use Rattle.com_read_statements.specs.declared.keywords.Program.{Program}
+use Rattle.com_read_statements.specs.declared.keywords.Program.TheVariants as programs
+use Rattle.com_read_statements.specs.declared.names.Names.{Names}
+use Rattle.com_read_sections.specs.declared.state.State.{State}
+use Rattle.com_read_sections.specs.declared.state.Section.{Section}
+use Rattle.com_read_sections.specs.declared.state.Section.TheVariants as sections
+use Rattle.com_read_sections.specs.Codes.{CodeAt, code_more}
+use Rattle.com_read_sections.specs.Opened.{program_of, step}
+use Rattle.com_read_sections.specs.Outlines.{finish}
+use Rattle.com_model.specs.declared.scenario.Scenario.{Scenario}
+use Rattle.com_model.specs.Formed.{Context, IsStatement, FitsMethod, in_script, in_class, Formed}
+use Rattle.com_scenario.specs.Scenarios.{scenario_of}
+use Rattle.com_scenario_laws.specs.Declared.{Declares, Fits}
+use Rattle.com_scenario_laws.specs.Words.{IsWord, IsLine}
+use Rattle.com_scenario_laws.specs.Holds.{Holds}
+use Rattle.com_scenario_laws.proofs.Holds.{done, fails, bind, weaker, either}
+use Rattle.com_scenario_laws.proofs.Words.{lines_formed}
+use Rattle.com_scenario.proofs.Standing.{so_far, AtBody, AtThread, Stands, StandsAt, body_declares, script_declares}
+use Rattle.com_scenario.proofs.Steps.{step_stands}
+use Rattle.com_scenario.proofs.Forms.{IsOutline, begun_stands, finish_formed}
+use Rattle.com_dispatch.specs.declared.outcomes.Late.{Late}
+use Rattle.com_dispatch.specs.Late.{Reading, limit_in, bound_more, invoke_line, other_line, in_section, is_invoke, late_step, LateOutline, late_finish, late_read, late_begun, late_of, late}
+use Rattle.com_dispatch.proofs.Given.{IsGiven, IsInvoked, invoked}
+use Rattle.com_dispatch.proofs.Passed.{signed_match}
+
+-- ---- the statement
+
+given_slot : (a : DispArg) → IsGiven a → IsDispArg a
+given_slot (given.Literal v) h = tt
+given_slot (given.Slot n) h = h
+given_slot given.Null h = tt
+
+given_slots : (as' : List DispArg) → All IsGiven as' → All IsDispArg as'
+given_slots [] h = All-nil IsDispArg
+given_slots (a ∷ as') h = All-cons IsDispArg a as' (given_slot a (All-head IsGiven a as' h)) (given_slots as' (All-tail IsGiven a as' h))
+
+passed_slot : (a : DispArg) → IsDispArg a → IsArg (argument_of a)
+passed_slot (given.Literal v) h = tt
+passed_slot (given.Slot n) h = h
+passed_slot given.Null h = tt
+
+passed_slots : (as' : List DispArg) → All IsDispArg as' → All IsArg (map argument_of as')
+passed_slots [] h = All-nil IsArg
+passed_slots (a ∷ as') h = All-cons IsArg (argument_of a) (map argument_of as') (passed_slot a (All-head IsDispArg a as' h)) (passed_slots as' (All-tail IsDispArg a as' h))
+
+method_in : (o : Option Interface) (k : ℕ) (m : Method) → slice_get (methods_of o) k ≡ Some m → option_and_then (λ (i : Interface). slice_get i.methods k) o ≡ Some m
+method_in None k m e = absurd cc
+method_in (Some i) k m e = e
+
+call_fits : (s : Scenario) (x : Context) (tables : List Interface) (i : Invocation) (b : Bound) → tables ≡ s.classes.interfaces → IsInvoked (length s.classes.interfaces) i
+    → bound_among (methods_of (slice_get tables i.iface)) i.member i.args (sort_of i.destination) ≡ Ok b → IsStatement s x (statement_of i (outcome_by (Ok b)))
+unfolding statement_of
+call_fits s x tables i b same h e =
+    let t = bound_to (methods_of (slice_get tables i.iface)) i.member i.args (sort_of i.destination) b e in
+    let m = signed_match t.place t.method i.args i.destination b t.signature h.args in
+    let at : slice_get (methods_of (slice_get s.classes.interfaces i.iface)) t.place ≡ Some t.method = subst (λ (ts : List Interface). slice_get (methods_of (slice_get ts i.iface)) t.place ≡ Some t.method) same t.there in
+    let declared : method_at s.classes i.iface t.place ≡ Some t.method = method_in (slice_get s.classes.interfaces i.iface) t.place t.method at in
+    let named : method_at s.classes i.iface b.method ≡ Some t.method = ap (λ (k : ℕ). method_at s.classes i.iface k) m.method ∙ declared in
+    (h.iface, inr (subst (λ (o : Option Method). FitsMethod o (map argument_of b.args) i.destination) (sym named) m.fits))
+
+stands_by : (s : Scenario) (x : Context) (tables : List Interface) (i : Invocation) (r : Result Bound HResult) → tables ≡ s.classes.interfaces → IsInvoked (length s.classes.interfaces) i
+    → bound_among (methods_of (slice_get tables i.iface)) i.member i.args (sort_of i.destination) ≡ r → Fits s x (statement_of i (outcome_by r))
+unfolding statement_of
+stands_by s x tables i (Ok b) same h e = record {
+  in_range = (h.slot, passed_slots b.args (bound_stays (methods_of (slice_get tables i.iface)) i.member i.args (sort_of i.destination) b e (given_slots i.args h.args)), h.destination);
+  stated = call_fits s x tables i b same h e;
+}
+stands_by s x tables i (Err hr) same h e = record { in_range = (omega arith, tt); stated = tt }
+
+stands_fits : (s : Scenario) (x : Context) (tables : List Interface) (i : Invocation) → tables ≡ s.classes.interfaces → IsInvoked (length s.classes.interfaces) i → Fits s x (statement_of i (outcome_of tables i))
+unfolding outcome_of
+stands_fits s x tables i same h = stands_by s x tables i (bound_among (methods_of (slice_get tables i.iface)) i.member i.args (sort_of i.destination)) same h refl
+
+-- ---- a line
+
+abbrev StandsRead : Reading → Type 0
+StandsRead r = Stands r.state
+
+-- the statements of a body or a script, with one that an `invoke` stands for
+abbrev Coded : Scenario → Context → Names → CodeAt → Invocation → ℕ → ℕ → Type 0
+Coded s x names code i line column =
+    All (Fits s x) (code_more code (statement_of i (outcome_of names.tables i)) (record { number = 11; line = line; column = column })).statements
+
+coded : (s : Scenario) (x : Context) (p : Program) (names : Names) (code : CodeAt) (w : WordAt) (line : List WordAt) → Declares s x p names → All IsWord line → All (Fits s x) code.statements
+    → Holds (λ (i : Invocation). Coded s x names code i w.line w.column) (invocation_at names.interfaces line)
+coded s x p names code w line d h c = weaker (invocation_at names.interfaces line) (invoked names.interfaces line h) (λ i is.
+    All-push (Fits s x) code.statements (statement_of i (outcome_of names.tables i)) c
+    (stands_fits s x names.tables i d.tables (subst (λ (n : ℕ). IsInvoked n i) d.interfaces is)))
+
+stay_at : (st : State) (sec : Section) → st.section ≡ sec → StandsAt st sec → Stands st
+stay_at st sec e h = subst (StandsAt st) (sym e) h
+
+body_stands : (r : Reading) (w : WordAt) (line : List WordAt) → All IsWord line → r.state.section ≡ sections.Body → AtBody r.state → Holds StandsRead (invoke_line 200 r w line)
+unfolding invoke_line
+body_stands r w line ws e h =
+    (let st = r.state in
+    let s = so_far st.names.tables st.classes st.filters in
+    let x = in_class (suc (length st.classes)) st.class in
+    let o = h.outer in
+    either (nat_le 200 (length st.code.statements)) _ _ (λ _. fails _) (λ _.
+    bind (invocation_at st.names.interfaces line) _ (coded s x (program_of st.class.model) st.names st.code w line (body_declares st o) ws h.code) (λ i is.
+    done _ (stay_at (bound_more r i (outcome_of st.names.tables i) (fault_at 11 w)).state sections.Body e (record {
+      outer = record { version = o.version; closed = o.closed; named = o.named; opened = o.opened };
+      head = record { method = h.head.method; new = h.head.new };
+      code = is;
+    })))))
+
+thread_stands : (r : Reading) (w : WordAt) (line : List WordAt) → All IsWord line → r.state.section ≡ sections.Thread → AtThread r.state → Holds StandsRead (invoke_line 2000 r w line)
+unfolding invoke_line
+thread_stands r w line ws e h =
+    (let st = r.state in
+    let s = so_far st.names.tables st.classes st.filters in
+    let o = h.top in
+    either (nat_le 2000 (length st.code.statements)) _ _ (λ _. fails _) (λ _.
+    bind (invocation_at st.names.interfaces line) _ (coded s (in_script s) programs.Script st.names st.code w line (script_declares st o) ws h.code) (λ i is.
+    done _ (stay_at (bound_more r i (outcome_of st.names.tables i) (fault_at 11 w)).state sections.Thread e (record {
+      top = record { version = o.version; closed = o.closed; named = o.named };
+      room = h.room;
+      code = is;
+    })))))
+
+other_stands : (r : Reading) (line : List WordAt) → All IsWord line → Stands r.state → Holds StandsRead (other_line r line)
+other_stands r line ws h = bind (step r.state line) _ (step_stands r.state line ws h) (λ next k. done _ k)
+
+invoke_stands : (r : Reading) (w : WordAt) (line : List WordAt) (sec : Section) → All IsWord line → r.state.section ≡ sec → Stands r.state → StandsAt r.state sec → Holds StandsRead (in_section r w line (limit_in sec))
+invoke_stands r w line sections.Header ws e h k = other_stands r line ws h
+invoke_stands r w line sections.Top ws e h k = other_stands r line ws h
+invoke_stands r w line sections.Interface ws e h k = other_stands r line ws h
+invoke_stands r w line sections.Class ws e h k = other_stands r line ws h
+invoke_stands r w line sections.Body ws e h k = body_stands r w line ws e k
+invoke_stands r w line sections.Filter ws e h k = other_stands r line ws h
+invoke_stands r w line sections.Thread ws e h k = thread_stands r w line ws e k
+
+late_stands : (r : Reading) (line : List WordAt) → All IsWord line → Stands r.state → Holds StandsRead (late_step r line)
+unfolding late_step
+late_stands r [] ws h = other_stands r [] ws h
+late_stands r (w ∷ vs) ws h = either (is_invoke w) _ _
+    (λ _. invoke_stands r w (w ∷ vs) r.state.section ws refl h h)
+    (λ _. other_stands r (w ∷ vs) ws h)
+
+-- ---- the text
+
+abbrev IsLateOutline : LateOutline → Type 0
+IsLateOutline o = Formed (scenario_of o.outline)
+
+late_finish_formed : (r : Reading) (line column : ℕ) → Stands r.state → Holds IsLateOutline (late_finish r line column)
+unfolding IsOutline
+late_finish_formed r line column h = bind (finish r.state line column) _ (finish_formed r.state line column h) (λ o k. done _ k)
+
+read_formed : (ls : List LineAt) (r : Reading) → All IsLine ls → Stands r.state → Holds IsLateOutline (late_read r ls)
+unfolding late_read
+read_formed [] r ws h = fails _
+read_formed (l ∷ ls) r ws h = bind (late_step r l.words) _ (late_stands r l.words (All-head IsLine l ls ws) h) (λ next k. either l.last _ _
+    (λ _. late_finish_formed next l.line l.column k)
+    (λ _. read_formed ls next (All-tail IsLine l ls ws) k))
+
+pub formed : (text : List ℕ) → Holds (λ (l : Late). Formed l.scenario) (late text)
+unfolding late
+formed text = bind (late_read (late_begun built_in_interfaces) (lines_of text)) _ (read_formed (lines_of text) (late_begun built_in_interfaces) (lines_formed text) begun_stands) (λ o h. done (late_of o) h)
+
+pub late_formed : (text : List ℕ) (l : Late) → late text ≡ Ok l → Formed l.scenario
+late_formed text l e = (formed text).of l e

@@ -1,0 +1,145 @@
+-- The scenario language with the statement `invoke`: each line is read as before, but for one that begins
+-- with `invoke` in a script or a body.
+use Rattle.std.specs.Prelude.{◌≡◌, ℕ, List, [], ◌∷◌, ◌++◌, Option, Some, None, Result, Ok, Err}
+use Rattle.std.specs.Prelude.{Bool, true, false, length, All, nat_le, if◌then◌else◌, codes}
+use Rattle.std.specs.Str.{bytes_eq}
+use Rattle.com_classes.specs.declared.interfaces.Interface.{Interface}
+use Rattle.com_classes.specs.BuiltIns.{built_in_interfaces}
+use Rattle.com_invoke.specs.declared.BindOutcome.{BindOutcome}
+use Rattle.com_invoke.specs.declared.Invocation.{Invocation}
+use Rattle.com_invoke.specs.Invoking.{invocation_at}
+use Rattle.com_invoke.specs.Standing.{outcome_of, statement_of}
+use Rattle.com_text.specs.declared.word.Sort.TheVariants as sorts
+use Rattle.com_text.specs.Words.{WordAt, LineAt}
+use Rattle.com_text.specs.Scanning.{lines_of}
+use Rattle.com_read_operands.specs.declared.faults.Fault.{Fault}
+use Rattle.com_read_operands.specs.Reading.{◌>>=◌, fault_at}
+use Rattle.com_read_statements.specs.Calls.{call_at}
+use Rattle.com_read_sections.specs.declared.outline.Outline.{Outline}
+use Rattle.com_read_sections.specs.declared.state.State.{State}
+use Rattle.com_read_sections.specs.declared.state.Section.{Section}
+use Rattle.com_read_sections.specs.declared.state.Section.TheVariants as sections
+use Rattle.com_read_sections.specs.Codes.{code_more, first_place}
+use Rattle.com_read_sections.specs.Opened.{step}
+use Rattle.com_read_sections.specs.Outlines.{begun, finish}
+use Rattle.com_scenario.specs.Scenarios.{scenario_of, reading}
+use Rattle.com_dispatch.specs.declared.outcomes.Binding.{Binding}
+use Rattle.com_dispatch.specs.declared.outcomes.Late.{Late}
+use Rattle.com_dispatch.specs.declared.outcomes.LateError.{LateError}
+use Rattle.com_dispatch.specs.declared.outcomes.LateError.TheVariants as errors
+
+-- what was read so far, and what each `invoke` of it was bound to
+pub record Reading : Type 0 where
+  pub state : State
+  pub bindings : List Binding
+
+-- ---- a line that begins with `invoke`
+
+-- how many statements may stand where `invoke` is one: in a body and in a script
+abbrev pub limit_in : Section → Option ℕ
+limit_in sections.Body = Some 200
+limit_in sections.Thread = Some 2000
+limit_in _ = None
+
+-- the statement that it stands for is one more of the body or the script, and its binding one more of the
+-- text
+abbrev pub bound_more : Reading → Invocation → BindOutcome → Fault → Reading
+bound_more r i o spot = record {
+  state = record (r.state) { code = code_more r.state.code (statement_of i o) spot };
+  bindings = r.bindings ++ record { iface = i.iface; outcome = o } ∷ [];
+}
+
+-- The interfaces and their tables are those that are declared above the line.
+unfoldable pub invoke_line : ℕ → Reading → WordAt → List WordAt → Result Reading Fault
+invoke_line limit r w line =
+    if nat_le limit (length r.state.code.statements) then Err (fault_at 12 w) else (do
+      i ← invocation_at r.state.names.interfaces line
+      Ok (bound_more r i (outcome_of r.state.names.tables i) (fault_at 11 w)))
+
+-- ---- every line
+
+abbrev pub other_line : Reading → List WordAt → Result Reading Fault
+other_line r line = step r.state line >>= λ next. Ok (record { state = next; bindings = r.bindings })
+
+abbrev pub in_section : Reading → WordAt → List WordAt → Option ℕ → Result Reading Fault
+in_section r w line None = other_line r line
+in_section r w line (Some limit) = invoke_line limit r w line
+
+abbrev pub is_invoke : WordAt → Bool
+is_invoke w = bytes_eq w.bytes (codes "invoke")
+
+abbrev pub late_line : Reading → WordAt → List WordAt → Result Reading Fault
+late_line r w line =
+    if is_invoke w then in_section r w line (limit_in r.state.section) else other_line r line
+
+-- What a line makes of what was read so far. Outside of scripts and bodies `invoke` is a word like any other.
+unfoldable pub late_step : Reading → List WordAt → Result Reading Fault
+late_step r [] = other_line r []
+late_step r (w ∷ ws) = late_line r w (w ∷ ws)
+
+-- ---- the text
+
+-- what a text declares, and what its statements are bound to
+pub record LateOutline : Type 0 where
+  pub outline : Outline
+  pub bindings : List Binding
+
+abbrev pub late_finish : Reading → ℕ → ℕ → Result LateOutline Fault
+late_finish r line column =
+    finish r.state line column >>= λ o. Ok (record { outline = o; bindings = r.bindings })
+
+-- the lines that are left
+unfoldable pub late_read : Reading → List LineAt → Result LateOutline Fault
+late_read r [] = Err first_place
+late_read r (l ∷ ls) =
+    late_step r l.words >>= λ next. (if l.last then late_finish next l.line l.column else late_read next ls)
+
+abbrev pub late_begun : List Interface → Reading
+late_begun tables = record { state = begun tables; bindings = [] }
+
+abbrev pub late_of : LateOutline → Late
+late_of o = record { scenario = scenario_of o.outline; bindings = o.bindings }
+
+-- The scenario that a text spells, with what each `invoke` is bound to in the text's order, or its first
+-- fault: the lines are read one after another, and a line's words from left to right.
+unfoldable pub late : List ℕ → Result Late Fault
+late text = late_read (late_begun built_in_interfaces) (lines_of text) >>= λ o. Ok (late_of o)
+
+-- What a function answered is what is read, unless memory ran out.
+abbrev pub GivesLate : Result Late LateError → Result Late Fault → Type 0
+GivesLate (Ok l) wanted = wanted ≡ Ok l
+GivesLate (Err (errors.Fault n line column)) wanted =
+    wanted ≡ Err (record { number = n; line = line; column = column })
+GivesLate (Err errors.Memory) wanted = Unit {0}
+
+-- ---- texts without the statement
+
+abbrev pub has_invoke : List WordAt → Bool
+has_invoke [] = false
+has_invoke (w ∷ ws) = is_invoke w
+
+-- ---- a call by name and its table call
+
+-- Two lines make the same of what was read, but for the places at which the faults of skips would stand,
+-- and for the bindings; or both are at fault in the same way.
+abbrev pub IsSame : Result Reading Fault → Result Reading Fault → Type 0
+IsSame (Ok a) (Ok b) =
+    a.state ≡ record (b.state) { code = record (b.state.code) { spots = a.state.code.spots } }
+IsSame (Err e) (Err f) = e.number ≡ f.number
+IsSame (Ok a) (Err f) = ⊥
+IsSame (Err e) (Ok b) = ⊥
+
+-- Where an `invoke` may stand, it makes the same of what was read as the line of the call that it is bound
+-- to.
+abbrev pub CallsAreSame : Type 0
+CallsAreSame = (r : Reading) (limit : ℕ) (w : WordAt) (ws : List WordAt) (c : WordAt) (cs : List WordAt)
+    (i : Invocation) → limit_in r.state.section ≡ Some limit → is_invoke w ≡ true
+    → invocation_at r.state.names.interfaces (w ∷ ws) ≡ Ok i
+    → c.sort ≡ sorts.Plain → c.bytes ≡ codes "call"
+    → call_at r.state.names (c ∷ cs) ≡ Ok (statement_of i (outcome_of r.state.names.tables i))
+    → IsSame (late_step r (w ∷ ws)) (late_step r (c ∷ cs))
+
+-- A text without a line that begins with `invoke` is read as before.
+abbrev pub OthersStay : Type 0
+OthersStay = (text : List ℕ) → All (λ (l : LineAt). has_invoke l.words ≡ false) (lines_of text)
+    → late text ≡ (reading text >>= λ s. Ok (record { scenario = s; bindings = [] }))

@@ -1,0 +1,15 @@
+//! The scenario language with late-bound calls, after Microsoft's documentation of IDispatch: the statement
+//! `invoke` calls a member by its name or its number. Everything else of a text is read by the crates of
+//! the language.
+#![tactic(auto)]
+
+mod elaborating;
+mod laws;
+mod outcomes;
+
+pub use com_base::Memory;
+pub use com_binding::{BindError, Bound, DispArg, Member, Sort, bind};
+pub use com_invoke::BindOutcome;
+pub use elaborating::elaborate;
+pub use laws::{calls_by_name_are_calls, late_scenarios_are_formed, other_texts_stay};
+pub use outcomes::{Binding, Late, LateError};

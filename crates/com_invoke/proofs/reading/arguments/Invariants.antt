@@ -1,0 +1,10 @@
+use Rattle.std.proofs.Common.{◌≡◌, [], drop, All}
+use Rattle.com_binding.specs.Ranges.{IsDispArg}
+use Rattle.com_invoke.specs.Invoking.{arguments_on}
+use Rattle.com_invoke.proofs.reading.arguments.Given as goal
+
+abbrev pub invariant-loop-place : goal.invariant-loop-place
+invariant-loop-place l = record {
+  value : arguments_on l.arguments.items l.line l.place (drop l.place l.line) ≡ arguments_on [] l.line 4 (drop 4 l.line);
+  range : All IsDispArg l.arguments.items;
+}

@@ -1,0 +1,2 @@
+pub mod Invoking
+pub mod Standing
