@@ -1,0 +1,4 @@
+pub mod Long
+pub mod Moves
+pub mod Pushed
+pub mod Short
