@@ -1,0 +1,11 @@
+//! Worked cases of runs on threads, from bytes to bytes.
+#![tactic(auto)]
+
+#[cfg(test)]
+mod counted;
+#[cfg(test)]
+mod crew;
+#[cfg(test)]
+mod meeting;
+#[cfg(test)]
+mod tests;

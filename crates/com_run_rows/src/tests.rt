@@ -1,0 +1,120 @@
+//! The two lanes of a run are at work at the same time, by the servants of its crew.
+ghost use Rattle.std.specs.Prelude.{◌≡◌, ◌++◌, ◌∷◌, [], All, IfOk, OnOk, map, vec_len};
+ghost use Rattle.com_servant.specs.Rows.{row};
+
+use crate::counted::{CREW, Counted, Steps};
+use crate::crew::is_manned;
+use crate::meeting::Meeting;
+use com_base::ByteList;
+use com_body::Native;
+use com_io::{MemorySink, MemorySource};
+use com_run_main::run_main;
+use com_servant::{Counter, Interpreter, Latch, Memory, Relay, Servant};
+use std::alloc::{AllocError, Global};
+use std::sync::{Arc, Wait};
+use std::test::*;
+use std::thread::Threads;
+
+const TWO_COUNTERS: &[u8] =
+    b"scenario 1\nnative Cnt {5C0B00C1-0000-4000-8000-000000000001} Both counter\nthread\ninit sta\ncreate s0 Cnt ICounter\ncall s0 ICounter.add 1 -> r1\nend\nthread\ninit sta\ncreate s0 Cnt ICounter\ncall s0 ICounter.add 1 -> r1\ncall s0 ICounter.add 1 -> r1\nend\n";
+
+// How many of the lines are entries of a lane.
+fn entries_of(lines: &[u8], lane: u8) -> usize {
+    let mut count = 0usize;
+    for line in lines.split(|byte| *byte == b'\n') {
+        if let Some(at) = line.iter().position(|byte| *byte == b'L') {
+            if line.get(at + 1) == Some(&lane) {
+                count = count.saturating_add(1);
+            }
+        }
+    }
+    count
+}
+
+// A value in a box. The only error is want of memory.
+fn boxed<T: Drop>(alloc: Global, value: T) -> Result<Box<T>, Memory>
+    ensures { IfOk result (λ boxed. boxed.value ≡ value) }
+{
+    Ok(Box::new(alloc, value)?)
+}
+
+// Puts one servant more behind a row. Its kind is told to the proof alone.
+fn add(
+    servants: &mut Vec<Box<dyn Servant + Send>>,
+    servant: Box<dyn Servant + Send>,
+    _kind: Native,
+) -> Result<(), Memory>
+    requires { kind_of servant ≡ _kind }
+    ensures { OnOk result (map kind_of servants.new.items ≡ map kind_of servants.old.items ++ (_kind ∷ [])) }
+{
+    servants.push(servant)?;
+    Ok(())
+}
+
+// What `run` answers for the two counters, and what it writes, with a crew whose steps are counted. The
+// counters of lane 1 may refuse each step.
+fn ran<R: Threads + Wait + Sync>(
+    rt: &R,
+    alloc: Global,
+    gate: &Meeting,
+    steps: &Arc<Steps, Global>,
+    refuses: bool,
+) -> Result<(u8, ByteList), Memory> {
+    let mut crew: Vec<Vec<Box<dyn Servant + Send>>> = Vec::new(alloc);
+    for at in 0..CREW {
+        let mut servants: Vec<Box<dyn Servant + Send>> = Vec::new(alloc);
+        let bodies = Counted::new(Interpreter::new(), at, false, steps.clone()?);
+        add(&mut servants, boxed(alloc, bodies)?, Native::Bodies)?;
+        let counter = Counted::new(Counter::new(), at, refuses && at == 0, steps.clone()?);
+        add(&mut servants, boxed(alloc, counter)?, Native::Counter)?;
+        let relay = Counted::new(Relay::new(), at, false, steps.clone()?);
+        add(&mut servants, boxed(alloc, relay)?, Native::Relay)?;
+        let latch = Counted::new(Latch::new(), at, false, steps.clone()?);
+        add(&mut servants, boxed(alloc, latch)?, Native::Latch)?;
+        crew.push(servants)?;
+    }
+    // That each row is one, is looked at here: the loop has no invariant that says it.
+    if !is_manned(&crew) {
+        return Err(AllocError);
+    }
+    let bytes = ByteList::from_slice(alloc, TWO_COUNTERS)?;
+    let mut source = MemorySource::new(bytes, 1000, Vec::new(alloc));
+    let mut sink = MemorySink::new(alloc, 10_000, 1000, Vec::new(alloc))?;
+    let status = run_main(rt, alloc, crew, gate, &mut source, &mut sink);
+    Ok((status, ByteList::from_slice(alloc, sink.held())?))
+}
+
+#[test]
+fn two_lanes_meet_between_step_and_commit(rt: HostRuntime) -> Result<(), Fail> {
+    let steps = Arc::new(rt.alloc(), Steps::new())?;
+    let gate = Meeting::new();
+    let (status, text) = ran(&rt, rt.alloc(), &gate, &steps, false)?;
+    assert_eq!(rt; status, 0);
+    assert!(rt; gate.is_met());
+    assert_eq!(rt; steps.of(0), 1);
+    assert_eq!(rt; steps.of(1), 2);
+    for row in 2..CREW {
+        assert_eq!(rt; steps.of(row), 0);
+    }
+    assert_eq!(rt; entries_of(text.as_slice(), b'1'), 9);
+    assert_eq!(rt; entries_of(text.as_slice(), b'2'), 13);
+    assert!(rt; text.as_slice().ends_with(b"entries 22 clock 0\nend ok\n"));
+    Ok(())
+}
+
+#[test]
+fn want_of_memory_in_a_worker_is_answered_when_all_were_joined(
+    rt: HostRuntime,
+) -> Result<(), Fail> {
+    let steps = Arc::new(rt.alloc(), Steps::new())?;
+    let gate = Meeting::new();
+    let (status, text) = ran(&rt, rt.alloc(), &gate, &steps, true)?;
+    assert_eq!(rt; status, 9);
+    assert_eq!(rt; text.as_slice(), b"".as_slice());
+    assert!(rt; gate.is_met());
+    assert!(rt; gate.is_left());
+    assert_eq!(rt; steps.of(0), 0);
+    // Lane 2 may make its second step before it learns of the want.
+    assert!(rt; steps.of(1) == 1 || steps.of(1) == 2);
+    Ok(())
+}
