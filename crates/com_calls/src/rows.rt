@@ -20,19 +20,28 @@ pub enum Left {
     Apart(Leaving),
 }
 
-/// One call. `apartment` is that of its target when it was issued, `time` the clock then, in milliseconds,
-/// and `unread` what it sends, until that is let go.
+/// One call.
 #[derive(Debug, Drop)]
 pub struct CallRow {
+    /// What its Out entry says of it.
     pub issue: Issue,
+    /// The apartment of its target when it was issued.
     pub apartment: u32,
+    /// Its Enter, once it was entered.
     pub admission: Option<Admission>,
+    /// Its Leave, once its body has left.
     pub left: Left,
+    /// Whether its Back was made.
     pub returned: bool,
+    /// What has fixed its answer, once something has.
     pub ending: Option<Ending>,
+    /// The refusal of a call that was refused at once, else S_OK.
     pub refusal: HResult,
+    /// What it sends, until that is let go.
     pub unread: Option<Rows<Value>>,
+    /// Whether it was posted, refused or retried.
     pub phase: Phase,
+    /// The clock when it was issued, in virtual milliseconds.
     pub time: u64,
 }
 
@@ -40,15 +49,20 @@ pub struct CallRow {
 /// apartment.
 #[derive(Debug, Drop)]
 pub struct Issued {
+    /// The refusal, or S_OK.
     pub refusal: HResult,
+    /// The values that it sends.
     pub values: Rows<Value>,
+    /// Its target's apartment.
     pub apartment: u32,
 }
 
 /// Which calls a disconnection reaches: those to an object, or those to the objects of an STA.
 #[derive(Debug, Clone, Copy)]
 pub enum Cut {
+    /// The calls to the object of this number.
     Object(u32),
+    /// The calls to the objects of the STA of this number.
     Sta(u32),
 }
 

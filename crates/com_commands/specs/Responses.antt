@@ -25,7 +25,7 @@ pub record GainsFront (Answer : Status → List ℕ → Type 0) (held held_after
   pub gained : GainsPrefix held held_after text
 
 -- How it was answered: by its status and its whole text; or a front of the text was written, and the sink's
--- count rose or memory wanted.
+-- count rose or want of memory came.
 abbrev pub IsAnswered : (Answer : Status → List ℕ → Type 0) → Status → (held held_after : Option (List ℕ))
     → (faults faults_after : ℕ) → Type 0
 IsAnswered Answer s held held_after faults faults_after =
@@ -101,7 +101,7 @@ pub record IsWholeAnswer {T : Type 0} (ask : List ℕ → Input T) (Fits : T →
   pub number : code ≡ code_of status
   pub whole : GainsWhole (IsAnswer Fits (ask bytes)) status sides.held sides.held_after
 
--- Where the input was told and no count of faults rose, it was answered whole; or memory wanted.
+-- Where the input was told and no count of faults rose, it was answered whole; or want of memory came.
 abbrev pub RespondsWhole : {T : Type 0} (ask : List ℕ → Input T) (Fits : T → Status → List ℕ → Type 0)
     → Type 0
 RespondsWhole ask Fits = (code : ℕ) (sides : Sides) (bytes : List ℕ) → Responds ask Fits code sides

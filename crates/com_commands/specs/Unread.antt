@@ -27,7 +27,7 @@ IsUnread limit status.Budget sides = ⊥
 IsUnread limit status.Differs sides = ⊥
 IsUnread limit status.Memory sides = sides.held_after ≡ sides.held
 
--- A text was refused by the line of its fault; or memory wanted, and nothing was written.
+-- A text was refused by the line of its fault; or want of memory came, and nothing was written.
 abbrev pub Refuses : Fault → Status → Option (List ℕ) → Option (List ℕ) → ℕ → ℕ → Type 0
 Refuses fault result held held_after faults faults_after =
     Says result status.Refused (refused_line fault) held held_after faults faults_after

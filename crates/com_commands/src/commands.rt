@@ -98,7 +98,7 @@ pub trait ReplyingCommand: InputReader {
 
 /// Does a command that answers what it read with one text: reads the input within its limit, makes of it what
 /// the reader says, and writes the answer to the sink. The answer is the exit status: each has its cause
-/// (`answers`), and where memory wanted nothing was written (`unwritten`).
+/// (`answers`), and where want of memory comes nothing was written (`unwritten`).
 pub fn respond<C: ReplyingCommand, S: Source, K: Sink>(
     alloc: Global,
     source: &mut S,
@@ -139,7 +139,7 @@ pub trait PlayingCommand: InputReader {
     ghost served: { Self.Read → List ℕ → List ℕ };
 
     /// Answers what was read: writes the whole text that goes with the status, or a front of it where the
-    /// sink's count of faults rose or memory wanted. The row has one servant of each kind, in the order of
+    /// sink's count of faults rose or want of memory came. The row has one servant of each kind, in the order of
     /// the kinds, and keeps them so.
     fn play<K: Sink>(
         alloc: Global,

@@ -52,7 +52,7 @@ pub fn say<K: Sink>(text: &[u8], status: Status, sink: &mut K) -> Status
 }
 
 /// Writes the line of a text's fault, and answers the status that it goes with, or that it could not be
-/// written; or memory wanted, and nothing was written.
+/// written; or want of memory came, and nothing was written.
 #[tactic(auto, using(crate::proofs::Unreading::line_refuses, crate::proofs::Unreading::nothing_refuses))]
 pub fn refuse<K: Sink>(alloc: Global, fault: Fault, sink: &mut K) -> Status
     ensures { Refuses fault result (K.held sink.old) (K.held sink.new)

@@ -63,6 +63,8 @@ pub fn status_at(ended: Ended) -> Status
 /// An exit status, and the text that goes with it.
 #[derive(Debug, Drop)]
 pub struct Reply {
+    /// The exit status.
     pub status: Status,
+    /// The text, in bytes.
     pub text: ByteList,
 }

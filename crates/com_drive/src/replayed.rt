@@ -6,7 +6,10 @@ use com_model::Ended;
 /// virtual milliseconds.
 #[derive(Debug, Clone, Copy, PartialEq, Eq)]
 pub struct Replayed {
+    /// How the history ended.
     pub ended: Ended,
+    /// How many entries it has.
     pub entries: u64,
+    /// Where its clock stands, in virtual milliseconds.
     pub clock: u64,
 }

@@ -13,7 +13,9 @@ use com_model::{Ended, Scenario};
 /// The lane whose turn it is, and how many of the picks were tried.
 #[derive(Debug, Clone, Copy)]
 pub struct Chosen {
+    /// The lane.
     pub lane: u32,
+    /// How many of the picks were tried, those that were passed over with the one that was taken.
     pub tried: usize,
 }
 

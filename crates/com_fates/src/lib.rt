@@ -21,9 +21,13 @@ use com_scene::Actor;
 /// run, and the objects that were dying before.
 #[derive(Clone, Copy)]
 pub struct Fates<'a> {
+    /// The objects.
     pub objects: &'a Objects,
+    /// Who holds references.
     pub ledger: &'a Ledger,
+    /// How many bodies of each object run.
     pub entered: &'a Entered,
+    /// The objects that were dying before.
     pub fallen: &'a Fallen,
 }
 

@@ -10,8 +10,11 @@ use std::marker::Model;
 /// of its result has the number `result`, which is 0 where there is none.
 #[derive(Debug, Clone, Copy, PartialEq, Eq)]
 pub struct CallPackets {
+    /// The number of the first packet of its arguments.
     pub first: u32,
+    /// How many packets its arguments have.
     pub count: u32,
+    /// The number of its result's packet, and 0 where there is none.
     pub result: u32,
 }
 

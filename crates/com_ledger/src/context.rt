@@ -10,10 +10,16 @@ use com_objects::Objects;
 /// marshalled Out or Leave carries, in order.
 #[derive(Clone, Copy)]
 pub struct Context<'a> {
+    /// The home apartment of the entry's lane. `None` where it has none.
     pub home: Option<u32>,
+    /// The apartment in which the lane runs. `None` where it runs in none.
     pub running: Option<u32>,
+    /// The objects.
     pub objects: &'a Objects,
+    /// The calls.
     pub calls: &'a Calls,
+    /// The classes.
     pub classes: &'a Classes,
+    /// The references that a marshalled Out or Leave carries, in order.
     pub carried: &'a [RefValue],
 }

@@ -14,6 +14,7 @@ use std::marker::Model;
 /// lost their last holder in the last entry.
 #[derive(Debug, Drop)]
 pub struct Ledger {
+    /// The books, and what is kept beside them.
     pub keeping: Keeping,
 }
 

@@ -11,7 +11,9 @@ use std::marker::Model;
 /// A reference that an apartment loses or gains at a place.
 #[derive(Debug, Clone, Copy, PartialEq, Eq)]
 pub struct Move {
+    /// The apartment.
     pub apartment: u32,
+    /// The reference.
     pub reference: RefValue,
 }
 
@@ -95,14 +97,14 @@ impl Moves {
         self.gained.as_slice()
     }
 
-    // An apartment loses what a place holds.
+    /// An apartment loses what a place holds. The only error is want of memory.
     pub fn lose(&mut self, apartment: Option<u32>, held: Option<RefValue>) -> Result<(), Memory>
         ensures { OnOk result (self.new ≡ record self.old { lost = self.old.lost ++ moved apartment held }) }
     {
         put(&mut self.lost, apartment, held)
     }
 
-    // An apartment gains what comes to a place.
+    /// An apartment gains what comes to a place. The only error is want of memory.
     pub fn gain(&mut self, apartment: Option<u32>, held: Option<RefValue>) -> Result<(), Memory>
         ensures { OnOk result (self.new
             ≡ record self.old { gained = self.old.gained ++ moved apartment held }) }
@@ -110,7 +112,8 @@ impl Moves {
         put(&mut self.gained, apartment, held)
     }
 
-    // A write at a place of a list.
+    /// A write at a place of a list, counted from 0: what stood there is lost, and what comes there gained. The
+    /// only error is want of memory.
     pub fn exchange(
         &mut self,
         apartment: Option<u32>,
@@ -124,7 +127,7 @@ impl Moves {
         self.gain(apartment, held)
     }
 
-    // An apartment loses all that a list of places holds.
+    /// An apartment loses all that a list of places holds. The only error is want of memory.
     #[tactic(auto, using(crate::proofs::Lists::all_moved_more, crate::proofs::Lists::append_none))]
     pub fn lose_all(
         &mut self,
@@ -154,7 +157,7 @@ impl Moves {
         }
     }
 
-    // An apartment gains what values hold.
+    /// An apartment gains what values hold. The only error is want of memory.
     pub fn gain_values(&mut self, apartment: Option<u32>, values: &[Value]) -> Result<(), Memory>
         ensures { OnOk result (self.new
             ≡ record self.old { gained = self.old.gained ++ all_moved apartment (references values.now) }) }

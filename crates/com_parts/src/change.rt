@@ -8,7 +8,9 @@ use com_scene::Actor;
 /// What a call has at its Out entry: the refusal, or S_OK, and the values that it sends.
 #[derive(Debug, Drop)]
 pub struct Sent {
+    /// The refusal, or S_OK.
     pub refusal: HResult,
+    /// The values that it sends.
     pub values: Rows<Value>,
 }
 

@@ -25,7 +25,9 @@ use std::sync::Arc;
 /// The entries of a history in the order of their making, and how it ended.
 #[derive(Drop)]
 pub struct Recorded {
+    /// The entries, in the order of their making.
     pub entries: Vec<Entry>,
+    /// How the history ended.
     pub ended: Ended,
 }
 
