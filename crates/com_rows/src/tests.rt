@@ -123,7 +123,7 @@ fn other_words_are_usage_and_read_nothing(rt: HostRuntime) -> Result<(), Fail> {
     assert_eq!(rt; replay(rt.alloc(), &mut source, &mut sink)?, 2);
     assert_eq!(rt;
         sink.held(),
-        b"usage: comrun replay|check|load N|objref|waits|points\nrefused 1 1 1\n".as_slice()
+        b"usage: comrun replay|check|load N|objref|migrate|waits|dispatch|points\nrefused 1 1 1\n".as_slice()
     );
     Ok(())
 }

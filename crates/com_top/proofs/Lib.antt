@@ -3,3 +3,4 @@ pub mod Explained
 pub mod Histories
 pub mod Loaded
 pub mod Replayed
+pub mod Sound

@@ -9,6 +9,9 @@ use Rattle.com_commands.specs.Statuses.{Sides}
 use Rattle.com_scenario.specs.Sizes.{is_too_long}
 use Rattle.com_read_points.specs.Sources.{reading_points}
 use Rattle.com_points_main.specs.Playing.{IsPlayed}
+use Rattle.com_dispatch.specs.Late.{late}
+use Rattle.com_dispatch_main.specs.Dispatching.{IsDispatched, dispatched_served}
+use Rattle.com_migrate_main.specs.Migrating.{IsMigrated, migrating}
 use Rattle.com_top.specs.declared.words.Command.{Command}
 use Rattle.com_top.specs.declared.words.Command.TheVariants as command
 use Rattle.com_top.specs.Checking.{IsVerdict, question_input}
@@ -18,7 +21,7 @@ use Rattle.com_top.specs.Scenarios.{IsHistory, scenario_input}
 use Rattle.com_top.specs.Showing.{IsShown, digits_input}
 
 abbrev pub usage_line : List ℕ
-usage_line = codes "usage: comrun replay|check|load N|objref|waits|points\n"
+usage_line = codes "usage: comrun replay|check|load N|objref|migrate|waits|dispatch|points\n"
 
 -- The usage line was written, and the code is 1; or the sink's count rose, a prefix of the line was written,
 -- and the code is 4.
@@ -35,7 +38,9 @@ Answered command.Replay code sides alone = Responds scenario_input IsHistory cod
 Answered command.Check code sides alone = Responds question_input IsVerdict code sides
 Answered (command.Load number) code sides alone = Responds (load_input number) IsLoaded code alone
 Answered command.ObjRef code sides alone = Responds digits_input IsShown code sides
+Answered command.Migrate code sides alone = Responds migrating IsMigrated code sides
 Answered command.Waits code sides alone = Responds scenario_input IsExplained code sides
+Answered command.Dispatch code sides alone = Responds (input_of is_too_long late) IsDispatched code sides
 Answered command.Points code sides alone = Responds (input_of is_too_long reading_points) IsPlayed code sides
 Answered command.Usage code sides alone = IsUsage code alone
 
@@ -48,6 +53,8 @@ Served (command.Load number) code sides alone steps steps_after =
     Serves (load_input number) IsLoaded loaded_served code alone steps steps_after
 Served command.Waits code sides alone steps steps_after =
     Serves scenario_input IsExplained whole_served code sides steps steps_after
+Served command.Dispatch code sides alone steps steps_after =
+    Serves (input_of is_too_long late) IsDispatched dispatched_served code sides steps steps_after
 Served command.Points code sides alone steps steps_after =
     Serves (input_of is_too_long reading_points) IsPlayed whole_served code sides steps steps_after
 Served _ code sides alone steps steps_after = steps_after ≡ steps

@@ -9,6 +9,7 @@ use Rattle.com_model.specs.Ends.{ended_as, scheduled}
 use Rattle.com_drive.specs.Replays.{whole_text}
 use Rattle.com_scenario.specs.Scenarios.{reading}
 use Rattle.com_scenario.specs.Sizes.{is_too_long}
+use Rattle.com_written.specs.OneHistory.{OneHistory}
 use Rattle.com_commands.specs.declared.inputs.Input.{Input}
 use Rattle.com_commands.specs.declared.inputs.Input.TheVariants as input
 use Rattle.com_commands.specs.declared.statuses.Status.{Status}
@@ -40,8 +41,8 @@ pub record IsReplayed (code : ℕ) (scenario : Scenario) (held held_after : Opti
   pub number : code ≡ code_of (status_at ends)
   pub gained : Gains held held_after (whole_text scenario)
 
--- So it is for every input that is a scenario, where it was told and no count of faults rose; or memory
--- wanted.
+-- So it is for every input that is a scenario, where it was told and no count of faults rose; or want of
+-- memory comes.
 abbrev pub ScenariosReplay : Type 0
 ScenariosReplay = (code : ℕ) (sides : Sides) (bytes : List ℕ) (scenario : Scenario)
     → Responds scenario_input IsHistory code sides → sides.left ≡ Some bytes
@@ -49,3 +50,9 @@ ScenariosReplay = (code : ℕ) (sides : Sides) (bytes : List ℕ) (scenario : Sc
     → (Rose sides.read_faults sides.read_faults_after → ⊥)
     → (Rose sides.write_faults sides.write_faults_after → ⊥)
     → IsReplayed code scenario sides.held sides.held_after ⊎ (code ≡ 9)
+
+-- The one history of the schedule of every input that is a scenario is legal, has ended and is safe, and no
+-- other legal history has its text.
+abbrev pub ScenariosAreSafe : Type 0
+ScenariosAreSafe = (bytes : List ℕ) (scenario : Scenario) → scenario_input bytes ≡ input.Reads scenario
+    → OneHistory scenario (scheduled scenario)

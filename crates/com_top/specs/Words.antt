@@ -11,7 +11,9 @@ of_word word =
     if bytes_eq word (codes "replay") then command.Replay
     else if bytes_eq word (codes "check") then command.Check
     else if bytes_eq word (codes "objref") then command.ObjRef
+    else if bytes_eq word (codes "migrate") then command.Migrate
     else if bytes_eq word (codes "waits") then command.Waits
+    else if bytes_eq word (codes "dispatch") then command.Dispatch
     else if bytes_eq word (codes "points") then command.Points
     else command.Usage
 

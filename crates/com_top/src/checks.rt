@@ -137,7 +137,7 @@ fn status_of(judged: &Judged) -> Status
 /// Reads a scenario's text, the line `trace` and a trace from the source, and says whether the trace agrees
 /// with the rules: it is the text and the report of a history; or else its first line that differs, with the
 /// only line that may stand there. An input that is too long, whose text is no scenario or that has no line
-/// `trace` is refused. The answer is the exit status: each has its cause (`answers`). Where memory wanted,
+/// `trace` is refused. The answer is the exit status: each has its cause (`answers`). Where want of memory comes,
 /// nothing was written (`unwritten`).
 pub fn check_main<S: Source, K: Sink>(alloc: Global, source: &mut S, sink: &mut K) -> u8
     ensures answers { Responds question_input IsVerdict result

@@ -12,7 +12,9 @@ use crate::replays::replay_main;
 use crate::shows::objref_main;
 use crate::words::{Command, command_of};
 use com_commands::{Status, say};
+use com_dispatch_main::dispatch_main;
 use com_io::{Sink, Source};
+use com_migrate_main::migrate_main;
 use com_points_main::points_main;
 use com_servant::Servant;
 use std::alloc::Global;
@@ -20,10 +22,12 @@ use std::alloc::Global;
 /// Does what the words ask for: `replay` reads a scenario from the source and writes its history and report
 /// to the sink, or the line of the refusal; `check` reads a scenario with a trace, and says whether the trace
 /// agrees with the rules, or which line differs; `load` and a number replay the scenario of that number, and
-/// show how it ended; `objref` reads hexadecimal text and shows the OBJREF that it spells; `waits` reads a
-/// scenario, and says why its history is stuck, or that it is not; `points` replays a scenario that may have
-/// event sources, and says who got each event. The answer is the exit status: each has its cause (`answers`). Status 1 comes exactly for other words, unless the line that says so cannot be
-/// written; then nothing was read (`unread`).
+/// show how it ended; `objref` reads hexadecimal text and shows the OBJREF that it spells; `migrate` reads a
+/// scenario, with a trace or without one, and writes both in version 2; `waits` reads a scenario, and says why
+/// its history is stuck, or that it is not; `dispatch` replays a scenario that may call by name, and says what
+/// each such call was bound to; `points` replays a scenario that may have event sources, and says who got each
+/// event. The answer is the exit status: each has its cause (`answers`). Status 1 comes exactly for other
+/// words, unless the line that says so cannot be written; then nothing was read (`unread`).
 ///
 /// The row has one servant of each kind, in the order of the kinds, and keeps them so (`row`). A command that
 /// replays has had them count the steps of the bodies of its history, where its status is 0, 5 or 6; no other
@@ -51,7 +55,9 @@ pub fn com_main<S: Source, K: Sink>(
         Command::Check => check_main(alloc, source, sink),
         Command::Load(number) => load_main(alloc, number, servants, sink),
         Command::ObjRef => objref_main(alloc, source, sink),
+        Command::Migrate => migrate_main(alloc, source, sink),
         Command::Waits => waits_main(alloc, servants, source, sink),
+        Command::Dispatch => dispatch_main(alloc, servants, source, sink),
         Command::Points => points_main(alloc, servants, source, sink),
         Command::Usage => usage(sink),
     }
@@ -62,7 +68,7 @@ fn usage<K: Sink>(sink: &mut K) -> u8
     ensures { IsUsage result (sides_without_source K.held K.faults_of sink.old sink.new) }
 {
     say(
-        b"usage: comrun replay|check|load N|objref|waits|points\n",
+        b"usage: comrun replay|check|load N|objref|migrate|waits|dispatch|points\n",
         Status::Usage,
         sink,
     )

@@ -1,11 +1,7 @@
 //! The command `waits`.
 ghost use Rattle.std.specs.Prelude.{◌≡◌, IfOk, OnOk, map};
 ghost use Rattle.std.specs.Arc.{arc_value};
-ghost use Rattle.std.proofs.Common.{lit<};
 ghost use Rattle.com_model.specs.Formed.{Formed};
-ghost use Rattle.com_scenario.proofs.Lengths.{longer_than_all};
-ghost use Rattle.com_scenario.specs.Scenarios.{reading};
-ghost use Rattle.com_scenario.specs.Sizes.{is_too_long};
 ghost use Rattle.com_servant.specs.Rows.{row};
 ghost use Rattle.com_drive.specs.Replays.{whole_served};
 ghost use Rattle.com_record.specs.Recorded.{IsRecorded};
@@ -15,42 +11,17 @@ ghost use Rattle.com_commands.specs.Statuses.{IsEnd, sides_of};
 ghost use Rattle.com_top.specs.Explaining.{IsExplained, explanation};
 ghost use Rattle.com_top.specs.Scenarios.{scenario_input};
 
-use crate::scenarios::{scenario_input, shared};
+use crate::replays::ReplayCommand;
+use crate::scenarios::shared;
 use com_base::{ByteList, Memory};
-use com_commands::{Input, InputReader, Status, receive, say};
+use com_commands::{Status, receive, say};
 use com_io::{Discard, Sink, Source};
 use com_model::Scenario;
 use com_record::{Recorded, keep};
-use com_scenario::LONGEST;
 use com_servant::Servant;
-use com_waits::{explain, text_of};
+use com_waits::{text_of, waits_at};
 use std::alloc::{AllocError, Global};
 use std::sync::Arc;
-
-/// The command `waits`: a scenario, and why its history is stuck.
-pub struct WaitsCommand;
-
-impl InputReader for WaitsCommand {
-    type Read = Scenario;
-
-    const LIMIT: usize = LONGEST;
-
-    ghost LIMIT = { 16777216 };
-
-    ghost too_long = { is_too_long };
-
-    ghost reading = { reading };
-
-    ghost sound = { Formed };
-
-    fn read(alloc: Global, text: ByteList) -> Result<Input<Scenario>, Memory> {
-        scenario_input(alloc, text.as_slice())
-    }
-
-    ghost limited = { lit< tt };
-
-    ghost longer = { longer_than_all };
-}
 
 // The entries of the one history of a scenario. The only error is want of memory.
 fn recorded(
@@ -83,7 +54,7 @@ fn explained(
     requires kept { IsRecorded (arc_value scenario.now) recorded.entries.items recorded.ended }
     ensures { IfOk result (λ text. text ≡ explanation (arc_value scenario.now)) }
 {
-    let waits = explain(
+    let waits = waits_at(
         alloc,
         &**scenario,
         recorded.entries.as_slice(),
@@ -127,7 +98,7 @@ fn answer<S: Source, K: Sink>(
     ensures row { map kind_of servants.new.items ≡ row }
     ensures unwritten { result ≡ status.Memory → K.held sink.new ≡ K.held sink.old }
 {
-    match receive::<WaitsCommand, S, K>(alloc, source, sink) {
+    match receive::<ReplayCommand, S, K>(alloc, source, sink) {
         Ok(scenario) => match explanation(alloc, scenario, servants) {
             Ok(text) => say(text.as_slice(), Status::Done, sink),
             Err(_) => Status::Memory,
@@ -138,8 +109,8 @@ fn answer<S: Source, K: Sink>(
 
 /// Reads a scenario from the source, and says why its history is stuck: which lane waits for what, and the
 /// cycle in which lanes wait for each other; or that it is not stuck. An input that is too long or whose text
-/// is no scenario is refused. The answer is the exit status: each has its cause (`answers`). Where memory
-/// wanted, nothing was written (`unwritten`).
+/// is no scenario is refused. The answer is the exit status: each has its cause (`answers`). Where
+/// want of memory comes, nothing was written (`unwritten`).
 ///
 /// The row has one servant of each kind, in the order of the kinds, and keeps them so (`row`). Where the
 /// status is 0, each has counted the entries that bodies of its kind made (`served`).

@@ -16,10 +16,10 @@ pub use checks::{CheckCommand, check_main};
 pub use com_base::Memory;
 pub use com_commands::Status;
 pub use commands::com_main;
-pub use explaining::{WaitsCommand, waits_main};
+pub use explaining::waits_main;
 pub use laws::{
-    check_completeness, completeness, load_completeness, objref_completeness, scenarios_replay,
-    waits_completeness,
+    check_completeness, completeness, load_completeness, objref_completeness, scenarios_are_safe,
+    scenarios_replay, waits_completeness,
 };
 pub use loads::load_main;
 pub use questions::Question;

@@ -120,7 +120,7 @@ fn load<K: Sink>(
 }
 
 /// Replays the scenario of a number, and writes the number and the last two lines of its report. The answer
-/// is the exit status: each has its cause (`answers`). Where memory wanted, nothing was written
+/// is the exit status: each has its cause (`answers`). Where want of memory comes, nothing was written
 /// (`unwritten`).
 ///
 /// The row has one servant of each kind, in the order of the kinds, and keeps them so (`row`). Where the

@@ -15,8 +15,12 @@ pub enum Command {
     Load(u32),
     /// `objref`.
     ObjRef,
+    /// `migrate`.
+    Migrate,
     /// `waits`.
     Waits,
+    /// `dispatch`.
+    Dispatch,
     /// `points`.
     Points,
     /// Any other words.
@@ -41,7 +45,9 @@ fn of_word(word: &str) -> Command
         "replay" => Command::Replay,
         "check" => Command::Check,
         "objref" => Command::ObjRef,
+        "migrate" => Command::Migrate,
         "waits" => Command::Waits,
+        "dispatch" => Command::Dispatch,
         "points" => Command::Points,
         _ => Command::Usage,
     }
