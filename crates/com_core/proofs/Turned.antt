@@ -1,6 +1,7 @@
 -- A turn that is read from the parts is the next entry of the state that they are, with all that its change rests on.
 use Rattle.std.proofs.Common.{◌≡◌, ℕ, ◌+◌, ◌<◌, ◌≤◌, ◌^◌, ap, sym, ◌∙◌, subst, arith}
 use Rattle.std.specs.Prelude.{Bool, List, [], Option, Some, None, is_some, length, refl}
+use Rattle.com_body.specs.declared.frame.Outcome.{Outcome}
 use Rattle.com_books.specs.Changes.{Books}
 use Rattle.com_calls.specs.declared.rows.Issued.{Issued}
 use Rattle.com_calls.specs.Kept.{IsNamed}
@@ -67,18 +68,18 @@ lane_there s st p b fallen clock l r h n =
     omega (arith, rows, same, n)
 
 -- A turn makes the next entry of the lane.
-pub turn_next : (s : Scenario) (st : State) (p : PartTables) (b : Books) (fallen : List ℕ) (clock l : ℕ) (t : Turn) → IsReached s st → Stands st p b fallen clock
-    → IsNamed p.objects p.calls → 1 ≤ l → l ≤ lanes s → IsTurn (seen_by s p fallen clock) b l t → next_of s st l ≡ Some t.doing.deed
-turn_next s st p b fallen clock l t r h n low high k =
+pub turn_next : (s : Scenario) (st : State) (p : PartTables) (b : Books) (fallen : List ℕ) (clock l : ℕ) (r : Option Outcome) (t : Turn) → IsReached s st → Stands st p b fallen clock
+    → IsNamed p.objects p.calls → 1 ≤ l → l ≤ lanes s → IsTurn (seen_by s p fallen clock) b l r t → next_of s st l ≡ Some t.doing.deed
+turn_next s st p b fallen clock l o t r h n low high k =
     sym (next_stands (seen_by s p fallen clock) b st l (reads_state s st p b fallen clock r h n) low high) ∙ k.next
 
 -- With what its change rests on.
-pub turn_given : (s : Scenario) (st : State) (p : PartTables) (b : Books) (fallen : List ℕ) (clock l : ℕ) (t : Turn) (follows : Actor) (filtered : Bool)
-    → IsReached s st → Stands st p b fallen clock → IsNamed p.objects p.calls → IsTurn (seen_by s p fallen clock) b l t
+pub turn_given : (s : Scenario) (st : State) (p : PartTables) (b : Books) (fallen : List ℕ) (clock l : ℕ) (o : Option Outcome) (t : Turn) (follows : Actor) (filtered : Bool)
+    → IsReached s st → Stands st p b fallen clock → IsNamed p.objects p.calls → IsTurn (seen_by s p fallen clock) b l o t
     → follows ≡ actor_later (seen_by s p fallen clock) l t.doing.deed
     → filtered ≡ filtered_by (λ c. is_some (filter_seen (seen_by s p fallen clock) (lane_of (issue_at p.calls.tables c)))) t.doing.deed
-    → IsGiven s st (record { lane = l; deed = t.doing.deed }) (acting_of t.acting) t.outcome follows filtered (sent_by t.doing.issued)
-turn_given s st p b fallen clock l t follows filtered r h n k f g =
+    → IsGiven s st (record { lane = l; deed = t.doing.deed }) (acting_of t.acting) o follows filtered (sent_by t.doing.issued)
+turn_given s st p b fallen clock l o t follows filtered r h n k f g =
     let w : Seen = seen_by s p fallen clock in
     let reads : Reads w b st = reads_state s st p b fallen clock r h n in
     record {
@@ -90,22 +91,22 @@ turn_given s st p b fallen clock l t follows filtered r h n k f g =
     }
 
 -- Where a turn was made and all but the books has changed by it, that was the next entry of the state.
-pub next_made : (s : Scenario) (st : State) (p q : PartTables) (b : Books) (w u : Held) (entered more fallen later : List ℕ) (clock l : ℕ) (t : Turn)
-    → IsTurn (seen_by s p fallen clock) b l t → IsNamed p.objects p.calls → p.entries ≤ 1_000_000
-    → Changed s p q w u entered more fallen later clock (record { lane = l; deed = t.doing.deed }) (acting_of t.acting) t.outcome t.doing.carried (sent_by t.doing.issued)
+pub next_made : (s : Scenario) (st : State) (p q : PartTables) (b : Books) (w u : Held) (entered more fallen later : List ℕ) (clock l : ℕ) (o : Option Outcome) (t : Turn)
+    → IsTurn (seen_by s p fallen clock) b l o t → IsNamed p.objects p.calls → p.entries ≤ 1_000_000
+    → Changed s p q w u entered more fallen later clock (record { lane = l; deed = t.doing.deed }) (acting_of t.acting) o t.doing.carried (sent_by t.doing.issued)
     → IsCore s st p b entered fallen clock → 1 ≤ l → l ≤ lanes s → MakesNext s st p q w u entered more fallen later clock l t.doing.deed
-next_made s st p q b v u entered more fallen later clock l t k n w m c low high =
+next_made s st p q b v u entered more fallen later clock l o t k n w m c low high =
     let few_entries : st.entries ≤ 1_000_000 = subst (λ (i : ℕ). i ≤ 1_000_000) c.stands.entries w in
     let follows : m.follows ≡ actor_later (seen_by s p fallen clock) l t.doing.deed =
     m.acts_after (few_openers s st p b fallen clock l c.reached c.stands few_entries) (lane_there s st p b fallen clock l c.reached c.stands high) in
     let d : Deed = t.doing.deed in
-    let next : next_of s st l ≡ Some d = turn_next s st p b fallen clock l t c.reached c.stands n low high k in
-    let given : IsGiven s st (record { lane = l; deed = d }) (acting_of t.acting) t.outcome m.follows m.filtered (sent_by t.doing.issued) =
-    turn_given s st p b fallen clock l t m.follows m.filtered c.reached c.stands n k follows m.filter_is in
+    let next : next_of s st l ≡ Some d = turn_next s st p b fallen clock l o t c.reached c.stands n low high k in
+    let given : IsGiven s st (record { lane = l; deed = d }) (acting_of t.acting) o m.follows m.filtered (sent_by t.doing.issued) =
+    turn_given s st p b fallen clock l o t m.follows m.filtered c.reached c.stands n k follows m.filter_is in
     let reads : Reads (seen_by s p fallen clock) b st = reads_state s st p b fallen clock c.reached c.stands n in
     record {
       acting = acting_of t.acting;
-      step = t.outcome;
+      step = o;
       follows = m.follows;
       filtered = m.filtered;
       sent = sent_by t.doing.issued;
@@ -114,7 +115,7 @@ next_made s st p q b v u entered more fallen later clock l t k n w m c low high 
       becomes = m.becomes;
       counts = m.counts;
       settles = m.settles;
-      tied = booked_later s st p b fallen clock l d (acting_of t.acting) t.outcome m.follows m.filtered (sent_by t.doing.issued) m.home m.running t.doing.carried v u
+      tied = booked_later s st p b fallen clock l d (acting_of t.acting) o m.follows m.filtered (sent_by t.doing.issued) m.home m.running t.doing.carried v u
           c.reached c.stands reads next given m.home_is m.running_is
           k.carried m.booked;
     }

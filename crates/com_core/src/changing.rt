@@ -156,18 +156,18 @@ impl Running {
         &mut self,
         glance: Glance,
         acting: Actor,
-        outcome: Option<Outcome>,
+        outcome: &mut Option<Outcome>,
         issued: Option<Issued>,
         entry: &Entry,
     ) -> Result<(), Memory>
         requires sound { Sound self.old.parts self.old.entered }
         requires deed { FitsDeed entry.now.deed }
-        requires whole { IsWhole outcome }
+        requires whole { IsWhole outcome.old }
         requires few { Few self.old.parts }
         requires room { self.old.parts.entries < 1_000_000 }
         ensures few { Few self.new.parts }
         ensures becomes { OnOk result (Becomes self.old.parts self.new.parts entry.now
-            (acting_of acting) outcome
+            (acting_of acting) outcome.old
             (acting_of glance.after) glance.filtered (sent_by issued) self.old.clock) }
         ensures bodies { OnOk result (All HasSlots self.new.parts.scene.bodies) }
         ensures entered { self.new.entered ≡ self.old.entered }
@@ -176,16 +176,16 @@ impl Running {
         ensures clock { self.new.clock ≡ self.old.clock }
         ensures broken { self.new.broken ≡ self.old.broken }
     {
-        self.parts.apply(Change {
+        let change = Change {
             lane: entry.lane,
             deed: &entry.deed,
             acting,
-            outcome,
             after: glance.after,
             filtered: glance.filtered,
             clock: self.clock,
             issued: sent_of(issued),
-        })
+        };
+        self.parts.apply(change, outcome)
     }
 
     // The running bodies and the dying objects after the entry, whose parts are those after it. The only
@@ -223,7 +223,7 @@ impl Running {
         scenario: &Scenario,
         glance: Glance,
         acting: Actor,
-        outcome: Option<Outcome>,
+        outcome: &mut Option<Outcome>,
         issued: Option<Issued>,
         carried: &[RefValue],
         entry: &Entry,
@@ -232,11 +232,11 @@ impl Running {
         requires few { Few self.old.parts }
         requires room { self.old.parts.entries < 1_000_000 }
         requires deed { FitsDeed entry.now.deed }
-        requires whole { IsWhole outcome }
+        requires whole { IsWhole outcome.old }
         ensures few { Few self.new.parts }
         ensures sound { OnOk result (Sound self.new.parts self.new.entered) }
         ensures becomes { OnOk result (Becomes self.old.parts self.new.parts entry.now
-            (acting_of acting) outcome
+            (acting_of acting) outcome.old
             (acting_of glance.after) glance.filtered (sent_by issued) self.old.clock) }
         ensures entered { OnOk result (self.new.entered
             ≡ entered_after entry.now.deed (acting_of acting) self.old.entered) }
@@ -246,10 +246,10 @@ impl Running {
         ensures clock { OnOk result (self.new.clock ≡ ticked entry.now.deed self.old.clock) }
         ensures booked { OnOk result
             (BookedBy scenario.now self.old.parts glance.home glance.running carried.now entry.now
-            (acting_of acting) outcome (acting_of glance.after) self.old.ledger self.new.ledger) }
+            (acting_of acting) outcome.old (acting_of glance.after) self.old.ledger self.new.ledger) }
         ensures broken { self.new.broken ≡ self.old.broken }
     {
-        self.change_holders(scenario, glance, acting, &outcome, carried, entry)?;
+        self.change_holders(scenario, glance, acting, outcome, carried, entry)?;
         self.change_parts(glance, acting, outcome, issued, entry)?;
         self.settle(&entry.deed, acting)?;
         self.clock = ticked(&entry.deed, self.clock);
@@ -272,14 +272,14 @@ impl Running {
         &mut self,
         scenario: &Scenario,
         acting: Actor,
-        outcome: Option<Outcome>,
+        outcome: &mut Option<Outcome>,
         issued: Option<Issued>,
         carried: &[RefValue],
         entry: &Entry,
     ) -> Result<(), Memory>
         requires sound { Sound self.old.parts self.old.entered }
         requires few { Few self.old.parts }
-        requires whole { IsWhole outcome }
+        requires whole { IsWhole outcome.old }
         requires room { self.old.parts.entries < 1_000_000 }
         requires deed { FitsDeed entry.now.deed }
         ensures few { Few self.new.parts }
@@ -289,7 +289,7 @@ impl Running {
         ensures changed { OnOk result
             (Changed scenario.now self.old.parts self.new.parts self.old.ledger self.new.ledger
             self.old.entered self.new.entered self.old.fallen self.new.fallen self.old.clock entry.now (acting_of acting)
-            outcome carried.now (sent_by issued)) }
+            outcome.old carried.now (sent_by issued)) }
         ensures whole { OnOk result (self.new.broken ≡ false) }
         ensures breaks { OnErr result (self.new.broken ≡ true) }
     {
@@ -307,15 +307,16 @@ impl Running {
         scenario: &Scenario,
         lane: u32,
         made: Turn,
+        outcome: &mut Option<Outcome>,
     ) -> Result<Entry, Memory>
         requires sound { Sound self.old.parts self.old.entered }
         requires few { Few self.old.parts }
-        requires whole { IsWhole made.outcome }
+        requires whole { IsWhole outcome.old }
         requires named { IsNamed self.old.parts.objects self.old.parts.calls }
         requires room { self.old.parts.entries < 1_000_000 }
         requires deed { FitsDeed made.doing.deed }
         requires turn { IsTurn (seen_by scenario.now self.old.parts self.old.fallen self.old.clock)
-            (books_held self.old.ledger) lane made }
+            (books_held self.old.ledger) lane outcome.old made }
         ensures few { Few self.new.parts }
         ensures sound { SoundUnless self.new.broken self.new.parts self.new.entered }
         ensures lane { IfOk result (λ entry. entry.lane ≡ lane) }
@@ -331,11 +332,7 @@ impl Running {
         ensures unbroken { OnOk result (self.new.broken ≡ false) }
         ensures breaks { OnErr result (self.new.broken ≡ true) }
     {
-        let Turn {
-            acting,
-            outcome,
-            doing,
-        } = made;
+        let Turn { acting, doing } = made;
         let Doing {
             deed,
             issued,
@@ -361,22 +358,24 @@ impl Running {
         alloc: Global,
         lane: u32,
         servants: &mut Vec<Box<dyn Servant + Send>>,
+        step: &mut Option<Outcome>,
     ) -> Result<Turn, Memory>
+        requires none { step.old ≡ None }
         requires sound { Sound self.now.parts self.now.entered }
         requires few { Few self.now.parts }
         requires row { map kind_of servants.old.items ≡ row }
-        ensures whole { IfOk result (λ made. IsWhole made.outcome) }
+        ensures whole { IsWhole step.new }
         ensures named { IsNamed self.now.parts.objects self.now.parts.calls }
         ensures turn { IfOk result (λ made. IsTurn
             (seen_by scenario.now self.now.parts self.now.fallen self.now.clock)
-            (books_held self.now.ledger) lane made) }
+            (books_held self.now.ledger) lane step.new made) }
         ensures row { map kind_of servants.new.items ≡ row }
         ensures served { OnOk result (map stepped servants.new.items
             ≡ one_served (kind_seen (seen_by scenario.now
             self.now.parts self.now.fallen self.now.clock) lane) (map stepped servants.old.items)) }
     {
         let view = self.view(scenario);
-        match next_turn(&view, &self.ledger, alloc, lane, servants)? {
+        match next_turn(&view, &self.ledger, alloc, lane, servants, step)? {
             Some(made) => Ok(made),
             None => Err(unproved()),
         }
@@ -416,11 +415,12 @@ impl Running {
         if self.broken {
             return Err(Memory);
         }
-        let made = self.turn_of(scenario, alloc, lane, servants)?;
+        let mut step = None;
+        let made = self.turn_of(scenario, alloc, lane, servants, &mut step)?;
         if !self.can_make(&made.doing.deed) {
             return Err(unproved());
         }
-        self.make_turn(scenario, lane, made)
+        self.make_turn(scenario, lane, made, &mut step)
     }
 
     /// Makes the clock's entry. The only error is want of memory.
@@ -459,7 +459,8 @@ impl Running {
         if !self.can_make(&entry.deed) {
             return Err(unproved());
         }
-        self.make(scenario, Actor::Nobody, None, None, &[], &entry)?;
+        let mut step = None;
+        self.make(scenario, Actor::Nobody, &mut step, None, &[], &entry)?;
         Ok(entry)
     }
 }

@@ -71,27 +71,23 @@ impl Running {
         }
     }
 
-    // The turn of a lane in which a body acts, by a step that was computed before. Where memory is wanting
-    // the step comes back.
+    // The turn of a lane in which a body acts, by a step that was computed before. The only error is want of
+    // memory.
     #[tactic(auto, using(crate::proofs::Runs::room_for_sta))]
     fn given_turn_of(
         &self,
         scenario: &Scenario,
         alloc: Global,
         lane: u32,
-        outcome: Outcome,
-    ) -> Result<Turn, Outcome>
+        outcome: &Outcome,
+    ) -> Result<Turn, Memory>
         requires few { Few self.now.parts }
-        requires whole { HasSlots outcome.frame }
         requires step { (c o a : ℕ) → first (openers_at self.now.parts.lanes lane) ≡ Some (Enters c o a)
-            → outcome ≡ body_seen (seen_by scenario.now self.now.parts self.now.fallen self.now.clock) c o }
-        ensures whole { IfOk result (λ made. IsWhole made.outcome) }
+            → outcome.now ≡ body_seen (seen_by scenario.now self.now.parts self.now.fallen self.now.clock) c o }
         ensures named { IsNamed self.now.parts.objects self.now.parts.calls }
         ensures turn { IfOk result (λ made. IsTurn
             (seen_by scenario.now self.now.parts self.now.fallen self.now.clock)
-            (books_held self.now.ledger) lane made) }
-        ensures step { IfOk result (λ made. made.outcome ≡ Some outcome) }
-        ensures back { IfErr result (λ step. step ≡ outcome) }
+            (books_held self.now.ledger) lane (Some outcome.now) made) }
     {
         let view = self.view(scenario);
         given_turn(&view, &self.ledger, alloc, lane, outcome)
@@ -125,14 +121,14 @@ impl Running {
         if self.broken {
             return Err(Some(outcome));
         }
-        let made = match self.given_turn_of(scenario, alloc, lane, outcome) {
-            Ok(made) => made,
-            Err(step) => return Err(Some(step)),
+        let Ok(made) = self.given_turn_of(scenario, alloc, lane, &outcome) else {
+            return Err(Some(outcome));
         };
         if !self.can_make(&made.doing.deed) {
-            return Err(made.outcome);
+            return Err(Some(outcome));
         }
-        match self.make_turn(scenario, lane, made) {
+        let mut step = Some(outcome);
+        match self.make_turn(scenario, lane, made, &mut step) {
             Ok(entry) => Ok(entry),
             Err(_) => Err(None),
         }
@@ -180,17 +176,24 @@ impl Running {
 
     // The turn of a lane in which no body is innermost.
     #[tactic(auto, using(crate::proofs::Runs::room_for_sta))]
-    fn own_turn_of(&self, scenario: &Scenario, alloc: Global, lane: u32) -> Result<Turn, Memory>
+    fn own_turn_of(
+        &self,
+        scenario: &Scenario,
+        alloc: Global,
+        lane: u32,
+        step: &mut Option<Outcome>,
+    ) -> Result<Turn, Memory>
+        requires none { step.old ≡ None }
         requires few { Few self.now.parts }
         requires body { is_body (first (openers_at self.now.parts.lanes lane)) ≡ false }
-        ensures whole { IfOk result (λ made. IsWhole made.outcome) }
+        ensures whole { IsWhole step.new }
         ensures named { IsNamed self.now.parts.objects self.now.parts.calls }
         ensures turn { IfOk result (λ made. IsTurn
             (seen_by scenario.now self.now.parts self.now.fallen self.now.clock)
-            (books_held self.now.ledger) lane made) }
+            (books_held self.now.ledger) lane step.new made) }
     {
         let view = self.view(scenario);
-        match own_turn(&view, &self.ledger, alloc, lane)? {
+        match own_turn(&view, &self.ledger, alloc, lane, step)? {
             Some(made) => Ok(made),
             None => Err(unproved()),
         }
@@ -219,10 +222,11 @@ impl Running {
         if self.broken {
             return Err(Memory);
         }
-        let made = self.own_turn_of(scenario, alloc, lane)?;
+        let mut step = None;
+        let made = self.own_turn_of(scenario, alloc, lane, &mut step)?;
         if !self.can_make(&made.doing.deed) {
             return Err(unproved());
         }
-        self.make_turn(scenario, lane, made)
+        self.make_turn(scenario, lane, made, &mut step)
     }
 }

@@ -16,6 +16,7 @@ use crate::issue::{Now, change_calls, given_to, make_room, target_of};
 use crate::owners::owners_for;
 use crate::parts::Parts;
 use com_base::Memory;
+use com_body::Outcome;
 use com_lanes::Lanes;
 use com_model::Deed;
 use com_objects::Objects;
@@ -66,15 +67,15 @@ fn is_outermost(lanes: &Lanes, lane: u32) -> bool
 
 impl Parts {
     // Whether the parts take an entry.
-    fn takes(&self, change: &Change<'_>) -> bool
+    fn takes(&self, change: &Change<'_>, outcome: &Option<Outcome>) -> bool
         ensures fits { IsTrue result → Fits self.now.lanes self.now.objects self.now.calls
             change.now.lane change.now.deed.now change.now.clock }
-        ensures writes { IsTrue result → IsWriting change.now.outcome }
+        ensures writes { IsTrue result → IsWriting outcome.now }
         ensures few { IsTrue result → self.now.entries < 2 ^ 28 }
         ensures homes { length self.now.calls.apartments ≡ length self.now.calls.tables.issues }
     {
         let _calls = self.calls.len();
-        if self.entries >= MOST_ENTRIES || !is_writing(&change.outcome) {
+        if self.entries >= MOST_ENTRIES || !is_writing(outcome) {
             return false;
         }
         fits(
@@ -87,11 +88,12 @@ impl Parts {
         )
     }
 
-    /// Makes of the parts what an entry makes of them. The only error is want of memory; then the lanes, the
-    /// objects and the calls are as they were, and the scene is so or is that after the entry: where a lane
-    /// or an object wants a row when the scene has changed.
-    pub fn apply(&mut self, change: Change<'_>) -> Result<(), Memory>
-        requires frame { FitsFrame (acting_of change.acting) change.outcome }
+    /// Makes of the parts what an entry makes of them. `outcome` has the step of whoever makes the entry by
+    /// one, which is taken out. The only error is want of memory; then the lanes, the objects and the calls
+    /// are as they were, and the scene is so or is that after the entry: where a lane or an object wants a
+    /// row when the scene has changed.
+    pub fn apply(&mut self, change: Change<'_>, outcome: &mut Option<Outcome>) -> Result<(), Memory>
+        requires frame { FitsFrame (acting_of change.acting) outcome.old }
         ensures lanes { OnOk result (self.new.lanes ≡ lanes_after self.old.lanes
             (record { lane = change.entry.lane; deed = change.entry.deed.now })) }
         ensures objects { OnOk result (self.new.objects ≡ objects_after self.old.objects
@@ -101,23 +103,22 @@ impl Parts {
             (issuing_of change.entry.issued) self.old.calls.tables
             (record { lane = change.entry.lane; deed = change.entry.deed.now })) }
         ensures scene { OnOk result (self.new.scene ≡ rows_after (named_at self.old.objects)
-            (acting_of change.entry.acting) change.entry.outcome (acting_of change.entry.after)
+            (acting_of change.entry.acting) outcome.old (acting_of change.entry.after)
             (record { lane = change.entry.lane; deed = change.entry.deed.now }) self.old.scene) }
         ensures entries { OnOk result (self.new.entries ≡ self.old.entries + 1) }
         ensures err { OnErr result (IsSame self.old self.new) }
         ensures half { OnErr result ((self.new.scene ≡ self.old.scene)
             ⊎ (self.new.scene ≡ rows_after (named_at self.old.objects)
-            (acting_of change.entry.acting) change.entry.outcome (acting_of change.entry.after)
+            (acting_of change.entry.acting) outcome.old (acting_of change.entry.after)
             (record { lane = change.entry.lane; deed = change.entry.deed.now }) self.old.scene)) }
     {
-        if !self.takes(&change) {
+        if !self.takes(&change, outcome) {
             return unproved();
         }
         let Change {
             lane,
             deed,
             acting,
-            outcome,
             after,
             filtered,
             clock,
@@ -131,8 +132,9 @@ impl Parts {
         let owners = owners_for(self.alloc, &self.objects, deed)?;
         let given = given_to(deed, target_of(&self.objects, deed), issued)?;
         make_room(&mut self.calls, deed, given.apartment)?;
+        let step = outcome.take();
         self.scene
-            .apply(acting, outcome, after, lane, deed, owners.as_slice())?;
+            .apply(acting, step, after, lane, deed, owners.as_slice())?;
         change_rows(&mut self.lanes, &mut self.objects, lane, deed)?;
         change_calls(&mut self.calls, lane, deed, given, now);
         self.entries += 1;

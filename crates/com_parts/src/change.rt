@@ -1,7 +1,6 @@
 //! One entry, with what the parts need to know of it.
 
 use com_base::{HResult, Rows, Value};
-use com_body::Outcome;
 use com_model::Deed;
 use com_scene::Actor;
 
@@ -23,8 +22,6 @@ pub struct Change<'a> {
     pub deed: &'a Deed,
     /// Who makes the entry by its step, and nobody where no step does.
     pub acting: Actor,
-    /// The step of whoever makes the entry by one.
-    pub outcome: Option<Outcome>,
     /// Who acts in the lane after the entry.
     pub after: Actor,
     /// Whether the caller's lane of the call that the entry names has a message filter. Only a Verdict reads

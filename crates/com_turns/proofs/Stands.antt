@@ -2,6 +2,7 @@
 use Rattle.std.proofs.Common.{◌≡◌, ℕ, ◌≤◌, ◌==◌, nat_le, Bool, true, false, cond, List, [], Option, Some, None, refl, ap, sym, ◌∙◌, eqb-true, arith}
 use Rattle.std.proofs.lemmas.Bool.{false_from_ne_true, le-leb}
 use Rattle.std.specs.Prelude.{is_some}
+use Rattle.com_body.specs.declared.frame.Outcome.{Outcome}
 use Rattle.com_books.specs.Changes.{Books}
 use Rattle.com_calls.specs.declared.rows.Issued.{Issued}
 use Rattle.com_model.specs.declared.deeds.Deed.{Deed}
@@ -41,10 +42,10 @@ lane_rules s v l p q =
     let e : nat_le l (lanes s) ≡ true = le-leb l (lanes s) q in
     sorted_lane s v l (l == 0) (nat_le l (threads s)) (l == host_lane s) (nat_le l (lanes s)) a e
 
-pub made_next : (w : Seen) (b : Books) (l : ℕ) (t : Option Turn) → IsNext w b l t → 1 ≤ l → l ≤ lanes w.scenario
+pub made_next : (w : Seen) (b : Books) (l : ℕ) (r : Option Outcome) (t : Option Turn) → IsNext w b l r t → 1 ≤ l → l ≤ lanes w.scenario
     → deed_made t ≡ next_by w.scenario (sight_by w b) (lane_sort w.scenario l) l
-made_next w b l None h p q = sym (lane_rules w.scenario (sight_by w b) l p q ∙ h)
-made_next w b l (Some t) h p q = sym (lane_rules w.scenario (sight_by w b) l p q ∙ h.next)
+made_next w b l r None h p q = sym (lane_rules w.scenario (sight_by w b) l p q ∙ h)
+made_next w b l r (Some t) h p q = sym (lane_rules w.scenario (sight_by w b) l p q ∙ h.next)
 
 pub next_stands : (w : Seen) (b : Books) (st : State) (l : ℕ) → Reads w b st → 1 ≤ l → l ≤ lanes w.scenario
     → lane_next w.scenario (sight_by w b) l ≡ next_of w.scenario st l

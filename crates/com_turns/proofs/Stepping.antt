@@ -54,8 +54,8 @@ pub step_turn : (w : Seen) (b : Books) (l : ℕ) (a : Actor) (r : Outcome) (t : 
     → t.doing.deed ≡ deed_of w.scenario (sight_by w b) l r.action
     → Issues w.scenario (sight_by w b) l r.action t.doing.deed t.doing.issued
     → t.doing.carried ≡ carried_by w.scenario b r.action t.doing.deed
-    → acting_of t.acting ≡ a → t.outcome ≡ Some r → IsTurn w b l t
-step_turn w b l a r t h n d i k p q =
+    → acting_of t.acting ≡ a → IsTurn w b l (Some r) t
+step_turn w b l a r t h n d i k p =
     let s : Scenario = w.scenario in
     let v : Sight = sight_by w b in
     let act : v.act l ≡ Some r.action = act_of w b l a r h in
@@ -64,7 +64,7 @@ step_turn w b l a r t h n d i k p q =
     record {
       next = n ∙ ap (λ (x : Deed). Some x) (sym d);
       acting = p ∙ sym acting;
-      outcome = q ∙ sym (ap (λ (x : Actor). outcome_seen w x) acting ∙ h.step);
+      outcome = sym (ap (λ (x : Actor). outcome_seen w x) acting ∙ h.step);
       issued = issued_as w b l r.action t.doing.deed t.doing.issued act i;
       carried = k ∙ (carried_as s b r.action t.doing.deed ∙ ap (λ (x : Option Action). carried_with s b x t.doing.deed) (sym act));
     }
@@ -77,14 +77,14 @@ issued_none w b l d (Some i) h e = absurd cc
 
 -- The turn of an entry that is nobody's step.
 pub rule_turn : (w : Seen) (b : Books) (l : ℕ) (d : Deed) (t : Turn) → ByRule w b l d → t.doing.deed ≡ d
-    → acting_of t.acting ≡ Nobody → t.outcome ≡ None → t.doing.issued ≡ None → t.doing.carried ≡ [] → IsTurn w b l t
-rule_turn w b l d t h e p q i k =
+    → acting_of t.acting ≡ Nobody → t.doing.issued ≡ None → t.doing.carried ≡ [] → IsTurn w b l None t
+rule_turn w b l d t h e p i k =
     let acting : acting_seen w l t.doing.deed ≡ Nobody = ap (λ (x : Deed). acting_seen w l x) e ∙ h.nobody in
     let rule : IsRule t.doing.deed = subst IsRule (sym e) h.rule in
     record {
       next = h.next ∙ ap (λ (x : Deed). Some x) (sym e);
       acting = p ∙ sym acting;
-      outcome = q ∙ sym (ap (λ (x : Actor). outcome_seen w x) acting);
+      outcome = sym (ap (λ (x : Actor). outcome_seen w x) acting);
       issued = issued_none w b l t.doing.deed t.doing.issued rule i;
       carried = k ∙ sym (carries_none w.scenario b ((sight_by w b).act l) t.doing.deed rule);
     }
@@ -257,7 +257,7 @@ pub given_turn : (w : Seen) (b : Books) (l c o a : ℕ) (r : Outcome) (t : Turn)
     → t.doing.deed ≡ deed_of w.scenario (sight_by w b) l r.action
     → Issues w.scenario (sight_by w b) l r.action t.doing.deed t.doing.issued
     → t.doing.carried ≡ carried_by w.scenario b r.action t.doing.deed
-    → acting_of t.acting ≡ Body c o → t.outcome ≡ Some r → IsTurn w b l t
-given_turn w b l c o a r t e f d i k p q =
+    → acting_of t.acting ≡ Body c o → IsTurn w b l (Some r) t
+given_turn w b l c o a r t e f d i k p =
     let steps : Steps w l (Body c o) r = body_steps w l c o a r (sym e) (f c o a (sym e)) in
-    step_turn w b l (Body c o) r t steps (body_next w b l c o a r (sym e) steps) d i k p q
+    step_turn w b l (Body c o) r t steps (body_next w b l c o a r (sym e) steps) d i k p

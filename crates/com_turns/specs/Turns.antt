@@ -104,18 +104,18 @@ carried_seen w b l d = carried_with w.scenario b ((sight_by w b).act l) d
 
 -- ---- a turn
 
--- A turn makes the next entry of its lane.
-pub record IsTurn (w : Seen) (b : Books) (l : ℕ) (t : Turn) : Type 0 where
+-- A turn makes the next entry of its lane, with the step of whoever makes it by one.
+pub record IsTurn (w : Seen) (b : Books) (l : ℕ) (r : Option Outcome) (t : Turn) : Type 0 where
   pub next : lane_next w.scenario (sight_by w b) l ≡ Some t.doing.deed
   pub acting : acting_of t.acting ≡ acting_seen w l t.doing.deed
-  pub outcome : t.outcome ≡ step_seen w l t.doing.deed
+  pub outcome : r ≡ step_seen w l t.doing.deed
   pub issued : IsIssued w b l t.doing.deed t.doing.issued
   pub carried : t.doing.carried ≡ carried_seen w b l t.doing.deed
 
 -- There is none where the lane makes no entry.
-abbrev pub IsNext : Seen → Books → ℕ → Option Turn → Type 0
-IsNext w b l None = lane_next w.scenario (sight_by w b) l ≡ None
-IsNext w b l (Some t) = IsTurn w b l t
+abbrev pub IsNext : Seen → Books → ℕ → Option Outcome → Option Turn → Type 0
+IsNext w b l r None = lane_next w.scenario (sight_by w b) l ≡ None
+IsNext w b l r (Some t) = IsTurn w b l r t
 
 abbrev pub deed_made : Option Turn → Option Deed
 deed_made None = None

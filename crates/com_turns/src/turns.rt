@@ -1,6 +1,6 @@
 //! The turn of a lane.
 
-ghost use Rattle.std.specs.Prelude.{◌≡◌, ℕ, ◌+◌, ◌≤◌, ◌^◌, [], IfErr, IfOk, IfSome, None, OnOk, Some};
+ghost use Rattle.std.specs.Prelude.{◌≡◌, ℕ, ◌+◌, ◌≤◌, ◌^◌, [], IfOk, None, OnOk, Some};
 ghost use Rattle.std.specs.Prelude.{false, length, map, true};
 ghost use Rattle.com_model.specs.declared.keeps.Opener.TheVariants.{Enters};
 ghost use Rattle.com_model.specs.Deeds.{deed_of};
@@ -11,7 +11,6 @@ ghost use Rattle.com_model.specs.Tables.{lane_sort, lanes};
 ghost use Rattle.com_moves.specs.Steps.{BodiesWhole, IsWhole};
 ghost use Rattle.com_rules.specs.Acts.{Issues, carried_by};
 ghost use Rattle.com_scene.specs.Actors.{acting_of};
-ghost use Rattle.com_scene.specs.Kept.{HasSlots};
 ghost use Rattle.com_servant.specs.Rows.{row};
 ghost use Rattle.com_state.specs.Parts.{openers_at};
 ghost use Rattle.com_turns.specs.Turns.{IsNext, IsTurn, Steps, body_seen, deed_made, kind_seen, one_served};
@@ -28,14 +27,12 @@ use com_servant::Servant;
 use com_view::View;
 use std::alloc::Global;
 
-/// A turn of a lane: who makes the entry by a step, and that step, where one does; the entry, and what goes
-/// with it.
+/// A turn of a lane: who makes the entry by a step, where one does, the entry, and what goes with it. The step
+/// itself lies beside it: most turns are nobody's step, and a step is wide.
 #[derive(Debug, Drop)]
 pub struct Turn {
     /// Who makes the entry by its step, and nobody where no step does.
     pub acting: Actor,
-    /// The step of whoever makes the entry by one.
-    pub outcome: Option<Outcome>,
     /// The entry, and what goes with it.
     pub doing: Doing,
 }
@@ -44,13 +41,11 @@ pub struct Turn {
 fn by_rule(alloc: Global, deed: Deed) -> Turn
     ensures deed { result.doing.deed ≡ deed }
     ensures acting { acting_of result.acting ≡ Nobody }
-    ensures outcome { result.outcome ≡ None }
     ensures issued { result.doing.issued ≡ None }
     ensures carried { result.doing.carried ≡ [] }
 {
     Turn {
         acting: Actor::Nobody,
-        outcome: None,
         doing: Doing {
             deed,
             issued: None,
@@ -91,22 +86,17 @@ fn step_turn<B: Found>(
     alloc: Global,
     lane: u32,
     acting: Actor,
-    outcome: Outcome,
+    outcome: &Outcome,
 ) -> Result<Turn, Memory>
     requires stas { length view.now.lanes.stas + 4 ≤ 2 ^ 32 }
-    requires whole { HasSlots outcome.frame }
-    requires steps { Steps view.now lane (acting_of acting) outcome }
+    requires steps { Steps view.now lane (acting_of acting) outcome.now }
     requires next { lane_next view.now.scenario (sight_by view.now (B.books books.now)) lane
-        ≡ Some (deed_of view.now.scenario (sight_by view.now (B.books books.now)) lane outcome.action) }
-    ensures whole { IfOk result (λ made. IsWhole made.outcome) }
-    ensures turn { IfOk result (λ made. IsTurn view.now (B.books books.now) lane made) }
+        ≡ Some (deed_of view.now.scenario (sight_by view.now (B.books books.now)) lane
+        outcome.now.action) }
+    ensures turn { IfOk result (λ made. IsTurn view.now (B.books books.now) lane (Some outcome.now) made) }
 {
     let doing = doing_of(view, books, alloc, lane, &outcome.action)?;
-    Ok(Turn {
-        acting,
-        outcome: Some(outcome),
-        doing,
-    })
+    Ok(Turn { acting, doing })
 }
 
 // Whether a step leaves.
@@ -121,19 +111,28 @@ fn is_leave(action: &Action) -> bool
 
 // The turn of a lane whose script acts and in which no object waits for its Final: its step, or what comes
 // after it has left.
-fn own_step<B: Found>(view: &View<'_>, books: &B, alloc: Global, lane: u32) -> Result<Turn, Memory>
+fn own_step<B: Found>(
+    view: &View<'_>,
+    books: &B,
+    alloc: Global,
+    lane: u32,
+    step: &mut Option<Outcome>,
+) -> Result<Turn, Memory>
+    requires none { step.old ≡ None }
     requires stas { length view.now.lanes.stas + 4 ≤ 2 ^ 32 }
     requires script { is_script_turn (lane_sort view.now.scenario lane)
         (top (bare view.now) lane) ((bare view.now).over lane) ≡ true }
     requires no_final { rule_final (sight_by view.now (B.books books.now)) lane ≡ None }
-    ensures whole { IfOk result (λ made. IsWhole made.outcome) }
-    ensures turn { IfOk result (λ made. IsTurn view.now (B.books books.now) lane made) }
+    ensures whole { IsWhole step.new }
+    ensures turn { IfOk result (λ made. IsTurn view.now (B.books books.now) lane step.new made) }
 {
     let outcome = script_step(view, alloc, lane)?;
     if is_leave(&outcome.action) {
         return Ok(by_rule(alloc, script_over(view, lane)));
     }
-    step_turn(view, books, alloc, lane, Actor::Script { lane }, outcome)
+    let made = step_turn(view, books, alloc, lane, Actor::Script { lane }, &outcome)?;
+    *step = Some(outcome);
+    Ok(made)
 }
 
 // The turn of a lane whose script acts. The Final of a dying object that the lane serves comes before it.
@@ -142,17 +141,19 @@ fn script_turn<B: Found>(
     books: &B,
     alloc: Global,
     lane: u32,
+    step: &mut Option<Outcome>,
 ) -> Result<Turn, Memory>
+    requires none { step.old ≡ None }
     requires stas { length view.now.lanes.stas + 4 ≤ 2 ^ 32 }
     requires script { is_script_turn (lane_sort view.now.scenario lane)
         (top (bare view.now) lane) ((bare view.now).over lane) ≡ true }
-    ensures whole { IfOk result (λ made. IsWhole made.outcome) }
-    ensures turn { IfOk result (λ made. IsTurn view.now (B.books books.now) lane made) }
+    ensures whole { IsWhole step.new }
+    ensures turn { IfOk result (λ made. IsTurn view.now (B.books books.now) lane step.new made) }
 {
     if let Some(deed) = view.finals(lane) {
         return Ok(by_rule(alloc, deed));
     }
-    own_step(view, books, alloc, lane)
+    own_step(view, books, alloc, lane, step)
 }
 
 // The turn of a lane in which neither a body nor a script acts.
@@ -165,8 +166,7 @@ fn rule_turn<B: Found>(
     requires body { is_body (top (bare view.now) lane) ≡ false }
     requires script { is_script_turn (lane_sort view.now.scenario lane)
         (top (bare view.now) lane) ((bare view.now).over lane) ≡ false }
-    ensures whole { IfOk result (λ made. IfSome made (λ turn. IsWhole turn.outcome)) }
-    ensures turn { IfOk result (λ made. IsNext view.now (B.books books.now) lane made) }
+    ensures turn { IfOk result (λ made. IsNext view.now (B.books books.now) lane None made) }
 {
     let given = ruled(view, books, alloc, lane)?;
     match given {
@@ -175,73 +175,70 @@ fn rule_turn<B: Found>(
     }
 }
 
-/// The turn of a lane in which no body is innermost, and none where it makes no entry as things stand. The
-/// only error is want of memory.
+/// The turn of a lane in which no body is innermost, and none where it makes no entry as things stand. Where
+/// the lane's script makes the entry, its step is put in `step`. The only error is want of memory.
 pub fn own_turn<B: Found>(
     view: &View<'_>,
     books: &B,
     alloc: Global,
     lane: u32,
+    step: &mut Option<Outcome>,
 ) -> Result<Option<Turn>, Memory>
+    requires none { step.old ≡ None }
     requires stas { length view.now.lanes.stas + 4 ≤ 2 ^ 32 }
     requires body { is_body (top (bare view.now) lane) ≡ false }
-    ensures whole { IfOk result (λ made. IfSome made (λ turn. IsWhole turn.outcome)) }
-    ensures turn { IfOk result (λ made. IsNext view.now (B.books books.now) lane made) }
+    ensures whole { IsWhole step.new }
+    ensures turn { IfOk result (λ made. IsNext view.now (B.books books.now) lane step.new made) }
 {
     if !view.is_script_turn(lane) {
         return rule_turn(view, books, alloc, lane);
     }
-    Ok(Some(script_turn(view, books, alloc, lane)?))
+    Ok(Some(script_turn(view, books, alloc, lane, step)?))
 }
 
-/// The turn of a lane in which a body is innermost, whose step was computed before. Where memory is wanting
-/// the step comes back.
+/// The turn of a lane in which a body is innermost, whose step was computed before. The only error is want of
+/// memory.
 pub fn given_turn<B: Found>(
     view: &View<'_>,
     books: &B,
     alloc: Global,
     lane: u32,
-    outcome: Outcome,
-) -> Result<Turn, Outcome>
+    outcome: &Outcome,
+) -> Result<Turn, Memory>
     requires stas { length view.now.lanes.stas + 4 ≤ 2 ^ 32 }
-    requires whole { HasSlots outcome.frame }
     requires step { (c o a : ℕ) → first (openers_at view.now.lanes lane) ≡ Some (Enters c o a)
-        → outcome ≡ body_seen view.now c o }
-    ensures whole { IfOk result (λ made. IsWhole made.outcome) }
-    ensures turn { IfOk result (λ made. IsTurn view.now (B.books books.now) lane made) }
-    ensures step { IfOk result (λ made. made.outcome ≡ Some outcome) }
-    ensures back { IfErr result (λ step. step ≡ outcome) }
+        → outcome.now ≡ body_seen view.now c o }
+    ensures turn { IfOk result (λ made. IsTurn view.now (B.books books.now) lane (Some outcome.now) made) }
 {
     let Some(Opener::Enters { call, object, .. }) = view.lanes.top(lane) else {
-        return Err(outcome);
+        return Err(unproved());
     };
-    match doing_of(view, books, alloc, lane, &outcome.action) {
-        Ok(doing) => Ok(Turn {
-            acting: Actor::Body { call, object },
-            outcome: Some(outcome),
-            doing,
-        }),
-        Err(_) => Err(outcome),
-    }
+    let doing = doing_of(view, books, alloc, lane, &outcome.action)?;
+    Ok(Turn {
+        acting: Actor::Body { call, object },
+        doing,
+    })
 }
 
 /// The turn of a lane, and none where it makes no entry as things stand: the entry that the rules give the
-/// lane, who makes it by a step, that step, and what goes with it. Where a body is innermost in the lane, the
-/// servant of its class's kind computes its step, and has made one more then. The only error is want of
-/// memory.
+/// lane, who makes it by a step, and what goes with it. The step is put in `step`. Where a body is innermost
+/// in the lane, the servant of its class's kind computes its step, and has made one more then. The only error
+/// is want of memory.
 pub fn next_turn<B: Found>(
     view: &View<'_>,
     books: &B,
     alloc: Global,
     lane: u32,
     servants: &mut Vec<Box<dyn Servant + Send>>,
+    step: &mut Option<Outcome>,
 ) -> Result<Option<Turn>, Memory>
+    requires none { step.old ≡ None }
     requires stas { length view.now.lanes.stas + 4 ≤ 2 ^ 32 }
     requires bodies { BodiesWhole view.now.scene }
     requires row { map kind_of servants.old.items ≡ row }
-    ensures whole { IfOk result (λ made. IfSome made (λ turn. IsWhole turn.outcome)) }
+    ensures whole { IsWhole step.new }
     ensures row { map kind_of servants.new.items ≡ row }
-    ensures turn { IfOk result (λ made. IsNext view.now (B.books books.now) lane made) }
+    ensures turn { IfOk result (λ made. IsNext view.now (B.books books.now) lane step.new made) }
     ensures deed { IfOk result (λ made. 1 ≤ lane → lane ≤ lanes view.now.scenario →
         deed_made made ≡ next_by view.now.scenario (sight_by view.now (B.books books.now))
         (lane_sort view.now.scenario lane) lane) }
@@ -249,7 +246,7 @@ pub fn next_turn<B: Found>(
         ≡ one_served (kind_seen view.now lane) (map stepped servants.old.items)) }
 {
     let Some(Opener::Enters { call, object, .. }) = view.lanes.top(lane) else {
-        return own_turn(view, books, alloc, lane);
+        return own_turn(view, books, alloc, lane, step);
     };
     let outcome = body_step(view, alloc, call, object, servants)?;
     let turn = step_turn(
@@ -258,7 +255,8 @@ pub fn next_turn<B: Found>(
         alloc,
         lane,
         Actor::Body { call, object },
-        outcome,
+        &outcome,
     )?;
+    *step = Some(outcome);
     Ok(Some(turn))
 }

@@ -8,11 +8,13 @@ use Rattle.com_view.specs.Seen.{Seen}
 use Rattle.com_turns.proofs.Stepping.{given_turn}
 use Rattle.com_turns.proofs.turns.given_turn.Goals as goal
 
-pub returns-in-Ok-clause-turn : goal.returns-in-Ok-clause-turn
-returns-in-Ok-clause-turn g c =
+pub returns : goal.returns
+returns g c =
     let b = g.B.References.books c.args.books.now in
     let x = c.in-Some-Enters in
     let top : Some (Enters x.call x.object x.field-0-2) ≡ first (openers_at c.args.view.now.lanes c.args.lane) =
     sym (ap (λ (o : Opener). Some o) x.field-0-is) ∙ sym x.is ∙ c.top.ensures ∙ ap (λ (w : Seen). first (openers_at w.lanes c.args.lane)) c.view.view_is in
-    given_turn c.args.view.now b c.args.lane x.call x.object x.field-0-2 c.args.outcome _ top c.requires.step
-    c.in-Ok.ensures.deed c.in-Ok.ensures.issued c.in-Ok.ensures.carried refl refl
+    record {
+      turn = given_turn c.args.view.now b c.args.lane x.call x.object x.field-0-2 c.args.outcome.now _ top c.requires.step
+          c.in_ok-doing.ensures.deed c.in_ok-doing.ensures.issued c.in_ok-doing.ensures.carried refl;
+    }

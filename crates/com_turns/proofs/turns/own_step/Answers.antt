@@ -1,4 +1,6 @@
-use Rattle.std.proofs.Common.{sym, ◌∙◌}
+use Rattle.std.proofs.Common.{Option, subst, sym, ◌∙◌}
+use Rattle.com_body.specs.declared.frame.Outcome.{Outcome}
+use Rattle.com_turns.specs.Turns.{IsTurn}
 use Rattle.com_turns.proofs.Stepping.{over_rules, rule_turn, script_steps, step_next, turns_in}
 use Rattle.com_turns.proofs.turns.own_step.Goals as goal
 
@@ -18,7 +20,8 @@ step_turn-requires-clause-next g c =
 pub returns-then-is_leave-clause-turn : goal.returns-then-is_leave-clause-turn
 returns-then-is_leave-clause-turn g c =
     let b = g.B.References.books c.args.books.now in
-    rule_turn c.args.view.now b c.args.lane c.script_over.result c.by_rule.result
+    subst (λ (r : Option Outcome). IsTurn c.args.view.now b c.args.lane r c.by_rule.result) (sym c.requires.none)
+    (rule_turn c.args.view.now b c.args.lane c.script_over.result c.by_rule.result
     (over_rules c.args.view.now b c.args.lane c.in_ok-outcome.outcome c.script_over.result c.requires.script c.requires.no_final
     c.in_ok-outcome.ensures.outcome (sym c.is_leave.ensures ∙ c.if-is_leave.true) (c.script_over.ensures b))
-    c.by_rule.ensures.deed c.by_rule.ensures.acting c.by_rule.ensures.outcome c.by_rule.ensures.issued c.by_rule.ensures.carried
+    c.by_rule.ensures.deed c.by_rule.ensures.acting c.by_rule.ensures.issued c.by_rule.ensures.carried)

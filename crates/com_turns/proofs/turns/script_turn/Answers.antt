@@ -1,4 +1,6 @@
-use Rattle.std.proofs.Common.{◌≡◌, Some}
+use Rattle.std.proofs.Common.{◌≡◌, Option, Some, subst, sym}
+use Rattle.com_body.specs.declared.frame.Outcome.{Outcome}
+use Rattle.com_turns.specs.Turns.{IsTurn}
 use Rattle.com_model.specs.Rules.{rule_final}
 use Rattle.com_view.specs.Seen.{sight_by}
 use Rattle.com_turns.proofs.Stepping.{final_rules, rule_turn}
@@ -12,5 +14,6 @@ pub returns-in-Some-clause-turn : goal.returns-in-Some-clause-turn
 returns-in-Some-clause-turn g c =
     let b = g.B.References.books c.args.books.now in
     let f : rule_final (sight_by c.args.view.now b) c.args.lane ≡ Some c.in-Some.deed = let e = c.finals.ensures b in cc in
-    rule_turn c.args.view.now b c.args.lane c.in-Some.deed c.by_rule.result (final_rules c.args.view.now b c.args.lane c.in-Some.deed c.requires.script f)
-    c.by_rule.ensures.deed c.by_rule.ensures.acting c.by_rule.ensures.outcome c.by_rule.ensures.issued c.by_rule.ensures.carried
+    subst (λ (r : Option Outcome). IsTurn c.args.view.now b c.args.lane r c.by_rule.result) (sym c.requires.none)
+    (rule_turn c.args.view.now b c.args.lane c.in-Some.deed c.by_rule.result (final_rules c.args.view.now b c.args.lane c.in-Some.deed c.requires.script f)
+    c.by_rule.ensures.deed c.by_rule.ensures.acting c.by_rule.ensures.issued c.by_rule.ensures.carried)

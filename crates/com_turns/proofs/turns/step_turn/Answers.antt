@@ -3,8 +3,10 @@ use Rattle.com_scene.specs.Actors.{acting_of}
 use Rattle.com_turns.proofs.Stepping.{step_turn}
 use Rattle.com_turns.proofs.turns.step_turn.Goals as goal
 
-pub returns-clause-turn : goal.returns-clause-turn
-returns-clause-turn g c =
+pub returns : goal.returns
+returns g c =
     let b = g.B.References.books c.args.books.now in
-    step_turn c.args.view.now b c.args.lane (acting_of c.args.acting) c.args.outcome _ c.requires.steps c.requires.next
-    c.in_ok-doing.ensures.deed c.in_ok-doing.ensures.issued c.in_ok-doing.ensures.carried refl refl
+    record {
+      turn = step_turn c.args.view.now b c.args.lane (acting_of c.args.acting) c.args.outcome.now _ c.requires.steps c.requires.next
+          c.in_ok-doing.ensures.deed c.in_ok-doing.ensures.issued c.in_ok-doing.ensures.carried refl;
+    }

@@ -24,5 +24,5 @@ returns-clause-fallen c =
 pub returns-clause-booked : goal.returns-clause-booked
 returns-clause-booked c =
     let a = c.args in
-    subst (λ (h : Held). BookedBy a.scenario.now a.self.now.parts a.glance.home a.glance.running a.carried.now a.entry.now (acting_of a.acting) a.outcome (acting_of a.glance.after) a.self.now.ledger h)
+    subst (λ (h : Held). BookedBy a.scenario.now a.self.now.parts a.glance.home a.glance.running a.carried.now a.entry.now (acting_of a.acting) a.outcome.now (acting_of a.glance.after) a.self.now.ledger h)
     (sym (c.settle.ensures.ledger ∙ c.change_parts.ensures.ledger)) c.in_ok-change_holders.ensures.booked

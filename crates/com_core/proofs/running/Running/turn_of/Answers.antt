@@ -9,5 +9,5 @@ use Rattle.com_core.proofs.running.Running.turn_of.Goals as goal
 pub returns-in-Some-clause-turn : goal.returns-in-Some-clause-turn
 returns-in-Some-clause-turn g c =
     let b = books_held c.args.self.now.ledger in
-    subst (λ (w : Seen). IsTurn w b c.args.lane c.in-Some.made) c.view-view.ensures.value
-    (subst (λ (t : Option Turn). IsNext c.view-view.result b c.args.lane t) c.in-Some.is c.in_ok-made.ensures.turn)
+    subst (λ (w : Seen). IsTurn w b c.args.lane c.next_turn.new.step c.in-Some.made) c.view-view.ensures.value
+    (subst (λ (t : Option Turn). IsNext c.view-view.result b c.args.lane c.next_turn.new.step t) c.in-Some.is c.in_ok-made.ensures.turn)
