@@ -13,12 +13,11 @@ ghost use Rattle.com_agreed.specs.Lines.{IsMadeFor, NamesNext};
 
 use crate::traces::Agreed;
 use com_base::{Memory, Rows};
-use com_body::Native;
 use com_check::{named, split_line};
 use com_core::Core;
 use com_drive::{Runtime, all_counts, ended};
 use com_model::{Ended, Entry, Scenario};
-use com_retrace::{add, boxed, make_next};
+use com_retrace::{boxed, make_next, row_of};
 use com_servant::{Counter, Interpreter, Latch, Relay, Servant};
 use std::alloc::Global;
 use std::sync::Arc;
@@ -125,19 +124,13 @@ fn read_on<C: Runtime>(
     requires whole { C.broken runtime.old ≡ false }
     ensures { IfOk result (λ agreed. IsAgreed scenario.now trace.now agreed) }
 {
-    let mut servants: Vec<Box<dyn Servant + Send>> = Vec::new(alloc);
-    add(
-        &mut servants,
+    let mut servants = row_of(
+        alloc,
         boxed(alloc, Interpreter::new())?,
-        Native::Bodies,
-    )?;
-    add(
-        &mut servants,
         boxed(alloc, Counter::new())?,
-        Native::Counter,
+        boxed(alloc, Relay::new())?,
+        boxed(alloc, Latch::new())?,
     )?;
-    add(&mut servants, boxed(alloc, Relay::new())?, Native::Relay)?;
-    add(&mut servants, boxed(alloc, Latch::new())?, Native::Latch)?;
     read_by(alloc, scenario, runtime, &mut servants, trace)
 }
 

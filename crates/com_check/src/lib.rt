@@ -3,7 +3,7 @@
 #![tactic(auto)]
 
 ghost use Rattle.std.specs.Arc.{arc_value};
-ghost use Rattle.std.specs.Prelude.{◌≡◌, ◌∷◌, ◌++◌, [], IfOk, OnOk, IsTrue, map};
+ghost use Rattle.std.specs.Prelude.{IfOk};
 ghost use Rattle.com_model.specs.Formed.{Formed};
 ghost use Rattle.com_check.specs.Judging.{IsJudged};
 
@@ -14,54 +14,28 @@ mod judged;
 mod laws;
 mod lines;
 mod reports;
+mod servants;
 
 pub use com_base::Memory;
-use com_body::Native;
 use com_core::Core;
 use com_model::Scenario;
-use com_servant::{Counter, Interpreter, Latch, Relay, Servant};
 pub use cut::{Cut, cut_text};
 pub use fronts::named;
 pub use judge::judge_trace;
 pub use judged::Judged;
 pub use laws::{agrees_with_text, judged_alone};
 pub use lines::split_line;
-use std::alloc::{AllocError, Global};
+use servants::judge_on;
+use std::alloc::Global;
 use std::sync::Arc;
 
-// A value in a box. The only error is want of memory.
-fn boxed<T: Drop>(alloc: Global, value: T) -> Result<Box<T>, Memory>
-    ensures { IfOk result (λ boxed. boxed.value ≡ value) }
+// Judges a trace of a formed scenario: a core makes the entries that its lines name.
+fn check_shared(alloc: Global, scenario: &Arc<Scenario>, trace: &[u8]) -> Result<Judged, Memory>
+    requires { Formed (arc_value scenario.now) }
+    ensures { IfOk result (λ j. IsJudged (arc_value scenario.now) trace.now j) }
 {
-    Ok(Box::new(alloc, value)?)
-}
-
-// Puts one servant more, of this kind, behind a row. The only error is want of memory.
-fn add(
-    servants: &mut Vec<Box<dyn Servant + Send>>,
-    servant: Box<dyn Servant + Send>,
-    kind: Native,
-) -> Result<(), Memory>
-    ensures { OnOk result (map kind_of servants.new.items ≡ map kind_of servants.old.items ++ (kind ∷ [])) }
-{
-    if !is_of(&servant, kind) {
-        return Err(unproved());
-    }
-    servants.push(servant)?;
-    Ok(())
-}
-
-// Whether a servant is of a kind.
-fn is_of(servant: &Box<dyn Servant + Send>, kind: Native) -> bool
-    ensures { IsTrue result → kind_of servant.now ≡ kind }
-{
-    servant.kind() == kind
-}
-
-// Want of memory, in place of a servant of the kind that its type has: that a box keeps this kind is not
-// proved.
-fn unproved() -> Memory {
-    AllocError
+    let mut core = Core::new(alloc, scenario.clone()?)?;
+    judge_on(alloc, &**scenario, &mut core, trace)
 }
 
 /// Judges a trace, which is the lines behind the line `trace`: each ends with byte 10, which the last one may
@@ -81,19 +55,5 @@ pub fn check(alloc: Global, scenario: Arc<Scenario>, trace: &[u8]) -> Result<Jud
     requires { Formed (arc_value scenario) }
     ensures { IfOk result (λ j. IsJudged (arc_value scenario) trace.now j) }
 {
-    let mut core = Core::new(alloc, scenario.clone()?)?;
-    let mut servants: Vec<Box<dyn Servant + Send>> = Vec::new(alloc);
-    add(
-        &mut servants,
-        boxed(alloc, Interpreter::new())?,
-        Native::Bodies,
-    )?;
-    add(
-        &mut servants,
-        boxed(alloc, Counter::new())?,
-        Native::Counter,
-    )?;
-    add(&mut servants, boxed(alloc, Relay::new())?, Native::Relay)?;
-    add(&mut servants, boxed(alloc, Latch::new())?, Native::Latch)?;
-    judge_trace(alloc, &*scenario, &mut core, &mut servants, trace)
+    check_shared(alloc, &scenario, trace)
 }

@@ -1,11 +1,13 @@
 -- The causes of the statuses of an input that was refused.
-use Rattle.std.proofs.Common.{◌≡◌, ℕ, ◌<◌, ◌≤◌, inl, inr, List, length, sym, ◌∙◌, ap, subst, refl, Bool, true, false, Option, Some, Result, Ok, Err, nat_lt, arith}
+use Rattle.std.proofs.Common.{◌≡◌, ℕ, ◌<◌, ◌≤◌, inl, inr, List, length, sym, ◌∙◌, ap, subst, refl, Bool, true, false, Option, Some, Result, Ok, Err, IfOk, nat_lt, arith}
 use Rattle.com_read_operands.specs.declared.faults.Fault.{Fault}
+use Rattle.com_read_operands.specs.declared.faults.ScenarioError.{ScenarioError}
+use Rattle.com_read_operands.specs.Reading.{Gives}
 use Rattle.com_commands.specs.declared.inputs.Input.{Input}
 use Rattle.com_commands.specs.declared.inputs.Input.TheVariants as input
 use Rattle.com_commands.specs.declared.statuses.Status.{Status}
 use Rattle.com_commands.specs.declared.statuses.Status.TheVariants as status
-use Rattle.com_commands.specs.Inputs.{IsAnswer, NoneFits, input_of}
+use Rattle.com_commands.specs.Inputs.{IsAnswer, IsSound, NoneFits, answer_of, input_of, read_as}
 use Rattle.com_commands.specs.Responses.{Causes}
 use Rattle.com_commands.specs.Statuses.{Says, Sides, refused_line, too_long_line}
 use Rattle.com_commands.specs.Unread.{IsLonger, IsUnread, Refuses}
@@ -33,6 +35,33 @@ pub reads_input : {T : Type 0} (too_long : List ℕ → Bool) (reading : List �
     → too_long bytes ≡ false → reading bytes ≡ Ok read → input.Reads read ≡ input_of too_long reading bytes
 unfolding input_of
 reads_input too_long reading bytes read short is = rw (short, is) refl
+
+-- ---- what a reader of texts answered
+
+wanted-is : {T : Type 0} (read wanted : Result T Fault) → Gives (λ (x : T). x) (answer_of read) wanted → wanted ≡ read
+wanted-is (Ok x) wanted e = e
+wanted-is (Err f) wanted e = e
+
+-- What was read is what the text spells, or its first fault.
+pub given_read : {T : Type 0} (answer : Result T ScenarioError) (read wanted : Result T Fault) → answer ≡ answer_of read
+    → Gives (λ (x : T). x) answer wanted → read ≡ wanted
+given_read {T} answer read wanted is gives =
+    sym (wanted-is read wanted (subst (λ (a : Result T ScenarioError). Gives (λ (x : T). x) a wanted) is gives))
+
+pub given_input : {T : Type 0} (too_long : List ℕ → Bool) (reading : List ℕ → Result T Fault) (bytes : List ℕ)
+    (answer : Result T ScenarioError) (read : Result T Fault) → too_long bytes ≡ false → answer ≡ answer_of read
+    → Gives (λ (x : T). x) answer (reading bytes) → read_as read ≡ input_of too_long reading bytes
+unfolding input_of
+given_input too_long reading bytes answer read short is gives =
+    rw short (ap read_as (given_read answer read (reading bytes) is gives))
+
+sound-of : {T : Type 0} (Sound : T → Type 0) (read : Result T Fault) → IfOk (answer_of read) Sound → IsSound Sound (read_as read)
+sound-of Sound (Ok x) p = p
+sound-of Sound (Err f) p = tt
+
+pub given_sound : {T : Type 0} (Sound : T → Type 0) (answer : Result T ScenarioError) (read : Result T Fault) → answer ≡ answer_of read
+    → IfOk answer Sound → IsSound Sound (read_as read)
+given_sound {T} Sound answer read is p = sound-of Sound read (subst (λ (a : Result T ScenarioError). IfOk a Sound) is p)
 
 -- ---- a refusal
 

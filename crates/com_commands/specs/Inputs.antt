@@ -5,11 +5,18 @@
 -- (`Fits`).
 use Rattle.std.specs.Prelude.{◌≡◌, ℕ, List, Bool, ⊤, Result, Ok, Err, if◌then◌else◌}
 use Rattle.com_read_operands.specs.declared.faults.Fault.{Fault}
+use Rattle.com_read_operands.specs.declared.faults.ScenarioError.{ScenarioError}
+use Rattle.com_read_operands.specs.Reading.{error_of}
 use Rattle.com_commands.specs.declared.inputs.Input.{Input}
 use Rattle.com_commands.specs.declared.inputs.Input.TheVariants as input
 use Rattle.com_commands.specs.declared.statuses.Status.{Status}
 use Rattle.com_commands.specs.declared.statuses.Status.TheVariants as status
 use Rattle.com_commands.specs.Statuses.{refused_line, too_long_line}
+
+-- What a reader of texts answers that has memory enough.
+abbrev pub answer_of : {T : Type 0} → Result T Fault → Result T ScenarioError
+answer_of (Err fault) = Err (error_of fault)
+answer_of (Ok read) = Ok read
 
 abbrev pub read_as : {T : Type 0} → Result T Fault → Input T
 read_as (Err fault) = input.Faulty fault

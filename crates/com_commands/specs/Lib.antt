@@ -1,4 +1,5 @@
 pub mod Statuses
+pub mod Histories
 pub mod Inputs
 pub mod Responses
 pub mod Unread

@@ -1,11 +1,16 @@
 //! What an input is, and the line of a fault.
-ghost use Rattle.std.specs.Prelude.{◌≡◌, ◌++◌, IfOk, OnOk, decimal};
+ghost use Rattle.std.specs.Arc.{arc_value};
+ghost use Rattle.std.specs.Prelude.{◌≡◌, ◌++◌, Err, IfOk, OnErr, OnOk, decimal};
+ghost use Rattle.com_read_operands.specs.declared.faults.ScenarioError.TheVariants as errors;
+ghost use Rattle.com_commands.specs.Inputs.{answer_of, read_as};
 ghost use Rattle.com_commands.specs.Statuses.{refused_line};
 
 use com_base::{ByteList, Memory};
-use com_read_operands::Fault;
+use com_model::Scenario;
+use com_read_operands::{Fault, ScenarioError};
 use itoa::Buffer;
-use std::alloc::Global;
+use std::alloc::{AllocError, Global};
+use std::sync::Arc;
 
 /// What the input of a command is.
 #[derive(Drop)]
@@ -16,6 +21,46 @@ pub enum Input<T> {
     Faulty(Fault),
     /// What the text spells.
     Reads(T),
+}
+
+/// What a text spells or its first fault, by what a reader of texts answered. The only error is want of
+/// memory, which comes exactly where the reader answered it.
+pub fn first_fault<T: Drop>(answer: Result<T, ScenarioError>) -> Result<Result<T, Fault>, Memory>
+    ensures ok { IfOk result (λ read. answer ≡ answer_of read) }
+    ensures err { OnErr result (answer ≡ Err errors.Memory) }
+{
+    match answer {
+        Ok(read) => Ok(Ok(read)),
+        Err(
+            ScenarioError::Fault {
+                number,
+                line,
+                column,
+            },
+        ) => Ok(Err(Fault {
+            number,
+            line,
+            column,
+        })),
+        Err(ScenarioError::Memory) => Err(AllocError),
+    }
+}
+
+/// What an input is, by what its text spells or by its first fault.
+pub fn read_as<T: Drop>(read: Result<T, Fault>) -> Input<T>
+    ensures { result ≡ read_as read }
+{
+    match read {
+        Ok(read) => Input::Reads(read),
+        Err(fault) => Input::Faulty(fault),
+    }
+}
+
+/// A scenario that can be shared. The only error is want of memory.
+pub fn shared(alloc: Global, scenario: Scenario) -> Result<Arc<Scenario>, Memory>
+    ensures { IfOk result (λ shared. arc_value shared ≡ scenario) }
+{
+    Ok(Arc::new(alloc, scenario)?)
 }
 
 /// The line of a fault: its line, its column and its number. The only error is want of memory.

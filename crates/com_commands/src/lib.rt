@@ -7,8 +7,9 @@
 //!    `LIMIT` the most bytes of an input, `too_long` and `reading` say which texts are too long and what the
 //!    others spell, or their first fault, and `sound` what is known of each thing that was read, as that a
 //!    scenario is formed. `input_of too_long reading` is then what an input of given bytes is. For a plain
-//!    limit `longer` is `long_text` of `specs/Lengths`; `long_input`, `faulty_input` and `reads_input` of
-//!    `proofs/Asking` answer the clause of `read`.
+//!    limit `longer` is `long_text` of `specs/Lengths`. `first_fault` and `read_as` make an input of what a
+//!    reader of texts answered; `long_input`, `given_input` and `given_sound` of `proofs/Asking` answer the
+//!    clauses of `read`.
 //! 2. A relation `fits` in `specs/` says which status and text answer what was read. That these statuses are
 //!    those of whole texts, `concludes`, is a lemma there: `end_concludes` for the end of a history, and else
 //!    `tt` at each status.
@@ -38,6 +39,6 @@ mod tests;
 
 pub use com_base::Memory;
 pub use commands::{InputReader, PlayingCommand, ReplyingCommand, perform, receive, respond};
-pub use inputs::{Input, refused_line};
+pub use inputs::{Input, first_fault, read_as, refused_line, shared};
 pub use sides::{TOO_LONG, read_input, refuse, say};
 pub use statuses::{Reply, Status, status_at};

@@ -1,5 +1,5 @@
 -- Every scenario with late-bound calls is formed.
-use Rattle.std.proofs.Common.{◌≡◌, ℕ, suc, nat_le, List, [], ◌∷◌, length, map, Option, Some, None, Result, Ok, Err, All, refl, sym, ap, subst, ◌∙◌, arith, inr}
+use Rattle.std.proofs.Common.{◌≡◌, ℕ, suc, nat_le, List, [], ◌∷◌, length, map, Option, Some, None, Result, Ok, Err, IfOk, All, refl, sym, ap, subst, ◌∙◌, arith, inr}
 use Rattle.std.specs.Prelude.{slice_get, option_and_then}
 use Rattle.std.proofs.lemmas.List.Elements.{All-nil, All-cons, All-head, All-tail, All-push}
 use Rattle.com_base.specs.declared.hresult.HResult.{HResult}
@@ -19,7 +19,8 @@ use Rattle.com_invoke.specs.Invoking.{invocation_at}
 use Rattle.com_invoke.specs.Standing.{sort_of, outcome_by, outcome_of, argument_of, statement_of}
 use Rattle.com_text.specs.Words.{WordAt, LineAt}
 use Rattle.com_text.specs.Scanning.{lines_of}
-use Rattle.com_read_operands.specs.Reading.{fault_at}
+use Rattle.com_read_operands.specs.declared.faults.ScenarioError.{ScenarioError}
+use Rattle.com_read_operands.specs.Reading.{Gives, fault_at}
 use Rattle.com_read_statements.specs.declared.keywords.Program.{Program}
 use Rattle.com_read_statements.specs.declared.keywords.Program.TheVariants as programs
 use Rattle.com_read_statements.specs.declared.names.Names.{Names}
@@ -182,3 +183,7 @@ formed text = bind (late_read (late_begun built_in_interfaces) (lines_of text)) 
 
 pub late_formed : (text : List ℕ) (l : Late) → late text ≡ Ok l → Formed l.scenario
 late_formed text l e = (formed text).of l e
+
+pub given_formed : (text : List ℕ) (r : Result Late ScenarioError) → Gives (λ (l : Late). l) r (late text) → IfOk r (λ (l : Late). Formed l.scenario)
+given_formed text (Ok l) e = late_formed text l e
+given_formed text (Err x) e = tt

@@ -25,8 +25,6 @@ use Rattle.com_read_sections.specs.Outlines.{begun, finish}
 use Rattle.com_scenario.specs.Scenarios.{scenario_of, reading}
 use Rattle.com_dispatch.specs.declared.outcomes.Binding.{Binding}
 use Rattle.com_dispatch.specs.declared.outcomes.Late.{Late}
-use Rattle.com_dispatch.specs.declared.outcomes.LateError.{LateError}
-use Rattle.com_dispatch.specs.declared.outcomes.LateError.TheVariants as errors
 
 -- what was read so far, and what each `invoke` of it was bound to
 pub record Reading : Type 0 where
@@ -104,13 +102,6 @@ late_of o = record { scenario = scenario_of o.outline; bindings = o.bindings }
 -- fault: the lines are read one after another, and a line's words from left to right.
 unfoldable pub late : List ℕ → Result Late Fault
 late text = late_read (late_begun built_in_interfaces) (lines_of text) >>= λ o. Ok (late_of o)
-
--- What a function answered is what is read, unless memory ran out.
-abbrev pub GivesLate : Result Late LateError → Result Late Fault → Type 0
-GivesLate (Ok l) wanted = wanted ≡ Ok l
-GivesLate (Err (errors.Fault n line column)) wanted =
-    wanted ≡ Err (record { number = n; line = line; column = column })
-GivesLate (Err errors.Memory) wanted = Unit {0}
 
 -- ---- texts without the statement
 

@@ -6,9 +6,9 @@ ghost use Rattle.com_model.specs.Formed.{Formed};
 ghost use Rattle.com_text.specs.Scanning.{lines_of};
 ghost use Rattle.com_read_operands.specs.Reading.{Gives};
 ghost use Rattle.com_dispatch.specs.Late.{limit_in, invoke_line, is_invoke, late_line, late_step};
-ghost use Rattle.com_dispatch.specs.Late.{late_read, late_begun, late, GivesLate};
+ghost use Rattle.com_dispatch.specs.Late.{late_read, late_begun, late};
 
-use crate::outcomes::{Binding, Late, LateError};
+use crate::outcomes::{Binding, Late};
 use com_base::Rows;
 use com_classes::Interface;
 use com_invoke::{outcome, read_invoke, statement};
@@ -150,7 +150,7 @@ fn late_outline(
 /// The same, with the scenario of what is declared.
 #[tactic(auto, unfolding(crate::specs::Late::late))]
 fn late_scenario(alloc: Global, text: &[u8]) -> Result<Late, ScenarioError>
-    ensures value { Gives (λ l. l) result (late text.now) }
+    ensures { Gives (λ l. l) result (late text.now) }
 {
     let (outline, bindings) = late_outline(alloc, built_in_interfaces(alloc)?, text)?;
     Ok(Late {
@@ -168,24 +168,10 @@ fn late_scenario(alloc: Global, text: &[u8]) -> Result<Late, ScenarioError>
 /// DISP_E_UNKNOWNNAME, DISP_E_MEMBERNOTFOUND, DISP_E_BADPARAMCOUNT or DISP_E_TYPEMISMATCH. `Memory` comes
 /// where memory is short, and for a text of nearly 2^32 bytes or more. The scenario keeps the limits, the
 /// forms and the ranges of the language, repeats no name or GUID, and names only what is declared.
-#[tactic(auto, using(crate::proofs::LateForms::late_formed))]
-pub fn elaborate(alloc: Global, text: &[u8]) -> Result<Late, LateError>
-    ensures value { GivesLate result (late text.now) }
+#[tactic(auto, using(crate::proofs::LateForms::given_formed))]
+pub fn elaborate(alloc: Global, text: &[u8]) -> Result<Late, ScenarioError>
+    ensures value { Gives (λ l. l) result (late text.now) }
     ensures formed { IfOk result (λ l. Formed l.scenario) }
 {
-    match late_scenario(alloc, text) {
-        Ok(read) => Ok(read),
-        Err(
-            ScenarioError::Fault {
-                number,
-                line,
-                column,
-            },
-        ) => Err(LateError::Fault {
-            number,
-            line,
-            column,
-        }),
-        Err(ScenarioError::Memory) => Err(LateError::Memory),
-    }
+    late_scenario(alloc, text)
 }

@@ -10,6 +10,7 @@ mod outcomes;
 pub use com_base::Memory;
 pub use com_binding::{BindError, Bound, DispArg, Member, Sort, bind};
 pub use com_invoke::BindOutcome;
+pub use com_read_operands::ScenarioError;
 pub use elaborating::elaborate;
 pub use laws::{calls_by_name_are_calls, late_scenarios_are_formed, other_texts_stay};
-pub use outcomes::{Binding, Late, LateError};
+pub use outcomes::{Binding, Late};

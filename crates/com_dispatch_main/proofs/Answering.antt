@@ -12,11 +12,12 @@ use Rattle.com_drive.specs.Replays.{IsReplay, whole_text}
 use Rattle.com_written.proofs.Schedule.{legal-end}
 use Rattle.com_commands.specs.declared.statuses.Status.{Status}
 use Rattle.com_commands.specs.declared.statuses.Status.TheVariants as status
+use Rattle.com_commands.specs.Histories.{IsHistory}
 use Rattle.com_commands.specs.Statuses.{status_at}
 use Rattle.com_commands.specs.Responses.{GainsWhole, GainsFront, IsAnswered}
 use Rattle.com_dispatch.specs.declared.outcomes.Late.{Late}
 use Rattle.com_dispatch_main.specs.Lines.{bindings_text}
-use Rattle.com_dispatch_main.specs.Dispatching.{dispatched_text, IsDispatched, IsReplayed}
+use Rattle.com_dispatch_main.specs.Dispatching.{dispatched_text, IsDispatched}
 
 some_end : (o : Option Ended) → is_some o ≡ true → (x : Ended) × (o ≡ Some x)
 some_end None e = cc
@@ -37,7 +38,7 @@ rose_later a b c le (inr top) = inr top
 
 -- ---- the scenario alone
 
-replayed_front : (scenario : Scenario) (held held_after : Option (List ℕ)) → GainsPrefix held held_after (whole_text scenario) → GainsFront (IsReplayed scenario) held held_after
+replayed_front : (scenario : Scenario) (held held_after : Option (List ℕ)) → GainsPrefix held held_after (whole_text scenario) → GainsFront (IsHistory scenario) held held_after
 replayed_front scenario held held_after front =
     let w : (x : Ended) × (ended_as scenario (scheduled scenario) ≡ Some x) = some_end (ended_as scenario (scheduled scenario)) ((legal-end scenario).1) in
     record {
@@ -48,7 +49,7 @@ replayed_front scenario held held_after front =
     }
 
 pub replay_done : (scenario : Scenario) (r : Replayed) (s : Status) (held held_after : Option (List ℕ)) (faults faults_after : ℕ) → s ≡ status_at r.ended
-    → IsReplay scenario r → Gains held held_after (whole_text scenario) → IsAnswered (IsReplayed scenario) s held held_after faults faults_after
+    → IsReplay scenario r → Gains held held_after (whole_text scenario) → IsAnswered (IsHistory scenario) s held held_after faults faults_after
 replay_done scenario r s held held_after faults faults_after is replay gained = inl (record {
   text = whole_text scenario;
   answer = record { ends = r.ended; ended_is = replay.ends; written = refl; status_is = is };
@@ -56,11 +57,11 @@ replay_done scenario r s held held_after faults faults_after is replay gained = 
 })
 
 pub replay_faults : (scenario : Scenario) (held held_after : Option (List ℕ)) (faults faults_after : ℕ) → Rose faults faults_after
-    → GainsPrefix held held_after (whole_text scenario) → IsAnswered (IsReplayed scenario) status.WriteFault held held_after faults faults_after
+    → GainsPrefix held held_after (whole_text scenario) → IsAnswered (IsHistory scenario) status.WriteFault held held_after faults faults_after
 replay_faults scenario held held_after faults faults_after rose front = inr (inl (refl, rose, replayed_front scenario held held_after front))
 
 pub replay_wants : (scenario : Scenario) (held held_after : Option (List ℕ)) (faults faults_after : ℕ)
-    → GainsPrefix held held_after (whole_text scenario) → IsAnswered (IsReplayed scenario) status.Memory held held_after faults faults_after
+    → GainsPrefix held held_after (whole_text scenario) → IsAnswered (IsHistory scenario) status.Memory held held_after faults faults_after
 replay_wants scenario held held_after faults faults_after front = inr (inr (refl, inr (replayed_front scenario held held_after front)))
 
 -- ---- the lines, and then the scenario
@@ -89,7 +90,7 @@ lines_alone l lines held mid held_after e g same =
     front_of l held held_after (subst (λ (x : Option (List ℕ)). GainsPrefix held x (bindings_text l.bindings ++ whole_text l.scenario)) (sym same) whole)
 
 whole_behind : (l : Late) (lines : List ℕ) (s : Status) (held mid held_after : Option (List ℕ)) → lines ≡ bindings_text l.bindings → Gains held mid lines
-    → GainsWhole (IsReplayed l.scenario) s mid held_after → GainsWhole (IsDispatched l) s held held_after
+    → GainsWhole (IsHistory l.scenario) s mid held_after → GainsWhole (IsDispatched l) s held held_after
 unfolding dispatched_text
 whole_behind l lines s held mid held_after e g k =
     let rest : Gains mid held_after (whole_text l.scenario) = subst (λ (x : List ℕ). Gains mid held_after x) k.answer.written k.gained in
@@ -100,16 +101,16 @@ whole_behind l lines s held mid held_after e g k =
     }
 
 pub answered_behind : (l : Late) (lines : List ℕ) (scenario : Scenario) (s : Status) (held mid held_after : Option (List ℕ)) (faults between faults_after : ℕ) → lines ≡ bindings_text l.bindings → scenario ≡ l.scenario
-    → Gains held mid lines → faults ≤ between → IsAnswered (IsReplayed scenario) s mid held_after between faults_after → IsAnswered (IsDispatched l) s held held_after faults faults_after
+    → Gains held mid lines → faults ≤ between → IsAnswered (IsHistory scenario) s mid held_after between faults_after → IsAnswered (IsDispatched l) s held held_after faults faults_after
 answered_behind l lines scenario s held mid held_after faults between faults_after e f g le answered =
-    behind (subst (λ (x : Scenario). IsAnswered (IsReplayed x) s mid held_after between faults_after) f answered)
+    behind (subst (λ (x : Scenario). IsAnswered (IsHistory x) s mid held_after between faults_after) f answered)
   where
-    behind : IsAnswered (IsReplayed l.scenario) s mid held_after between faults_after → IsAnswered (IsDispatched l) s held held_after faults faults_after
+    behind : IsAnswered (IsHistory l.scenario) s mid held_after between faults_after → IsAnswered (IsDispatched l) s held held_after faults faults_after
     behind (inl whole) = inl (whole_behind l lines s held mid held_after e g whole)
     behind (inr (inl fault)) = inr (inl (fault.0, rose_later faults between faults_after le fault.1, front_behind l lines fault.2.text held mid held_after e fault.2.answer.written g fault.2.gained))
     behind (inr (inr (is, inl same))) = inr (inr (is, inr (lines_alone l lines held mid held_after e g same)))
     behind (inr (inr (is, inr front))) = inr (inr (is, inr (front_behind l lines front.text held mid held_after e front.answer.written g front.gained)))
 
-pub behind_lines : (l : Late) (s : Status) (text : List ℕ) → IsDispatched l s text → (rest : List ℕ) × (text ≡ bindings_text l.bindings ++ rest) × IsReplayed l.scenario s rest
+pub behind_lines : (l : Late) (s : Status) (text : List ℕ) → IsDispatched l s text → (rest : List ℕ) × (text ≡ bindings_text l.bindings ++ rest) × IsHistory l.scenario s rest
 unfolding dispatched_text
 behind_lines l s text h = (whole_text l.scenario, h.written, record { ends = h.ends; ended_is = h.ended_is; written = refl; status_is = h.status_is })

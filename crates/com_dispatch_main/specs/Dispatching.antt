@@ -35,11 +35,3 @@ dispatched_concludes l s text is =
 -- the servants' counts of steps after the history, by those before
 abbrev pub dispatched_served : Late → List ℕ → List ℕ
 dispatched_served l steps = whole_served l.scenario steps
-
--- What is written for a scenario alone: the text and the report of its one history, and the status of its
--- end.
-pub record IsReplayed (scenario : Scenario) (s : Status) (text : List ℕ) : Type 0 where
-  pub ends : Ended
-  pub ended_is : ended_as scenario (scheduled scenario) ≡ Some ends
-  pub written : text ≡ whole_text scenario
-  pub status_is : s ≡ status_at ends

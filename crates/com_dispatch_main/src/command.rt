@@ -13,13 +13,12 @@ ghost use Rattle.com_servant.specs.Rows.{row};
 
 use crate::playing::play;
 use com_base::{ByteList, Memory};
-use com_commands::{Input, InputReader, PlayingCommand, Status, perform};
-use com_dispatch::{Late, LateError, elaborate};
+use com_commands::{Input, InputReader, PlayingCommand, Status, first_fault, perform, read_as};
+use com_dispatch::{Late, elaborate};
 use com_io::{Sink, Source};
-use com_read_operands::Fault;
 use com_scenario::{LONGEST, is_too_long};
 use com_servant::Servant;
-use std::alloc::{AllocError, Global};
+use std::alloc::Global;
 
 /// The command `dispatch`.
 struct Dispatch;
@@ -37,26 +36,13 @@ impl InputReader for Dispatch {
 
     ghost sound = { IsLate };
 
-    #[tactic(auto, using(com_commands::proofs::Asking::long_input, com_commands::proofs::Asking::faulty_input, com_commands::proofs::Asking::reads_input))]
+    #[tactic(auto, using(com_commands::proofs::Asking::long_input, com_commands::proofs::Asking::given_input, com_commands::proofs::Asking::given_sound))]
     fn read(alloc: Global, text: ByteList) -> Result<Input<Late>, Memory> {
         if is_too_long(alloc, text.as_slice())? {
             return Ok(Input::TooLong);
         }
-        match elaborate(alloc, text.as_slice()) {
-            Ok(read) => Ok(Input::Reads(read)),
-            Err(
-                LateError::Fault {
-                    number,
-                    line,
-                    column,
-                },
-            ) => Ok(Input::Faulty(Fault {
-                number,
-                line,
-                column,
-            })),
-            Err(LateError::Memory) => Err(AllocError),
-        }
+        let read = first_fault(elaborate(alloc, text.as_slice()))?;
+        Ok(read_as(read))
     }
 
     ghost limited = { lit< tt };

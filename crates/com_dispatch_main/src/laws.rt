@@ -3,11 +3,12 @@
 ghost use Rattle.std.specs.Prelude.{◌≡◌, List, ℕ, ◌++◌};
 ghost use Rattle.com_scenario.specs.Sizes.{is_too_long};
 ghost use Rattle.com_commands.specs.declared.statuses.Status.{Status};
+ghost use Rattle.com_commands.specs.Histories.{IsHistory};
 ghost use Rattle.com_commands.specs.Inputs.{input_of};
 ghost use Rattle.com_commands.specs.Responses.{RespondsWhole};
 ghost use Rattle.com_dispatch.specs.declared.outcomes.Late.{Late};
 ghost use Rattle.com_dispatch.specs.Late.{late};
-ghost use Rattle.com_dispatch_main.specs.Dispatching.{IsDispatched, IsReplayed};
+ghost use Rattle.com_dispatch_main.specs.Dispatching.{IsDispatched};
 ghost use Rattle.com_dispatch_main.specs.Lines.{bindings_text};
 
 /// Where the source told its input and no count of faults rose, `dispatch` answered the whole of it: by its
@@ -21,5 +22,5 @@ pub fn dispatch_completeness()
 /// that scenario's one history, with the same status. So a call by name has the history of the table call.
 pub fn calls_by_name_replay()
     ensures { (l : Late) (s : Status) (text : List ℕ) → IsDispatched l s text
-        → (rest : List ℕ) × (text ≡ bindings_text l.bindings ++ rest) × IsReplayed l.scenario s rest }
+        → (rest : List ℕ) × (text ≡ bindings_text l.bindings ++ rest) × IsHistory l.scenario s rest }
 {}

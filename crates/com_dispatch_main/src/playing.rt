@@ -1,16 +1,16 @@
 //! The lines of the bindings, and then a replay.
-ghost use Rattle.std.specs.Prelude.{◌≡◌, IfOk, map};
+ghost use Rattle.std.specs.Prelude.{◌≡◌, map};
 ghost use Rattle.std.specs.Arc.{arc_value};
+ghost use Rattle.com_commands.specs.Histories.{IsHistory};
 ghost use Rattle.com_commands.specs.Responses.{IsAnswered};
 ghost use Rattle.com_commands.specs.Statuses.{IsEnd};
 ghost use Rattle.com_drive.specs.Replays.{whole_served};
 ghost use Rattle.com_model.specs.Formed.{Formed};
-ghost use Rattle.com_dispatch_main.specs.Dispatching.{IsDispatched, IsLate, IsReplayed, dispatched_served};
+ghost use Rattle.com_dispatch_main.specs.Dispatching.{IsDispatched, IsLate, dispatched_served};
 ghost use Rattle.com_servant.specs.Rows.{row};
 
 use crate::lines::bindings_text;
-use com_base::Memory;
-use com_commands::{Status, status_at};
+use com_commands::{Status, shared, status_at};
 use com_dispatch::Late;
 use com_io::{Sink, write_all};
 use com_model::Scenario;
@@ -48,13 +48,6 @@ pub(crate) fn play<K: Sink>(
     }
 }
 
-/// A scenario that can be shared. The only error is want of memory.
-fn shared(alloc: Global, scenario: Scenario) -> Result<Arc<Scenario>, Memory>
-    ensures { IfOk result (λ shared. arc_value shared ≡ scenario) }
-{
-    Ok(Arc::new(alloc, scenario)?)
-}
-
 /// Writes the history and the report of a scenario.
 #[tactic(auto, using(crate::proofs::Answering::replay_done, crate::proofs::Answering::replay_faults, crate::proofs::Answering::replay_wants))]
 fn replayed<K: Sink>(
@@ -65,7 +58,7 @@ fn replayed<K: Sink>(
 ) -> Status
     requires sound { Formed (arc_value scenario) }
     requires row { map kind_of servants.old.items ≡ row }
-    ensures answered { IsAnswered (IsReplayed (arc_value scenario)) result (K.held sink.old) (K.held sink.new)
+    ensures answered { IsAnswered (IsHistory (arc_value scenario)) result (K.held sink.old) (K.held sink.new)
         (K.faults_of sink.old) (K.faults_of sink.new) }
     ensures served { IsEnd result
         → map stepped servants.new.items ≡ whole_served (arc_value scenario) (map stepped servants.old.items) }

@@ -5,11 +5,10 @@ ghost use Rattle.com_explain.specs.Stuck.{IsLawful, is_stuck_by};
 
 use crate::retracing::stuck_after;
 use com_base::Memory;
-use com_body::Native;
 use com_drive::Runtime;
 use com_model::{Entry, Scenario};
-use com_retrace::{add, boxed};
-use com_servant::{Counter, Interpreter, Latch, Relay, Servant};
+use com_retrace::{boxed, row_of};
+use com_servant::{Counter, Interpreter, Latch, Relay};
 use std::alloc::Global;
 
 /// Whether a legal history of a formed scenario is stuck, by its entries in the order of their making, on a
@@ -27,18 +26,12 @@ pub fn is_stuck_on<C: Runtime>(
     requires whole { C.broken runtime.old ≡ false }
     ensures { IfOk result (λ yes. yes ≡ is_stuck_by scenario.now history.now) }
 {
-    let mut servants: Vec<Box<dyn Servant + Send>> = Vec::new(alloc);
-    add(
-        &mut servants,
+    let mut servants = row_of(
+        alloc,
         boxed(alloc, Interpreter::new())?,
-        Native::Bodies,
-    )?;
-    add(
-        &mut servants,
         boxed(alloc, Counter::new())?,
-        Native::Counter,
+        boxed(alloc, Relay::new())?,
+        boxed(alloc, Latch::new())?,
     )?;
-    add(&mut servants, boxed(alloc, Relay::new())?, Native::Relay)?;
-    add(&mut servants, boxed(alloc, Latch::new())?, Native::Latch)?;
     stuck_after(alloc, scenario, runtime, &mut servants, history)
 }

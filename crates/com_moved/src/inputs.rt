@@ -6,10 +6,11 @@ ghost use Rattle.com_moved.specs.Inputs.{moving_of, second_fault, with_trace, wi
 
 use com_base::{ByteList, Memory};
 use com_check::{Cut, cut_text};
+use com_commands::first_fault;
 use com_model::Scenario;
-use com_read_operands::{Fault, ScenarioError};
+use com_read_operands::Fault;
 use com_scenario::{SecondVersion, parse, second_version};
-use std::alloc::{AllocError, Global};
+use std::alloc::Global;
 
 /// What is moved.
 #[derive(Drop)]
@@ -43,25 +44,12 @@ pub fn read_moving(alloc: Global, bytes: &[u8]) -> Result<Result<Moving, Fault>,
 }
 
 // The scenario that a text spells, or its first fault. The only error is want of memory.
+#[tactic(auto, using(com_commands::proofs::Asking::given_read))]
 fn read_scenario(alloc: Global, text: &[u8]) -> Result<Result<Scenario, Fault>, Memory>
     ensures value { IfOk result (λ read. read ≡ reading text.now) }
     ensures formed { IfOk result (λ read. IfOk read (λ scenario. Formed scenario)) }
 {
-    match parse(alloc, text) {
-        Ok(scenario) => Ok(Ok(scenario)),
-        Err(
-            ScenarioError::Fault {
-                number,
-                line,
-                column,
-            },
-        ) => Ok(Err(Fault {
-            number,
-            line,
-            column,
-        })),
-        Err(ScenarioError::Memory) => Err(AllocError),
-    }
+    first_fault(parse(alloc, text))
 }
 
 // The fault of a header of version 2: at the word `2`.

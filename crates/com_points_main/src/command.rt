@@ -14,14 +14,13 @@ ghost use Rattle.com_servant.specs.Rows.{row};
 
 use crate::playing::play;
 use com_base::{ByteList, Memory};
-use com_commands::{Input, InputReader, PlayingCommand, Status, perform};
+use com_commands::{Input, InputReader, PlayingCommand, Status, first_fault, perform, read_as};
 use com_io::{Sink, Source};
 use com_model::Scenario;
-use com_read_operands::Fault;
-use com_read_points::{ScenarioError, read_points};
+use com_read_points::read_points;
 use com_scenario::{LONGEST, is_too_long};
 use com_servant::Servant;
-use std::alloc::{AllocError, Global};
+use std::alloc::Global;
 
 /// The command `points`.
 struct Points;
@@ -39,26 +38,13 @@ impl InputReader for Points {
 
     ghost sound = { Formed };
 
-    #[tactic(auto, using(com_commands::proofs::Asking::long_input, com_commands::proofs::Asking::faulty_input, com_commands::proofs::Asking::reads_input))]
+    #[tactic(auto, using(com_commands::proofs::Asking::long_input, com_commands::proofs::Asking::given_input, com_commands::proofs::Asking::given_sound))]
     fn read(alloc: Global, text: ByteList) -> Result<Input<Scenario>, Memory> {
         if is_too_long(alloc, text.as_slice())? {
             return Ok(Input::TooLong);
         }
-        match read_points(alloc, text.as_slice()) {
-            Ok(scenario) => Ok(Input::Reads(scenario)),
-            Err(
-                ScenarioError::Fault {
-                    number,
-                    line,
-                    column,
-                },
-            ) => Ok(Input::Faulty(Fault {
-                number,
-                line,
-                column,
-            })),
-            Err(ScenarioError::Memory) => Err(AllocError),
-        }
+        let read = first_fault(read_points(alloc, text.as_slice()))?;
+        Ok(read_as(read))
     }
 
     ghost limited = { lit< tt };

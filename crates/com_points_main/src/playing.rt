@@ -1,6 +1,5 @@
 //! A replay, and the lines of its events.
 ghost use Rattle.std.specs.Prelude.{◌≡◌, ◌≤◌, ◌<◌, ◌^◌, Err, Some, IfOk, OnOk, length, map, reverse};
-ghost use Rattle.std.specs.Arc.{arc_value};
 ghost use Rattle.com_commands.specs.Responses.{IsAnswered};
 ghost use Rattle.com_commands.specs.Statuses.{IsEnd};
 ghost use Rattle.com_deliveries.specs.Tables.{AreSources};
@@ -17,14 +16,13 @@ ghost use Rattle.com_servant.specs.Rows.{row};
 
 use crate::events::event_lines;
 use com_base::{ByteList, Memory};
-use com_commands::{Status, say, status_at};
+use com_commands::{Status, say, shared, status_at};
 use com_deliveries::{deliveries_by, source_table};
 use com_io::Sink;
 use com_model::{Ended, Entry, Scenario};
 use com_record::{ReplayError, keep};
 use com_servant::Servant;
 use std::alloc::Global;
-use std::sync::Arc;
 
 /// The lines of the events of a history that was written, and how it ended.
 #[derive(Drop)]
@@ -124,11 +122,4 @@ fn lines_of(alloc: Global, table: &[Option<u16>], entries: &[Entry]) -> Result<B
 {
     let events = deliveries_by(alloc, table, entries)?;
     event_lines(alloc, events.as_slice())
-}
-
-// A scenario that can be shared. The only error is want of memory.
-fn shared(alloc: Global, scenario: Scenario) -> Result<Arc<Scenario>, Memory>
-    ensures { IfOk result (λ shared. arc_value shared ≡ scenario) }
-{
-    Ok(Arc::new(alloc, scenario)?)
 }

@@ -1,12 +1,12 @@
 -- A lane that has a next entry can make it, by the tables of a runtime.
-use Rattle.std.proofs.Common.{ap, subst, arith}
+use Rattle.std.proofs.Common.{ap, sym, subst, ◌∙◌, arith}
 use Rattle.std.proofs.lemmas.Grind.{common_steps}
-use Rattle.std.specs.Prelude.{◌≡◌, refl, ℕ, ◌≤◌, Bool, true, false, not, cond, ◌&&◌, ◌==◌, List, Option, Some, None, is_none, is_some, option_map}
+use Rattle.std.specs.Prelude.{◌≡◌, refl, ℕ, ◌<◌, ◌≤◌, Bool, true, false, not, cond, ◌&&◌, ◌==◌, nat_le, List, Option, Some, None, is_none, is_some, option_map}
 use Rattle.com_model.specs.declared.deeds.Deed.{Deed}
 use Rattle.com_model.specs.declared.deeds.Deed.TheVariants as deed
 use Rattle.com_model.specs.declared.deeds.Entry.{Entry}
 use Rattle.com_model.specs.declared.scenario.Scenario.{Scenario}
-use Rattle.com_model.specs.Tables.{LaneSort, Thread, Host, Pool, NoLane, lane_sort, lanes}
+use Rattle.com_model.specs.Tables.{LaneSort, Thread, Host, Pool, NoLane, host_lane, lane_sort, lanes, threads}
 use Rattle.com_model.specs.Sight.{Sight, sight}
 use Rattle.com_model.specs.Rules.{can_step, next, next_by, no_lane_can, tick_time, ticks}
 use Rattle.com_model.specs.Ends.{finished_by, stuck_by}
@@ -16,7 +16,7 @@ use Rattle.com_model.proofs.Sights.{same-next, same-sight}
 use Rattle.com_drive.specs.declared.runtime.Standing.{Standing}
 use Rattle.com_drive.specs.declared.runtime.Standing.TheVariants as standing
 use Rattle.com_drive.specs.Standings.{Reached, can_step_in, standing_of}
-use Rattle.com_retrace.specs.Nexts.{HasNext}
+use Rattle.com_retrace.specs.Nexts.{HasNext, goes_on, has_next_in}
 use Rattle.com_retrace.proofs.Ticking.{ticks_unfinished}
 
 -- ---- lanes
@@ -76,3 +76,51 @@ clock_goes_on s st l z r e =
     let v : Sight = sight_of s st in
     clock-by s v (no_lane_can s v) (finished_by s v) (tick_time v) refl refl refl
     (λ u t f. ticks_unfinished s h u r.1.1.lawful (subst (λ (w : Sight). tick_time w ≡ Some u) same t) (subst (λ (w : Sight). finished_by s w ≡ true) same f)) has
+
+-- ---- whether there is a next entry
+
+clock-is : (f n : Bool) (t : Option ℕ) → ((u : ℕ) → t ≡ Some u → f ≡ true → ⊥)
+    → goes_on (kind f (n && (is_none t && not f)) n) ≡ is_some (cond n (option_map (λ u. deed.Tick u) t) None)
+clock-is true true (Some u) g = absurd (g u refl refl)
+clock-is false true (Some u) g = refl
+clock-is true true None g = refl
+clock-is false true None g = refl
+clock-is true false t g = refl
+clock-is false false t g = refl
+
+pub clock_has : (s : Scenario) (st : State) (l : ℕ) → l ≡ 0 → Reached s st → goes_on (standing_of s st) ≡ has_next_in s st l
+unfolding Reached has_next_in standing_of
+clock_has s st l z r =
+    let h : List Entry = r.1.0 in
+    let same : sight_of s st ≡ sight s h = same-sight s st h r.1.1 in
+    let v : Sight = sight_of s st in
+    clock-is (finished_by s v) (no_lane_can s v) (tick_time v)
+    (λ u t f. ticks_unfinished s h u r.1.1.lawful (subst (λ (w : Sight). tick_time w ≡ Some u) same t)
+    (subst (λ (w : Sight). finished_by s w ≡ true) same f))
+    ∙ ap (λ (k : ℕ). is_some (next_of s st k)) (sym z)
+
+-- A number above the highest lane has none.
+pub none_above : (s : Scenario) (st : State) (l : ℕ) → lanes s < l → Reached s st → false ≡ has_next_in s st l
+unfolding has_next_in HasNext
+none_above s st l p r =
+    elim (is_some (next_of s st l)) as (λ b. is_some (next_of s st l) ≡ b → false ≡ b) [
+      | true ↦ λ e. let low : l ≤ lanes s = lane_is_one s st l r e in absurd (omega (arith, low, p))
+      | false ↦ λ e. refl
+    ] refl
+
+low-true : (m n : ℕ) → m ≤ n → nat_le m n ≡ true
+low-true m n p = grind (arith, common_steps, p)
+
+sorted : (s : Scenario) (v : Sight) (l : ℕ) (a b c e : Bool) → a ≡ false → e ≡ true
+    → can_step s v l ≡ is_some (next_by s v (cond a NoLane (cond b Thread (cond c Host (cond e Pool NoLane)))) l)
+sorted s v l false true c e p q = refl
+sorted s v l false false true e p q = refl
+sorted s v l false false false true p q = refl
+sorted s v l false false false false p q = cc
+sorted s v l true b c e p q = cc
+
+pub lane_has : (s : Scenario) (st : State) (l : ℕ) → 1 ≤ l → l ≤ lanes s → can_step_in s st l ≡ has_next_in s st l
+unfolding can_step_in has_next_in
+lane_has s st l p q =
+    sorted s (sight_of s st) l (l == 0) (nat_le l (threads s)) (l == host_lane s) (nat_le l (lanes s)) (not-zero l p)
+    (low-true l (lanes s) q)

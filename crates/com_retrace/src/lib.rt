@@ -3,18 +3,41 @@
 #![tactic(auto)]
 
 ghost use Rattle.std.specs.Prelude.{◌≡◌, ◌<◌, ◌∷◌, ◌++◌, [], false, IfOk, OnOk, map};
+ghost use Rattle.com_body.specs.declared.frame.Native.TheVariants as native;
 ghost use Rattle.com_model.specs.Ends.{limit};
 ghost use Rattle.com_servant.specs.Rows.{row};
 ghost use Rattle.com_drive.specs.Standings.{Reached};
 ghost use Rattle.com_drive.specs.Turns.{IsNext};
-ghost use Rattle.com_retrace.specs.Nexts.{HasNext};
+ghost use Rattle.com_retrace.specs.Nexts.{HasNext, goes_on, has_next_in};
 
 pub use com_base::Memory;
 use com_body::Native;
-use com_drive::Runtime;
+use com_drive::{Runtime, Standing};
 use com_model::Entry;
 use com_servant::Servant;
 use std::alloc::Global;
+
+// Whether the clock goes on, in a runtime that stands so.
+fn goes_on(standing: Standing) -> bool
+    ensures { result ≡ goes_on standing }
+{
+    matches!(standing, Standing::Ticks)
+}
+
+/// Whether a lane has a next entry, or the clock as lane 0. A number above the highest lane has none.
+#[tactic(auto, using(crate::proofs::Nexts::clock_has, crate::proofs::Nexts::none_above, crate::proofs::Nexts::lane_has))]
+pub fn has_next<C: Runtime>(runtime: &C, lane: u32) -> bool
+    requires { Reached (C.scenario runtime.now) (C.state runtime.now) }
+    ensures { result ≡ has_next_in (C.scenario runtime.now) (C.state runtime.now) lane }
+{
+    if lane == 0 {
+        return goes_on(runtime.standing());
+    }
+    if runtime.lanes() < lane {
+        return false;
+    }
+    runtime.can_step(lane)
+}
 
 /// Makes the next entry of a lane that has one, or of the clock as lane 0: the lane that a legal history
 /// names next has exactly this entry. The row has one servant of each kind, in the order of the kinds. The
@@ -50,8 +73,8 @@ pub fn boxed<T: Drop>(alloc: Global, value: T) -> Result<Box<T>, Memory>
     Ok(Box::new(alloc, value)?)
 }
 
-/// Puts one servant more behind a row. Its kind is told to the proof alone. The only error is want of memory.
-pub fn add(
+// Puts one servant more behind a row. Its kind is told to the proof alone. The only error is want of memory.
+fn add(
     servants: &mut Vec<Box<dyn Servant + Send>>,
     servant: Box<dyn Servant + Send>,
     _kind: Native,
@@ -61,4 +84,26 @@ pub fn add(
 {
     servants.push(servant)?;
     Ok(())
+}
+
+/// A row of one servant of each kind, in the order of the kinds. The only error is want of memory.
+pub fn row_of(
+    alloc: Global,
+    bodies: Box<dyn Servant + Send>,
+    counter: Box<dyn Servant + Send>,
+    relay: Box<dyn Servant + Send>,
+    latch: Box<dyn Servant + Send>,
+) -> Result<Vec<Box<dyn Servant + Send>>, Memory>
+    requires bodies { kind_of bodies ≡ native.Bodies }
+    requires counter { kind_of counter ≡ native.Counter }
+    requires relay { kind_of relay ≡ native.Relay }
+    requires latch { kind_of latch ≡ native.Latch }
+    ensures { IfOk result (λ servants. map kind_of servants.items ≡ row) }
+{
+    let mut servants = Vec::new(alloc);
+    add(&mut servants, bodies, Native::Bodies)?;
+    add(&mut servants, counter, Native::Counter)?;
+    add(&mut servants, relay, Native::Relay)?;
+    add(&mut servants, latch, Native::Latch)?;
+    Ok(servants)
 }

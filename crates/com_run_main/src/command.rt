@@ -1,5 +1,4 @@
 //! The command `run`.
-ghost use Rattle.std.specs.Arc.{arc_value};
 ghost use Rattle.std.specs.Prelude.{◌≡◌, ◌≤◌, All, IfOk, map, vec_len};
 ghost use Rattle.std.proofs.Common.{lit<};
 ghost use Rattle.com_commands.specs.declared.statuses.Status.TheVariants as status;
@@ -16,14 +15,15 @@ ghost use Rattle.com_servant.specs.Rows.{row};
 use crate::threaded::run;
 use crate::written::written;
 use com_base::{ByteList, Memory};
-use com_commands::{Input, InputReader, Reply, Status, receive, say, status_at};
+use com_commands::{
+    Input, InputReader, Reply, Status, first_fault, read_as, receive, say, shared, status_at,
+};
 use com_io::{Sink, Source};
 use com_model::Scenario;
-use com_read_operands::{Fault, ScenarioError};
 use com_scenario::{LONGEST, is_too_long, parse};
 use com_threads::{Gate, Row};
-use std::alloc::{AllocError, Global};
-use std::sync::{Arc, Wait};
+use std::alloc::Global;
+use std::sync::Wait;
 use std::thread::Threads;
 
 /// How `run` reads its input: as the text of a scenario.
@@ -42,26 +42,13 @@ impl InputReader for RunInput {
 
     ghost sound = { Formed };
 
-    #[tactic(auto, using(com_commands::proofs::Asking::long_input, com_commands::proofs::Asking::faulty_input, com_commands::proofs::Asking::reads_input))]
+    #[tactic(auto, using(com_commands::proofs::Asking::long_input, com_commands::proofs::Asking::given_input, com_commands::proofs::Asking::given_sound))]
     fn read(alloc: Global, text: ByteList) -> Result<Input<Scenario>, Memory> {
         if is_too_long(alloc, text.as_slice())? {
             return Ok(Input::TooLong);
         }
-        match parse(alloc, text.as_slice()) {
-            Ok(scenario) => Ok(Input::Reads(scenario)),
-            Err(
-                ScenarioError::Fault {
-                    number,
-                    line,
-                    column,
-                },
-            ) => Ok(Input::Faulty(Fault {
-                number,
-                line,
-                column,
-            })),
-            Err(ScenarioError::Memory) => Err(AllocError),
-        }
+        let read = first_fault(parse(alloc, text.as_slice()))?;
+        Ok(read_as(read))
     }
 
     ghost limited = { lit< tt };
@@ -69,15 +56,8 @@ impl InputReader for RunInput {
     ghost longer = { longer_than_all };
 }
 
-// A scenario that can be shared. The only error is want of memory.
-fn shared(alloc: Global, scenario: Scenario) -> Result<Arc<Scenario>, Memory>
-    ensures { IfOk result (λ shared. arc_value shared ≡ scenario) }
-{
-    Ok(Arc::new(alloc, scenario)?)
-}
-
-#[tactic(auto, using(crate::proofs::Running::few_lanes))]
 // The status and the text that answer a scenario. The only error is want of memory.
+#[tactic(auto, using(crate::proofs::Running::few_lanes))]
 fn reply<R: Threads + Wait + Sync, G: Gate + Sync>(
     rt: &R,
     alloc: Global,

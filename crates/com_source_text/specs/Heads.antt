@@ -1,10 +1,12 @@
 -- A line `source <name> <guid> <model>`, with the model `none` or `Apartment`: its form, or its first fault.
-use Rattle.std.specs.Prelude.{ℕ, List, [], ◌∷◌, Option, Some, None, Result, Ok, Err, Bool, true, false}
+use Rattle.std.specs.Prelude.{◌≡◌, ℕ, List, [], ◌∷◌, Option, Some, None, Result, Ok, Err, Bool, true, false}
 use Rattle.std.specs.Prelude.{◌&&◌, ◌||◌, ◌==◌, if◌then◌else◌, slice_get, codes}
 use Rattle.std.specs.Str.{bytes_eq}
 use Rattle.com_base.specs.declared.guid.Guid.{Guid}
 use Rattle.com_text.specs.Words.{WordAt}
 use Rattle.com_read_operands.specs.declared.faults.Fault.{Fault}
+use Rattle.com_read_operands.specs.declared.faults.ScenarioError.{ScenarioError}
+use Rattle.com_read_operands.specs.declared.faults.ScenarioError.TheVariants as errors
 use Rattle.com_read_operands.specs.Reading.{◌>>=◌, fault_at, word_at, end_at}
 use Rattle.com_read_operands.specs.Naming.{name_at}
 use Rattle.com_read_operands.specs.Literals.{guid_at, guid_of}
@@ -30,6 +32,12 @@ model_at line k = do
 abbrev pub cut_at : {A : Type 0} → ℕ → Result A Fault → Option Cut → Option Cut
 cut_at k (Ok x) rest = rest
 cut_at k (Err f) rest = Some (record { words = k; fault = f })
+
+-- The cut is the fault of an error, behind so many words.
+abbrev pub IsCut : ℕ → ScenarioError → Option Cut → Type 0
+IsCut k errors.Memory cut = ⊥
+IsCut k (errors.Fault n l c) cut =
+    cut ≡ Some (record { words = k; fault = record { number = n; line = l; column = c } })
 
 abbrev pub cut_of : List WordAt → Option Cut
 cut_of line =

@@ -1,8 +1,9 @@
 //! The form of a `source` line, and what the lines above it say.
 
-ghost use Rattle.std.specs.Prelude.{◌≡◌, IfOk, slice_get};
+ghost use Rattle.std.specs.Prelude.{◌≡◌, IfOk, OnErr, slice_get};
+ghost use Rattle.com_read_operands.specs.declared.faults.ScenarioError.TheVariants as errors;
 ghost use Rattle.com_read_operands.specs.Reading.{Gives};
-ghost use Rattle.com_source_text.specs.Heads.{is_text, is_source_line, model_at, cut_of};
+ghost use Rattle.com_source_text.specs.Heads.{IsCut, is_text, is_source_line, model_at, cut_of};
 ghost use Rattle.com_source_text.specs.Heads.{is_point_iid, is_point_guid, declares_point, nothing_seen};
 ghost use Rattle.com_source_text.specs.Heads.{seen_behind, is_taken};
 
@@ -58,68 +59,49 @@ fn model(line: &[Word], place: usize) -> Result<bool, ScenarioError>
     Err(fault(Fault::UNEXPECTED, word))
 }
 
+/// The fault that a reader met behind so many words. The only error is want of memory, which comes exactly
+/// where the reader met it.
+fn cut_at(words: usize, error: ScenarioError) -> Result<Option<Cut>, Memory>
+    ensures cut { IfOk result (λ cut. IsCut words error cut) }
+    ensures err { OnErr result (error ≡ errors.Memory) }
+{
+    match error {
+        ScenarioError::Memory => Err(AllocError),
+        ScenarioError::Fault {
+            number,
+            line,
+            column,
+        } => Ok(Some(Cut {
+            words,
+            fault: Fault {
+                number,
+                line,
+                column,
+            },
+        })),
+    }
+}
+
 /// The first fault of a line's form: of its name, its GUID, its model, or a word behind them.
+#[tactic(auto, using(crate::proofs::CutFaults::cut_found))]
 pub(crate) fn cut_of(line: &[Word]) -> Result<Option<Cut>, Memory>
     ensures { IfOk result (λ cut. cut ≡ cut_of line.now) }
 {
     match name(line, 1) {
-        Err(ScenarioError::Memory) => return Err(AllocError),
-        Err(
-            ScenarioError::Fault {
-                number,
-                line,
-                column,
-            },
-        ) => return Ok(Some(sound(1, number, line, column))),
+        Err(error) => return cut_at(1, error),
         Ok(_) => {}
     }
     match guid(line, 2) {
-        Err(ScenarioError::Memory) => return Err(AllocError),
-        Err(
-            ScenarioError::Fault {
-                number,
-                line,
-                column,
-            },
-        ) => return Ok(Some(sound(2, number, line, column))),
+        Err(error) => return cut_at(2, error),
         Ok(_) => {}
     }
     match model(line, 3) {
-        Err(ScenarioError::Memory) => return Err(AllocError),
-        Err(
-            ScenarioError::Fault {
-                number,
-                line,
-                column,
-            },
-        ) => return Ok(Some(sound(3, number, line, column))),
+        Err(error) => return cut_at(3, error),
         Ok(_) => {}
     }
     match end(line, 4) {
-        Err(ScenarioError::Memory) => Err(AllocError),
-        Err(
-            ScenarioError::Fault {
-                number,
-                line,
-                column,
-            },
-        ) => Ok(Some(sound(4, number, line, column))),
+        Err(error) => cut_at(4, error),
         Ok(_) => Ok(None),
-    }
-}
-
-/// A fault behind so many words.
-fn sound(words: usize, number: u8, line: u32, column: u32) -> Cut
-    ensures { result
-        ≡ record { words = words; fault = record { number = number; line = line; column = column } } }
-{
-    Cut {
-        words,
-        fault: Fault {
-            number,
-            line,
-            column,
-        },
     }
 }
 

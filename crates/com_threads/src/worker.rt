@@ -209,71 +209,30 @@ impl<C: Jobs + Drop, J: Plays> Shift<C, J> {
         let Held { pass, turn, sleep } = hold(
             rt, alloc, scenario, lock, bells, pass, lane, brought,
         );
-        match turn {
+        let (brought, jobs, idle, goes_on) = match turn {
             Turn::Works(job) => {
                 let brought = compute(alloc, scenario, &mut servants, job);
                 let jobs = jobs.saturating_add(1);
                 gate.between(lane, jobs);
-                let idle = 0;
-                (
-                    Shift {
-                        lane,
-                        pass,
-                        servants,
-                        brought,
-                        jobs,
-                        idle,
-                    },
-                    true,
-                )
+                (brought, jobs, 0, true)
             }
-            Turn::Goes => {
-                let brought = Brought::Nothing;
-                let idle = 0;
-                (
-                    Shift {
-                        lane,
-                        pass,
-                        servants,
-                        brought,
-                        jobs,
-                        idle,
-                    },
-                    true,
-                )
-            }
+            Turn::Goes => (Brought::Nothing, jobs, 0, true),
             Turn::Waits => {
                 pause(rt, bells, lane, sleep);
-                let brought = Brought::Nothing;
                 let idle = idle.saturating_add(1);
-                let goes_on = idle < IDLE_TURNS;
-                (
-                    Shift {
-                        lane,
-                        pass,
-                        servants,
-                        brought,
-                        jobs,
-                        idle,
-                    },
-                    goes_on,
-                )
+                (Brought::Nothing, jobs, idle, idle < IDLE_TURNS)
             }
-            Turn::Over => {
-                let brought = Brought::Nothing;
-                (
-                    Shift {
-                        lane,
-                        pass,
-                        servants,
-                        brought,
-                        jobs,
-                        idle,
-                    },
-                    false,
-                )
-            }
-        }
+            Turn::Over => (Brought::Nothing, jobs, idle, false),
+        };
+        let shift = Shift {
+            lane,
+            pass,
+            servants,
+            brought,
+            jobs,
+            idle,
+        };
+        (shift, goes_on)
     }
 }
 

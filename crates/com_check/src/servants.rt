@@ -1,0 +1,38 @@
+//! The row of servants by which a trace is judged.
+ghost use Rattle.std.specs.Prelude.{◌≡◌, false, IfOk};
+ghost use Rattle.com_model.specs.Formed.{Formed};
+ghost use Rattle.com_model.specs.State.{first_tables};
+ghost use Rattle.com_check.specs.Judging.{IsJudged};
+
+use crate::judge::judge_trace;
+use crate::judged::Judged;
+use com_base::Memory;
+use com_drive::Runtime;
+use com_model::Scenario;
+use com_retrace::{boxed, row_of};
+use com_servant::{Counter, Interpreter, Latch, Relay};
+use std::alloc::Global;
+
+/// Judges a trace of a formed scenario, on a runtime that has made no entry, by servants that have made no
+/// step. The only error is want of memory.
+pub fn judge_on<C: Runtime>(
+    alloc: Global,
+    scenario: &Scenario,
+    runtime: &mut C,
+    trace: &[u8],
+) -> Result<Judged, Memory>
+    requires formed { Formed scenario.now }
+    requires scenario { C.scenario runtime.old ≡ scenario.now }
+    requires first { C.state runtime.old ≡ first_tables scenario.now }
+    requires whole { C.broken runtime.old ≡ false }
+    ensures { IfOk result (λ j. IsJudged scenario.now trace.now j) }
+{
+    let mut servants = row_of(
+        alloc,
+        boxed(alloc, Interpreter::new())?,
+        boxed(alloc, Counter::new())?,
+        boxed(alloc, Relay::new())?,
+        boxed(alloc, Latch::new())?,
+    )?;
+    judge_trace(alloc, scenario, runtime, &mut servants, trace)
+}
