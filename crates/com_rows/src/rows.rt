@@ -1,12 +1,16 @@
-//! Calls of the top with a row of servants that have made no step.
+//! Calls of the top with a crew of servants that have made no step.
 ghost use Rattle.std.specs.Prelude.{◌≡◌, ◌∷◌, ◌++◌, [], IfOk, OnOk, map};
 
 use com_base::Memory;
 use com_body::Native;
+use com_crew::{ROWS, is_manned};
 use com_io::{MemorySink, MemorySource};
 use com_servant::{Counter, Interpreter, Latch, Relay, Servant};
+use com_threads::OpenGate;
 use com_top::com_main;
-use std::alloc::Global;
+use std::alloc::{AllocError, Global};
+use std::sync::Wait;
+use std::thread::Threads;
 
 // A value in a box. The only error is want of memory.
 fn boxed<T: Drop>(alloc: Global, value: T) -> Result<Box<T>, Memory>
@@ -28,43 +32,57 @@ fn add(
     Ok(())
 }
 
-/// What the top call answers to these words, and how many steps the four servants made.
-pub fn answer(
+/// What the top call answers to these words, and how many steps the servants of all rows made.
+pub fn answer<R: Threads + Wait + Sync>(
+    rt: &R,
     alloc: Global,
     words: &[String],
     source: &mut MemorySource,
     sink: &mut MemorySink,
 ) -> Result<(u8, u64), Memory> {
-    let mut servants: Vec<Box<dyn Servant + Send>> = Vec::new(alloc);
-    add(
-        &mut servants,
-        boxed(alloc, Interpreter::new())?,
-        Native::Bodies,
-    )?;
-    add(
-        &mut servants,
-        boxed(alloc, Counter::new())?,
-        Native::Counter,
-    )?;
-    add(&mut servants, boxed(alloc, Relay::new())?, Native::Relay)?;
-    add(&mut servants, boxed(alloc, Latch::new())?, Native::Latch)?;
-    let status = com_main(alloc, words, &mut servants, source, sink);
-    Ok((status, steps(&servants)))
+    let mut crew: Vec<Vec<Box<dyn Servant + Send>>> = Vec::new(alloc);
+    for _ in 0..ROWS {
+        let mut servants: Vec<Box<dyn Servant + Send>> = Vec::new(alloc);
+        add(
+            &mut servants,
+            boxed(alloc, Interpreter::new())?,
+            Native::Bodies,
+        )?;
+        add(
+            &mut servants,
+            boxed(alloc, Counter::new())?,
+            Native::Counter,
+        )?;
+        add(&mut servants, boxed(alloc, Relay::new())?, Native::Relay)?;
+        add(&mut servants, boxed(alloc, Latch::new())?, Native::Latch)?;
+        crew.push(servants)?;
+    }
+    // The loop has no invariant that names the kinds of boxes, so they are looked at once.
+    if !is_manned(&crew) {
+        return Err(AllocError);
+    }
+    let status = com_main(rt, alloc, words, &mut crew, &OpenGate, source, sink);
+    Ok((status, steps(&crew)))
 }
 
 // How many steps servants made together.
-fn steps(servants: &Vec<Box<dyn Servant + Send>>) -> u64 {
-    servants
-        .iter()
-        .fold(0u64, |sum, servant| sum.saturating_add(servant.steps()))
+fn steps(crew: &Vec<Vec<Box<dyn Servant + Send>>>) -> u64 {
+    let mut sum = 0u64;
+    for servants in crew.iter() {
+        for servant in servants.iter() {
+            sum = sum.saturating_add(servant.steps());
+        }
+    }
+    sum
 }
 
 /// What `replay` answers.
-pub fn replay(
+pub fn replay<R: Threads + Wait + Sync>(
+    rt: &R,
     alloc: Global,
     source: &mut MemorySource,
     sink: &mut MemorySink,
 ) -> Result<u8, Memory> {
     let words = vec![in alloc; String::from_str(alloc, "replay")?]?;
-    Ok(answer(alloc, words.as_slice(), source, sink)?.0)
+    Ok(answer(rt, alloc, words.as_slice(), source, sink)?.0)
 }

@@ -4,7 +4,9 @@ use com_base::ByteList;
 use com_io::{MemorySink, MemorySource};
 use com_top::objref_main;
 use std::alloc::Global;
+use std::sync::Wait;
 use std::test::Fail;
+use std::thread::Threads;
 
 const DIRECT_CALL: &[u8] =
     b"scenario 1\nnative Cnt {5C0B00C1-0000-4000-8000-000000000001} Both counter\nthread\ninit sta\ncreate s0 Cnt ICounter\ncall s0 ICounter.add 5 -> r1\nrelease s0\nuninit\nend\n";
@@ -35,7 +37,7 @@ fn worked_cases_are_written_whole(rt: HostRuntime) -> Result<(), Fail> {
         let bytes = ByteList::from_slice(rt.alloc(), input)?;
         let mut source = MemorySource::new(bytes, 1000, Vec::new(rt.alloc()));
         let mut sink = MemorySink::new(rt.alloc(), 10_000, 1000, Vec::new(rt.alloc()))?;
-        assert_eq!(rt; replay(rt.alloc(), &mut source, &mut sink)?, 0);
+        assert_eq!(rt; replay(&rt, rt.alloc(), &mut source, &mut sink)?, 0);
         assert_eq!(rt; sink.held(), text);
     }
     Ok(())
@@ -54,7 +56,7 @@ fn the_servants_count_the_steps_of_bodies(rt: HostRuntime) -> Result<(), Fail> {
         let bytes = ByteList::from_slice(rt.alloc(), input)?;
         let mut source = MemorySource::new(bytes, 1000, Vec::new(rt.alloc()));
         let mut sink = MemorySink::new(rt.alloc(), 10_000, 1000, Vec::new(rt.alloc()))?;
-        let (_, steps) = answer(rt.alloc(), words.as_slice(), &mut source, &mut sink)?;
+        let (_, steps) = answer(&rt, rt.alloc(), words.as_slice(), &mut source, &mut sink)?;
         assert_eq!(rt; steps, wanted);
     }
     Ok(())
@@ -65,7 +67,7 @@ fn pieces_of_one_byte_change_nothing(rt: HostRuntime) -> Result<(), Fail> {
     let bytes = ByteList::from_slice(rt.alloc(), DIRECT_CALL)?;
     let mut source = MemorySource::new(bytes, 1, Vec::new(rt.alloc()));
     let mut sink = MemorySink::new(rt.alloc(), 10_000, 1, Vec::new(rt.alloc()))?;
-    assert_eq!(rt; replay(rt.alloc(), &mut source, &mut sink)?, 0);
+    assert_eq!(rt; replay(&rt, rt.alloc(), &mut source, &mut sink)?, 0);
     assert_eq!(rt; sink.held(), DIRECT_CALL_TEXT);
     Ok(())
 }
@@ -75,7 +77,7 @@ fn a_first_read_that_fails_is_a_read_fault(rt: HostRuntime) -> Result<(), Fail> 
     let bytes = ByteList::from_slice(rt.alloc(), DIRECT_CALL)?;
     let mut source = MemorySource::new(bytes, 1000, vec![in rt.alloc(); 1u64]?);
     let mut sink = MemorySink::new(rt.alloc(), 10_000, 1000, Vec::new(rt.alloc()))?;
-    assert_eq!(rt; replay(rt.alloc(), &mut source, &mut sink)?, 3);
+    assert_eq!(rt; replay(&rt, rt.alloc(), &mut source, &mut sink)?, 3);
     assert_eq!(rt; sink.held(), b"read fault\n".as_slice());
     Ok(())
 }
@@ -85,16 +87,20 @@ fn a_first_write_that_fails_leaves_nothing_written(rt: HostRuntime) -> Result<()
     let bytes = ByteList::from_slice(rt.alloc(), DIRECT_CALL)?;
     let mut source = MemorySource::new(bytes, 1000, Vec::new(rt.alloc()));
     let mut sink = MemorySink::new(rt.alloc(), 10_000, 1000, vec![in rt.alloc(); 1u64]?)?;
-    assert_eq!(rt; replay(rt.alloc(), &mut source, &mut sink)?, 4);
+    assert_eq!(rt; replay(&rt, rt.alloc(), &mut source, &mut sink)?, 4);
     assert_eq!(rt; sink.held(), b"".as_slice());
     Ok(())
 }
 
 /// What `replay` answers for a text, and what it writes.
-fn replayed(alloc: Global, text: ByteList) -> Result<(u8, ByteList), Fail> {
+fn replayed<R: Threads + Wait + Sync>(
+    rt: &R,
+    alloc: Global,
+    text: ByteList,
+) -> Result<(u8, ByteList), Fail> {
     let mut source = MemorySource::new(text, 65_536, Vec::new(alloc));
     let mut sink = MemorySink::new(alloc, 10_000, 1000, Vec::new(alloc))?;
-    let status = replay(alloc, &mut source, &mut sink)?;
+    let status = replay(rt, alloc, &mut source, &mut sink)?;
     Ok((status, ByteList::from_slice(alloc, sink.held())?))
 }
 
@@ -117,13 +123,13 @@ fn other_words_are_usage_and_read_nothing(rt: HostRuntime) -> Result<(), Fail> {
     );
     let mut sink = MemorySink::new(rt.alloc(), 1000, 1000, Vec::new(rt.alloc()))?;
     assert_eq!(rt;
-        answer(rt.alloc(), words.as_slice(), &mut source, &mut sink)?.0,
+        answer(&rt, rt.alloc(), words.as_slice(), &mut source, &mut sink)?.0,
         1
     );
-    assert_eq!(rt; replay(rt.alloc(), &mut source, &mut sink)?, 2);
+    assert_eq!(rt; replay(&rt, rt.alloc(), &mut source, &mut sink)?, 2);
     assert_eq!(rt;
         sink.held(),
-        b"usage: comrun replay|check|load N|objref|migrate|waits|dispatch|points\nrefused 1 1 1\n".as_slice()
+        b"usage: comrun replay|run|check|load N|objref|migrate|waits|dispatch|points\nrefused 1 1 1\n".as_slice()
     );
     Ok(())
 }
@@ -151,7 +157,7 @@ fn a_text_that_is_no_scenario_is_refused_at_its_first_fault(rt: HostRuntime) -> 
         ),
     ];
     for (text, line) in cases {
-        let (status, written) = replayed(rt.alloc(), ByteList::from_slice(rt.alloc(), text)?)?;
+        let (status, written) = replayed(&rt, rt.alloc(), ByteList::from_slice(rt.alloc(), text)?)?;
         assert_eq!(rt; status, 2);
         assert_eq!(rt; written.as_slice(), line);
     }
@@ -178,7 +184,7 @@ fn other_scenarios_end_as_their_reports_say(rt: HostRuntime) -> Result<(), Fail>
         ),
     ];
     for (text, wanted, lines) in cases {
-        let (status, written) = replayed(rt.alloc(), ByteList::from_slice(rt.alloc(), text)?)?;
+        let (status, written) = replayed(&rt, rt.alloc(), ByteList::from_slice(rt.alloc(), text)?)?;
         assert_eq!(rt; status, wanted);
         assert_eq!(rt; written.as_slice(), lines);
     }
@@ -193,7 +199,7 @@ fn a_scenario_without_threads_ends_at_once(rt: HostRuntime) -> Result<(), Fail> 
         b"scenario 1\npool 3\nfilter F\nend\npicks 1 2\n".as_slice(),
     ];
     for text in cases {
-        let (status, written) = replayed(rt.alloc(), ByteList::from_slice(rt.alloc(), text)?)?;
+        let (status, written) = replayed(&rt, rt.alloc(), ByteList::from_slice(rt.alloc(), text)?)?;
         assert_eq!(rt; status, 0);
         assert_eq!(rt;
             written.as_slice(),
@@ -207,7 +213,7 @@ fn a_scenario_without_threads_ends_at_once(rt: HostRuntime) -> Result<(), Fail> 
 fn spelling_and_unused_sections_change_nothing(rt: HostRuntime) -> Result<(), Fail> {
     let text =
         b"; one call\nscenario 1 ; the header\npicks 3 1\n\nnative Cnt {5c0b00c1-0000-4000-8000-000000000001} Both counter\r\nnative Other {5C0B00C1-0000-4000-8000-000000000002} none latch\nthread\n\tinit  sta\n create s0 {5C0B00C1-0000-4000-8000-000000000001} {5C0B0001-0000-4000-8000-000000000001}\n call s0 ICounter.add 005 -> r1\n release s0\nend\npool 2";
-    let (status, written) = replayed(rt.alloc(), ByteList::from_slice(rt.alloc(), text)?)?;
+    let (status, written) = replayed(&rt, rt.alloc(), ByteList::from_slice(rt.alloc(), text)?)?;
     assert_eq!(rt; status, 0);
     assert_eq!(rt; written.as_slice(), DIRECT_CALL_TEXT);
     Ok(())
@@ -223,7 +229,7 @@ fn the_longest_text_depends_on_the_version(rt: HostRuntime) -> Result<(), Fail> 
         (b"\x01\n".as_slice(), 1_048_577, 2),
     ];
     for (front, length, wanted) in cases {
-        let (status, written) = replayed(rt.alloc(), padded(rt.alloc(), front, length)?)?;
+        let (status, written) = replayed(&rt, rt.alloc(), padded(rt.alloc(), front, length)?)?;
         assert_eq!(rt; status, wanted);
         if wanted == 2 {
             assert_eq!(rt; written.as_slice(), b"refused 0 0 12\n".as_slice());

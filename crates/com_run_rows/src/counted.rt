@@ -3,6 +3,7 @@ ghost use Rattle.std.specs.Prelude.{◌≡◌, IfOk, OnOk, OnErr};
 
 use com_body::{Job, Native, Outcome};
 use com_classes::Classes;
+use com_crew::ROWS;
 use com_servant::{Memory, Servant};
 use std::alloc::Global;
 use std::array;
@@ -10,13 +11,10 @@ use std::sync::Arc;
 use std::sync::atomic::AtomicU64;
 use std::sync::atomic::Ordering::SeqCst;
 
-/// A row of servants for each lane that a scenario may have.
-pub const CREW: usize = 25;
-
 /// How many steps the servants of each row made. The rows count from 0.
 #[derive(Drop)]
 pub struct Steps {
-    words: [AtomicU64; CREW],
+    words: [AtomicU64; ROWS],
 }
 
 impl Steps {
@@ -28,11 +26,11 @@ impl Steps {
 
     /// The steps of a row.
     pub fn of(&self, row: usize) -> u64 {
-        self.words[row % CREW].load(SeqCst)
+        self.words[row % ROWS].load(SeqCst)
     }
 
     fn add(&self, row: usize) {
-        self.words[row % CREW].fetch_add(1, SeqCst);
+        self.words[row % ROWS].fetch_add(1, SeqCst);
     }
 }
 

@@ -4,8 +4,6 @@
 #[cfg(test)]
 mod counted;
 #[cfg(test)]
-mod crew;
-#[cfg(test)]
 mod meeting;
 #[cfg(test)]
 mod tests;

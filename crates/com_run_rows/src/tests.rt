@@ -2,14 +2,14 @@
 ghost use Rattle.std.specs.Prelude.{◌≡◌, ◌++◌, ◌∷◌, [], All, IfOk, OnOk, map, vec_len};
 ghost use Rattle.com_servant.specs.Rows.{row};
 
-use crate::counted::{CREW, Counted, Steps};
-use crate::crew::is_manned;
+use crate::counted::{Counted, Steps};
 use crate::meeting::Meeting;
 use com_base::ByteList;
 use com_body::Native;
+use com_crew::{ROWS, is_manned};
 use com_io::{MemorySink, MemorySource};
-use com_run_main::run_main;
 use com_servant::{Counter, Interpreter, Latch, Memory, Relay, Servant};
+use com_top::com_main;
 use std::alloc::{AllocError, Global};
 use std::sync::{Arc, Wait};
 use std::test::*;
@@ -51,17 +51,18 @@ fn add(
     Ok(())
 }
 
-// What `run` answers for the two counters, and what it writes, with a crew whose steps are counted. The
-// counters of lane 1 may refuse each step.
-fn ran<R: Threads + Wait + Sync>(
+// What a word answers for the two counters, and what it writes, with a crew whose steps are counted. The
+// counters of the first row may refuse each step.
+fn answered<R: Threads + Wait + Sync>(
     rt: &R,
     alloc: Global,
+    word: &str,
     gate: &Meeting,
     steps: &Arc<Steps, Global>,
     refuses: bool,
 ) -> Result<(u8, ByteList), Memory> {
     let mut crew: Vec<Vec<Box<dyn Servant + Send>>> = Vec::new(alloc);
-    for at in 0..CREW {
+    for at in 0..ROWS {
         let mut servants: Vec<Box<dyn Servant + Send>> = Vec::new(alloc);
         let bodies = Counted::new(Interpreter::new(), at, false, steps.clone()?);
         add(&mut servants, boxed(alloc, bodies)?, Native::Bodies)?;
@@ -73,14 +74,23 @@ fn ran<R: Threads + Wait + Sync>(
         add(&mut servants, boxed(alloc, latch)?, Native::Latch)?;
         crew.push(servants)?;
     }
-    // That each row is one, is looked at here: the loop has no invariant that says it.
+    // The loop has no invariant that names the kinds of boxes, so they are looked at once.
     if !is_manned(&crew) {
         return Err(AllocError);
     }
     let bytes = ByteList::from_slice(alloc, TWO_COUNTERS)?;
     let mut source = MemorySource::new(bytes, 1000, Vec::new(alloc));
     let mut sink = MemorySink::new(alloc, 10_000, 1000, Vec::new(alloc))?;
-    let status = run_main(rt, alloc, crew, gate, &mut source, &mut sink);
+    let words = vec![in alloc; String::from_str(alloc, word)?]?;
+    let status = com_main(
+        rt,
+        alloc,
+        words.as_slice(),
+        &mut crew,
+        gate,
+        &mut source,
+        &mut sink,
+    );
     Ok((status, ByteList::from_slice(alloc, sink.held())?))
 }
 
@@ -88,12 +98,12 @@ fn ran<R: Threads + Wait + Sync>(
 fn two_lanes_meet_between_step_and_commit(rt: HostRuntime) -> Result<(), Fail> {
     let steps = Arc::new(rt.alloc(), Steps::new())?;
     let gate = Meeting::new();
-    let (status, text) = ran(&rt, rt.alloc(), &gate, &steps, false)?;
+    let (status, text) = answered(&rt, rt.alloc(), "run", &gate, &steps, false)?;
     assert_eq!(rt; status, 0);
     assert!(rt; gate.is_met());
     assert_eq!(rt; steps.of(0), 1);
     assert_eq!(rt; steps.of(1), 2);
-    for row in 2..CREW {
+    for row in 2..ROWS {
         assert_eq!(rt; steps.of(row), 0);
     }
     assert_eq!(rt; entries_of(text.as_slice(), b'1'), 9);
@@ -103,12 +113,27 @@ fn two_lanes_meet_between_step_and_commit(rt: HostRuntime) -> Result<(), Fail> {
 }
 
 #[test]
+fn a_replay_is_stepped_by_the_first_row_alone(rt: HostRuntime) -> Result<(), Fail> {
+    let steps = Arc::new(rt.alloc(), Steps::new())?;
+    let gate = Meeting::new();
+    let (status, text) = answered(&rt, rt.alloc(), "replay", &gate, &steps, false)?;
+    assert_eq!(rt; status, 0);
+    assert!(rt; text.as_slice().ends_with(b"entries 22 clock 0\nend ok\n"));
+    assert!(rt; !gate.is_left());
+    assert_eq!(rt; steps.of(0), 3);
+    for row in 1..ROWS {
+        assert_eq!(rt; steps.of(row), 0);
+    }
+    Ok(())
+}
+
+#[test]
 fn want_of_memory_in_a_worker_is_answered_when_all_were_joined(
     rt: HostRuntime,
 ) -> Result<(), Fail> {
     let steps = Arc::new(rt.alloc(), Steps::new())?;
     let gate = Meeting::new();
-    let (status, text) = ran(&rt, rt.alloc(), &gate, &steps, true)?;
+    let (status, text) = answered(&rt, rt.alloc(), "run", &gate, &steps, true)?;
     assert_eq!(rt; status, 9);
     assert_eq!(rt; text.as_slice(), b"".as_slice());
     assert!(rt; gate.is_met());

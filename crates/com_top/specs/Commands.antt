@@ -1,5 +1,5 @@
 -- What is answered to each command.
-use Rattle.std.specs.Prelude.{◌≡◌, ℕ, ◌⊎◌, List, codes, ⊤}
+use Rattle.std.specs.Prelude.{◌≡◌, ℕ, ◌⊎◌, List, [], ◌∷◌, codes, ⊤}
 use Rattle.com_io.specs.Faults.{Rose}
 use Rattle.com_io.specs.Told.{Gains, GainsPrefix}
 use Rattle.com_drive.specs.Replays.{whole_served}
@@ -12,6 +12,7 @@ use Rattle.com_points_main.specs.Playing.{IsPlayed}
 use Rattle.com_dispatch.specs.Late.{late}
 use Rattle.com_dispatch_main.specs.Dispatching.{IsDispatched, dispatched_served}
 use Rattle.com_migrate_main.specs.Migrating.{IsMigrated, migrating}
+use Rattle.com_run_main.specs.Runs.{IsRun}
 use Rattle.com_top.specs.declared.words.Command.{Command}
 use Rattle.com_top.specs.declared.words.Command.TheVariants as command
 use Rattle.com_top.specs.Checking.{IsVerdict, question_input}
@@ -21,7 +22,7 @@ use Rattle.com_top.specs.Scenarios.{IsHistory, scenario_input}
 use Rattle.com_top.specs.Showing.{IsShown, digits_input}
 
 abbrev pub usage_line : List ℕ
-usage_line = codes "usage: comrun replay|check|load N|objref|migrate|waits|dispatch|points\n"
+usage_line = codes "usage: comrun replay|run|check|load N|objref|migrate|waits|dispatch|points\n"
 
 -- The usage line was written, and the code is 1; or the sink's count rose, a prefix of the line was written,
 -- and the code is 4.
@@ -35,6 +36,7 @@ IsUsage code sides =
 -- nothing are those without a source (`alone`).
 abbrev pub Answered : Command → (code : ℕ) → (sides alone : Sides) → Type 0
 Answered command.Replay code sides alone = Responds scenario_input IsHistory code sides
+Answered command.Run code sides alone = Responds scenario_input IsRun code sides
 Answered command.Check code sides alone = Responds question_input IsVerdict code sides
 Answered (command.Load number) code sides alone = Responds (load_input number) IsLoaded code alone
 Answered command.ObjRef code sides alone = Responds digits_input IsShown code sides
@@ -43,6 +45,16 @@ Answered command.Waits code sides alone = Responds scenario_input IsExplained co
 Answered command.Dispatch code sides alone = Responds (input_of is_too_long late) IsDispatched code sides
 Answered command.Points code sides alone = Responds (input_of is_too_long reading_points) IsPlayed code sides
 Answered command.Usage code sides alone = IsUsage code alone
+
+-- The counts of the first row.
+abbrev pub first : List (List ℕ) → List ℕ
+first [] = []
+first (row ∷ rows) = row
+
+-- The counts of all rows behind it.
+abbrev pub others : List (List ℕ) → List (List ℕ)
+others [] = []
+others (row ∷ rows) = rows
 
 -- The servants' counts of steps: a command that replays has had them count its history, and no other command
 -- has had one make a step.
@@ -58,6 +70,13 @@ Served command.Dispatch code sides alone steps steps_after =
 Served command.Points code sides alone steps steps_after =
     Serves (input_of is_too_long reading_points) IsPlayed whole_served code sides steps steps_after
 Served _ code sides alone steps steps_after = steps_after ≡ steps
+
+-- The counts of a crew, row by row, where the crew keeps its rows: the first row's are those that `Served`
+-- speaks of, and the others are as before.
+abbrev pub CrewServed : Command → (code : ℕ) → (sides alone : Sides)
+    → (steps steps_after : List (List ℕ)) → Type 0
+CrewServed asked code sides alone steps steps_after =
+    Served asked code sides alone (first steps) (first steps_after) × (others steps_after ≡ others steps)
 
 -- The commands that read no input.
 abbrev pub ReadsNone : Command → Type 0

@@ -9,6 +9,7 @@ use Rattle.com_top.specs.declared.words.Command.TheVariants as command
 abbrev pub of_word : List ℕ → Command
 of_word word =
     if bytes_eq word (codes "replay") then command.Replay
+    else if bytes_eq word (codes "run") then command.Run
     else if bytes_eq word (codes "check") then command.Check
     else if bytes_eq word (codes "objref") then command.ObjRef
     else if bytes_eq word (codes "migrate") then command.Migrate

@@ -9,6 +9,8 @@ use com_gen::number_of;
 pub enum Command {
     /// `replay`.
     Replay,
+    /// `run`.
+    Run,
     /// `check`.
     Check,
     /// `load` and a number from 1 to 1,000,000.
@@ -43,6 +45,7 @@ fn of_word(word: &str) -> Command
 {
     match word {
         "replay" => Command::Replay,
+        "run" => Command::Run,
         "check" => Command::Check,
         "objref" => Command::ObjRef,
         "migrate" => Command::Migrate,

@@ -5,15 +5,19 @@ ghost use Rattle.std.specs.Prelude.{◌≡◌, ◌∷◌, ◌++◌, [], IfOk, On
 
 use com_base::Memory;
 use com_body::Native;
+use com_crew::{ROWS, is_manned};
 use com_io::{Sink, Source, StdSink, StdSource};
 use com_servant::{Counter, Interpreter, Latch, Relay, Servant};
+use com_threads::OpenGate;
 use com_top::com_main;
 use std::alloc::{AllocError, Global};
 use std::env;
 use std::io::ErrorKind;
 use std::process::ExitCode;
+use std::sync::Wait;
+use std::thread::Threads;
 
-// Want of memory for the words or for the servants.
+// Want of memory for the words or for the crew.
 const NO_MEMORY: u8 = 9;
 
 fn main(rt: HostRuntime) -> ExitCode {
@@ -23,34 +27,43 @@ fn main(rt: HostRuntime) -> ExitCode {
     };
     let mut source = StdSource::new(rt.stdin());
     let mut sink = StdSink::new(rt.stdout());
-    match served(rt.alloc(), words.as_slice(), &mut source, &mut sink) {
+    match served(&rt, rt.alloc(), words.as_slice(), &mut source, &mut sink) {
         Ok(status) => ExitCode::from(status),
         Err(_) => ExitCode::from(NO_MEMORY),
     }
 }
 
-// Does what the words ask for, with a row of servants that have made no step. The only error is want of
-// memory for the row.
-fn served<S: Source, K: Sink>(
+// Does what the words ask for, with a crew of servants that have made no step, and a gate that holds nobody.
+// The only error is want of memory for the crew.
+fn served<R: Threads + Wait + Sync, S: Source, K: Sink>(
+    rt: &R,
     alloc: Global,
     words: &[String],
     source: &mut S,
     sink: &mut K,
 ) -> Result<u8, Memory> {
-    let mut servants: Vec<Box<dyn Servant + Send>> = Vec::new(alloc);
-    add(
-        &mut servants,
-        boxed(alloc, Interpreter::new())?,
-        Native::Bodies,
-    )?;
-    add(
-        &mut servants,
-        boxed(alloc, Counter::new())?,
-        Native::Counter,
-    )?;
-    add(&mut servants, boxed(alloc, Relay::new())?, Native::Relay)?;
-    add(&mut servants, boxed(alloc, Latch::new())?, Native::Latch)?;
-    Ok(com_main(alloc, words, &mut servants, source, sink))
+    let mut crew: Vec<Vec<Box<dyn Servant + Send>>> = Vec::new(alloc);
+    for _ in 0..ROWS {
+        let mut servants: Vec<Box<dyn Servant + Send>> = Vec::new(alloc);
+        add(
+            &mut servants,
+            boxed(alloc, Interpreter::new())?,
+            Native::Bodies,
+        )?;
+        add(
+            &mut servants,
+            boxed(alloc, Counter::new())?,
+            Native::Counter,
+        )?;
+        add(&mut servants, boxed(alloc, Relay::new())?, Native::Relay)?;
+        add(&mut servants, boxed(alloc, Latch::new())?, Native::Latch)?;
+        crew.push(servants)?;
+    }
+    // The loop has no invariant that names the kinds of boxes, so they are looked at once.
+    if !is_manned(&crew) {
+        return Err(AllocError);
+    }
+    Ok(com_main(rt, alloc, words, &mut crew, &OpenGate, source, sink))
 }
 
 // A value in a box. The only error is want of memory.

@@ -1,6 +1,6 @@
 use Rattle.std.proofs.Common.{◌≡◌, ◌<◌, ℕ, map, slice_index_or}
 use Rattle.com_servant.specs.Rows.{row}
-use Rattle.com_run_rows.proofs.crew.is_manned.Given as goal
+use Rattle.com_crew.proofs.is_manned.Given as goal
 
 abbrev pub invariant-loop-at : goal.invariant-loop-at
 invariant-loop-at g l =
