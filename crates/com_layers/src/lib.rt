@@ -11,8 +11,6 @@ mod classes;
 #[cfg(test)]
 mod fields;
 #[cfg(test)]
-mod lines;
-#[cfg(test)]
 mod outlines;
 #[cfg(test)]
 mod statements;
