@@ -96,12 +96,17 @@ ended_in Sta ended = ended ++ false ∷ []
 -- the lanes after an `init` of a lane that has this home
 abbrev pub after_init_at : Option ℕ → Mode → Lanes → ℕ → Lanes
 after_init_at None mode t lane = record {
-  seats = slice_set t.seats (lane - 1) (record { home = Some (home_in mode t.ended); count = count_of t lane + 1 });
+  seats = slice_set t.seats (lane - 1) (record {
+    home = Some (home_in mode t.ended);
+    count = count_of t lane + 1;
+  });
   pool = t.pool;
   ended = ended_in mode t.ended;
 }
 after_init_at (Some home) mode t lane =
-    if is_in_mode mode home then with_seat t lane (record { home = Some home; count = count_of t lane + 1 }) else t
+    if is_in_mode mode home
+    then with_seat t lane (record { home = Some home; count = count_of t lane + 1 })
+    else t
 
 -- the lanes after an `init` of a thread's lane
 abbrev pub after_init : Lanes → ℕ → Mode → Lanes

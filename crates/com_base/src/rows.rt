@@ -1,7 +1,7 @@
 //! A list of rows, seen as a list.
-ghost use Rattle.std.specs.Prelude.{◌≡◌, List, [], length};
+ghost use Rattle.std.specs.Prelude.{◌≡◌, ◌++◌, ◌∷◌, List, [], OnErr, OnOk, length};
 
-use std::alloc::Global;
+use std::alloc::{AllocError, Global};
 use std::marker::Model;
 
 /// A list inside a public struct or variant. It is a vector whose contract shows the list alone, so
@@ -56,5 +56,28 @@ impl<T> Rows<T> {
         ensures { result ≡ length self.now }
     {
         self.rows.len()
+    }
+}
+
+impl<T: Drop> Rows<T> {
+    /// Appends a row. The only error is want of memory: then the list is as before, and the row is dropped.
+    pub fn push(&mut self, value: T) -> Result<(), AllocError>
+        ensures ok { OnOk result (self.new ≡ self.old ++ value ∷ []) }
+        ensures err { OnErr result (self.new ≡ self.old) }
+    {
+        match self.rows.push(value) {
+            Ok(()) => Ok(()),
+            Err(_) => Err(AllocError),
+        }
+    }
+}
+
+impl<T: Copy> Rows<T> {
+    /// Appends copies of the rows. The only error is want of memory, and then the list is as before.
+    pub fn push_all(&mut self, rows: &[T]) -> Result<(), AllocError>
+        ensures ok { OnOk result (self.new ≡ self.old ++ rows.now) }
+        ensures err { OnErr result (self.new ≡ self.old) }
+    {
+        Ok(self.rows.extend_from_slice(rows)?)
     }
 }

@@ -37,14 +37,17 @@ pub const IID_IGLOBAL_INTERFACE_TABLE: Guid = Guid {
     data4: MICROSOFT,
 };
 
-/// What a marshalled reference says: the interface's identifier, the public references that the packet
-/// carries, the exporter (OXID), the object (OID) and the interface pointer (IPID).
-/// Source: MS-DCOM 2.2.18, "OBJREF", and "STDOBJREF".
+/// What a marshalled reference says. Source: MS-DCOM 2.2.18, "OBJREF", and "STDOBJREF".
 #[derive(Debug, Clone, Copy, PartialEq, Eq)]
 pub struct StdFields {
+    /// The identifier of the interface.
     pub iid: Guid,
+    /// How many public references the packet carries.
     pub refs: u32,
+    /// The OXID: the exporter, which is the apartment that owns the object.
     pub oxid: u64,
+    /// The OID: the object, at its exporter.
     pub oid: u64,
+    /// The IPID: the interface of the object, at its exporter.
     pub ipid: Guid,
 }

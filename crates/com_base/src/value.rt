@@ -9,18 +9,26 @@ use std::alloc::{AllocError, Global};
 /// The declared kind of a parameter or a result. A reference's kind has its interface's number.
 #[derive(Debug, Clone, Copy, PartialEq, Eq)]
 pub enum Kind {
+    /// A whole number of 64 bits, with a sign.
     Int,
+    /// A truth value.
     Bool,
+    /// A text of UTF-8.
     Text,
+    /// Bytes of any values.
     Bytes,
+    /// A GUID.
     Guid,
+    /// A reference to the interface of that number, or null.
     Ref(u16),
 }
 
 /// A reference: an object's number, from 1, and the number of the interface that it speaks.
 #[derive(Debug, Clone, Copy, PartialEq, Eq)]
 pub struct RefValue {
+    /// The number of the object, from 1.
     pub object: u32,
+    /// The number of the interface that it speaks; 0 is IUnknown.
     pub iface: u16,
 }
 
@@ -28,11 +36,17 @@ pub struct RefValue {
 /// that may be null.
 #[derive(Debug, Drop)]
 pub enum Value {
+    /// A whole number of 64 bits, with a sign.
     Int(i64),
+    /// A truth value.
     Bool(bool),
+    /// The bytes of a text.
     Text(ByteList),
+    /// Bytes of any values.
     Bytes(ByteList),
+    /// A GUID.
     Guid(Guid),
+    /// A reference, and None for null.
     Ref(Option<RefValue>),
 }
 
@@ -84,7 +98,9 @@ impl Value {
 /// Source: CoInitializeEx, COINIT_APARTMENTTHREADED and COINIT_MULTITHREADED.
 #[derive(Debug, Clone, Copy, PartialEq, Eq)]
 pub enum Mode {
+    /// Into a single-threaded apartment of its own.
     Sta,
+    /// Into the multithreaded apartment.
     Mta,
 }
 
@@ -92,7 +108,10 @@ pub enum Mode {
 /// Source: MSHLFLAGS_NORMAL, MSHLFLAGS_TABLESTRONG and MSHLFLAGS_TABLEWEAK.
 #[derive(Debug, Clone, Copy, PartialEq, Eq)]
 pub enum MarshalMode {
+    /// For one unmarshal, which ends it; it carries the references that the unmarshal takes over.
     Normal,
+    /// For many unmarshals; it holds the object.
     Strong,
+    /// For many unmarshals; it does not hold the object.
     Weak,
 }

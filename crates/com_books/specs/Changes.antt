@@ -84,15 +84,31 @@ lose_stub b o i n = at2 o i (b.stub o i - n) b.stub
 -- New references to a proxy; a new packet; a packet from a proxy's own references; a packet's references to a
 -- proxy; a packet's references back to the stub; a new cookie; a cookie's reference back.
 abbrev pub changed : Books → Change → Books
-changed b (ToProxy a o i n) = record b { stub = gain_stub b o i n; proxy = at3 a o i (b.proxy a o i + n) b.proxy }
-changed b (ToPacket m o i n) = record b { stub = gain_stub b o i n; packets = b.packets ++ new_packet m o i n ∷ [] }
-changed b (Split a o i n) = record b { proxy = at3 a o i (b.proxy a o i - n) b.proxy; packets = b.packets ++ new_packet marshal.Normal o i n ∷ [] }
+changed b (ToProxy a o i n) =
+    record b { stub = gain_stub b o i n; proxy = at3 a o i (b.proxy a o i + n) b.proxy }
+changed b (ToPacket m o i n) =
+    record b { stub = gain_stub b o i n; packets = b.packets ++ new_packet m o i n ∷ [] }
+changed b (Split a o i n) =
+    record b {
+      proxy = at3 a o i (b.proxy a o i - n) b.proxy;
+      packets = b.packets ++ new_packet marshal.Normal o i n ∷ [];
+    }
 changed b (Join a p) = record b {
-  proxy = at3 a (packet b p).object (packet b p).iface (b.proxy a (packet b p).object (packet b p).iface + (packet b p).refs) b.proxy;
+  proxy =
+      at3 a (packet b p).object (packet b p).iface
+      (b.proxy a (packet b p).object (packet b p).iface + (packet b p).refs) b.proxy;
   packets = ended_packet b p;
 }
-changed b (Return p) = record b { stub = lose_stub b (packet b p).object (packet b p).iface (packet b p).refs; packets = ended_packet b p }
-changed b (ToCookie o i n) = record b { stub = gain_stub b o i n; cookies = b.cookies ++ record { revoked = false; object = o; iface = i; refs = n } ∷ [] }
+changed b (Return p) =
+    record b {
+      stub = lose_stub b (packet b p).object (packet b p).iface (packet b p).refs;
+      packets = ended_packet b p;
+    }
+changed b (ToCookie o i n) =
+    record b {
+      stub = gain_stub b o i n;
+      cookies = b.cookies ++ record { revoked = false; object = o; iface = i; refs = n } ∷ [];
+    }
 changed b (Withdraw g) = record b {
   stub = lose_stub b (cookie b g).object (cookie b g).iface (cookie b g).refs;
   cookies = set_from_one b.cookies g no_cookie;
@@ -115,7 +131,8 @@ pub data Row : Type 0 where
 -- these, rounded down. A strong packet has 1 new reference, a weak one 0.
 abbrev pub marshal_change : MarshalMode → (owned : Bool) → (held a o i : ℕ) → Change
 marshal_change marshal.Normal owned n a o i =
-    if owned then ToPacket marshal.Normal o i 5 else if nat_le 2 n then Split a o i (n / 2) else ToPacket marshal.Normal o i 5
+    if owned then ToPacket marshal.Normal o i 5 else if nat_le 2 n then Split a o i (n / 2)
+    else ToPacket marshal.Normal o i 5
 marshal_change marshal.Strong owned n a o i = ToPacket marshal.Strong o i 1
 marshal_change marshal.Weak owned n a o i = ToPacket marshal.Weak o i 0
 
@@ -130,11 +147,14 @@ unmarshal_change _ owned a p o i = if owned then Same else ToProxy a o i 5
 abbrev pub change : (owned : ℕ → ℕ → Bool) → Books → Row → Change
 change owned b (Makes a o i) = if owned o a then Same else ToProxy a o i 5
 change owned b (Takes a o i) = if b.live o && not (owned o a) then ToProxy a o i 5 else Same
-change owned b (Asks a o i) = if b.live o && (not (owned o a) && b.proxy a o i == 0) then ToProxy a o i 5 else Same
-change owned b (Marshals a m o i) = if b.live o then marshal_change m (owned o a) (b.proxy a o i) a o i else Same
+change owned b (Asks a o i) =
+    if b.live o && (not (owned o a) && b.proxy a o i == 0) then ToProxy a o i 5 else Same
+change owned b (Marshals a m o i) =
+    if b.live o then marshal_change m (owned o a) (b.proxy a o i) a o i else Same
 change owned b (Unmarshals a p) =
     if (packet b p).outstanding
-    then unmarshal_change (packet b p).mode (owned (packet b p).object a) a p (packet b p).object (packet b p).iface
+    then unmarshal_change (packet b p).mode (owned (packet b p).object a) a p (packet b p).object
+    (packet b p).iface
     else Same
 change owned b (Drops p) = if (packet b p).outstanding then Return p else Same
 change owned b (Registers o i) = if b.live o then ToCookie o i 1 else Same
@@ -149,7 +169,8 @@ entered_rows owned b rs = fold (λ x r. changed x (change owned x r)) b rs
 
 -- The packets that were made since. Packets count from 1 in order of making, arguments in their order.
 abbrev pub made_since : Books → Books → List ℕ
-made_since before after = numbers_from (length before.packets + 1) (length after.packets - length before.packets)
+made_since before after =
+    numbers_from (length before.packets + 1) (length after.packets - length before.packets)
 
 abbrev pub first_of : List ℕ → Option ℕ
 first_of [] = None
@@ -200,4 +221,6 @@ abbrev pub cookie_holds_of : (o i : ℕ) → Cookie → ℕ
 cookie_holds_of o i g = if g.object == o && g.iface == i then g.refs else 0
 
 abbrev pub held : ℕ → Books → (o i : ℕ) → ℕ
-held n b o i = sum_below n (λ a. b.proxy a o i) + sum_by (packet_holds_of o i) b.packets + sum_by (cookie_holds_of o i) b.cookies
+held n b o i =
+    sum_below n (λ a. b.proxy a o i) + sum_by (packet_holds_of o i) b.packets
+    + sum_by (cookie_holds_of o i) b.cookies

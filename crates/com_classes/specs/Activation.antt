@@ -35,7 +35,12 @@ abbrev pub placed_in : Class → ℕ → Option ℕ → Creator → Result Place
 placed_in c class None creator = Err (record { 0 = 0x80004002 })
 placed_in c class (Some iface) creator =
     if class_has c iface
-    then Ok (record { class = class; iface = iface; owner = owner_for c.model creator; agile = is_agile c.model })
+    then Ok (record {
+      class = class;
+      iface = iface;
+      owner = owner_for c.model creator;
+      agile = is_agile c.model;
+    })
     else Err (record { 0 = 0x80004002 })
 
 -- The new object that a CLSID and an IID ask for: REGDB_E_CLASSNOTREG where no class has the CLSID.

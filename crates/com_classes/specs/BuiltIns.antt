@@ -17,7 +17,12 @@ use Rattle.com_classes.specs.declared.interfaces.Interface.{Interface}
 abbrev pub iunknown : Interface
 iunknown = record {
   name = codes "IUnknown";
-  iid = record { data1 = 0x00000000; data2 = 0x0000; data3 = 0x0000; data4 = 0xC0 ∷ 0 ∷ 0 ∷ 0 ∷ 0 ∷ 0 ∷ 0 ∷ 0x46 ∷ [] };
+  iid = record {
+    data1 = 0x00000000;
+    data2 = 0x0000;
+    data3 = 0x0000;
+    data4 = 0xC0 ∷ 0 ∷ 0 ∷ 0 ∷ 0 ∷ 0 ∷ 0 ∷ 0x46 ∷ [];
+  };
   methods = [];
 }
 
@@ -25,7 +30,12 @@ iunknown = record {
 abbrev pub icounter : Interface
 icounter = record {
   name = codes "ICounter";
-  iid = record { data1 = 0x5C0B0001; data2 = 0x0000; data3 = 0x4000; data4 = 0x80 ∷ 0 ∷ 0 ∷ 0 ∷ 0 ∷ 0 ∷ 0 ∷ 1 ∷ [] };
+  iid = record {
+    data1 = 0x5C0B0001;
+    data2 = 0x0000;
+    data3 = 0x4000;
+    data4 = 0x80 ∷ 0 ∷ 0 ∷ 0 ∷ 0 ∷ 0 ∷ 0 ∷ 1 ∷ [];
+  };
   methods =
       record { name = codes "add"; params = kind.Int ∷ []; result = Some kind.Int } ∷
       record { name = codes "get"; params = []; result = Some kind.Int } ∷ [];
@@ -35,7 +45,12 @@ icounter = record {
 abbrev pub irelay : Interface
 irelay = record {
   name = codes "IRelay";
-  iid = record { data1 = 0x5C0B0002; data2 = 0x0000; data3 = 0x4000; data4 = 0x80 ∷ 0 ∷ 0 ∷ 0 ∷ 0 ∷ 0 ∷ 0 ∷ 1 ∷ [] };
+  iid = record {
+    data1 = 0x5C0B0002;
+    data2 = 0x0000;
+    data3 = 0x4000;
+    data4 = 0x80 ∷ 0 ∷ 0 ∷ 0 ∷ 0 ∷ 0 ∷ 0 ∷ 1 ∷ [];
+  };
   methods =
       record { name = codes "set"; params = kind.Ref 1 ∷ []; result = None } ∷
       record { name = codes "forward"; params = kind.Int ∷ []; result = Some kind.Int } ∷ [];
@@ -45,7 +60,12 @@ irelay = record {
 abbrev pub ilatch : Interface
 ilatch = record {
   name = codes "ILatch";
-  iid = record { data1 = 0x5C0B0003; data2 = 0x0000; data3 = 0x4000; data4 = 0x80 ∷ 0 ∷ 0 ∷ 0 ∷ 0 ∷ 0 ∷ 0 ∷ 1 ∷ [] };
+  iid = record {
+    data1 = 0x5C0B0003;
+    data2 = 0x0000;
+    data3 = 0x4000;
+    data4 = 0x80 ∷ 0 ∷ 0 ∷ 0 ∷ 0 ∷ 0 ∷ 0 ∷ 1 ∷ [];
+  };
   methods =
       record { name = codes "set"; params = []; result = None } ∷
       record { name = codes "test"; params = []; result = Some kind.Bool } ∷ [];

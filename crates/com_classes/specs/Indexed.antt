@@ -18,7 +18,8 @@ same_key a b = a.0 == b.0 && a.1 == b.1 && a.2 == b.2 && bytes_eq a.3 b.3
 -- Each entry of an index stands under the GUID of its interface or class, no table is longer than its limit,
 -- and the bodies of the built-in classes are there.
 pub record IsIndexed (ikeys : List (ℕ × ℕ × ℕ × List ℕ)) (interfaces : List Interface)
-    (ckeys : List (ℕ × ℕ × ℕ × List ℕ)) (classes : List Class) (counters relays latches : List (List Stmt)) : Type 0 where
+    (ckeys : List (ℕ × ℕ × ℕ × List ℕ)) (classes : List Class)
+    (counters relays latches : List (List Stmt)) : Type 0 where
   pub interface_keys : ikeys ≡ map (λ i. key_of i.iid) interfaces
   pub class_keys : ckeys ≡ map (λ c. key_of c.clsid) classes
   pub few_interfaces : length interfaces ≤ 64

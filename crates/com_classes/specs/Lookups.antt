@@ -52,7 +52,8 @@ method_at t iface method = option_and_then (λ i. slice_get i.methods method) (i
 
 -- The body of a class's list for a method: the first that is given for it.
 abbrev pub given_in : List MethodBody → ℕ → ℕ → Option (List Stmt)
-given_in bodies iface method = option_map (λ b. b.body) (find (λ b. b.iface == iface && b.method == method) bodies)
+given_in bodies iface method =
+    option_map (λ b. b.body) (find (λ b. b.iface == iface && b.method == method) bodies)
 
 -- The body for a method, by which code steps the class's bodies: that of the list, or the built-in one.
 abbrev pub kind_body : Native → List MethodBody → ℕ → ℕ → Option (List Stmt)

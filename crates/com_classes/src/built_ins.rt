@@ -31,6 +31,8 @@ fn built_in_iid(data1: u32) -> Guid
     }
 }
 
+/// IUnknown, interface 0: no method of its own, since its three are the runtime's. The only error is want of
+/// memory. Source: the documentation of IUnknown.
 pub fn iunknown(alloc: Global) -> Result<Interface, Memory>
     ensures { IfOk result (λ interface. interface ≡ iunknown) }
 {
@@ -41,6 +43,8 @@ pub fn iunknown(alloc: Global) -> Result<Interface, Memory>
     })
 }
 
+/// ICounter, interface 1: `add` takes an Int and gives the sum with the counter, which it keeps, and
+/// `get` gives the counter. The only error is want of memory.
 pub fn icounter(alloc: Global) -> Result<Interface, Memory>
     ensures { IfOk result (λ interface. interface ≡ icounter) }
 {
@@ -61,6 +65,8 @@ pub fn icounter(alloc: Global) -> Result<Interface, Memory>
     })
 }
 
+/// IRelay, interface 2: `set` takes an ICounter to keep, and `forward` takes an Int for its `add` and
+/// gives an Int. The only error is want of memory.
 pub fn irelay(alloc: Global) -> Result<Interface, Memory>
     ensures { IfOk result (λ interface. interface ≡ irelay) }
 {
@@ -81,6 +87,8 @@ pub fn irelay(alloc: Global) -> Result<Interface, Memory>
     })
 }
 
+/// ILatch, interface 3: `set` sets the latch, and `test` gives whether it is set. The only error is want of
+/// memory.
 pub fn ilatch(alloc: Global) -> Result<Interface, Memory>
     ensures { IfOk result (λ interface. interface ≡ ilatch) }
 {
@@ -113,6 +121,8 @@ fn body_of(statements: Vec<Stmt>) -> Body
     }
 }
 
+/// The bodies of a counter, in the order of ICounter's methods: the counter is the object's number 0. The
+/// only error is want of memory.
 pub fn counter_bodies(alloc: Global) -> Result<Vec<Body>, Memory>
     ensures { IfOk result (λ bodies. bodies.items ≡ counter_bodies) }
 {
@@ -141,6 +151,8 @@ pub fn counter_bodies(alloc: Global) -> Result<Vec<Body>, Memory>
     Ok(vec![in alloc; body_of(add), body_of(get)]?)
 }
 
+/// The bodies of a relay, in the order of IRelay's methods: the counter that it forwards to is the object's
+/// link 0. The only error is want of memory.
 pub fn relay_bodies(alloc: Global) -> Result<Vec<Body>, Memory>
     ensures { IfOk result (λ bodies. bodies.items ≡ relay_bodies) }
 {
@@ -175,6 +187,8 @@ pub fn relay_bodies(alloc: Global) -> Result<Vec<Body>, Memory>
     Ok(vec![in alloc; body_of(set), body_of(forward)]?)
 }
 
+/// The bodies of a latch, in the order of ILatch's methods: the latch is the object's number 0. The only
+/// error is want of memory.
 pub fn latch_bodies(alloc: Global) -> Result<Vec<Body>, Memory>
     ensures { IfOk result (λ bodies. bodies.items ≡ latch_bodies) }
 {

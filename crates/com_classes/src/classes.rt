@@ -53,7 +53,8 @@ pub struct MethodBody {
 /// A class: its name, CLSID and threading model, which code runs its bodies, the numbers of its interfaces in
 /// the order of their declaration in it, and the bodies of its methods.
 ///
-/// `native` is `Bodies` for a class that is not built in. IUnknown need not be among the interfaces: each class has it.
+/// `native` is `Bodies` for a class that is not built in. IUnknown need not be among the interfaces: each
+/// class has it.
 #[derive(Debug, Drop)]
 pub struct Class {
     /// Its name, of 1 to 32 characters.
@@ -196,8 +197,8 @@ impl Classes {
 
     /// Declares an interface and answers its number, the next one.
     ///
-    /// `Repeated` comes exactly where its IID is declared, and else `Full` exactly where 60 interfaces stand beside the
-    /// built-in ones. `Memory` is want of memory. After an error the tables are as before.
+    /// `Repeated` comes exactly where its IID is declared, and else `Full` exactly where 60 interfaces stand
+    /// beside the built-in ones. `Memory` is want of memory. After an error the tables are as before.
     pub fn add_interface(&mut self, interface: Interface) -> Result<u16, ClassError>
         ensures refused { IfErr result (λ cause. cause
             ≡ unwrap_or (interface_refusal self.old interface) error.Memory) }
@@ -244,9 +245,10 @@ impl Classes {
 
     /// Declares a class and answers its number, the next one from 1.
     ///
-    /// `Repeated` comes exactly where its CLSID is declared, and else `Full` exactly where there are 64 classes. `Memory` is
-    /// want of memory. After an error the tables are as before. Where a method is given two bodies the first
-    /// one counts, and where `native` is another than `Bodies` the built-in bodies count alone.
+    /// `Repeated` comes exactly where its CLSID is declared, and else `Full` exactly where there are 64
+    /// classes. `Memory` is want of memory. After an error the tables are as before. Where a method is
+    /// given two bodies the first one counts, and where `native` is another than `Bodies` the built-in
+    /// bodies count alone.
     pub fn add_class(&mut self, class: Class) -> Result<u32, ClassError>
         ensures refused { IfErr result (λ cause. cause
             ≡ unwrap_or (class_refusal self.old class) error.Memory) }

@@ -27,7 +27,8 @@ halved n = if nat_le 2 n then n - n / 2 else n
 
 -- What is held for a reference x after a reference y was marshalled.
 abbrev pub after_one : (y x : Outgoing) → (held : ℕ) → ℕ
-after_one y x n = if y.connected && (not y.owned && (x.object == y.object && x.iface == y.iface)) then halved n else n
+after_one y x n =
+    if y.connected && (not y.owned && (x.object == y.object && x.iface == y.iface)) then halved n else n
 
 abbrev pub left_after : (earlier : List Outgoing) → (x : Outgoing) → (held : ℕ) → ℕ
 left_after [] x n = n
@@ -39,4 +40,5 @@ refs_if_connected x n = if x.connected then refs_of x.owned n ∷ [] else []
 
 abbrev pub previewed : (before : List Outgoing) → List Outgoing → List ℕ
 previewed before [] = []
-previewed before (x ∷ xs) = refs_if_connected x (left_after before x x.held) ++ previewed (before ++ x ∷ []) xs
+previewed before (x ∷ xs) =
+    refs_if_connected x (left_after before x x.held) ++ previewed (before ++ x ∷ []) xs

@@ -76,7 +76,8 @@ Reads (Err (error.Arguments f)) read = read ≡ Err (error.Arguments f)
 -- What may be sent: values of the kinds, each text UTF-8, texts and bytes of at most 65,536 bytes, and
 -- numbers in their ranges; the fields of as many packets as there are references, in their order, each of its
 -- reference.
-pub record Sendable (cause : ℕ) (kinds : List Kind) (values : List Value) (packets : List StdFields) : Type 0 where
+pub record Sendable (cause : ℕ) (kinds : List Kind) (values : List Value) (packets : List StdFields) : Type
+    0 where
   pub short : cause < 2 ^ 32
   pub sendable : CanSendAll kinds (wires values packets)
   pub in_range : AllByRecursion IsInRange (wires values packets)
@@ -85,6 +86,8 @@ pub record Sendable (cause : ℕ) (kinds : List Kind) (values : List Value) (pac
 
 -- What was sent is received.
 abbrev pub SentIsReceived : Type 0
-SentIsReceived = (cause : ℕ) (kinds : List Kind) (values : List Value) (packets : List StdFields) → Sendable cause kinds values packets
+SentIsReceived =
+    (cause : ℕ) (kinds : List Kind) (values : List Value) (packets : List StdFields)
+    → Sendable cause kinds values packets
     → request_in kinds (request_bytes cause values packets)
     ≡ Ok (record { cause = cause_guid cause; values = values; packets = map packet_in_fields packets })

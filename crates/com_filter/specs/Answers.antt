@@ -45,7 +45,8 @@ pending_by other elapsed = None
 -- The first rule that matches answers. By default an incoming call is handled (SERVERCALL_ISHANDLED).
 abbrev pub incoming_answer : List Rule → ℕ → ℕ → Verdict
 incoming_answer [] call_type elapsed = verdict.Handled
-incoming_answer (r ∷ rest) call_type elapsed = unwrap_or (incoming_by r call_type elapsed) (incoming_answer rest call_type elapsed)
+incoming_answer (r ∷ rest) call_type elapsed =
+    unwrap_or (incoming_by r call_type elapsed) (incoming_answer rest call_type elapsed)
 
 -- The first rule that matches answers, and by default -1.
 abbrev pub retry_answer : List Rule → Verdict → ℕ → ℤ

@@ -26,8 +26,10 @@ pub record Known (t : Tables) : Type 0 where
   pub stubs : (o : ℕ) → has_stub t.stubs o ≡ true → o ≤ length t.objects
   pub counters : (o i : ℕ) → has_counter t.counters o i ≡ true → (0 < o) × (o ≤ length t.objects)
   pub proxies : (a o i : ℕ) → has_row t.proxies a o i ≡ true → has_counter t.counters o i ≡ true
-  pub packets : (n : ℕ) (p : P.Packet) → held_in t.packets n ≡ Some p → has_counter t.counters p.object p.iface ≡ true
-  pub cookies : (n : ℕ) (r : RefValue) → held_in t.cookies n ≡ Some r → has_counter t.counters r.object r.iface ≡ true
+  pub packets : (n : ℕ) (p : P.Packet) → held_in t.packets n ≡ Some p
+      → has_counter t.counters p.object p.iface ≡ true
+  pub cookies : (n : ℕ) (r : RefValue) → held_in t.cookies n ≡ Some r
+      → has_counter t.counters r.object r.iface ≡ true
 
 -- No number is higher than the references that were given, of which each call gives five at most.
 pub record Bounded (t : Tables) : Type 0 where
@@ -65,7 +67,8 @@ pub record Tells (n : ℕ) (places : ℕ → ℕ → ℕ) (t : Tables) : Type 0 
   pub some : (a o : ℕ) → a < n → owns_of t.objects o a ≡ false → IsFree t.proxies a o → places a o ≡ 0
 
 -- A proxy that gave everything back, where `gave`.
-pub record Gave (a o : ℕ) (gave : Bool) (before : List ProxyRow) (counted : List CounterRow) (after : List ProxyRow) (counts : List CounterRow) : Type 0 where
+pub record Gave (a o : ℕ) (gave : Bool) (before : List ProxyRow) (counted : List CounterRow)
+    (after : List ProxyRow) (counts : List CounterRow) : Type 0 where
   pub rows : (c x j : ℕ) → has_row after c x j ≡ has_row before c x j
   pub apart : distinct before ≡ true → distinct after ≡ true
   pub has : (x j : ℕ) → has_counter counts x j ≡ has_counter counted x j
@@ -73,20 +76,28 @@ pub record Gave (a o : ℕ) (gave : Bool) (before : List ProxyRow) (counted : Li
   pub local : (c x j : ℕ) → local_of after c x j ≡ local_of before c x j
   pub places : (c x : ℕ) → places_of c x after ≡ places_of c x before
   pub locals : (x : ℕ) → locals_of x after ≡ locals_of x before
-  pub public : (c x j : ℕ) → public_of after c x j ≡ (if (c == a && x == o) && gave then 0 else public_of before c x j)
-  pub count : (x j : ℕ) → (counter_of counts x j).count ≡ (counter_of counted x j).count - (if x == o && gave then public_of before a o j else 0)
+  pub public : (c x j : ℕ)
+      → public_of after c x j ≡ (if (c == a && x == o) && gave then 0 else public_of before c x j)
+  pub count : (x j : ℕ)
+      → (counter_of counts x j).count
+      ≡ (counter_of counted x j).count - (if x == o && gave then public_of before a o j else 0)
 
 -- One local reference less, and all given back where `gave`.
-pub record Released (a o i : ℕ) (gave : Bool) (before : List ProxyRow) (counted : List CounterRow) (after : List ProxyRow) (counts : List CounterRow) : Type 0 where
+pub record Released (a o i : ℕ) (gave : Bool) (before : List ProxyRow) (counted : List CounterRow)
+    (after : List ProxyRow) (counts : List CounterRow) : Type 0 where
   pub rows : (c x j : ℕ) → has_row after c x j ≡ has_row before c x j
   pub apart : distinct before ≡ true → distinct after ≡ true
   pub has : (x j : ℕ) → has_counter counts x j ≡ has_counter counted x j
   pub sums : (x : ℕ) → sum_of counts x ≤ sum_of counted x
-  pub local : (c x j : ℕ) → local_of after c x j ≡ local_of before c x j - count_if (c == a && (x == o && j == i))
+  pub local : (c x j : ℕ)
+      → local_of after c x j ≡ local_of before c x j - count_if (c == a && (x == o && j == i))
   pub places : (c x : ℕ) → places_of c x after + count_if (c == a && x == o) ≡ places_of c x before
   pub locals : (x : ℕ) → locals_of x after + count_if (x == o) ≡ locals_of x before
-  pub public : (c x j : ℕ) → public_of after c x j ≡ (if (c == a && x == o) && gave then 0 else public_of before c x j)
-  pub count : (x j : ℕ) → (counter_of counts x j).count ≡ (counter_of counted x j).count - (if x == o && gave then public_of before a o j else 0)
+  pub public : (c x j : ℕ)
+      → public_of after c x j ≡ (if (c == a && x == o) && gave then 0 else public_of before c x j)
+  pub count : (x j : ℕ)
+      → (counter_of counts x j).count
+      ≡ (counter_of counted x j).count - (if x == o && gave then public_of before a o j else 0)
 
 -- so many public references of an apartment and an object
 abbrev pub public_for : (a o : ℕ) → ProxyRow → ℕ
@@ -96,7 +107,8 @@ abbrev pub publics : (a o : ℕ) → List ProxyRow → ℕ
 publics a o rows = sum_by (public_for a o) rows
 
 -- On the way of giving back.
-pub record Giving (a o : ℕ) (before : List ProxyRow) (counted : List CounterRow) (after : List ProxyRow) (counts : List CounterRow) : Type 0 where
+pub record Giving (a o : ℕ) (before : List ProxyRow) (counted : List CounterRow) (after : List ProxyRow)
+    (counts : List CounterRow) : Type 0 where
   pub rows : (c x j : ℕ) → has_row after c x j ≡ has_row before c x j
   pub apart : distinct before ≡ true → distinct after ≡ true
   pub has : (x j : ℕ) → has_counter counts x j ≡ has_counter counted x j
@@ -105,6 +117,7 @@ pub record Giving (a o : ℕ) (before : List ProxyRow) (counted : List CounterRo
   pub places : (c x : ℕ) → places_of c x after ≡ places_of c x before
   pub locals : (x : ℕ) → locals_of x after ≡ locals_of x before
   pub public : (c x j : ℕ) → (c == a && x == o) ≡ false → public_of after c x j ≡ public_of before c x j
-  pub balance : (j : ℕ) → (counter_of counts o j).count + public_of before a o j ≡ (counter_of counted o j).count + public_of after a o j
+  pub balance : (j : ℕ) → (counter_of counts o j).count + public_of before a o j
+      ≡ (counter_of counted o j).count + public_of after a o j
   pub within : (j : ℕ) → public_of after a o j ≤ (counter_of counts o j).count
   pub count : (x j : ℕ) → (x == o) ≡ false → (counter_of counts x j).count ≡ (counter_of counted x j).count

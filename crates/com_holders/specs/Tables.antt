@@ -27,7 +27,8 @@ pub record Tables : Type 0 where
   pub issued : ℕ
   pub spare : ℕ
 
-abbrev pub tables : List ObjectRow → List StubRow → List CounterRow → List ProxyRow → List (Option P.Packet) → List (Option RefValue) → (issued spare : ℕ) → Tables
+abbrev pub tables : List ObjectRow → List StubRow → List CounterRow → List ProxyRow → List (Option P.Packet)
+    → List (Option RefValue) → (issued spare : ℕ) → Tables
 tables objects stubs counters proxies packets cookies issued spare = record {
   objects = objects;
   stubs = stubs;
@@ -51,10 +52,12 @@ abbrev pub direct_in : Tables → ℕ → ℕ
 direct_in t o = (object_in t.objects o).direct
 
 abbrev pub direct_less : ℕ → List ObjectRow → List ObjectRow
-direct_less o rows = set_from_one rows o (record (object_in rows o) { direct = (object_in rows o).direct - 1 })
+direct_less o rows =
+    set_from_one rows o (record (object_in rows o) { direct = (object_in rows o).direct - 1 })
 
 abbrev pub direct_more : ℕ → List ObjectRow → List ObjectRow
-direct_more o rows = set_from_one rows o (record (object_in rows o) { direct = (object_in rows o).direct + 1 })
+direct_more o rows =
+    set_from_one rows o (record (object_in rows o) { direct = (object_in rows o).direct + 1 })
 
 -- The apartment owns the object: every apartment owns an agile one.
 unfoldable pub owns_of : List ObjectRow → ℕ → ℕ → Bool
@@ -72,13 +75,17 @@ offers t o i = has_counter t.counters o i
 abbrev pub packet_read : (ℕ → Bool) → Option P.Packet → Packet
 packet_read live None = no_packet
 packet_read live (Some p) =
-    if live p.object then record { outstanding = true; mode = p.mode; object = p.object; iface = p.iface; refs = p.refs } else no_packet
+    if live p.object
+    then record { outstanding = true; mode = p.mode; object = p.object; iface = p.iface; refs = p.refs }
+    else no_packet
 
 abbrev pub cookie_read : (ℕ → Bool) → Option RefValue → Cookie
 cookie_read live None = no_cookie
-cookie_read live (Some r) = record { revoked = false; object = r.object; iface = r.iface; refs = if live r.object then 1 else 0 }
+cookie_read live (Some r) =
+    record { revoked = false; object = r.object; iface = r.iface; refs = if live r.object then 1 else 0 }
 
-abbrev pub books_by : (live : ℕ → Bool) → List CounterRow → List ProxyRow → List (Option P.Packet) → List (Option RefValue) → Books
+abbrev pub books_by : (live : ℕ → Bool) → List CounterRow → List ProxyRow → List (Option P.Packet)
+    → List (Option RefValue) → Books
 books_by live counters proxies packets cookies = record {
   stub = λ o i. if live o then (counter_of counters o i).count else 0;
   proxy = λ a o i. if live o then public_of proxies a o i else 0;

@@ -94,8 +94,10 @@ impl Model for Holders {
         r.packets.entries r.cookies.entries r.issued r.room };
 
     ghost invariant = { λ r. IsWhole
-        (tables r.objects.items r.stubs.stubs r.stubs.counters r.proxies.rows r.packets.entries r.cookies.entries r.issued r.room)
-        r.owners (vec_capacity r.objects - vec_len r.objects) r.stubs.spare r.proxies.spare r.packets.spare r.cookies.spare };
+        (tables r.objects.items r.stubs.stubs r.stubs.counters r.proxies.rows
+        r.packets.entries r.cookies.entries r.issued r.room)
+        r.owners (vec_capacity r.objects - vec_len r.objects) r.stubs.spare r.proxies.spare
+        r.packets.spare r.cookies.spare };
 }
 
 // How many references may be given.
@@ -388,7 +390,8 @@ impl Holders {
         }
     }
 
-    /// Makes room for `n` calls.
+    /// Makes room for `n` calls: so many of those that can want memory then do not. The only error is want of
+    /// memory, and then nothing changed; it does not come where there is that room already.
     #[tactic(auto, unfolding(crate::specs::Tables::books_of))]
     pub fn reserve(&mut self, n: u32) -> Result<(), Memory>
         ensures room { OnOk result (n ≤ self.new.spare) }
@@ -411,7 +414,8 @@ impl Holders {
         Ok(())
     }
 
-    // Makes room for one call, where there is none.
+    /// Makes room for one call, where there is none. The only error is want of memory, and then nothing
+    /// changed.
     #[tactic(auto, unfolding(crate::specs::Tables::books_of))]
     pub fn make_room(&mut self) -> Result<(), Memory>
         ensures room { OnOk result (0 < self.new.spare) }
@@ -432,7 +436,8 @@ impl Holders {
         self.reserve(1)
     }
 
-    // One direct place more.
+    /// One direct place more of an object that was made: an apartment that owns it holds one reference more.
+    /// No public reference moves.
     pub fn keep_direct(&mut self, object: u32)
         requires made { (0 < object) × (object ≤ length self.old.objects) }
         requires few { self.old.issued < 2 ^ 28 }
@@ -446,7 +451,8 @@ impl Holders {
         self.issued += 1;
     }
 
-    // One place more of an apartment that does not own the object and has one.
+    /// One place more of an apartment that does not own the object and has one: its proxy counts one local
+    /// reference more, and no public reference moves. Source: Essential COM, chapter 5, on proxies.
     pub fn keep_elsewhere(&mut self, apartment: u32, held: RefValue)
         requires elsewhere { owns_of self.old.objects held.object apartment ≡ false }
         requires held { 0 < local_of self.old.proxies apartment held.object held.iface }
@@ -461,8 +467,8 @@ impl Holders {
         self.issued += 1;
     }
 
-    // One place more of an apartment that does not own the object, and so many public references more, new
-    // ones.
+    /// One place more of an apartment that does not own the connected object, with 5 new public references,
+    /// which its stub counts from now on. Source: MS-DCOM 3.2.4.4.
     pub fn issue_elsewhere(&mut self, apartment: u32, held: RefValue)
         requires elsewhere { owns_of self.old.objects held.object apartment ≡ false }
         requires connected { is_connected self.old.stubs held.object ≡ true }
@@ -500,7 +506,8 @@ impl Holders {
         self.room -= 1;
     }
 
-    // A packet ends, and its references go back to the stub.
+    /// An outstanding packet ends, and its public references go back to the stub, which counts them no
+    /// longer. No place changes. Source: the documentation of CoReleaseMarshalData.
     pub fn end_packet(&mut self, number: u32, packet: Packet)
         requires outstanding { outstanding_in (is_connected self.old.stubs) self.old.packets number
             ≡ Some packet }
@@ -560,7 +567,8 @@ impl Holders {
         cookie
     }
 
-    // A cookie ends, and its reference goes back.
+    /// A cookie of the global interface table ends. Its public reference goes back to the stub, where the
+    /// object is connected. Source: the documentation of IGlobalInterfaceTable.
     pub fn withdraw(&mut self, cookie: u32, held: RefValue)
         requires held { held_in self.old.cookies cookie ≡ Some held }
         ensures books { books_of self.new ≡ changed (books_of self.old) (Withdraw cookie) }
@@ -611,7 +619,7 @@ impl Holders {
         number
     }
 
-    // One place less of an apartment that owns the object.
+    /// One place less of an apartment that owns the object, of at least one. Stub and proxies stay.
     pub fn leave_direct(&mut self, object: u32)
         requires some { 0 < (object_in self.old.objects object).direct }
         ensures books { books_of self.new ≡ books_of self.old }
@@ -628,8 +636,9 @@ impl Holders {
         lose_direct(&mut self.objects, object);
     }
 
-    // One place less of an apartment that does not own the object: with its last place a proxy gives
-    // everything back.
+    /// One place less of an apartment that does not own the object. With its last place of a connected object
+    /// the proxy gives all its public references back to the stub. Source: Essential COM, chapter 5, on
+    /// proxies.
     pub fn leave_elsewhere(&mut self, apartment: u32, held: RefValue)
         requires elsewhere { owns_of self.old.objects held.object apartment ≡ false }
         requires held { 0 < local_of self.old.proxies apartment held.object held.iface }
@@ -646,7 +655,9 @@ impl Holders {
         let_go(&mut self.stubs, &mut self.proxies, apartment, held);
     }
 
-    // The same, and room is made first.
+    /// One place more of an apartment that does not own the connected object, with 5 new public references.
+    /// Room is made first. The only error is want of memory, and then nothing changed; it does not come where
+    /// there is room for a call.
     pub fn take_new(&mut self, apartment: u32, held: RefValue) -> Result<(), Memory>
         requires elsewhere { owns_of self.old.objects held.object apartment ≡ false }
         requires connected { is_connected self.old.stubs held.object ≡ true }
@@ -667,7 +678,9 @@ impl Holders {
         Ok(())
     }
 
-    // The same without new references.
+    /// One place more of an apartment that does not own the object, without a public reference. Room is made
+    /// first. The only error is want of memory, and then nothing changed; it does not come where there is
+    /// room for a call.
     pub fn take_shared(&mut self, apartment: u32, held: RefValue) -> Result<(), Memory>
         requires elsewhere { owns_of self.old.objects held.object apartment ≡ false }
         requires known { offers self.old held.object held.iface ≡ true }
@@ -686,7 +699,10 @@ impl Holders {
         Ok(())
     }
 
-    // The same with a packet's references.
+    /// One place more of an apartment that does not own the packet's object. The outstanding packet ends, and
+    /// its public references go to the apartment's proxy. Room is made first. The only error is want of
+    /// memory, and then nothing changed; it does not come where there is room for a call. Source: the
+    /// documentation of CoUnmarshalInterface.
     pub fn take_packet(&mut self, apartment: u32, number: u32, packet: Packet) -> Result<(), Memory>
         requires outstanding { outstanding_in (is_connected self.old.stubs) self.old.packets number
             ≡ Some packet }
@@ -707,7 +723,11 @@ impl Holders {
         Ok(())
     }
 
-    // A packet of a connected object, for which room is made first.
+    /// The number of a new packet of a connected object, counted from 1. A normal packet of an apartment that
+    /// does not own the object takes half of the proxy's public references, where that has at least two, and
+    /// else it has 5 new ones; a strong packet has 1 and a weak one none. Room is made first. The only error
+    /// is want of memory, and then nothing changed; it does not come where there is room for a call.
+    /// Source: the documentation of CoMarshalInterface and of MSHLFLAGS.
     pub fn give_packet(
         &mut self,
         apartment: u32,
@@ -733,7 +753,9 @@ impl Holders {
         Ok(self.issue_packet(apartment, held, mode))
     }
 
-    // A cookie of a connected object, for which room is made first.
+    /// A new cookie of a connected object, counted from 1, with one new public reference. Room is made first.
+    /// The only error is want of memory, and then nothing changed; it does not come where there is room for a
+    /// call. Source: the documentation of IGlobalInterfaceTable.
     pub fn give_cookie(&mut self, held: RefValue) -> Result<u32, Memory>
         requires connected { is_connected self.old.stubs held.object ≡ true }
         requires known { offers self.old held.object held.iface ≡ true }
@@ -753,7 +775,9 @@ impl Holders {
         Ok(self.issue_cookie(held))
     }
 
-    // An object more, which nobody holds yet.
+    /// The number of a new object, counted from 1, which nobody holds yet. It has an owner, 0 where it is
+    /// agile, and a connected stub with the interfaces of the set, of which there are at most 17. Room for a
+    /// call was made before.
     pub fn add_object(&mut self, owner: u32, agile: bool, set: &[u16]) -> u32
         requires small { length set.now ≤ 17 }
         requires few { self.old.issued < 2 ^ 28 }
@@ -781,7 +805,8 @@ impl Holders {
         object
     }
 
-    /// All objects that the apartment owns are no longer connected.
+    /// All objects that the apartment alone owns are no longer connected. Places, packets and cookies stay.
+    /// Source: the documentation of CoUninitialize.
     pub fn end_apartment(&mut self, apartment: u32)
         requires few { self.old.issued ≤ 2 ^ 28 }
         ensures books { books_of self.new

@@ -47,7 +47,11 @@ write_count s given = min (min s.piece s.room) given
 
 -- a sink after a write that took these bytes, and after one that failed
 abbrev pub after_write : Output → List ℕ → Output
-after_write s taken = record s { held = s.held ++ taken; room = s.room - length taken; calls = one_more s.calls }
+after_write s taken = record s {
+  held = s.held ++ taken;
+  room = s.room - length taken;
+  calls = one_more s.calls;
+}
 
 abbrev pub after_failed_write : Output → Output
 after_failed_write s = record s { calls = one_more s.calls; faults = one_more s.faults }

@@ -9,10 +9,13 @@ bucket_at keys buckets place = slice_index keys place % buckets
 pub record IsLinked (keys links heads : List ℕ) (buckets count : ℕ) : Type 0 where
   pub head_covers : (place : ℕ) → place < count → place < slice_index heads (bucket_at keys buckets place)
   pub head_within : (bucket : ℕ) → slice_index heads bucket ≤ count
-  pub head_keyed : (bucket : ℕ) → 0 < slice_index heads bucket → bucket_at keys buckets (slice_index heads bucket - 1) ≡ bucket
-  pub link_covers : (place later : ℕ) → later < count → place < later → bucket_at keys buckets place ≡ bucket_at keys buckets later → place < slice_index links later
+  pub head_keyed : (bucket : ℕ) → 0 < slice_index heads bucket
+      → bucket_at keys buckets (slice_index heads bucket - 1) ≡ bucket
+  pub link_covers : (place later : ℕ) → later < count → place < later
+      → bucket_at keys buckets place ≡ bucket_at keys buckets later → place < slice_index links later
   pub link_within : (place : ℕ) → place < count → slice_index links place ≤ place
-  pub link_keyed : (place : ℕ) → place < count → 0 < slice_index links place → bucket_at keys buckets (slice_index links place - 1) ≡ bucket_at keys buckets place
+  pub link_keyed : (place : ℕ) → place < count → 0 < slice_index links place
+      → bucket_at keys buckets (slice_index links place - 1) ≡ bucket_at keys buckets place
 
 -- a table whose places are all linked, with a bucket for each place that it has room for
 pub record IsTable (keys links heads : List ℕ) (key_capacity link_capacity : ℕ) : Type 0 where

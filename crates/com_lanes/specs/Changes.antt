@@ -51,4 +51,5 @@ pub record HasRoom (t : LaneTables) : Type 0 where
 
 -- The apartments after a lane makes one, if it does.
 abbrev pub stas_made : StaTables → (lane : ℕ) → Option ℕ → StaTables
-stas_made t l o = record { made = changed_at (made_change o) l [] t.made; stas = with_last t.stas o; ended = t.ended }
+stas_made t l o =
+    record { made = changed_at (made_change o) l [] t.made; stas = with_last t.stas o; ended = t.ended }

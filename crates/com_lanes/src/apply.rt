@@ -70,7 +70,9 @@ impl Lanes {
     /// Opens a body.
     fn enter(&mut self, lane: u32, call: u32, object: u32, apartment: u32) -> Result<(), Memory>
         ensures ok { OnOk result (self.new ≡ record self.old {
-          openers = slice_set self.old.openers lane (Opener.Enters call object apartment ∷ openers_at self.old lane);
+          openers =
+              slice_set self.old.openers lane
+              (Opener.Enters call object apartment ∷ openers_at self.old lane);
         }) }
         ensures err { OnErr result (self.new ≡ self.old) }
     {
@@ -115,7 +117,9 @@ impl Lanes {
     fn back(&mut self, lane: u32, call: u32) -> Result<(), Memory>
         ensures ok { OnOk result (self.new ≡ record self.old {
           openers = slice_set self.old.openers lane (without_first (openers_at self.old lane));
-          mail = slice_set self.old.mail lane (mail_after (Forgets call) (slice_index_or self.old.mail lane no_mail));
+          mail =
+              slice_set self.old.mail lane
+              (mail_after (Forgets call) (slice_index_or self.old.mail lane no_mail));
         }) }
         ensures err { OnErr result (self.new ≡ self.old) }
     {
@@ -131,7 +135,8 @@ impl Lanes {
         ensures ok { OnOk result (self.new ≡ record self.old {
           openers = slice_set self.old.openers lane (without_first (openers_at self.old lane));
           served = slice_set self.old.served lane
-              (left_on (Closes (Leaves call)) (without_first (openers_at self.old lane)) (served_at self.old lane));
+              (left_on (Closes (Leaves call)) (without_first (openers_at self.old lane))
+              (served_at self.old lane));
         }) }
         ensures err { OnErr result (self.new ≡ self.old) }
     {
@@ -146,8 +151,12 @@ impl Lanes {
         requires room { HasRoom self.old }
         ensures ok { OnOk result (self.new ≡ record self.old {
           homes = slice_set self.old.homes lane (Some home);
-          counts = slice_set self.old.counts lane (count_after (Initialises home hr) (slice_index_or self.old.counts lane 0));
-          filters = changed_at (filters_change (if is_S_OK hr then Names None else Keeps)) lane None self.old.filters;
+          counts =
+              slice_set self.old.counts lane
+              (count_after (Initialises home hr) (slice_index_or self.old.counts lane 0));
+          filters =
+              changed_at (filters_change (if is_S_OK hr then Names None else Keeps)) lane None
+              self.old.filters;
           made = changed_at (made_change (makes_sta (Deed.Init mode home hr))) lane [] self.old.made;
           stas = with_last self.old.stas (makes_sta (Deed.Init mode home hr));
         }) }
@@ -164,9 +173,12 @@ impl Lanes {
     fn uninitialise(&mut self, lane: u32, home: Option<u32>, count: u32) -> Result<(), Memory>
         requires { IsBelow (length self.old.stas + 3) (ends_sta (Deed.Uninit home count)) }
         ensures ok { OnOk result (self.new ≡ record self.old {
-          homes = slice_set self.old.homes lane (home_after (Uninitialises home count) (slice_index_or self.old.homes lane None));
+          homes =
+              slice_set self.old.homes lane
+              (home_after (Uninitialises home count) (slice_index_or self.old.homes lane None));
           counts = slice_set self.old.counts lane count;
-          filters = changed_at (filters_change (filter_effect (Deed.Uninit home count))) lane None self.old.filters;
+          filters =
+              changed_at (filters_change (filter_effect (Deed.Uninit home count))) lane None self.old.filters;
           ended = with_last self.old.ended (ends_sta (Deed.Uninit home count));
         }) }
         ensures err { OnErr result (self.new ≡ self.old) }
@@ -181,7 +193,9 @@ impl Lanes {
     /// A lane names its filter.
     fn set_filter(&mut self, lane: u32, filter: Option<u32>, hr: HResult) -> Result<(), Memory>
         ensures ok { OnOk result (self.new ≡ record self.old {
-          filters = changed_at (filters_change (if is_S_OK hr then Names filter else Keeps)) lane None self.old.filters;
+          filters =
+              changed_at (filters_change (if is_S_OK hr then Names filter else Keeps)) lane None
+              self.old.filters;
         }) }
         ensures err { OnErr result (self.new ≡ self.old) }
     {
@@ -194,7 +208,9 @@ impl Lanes {
     fn post(&mut self, lane: u32, to: i64, word: i64, hr: HResult) -> Result<(), Memory>
         requires { HasRoom self.old }
         ensures ok { OnOk result (self.new ≡ record self.old {
-          mail = changed_at (mail_change (Deed.Post to word hr)) (mail_lane lane (Deed.Post to word hr)) no_mail self.old.mail;
+          mail =
+              changed_at (mail_change (Deed.Post to word hr)) (mail_lane lane (Deed.Post to word hr)) no_mail
+              self.old.mail;
         }) }
         ensures err { OnErr result (self.new ≡ self.old) }
     {
@@ -215,7 +231,9 @@ impl Lanes {
     /// A lane's filter is asked about a word.
     fn ask(&mut self, lane: u32, call: u32, answer: u8) -> Result<(), Memory>
         ensures ok { OnOk result (self.new ≡ record self.old {
-          mail = slice_set self.old.mail lane (mail_after (Asks call answer) (slice_index_or self.old.mail lane no_mail));
+          mail =
+              slice_set self.old.mail lane
+              (mail_after (Asks call answer) (slice_index_or self.old.mail lane no_mail));
         }) }
         ensures err { OnErr result (self.new ≡ self.old) }
     {
@@ -227,7 +245,8 @@ impl Lanes {
     fn quit(&mut self, lane: u32, to: i64, hr: HResult) -> Result<(), Memory>
         ensures ok { OnOk result (self.new ≡ record self.old {
           quits = changed_at
-              (quit_change (not (bound_reached (openers_at self.old lane) (served_at self.old lane))) (Deed.Quit to hr))
+              (quit_change (not (bound_reached (openers_at self.old lane) (served_at self.old lane)))
+              (Deed.Quit to hr))
               (quit_lane lane (Deed.Quit to hr)) false self.old.quits;
         }) }
         ensures err { OnErr result (self.new ≡ self.old) }

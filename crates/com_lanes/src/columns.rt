@@ -58,7 +58,8 @@ pub(crate) fn pop_opener(column: &mut Vec<Openers>, lane: u32)
 pub(crate) fn count_left(column: &mut Vec<u64>, openers: &Vec<Openers>, lane: u32, call: u32)
     requires { slice_index_or column.old.items lane 0 + 1 < 2 ^ 64 }
     ensures { column.new.items ≡ slice_set column.old.items lane
-        (left_on (Closes (Leaves call)) (slice_index_or openers.now.items lane []) (slice_index_or column.old.items lane 0)) }
+        (left_on (Closes (Leaves call)) (slice_index_or openers.now.items lane [])
+        (slice_index_or column.old.items lane 0)) }
 {
     if !one_pump_at(openers, lane) {
         return;

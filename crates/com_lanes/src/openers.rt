@@ -13,8 +13,11 @@ use std::marker::Model;
 /// A body that was entered and has not left.
 #[derive(Debug, Clone, Copy)]
 pub struct Body {
+    /// The number of the call that entered it, from 1.
     pub call: u32,
+    /// The number of its object, from 1.
     pub object: u32,
+    /// The number of the apartment that it runs in.
     pub apartment: u32,
 }
 

@@ -40,7 +40,11 @@ impl Model for Stas {
 
     ghost use Rattle.com_lanes.specs.StasKept.{StasKept, numbers_of};
 
-    ghost view = { λ a. record { made = a.made.items; stas = numbers_of a.rows.items; ended = a.ended.items } };
+    ghost view = { λ a. record {
+      made = a.made.items;
+      stas = numbers_of a.rows.items;
+      ended = a.ended.items;
+    } };
 
     ghost invariant = { λ a. StasKept a.made.items a.rows.items a.ended.items a.oldest };
 }
@@ -65,7 +69,9 @@ impl Stas {
     pub fn make(&mut self, lane: u32) -> Result<(), Memory>
         requires { length self.old.stas + 4 ≤ 2 ^ 32 }
         ensures ok { OnOk result (self.new ≡ record {
-          made = slice_set self.old.made lane (slice_index_or self.old.made lane [] ++ (length self.old.stas + 3) ∷ []);
+          made =
+              slice_set self.old.made lane
+              (slice_index_or self.old.made lane [] ++ (length self.old.stas + 3) ∷ []);
           stas = self.old.stas ++ (length self.old.stas + 3) ∷ [];
           ended = self.old.ended;
         }) }

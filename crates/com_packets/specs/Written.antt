@@ -16,7 +16,13 @@ written_refs Weak refs = 0
 
 -- the interface pointer: the object, the interface, the low 16 bits of the owner, and the packet's number
 abbrev pub written_ipid : Packet → ℕ → Guid
-written_ipid packet number = record { data1 = packet.object; data2 = packet.iface; data3 = packet.owner % 2 ^ 16; data4 = to_le_bytes w64 number }
+written_ipid packet number =
+    record {
+      data1 = packet.object;
+      data2 = packet.iface;
+      data3 = packet.owner % 2 ^ 16;
+      data4 = to_le_bytes w64 number;
+    }
 
 -- the fields that are written of a packet with a number, where its interface has this identifier
 abbrev pub written_fields : Packet → ℕ → Guid → StdFields
@@ -30,7 +36,9 @@ written_fields packet number iid = record {
 
 -- the fields are those of the outstanding packet with this number, and the packet is of the interface
 abbrev pub IsNamed : List (Option Packet) → StdFields → ℕ → ℕ → Type 0
-IsNamed entries fields iface number = IsSomeAnd (held_in entries number) (λ packet. (packet.iface ≡ iface) × (written_fields packet number fields.iid ≡ fields))
+IsNamed entries fields iface number =
+    IsSomeAnd (held_in entries number)
+    (λ packet. (packet.iface ≡ iface) × (written_fields packet number fields.iid ≡ fields))
 
 -- the packet, where it is of another object
 abbrev pub kept_of : ℕ → Packet → Option Packet

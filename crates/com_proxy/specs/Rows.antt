@@ -8,15 +8,18 @@ use Rattle.com_proxy.specs.declared.Split.TheVariants.{Moved, New}
 
 -- the row is that of an apartment, an object and an interface
 abbrev pub is_for : ℕ → ℕ → ℕ → ProxyRow → Bool
-is_for apartment object iface row = (row.object == object) && ((row.apartment == apartment) && (row.iface == iface))
+is_for apartment object iface row =
+    (row.object == object) && ((row.apartment == apartment) && (row.iface == iface))
 
 abbrev pub no_row : ℕ → ℕ → ℕ → ProxyRow
-no_row apartment object iface = record { apartment = apartment; object = object; iface = iface; local = 0; public = 0 }
+no_row apartment object iface =
+    record { apartment = apartment; object = object; iface = iface; local = 0; public = 0 }
 
 -- the first row of an apartment, an object and an interface; one that is not there holds nothing
 abbrev pub row_of : List ProxyRow → ℕ → ℕ → ℕ → ProxyRow
 row_of [] apartment object iface = no_row apartment object iface
-row_of (row ∷ rows) apartment object iface = if is_for apartment object iface row then row else row_of rows apartment object iface
+row_of (row ∷ rows) apartment object iface =
+    if is_for apartment object iface row then row else row_of rows apartment object iface
 
 -- the local references that are held
 abbrev pub local_of : List ProxyRow → ℕ → ℕ → ℕ → ℕ
@@ -33,12 +36,15 @@ pub record IsFree (rows : List ProxyRow) (apartment object : ℕ) : Type 0 where
 -- where that row stands, or the number of rows
 abbrev pub place_of : List ProxyRow → ℕ → ℕ → ℕ → ℕ
 place_of [] apartment object iface = 0
-place_of (row ∷ rows) apartment object iface = if is_for apartment object iface row then 0 else place_of rows apartment object iface + 1
+place_of (row ∷ rows) apartment object iface =
+    if is_for apartment object iface row then 0 else place_of rows apartment object iface + 1
 
 -- that row changed; one that was not there begins with nothing, at the end
 abbrev pub changed_row : (ProxyRow → ProxyRow) → ℕ → ℕ → ℕ → List ProxyRow → List ProxyRow
 changed_row change apartment object iface [] = change (no_row apartment object iface) ∷ []
-changed_row change apartment object iface (row ∷ rows) = if is_for apartment object iface row then change row ∷ rows else row ∷ changed_row change apartment object iface rows
+changed_row change apartment object iface (row ∷ rows) =
+    if is_for apartment object iface row then change row ∷ rows
+    else row ∷ changed_row change apartment object iface rows
 
 -- one local reference and so many public ones more
 abbrev pub gaining : ℕ → ProxyRow → ProxyRow
@@ -63,7 +69,9 @@ split_of held = if nat_le 2 held then Moved (held / 2) else New
 
 -- the rows after it
 abbrev pub split_rows : ℕ → ℕ → ℕ → List ProxyRow → List ProxyRow
-split_rows apartment object iface rows = if nat_le 2 (public_of rows apartment object iface) then changed_row halved apartment object iface rows else rows
+split_rows apartment object iface rows =
+    if nat_le 2 (public_of rows apartment object iface) then changed_row halved apartment object iface rows
+    else rows
 
 -- the row without public references, where it is of the object
 abbrev pub cut_row : ℕ → ProxyRow → ProxyRow
@@ -102,11 +110,15 @@ row_at rows place = slice_index_or rows place (no_row 0 0 0)
 
 -- no two rows are of the same apartment, object and interface: each is the first of its own
 abbrev pub EachFirst : List ProxyRow → Type 0
-EachFirst rows = (place : ℕ) → place < length rows → place_of rows (row_at rows place).apartment (row_at rows place).object (row_at rows place).iface ≡ place
+EachFirst rows =
+    (place : ℕ) → place < length rows
+    → place_of rows (row_at rows place).apartment (row_at rows place).object (row_at rows place).iface ≡ place
 
 -- a row of an apartment and an object has no public references
 abbrev pub HasNoPublic : ℕ → ℕ → List ProxyRow → ℕ → Type 0
-HasNoPublic apartment object rows place = (row_at rows place).object ≡ object → (row_at rows place).apartment ≡ apartment → (row_at rows place).public ≡ 0
+HasNoPublic apartment object rows place =
+    (row_at rows place).object ≡ object → (row_at rows place).apartment ≡ apartment
+    → (row_at rows place).public ≡ 0
 
 -- the row has public references of the apartment and the object, and no row of a lower interface has
 pub record IsLowest (apartment object : ℕ) (rows : List ProxyRow) (place : ℕ) : Type 0 where
@@ -114,5 +126,6 @@ pub record IsLowest (apartment object : ℕ) (rows : List ProxyRow) (place : ℕ
   pub of_object : (row_at rows place).object ≡ object
   pub of_apartment : (row_at rows place).apartment ≡ apartment
   pub some : 0 < (row_at rows place).public
-  pub lowest : (other : ℕ) → other < length rows → (row_at rows other).object ≡ object → (row_at rows other).apartment ≡ apartment → 0 < (row_at rows other).public
+  pub lowest : (other : ℕ) → other < length rows → (row_at rows other).object ≡ object
+      → (row_at rows other).apartment ≡ apartment → 0 < (row_at rows other).public
       → (row_at rows place).iface ≤ (row_at rows other).iface

@@ -13,7 +13,8 @@ use Rattle.com_holders.specs.Tables.{Tables, books_of, object_in}
 -- The row of a packet in the books.
 abbrev pub shown_packet : Option P.Packet → Packet
 shown_packet None = no_packet
-shown_packet (Some p) = record { outstanding = true; mode = p.mode; object = p.object; iface = p.iface; refs = p.refs }
+shown_packet (Some p) =
+    record { outstanding = true; mode = p.mode; object = p.object; iface = p.iface; refs = p.refs }
 
 -- The public references that a packet says that it carries.
 abbrev pub refs_written : MarshalMode → ℕ → ℕ
@@ -33,7 +34,8 @@ fields_by a iid k n = record {
 
 -- The same of the packet of a number.
 abbrev pub fields_in : Tables → Guid → ℕ → StdFields
-fields_in t iid n = fields_by (object_in t.objects (packet (books_of t) n).object).owner iid (packet (books_of t) n) n
+fields_in t iid n =
+    fields_by (object_in t.objects (packet (books_of t) n).object).owner iid (packet (books_of t) n) n
 
 -- The fields are those of the packet with this number, which is outstanding and of the interface.
 pub record IsFound (t : Tables) (fields : StdFields) (iface n : ℕ) : Type 0 where

@@ -28,7 +28,8 @@ place_of (row ∷ rows) object iface = if is_for object iface row then 0 else pl
 -- that row changed, if it is there
 abbrev pub changed_counter : (CounterRow → CounterRow) → ℕ → ℕ → List CounterRow → List CounterRow
 changed_counter change object iface [] = []
-changed_counter change object iface (row ∷ rows) = if is_for object iface row then change row ∷ rows else row ∷ changed_counter change object iface rows
+changed_counter change object iface (row ∷ rows) =
+    if is_for object iface row then change row ∷ rows else row ∷ changed_counter change object iface rows
 
 -- so many references more, and less
 abbrev pub more : ℕ → CounterRow → CounterRow
@@ -39,7 +40,8 @@ less n row = record row { count = row.count - n }
 
 -- a counter of the interface at the end, where there is none yet
 abbrev pub opened : ℕ → ℕ → List CounterRow → List CounterRow
-opened object iface rows = if has_counter rows object iface then rows else rows ++ no_counter object iface ∷ []
+opened object iface rows =
+    if has_counter rows object iface then rows else rows ++ no_counter object iface ∷ []
 
 -- a counter of each interface of the set, in its order
 abbrev pub opened_all : ℕ → List ℕ → List CounterRow → List CounterRow
@@ -63,4 +65,6 @@ row_at rows place = slice_index_or rows place (no_counter 0 0)
 
 -- no two rows are of the same object and interface: each is the first of its own
 abbrev pub EachFirst : List CounterRow → Type 0
-EachFirst rows = (place : ℕ) → place < length rows → place_of rows (row_at rows place).object (row_at rows place).iface ≡ place
+EachFirst rows =
+    (place : ℕ) → place < length rows → place_of rows (row_at rows place).object (row_at rows place).iface
+    ≡ place

@@ -33,7 +33,8 @@ pub record IsStubTable (rows : List StubRow) (places : Places) : Type 0 where
 -- the public references that the object's stub counts for an interface; a stub that is not connected
 -- counts none
 abbrev pub count_of : StubTable → ℕ → ℕ → ℕ
-count_of table object iface = if is_connected table.stubs object then (counter_of table.counters object iface).count else 0
+count_of table object iface =
+    if is_connected table.stubs object then (counter_of table.counters object iface).count else 0
 
 -- the same for all interfaces together
 abbrev pub total_of : StubTable → ℕ → ℕ

@@ -73,6 +73,7 @@ fn sum(rows: &[CounterRow], places: &Chains, object: u32) -> u64
 }
 
 impl Counters {
+    /// No counter. It takes no memory.
     pub fn new(alloc: Global) -> Self
         ensures { result.rows ≡ [] }
     {
@@ -82,7 +83,8 @@ impl Counters {
         }
     }
 
-    /// Makes room for `n` more counters.
+    /// Makes room for `n` more counters. The only error is want of memory: then the counters are as before.
+    /// It does not come where there is that room already.
     pub fn reserve(&mut self, n: u32) -> Result<(), AllocError>
         ensures room { OnOk result (n ≤ self.new.spare) }
         ensures rows { self.new.rows ≡ self.old.rows }
@@ -93,7 +95,7 @@ impl Counters {
         self.rows.reserve(n as usize)
     }
 
-    /// A counter of the interface, at 0, where there is none yet.
+    /// A counter of the object's interface, at 0, where there is none yet. Room for one was made before.
     #[tactic(auto, using(crate::proofs::CounterLemmas::has_place, crate::proofs::CounterLemmas::has_not))]
     pub fn open(&mut self, object: u32, iface: u16)
         requires { 0 < self.old.spare }
@@ -112,7 +114,8 @@ impl Counters {
         });
     }
 
-    /// A counter of each interface of the set.
+    /// A counter of each interface of the set, at 0, where there is none yet. Room for as many as the set is
+    /// long was made before.
     pub fn open_all(&mut self, object: u32, set: &[u16])
         requires { length set.now ≤ self.old.spare }
         ensures rows { self.new.rows ≡ opened_all object set.now self.old.rows }

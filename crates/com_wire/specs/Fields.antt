@@ -15,13 +15,16 @@ guid g = wire_of g
 
 -- The so many bytes from a place on, if they are whole.
 abbrev pub part_at : List ℕ → ℕ → ℕ → Option (List ℕ)
-part_at bytes place count = if nat_lt (length bytes) (place + count) then None else Some (take count (drop place bytes))
+part_at bytes place count =
+    if nat_lt (length bytes) (place + count) then None else Some (take count (drop place bytes))
 
 -- The number that stands at a place, if it is whole.
 unfoldable pub number_at : Width → List ℕ → ℕ → Option ℕ
 number_at w bytes place =
-    if nat_lt (length bytes) (place + byte_len w) then None else Some (from_le_bytes w (take (byte_len w) (drop place bytes)))
+    if nat_lt (length bytes) (place + byte_len w) then None
+    else Some (from_le_bytes w (take (byte_len w) (drop place bytes)))
 
 -- The GUID that stands at a place, if it is whole.
 unfoldable pub guid_at : List ℕ → ℕ → Option Guid
-guid_at bytes place = if nat_lt (length bytes) (place + 16) then None else Some (guid_of_wire (take 16 (drop place bytes)))
+guid_at bytes place =
+    if nat_lt (length bytes) (place + 16) then None else Some (guid_of_wire (take 16 (drop place bytes)))

@@ -45,7 +45,8 @@ pub record IsRef (fields : StdFields) (text : List ℕ) : Type 0 where
   pub text_is : text ≡ number w32 referent
       ++ (number w32 (length (spelling (standard fields flags strings)))
       ++ (number w32 (length (spelling (standard fields flags strings)))
-      ++ (spelling (standard fields flags strings) ++ zeros (gap (length (spelling (standard fields flags strings))) 4))))
+      ++ (spelling (standard fields flags strings)
+      ++ zeros (gap (length (spelling (standard fields flags strings))) 4))))
 
 -- The bytes of one value of a kind, without the padding before it.
 abbrev pub IsArg : Kind → Wire → List ℕ → Type 0
@@ -62,6 +63,7 @@ IsArg k v text = ⊥
 abbrev pub IsArgs : List Kind → ℕ → List Wire → List ℕ → Type 0
 IsArgs [] place [] bytes = bytes ≡ []
 IsArgs (k ∷ ks) place (v ∷ vs) bytes =
-    (text : List ℕ) × (rest : List ℕ) × IsArg k v text × (bytes ≡ zeros (gap place (align_of k)) ++ (text ++ rest))
+    (text : List ℕ) × (rest : List ℕ) × IsArg k v text
+    × (bytes ≡ zeros (gap place (align_of k)) ++ (text ++ rest))
     × IsArgs ks (place + gap place (align_of k) + length text) vs rest
 IsArgs ks place vs bytes = ⊥

@@ -59,7 +59,8 @@ count_at bytes place = do
 -- So many bytes.
 abbrev pub part_at : List ℕ → ℕ → ℕ → Result (List ℕ × ℕ) ArgFault
 part_at bytes count place =
-    if nat_lt (length bytes) (place + count) then Err (short bytes) else Ok (take count (drop place bytes), place + count)
+    if nat_lt (length bytes) (place + count) then Err (short bytes)
+    else Ok (take count (drop place bytes), place + count)
 
 -- Bytes behind their count, which is tested before they are.
 unfoldable pub counted_at : List ℕ → ℕ → Result (List ℕ × ℕ) ArgFault

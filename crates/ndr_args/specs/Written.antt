@@ -29,7 +29,8 @@ written_arg referent (wire.Text t) = counted t
 written_arg referent (wire.Bytes t) = counted t
 written_arg referent (wire.Guid g) = guid g
 written_arg referent (wire.Ref None) = number w32 0
-written_arg referent (wire.Ref (Some fields)) = number w32 referent ++ (number w32 72 ++ (number w32 72 ++ written_of fields))
+written_arg referent (wire.Ref (Some fields)) =
+    number w32 referent ++ (number w32 72 ++ (number w32 72 ++ written_of fields))
 
 -- The referents of a stream count up by four.
 abbrev pub next_referent : ℕ → Wire → ℕ
@@ -46,7 +47,8 @@ unfoldable pub written_from : ℕ → ℕ → List Wire → List ℕ
 written_from place referent [] = []
 written_from place referent (v ∷ vs) =
     zeros (gap place (align_of_value v)) ++ (written_arg referent v
-    ++ written_from (place + gap place (align_of_value v) + length (written_arg referent v)) (next_referent referent v) vs)
+    ++ written_from (place + gap place (align_of_value v) + length (written_arg referent v))
+    (next_referent referent v) vs)
 
 -- A stream: it begins at place 0, and its first referent is 0x00020000.
 abbrev pub written_args : List Wire → List ℕ

@@ -9,11 +9,17 @@ use std::alloc::{AllocError, AllocFailed};
 /// reference, which is null or has the fields of its packet.
 #[derive(Debug, Drop)]
 pub enum Wire {
+    /// A whole number of 64 bits, with a sign.
     Int(i64),
+    /// A truth value.
     Bool(bool),
+    /// The bytes of a text of UTF-8.
     Text(ByteList),
+    /// Bytes of any values.
     Bytes(ByteList),
+    /// A GUID.
     Guid(Guid),
+    /// The fields of the packet of a reference, and None for null.
     Ref(Option<StdFields>),
 }
 

@@ -28,7 +28,8 @@ reference_of (objref.Standard fields flags entries security strings) =
     standard fields flags (record { entries = entries; security = security; values = strings.now })
 reference_of (objref.Handler fields flags clsid entries security strings) =
     handler fields flags clsid (record { entries = entries; security = security; values = strings.now })
-reference_of (objref.Custom iid clsid extension unread payload) = custom iid clsid extension unread payload.now
+reference_of (objref.Custom iid clsid extension unread payload) =
+    custom iid clsid extension unread payload.now
 
 -- The signature "MEOW", the flags that tell the case, and the IID.
 unfoldable pub header : ℕ → Guid → List ℕ
@@ -37,7 +38,8 @@ header flags iid = number w32 0x574f454d ++ (number w32 flags ++ guid iid)
 -- STDOBJREF.
 unfoldable pub standard_body : ℕ → StdFields → List ℕ
 standard_body flags fields =
-    number w32 flags ++ (number w32 fields.refs ++ (number w64 fields.oxid ++ (number w64 fields.oid ++ guid fields.ipid)))
+    number w32 flags
+    ++ (number w32 fields.refs ++ (number w64 fields.oxid ++ (number w64 fields.oid ++ guid fields.ipid)))
 
 -- DUALSTRINGARRAY.
 unfoldable pub strings : Strings → List ℕ
@@ -46,7 +48,8 @@ strings s = number w16 s.entries ++ (number w16 s.security ++ s.values)
 -- The bytes of an OBJREF.
 abbrev pub spelling : Reference → List ℕ
 spelling (standard fields flags s) = header 1 fields.iid ++ (standard_body flags fields ++ strings s)
-spelling (handler fields flags clsid s) = header 2 fields.iid ++ (standard_body flags fields ++ (guid clsid ++ strings s))
+spelling (handler fields flags clsid s) =
+    header 2 fields.iid ++ (standard_body flags fields ++ (guid clsid ++ strings s))
 spelling (custom iid clsid extension unread payload) =
     header 4 iid ++ (guid clsid ++ (number w32 extension ++ (number w32 unread ++ payload)))
 
@@ -67,7 +70,8 @@ pub record IsStrings (s : Strings) : Type 0 where
 -- What an OBJREF can say.
 abbrev pub IsReference : Reference → Type 0
 IsReference (standard fields flags s) = IsStdFields fields × (flags < 2 ^ 32) × IsStrings s
-IsReference (handler fields flags clsid s) = IsStdFields fields × (flags < 2 ^ 32) × IsGuid clsid × IsStrings s
+IsReference (handler fields flags clsid s) =
+    IsStdFields fields × (flags < 2 ^ 32) × IsGuid clsid × IsStrings s
 IsReference (custom iid clsid extension unread payload) =
     IsGuid iid × IsGuid clsid × (extension < 2 ^ 32) × (unread < 2 ^ 32)
 

@@ -26,7 +26,9 @@ pub record IsThis (h : This) : Type 0 where
 -- Its 32 bytes.
 unfoldable pub this_text : This → List ℕ
 this_text h =
-    number w16 5 ++ (number w16 h.minor ++ (number w32 h.flags ++ (number w32 h.reserved ++ (guid h.cause ++ number w32 0))))
+    number w16 5
+    ++ (number w16 h.minor
+    ++ (number w32 h.flags ++ (number w32 h.reserved ++ (guid h.cause ++ number w32 0))))
 
 -- What the writer puts there: version 5.7, and 0 for flags and the reserved number.
 abbrev pub this_of : Guid → This
