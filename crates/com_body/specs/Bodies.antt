@@ -61,7 +61,8 @@ IsInRange (stmt.Create slot class iface) = slot < 8
 IsInRange (stmt.Query to from iface) = (to < 8) × (from < 8)
 IsInRange (stmt.Copy to from) = IsPlace to × IsPlace from
 IsInRange (stmt.Release place) = IsPlace place
-IsInRange (stmt.Call slot iface method args destination) = (slot < 8) × All IsArg args × IsDestination destination
+IsInRange (stmt.Call slot iface method args destination) =
+    (slot < 8) × All IsArg args × IsDestination destination
 IsInRange (stmt.Marshal buffer slot mode) = (buffer < 64) × (slot < 8)
 IsInRange (stmt.Unmarshal slot buffer) = (slot < 8) × (buffer < 64)
 IsInRange (stmt.Drop buffer) = buffer < 64

@@ -25,13 +25,19 @@ pub data Effect : Type 0 where
 abbrev pub effect_of : FrameView → Cells → Stmt → Effect
 effect_of f c (stmt.Set to from) = Goes (with_register f to (value_of f from)) c 0
 effect_of f c (stmt.Add to from) =
-    Goes (with_register f to (value.Int (int_wrapping_add w64 (number_in (register_of f to)) (number_of f from)))) c 0
+    Goes (with_register f to (value.Int
+    (int_wrapping_add w64 (number_in (register_of f to)) (number_of f from)))) c 0
 effect_of f c (stmt.Sub to from) =
-    Goes (with_register f to (value.Int (int_wrapping_sub w64 (number_in (register_of f to)) (number_of f from)))) c 0
-effect_of f c (stmt.Less to left right) = Goes (with_register f to (truth (int_lt (number_of f left) (number_of f right)))) c 0
-effect_of f c (stmt.Same to left right) = Goes (with_register f to (truth (same_object (slot_of f left) (slot_of f right)))) c 0
-effect_of f c (stmt.Load to cell) = Goes (with_register f to (value.Int (slice_index_or c.numbers cell (pos 0)))) c 0
-effect_of f c (stmt.Store cell from) = Goes f (record c { numbers = slice_set c.numbers cell (number_of f from) }) 0
+    Goes (with_register f to (value.Int
+    (int_wrapping_sub w64 (number_in (register_of f to)) (number_of f from)))) c 0
+effect_of f c (stmt.Less to left right) =
+    Goes (with_register f to (truth (int_lt (number_of f left) (number_of f right)))) c 0
+effect_of f c (stmt.Same to left right) =
+    Goes (with_register f to (truth (same_object (slot_of f left) (slot_of f right)))) c 0
+effect_of f c (stmt.Load to cell) =
+    Goes (with_register f to (value.Int (slice_index_or c.numbers cell (pos 0)))) c 0
+effect_of f c (stmt.Store cell from) =
+    Goes f (record c { numbers = slice_set c.numbers cell (number_of f from) }) 0
 effect_of f c (stmt.Skip count) = Goes f c count
 effect_of f c (stmt.SkipZero register count) =
     Goes f c (if int_eq (number_in (register_of f register)) (pos 0) then count else 0)

@@ -63,7 +63,8 @@ arguments_of frame args = map (argument_of frame) args
 -- The HRESULT of a code: the literal, or the low 32 bits of a register's number.
 abbrev pub answer_of : FrameView → Code → HResult
 answer_of frame (code.Literal answer) = answer
-answer_of frame (code.Register number) = record { 0 = cast_unsigned w64 (number_in (register_of frame number)) % 2 ^ 32 }
+answer_of frame (code.Register number) =
+    record { 0 = cast_unsigned w64 (number_in (register_of frame number)) % 2 ^ 32 }
 
 -- The value that a body gives when it leaves.
 abbrev pub given_value : FrameView → Given → Option Value

@@ -38,8 +38,9 @@ impl Model for Body {
 impl Body {
     /// The body of these statements. It takes no memory.
     ///
-    /// `TooLong` comes exactly where there are more than `limit` statements, and else `Jump` with the first statement whose
-    /// skip passes the end, exactly where there is one. A skip to exactly the end does not pass it.
+    /// `TooLong` comes exactly where there are more than `limit` statements, and else `Jump` with the first
+    /// statement whose skip passes the end, exactly where there is one. A skip to exactly the end does
+    /// not pass it.
     pub fn check(statements: Vec<Stmt>, limit: u32) -> Result<Body, BodyFault>
         requires { All IsInRange statements.items }
         ensures list { IfOk result (λ body. body ≡ statements.items) }

@@ -119,7 +119,7 @@ impl Frame {
     {
         let mut registers = Vec::with_capacity(alloc, 16)?;
         for value in &self.registers {
-            registers.push_reserved(value.copy()?);
+            append_copy(&mut registers, value)?;
         }
         Ok(Frame {
             place: self.place,
@@ -128,6 +128,22 @@ impl Frame {
             slots: self.slots,
         })
     }
+}
+
+// Appends an equal value. Most registers hold numbers, and a number is put there at once: a value that comes
+// in a `Result` goes through memory.
+#[inline(always)]
+fn append_copy(registers: &mut Vec<Value>, value: &Value) -> Result<(), Memory>
+    requires { vec_len registers.old < vec_capacity registers.old }
+    ensures items { OnOk result (registers.new.items ≡ registers.old.items ++ value.now ∷ []) }
+    ensures len { OnOk result (vec_len registers.new ≡ vec_len registers.old + 1) }
+    ensures room { vec_capacity registers.new ≡ vec_capacity registers.old }
+{
+    match value {
+        Value::Int(number) => registers.push_reserved(Value::Int(*number)),
+        _ => registers.push_reserved(value.copy()?),
+    }
+    Ok(())
 }
 
 // Appends the value, if it is no reference.

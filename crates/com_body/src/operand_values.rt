@@ -11,7 +11,7 @@ use crate::operands::{Arg, Code, Given, Op, Place};
 use com_base::{HResult, Memory, RefValue, Rows, Value};
 use std::alloc::Global;
 
-// The Int of a value, and 0 where it is no Int.
+/// The Int of a value, and 0 where it is no Int.
 #[inline]
 pub fn number_in(value: &Value) -> i64
     ensures { result ≡ number_in value.now }
@@ -22,6 +22,8 @@ pub fn number_in(value: &Value) -> i64
     }
 }
 
+/// The number of an operand: its literal, or what its register from 0 to 15 holds, and 0 where that is no
+/// Int.
 #[inline]
 pub fn number_of(frame: &Frame, operand: &Op) -> i64
     requires { IsOp operand.now }
@@ -33,6 +35,8 @@ pub fn number_of(frame: &Frame, operand: &Op) -> i64
     }
 }
 
+/// A copy of the value of an operand: of its literal, or of what its register from 0 to 15 holds. The only
+/// error is want of memory.
 #[inline]
 pub fn value_of(frame: &Frame, operand: &Op) -> Result<Value, Memory>
     requires { IsOp operand.now }
@@ -44,6 +48,8 @@ pub fn value_of(frame: &Frame, operand: &Op) -> Result<Value, Memory>
     }
 }
 
+/// The reference at a place, None for null: in a slot of the frame, from 0 to 7, or in a link of the object,
+/// from 0 to 3.
 #[inline]
 pub fn held_at(frame: &Frame, cells: &Cells, place: Place) -> Option<RefValue>
     requires { IsPlace place }
@@ -55,6 +61,7 @@ pub fn held_at(frame: &Frame, cells: &Cells, place: Place) -> Option<RefValue>
     }
 }
 
+// A copy of the value that an argument sends.
 fn argument_of(frame: &Frame, argument: &Arg) -> Result<Value, Memory>
     requires { IsArg argument.now }
     ensures { IfOk result (λ value. value ≡ argument_of frame.now argument.now) }
@@ -66,6 +73,7 @@ fn argument_of(frame: &Frame, argument: &Arg) -> Result<Value, Memory>
     }
 }
 
+/// Copies of the values that a call sends, in the order of its arguments. The only error is want of memory.
 pub fn arguments_of(alloc: Global, frame: &Frame, args: &[Arg]) -> Result<Rows<Value>, Memory>
     requires { All IsArg args.now }
     ensures { IfOk result (λ values. values ≡ arguments_of frame.now args.now) }
@@ -77,6 +85,8 @@ pub fn arguments_of(alloc: Global, frame: &Frame, args: &[Arg]) -> Result<Rows<V
     Ok(Rows::from_vec(values))
 }
 
+/// The HRESULT that a body leaves with: a literal, or the lowest 32 bits of what a register from 0 to 15
+/// holds, and S_OK where that is no Int.
 pub fn answer_of(frame: &Frame, answer: Code) -> HResult
     requires { IsCode answer }
     ensures { result ≡ answer_of frame.now answer }
@@ -90,6 +100,7 @@ pub fn answer_of(frame: &Frame, answer: Code) -> HResult
     }
 }
 
+/// A copy of the value that a body gives beside its HRESULT, or none. The only error is want of memory.
 pub fn given_value(frame: &Frame, given: &Given) -> Result<Option<Value>, Memory>
     requires { IsGiven given.now }
     ensures { IfOk result (λ value. value ≡ given_value frame.now given.now) }
@@ -101,7 +112,8 @@ pub fn given_value(frame: &Frame, given: &Given) -> Result<Option<Value>, Memory
     }
 }
 
-// Whether two references name one object, or are both null.
+/// Whether two references name one object, or are both null. Their interfaces do not count. Source: the
+/// documentation of IUnknown::QueryInterface, on the identity of objects.
 pub fn same_object(left: Option<RefValue>, right: Option<RefValue>) -> bool
     ensures { result ≡ same_object left right }
 {
@@ -112,7 +124,7 @@ pub fn same_object(left: Option<RefValue>, right: Option<RefValue>) -> bool
     }
 }
 
-// The Int 1 for true and the Int 0 for false.
+/// The Int 1 for true and the Int 0 for false.
 #[inline]
 pub fn truth(holds: bool) -> Value
     ensures { result ≡ truth holds }
