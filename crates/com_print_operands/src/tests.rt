@@ -28,8 +28,8 @@ fn literals_are_written(rt: HostRuntime) -> Result<(), Fail> {
     push_value(&mut out, &Value::Text(bytes(alloc, b"a; b")?))?;
     push_value(&mut out, &Value::Bytes(bytes(alloc, &[0, 171])?))?;
     push_value(&mut out, &Value::Guid(iid()))?;
-    let want =
-        b" -9223372036854775808 9223372036854775807 true false \"a; b\" x\"00ab\" {5C0B0001-0000-4000-8000-000000000001}";
+    let want = b" -9223372036854775808 9223372036854775807 true false \"a; b\" x\"00ab\" \
+          {5C0B0001-0000-4000-8000-000000000001}";
     assert_eq!(rt; out.as_slice(), want.as_slice());
     Ok(())
 }
@@ -67,8 +67,8 @@ fn places_are_written(rt: HostRuntime) -> Result<(), Fail> {
     push_marshal_mode(&mut out, MarshalMode::Weak)?;
     push_decimal(&mut out, 2000)?;
     push_asked(&mut out, &[], 1, Asked::Guid(iid()))?;
-    let want =
-        b" r15 c7 p63 s0 k3 r1 null 0x80004005 r15 s2 -> r1 mta weak 2000 {5C0B0001-0000-4000-8000-000000000001}";
+    let want = b" r15 c7 p63 s0 k3 r1 null 0x80004005 r15 s2 -> r1 mta weak 2000 \
+          {5C0B0001-0000-4000-8000-000000000001}";
     assert_eq!(rt; out.as_slice(), want.as_slice());
     Ok(())
 }

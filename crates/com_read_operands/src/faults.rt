@@ -61,7 +61,14 @@ impl Fault {
 #[derive(Clone, Copy, Debug, PartialEq, Eq)]
 pub enum ScenarioError {
     /// The first fault of the text by place, and the lowest number of those at one place.
-    Fault { number: u8, line: u32, column: u32 },
+    Fault {
+        /// What is wrong: 1 to 12, as the constants of `Fault` name them.
+        number: u8,
+        /// The line of the word at fault, counted from 1.
+        line: u32,
+        /// The column of the word at fault, counted in bytes from 1.
+        column: u32,
+    },
     /// There was not enough memory, or the text has nearly 2^32 bytes or more.
     Memory,
 }

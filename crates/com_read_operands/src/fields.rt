@@ -43,7 +43,7 @@ fn missing(line: &[Word], place: usize) -> ScenarioError
         Some(word) => ScenarioError::Fault {
             number: Fault::MISSING,
             line: word.line,
-            column: word.after,
+            column: word.after(),
         },
     }
 }
@@ -57,7 +57,7 @@ pub fn word<'l, 'a>(line: &'l [Word<'a>], place: usize) -> Result<&'l Word<'a>, 
 {
     match line.get(place) {
         None => Err(missing(line, place)),
-        Some(word) => match word.sort {
+        Some(word) => match word.sort() {
             Sort::Stray(column) => Err(character(word, column)),
             Sort::Remark(_) => Err(missing(line, place)),
             Sort::Unclosed => Err(fault(Fault::UNEXPECTED, word)),
@@ -73,7 +73,7 @@ pub fn stands(line: &[Word], place: usize) -> Result<bool, ScenarioError>
 {
     match line.get(place) {
         None => Ok(false),
-        Some(word) => match word.sort {
+        Some(word) => match word.sort() {
             Sort::Remark(column) => Err(character(word, column)),
             _ => Ok(true),
         },
@@ -87,7 +87,7 @@ pub fn end(line: &[Word], place: usize) -> Result<(), ScenarioError>
 {
     match line.get(place) {
         None => Ok(()),
-        Some(word) => match word.sort {
+        Some(word) => match word.sort() {
             Sort::Stray(column) | Sort::Remark(column) => Err(character(word, column)),
             Sort::Unclosed => Err(fault(Fault::UNEXPECTED, word)),
             _ => Err(fault(Fault::EXTRA, word)),
@@ -102,7 +102,7 @@ pub fn first<'l, 'a>(line: &'l [Word<'a>]) -> Result<&'l Word<'a>, ScenarioError
 {
     match line.get(0) {
         None => Err(missing(line, 0)),
-        Some(word) => match word.sort {
+        Some(word) => match word.sort() {
             Sort::Stray(column) | Sort::Remark(column) => Err(character(word, column)),
             Sort::Unclosed => Err(fault(Fault::UNEXPECTED, word)),
             _ => Ok(word),

@@ -149,7 +149,7 @@ pub fn operand_of(word: &Word) -> Operand
     ensures value { result ≡ operand_of word.now }
     ensures range { IsOperand result }
 {
-    match word.sort {
+    match word.sort() {
         Sort::Plain => plain_of(word.bytes),
         Sort::Text => Operand::Text,
         Sort::Bytes => {
@@ -174,7 +174,8 @@ pub fn unfit(operand: Operand) -> u8
     }
 }
 
-/// A register.
+/// A register's number, 0 to 15. An operand of another sort is fault 10, `null` fault 3, a word that is no
+/// operand the fault of its form (3, 6 or 7), and what `word` refuses has the fault that it has there.
 #[tactic(auto, unfolding(crate::specs::Operands::register_at))]
 pub fn register(line: &[Word], place: usize) -> Result<u8, ScenarioError>
     ensures value { Gives (λ n. n) result (register_at line.now place) }
@@ -187,7 +188,7 @@ pub fn register(line: &[Word], place: usize) -> Result<u8, ScenarioError>
     }
 }
 
-/// A slot.
+/// A slot's number, 0 to 7. Faults are as at a register.
 #[tactic(auto, unfolding(crate::specs::Operands::slot_at))]
 pub fn slot(line: &[Word], place: usize) -> Result<u8, ScenarioError>
     ensures value { Gives (λ n. n) result (slot_at line.now place) }
@@ -200,7 +201,8 @@ pub fn slot(line: &[Word], place: usize) -> Result<u8, ScenarioError>
     }
 }
 
-/// A cell, where `cells` allows one.
+/// A cell's number, 0 to 7, where `cells` allows one. Where it does not, a cell is fault 10, and faults are
+/// else as at a register.
 #[tactic(auto, unfolding(crate::specs::Operands::cell_at))]
 pub fn cell(cells: bool, line: &[Word], place: usize) -> Result<u8, ScenarioError>
     ensures value { Gives (λ n. n) result (cell_at cells line.now place) }
@@ -213,7 +215,7 @@ pub fn cell(cells: bool, line: &[Word], place: usize) -> Result<u8, ScenarioErro
     }
 }
 
-/// A packet buffer.
+/// A packet buffer's number, 0 to 63. Faults are as at a register.
 #[tactic(auto, unfolding(crate::specs::Operands::buffer_at))]
 pub fn buffer(line: &[Word], place: usize) -> Result<u8, ScenarioError>
     ensures value { Gives (λ n. n) result (buffer_at line.now place) }
@@ -226,7 +228,8 @@ pub fn buffer(line: &[Word], place: usize) -> Result<u8, ScenarioError>
     }
 }
 
-/// A slot, or where `links` allows it a link.
+/// A slot, or where `links` allows it a link. Where it does not, a link is fault 10, and faults are else as
+/// at a register.
 #[tactic(auto, unfolding(crate::specs::Operands::place_at))]
 pub fn place(links: bool, line: &[Word], at: usize) -> Result<Place, ScenarioError>
     ensures value { Gives (λ n. n) result (place_at links line.now at) }
@@ -271,7 +274,8 @@ fn bytes_literal(alloc: Global, word: &Word) -> Result<Value, ScenarioError>
     }
 }
 
-/// The operand of a word as a register or a literal.
+/// The operand of a word as a register or a literal. A text or bytes literal of more than 256 bytes is fault
+/// 12, and faults are else as at a register. `Memory` comes where a literal's bytes find no memory.
 #[tactic(auto, unfolding(crate::specs::Operands::literal_of))]
 pub fn literal(alloc: Global, word: &Word, operand: Operand) -> Result<Op, ScenarioError>
     requires { IsOperand operand }
@@ -289,7 +293,7 @@ pub fn literal(alloc: Global, word: &Word, operand: Operand) -> Result<Op, Scena
     }
 }
 
-/// A register or a literal.
+/// A register or a literal, with the faults of `literal` and of `word`.
 #[tactic(auto, unfolding(crate::specs::Operands::op_at))]
 pub fn op(alloc: Global, line: &[Word], place: usize) -> Result<Op, ScenarioError>
     ensures value { Gives (λ o. o) result (op_at line.now place) }
@@ -373,7 +377,7 @@ pub fn code(line: &[Word], place: usize) -> Result<Code, ScenarioError>
     }
 }
 
-/// The result of `leave`: none, a register, a literal or a slot.
+/// The result of `leave`: none, a register, a literal or a slot, with the faults of `literal`.
 #[tactic(auto, unfolding(crate::specs::Operands::given_at))]
 pub fn given(alloc: Global, line: &[Word], place: usize) -> Result<Given, ScenarioError>
     ensures value { Gives (λ g. g) result (given_at line.now place) }
@@ -389,7 +393,7 @@ pub fn given(alloc: Global, line: &[Word], place: usize) -> Result<Given, Scenar
     }
 }
 
-/// `sta` or `mta`.
+/// `sta` or `mta`. Every other word is fault 3.
 #[tactic(auto, unfolding(crate::specs::Operands::mode_at))]
 pub fn mode(line: &[Word], place: usize) -> Result<Mode, ScenarioError>
     ensures { Gives (λ m. m) result (mode_at line.now place) }
@@ -404,7 +408,7 @@ pub fn mode(line: &[Word], place: usize) -> Result<Mode, ScenarioError>
     }
 }
 
-/// `normal`, `strong` or `weak`.
+/// `normal`, `strong` or `weak`. Every other word is fault 3.
 #[tactic(auto, unfolding(crate::specs::Operands::marshal_mode_at))]
 pub fn marshal_mode(line: &[Word], place: usize) -> Result<MarshalMode, ScenarioError>
     ensures { Gives (λ m. m) result (marshal_mode_at line.now place) }

@@ -10,14 +10,12 @@ use crate::declare::{
     filter_name, free_guid, free_name, interface_name, listed, model, native, natives, picks,
 };
 use crate::state::{Code, Section, State};
-use crate::tables::push;
 use com_base::{ByteList, Rows};
 use com_body::Native;
 use com_classes::{Class, Interface};
 use com_read_operands::{Fault, ScenarioError, end, fault, first, number};
 use com_text::Word;
 use std::alloc::Global;
-use std::mem;
 
 /// The word that begins a line outside of sections.
 #[derive(Clone, Copy, Debug, PartialEq, Eq)]
@@ -98,8 +96,8 @@ fn interface_line(
     let iid = free_guid(st.iids.as_slice(), line, 2)?;
     end(line, 3)?;
     let own = ByteList::from_slice(alloc, name.bytes)?;
-    push(alloc, &mut st.names.interfaces, own)?;
-    push(alloc, &mut st.iids, iid)?;
+    st.names.interfaces.push(own)?;
+    st.iids.push(iid)?;
     st.interface = Interface {
         name: ByteList::from_slice(alloc, name.bytes)?,
         iid,
@@ -126,8 +124,8 @@ fn class_line(
     let model = model(line, 3)?;
     let interfaces = listed(alloc, st.names.interfaces.as_slice(), line)?;
     let own = ByteList::from_slice(alloc, name.bytes)?;
-    push(alloc, &mut st.names.classes, own)?;
-    push(alloc, &mut st.clsids, clsid)?;
+    st.names.classes.push(own)?;
+    st.clsids.push(clsid)?;
     st.class = Class {
         name: ByteList::from_slice(alloc, name.bytes)?,
         clsid,
@@ -158,8 +156,8 @@ fn native_line(
     let native = native(model, line, 4)?;
     end(line, 5)?;
     let own = ByteList::from_slice(alloc, name.bytes)?;
-    push(alloc, &mut st.names.classes, own)?;
-    push(alloc, &mut st.clsids, clsid)?;
+    st.names.classes.push(own)?;
+    st.clsids.push(clsid)?;
     let class = Class {
         name: ByteList::from_slice(alloc, name.bytes)?,
         clsid,
@@ -168,7 +166,7 @@ fn native_line(
         interfaces: natives(alloc, native)?,
         bodies: Rows::new(alloc),
     };
-    push(alloc, &mut st.classes, class)?;
+    st.classes.push(class)?;
     Ok(())
 }
 
@@ -187,7 +185,7 @@ fn filter_line(
     let name = filter_name(st.names.filters.as_slice(), line)?;
     end(line, 2)?;
     let own = ByteList::from_slice(alloc, name.bytes)?;
-    push(alloc, &mut st.names.filters, own)?;
+    st.names.filters.push(own)?;
     st.rules = Rows::new(alloc);
     st.section = Section::Filter;
     Ok(())
@@ -216,9 +214,7 @@ fn picks_line(alloc: Global, st: &mut State, line: &[Word]) -> Result<(), Scenar
     ensures { Gives (λ u. st.new) result (picks_line st.old line.now) }
 {
     let more = picks(alloc, line)?;
-    let mut all = mem::replace(&mut st.picks, Rows::new(alloc)).into_vec();
-    all.extend_from_slice(&more)?;
-    st.picks = Rows::from_vec(all);
+    st.picks.push_all(&more)?;
     Ok(())
 }
 

@@ -53,7 +53,7 @@ fn version(
 ) -> Result<u8, ScenarioError>
     ensures { Gives (λ v. v) result (version_at pending line.now one.now two.now) }
 {
-    if let Sort::Remark(_) = two.sort {
+    if let Sort::Remark(_) = two.sort() {
         return Err(lone(pending, one));
     }
     if let Some(earlier) = pending {
@@ -79,7 +79,7 @@ pub(crate) fn header_line(st: &mut State, line: &[Word]) -> Result<(), ScenarioE
 {
     match line {
         [] => Ok(()),
-        [only] => match only.sort {
+        [only] => match only.sort() {
             Sort::Remark(column) => {
                 if st.pending.is_none() {
                     st.pending = Some(Fault {

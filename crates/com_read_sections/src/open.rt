@@ -12,7 +12,7 @@ use crate::methods::method;
 use crate::programs::program_line;
 use crate::rules::{rule, rule_word_of};
 use crate::state::{Code, Section, State};
-use crate::tables::{blank_class, blank_interface, push};
+use crate::tables::{blank_class, blank_interface};
 use com_base::Rows;
 use com_classes::{MethodBody, ThreadingModel};
 use com_filter::Filter;
@@ -36,7 +36,7 @@ pub(crate) fn close_interface(alloc: Global, st: &mut State) -> Result<(), Alloc
     ensures { OnOk result (st.new ≡ interface_closed st.old) }
 {
     let interface = mem::replace(&mut st.interface, blank_interface(alloc));
-    push(alloc, &mut st.names.tables, interface)?;
+    st.names.tables.push(interface)?;
     st.section = Section::Top;
     Ok(())
 }
@@ -60,7 +60,7 @@ fn method_line(
         st.interface.methods.as_slice(),
         line,
     )?;
-    push(alloc, &mut st.interface.methods, method)?;
+    st.interface.methods.push(method)?;
     Ok(())
 }
 
@@ -119,7 +119,7 @@ fn inner_class(alloc: Global, st: &mut State, line: &[Word]) -> Result<(), Scena
     }
     end(line, 1)?;
     let class = mem::replace(&mut st.class, blank_class(alloc));
-    push(alloc, &mut st.classes, class)?;
+    st.classes.push(class)?;
     st.section = Section::Top;
     Ok(())
 }
@@ -160,7 +160,7 @@ fn inner_body(alloc: Global, st: &mut State, line: &[Word]) -> Result<(), Scenar
         method: st.head.method,
         body,
     };
-    push(alloc, &mut st.class.bodies, body)?;
+    st.class.bodies.push(body)?;
     st.section = Section::Class;
     Ok(())
 }
@@ -185,7 +185,7 @@ fn inner_thread(alloc: Global, st: &mut State, line: &[Word]) -> Result<(), Scen
     let code = mem::replace(&mut st.code, Code::new(alloc));
     let body = code.checked(SCRIPT_LIMIT)?;
     end(line, 1)?;
-    push(alloc, &mut st.threads, body)?;
+    st.threads.push(body)?;
     st.section = Section::Top;
     Ok(())
 }
@@ -199,7 +199,7 @@ fn inner_filter(alloc: Global, st: &mut State, line: &[Word]) -> Result<(), Scen
     if word.bytes == b"end".as_slice() {
         end(line, 1)?;
         let rules = mem::replace(&mut st.rules, Rows::new(alloc));
-        push(alloc, &mut st.filters, Filter::new(rules.into_vec()))?;
+        st.filters.push(Filter::new(rules.into_vec()))?;
         st.section = Section::Top;
         return Ok(());
     }
@@ -210,14 +210,14 @@ fn inner_filter(alloc: Global, st: &mut State, line: &[Word]) -> Result<(), Scen
                 return Err(fault(Fault::LIMIT, word));
             }
             let rule = rule(keyword, line)?;
-            push(alloc, &mut st.rules, rule)?;
+            st.rules.push(rule)?;
             Ok(())
         }
     }
 }
 
-/// What a line makes of what was read so far, or the first fault of its words. A line without words is passed over.
-/// After an error what was read is not to be used.
+/// What a line makes of what was read so far, or the first fault of its words. A line without words is passed
+/// over. After an error what was read is not to be used.
 #[tactic(auto, unfolding(crate::specs::Opened::step))]
 pub fn step(alloc: Global, st: &mut State, line: &[Word]) -> Result<(), ScenarioError>
     ensures { Gives (λ u. st.new) result (step st.old line.now) }

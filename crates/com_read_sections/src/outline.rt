@@ -40,8 +40,8 @@ pub struct Outline {
     pub picks: Rows<u32>,
 }
 
-/// What was read at the text's end, which stands in a line at a column. Above a header it is fault 1 at the text's
-/// first place, and inside of a section other than an interface fault 11 at the end.
+/// What was read at the text's end, which stands in a line at a column. Above a header it is fault 1 at the
+/// text's first place, and inside of a section other than an interface fault 11 at the end.
 #[tactic(auto, unfolding(crate::specs::Outlines::finish))]
 pub fn finish(
     alloc: Global,

@@ -1,23 +1,12 @@
 //! Small lists and blank values.
 
-ghost use Rattle.std.specs.Prelude.{◌≡◌, ◌++◌, ◌∷◌, [], OnOk};
+ghost use Rattle.std.specs.Prelude.{◌≡◌};
 ghost use Rattle.com_read_sections.specs.Tables.{guid_eq, has_guid, blank_interface, blank_class};
 
 use com_base::{ByteList, Guid, Rows};
 use com_body::Native;
 use com_classes::{Class, Interface, ThreadingModel};
-use std::alloc::{AllocError, Global};
-use std::mem;
-
-/// Appends a row. After want of memory the list is empty.
-pub(crate) fn push<T: Drop>(alloc: Global, rows: &mut Rows<T>, row: T) -> Result<(), AllocError>
-    ensures { OnOk result (rows.new ≡ rows.old ++ row ∷ []) }
-{
-    let mut list = mem::replace(rows, Rows::new(alloc)).into_vec();
-    list.push(row)?;
-    *rows = Rows::from_vec(list);
-    Ok(())
-}
+use std::alloc::Global;
 
 fn same_guid(left: &Guid, right: &Guid) -> bool
     ensures { result ≡ guid_eq left.now right.now }

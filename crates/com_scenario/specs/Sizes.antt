@@ -22,7 +22,8 @@ abbrev pub second_word : List WordAt → Option SecondVersion
 second_word [] = None
 second_word (w ∷ ws) =
     if is_remark w.sort then None
-    else if bytes_eq w.bytes (codes "2") then Some (record { line = w.line; column = w.column; ends = is_over ws })
+    else if bytes_eq w.bytes (codes "2")
+    then Some (record { line = w.line; column = w.column; ends = is_over ws })
     else None
 
 -- Where a line's first words are `scenario` and `2`, as they stand; nothing for a line without words.

@@ -83,7 +83,7 @@ fn says_version_2(line: &[Word]) -> Option<Option<SecondVersion>>
     match line {
         [] => None,
         [word, rest @ ..] => {
-            if is_remark(word.sort) {
+            if is_remark(word.sort()) {
                 return None;
             }
             if word.bytes != b"scenario".as_slice() {
@@ -101,7 +101,7 @@ fn second_word(line: &[Word]) -> Option<SecondVersion>
     match line {
         [] => None,
         [word, rest @ ..] => {
-            if is_remark(word.sort) || word.bytes != b"2".as_slice() {
+            if is_remark(word.sort()) || word.bytes != b"2".as_slice() {
                 return None;
             }
             Some(SecondVersion {
@@ -118,7 +118,7 @@ fn is_over(line: &[Word]) -> bool
 {
     match line {
         [] => true,
-        [first, ..] => is_remark(first.sort),
+        [first, ..] => is_remark(first.sort()),
     }
 }
 

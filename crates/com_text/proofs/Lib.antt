@@ -1,2 +1,4 @@
+pub mod Strays
 pub mod Scans
+pub mod Keeps
 pub mod Cuts

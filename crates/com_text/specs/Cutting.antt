@@ -4,7 +4,9 @@ use Rattle.com_text.specs.declared.token.Token.{Token}
 
 -- a space, or a byte 13 directly before a line end
 abbrev pub IsBlank : List ℕ → ℕ → Type 0
-IsBlank text k = (slice_index text k ≡ 32) ⊎ ((slice_index text k ≡ 9) ⊎ ((slice_index text k ≡ 13) × (slice_index text (k + 1) ≡ 10)))
+IsBlank text k =
+    (slice_index text k ≡ 32)
+    ⊎ ((slice_index text k ≡ 9) ⊎ ((slice_index text k ≡ 13) × (slice_index text (k + 1) ≡ 10)))
 
 -- behind a `;` that stands at a place or after it, in the same line, or that `;` itself
 pub record InComment (text : List ℕ) (from k : ℕ) : Type 0 where
@@ -22,4 +24,6 @@ IsGap text from to = (k : ℕ) → from ≤ k → k < to → IsBlank text k ⊎ 
 -- stands between them and behind the last is spaces and comments.
 abbrev pub IsCut : List ℕ → ℕ → List Token → Type 0
 IsCut text from [] = IsGap text from (length text)
-IsCut text from (t ∷ ts) = IsGap text from t.start × (from ≤ t.start) × (t.start < t.end) × (t.end ≤ length text) × IsCut text t.end ts
+IsCut text from (t ∷ ts) =
+    IsGap text from t.start × (from ≤ t.start) × (t.start < t.end) × (t.end ≤ length text)
+    × IsCut text t.end ts

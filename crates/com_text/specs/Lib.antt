@@ -2,3 +2,5 @@ pub mod Words
 pub mod Scanning
 pub mod Tokens
 pub mod Cutting
+pub mod Sorts
+pub mod Kept

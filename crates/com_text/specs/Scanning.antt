@@ -39,7 +39,17 @@ pub record Scanning : Type 0 where
 
 -- what the program's scanner stands for
 abbrev pub seen : List ℕ → ℕ → Scanner → Scanning
-seen text at s = record { line = s.line; column = s.column; at = at; first = s.first; start = s.from; stands = s.within; stray = s.stray; bytes = slice_range text s.from at }
+seen text at s =
+    record {
+      line = s.line;
+      column = s.column;
+      at = at;
+      first = s.first;
+      start = s.from;
+      stands = s.within;
+      stray = s.stray;
+      bytes = slice_range text s.from at;
+    }
 
 -- what a word or a comment becomes by a byte that ends no line
 abbrev pub turn : Within → Class → List ℕ → Within
@@ -63,8 +73,28 @@ strayed None classes.Bad column = Some column
 strayed None _ column = None
 
 abbrev pub moved : Scanning → ℕ → Class → Within → Scanning
-moved s b c within.Nothing = record { line = s.line; column = s.column + 1; at = s.at + 1; first = s.column + 1; start = s.at + 1; stands = within.Nothing; stray = None; bytes = [] }
-moved s b c w = record { line = s.line; column = s.column + 1; at = s.at + 1; first = s.first; start = s.start; stands = w; stray = strayed s.stray c s.column; bytes = s.bytes ++ b ∷ [] }
+moved s b c within.Nothing =
+    record {
+      line = s.line;
+      column = s.column + 1;
+      at = s.at + 1;
+      first = s.column + 1;
+      start = s.at + 1;
+      stands = within.Nothing;
+      stray = None;
+      bytes = [];
+    }
+moved s b c w =
+    record {
+      line = s.line;
+      column = s.column + 1;
+      at = s.at + 1;
+      first = s.first;
+      start = s.start;
+      stands = w;
+      stray = strayed s.stray c s.column;
+      bytes = s.bytes ++ b ∷ [];
+    }
 
 -- behind a byte that ends no line
 abbrev pub after : Scanning → ℕ → Class → Scanning
@@ -78,7 +108,16 @@ sorted (Some k) sort = sorts.Stray k
 
 -- the word so far, with so many bytes more
 abbrev pub word_of : Scanning → Sort → List ℕ → ℕ → WordAt
-word_of s sort bytes more = record { line = s.line; column = s.first; after = s.column + more; start = s.start; end = s.at + more; sort = sort; bytes = bytes }
+word_of s sort bytes more =
+    record {
+      line = s.line;
+      column = s.first;
+      after = s.column + more;
+      start = s.start;
+      end = s.at + more;
+      sort = sort;
+      bytes = bytes;
+    }
 
 abbrev pub remark : Scanning → Option ℕ → List WordAt
 remark s None = []
@@ -112,19 +151,32 @@ gave s b c = gave_by s b s.stands c
 
 -- where a line begins
 abbrev pub at_line : ℕ → ℕ → Scanning
-at_line line at = record { line = line; column = 1; at = at; first = 1; start = at; stands = within.Nothing; stray = None; bytes = [] }
+at_line line at =
+    record {
+      line = line;
+      column = 1;
+      at = at;
+      first = 1;
+      start = at;
+      stands = within.Nothing;
+      stray = None;
+      bytes = [];
+    }
 
 -- a line that ends here, with the words that were given
 abbrev pub ended : Scanning → List WordAt → Bool → LineAt
-ended s words last = record { words = words ++ closing s; line = s.line; column = s.column; at = s.at; last = last }
+ended s words last =
+    record { words = words ++ closing s; line = s.line; column = s.column; at = s.at; last = last }
 
 -- the lines that are left, the first of which has given some words already; each text has one more line than
 -- line ends
 abbrev pub lines_from : Scanning → List WordAt → List ℕ → List LineAt
 lines_from s words [] = ended s words true ∷ []
 lines_from s words (b ∷ bs) =
-    if ends_line (class_of b (slice_index bs 0)) then ended s words false ∷ lines_from (at_line (s.line + 1) (s.at + 1)) [] bs
-    else lines_from (after s b (class_of b (slice_index bs 0))) (words ++ gave s b (class_of b (slice_index bs 0))) bs
+    if ends_line (class_of b (slice_index bs 0))
+    then ended s words false ∷ lines_from (at_line (s.line + 1) (s.at + 1)) [] bs
+    else lines_from (after s b (class_of b (slice_index bs 0)))
+    (words ++ gave s b (class_of b (slice_index bs 0))) bs
 
 -- the lines of a text
 unfoldable pub lines_of : List ℕ → List LineAt
@@ -132,8 +184,10 @@ lines_of text = lines_from (at_line 1 0) [] text
 
 -- a line that the program read
 abbrev pub line_of : List WordAt → ℕ → LineEnd → LineAt
-line_of words line end = record { words = words; line = line; column = end.column; at = end.at; last = end.last }
+line_of words line end =
+    record { words = words; line = line; column = end.column; at = end.at; last = end.last }
 
 -- the lines behind it
 abbrev pub more_lines : List ℕ → ℕ → LineEnd → List LineAt
-more_lines text line end = if end.last then [] else lines_from (at_line (line + 1) (end.at + 1)) [] (drop (end.at + 1) text)
+more_lines text line end =
+    if end.last then [] else lines_from (at_line (line + 1) (end.at + 1)) [] (drop (end.at + 1) text)

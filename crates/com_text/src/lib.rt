@@ -8,13 +8,14 @@
 #![tactic(auto)]
 
 mod scan;
+mod stray;
 mod token;
 mod word;
 
 pub use scan::{Class, LineEnd, Scanner, Within, line_at};
 pub use std::alloc::AllocError as Memory;
 pub use token::{TEXT_LIMIT, TextError, Token, TokenSort, tokens};
-pub use word::{Sort, Word};
+pub use word::{Kind, Sort, Word};
 
 #[cfg(test)]
 mod tests;

@@ -1,11 +1,14 @@
 //! Cutting a text into its lines of words, byte by byte.
 
-ghost use Rattle.std.specs.Prelude.{◌≡◌, ◌<◌, ◌≤◌, ◌+◌, ◌-◌, ◌^◌, ◌++◌, ◌∷◌, [], false, OnOk, IfOk, length};
-ghost use Rattle.std.specs.Prelude.{slice_index, slice_range, drop};
-ghost use Rattle.com_text.specs.Scanning.{class_of, seen, closing, gave, after, sorted, literal, turn};
+ghost use Rattle.std.specs.Prelude.{◌≡◌, ◌≢◌, ◌<◌, ◌≤◌, ◌+◌, ◌-◌, ◌^◌, ◌++◌, ◌∷◌, [], false};
+ghost use Rattle.std.specs.Prelude.{OnOk, IfOk, length, slice_index, slice_range, drop};
+ghost use Rattle.com_text.specs.declared.scan.Class.TheVariants.{LineEnd as EndsLine};
+ghost use Rattle.com_text.specs.Kept.{IsKept, kind_of, word_to};
+ghost use Rattle.com_text.specs.Scanning.{class_of, seen, closing, gave, after, turn};
 ghost use Rattle.com_text.specs.Scanning.{strayed, lines_from, at_line, more_lines, line_of};
 
-use crate::word::{Sort, Word};
+use crate::stray::byte_at;
+use crate::word::{Kind, Word};
 use std::alloc::AllocError;
 
 /// What a byte is to the scanner.
@@ -136,12 +139,14 @@ fn strayed(stray: Option<u32>, class: Class, column: u32) -> Option<u32>
 
 /// The scanner behind a byte that ends no line.
 fn after(s: &Scanner, text: &[u8], at: usize, class: Class) -> Scanner
-    requires from { s.now.from ≤ at }
     requires at { at < length text.now }
     requires column { s.now.column < 2 ^ 32 - 1 }
+    requires kept { IsKept text.now at s.now }
+    requires class { class ≡ class_of (slice_index text.now at) (slice_index text.now (at + 1)) }
+    requires inner { class ≢ EndsLine }
     ensures seen { seen text.now (at + 1) result
         ≡ after (seen text.now at s.now) (slice_index text.now at) class }
-    ensures from { result.from ≤ at + 1 }
+    ensures kept { IsKept text.now (at + 1) result }
     ensures line { result.line ≡ s.now.line }
     ensures column { result.column ≡ s.now.column + 1 }
 {
@@ -165,13 +170,30 @@ fn after(s: &Scanner, text: &[u8], at: usize, class: Class) -> Scanner
     }
 }
 
-/// A word's sort, by whether it has a byte outside the characters.
-fn sorted(stray: Option<u32>, sort: Sort) -> Sort
-    ensures { result ≡ sorted stray sort }
+/// A word's kind, by whether it has a byte outside the characters.
+fn kind_of(stray: Option<u32>, kind: Kind) -> Kind
+    ensures { result ≡ kind_of stray kind }
 {
     match stray {
-        None => sort,
-        Some(column) => Sort::Stray(column),
+        None => kind,
+        Some(_) => Kind::Stray,
+    }
+}
+
+/// The word of a kind from where the scanner's began up to an index.
+fn word_to<'a>(text: &'a [u8], s: &Scanner, end: usize, kind: Kind) -> Word<'a>
+    requires size { length text.now < 2 ^ 32 - 2 }
+    requires from { s.now.from ≤ end }
+    requires end { end ≤ length text.now }
+    requires column { s.now.first + (end - s.now.from) < 2 ^ 32 }
+    ensures { result ≡ word_to text.now s.now end kind }
+{
+    Word {
+        line: s.line,
+        column: s.first,
+        start: s.from as u32,
+        kind,
+        bytes: &text[s.from..end],
     }
 }
 
@@ -182,55 +204,22 @@ fn close<'a>(
     at: usize,
     out: &mut Vec<Word<'a>>,
 ) -> Result<(), AllocError>
-    requires from { s.now.from ≤ at }
+    requires size { length text.now < 2 ^ 32 - 2 }
     requires at { at ≤ length text.now }
+    requires column { s.now.column < 2 ^ 32 }
+    requires kept { IsKept text.now at s.now }
     ensures { OnOk result (out.new.items ≡ out.old.items ++ closing (seen text.now at s.now)) }
 {
-    let sort = match s.within {
+    let kind = match s.within {
         Within::Nothing => return Ok(()),
-        Within::Plain => sorted(s.stray, Sort::Plain),
-        Within::Text | Within::Bytes => Sort::Unclosed,
+        Within::Plain => kind_of(s.stray, Kind::Plain),
+        Within::Text | Within::Bytes => Kind::Unclosed,
         Within::Remark => match s.stray {
             None => return Ok(()),
-            Some(column) => Sort::Remark(column),
+            Some(_) => Kind::Remark,
         },
     };
-    out.push(Word {
-        line: s.line,
-        column: s.first,
-        after: s.column,
-        start: s.from,
-        end: at,
-        sort,
-        bytes: &text[s.from..at],
-    })?;
-    Ok(())
-}
-
-/// A literal, with the mark that closes it.
-#[tactic(auto, using(crate::proofs::Scans::range_more))]
-fn literal<'a>(
-    s: &Scanner,
-    text: &'a [u8],
-    at: usize,
-    sort: Sort,
-    out: &mut Vec<Word<'a>>,
-) -> Result<(), AllocError>
-    requires from { s.now.from ≤ at }
-    requires at { at < length text.now }
-    requires column { s.now.column < 2 ^ 32 - 1 }
-    ensures { OnOk result (out.new.items
-        ≡ out.old.items ++ literal (seen text.now at s.now) (slice_index text.now at) sort ∷ []) }
-{
-    out.push(Word {
-        line: s.line,
-        column: s.first,
-        after: s.column + 1,
-        start: s.from,
-        end: at + 1,
-        sort: sorted(s.stray, sort),
-        bytes: &text[s.from..at + 1],
-    })?;
+    out.push(word_to(text, s, at, kind))?;
     Ok(())
 }
 
@@ -242,9 +231,12 @@ fn give<'a>(
     class: Class,
     out: &mut Vec<Word<'a>>,
 ) -> Result<(), AllocError>
-    requires from { s.now.from ≤ at }
+    requires size { length text.now < 2 ^ 32 - 2 }
     requires at { at < length text.now }
     requires column { s.now.column < 2 ^ 32 - 1 }
+    requires kept { IsKept text.now at s.now }
+    requires class { class ≡ class_of (slice_index text.now at) (slice_index text.now (at + 1)) }
+    requires inner { class ≢ EndsLine }
     ensures { OnOk result (out.new.items
         ≡ out.old.items ++ gave (seen text.now at s.now) (slice_index text.now at) class) }
 {
@@ -255,8 +247,8 @@ fn give<'a>(
             }
         }
         Class::Quote => match s.within {
-            Within::Text => literal(s, text, at, Sort::Text, out)?,
-            Within::Bytes => literal(s, text, at, Sort::Bytes, out)?,
+            Within::Text => out.push(word_to(text, s, at + 1, kind_of(s.stray, Kind::Text)))?,
+            Within::Bytes => out.push(word_to(text, s, at + 1, kind_of(s.stray, Kind::Bytes)))?,
             _ => {}
         },
         _ => {}
@@ -290,8 +282,7 @@ pub fn line_at<'a>(
         stray: None,
     };
     for i in at..text.len() {
-        let next = if i + 1 < text.len() { text[i + 1] } else { 0 };
-        let class = class_of(text[i], next);
+        let class = class_of(text[i], byte_at(text, i + 1));
         if class == Class::LineEnd {
             close(&s, text, i, words)?;
             return Ok(LineEnd {

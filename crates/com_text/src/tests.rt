@@ -1,5 +1,6 @@
 use crate::*;
 use std::alloc::Global;
+use std::mem::size_of;
 use std::test::*;
 
 /// How many tokens a text has, or the fault's place behind 1000.
@@ -57,10 +58,15 @@ fn a_line_has_its_words_with_their_columns(rt: HostRuntime) -> Result<(), Fail> 
     assert_eq!(rt; words.len(), 4);
     assert_eq!(rt; words[0].bytes, b"two\"x\"".as_slice());
     assert_eq!(rt; words[0].column, 2);
-    assert_eq!(rt; words[0].after, 8);
-    assert_eq!(rt; words[1].sort, Sort::Plain);
-    assert_eq!(rt; words[2].sort, Sort::Stray(15));
-    assert_eq!(rt; words[3].sort, Sort::Remark(19));
+    assert_eq!(rt; words[0].after(), 8);
+    assert_eq!(rt; words[1].sort(), Sort::Plain);
+    assert_eq!(rt; words[2].sort(), Sort::Stray(15));
+    assert_eq!(rt; words[3].sort(), Sort::Remark(19));
     assert_eq!(rt; words[3].line, 2);
     Ok(())
+}
+
+#[test]
+fn a_word_has_32_bytes(rt: HostRuntime) {
+    assert_eq!(rt; size_of::<Word>(), 32);
 }

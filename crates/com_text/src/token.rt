@@ -1,13 +1,15 @@
 //! The tokens of a text.
 
-ghost use Rattle.std.specs.Prelude.{◌≡◌, ◌<◌, ◌^◌, ◌++◌, ◌∷◌, [], OnOk, IfOk, IfErr, map};
+ghost use Rattle.std.specs.Prelude.{◌≡◌, ◌<◌, ◌^◌, ◌++◌, ◌∷◌, [], OnOk, IfOk, IfErr, map, List, ℕ};
 ghost use Rattle.com_text.specs.Tokens.{first_stray, token_sort, token_of, end_token, tokens_of, Refuses};
 ghost use Rattle.com_text.specs.Scanning.{lines_of};
+ghost use Rattle.com_text.specs.Sorts.{sort_of};
 ghost use Rattle.com_text.specs.Cutting.{IsCut};
 ghost use Rattle.com_text.specs.declared.token.TextError.TheVariants.{Memory};
 
-use crate::scan::{Class, LineEnd, class_of, line_at};
-use crate::word::{Sort, Word};
+use crate::scan::{LineEnd, line_at};
+use crate::stray::first_stray;
+use crate::word::{Kind, Word};
 use std::alloc::{AllocError, AllocFailed, Global};
 
 /// What a token is.
@@ -64,37 +66,27 @@ impl<T: Drop> From<AllocFailed<T>> for TextError {
 /// A text has fewer bytes than this, so that its lines and columns are numbers of 32 bits.
 pub const TEXT_LIMIT: usize = 0xffff_0000;
 
-/// The index of the first byte outside the characters.
-fn first_stray(text: &[u8]) -> Option<usize>
-    ensures { result ≡ first_stray text.now }
+/// A word's sort as a token's.
+fn token_sort(kind: Kind) -> TokenSort
+    ensures { (column : ℕ) → (bytes : List ℕ) → result ≡ token_sort (sort_of kind column bytes) }
 {
-    for i in 0..text.len() {
-        let next = if i + 1 < text.len() { text[i + 1] } else { 0 };
-        if class_of(text[i], next) == Class::Bad {
-            return Some(i);
-        }
-    }
-    None
-}
-
-fn token_sort(sort: Sort) -> TokenSort
-    ensures { result ≡ token_sort sort }
-{
-    match sort {
-        Sort::Text => TokenSort::Text,
-        Sort::Bytes => TokenSort::Bytes,
-        Sort::Unclosed => TokenSort::Unclosed,
+    match kind {
+        Kind::Text => TokenSort::Text,
+        Kind::Bytes => TokenSort::Bytes,
+        Kind::Unclosed => TokenSort::Unclosed,
         _ => TokenSort::Word,
     }
 }
 
+/// A word's token.
 fn token_of(word: &Word) -> Token
     ensures { result ≡ token_of word.now }
 {
+    let start = word.start as usize;
     Token {
-        start: word.start,
-        end: word.end,
-        sort: token_sort(word.sort),
+        start,
+        end: start + word.bytes.len(),
+        sort: token_sort(word.kind),
     }
 }
 
