@@ -65,10 +65,28 @@ advised_of (Some r) = r.advised
 -- ---- calls
 
 abbrev pub no_call : Call
-no_call = record { call = 0; object = 0; iface = 0; method = 0; number = pos 0; last = 0; cookies = []; left = false }
+no_call = record {
+  call = 0;
+  object = 0;
+  iface = 0;
+  method = 0;
+  number = pos 0;
+  last = 0;
+  cookies = [];
+  left = false;
+}
 
 abbrev pub called : (call : ℕ) → (object : Option ℕ) → (iface method : ℕ) → Call
-called c o i m = record { call = c; object = number_or_zero o; iface = i; method = m; number = pos 0; last = 0; cookies = []; left = false }
+called c o i m = record {
+  call = c;
+  object = number_or_zero o;
+  iface = i;
+  method = m;
+  number = pos 0;
+  last = 0;
+  cookies = [];
+  left = false;
+}
 
 -- A call on an object of a source, by its own interface.
 abbrev pub on_source : List Source → Call → Bool
@@ -120,7 +138,8 @@ ended r =
 abbrev pub next_of : List Source → Option Call → Option ℕ
 next_of objects None = None
 next_of objects (Some r) =
-    if is_event objects r then next_in (last_in r.cookies) r.last (cookies_of (row_at objects r.object)) else None
+    if is_event objects r then next_in (last_in r.cookies) r.last (cookies_of (row_at objects r.object))
+    else None
 
 abbrev pub reached_by : (call : ℕ) → Option ℕ → List Call → List Call
 reached_by c None calls = calls
@@ -139,12 +158,18 @@ changed_by objects (Some r) v =
 -- ---- entries
 
 abbrev pub makes_in : List (Option ℕ) → Asked → Book → Book
-makes_in sources class b = record { objects = b.objects ++ (made sources class ∷ []); calls = b.calls; lanes = b.lanes }
+makes_in sources class b = record {
+  objects = b.objects ++ (made sources class ∷ []);
+  calls = b.calls;
+  lanes = b.lanes;
+}
 
 abbrev pub issues_in : (lane call : ℕ) → (object : Option ℕ) → (iface method : ℕ) → Book → Book
 issues_in l c o i m b = record {
   objects = b.objects;
-  calls = reached_by (top_in (stack_in b.lanes l)) (next_of b.objects (row_at b.calls (top_in (stack_in b.lanes l)))) b.calls
+  calls =
+      reached_by (top_in (stack_in b.lanes l)) (next_of b.objects
+      (row_at b.calls (top_in (stack_in b.lanes l)))) b.calls
       ++ (called c o i m ∷ []);
   lanes = opened_in l 0 b.lanes;
 }
@@ -199,7 +224,8 @@ delivery r = record { call = r.call; object = r.object; cookies = r.cookies }
 
 abbrev pub events : List Source → List Call → List Delivery
 events objects [] = []
-events objects (r ∷ rs) = if is_event objects r && r.left then delivery r ∷ events objects rs else events objects rs
+events objects (r ∷ rs) =
+    if is_event objects r && r.left then delivery r ∷ events objects rs else events objects rs
 
 abbrev pub deliveries_in : Book → List Delivery
 deliveries_in b = events b.objects b.calls

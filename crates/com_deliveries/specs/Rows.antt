@@ -11,7 +11,8 @@ row_at rows n = if n == 0 then None else slice_get rows (n - 1)
 -- The table in which the row with this number is changed, where there is one.
 abbrev pub with_row : {X : Type 0} → (X → X) → (none : X) → ℕ → List X → List X
 with_row f none n rows =
-    if n == 0 || nat_lt (length rows) n then rows else slice_set rows (n - 1) (f (slice_index_or rows (n - 1) none))
+    if n == 0 || nat_lt (length rows) n then rows
+    else slice_set rows (n - 1) (f (slice_index_or rows (n - 1) none))
 
 -- ---- cookies
 

@@ -6,7 +6,8 @@ use Rattle.com_points.specs.Sources.{IsSource}
 
 -- The table has for each class the number of its interface, exactly where it is a source.
 unfoldable pub AreSources : Scenario → List (Option ℕ) → Type 0
-AreSources s table = (k i : ℕ) → (source_at table k ≡ Some i → IsSource s k i) × (IsSource s k i → source_at table k ≡ Some i)
+AreSources s table =
+    (k i : ℕ) → (source_at table k ≡ Some i → IsSource s k i) × (IsSource s k i → source_at table k ≡ Some i)
 
 -- The answer for a class: the number of its interface, exactly where it is a source.
 abbrev pub Says : Scenario → Option ℕ → (class : ℕ) → Type 0

@@ -37,8 +37,8 @@ pub struct Delivery {
 /// How many classes a scenario may have.
 const CLASS_LIMIT: usize = 64;
 
-/// For each class of a formed scenario, by its number from 1 on, the number of its interface if it is a source.
-/// The only error is want of memory.
+/// For each class of a formed scenario, by its number from 1 on, the number of its interface if it is a
+/// source. The only error is want of memory.
 #[tactic(auto, using(crate::proofs::Listing::all_sources, crate::proofs::Listing::upto_none))]
 pub fn source_table(alloc: Global, scenario: &Scenario) -> Result<Vec<Option<u16>>, Memory>
     ensures { IfOk result (λ table. Formed scenario.now → AreSources scenario.now table.items) }
@@ -63,9 +63,9 @@ fn add_class(table: &mut Vec<Option<u16>>, scenario: &Scenario) -> Result<(), Me
     Ok(())
 }
 
-/// The events of a legal history of a formed scenario with fewer than 2^63 entries, one for each call of `fire`
-/// on a source that has its Leave, by call number: the call, its object, and the cookies of the sinks to which
-/// its Outs went, in their order.
+/// The events of a legal history of a formed scenario with fewer than 2^63 entries, one for each call of
+/// `fire` on a source that has its Leave, by call number: the call, its object, and the cookies of the sinks
+/// to which its Outs went, in their order.
 ///
 /// The entries are in the order of their making. The only error is want of memory.
 #[tactic(auto, using(crate::proofs::Listing::delivered_of))]

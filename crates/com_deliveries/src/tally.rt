@@ -235,7 +235,8 @@ fn new_call(alloc: Global, call: u32, object: Option<u32>, iface: u16, method: u
 
 /// The row of a call.
 fn row_of(calls: &[Call], call: u32) -> Option<&Call>
-    ensures { MatchOption result (row_at calls.now call ≡ None) (λ row. row_at calls.now call ≡ Some row.now) }
+    ensures { MatchOption result (row_at calls.now call ≡ None)
+        (λ row. row_at calls.now call ≡ Some row.now) }
 {
     if call == 0 {
         return None;
@@ -394,7 +395,8 @@ fn events_of(alloc: Global, objects: &[Source], calls: &[Call]) -> Result<Vec<De
 
 /// Takes a call up, if it is an event whose body left.
 fn add(deliveries: &mut Vec<Delivery>, objects: &[Source], call: &Call) -> Result<(), Memory>
-    ensures { OnOk result (deliveries.new.items ≡ deliveries.old.items ++ events objects.now (call.now ∷ [])) }
+    ensures { OnOk result (deliveries.new.items ≡ deliveries.old.items
+        ++ events objects.now (call.now ∷ [])) }
 {
     if !is_event(objects, call) || !call.left {
         return Ok(());

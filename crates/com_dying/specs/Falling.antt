@@ -46,7 +46,8 @@ abbrev pub StayBut : Scenario → State → (lane : ℕ) → Deed → Type 0
 StayBut s st l d = DieBut (dies_in s (after s st l d)) (finals d) st.fallen
 
 abbrev pub Picked : Scenario → State → (lane : ℕ) → Deed → List ℕ → Type 0
-Picked s st l d cs = Falls (dies_in s (after s st l d)) (objects_in (after s st l d)) st.fallen (falling s st l d cs)
+Picked s st l d cs =
+    Falls (dies_in s (after s st l d)) (objects_in (after s st l d)) st.fallen (falling s st l d cs)
 
 -- The list of the dying after an entry.
 abbrev pub fallen_by : Scenario → State → (lane : ℕ) → Deed → (candidates : List ℕ) → List ℕ

@@ -27,7 +27,8 @@ use Rattle.com_model.specs.Places.{Ground, ground, places, all_places, direct_pl
 
 -- The values of a call that is issued, as they are sent.
 abbrev pub out_values : Scenario → Books → (marshalled : Bool) → Option Action → List Value
-out_values s b m (Some (action.Call held i method args to)) = sent_values m b.live (parameters (method_at s.classes i method)) args
+out_values s b m (Some (action.Call held i method args to)) =
+    sent_values m b.live (parameters (method_at s.classes i method)) args
 out_values s b m _ = []
 
 -- The rows of an entry, in their order.
@@ -46,7 +47,8 @@ abbrev pub back_rows : ℕ → (by_leave : Bool) → Option ℕ → List Row
 back_rows a by_leave None = []
 back_rows a by_leave (Some p) = if by_leave then Unmarshals a p ∷ [] else Drops p ∷ []
 
-abbrev pub rows : Scenario → (act : Option Action) → (by_leave : ℕ → Bool) → Books → (apartment : ℕ) → Deed → List Row
+abbrev pub rows : Scenario → (act : Option Action) → (by_leave : ℕ → Bool) → Books → (apartment : ℕ) → Deed
+    → List Row
 rows s x left b a (deed.Made (Some o) w k (asked.Number i) hr) = Makes a o i ∷ []
 rows s x left b a (deed.Query (Some o) (asked.Number i) hr) = query_row a o i hr
 rows s x left b a (deed.Marshal (Some p) m (Some r) refs hr bytes) = Marshals a m r.object r.iface ∷ []
@@ -63,8 +65,10 @@ rows s x left b a _ = []
 
 -- An Out and a Leave keep which packets are theirs.
 abbrev pub kept : Books → Deed → Books → Books
-kept before (deed.Out c o i m r k bytes) after = record after { arguments = put c (made_since before after) after.arguments }
-kept before (deed.Leave c hr v bytes) after = record after { result = put c (first_of (made_since before after)) after.result }
+kept before (deed.Out c o i m r k bytes) after =
+    record after { arguments = put c (made_since before after) after.arguments }
+kept before (deed.Leave c hr v bytes) after =
+    record after { result = put c (first_of (made_since before after)) after.result }
 kept before _ after = after
 
 -- An object is connected from its making until the first of: a Disconnect of it, the end of its owner, a
@@ -79,7 +83,8 @@ live_after d named holders live o =
     && (not (is_number o (disconnects d)) && (not (is_number (named o) (ends_sta d)) && not (holders o == 0)))
 
 -- All rows but the last; then what is not connected is cut. The places are those after the entry.
-abbrev pub most : Scenario → Ground → Scene → (act : Option Action) → (by_leave : ℕ → Bool) → (apartment : ℕ) → Deed → Books → Books
+abbrev pub most : Scenario → Ground → Scene → (act : Option Action) → (by_leave : ℕ → Bool) → (apartment : ℕ)
+    → Deed → Books → Books
 most s g w x left a d b =
     given_back g.apartments (places s g w) (kept b d (entered_rows g.owns b (rows s x left b a d)))
 
@@ -90,7 +95,8 @@ abbrev pub books : Scenario → List Entry → Books
 books s [] = no_books
 books s (e ∷ h) =
     closed s (ground s (e ∷ h)) (scene s (e ∷ h)) e.deed
-    (most s (ground s (e ∷ h)) (scene s (e ∷ h)) (act s h e.lane) (λ c. is_leave (ending s h c)) (number_or_zero (running s h e.lane))
+    (most s (ground s (e ∷ h)) (scene s (e ∷ h)) (act s h e.lane) (λ c. is_leave (ending s h c))
+    (number_or_zero (running s h e.lane))
     e.deed (books s h))
 
 -- The holders of an object: its direct places and, as long as it is connected, its proxy places, packets and

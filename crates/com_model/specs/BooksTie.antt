@@ -19,5 +19,8 @@ abbrev pub with_calls : (ℕ → List ℕ) → (ℕ → Option ℕ) → Books �
 with_calls x y b = record b { arguments = x; result = y }
 
 pub record BooksTie : Type 0 where
-  pub read : (s : Scenario) (st : State) (b : Books) → BoundedBooks (length s.classes.interfaces) (objects_in st) (length st.issues) (next_sta_in st) b → books_in (record st { books = book_tables s st b }) ≡ b
-  pub calls : (x : ℕ → List ℕ) (y : ℕ → Option ℕ) (b : Books) (c : Change) → changed (with_calls x y b) c ≡ with_calls x y (changed b c)
+  pub read : (s : Scenario) (st : State) (b : Books)
+      → BoundedBooks (length s.classes.interfaces) (objects_in st) (length st.issues) (next_sta_in st) b
+      → books_in (record st { books = book_tables s st b }) ≡ b
+  pub calls : (x : ℕ → List ℕ) (y : ℕ → Option ℕ) (b : Books) (c : Change)
+      → changed (with_calls x y b) c ≡ with_calls x y (changed b c)

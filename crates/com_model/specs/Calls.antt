@@ -15,7 +15,8 @@ pub use Rattle.com_model.specs.declared.keeps.Admission.{Admission}
 pub use Rattle.com_model.specs.declared.keeps.Issue.{Issue}
 
 abbrev pub issues : ℕ → Deed → Option Issue
-issues l (deed.Out c o i m r k bytes) = Some (record { call = c; lane = l; object = o; iface = i; method = m; route = r; cause = k })
+issues l (deed.Out c o i m r k bytes) =
+    Some (record { call = c; lane = l; object = o; iface = i; method = m; route = r; cause = k })
 issues l _ = None
 
 abbrev pub admits : ℕ → Deed → Option Admission

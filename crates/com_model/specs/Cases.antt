@@ -24,9 +24,27 @@ abbrev pub direct_call : Scenario
 direct_call = record {
   version = 1;
   pool = 1;
-  classes = record { interfaces = built_in_interfaces; classes = (record { name = codes "Cnt"; clsid = record { data1 = 1544224961; data2 = 0; data3 = 16384; data4 = 128 ∷ 0 ∷ 0 ∷ 0 ∷ 0 ∷ 0 ∷ 0 ∷ 1 ∷ [] }; model = model.Both; native = native.Counter; interfaces = 1 ∷ []; bodies = [] }) ∷ [] };
+  classes = record {
+    interfaces = built_in_interfaces;
+    classes = (record {
+      name = codes "Cnt";
+      clsid = record {
+        data1 = 1544224961;
+        data2 = 0;
+        data3 = 16384;
+        data4 = 128 ∷ 0 ∷ 0 ∷ 0 ∷ 0 ∷ 0 ∷ 0 ∷ 1 ∷ [];
+      };
+      model = model.Both;
+      native = native.Counter;
+      interfaces = 1 ∷ [];
+      bodies = [];
+    }) ∷ [];
+  };
   filters = [];
-  threads = ((stmt.Init mode.Sta) ∷ (stmt.Create 0 (asked.Number 1) (asked.Number 1)) ∷ (stmt.Call 0 1 0 ((arg.Op (op.Literal (value.Int (pos 5)))) ∷ []) (destination.Register 1)) ∷ (stmt.Release (place.Slot 0)) ∷ stmt.Uninit ∷ []) ∷ [];
+  threads =
+      ((stmt.Init mode.Sta) ∷ (stmt.Create 0 (asked.Number 1) (asked.Number 1))
+      ∷ (stmt.Call 0 1 0 ((arg.Op (op.Literal (value.Int (pos 5)))) ∷ []) (destination.Register 1))
+      ∷ (stmt.Release (place.Slot 0)) ∷ stmt.Uninit ∷ []) ∷ [];
   picks = [];
 }
 
@@ -34,7 +52,12 @@ abbrev pub direct_call_1 : List Entry
 direct_call_1 = record { lane = 1; deed = deed.Init mode.Sta 3 (record { 0 = 0 }) } ∷ []
 
 abbrev pub direct_call_2 : List Entry
-direct_call_2 = record { lane = 1; deed = deed.Made (Some 1) (Some 3) (asked.Number 1) (asked.Number 1) (record { 0 = 0 }) } ∷ direct_call_1
+direct_call_2 =
+    record {
+      lane = 1;
+      deed = deed.Made (Some 1) (Some 3) (asked.Number 1) (asked.Number 1) (record { 0 = 0 });
+    }
+    ∷ direct_call_1
 
 abbrev pub direct_call_3 : List Entry
 direct_call_3 = record { lane = 1; deed = deed.Out 1 (Some 1) 1 0 route.Direct 1 None } ∷ direct_call_2
@@ -43,13 +66,17 @@ abbrev pub direct_call_4 : List Entry
 direct_call_4 = record { lane = 1; deed = deed.Enter 1 1 3 None ((value.Int (pos 5)) ∷ []) } ∷ direct_call_3
 
 abbrev pub direct_call_5 : List Entry
-direct_call_5 = record { lane = 1; deed = deed.Leave 1 (record { 0 = 0 }) (Some (value.Int (pos 5))) None } ∷ direct_call_4
+direct_call_5 =
+    record { lane = 1; deed = deed.Leave 1 (record { 0 = 0 }) (Some (value.Int (pos 5))) None }
+    ∷ direct_call_4
 
 abbrev pub direct_call_6 : List Entry
-direct_call_6 = record { lane = 1; deed = deed.Back 1 (record { 0 = 0 }) (Some (value.Int (pos 5))) } ∷ direct_call_5
+direct_call_6 =
+    record { lane = 1; deed = deed.Back 1 (record { 0 = 0 }) (Some (value.Int (pos 5))) } ∷ direct_call_5
 
 abbrev pub direct_call_7 : List Entry
-direct_call_7 = record { lane = 1; deed = deed.Release (Some (record { object = 1; iface = 1 })) } ∷ direct_call_6
+direct_call_7 =
+    record { lane = 1; deed = deed.Release (Some (record { object = 1; iface = 1 })) } ∷ direct_call_6
 
 abbrev pub direct_call_8 : List Entry
 direct_call_8 = record { lane = 1; deed = deed.Final 1 } ∷ direct_call_7
@@ -67,7 +94,10 @@ pumped_words = record {
   pool = 1;
   classes = record { interfaces = built_in_interfaces; classes = [] };
   filters = [];
-  threads = ((stmt.Init mode.Sta) ∷ (stmt.Pump 0) ∷ []) ∷ ((stmt.Post (op.Literal (value.Int (pos 1))) (op.Literal (value.Int (pos 7)))) ∷ (stmt.Quit (op.Literal (value.Int (pos 1)))) ∷ []) ∷ [];
+  threads =
+      ((stmt.Init mode.Sta) ∷ (stmt.Pump 0) ∷ [])
+      ∷ ((stmt.Post (op.Literal (value.Int (pos 1))) (op.Literal (value.Int (pos 7))))
+      ∷ (stmt.Quit (op.Literal (value.Int (pos 1)))) ∷ []) ∷ [];
   picks = [];
 }
 
@@ -103,9 +133,27 @@ abbrev pub into_the_host : Scenario
 into_the_host = record {
   version = 1;
   pool = 1;
-  classes = record { interfaces = built_in_interfaces; classes = (record { name = codes "Cnt"; clsid = record { data1 = 1544224961; data2 = 0; data3 = 16384; data4 = 128 ∷ 0 ∷ 0 ∷ 0 ∷ 0 ∷ 0 ∷ 0 ∷ 1 ∷ [] }; model = model.Apartment; native = native.Counter; interfaces = 1 ∷ []; bodies = [] }) ∷ [] };
+  classes = record {
+    interfaces = built_in_interfaces;
+    classes = (record {
+      name = codes "Cnt";
+      clsid = record {
+        data1 = 1544224961;
+        data2 = 0;
+        data3 = 16384;
+        data4 = 128 ∷ 0 ∷ 0 ∷ 0 ∷ 0 ∷ 0 ∷ 0 ∷ 1 ∷ [];
+      };
+      model = model.Apartment;
+      native = native.Counter;
+      interfaces = 1 ∷ [];
+      bodies = [];
+    }) ∷ [];
+  };
   filters = [];
-  threads = ((stmt.Init mode.Mta) ∷ (stmt.Create 0 (asked.Number 1) (asked.Number 1)) ∷ (stmt.Call 0 1 0 ((arg.Op (op.Literal (value.Int (pos 7)))) ∷ []) (destination.Register 1)) ∷ (stmt.Release (place.Slot 0)) ∷ []) ∷ [];
+  threads =
+      ((stmt.Init mode.Mta) ∷ (stmt.Create 0 (asked.Number 1) (asked.Number 1))
+      ∷ (stmt.Call 0 1 0 ((arg.Op (op.Literal (value.Int (pos 7)))) ∷ []) (destination.Register 1))
+      ∷ (stmt.Release (place.Slot 0)) ∷ []) ∷ [];
   picks = [];
 }
 
@@ -113,22 +161,42 @@ abbrev pub into_the_host_1 : List Entry
 into_the_host_1 = record { lane = 1; deed = deed.Init mode.Mta 1 (record { 0 = 0 }) } ∷ []
 
 abbrev pub into_the_host_2 : List Entry
-into_the_host_2 = record { lane = 1; deed = deed.Made (Some 1) (Some 2) (asked.Number 1) (asked.Number 1) (record { 0 = 0 }) } ∷ into_the_host_1
+into_the_host_2 =
+    record {
+      lane = 1;
+      deed = deed.Made (Some 1) (Some 2) (asked.Number 1) (asked.Number 1) (record { 0 = 0 });
+    }
+    ∷ into_the_host_1
 
 abbrev pub into_the_host_3 : List Entry
-into_the_host_3 = record { lane = 1; deed = deed.Out 1 (Some 1) 1 0 route.Post 1 (Some (5 ∷ 0 ∷ 7 ∷ 0 ∷ 0 ∷ 0 ∷ 0 ∷ 0 ∷ 0 ∷ 0 ∷ 0 ∷ 0 ∷ 1 ∷ 0 ∷ 0 ∷ 0 ∷ 0 ∷ 0 ∷ 0 ∷ 0 ∷ 0 ∷ 0 ∷ 0 ∷ 0 ∷ 0 ∷ 0 ∷ 0 ∷ 0 ∷ 0 ∷ 0 ∷ 0 ∷ 0 ∷ 7 ∷ 0 ∷ 0 ∷ 0 ∷ 0 ∷ 0 ∷ 0 ∷ 0 ∷ [])) } ∷ into_the_host_2
+into_the_host_3 =
+    record {
+      lane = 1;
+      deed = deed.Out 1 (Some 1) 1 0 route.Post 1
+          (Some (5 ∷ 0 ∷ 7 ∷ 0 ∷ 0 ∷ 0 ∷ 0 ∷ 0 ∷ 0 ∷ 0 ∷ 0 ∷ 0 ∷ 1 ∷ 0 ∷ 0 ∷ 0 ∷ 0 ∷ 0 ∷ 0 ∷ 0 ∷ 0 ∷ 0 ∷ 0 ∷ 0
+          ∷ 0 ∷ 0 ∷ 0 ∷ 0 ∷ 0 ∷ 0 ∷ 0 ∷ 0 ∷ 7 ∷ 0 ∷ 0 ∷ 0 ∷ 0 ∷ 0 ∷ 0 ∷ 0 ∷ []));
+    } ∷ into_the_host_2
 
 abbrev pub into_the_host_4 : List Entry
-into_the_host_4 = record { lane = 2; deed = deed.Enter 1 1 2 (Some 1) ((value.Int (pos 7)) ∷ []) } ∷ into_the_host_3
+into_the_host_4 =
+    record { lane = 2; deed = deed.Enter 1 1 2 (Some 1) ((value.Int (pos 7)) ∷ []) } ∷ into_the_host_3
 
 abbrev pub into_the_host_5 : List Entry
-into_the_host_5 = record { lane = 2; deed = deed.Leave 1 (record { 0 = 0 }) (Some (value.Int (pos 7))) (Some (0 ∷ 0 ∷ 0 ∷ 0 ∷ 0 ∷ 0 ∷ 0 ∷ 0 ∷ 7 ∷ 0 ∷ 0 ∷ 0 ∷ 0 ∷ 0 ∷ 0 ∷ 0 ∷ 0 ∷ 0 ∷ 0 ∷ 0 ∷ [])) } ∷ into_the_host_4
+into_the_host_5 =
+    record {
+      lane = 2;
+      deed = deed.Leave 1 (record { 0 = 0 }) (Some (value.Int (pos 7)))
+          (Some (0 ∷ 0 ∷ 0 ∷ 0 ∷ 0 ∷ 0 ∷ 0 ∷ 0 ∷ 7 ∷ 0 ∷ 0 ∷ 0 ∷ 0 ∷ 0 ∷ 0 ∷ 0 ∷ 0 ∷ 0 ∷ 0 ∷ 0 ∷ []));
+    }
+    ∷ into_the_host_4
 
 abbrev pub into_the_host_6 : List Entry
-into_the_host_6 = record { lane = 1; deed = deed.Back 1 (record { 0 = 0 }) (Some (value.Int (pos 7))) } ∷ into_the_host_5
+into_the_host_6 =
+    record { lane = 1; deed = deed.Back 1 (record { 0 = 0 }) (Some (value.Int (pos 7))) } ∷ into_the_host_5
 
 abbrev pub into_the_host_7 : List Entry
-into_the_host_7 = record { lane = 1; deed = deed.Release (Some (record { object = 1; iface = 1 })) } ∷ into_the_host_6
+into_the_host_7 =
+    record { lane = 1; deed = deed.Release (Some (record { object = 1; iface = 1 })) } ∷ into_the_host_6
 
 abbrev pub into_the_host_8 : List Entry
 into_the_host_8 = record { lane = 2; deed = deed.Final 1 } ∷ into_the_host_7
@@ -144,9 +212,42 @@ abbrev pub callback : Scenario
 callback = record {
   version = 1;
   pool = 1;
-  classes = record { interfaces = built_in_interfaces; classes = (record { name = codes "Cnt"; clsid = record { data1 = 1544224961; data2 = 0; data3 = 16384; data4 = 128 ∷ 0 ∷ 0 ∷ 0 ∷ 0 ∷ 0 ∷ 0 ∷ 1 ∷ [] }; model = model.Both; native = native.Counter; interfaces = 1 ∷ []; bodies = [] }) ∷ (record { name = codes "Rly"; clsid = record { data1 = 1544224963; data2 = 0; data3 = 16384; data4 = 128 ∷ 0 ∷ 0 ∷ 0 ∷ 0 ∷ 0 ∷ 0 ∷ 1 ∷ [] }; model = model.Free; native = native.Relay; interfaces = 2 ∷ []; bodies = [] }) ∷ [] };
+  classes = record {
+    interfaces = built_in_interfaces;
+    classes = (record {
+      name = codes "Cnt";
+      clsid = record {
+        data1 = 1544224961;
+        data2 = 0;
+        data3 = 16384;
+        data4 = 128 ∷ 0 ∷ 0 ∷ 0 ∷ 0 ∷ 0 ∷ 0 ∷ 1 ∷ [];
+      };
+      model = model.Both;
+      native = native.Counter;
+      interfaces = 1 ∷ [];
+      bodies = [];
+    })
+        ∷ (record {
+          name = codes "Rly";
+          clsid = record {
+            data1 = 1544224963;
+            data2 = 0;
+            data3 = 16384;
+            data4 = 128 ∷ 0 ∷ 0 ∷ 0 ∷ 0 ∷ 0 ∷ 0 ∷ 1 ∷ [];
+          };
+          model = model.Free;
+          native = native.Relay;
+          interfaces = 2 ∷ [];
+          bodies = [];
+        }) ∷ [];
+  };
   filters = [];
-  threads = ((stmt.Init mode.Sta) ∷ (stmt.Create 0 (asked.Number 1) (asked.Number 1)) ∷ (stmt.Create 1 (asked.Number 2) (asked.Number 2)) ∷ (stmt.Call 1 2 0 ((arg.Slot 0) ∷ []) destination.Nowhere) ∷ (stmt.Call 1 2 1 ((arg.Op (op.Literal (value.Int (pos 4)))) ∷ []) (destination.Register 1)) ∷ []) ∷ [];
+  threads =
+      ((stmt.Init mode.Sta) ∷ (stmt.Create 0 (asked.Number 1) (asked.Number 1))
+      ∷ (stmt.Create 1 (asked.Number 2) (asked.Number 2))
+      ∷ (stmt.Call 1 2 0 ((arg.Slot 0) ∷ []) destination.Nowhere)
+      ∷ (stmt.Call 1 2 1 ((arg.Op (op.Literal (value.Int (pos 4)))) ∷ []) (destination.Register 1))
+      ∷ []) ∷ [];
   picks = [];
 }
 
@@ -154,28 +255,64 @@ abbrev pub callback_1 : List Entry
 callback_1 = record { lane = 1; deed = deed.Init mode.Sta 3 (record { 0 = 0 }) } ∷ []
 
 abbrev pub callback_2 : List Entry
-callback_2 = record { lane = 1; deed = deed.Made (Some 1) (Some 3) (asked.Number 1) (asked.Number 1) (record { 0 = 0 }) } ∷ callback_1
+callback_2 =
+    record {
+      lane = 1;
+      deed = deed.Made (Some 1) (Some 3) (asked.Number 1) (asked.Number 1) (record { 0 = 0 });
+    }
+    ∷ callback_1
 
 abbrev pub callback_3 : List Entry
-callback_3 = record { lane = 1; deed = deed.Made (Some 2) (Some 1) (asked.Number 2) (asked.Number 2) (record { 0 = 0 }) } ∷ callback_2
+callback_3 =
+    record {
+      lane = 1;
+      deed = deed.Made (Some 2) (Some 1) (asked.Number 2) (asked.Number 2) (record { 0 = 0 });
+    }
+    ∷ callback_2
 
 abbrev pub callback_4 : List Entry
-callback_4 = record { lane = 1; deed = deed.Out 1 (Some 2) 2 0 route.Post 1 (Some (5 ∷ 0 ∷ 7 ∷ 0 ∷ 0 ∷ 0 ∷ 0 ∷ 0 ∷ 0 ∷ 0 ∷ 0 ∷ 0 ∷ 1 ∷ 0 ∷ 0 ∷ 0 ∷ 0 ∷ 0 ∷ 0 ∷ 0 ∷ 0 ∷ 0 ∷ 0 ∷ 0 ∷ 0 ∷ 0 ∷ 0 ∷ 0 ∷ 0 ∷ 0 ∷ 0 ∷ 0 ∷ 0 ∷ 0 ∷ 2 ∷ 0 ∷ 72 ∷ 0 ∷ 0 ∷ 0 ∷ 72 ∷ 0 ∷ 0 ∷ 0 ∷ 77 ∷ 69 ∷ 79 ∷ 87 ∷ 1 ∷ 0 ∷ 0 ∷ 0 ∷ 1 ∷ 0 ∷ 11 ∷ 92 ∷ 0 ∷ 0 ∷ 0 ∷ 64 ∷ 128 ∷ 0 ∷ 0 ∷ 0 ∷ 0 ∷ 0 ∷ 0 ∷ 1 ∷ 0 ∷ 0 ∷ 0 ∷ 0 ∷ 5 ∷ 0 ∷ 0 ∷ 0 ∷ 3 ∷ 0 ∷ 0 ∷ 0 ∷ 0 ∷ 0 ∷ 0 ∷ 0 ∷ 1 ∷ 0 ∷ 0 ∷ 0 ∷ 0 ∷ 0 ∷ 0 ∷ 0 ∷ 1 ∷ 0 ∷ 0 ∷ 0 ∷ 1 ∷ 0 ∷ 3 ∷ 0 ∷ 1 ∷ 0 ∷ 0 ∷ 0 ∷ 0 ∷ 0 ∷ 0 ∷ 0 ∷ 2 ∷ 0 ∷ 1 ∷ 0 ∷ 0 ∷ 0 ∷ 0 ∷ 0 ∷ [])) } ∷ callback_3
+callback_4 =
+    record {
+      lane = 1;
+      deed = deed.Out 1 (Some 2) 2 0 route.Post 1
+          (Some (5 ∷ 0 ∷ 7 ∷ 0 ∷ 0 ∷ 0 ∷ 0 ∷ 0 ∷ 0 ∷ 0 ∷ 0 ∷ 0 ∷ 1 ∷ 0 ∷ 0 ∷ 0 ∷ 0 ∷ 0 ∷ 0 ∷ 0 ∷ 0 ∷ 0 ∷ 0 ∷ 0
+          ∷ 0 ∷ 0 ∷ 0 ∷ 0 ∷ 0 ∷ 0 ∷ 0 ∷ 0 ∷ 0 ∷ 0 ∷ 2 ∷ 0 ∷ 72 ∷ 0 ∷ 0 ∷ 0 ∷ 72 ∷ 0 ∷ 0 ∷ 0 ∷ 77 ∷ 69 ∷ 79
+          ∷ 87 ∷ 1 ∷ 0 ∷ 0 ∷ 0 ∷ 1 ∷ 0 ∷ 11 ∷ 92 ∷ 0 ∷ 0 ∷ 0 ∷ 64 ∷ 128 ∷ 0 ∷ 0 ∷ 0 ∷ 0 ∷ 0 ∷ 0 ∷ 1 ∷ 0 ∷ 0
+          ∷ 0 ∷ 0 ∷ 5 ∷ 0 ∷ 0 ∷ 0 ∷ 3 ∷ 0 ∷ 0 ∷ 0 ∷ 0 ∷ 0 ∷ 0 ∷ 0 ∷ 1 ∷ 0 ∷ 0 ∷ 0 ∷ 0 ∷ 0 ∷ 0 ∷ 0 ∷ 1 ∷ 0 ∷ 0
+          ∷ 0 ∷ 1 ∷ 0 ∷ 3 ∷ 0 ∷ 1 ∷ 0 ∷ 0 ∷ 0 ∷ 0 ∷ 0 ∷ 0 ∷ 0 ∷ 2 ∷ 0 ∷ 1 ∷ 0 ∷ 0 ∷ 0 ∷ 0 ∷ 0 ∷ []));
+    }
+    ∷ callback_3
 
 abbrev pub callback_5 : List Entry
-callback_5 = record { lane = 3; deed = deed.Enter 1 2 1 None ((value.Ref (Some (record { object = 1; iface = 1 }))) ∷ []) } ∷ callback_4
+callback_5 =
+    record {
+      lane = 3;
+      deed = deed.Enter 1 2 1 None ((value.Ref (Some (record { object = 1; iface = 1 }))) ∷ []);
+    }
+    ∷ callback_4
 
 abbrev pub callback_6 : List Entry
 callback_6 = record { lane = 3; deed = deed.Copy (Some (record { object = 1; iface = 1 })) } ∷ callback_5
 
 abbrev pub callback_7 : List Entry
-callback_7 = record { lane = 3; deed = deed.Leave 1 (record { 0 = 0 }) None (Some (0 ∷ 0 ∷ 0 ∷ 0 ∷ 0 ∷ 0 ∷ 0 ∷ 0 ∷ 0 ∷ 0 ∷ 0 ∷ 0 ∷ [])) } ∷ callback_6
+callback_7 =
+    record {
+      lane = 3;
+      deed = deed.Leave 1 (record { 0 = 0 }) None
+          (Some (0 ∷ 0 ∷ 0 ∷ 0 ∷ 0 ∷ 0 ∷ 0 ∷ 0 ∷ 0 ∷ 0 ∷ 0 ∷ 0 ∷ []));
+    } ∷ callback_6
 
 abbrev pub callback_8 : List Entry
 callback_8 = record { lane = 1; deed = deed.Back 1 (record { 0 = 0 }) None } ∷ callback_7
 
 abbrev pub callback_9 : List Entry
-callback_9 = record { lane = 1; deed = deed.Out 2 (Some 2) 2 1 route.Post 2 (Some (5 ∷ 0 ∷ 7 ∷ 0 ∷ 0 ∷ 0 ∷ 0 ∷ 0 ∷ 0 ∷ 0 ∷ 0 ∷ 0 ∷ 2 ∷ 0 ∷ 0 ∷ 0 ∷ 0 ∷ 0 ∷ 0 ∷ 0 ∷ 0 ∷ 0 ∷ 0 ∷ 0 ∷ 0 ∷ 0 ∷ 0 ∷ 0 ∷ 0 ∷ 0 ∷ 0 ∷ 0 ∷ 4 ∷ 0 ∷ 0 ∷ 0 ∷ 0 ∷ 0 ∷ 0 ∷ 0 ∷ [])) } ∷ callback_8
+callback_9 =
+    record {
+      lane = 1;
+      deed = deed.Out 2 (Some 2) 2 1 route.Post 2
+          (Some (5 ∷ 0 ∷ 7 ∷ 0 ∷ 0 ∷ 0 ∷ 0 ∷ 0 ∷ 0 ∷ 0 ∷ 0 ∷ 0 ∷ 2 ∷ 0 ∷ 0 ∷ 0 ∷ 0 ∷ 0 ∷ 0 ∷ 0 ∷ 0 ∷ 0 ∷ 0 ∷ 0
+          ∷ 0 ∷ 0 ∷ 0 ∷ 0 ∷ 0 ∷ 0 ∷ 0 ∷ 0 ∷ 4 ∷ 0 ∷ 0 ∷ 0 ∷ 0 ∷ 0 ∷ 0 ∷ 0 ∷ []));
+    } ∷ callback_8
 
 abbrev pub callback_10 : List Entry
 callback_10 = record { lane = 3; deed = deed.Enter 2 2 1 None ((value.Int (pos 4)) ∷ []) } ∷ callback_9
@@ -184,22 +321,42 @@ abbrev pub callback_11 : List Entry
 callback_11 = record { lane = 3; deed = deed.Copy (Some (record { object = 1; iface = 1 })) } ∷ callback_10
 
 abbrev pub callback_12 : List Entry
-callback_12 = record { lane = 3; deed = deed.Out 3 (Some 1) 1 0 route.Post 2 (Some (5 ∷ 0 ∷ 7 ∷ 0 ∷ 0 ∷ 0 ∷ 0 ∷ 0 ∷ 0 ∷ 0 ∷ 0 ∷ 0 ∷ 2 ∷ 0 ∷ 0 ∷ 0 ∷ 0 ∷ 0 ∷ 0 ∷ 0 ∷ 0 ∷ 0 ∷ 0 ∷ 0 ∷ 0 ∷ 0 ∷ 0 ∷ 0 ∷ 0 ∷ 0 ∷ 0 ∷ 0 ∷ 4 ∷ 0 ∷ 0 ∷ 0 ∷ 0 ∷ 0 ∷ 0 ∷ 0 ∷ [])) } ∷ callback_11
+callback_12 =
+    record {
+      lane = 3;
+      deed = deed.Out 3 (Some 1) 1 0 route.Post 2
+          (Some (5 ∷ 0 ∷ 7 ∷ 0 ∷ 0 ∷ 0 ∷ 0 ∷ 0 ∷ 0 ∷ 0 ∷ 0 ∷ 0 ∷ 2 ∷ 0 ∷ 0 ∷ 0 ∷ 0 ∷ 0 ∷ 0 ∷ 0 ∷ 0 ∷ 0 ∷ 0 ∷ 0
+          ∷ 0 ∷ 0 ∷ 0 ∷ 0 ∷ 0 ∷ 0 ∷ 0 ∷ 0 ∷ 4 ∷ 0 ∷ 0 ∷ 0 ∷ 0 ∷ 0 ∷ 0 ∷ 0 ∷ []));
+    } ∷ callback_11
 
 abbrev pub callback_13 : List Entry
 callback_13 = record { lane = 1; deed = deed.Enter 3 1 3 (Some 2) ((value.Int (pos 4)) ∷ []) } ∷ callback_12
 
 abbrev pub callback_14 : List Entry
-callback_14 = record { lane = 1; deed = deed.Leave 3 (record { 0 = 0 }) (Some (value.Int (pos 4))) (Some (0 ∷ 0 ∷ 0 ∷ 0 ∷ 0 ∷ 0 ∷ 0 ∷ 0 ∷ 4 ∷ 0 ∷ 0 ∷ 0 ∷ 0 ∷ 0 ∷ 0 ∷ 0 ∷ 0 ∷ 0 ∷ 0 ∷ 0 ∷ [])) } ∷ callback_13
+callback_14 =
+    record {
+      lane = 1;
+      deed = deed.Leave 3 (record { 0 = 0 }) (Some (value.Int (pos 4)))
+          (Some (0 ∷ 0 ∷ 0 ∷ 0 ∷ 0 ∷ 0 ∷ 0 ∷ 0 ∷ 4 ∷ 0 ∷ 0 ∷ 0 ∷ 0 ∷ 0 ∷ 0 ∷ 0 ∷ 0 ∷ 0 ∷ 0 ∷ 0 ∷ []));
+    }
+    ∷ callback_13
 
 abbrev pub callback_15 : List Entry
-callback_15 = record { lane = 3; deed = deed.Back 3 (record { 0 = 0 }) (Some (value.Int (pos 4))) } ∷ callback_14
+callback_15 =
+    record { lane = 3; deed = deed.Back 3 (record { 0 = 0 }) (Some (value.Int (pos 4))) } ∷ callback_14
 
 abbrev pub callback_16 : List Entry
-callback_16 = record { lane = 3; deed = deed.Leave 2 (record { 0 = 0 }) (Some (value.Int (pos 4))) (Some (0 ∷ 0 ∷ 0 ∷ 0 ∷ 0 ∷ 0 ∷ 0 ∷ 0 ∷ 4 ∷ 0 ∷ 0 ∷ 0 ∷ 0 ∷ 0 ∷ 0 ∷ 0 ∷ 0 ∷ 0 ∷ 0 ∷ 0 ∷ [])) } ∷ callback_15
+callback_16 =
+    record {
+      lane = 3;
+      deed = deed.Leave 2 (record { 0 = 0 }) (Some (value.Int (pos 4)))
+          (Some (0 ∷ 0 ∷ 0 ∷ 0 ∷ 0 ∷ 0 ∷ 0 ∷ 0 ∷ 4 ∷ 0 ∷ 0 ∷ 0 ∷ 0 ∷ 0 ∷ 0 ∷ 0 ∷ 0 ∷ 0 ∷ 0 ∷ 0 ∷ []));
+    }
+    ∷ callback_15
 
 abbrev pub callback_17 : List Entry
-callback_17 = record { lane = 1; deed = deed.Back 2 (record { 0 = 0 }) (Some (value.Int (pos 4))) } ∷ callback_16
+callback_17 =
+    record { lane = 1; deed = deed.Back 2 (record { 0 = 0 }) (Some (value.Int (pos 4))) } ∷ callback_16
 
 abbrev pub callback_18 : List Entry
 callback_18 = record { lane = 1; deed = deed.Uninit (Some 3) 0 } ∷ callback_17
@@ -218,9 +375,44 @@ abbrev pub answer_first : Scenario
 answer_first = record {
   version = 1;
   pool = 1;
-  classes = record { interfaces = built_in_interfaces; classes = (record { name = codes "Cnt"; clsid = record { data1 = 1544224961; data2 = 0; data3 = 16384; data4 = 128 ∷ 0 ∷ 0 ∷ 0 ∷ 0 ∷ 0 ∷ 0 ∷ 1 ∷ [] }; model = model.Both; native = native.Counter; interfaces = 1 ∷ []; bodies = [] }) ∷ (record { name = codes "Far"; clsid = record { data1 = 1544224962; data2 = 0; data3 = 16384; data4 = 128 ∷ 0 ∷ 0 ∷ 0 ∷ 0 ∷ 0 ∷ 0 ∷ 1 ∷ [] }; model = model.Free; native = native.Counter; interfaces = 1 ∷ []; bodies = [] }) ∷ [] };
+  classes = record {
+    interfaces = built_in_interfaces;
+    classes = (record {
+      name = codes "Cnt";
+      clsid = record {
+        data1 = 1544224961;
+        data2 = 0;
+        data3 = 16384;
+        data4 = 128 ∷ 0 ∷ 0 ∷ 0 ∷ 0 ∷ 0 ∷ 0 ∷ 1 ∷ [];
+      };
+      model = model.Both;
+      native = native.Counter;
+      interfaces = 1 ∷ [];
+      bodies = [];
+    })
+        ∷ (record {
+          name = codes "Far";
+          clsid = record {
+            data1 = 1544224962;
+            data2 = 0;
+            data3 = 16384;
+            data4 = 128 ∷ 0 ∷ 0 ∷ 0 ∷ 0 ∷ 0 ∷ 0 ∷ 1 ∷ [];
+          };
+          model = model.Free;
+          native = native.Counter;
+          interfaces = 1 ∷ [];
+          bodies = [];
+        }) ∷ [];
+  };
   filters = [];
-  threads = ((stmt.Init mode.Sta) ∷ (stmt.Create 0 (asked.Number 1) (asked.Number 1)) ∷ (stmt.Create 1 (asked.Number 2) (asked.Number 1)) ∷ (stmt.Register 0 0) ∷ (stmt.Call 1 1 0 ((arg.Op (op.Literal (value.Int (pos 1)))) ∷ []) (destination.Register 1)) ∷ (stmt.Pump 1) ∷ []) ∷ ((stmt.Init mode.Mta) ∷ (stmt.Get 0 (op.Literal (value.Int (pos 1)))) ∷ (stmt.Call 0 1 0 ((arg.Op (op.Literal (value.Int (pos 2)))) ∷ []) (destination.Register 1)) ∷ []) ∷ [];
+  threads =
+      ((stmt.Init mode.Sta) ∷ (stmt.Create 0 (asked.Number 1) (asked.Number 1))
+      ∷ (stmt.Create 1 (asked.Number 2) (asked.Number 1)) ∷ (stmt.Register 0 0)
+      ∷ (stmt.Call 1 1 0 ((arg.Op (op.Literal (value.Int (pos 1)))) ∷ []) (destination.Register 1))
+      ∷ (stmt.Pump 1) ∷ [])
+      ∷ ((stmt.Init mode.Mta) ∷ (stmt.Get 0 (op.Literal (value.Int (pos 1))))
+      ∷ (stmt.Call 0 1 0 ((arg.Op (op.Literal (value.Int (pos 2)))) ∷ []) (destination.Register 1))
+      ∷ []) ∷ [];
   picks = 1 ∷ 1 ∷ 1 ∷ 1 ∷ 1 ∷ 2 ∷ 2 ∷ 2 ∷ 4 ∷ 4 ∷ 1 ∷ [];
 }
 
@@ -228,46 +420,93 @@ abbrev pub answer_first_1 : List Entry
 answer_first_1 = record { lane = 1; deed = deed.Init mode.Sta 3 (record { 0 = 0 }) } ∷ []
 
 abbrev pub answer_first_2 : List Entry
-answer_first_2 = record { lane = 1; deed = deed.Made (Some 1) (Some 3) (asked.Number 1) (asked.Number 1) (record { 0 = 0 }) } ∷ answer_first_1
+answer_first_2 =
+    record {
+      lane = 1;
+      deed = deed.Made (Some 1) (Some 3) (asked.Number 1) (asked.Number 1) (record { 0 = 0 });
+    }
+    ∷ answer_first_1
 
 abbrev pub answer_first_3 : List Entry
-answer_first_3 = record { lane = 1; deed = deed.Made (Some 2) (Some 1) (asked.Number 2) (asked.Number 1) (record { 0 = 0 }) } ∷ answer_first_2
+answer_first_3 =
+    record {
+      lane = 1;
+      deed = deed.Made (Some 2) (Some 1) (asked.Number 2) (asked.Number 1) (record { 0 = 0 });
+    }
+    ∷ answer_first_2
 
 abbrev pub answer_first_4 : List Entry
-answer_first_4 = record { lane = 1; deed = deed.Register (Some 1) (Some (record { object = 1; iface = 1 })) (record { 0 = 0 }) } ∷ answer_first_3
+answer_first_4 =
+    record {
+      lane = 1;
+      deed = deed.Register (Some 1) (Some (record { object = 1; iface = 1 })) (record { 0 = 0 });
+    }
+    ∷ answer_first_3
 
 abbrev pub answer_first_5 : List Entry
-answer_first_5 = record { lane = 1; deed = deed.Out 1 (Some 2) 1 0 route.Post 1 (Some (5 ∷ 0 ∷ 7 ∷ 0 ∷ 0 ∷ 0 ∷ 0 ∷ 0 ∷ 0 ∷ 0 ∷ 0 ∷ 0 ∷ 1 ∷ 0 ∷ 0 ∷ 0 ∷ 0 ∷ 0 ∷ 0 ∷ 0 ∷ 0 ∷ 0 ∷ 0 ∷ 0 ∷ 0 ∷ 0 ∷ 0 ∷ 0 ∷ 0 ∷ 0 ∷ 0 ∷ 0 ∷ 1 ∷ 0 ∷ 0 ∷ 0 ∷ 0 ∷ 0 ∷ 0 ∷ 0 ∷ [])) } ∷ answer_first_4
+answer_first_5 =
+    record {
+      lane = 1;
+      deed = deed.Out 1 (Some 2) 1 0 route.Post 1
+          (Some (5 ∷ 0 ∷ 7 ∷ 0 ∷ 0 ∷ 0 ∷ 0 ∷ 0 ∷ 0 ∷ 0 ∷ 0 ∷ 0 ∷ 1 ∷ 0 ∷ 0 ∷ 0 ∷ 0 ∷ 0 ∷ 0 ∷ 0 ∷ 0 ∷ 0 ∷ 0 ∷ 0
+          ∷ 0 ∷ 0 ∷ 0 ∷ 0 ∷ 0 ∷ 0 ∷ 0 ∷ 0 ∷ 1 ∷ 0 ∷ 0 ∷ 0 ∷ 0 ∷ 0 ∷ 0 ∷ 0 ∷ []));
+    } ∷ answer_first_4
 
 abbrev pub answer_first_6 : List Entry
 answer_first_6 = record { lane = 2; deed = deed.Init mode.Mta 1 (record { 0 = 0 }) } ∷ answer_first_5
 
 abbrev pub answer_first_7 : List Entry
-answer_first_7 = record { lane = 2; deed = deed.Get (pos 1) (Some (record { object = 1; iface = 1 })) 5 (record { 0 = 0 }) } ∷ answer_first_6
+answer_first_7 =
+    record {
+      lane = 2;
+      deed = deed.Get (pos 1) (Some (record { object = 1; iface = 1 })) 5 (record { 0 = 0 });
+    }
+    ∷ answer_first_6
 
 abbrev pub answer_first_8 : List Entry
-answer_first_8 = record { lane = 2; deed = deed.Out 2 (Some 1) 1 0 route.Post 2 (Some (5 ∷ 0 ∷ 7 ∷ 0 ∷ 0 ∷ 0 ∷ 0 ∷ 0 ∷ 0 ∷ 0 ∷ 0 ∷ 0 ∷ 2 ∷ 0 ∷ 0 ∷ 0 ∷ 0 ∷ 0 ∷ 0 ∷ 0 ∷ 0 ∷ 0 ∷ 0 ∷ 0 ∷ 0 ∷ 0 ∷ 0 ∷ 0 ∷ 0 ∷ 0 ∷ 0 ∷ 0 ∷ 2 ∷ 0 ∷ 0 ∷ 0 ∷ 0 ∷ 0 ∷ 0 ∷ 0 ∷ [])) } ∷ answer_first_7
+answer_first_8 =
+    record {
+      lane = 2;
+      deed = deed.Out 2 (Some 1) 1 0 route.Post 2
+          (Some (5 ∷ 0 ∷ 7 ∷ 0 ∷ 0 ∷ 0 ∷ 0 ∷ 0 ∷ 0 ∷ 0 ∷ 0 ∷ 0 ∷ 2 ∷ 0 ∷ 0 ∷ 0 ∷ 0 ∷ 0 ∷ 0 ∷ 0 ∷ 0 ∷ 0 ∷ 0 ∷ 0
+          ∷ 0 ∷ 0 ∷ 0 ∷ 0 ∷ 0 ∷ 0 ∷ 0 ∷ 0 ∷ 2 ∷ 0 ∷ 0 ∷ 0 ∷ 0 ∷ 0 ∷ 0 ∷ 0 ∷ []));
+    } ∷ answer_first_7
 
 abbrev pub answer_first_9 : List Entry
 answer_first_9 = record { lane = 4; deed = deed.Enter 1 2 1 None ((value.Int (pos 1)) ∷ []) } ∷ answer_first_8
 
 abbrev pub answer_first_10 : List Entry
-answer_first_10 = record { lane = 4; deed = deed.Leave 1 (record { 0 = 0 }) (Some (value.Int (pos 1))) (Some (0 ∷ 0 ∷ 0 ∷ 0 ∷ 0 ∷ 0 ∷ 0 ∷ 0 ∷ 1 ∷ 0 ∷ 0 ∷ 0 ∷ 0 ∷ 0 ∷ 0 ∷ 0 ∷ 0 ∷ 0 ∷ 0 ∷ 0 ∷ [])) } ∷ answer_first_9
+answer_first_10 =
+    record {
+      lane = 4;
+      deed = deed.Leave 1 (record { 0 = 0 }) (Some (value.Int (pos 1)))
+          (Some (0 ∷ 0 ∷ 0 ∷ 0 ∷ 0 ∷ 0 ∷ 0 ∷ 0 ∷ 1 ∷ 0 ∷ 0 ∷ 0 ∷ 0 ∷ 0 ∷ 0 ∷ 0 ∷ 0 ∷ 0 ∷ 0 ∷ 0 ∷ []));
+    }
+    ∷ answer_first_9
 
 abbrev pub answer_first_11 : List Entry
-answer_first_11 = record { lane = 1; deed = deed.Back 1 (record { 0 = 0 }) (Some (value.Int (pos 1))) } ∷ answer_first_10
+answer_first_11 =
+    record { lane = 1; deed = deed.Back 1 (record { 0 = 0 }) (Some (value.Int (pos 1))) } ∷ answer_first_10
 
 abbrev pub answer_first_12 : List Entry
 answer_first_12 = record { lane = 1; deed = deed.Pump 1 } ∷ answer_first_11
 
 abbrev pub answer_first_13 : List Entry
-answer_first_13 = record { lane = 1; deed = deed.Enter 2 1 3 (Some 1) ((value.Int (pos 2)) ∷ []) } ∷ answer_first_12
+answer_first_13 =
+    record { lane = 1; deed = deed.Enter 2 1 3 (Some 1) ((value.Int (pos 2)) ∷ []) } ∷ answer_first_12
 
 abbrev pub answer_first_14 : List Entry
-answer_first_14 = record { lane = 1; deed = deed.Leave 2 (record { 0 = 0 }) (Some (value.Int (pos 2))) (Some (0 ∷ 0 ∷ 0 ∷ 0 ∷ 0 ∷ 0 ∷ 0 ∷ 0 ∷ 2 ∷ 0 ∷ 0 ∷ 0 ∷ 0 ∷ 0 ∷ 0 ∷ 0 ∷ 0 ∷ 0 ∷ 0 ∷ 0 ∷ [])) } ∷ answer_first_13
+answer_first_14 =
+    record {
+      lane = 1;
+      deed = deed.Leave 2 (record { 0 = 0 }) (Some (value.Int (pos 2)))
+          (Some (0 ∷ 0 ∷ 0 ∷ 0 ∷ 0 ∷ 0 ∷ 0 ∷ 0 ∷ 2 ∷ 0 ∷ 0 ∷ 0 ∷ 0 ∷ 0 ∷ 0 ∷ 0 ∷ 0 ∷ 0 ∷ 0 ∷ 0 ∷ []));
+    }
+    ∷ answer_first_13
 
 abbrev pub answer_first_15 : List Entry
-answer_first_15 = record { lane = 2; deed = deed.Back 2 (record { 0 = 0 }) (Some (value.Int (pos 2))) } ∷ answer_first_14
+answer_first_15 =
+    record { lane = 2; deed = deed.Back 2 (record { 0 = 0 }) (Some (value.Int (pos 2))) } ∷ answer_first_14
 
 abbrev pub answer_first_16 : List Entry
 answer_first_16 = record { lane = 1; deed = deed.EndPump } ∷ answer_first_15
@@ -295,9 +534,55 @@ abbrev pub younger_first : Scenario
 younger_first = record {
   version = 1;
   pool = 1;
-  classes = record { interfaces = built_in_interfaces ++ (record { name = codes "ITwo"; iid = record { data1 = 1544224784; data2 = 0; data3 = 16384; data4 = 128 ∷ 0 ∷ 0 ∷ 0 ∷ 0 ∷ 0 ∷ 0 ∷ 1 ∷ [] }; methods = (record { name = codes "go"; params = []; result = None }) ∷ [] }) ∷ []; classes = (record { name = codes "Cnt"; clsid = record { data1 = 1544224961; data2 = 0; data3 = 16384; data4 = 128 ∷ 0 ∷ 0 ∷ 0 ∷ 0 ∷ 0 ∷ 0 ∷ 1 ∷ [] }; model = model.Both; native = native.Counter; interfaces = 1 ∷ []; bodies = [] }) ∷ (record { name = codes "Two"; clsid = record { data1 = 1544224785; data2 = 0; data3 = 16384; data4 = 128 ∷ 0 ∷ 0 ∷ 0 ∷ 0 ∷ 0 ∷ 0 ∷ 1 ∷ [] }; model = model.Both; native = native.Bodies; interfaces = 4 ∷ []; bodies = (record { iface = 4; method = 0; body = (stmt.Create 0 (asked.Number 1) (asked.Number 1)) ∷ (stmt.Create 1 (asked.Number 1) (asked.Number 1)) ∷ (stmt.Release (place.Slot 1)) ∷ (stmt.Release (place.Slot 0)) ∷ [] }) ∷ [] }) ∷ [] };
+  classes = record {
+    interfaces = built_in_interfaces
+        ++ (record {
+          name = codes "ITwo";
+          iid = record {
+            data1 = 1544224784;
+            data2 = 0;
+            data3 = 16384;
+            data4 = 128 ∷ 0 ∷ 0 ∷ 0 ∷ 0 ∷ 0 ∷ 0 ∷ 1 ∷ [];
+          };
+          methods = (record { name = codes "go"; params = []; result = None }) ∷ [];
+        }) ∷ [];
+    classes = (record {
+      name = codes "Cnt";
+      clsid = record {
+        data1 = 1544224961;
+        data2 = 0;
+        data3 = 16384;
+        data4 = 128 ∷ 0 ∷ 0 ∷ 0 ∷ 0 ∷ 0 ∷ 0 ∷ 1 ∷ [];
+      };
+      model = model.Both;
+      native = native.Counter;
+      interfaces = 1 ∷ [];
+      bodies = [];
+    })
+        ∷ (record {
+          name = codes "Two";
+          clsid = record {
+            data1 = 1544224785;
+            data2 = 0;
+            data3 = 16384;
+            data4 = 128 ∷ 0 ∷ 0 ∷ 0 ∷ 0 ∷ 0 ∷ 0 ∷ 1 ∷ [];
+          };
+          model = model.Both;
+          native = native.Bodies;
+          interfaces = 4 ∷ [];
+          bodies = (record {
+            iface = 4;
+            method = 0;
+            body = (stmt.Create 0 (asked.Number 1) (asked.Number 1))
+                ∷ (stmt.Create 1 (asked.Number 1) (asked.Number 1)) ∷ (stmt.Release (place.Slot 1))
+                ∷ (stmt.Release (place.Slot 0)) ∷ [];
+          }) ∷ [];
+        }) ∷ [];
+  };
   filters = [];
-  threads = ((stmt.Init mode.Sta) ∷ (stmt.Create 0 (asked.Number 2) (asked.Number 4)) ∷ (stmt.Call 0 4 0 [] destination.Nowhere) ∷ []) ∷ [];
+  threads =
+      ((stmt.Init mode.Sta) ∷ (stmt.Create 0 (asked.Number 2) (asked.Number 4))
+      ∷ (stmt.Call 0 4 0 [] destination.Nowhere) ∷ []) ∷ [];
   picks = [];
 }
 
@@ -305,7 +590,12 @@ abbrev pub younger_first_1 : List Entry
 younger_first_1 = record { lane = 1; deed = deed.Init mode.Sta 3 (record { 0 = 0 }) } ∷ []
 
 abbrev pub younger_first_2 : List Entry
-younger_first_2 = record { lane = 1; deed = deed.Made (Some 1) (Some 3) (asked.Number 2) (asked.Number 4) (record { 0 = 0 }) } ∷ younger_first_1
+younger_first_2 =
+    record {
+      lane = 1;
+      deed = deed.Made (Some 1) (Some 3) (asked.Number 2) (asked.Number 4) (record { 0 = 0 });
+    }
+    ∷ younger_first_1
 
 abbrev pub younger_first_3 : List Entry
 younger_first_3 = record { lane = 1; deed = deed.Out 1 (Some 1) 4 0 route.Direct 1 None } ∷ younger_first_2
@@ -314,16 +604,28 @@ abbrev pub younger_first_4 : List Entry
 younger_first_4 = record { lane = 1; deed = deed.Enter 1 1 3 None [] } ∷ younger_first_3
 
 abbrev pub younger_first_5 : List Entry
-younger_first_5 = record { lane = 1; deed = deed.Made (Some 2) (Some 3) (asked.Number 1) (asked.Number 1) (record { 0 = 0 }) } ∷ younger_first_4
+younger_first_5 =
+    record {
+      lane = 1;
+      deed = deed.Made (Some 2) (Some 3) (asked.Number 1) (asked.Number 1) (record { 0 = 0 });
+    }
+    ∷ younger_first_4
 
 abbrev pub younger_first_6 : List Entry
-younger_first_6 = record { lane = 1; deed = deed.Made (Some 3) (Some 3) (asked.Number 1) (asked.Number 1) (record { 0 = 0 }) } ∷ younger_first_5
+younger_first_6 =
+    record {
+      lane = 1;
+      deed = deed.Made (Some 3) (Some 3) (asked.Number 1) (asked.Number 1) (record { 0 = 0 });
+    }
+    ∷ younger_first_5
 
 abbrev pub younger_first_7 : List Entry
-younger_first_7 = record { lane = 1; deed = deed.Release (Some (record { object = 3; iface = 1 })) } ∷ younger_first_6
+younger_first_7 =
+    record { lane = 1; deed = deed.Release (Some (record { object = 3; iface = 1 })) } ∷ younger_first_6
 
 abbrev pub younger_first_8 : List Entry
-younger_first_8 = record { lane = 1; deed = deed.Release (Some (record { object = 2; iface = 1 })) } ∷ younger_first_7
+younger_first_8 =
+    record { lane = 1; deed = deed.Release (Some (record { object = 2; iface = 1 })) } ∷ younger_first_7
 
 abbrev pub younger_first_9 : List Entry
 younger_first_9 = record { lane = 1; deed = deed.Leave 1 (record { 0 = 0 }) None None } ∷ younger_first_8
@@ -351,9 +653,44 @@ abbrev pub relayed : Scenario
 relayed = record {
   version = 1;
   pool = 1;
-  classes = record { interfaces = built_in_interfaces; classes = (record { name = codes "Cnt"; clsid = record { data1 = 1544224961; data2 = 0; data3 = 16384; data4 = 128 ∷ 0 ∷ 0 ∷ 0 ∷ 0 ∷ 0 ∷ 0 ∷ 1 ∷ [] }; model = model.Both; native = native.Counter; interfaces = 1 ∷ []; bodies = [] }) ∷ (record { name = codes "Rly"; clsid = record { data1 = 1544224963; data2 = 0; data3 = 16384; data4 = 128 ∷ 0 ∷ 0 ∷ 0 ∷ 0 ∷ 0 ∷ 0 ∷ 1 ∷ [] }; model = model.Both; native = native.Relay; interfaces = 2 ∷ []; bodies = [] }) ∷ [] };
+  classes = record {
+    interfaces = built_in_interfaces;
+    classes = (record {
+      name = codes "Cnt";
+      clsid = record {
+        data1 = 1544224961;
+        data2 = 0;
+        data3 = 16384;
+        data4 = 128 ∷ 0 ∷ 0 ∷ 0 ∷ 0 ∷ 0 ∷ 0 ∷ 1 ∷ [];
+      };
+      model = model.Both;
+      native = native.Counter;
+      interfaces = 1 ∷ [];
+      bodies = [];
+    })
+        ∷ (record {
+          name = codes "Rly";
+          clsid = record {
+            data1 = 1544224963;
+            data2 = 0;
+            data3 = 16384;
+            data4 = 128 ∷ 0 ∷ 0 ∷ 0 ∷ 0 ∷ 0 ∷ 0 ∷ 1 ∷ [];
+          };
+          model = model.Both;
+          native = native.Relay;
+          interfaces = 2 ∷ [];
+          bodies = [];
+        }) ∷ [];
+  };
   filters = [];
-  threads = ((stmt.Init mode.Sta) ∷ (stmt.Create 0 (asked.Number 1) (asked.Number 1)) ∷ (stmt.Get 1 (op.Literal (value.Int (pos 1)))) ∷ (stmt.Call 1 2 0 ((arg.Slot 0) ∷ []) destination.Nowhere) ∷ (stmt.Call 1 2 1 ((arg.Op (op.Literal (value.Int (pos 4)))) ∷ []) (destination.Register 1)) ∷ []) ∷ ((stmt.Init mode.Mta) ∷ (stmt.Create 0 (asked.Number 2) (asked.Number 2)) ∷ (stmt.Register 0 0) ∷ []) ∷ [];
+  threads =
+      ((stmt.Init mode.Sta) ∷ (stmt.Create 0 (asked.Number 1) (asked.Number 1))
+      ∷ (stmt.Get 1 (op.Literal (value.Int (pos 1))))
+      ∷ (stmt.Call 1 2 0 ((arg.Slot 0) ∷ []) destination.Nowhere)
+      ∷ (stmt.Call 1 2 1 ((arg.Op (op.Literal (value.Int (pos 4)))) ∷ []) (destination.Register 1))
+      ∷ [])
+      ∷ ((stmt.Init mode.Mta) ∷ (stmt.Create 0 (asked.Number 2) (asked.Number 2)) ∷ (stmt.Register 0 0) ∷ [])
+      ∷ [];
   picks = 2 ∷ 2 ∷ 2 ∷ [];
 }
 
@@ -361,10 +698,20 @@ abbrev pub relayed_1 : List Entry
 relayed_1 = record { lane = 2; deed = deed.Init mode.Mta 1 (record { 0 = 0 }) } ∷ []
 
 abbrev pub relayed_2 : List Entry
-relayed_2 = record { lane = 2; deed = deed.Made (Some 1) (Some 1) (asked.Number 2) (asked.Number 2) (record { 0 = 0 }) } ∷ relayed_1
+relayed_2 =
+    record {
+      lane = 2;
+      deed = deed.Made (Some 1) (Some 1) (asked.Number 2) (asked.Number 2) (record { 0 = 0 });
+    }
+    ∷ relayed_1
 
 abbrev pub relayed_3 : List Entry
-relayed_3 = record { lane = 2; deed = deed.Register (Some 1) (Some (record { object = 1; iface = 2 })) (record { 0 = 0 }) } ∷ relayed_2
+relayed_3 =
+    record {
+      lane = 2;
+      deed = deed.Register (Some 1) (Some (record { object = 1; iface = 2 })) (record { 0 = 0 });
+    }
+    ∷ relayed_2
 
 abbrev pub relayed_4 : List Entry
 relayed_4 = record { lane = 1; deed = deed.Init mode.Sta 3 (record { 0 = 0 }) } ∷ relayed_3
@@ -373,31 +720,66 @@ abbrev pub relayed_5 : List Entry
 relayed_5 = record { lane = 2; deed = deed.Uninit (Some 1) 0 } ∷ relayed_4
 
 abbrev pub relayed_6 : List Entry
-relayed_6 = record { lane = 1; deed = deed.Made (Some 2) (Some 3) (asked.Number 1) (asked.Number 1) (record { 0 = 0 }) } ∷ relayed_5
+relayed_6 =
+    record {
+      lane = 1;
+      deed = deed.Made (Some 2) (Some 3) (asked.Number 1) (asked.Number 1) (record { 0 = 0 });
+    }
+    ∷ relayed_5
 
 abbrev pub relayed_7 : List Entry
 relayed_7 = record { lane = 2; deed = deed.End } ∷ relayed_6
 
 abbrev pub relayed_8 : List Entry
-relayed_8 = record { lane = 1; deed = deed.Get (pos 1) (Some (record { object = 1; iface = 2 })) 5 (record { 0 = 0 }) } ∷ relayed_7
+relayed_8 =
+    record {
+      lane = 1;
+      deed = deed.Get (pos 1) (Some (record { object = 1; iface = 2 })) 5 (record { 0 = 0 });
+    } ∷ relayed_7
 
 abbrev pub relayed_9 : List Entry
-relayed_9 = record { lane = 1; deed = deed.Out 1 (Some 1) 2 0 route.Post 1 (Some (5 ∷ 0 ∷ 7 ∷ 0 ∷ 0 ∷ 0 ∷ 0 ∷ 0 ∷ 0 ∷ 0 ∷ 0 ∷ 0 ∷ 1 ∷ 0 ∷ 0 ∷ 0 ∷ 0 ∷ 0 ∷ 0 ∷ 0 ∷ 0 ∷ 0 ∷ 0 ∷ 0 ∷ 0 ∷ 0 ∷ 0 ∷ 0 ∷ 0 ∷ 0 ∷ 0 ∷ 0 ∷ 0 ∷ 0 ∷ 2 ∷ 0 ∷ 72 ∷ 0 ∷ 0 ∷ 0 ∷ 72 ∷ 0 ∷ 0 ∷ 0 ∷ 77 ∷ 69 ∷ 79 ∷ 87 ∷ 1 ∷ 0 ∷ 0 ∷ 0 ∷ 1 ∷ 0 ∷ 11 ∷ 92 ∷ 0 ∷ 0 ∷ 0 ∷ 64 ∷ 128 ∷ 0 ∷ 0 ∷ 0 ∷ 0 ∷ 0 ∷ 0 ∷ 1 ∷ 0 ∷ 0 ∷ 0 ∷ 0 ∷ 5 ∷ 0 ∷ 0 ∷ 0 ∷ 3 ∷ 0 ∷ 0 ∷ 0 ∷ 0 ∷ 0 ∷ 0 ∷ 0 ∷ 2 ∷ 0 ∷ 0 ∷ 0 ∷ 0 ∷ 0 ∷ 0 ∷ 0 ∷ 2 ∷ 0 ∷ 0 ∷ 0 ∷ 1 ∷ 0 ∷ 3 ∷ 0 ∷ 1 ∷ 0 ∷ 0 ∷ 0 ∷ 0 ∷ 0 ∷ 0 ∷ 0 ∷ 2 ∷ 0 ∷ 1 ∷ 0 ∷ 0 ∷ 0 ∷ 0 ∷ 0 ∷ [])) } ∷ relayed_8
+relayed_9 =
+    record {
+      lane = 1;
+      deed = deed.Out 1 (Some 1) 2 0 route.Post 1
+          (Some (5 ∷ 0 ∷ 7 ∷ 0 ∷ 0 ∷ 0 ∷ 0 ∷ 0 ∷ 0 ∷ 0 ∷ 0 ∷ 0 ∷ 1 ∷ 0 ∷ 0 ∷ 0 ∷ 0 ∷ 0 ∷ 0 ∷ 0 ∷ 0 ∷ 0 ∷ 0 ∷ 0
+          ∷ 0 ∷ 0 ∷ 0 ∷ 0 ∷ 0 ∷ 0 ∷ 0 ∷ 0 ∷ 0 ∷ 0 ∷ 2 ∷ 0 ∷ 72 ∷ 0 ∷ 0 ∷ 0 ∷ 72 ∷ 0 ∷ 0 ∷ 0 ∷ 77 ∷ 69 ∷ 79
+          ∷ 87 ∷ 1 ∷ 0 ∷ 0 ∷ 0 ∷ 1 ∷ 0 ∷ 11 ∷ 92 ∷ 0 ∷ 0 ∷ 0 ∷ 64 ∷ 128 ∷ 0 ∷ 0 ∷ 0 ∷ 0 ∷ 0 ∷ 0 ∷ 1 ∷ 0 ∷ 0
+          ∷ 0 ∷ 0 ∷ 5 ∷ 0 ∷ 0 ∷ 0 ∷ 3 ∷ 0 ∷ 0 ∷ 0 ∷ 0 ∷ 0 ∷ 0 ∷ 0 ∷ 2 ∷ 0 ∷ 0 ∷ 0 ∷ 0 ∷ 0 ∷ 0 ∷ 0 ∷ 2 ∷ 0 ∷ 0
+          ∷ 0 ∷ 1 ∷ 0 ∷ 3 ∷ 0 ∷ 1 ∷ 0 ∷ 0 ∷ 0 ∷ 0 ∷ 0 ∷ 0 ∷ 0 ∷ 2 ∷ 0 ∷ 1 ∷ 0 ∷ 0 ∷ 0 ∷ 0 ∷ 0 ∷ []));
+    }
+    ∷ relayed_8
 
 abbrev pub relayed_10 : List Entry
-relayed_10 = record { lane = 4; deed = deed.Enter 1 1 1 None ((value.Ref (Some (record { object = 2; iface = 1 }))) ∷ []) } ∷ relayed_9
+relayed_10 =
+    record {
+      lane = 4;
+      deed = deed.Enter 1 1 1 None ((value.Ref (Some (record { object = 2; iface = 1 }))) ∷ []);
+    }
+    ∷ relayed_9
 
 abbrev pub relayed_11 : List Entry
 relayed_11 = record { lane = 4; deed = deed.Copy (Some (record { object = 2; iface = 1 })) } ∷ relayed_10
 
 abbrev pub relayed_12 : List Entry
-relayed_12 = record { lane = 4; deed = deed.Leave 1 (record { 0 = 0 }) None (Some (0 ∷ 0 ∷ 0 ∷ 0 ∷ 0 ∷ 0 ∷ 0 ∷ 0 ∷ 0 ∷ 0 ∷ 0 ∷ 0 ∷ [])) } ∷ relayed_11
+relayed_12 =
+    record {
+      lane = 4;
+      deed = deed.Leave 1 (record { 0 = 0 }) None
+          (Some (0 ∷ 0 ∷ 0 ∷ 0 ∷ 0 ∷ 0 ∷ 0 ∷ 0 ∷ 0 ∷ 0 ∷ 0 ∷ 0 ∷ []));
+    } ∷ relayed_11
 
 abbrev pub relayed_13 : List Entry
 relayed_13 = record { lane = 1; deed = deed.Back 1 (record { 0 = 0 }) None } ∷ relayed_12
 
 abbrev pub relayed_14 : List Entry
-relayed_14 = record { lane = 1; deed = deed.Out 2 (Some 1) 2 1 route.Post 2 (Some (5 ∷ 0 ∷ 7 ∷ 0 ∷ 0 ∷ 0 ∷ 0 ∷ 0 ∷ 0 ∷ 0 ∷ 0 ∷ 0 ∷ 2 ∷ 0 ∷ 0 ∷ 0 ∷ 0 ∷ 0 ∷ 0 ∷ 0 ∷ 0 ∷ 0 ∷ 0 ∷ 0 ∷ 0 ∷ 0 ∷ 0 ∷ 0 ∷ 0 ∷ 0 ∷ 0 ∷ 0 ∷ 4 ∷ 0 ∷ 0 ∷ 0 ∷ 0 ∷ 0 ∷ 0 ∷ 0 ∷ [])) } ∷ relayed_13
+relayed_14 =
+    record {
+      lane = 1;
+      deed = deed.Out 2 (Some 1) 2 1 route.Post 2
+          (Some (5 ∷ 0 ∷ 7 ∷ 0 ∷ 0 ∷ 0 ∷ 0 ∷ 0 ∷ 0 ∷ 0 ∷ 0 ∷ 0 ∷ 2 ∷ 0 ∷ 0 ∷ 0 ∷ 0 ∷ 0 ∷ 0 ∷ 0 ∷ 0 ∷ 0 ∷ 0 ∷ 0
+          ∷ 0 ∷ 0 ∷ 0 ∷ 0 ∷ 0 ∷ 0 ∷ 0 ∷ 0 ∷ 4 ∷ 0 ∷ 0 ∷ 0 ∷ 0 ∷ 0 ∷ 0 ∷ 0 ∷ []));
+    } ∷ relayed_13
 
 abbrev pub relayed_15 : List Entry
 relayed_15 = record { lane = 4; deed = deed.Enter 2 1 1 None ((value.Int (pos 4)) ∷ []) } ∷ relayed_14
@@ -406,22 +788,42 @@ abbrev pub relayed_16 : List Entry
 relayed_16 = record { lane = 4; deed = deed.Copy (Some (record { object = 2; iface = 1 })) } ∷ relayed_15
 
 abbrev pub relayed_17 : List Entry
-relayed_17 = record { lane = 4; deed = deed.Out 3 (Some 2) 1 0 route.Post 2 (Some (5 ∷ 0 ∷ 7 ∷ 0 ∷ 0 ∷ 0 ∷ 0 ∷ 0 ∷ 0 ∷ 0 ∷ 0 ∷ 0 ∷ 2 ∷ 0 ∷ 0 ∷ 0 ∷ 0 ∷ 0 ∷ 0 ∷ 0 ∷ 0 ∷ 0 ∷ 0 ∷ 0 ∷ 0 ∷ 0 ∷ 0 ∷ 0 ∷ 0 ∷ 0 ∷ 0 ∷ 0 ∷ 4 ∷ 0 ∷ 0 ∷ 0 ∷ 0 ∷ 0 ∷ 0 ∷ 0 ∷ [])) } ∷ relayed_16
+relayed_17 =
+    record {
+      lane = 4;
+      deed = deed.Out 3 (Some 2) 1 0 route.Post 2
+          (Some (5 ∷ 0 ∷ 7 ∷ 0 ∷ 0 ∷ 0 ∷ 0 ∷ 0 ∷ 0 ∷ 0 ∷ 0 ∷ 0 ∷ 2 ∷ 0 ∷ 0 ∷ 0 ∷ 0 ∷ 0 ∷ 0 ∷ 0 ∷ 0 ∷ 0 ∷ 0 ∷ 0
+          ∷ 0 ∷ 0 ∷ 0 ∷ 0 ∷ 0 ∷ 0 ∷ 0 ∷ 0 ∷ 4 ∷ 0 ∷ 0 ∷ 0 ∷ 0 ∷ 0 ∷ 0 ∷ 0 ∷ []));
+    } ∷ relayed_16
 
 abbrev pub relayed_18 : List Entry
 relayed_18 = record { lane = 1; deed = deed.Enter 3 2 3 (Some 2) ((value.Int (pos 4)) ∷ []) } ∷ relayed_17
 
 abbrev pub relayed_19 : List Entry
-relayed_19 = record { lane = 1; deed = deed.Leave 3 (record { 0 = 0 }) (Some (value.Int (pos 4))) (Some (0 ∷ 0 ∷ 0 ∷ 0 ∷ 0 ∷ 0 ∷ 0 ∷ 0 ∷ 4 ∷ 0 ∷ 0 ∷ 0 ∷ 0 ∷ 0 ∷ 0 ∷ 0 ∷ 0 ∷ 0 ∷ 0 ∷ 0 ∷ [])) } ∷ relayed_18
+relayed_19 =
+    record {
+      lane = 1;
+      deed = deed.Leave 3 (record { 0 = 0 }) (Some (value.Int (pos 4)))
+          (Some (0 ∷ 0 ∷ 0 ∷ 0 ∷ 0 ∷ 0 ∷ 0 ∷ 0 ∷ 4 ∷ 0 ∷ 0 ∷ 0 ∷ 0 ∷ 0 ∷ 0 ∷ 0 ∷ 0 ∷ 0 ∷ 0 ∷ 0 ∷ []));
+    }
+    ∷ relayed_18
 
 abbrev pub relayed_20 : List Entry
-relayed_20 = record { lane = 4; deed = deed.Back 3 (record { 0 = 0 }) (Some (value.Int (pos 4))) } ∷ relayed_19
+relayed_20 =
+    record { lane = 4; deed = deed.Back 3 (record { 0 = 0 }) (Some (value.Int (pos 4))) } ∷ relayed_19
 
 abbrev pub relayed_21 : List Entry
-relayed_21 = record { lane = 4; deed = deed.Leave 2 (record { 0 = 0 }) (Some (value.Int (pos 4))) (Some (0 ∷ 0 ∷ 0 ∷ 0 ∷ 0 ∷ 0 ∷ 0 ∷ 0 ∷ 4 ∷ 0 ∷ 0 ∷ 0 ∷ 0 ∷ 0 ∷ 0 ∷ 0 ∷ 0 ∷ 0 ∷ 0 ∷ 0 ∷ [])) } ∷ relayed_20
+relayed_21 =
+    record {
+      lane = 4;
+      deed = deed.Leave 2 (record { 0 = 0 }) (Some (value.Int (pos 4)))
+          (Some (0 ∷ 0 ∷ 0 ∷ 0 ∷ 0 ∷ 0 ∷ 0 ∷ 0 ∷ 4 ∷ 0 ∷ 0 ∷ 0 ∷ 0 ∷ 0 ∷ 0 ∷ 0 ∷ 0 ∷ 0 ∷ 0 ∷ 0 ∷ []));
+    }
+    ∷ relayed_20
 
 abbrev pub relayed_22 : List Entry
-relayed_22 = record { lane = 1; deed = deed.Back 2 (record { 0 = 0 }) (Some (value.Int (pos 4))) } ∷ relayed_21
+relayed_22 =
+    record { lane = 1; deed = deed.Back 2 (record { 0 = 0 }) (Some (value.Int (pos 4))) } ∷ relayed_21
 
 abbrev pub relayed_23 : List Entry
 relayed_23 = record { lane = 1; deed = deed.Uninit (Some 3) 0 } ∷ relayed_22
@@ -437,35 +839,129 @@ abbrev pub outer_causality : Scenario
 outer_causality = record {
   version = 1;
   pool = 2;
-  classes = record { interfaces = built_in_interfaces; classes = (record { name = codes "Cnt"; clsid = record { data1 = 1544224961; data2 = 0; data3 = 16384; data4 = 128 ∷ 0 ∷ 0 ∷ 0 ∷ 0 ∷ 0 ∷ 0 ∷ 1 ∷ [] }; model = model.Both; native = native.Counter; interfaces = 1 ∷ []; bodies = [] }) ∷ (record { name = codes "Far"; clsid = record { data1 = 1544224962; data2 = 0; data3 = 16384; data4 = 128 ∷ 0 ∷ 0 ∷ 0 ∷ 0 ∷ 0 ∷ 0 ∷ 1 ∷ [] }; model = model.Free; native = native.Counter; interfaces = 1 ∷ []; bodies = [] }) ∷ (record { name = codes "Rly"; clsid = record { data1 = 1544224963; data2 = 0; data3 = 16384; data4 = 128 ∷ 0 ∷ 0 ∷ 0 ∷ 0 ∷ 0 ∷ 0 ∷ 1 ∷ [] }; model = model.Both; native = native.Relay; interfaces = 2 ∷ []; bodies = [] }) ∷ (record { name = codes "Frl"; clsid = record { data1 = 1544224964; data2 = 0; data3 = 16384; data4 = 128 ∷ 0 ∷ 0 ∷ 0 ∷ 0 ∷ 0 ∷ 0 ∷ 1 ∷ [] }; model = model.Free; native = native.Relay; interfaces = 2 ∷ []; bodies = [] }) ∷ [] };
+  classes = record {
+    interfaces = built_in_interfaces;
+    classes = (record {
+      name = codes "Cnt";
+      clsid = record {
+        data1 = 1544224961;
+        data2 = 0;
+        data3 = 16384;
+        data4 = 128 ∷ 0 ∷ 0 ∷ 0 ∷ 0 ∷ 0 ∷ 0 ∷ 1 ∷ [];
+      };
+      model = model.Both;
+      native = native.Counter;
+      interfaces = 1 ∷ [];
+      bodies = [];
+    })
+        ∷ (record {
+          name = codes "Far";
+          clsid = record {
+            data1 = 1544224962;
+            data2 = 0;
+            data3 = 16384;
+            data4 = 128 ∷ 0 ∷ 0 ∷ 0 ∷ 0 ∷ 0 ∷ 0 ∷ 1 ∷ [];
+          };
+          model = model.Free;
+          native = native.Counter;
+          interfaces = 1 ∷ [];
+          bodies = [];
+        })
+        ∷ (record {
+          name = codes "Rly";
+          clsid = record {
+            data1 = 1544224963;
+            data2 = 0;
+            data3 = 16384;
+            data4 = 128 ∷ 0 ∷ 0 ∷ 0 ∷ 0 ∷ 0 ∷ 0 ∷ 1 ∷ [];
+          };
+          model = model.Both;
+          native = native.Relay;
+          interfaces = 2 ∷ [];
+          bodies = [];
+        })
+        ∷ (record {
+          name = codes "Frl";
+          clsid = record {
+            data1 = 1544224964;
+            data2 = 0;
+            data3 = 16384;
+            data4 = 128 ∷ 0 ∷ 0 ∷ 0 ∷ 0 ∷ 0 ∷ 0 ∷ 1 ∷ [];
+          };
+          model = model.Free;
+          native = native.Relay;
+          interfaces = 2 ∷ [];
+          bodies = [];
+        }) ∷ [];
+  };
   filters = [];
-  threads = ((stmt.Init mode.Sta) ∷ (stmt.Create 0 (asked.Number 1) (asked.Number 1)) ∷ (stmt.Create 1 (asked.Number 2) (asked.Number 1)) ∷ (stmt.Create 2 (asked.Number 3) (asked.Number 2)) ∷ (stmt.Create 3 (asked.Number 4) (asked.Number 2)) ∷ (stmt.Call 2 2 0 ((arg.Slot 1) ∷ []) destination.Nowhere) ∷ (stmt.Call 3 2 0 ((arg.Slot 0) ∷ []) destination.Nowhere) ∷ (stmt.Register 0 2) ∷ (stmt.Call 3 2 1 ((arg.Op (op.Literal (value.Int (pos 1)))) ∷ []) (destination.Register 1)) ∷ []) ∷ ((stmt.Init mode.Mta) ∷ (stmt.Get 0 (op.Literal (value.Int (pos 1)))) ∷ (stmt.Call 0 2 1 ((arg.Op (op.Literal (value.Int (pos 2)))) ∷ []) (destination.Register 1)) ∷ []) ∷ [];
-  picks = 1 ∷ 1 ∷ 1 ∷ 1 ∷ 1 ∷ 1 ∷ 1 ∷ 1 ∷ 1 ∷ 1 ∷ 1 ∷ 4 ∷ 4 ∷ 4 ∷ 1 ∷ 1 ∷ 2 ∷ 2 ∷ 1 ∷ 2 ∷ 1 ∷ 1 ∷ 1 ∷ 4 ∷ 4 ∷ 4 ∷ 1 ∷ 1 ∷ [];
+  threads =
+      ((stmt.Init mode.Sta) ∷ (stmt.Create 0 (asked.Number 1) (asked.Number 1))
+      ∷ (stmt.Create 1 (asked.Number 2) (asked.Number 1))
+      ∷ (stmt.Create 2 (asked.Number 3) (asked.Number 2))
+      ∷ (stmt.Create 3 (asked.Number 4) (asked.Number 2))
+      ∷ (stmt.Call 2 2 0 ((arg.Slot 1) ∷ []) destination.Nowhere)
+      ∷ (stmt.Call 3 2 0 ((arg.Slot 0) ∷ []) destination.Nowhere) ∷ (stmt.Register 0 2)
+      ∷ (stmt.Call 3 2 1 ((arg.Op (op.Literal (value.Int (pos 1)))) ∷ []) (destination.Register 1))
+      ∷ [])
+      ∷ ((stmt.Init mode.Mta) ∷ (stmt.Get 0 (op.Literal (value.Int (pos 1))))
+      ∷ (stmt.Call 0 2 1 ((arg.Op (op.Literal (value.Int (pos 2)))) ∷ []) (destination.Register 1))
+      ∷ []) ∷ [];
+  picks =
+      1 ∷ 1 ∷ 1 ∷ 1 ∷ 1 ∷ 1 ∷ 1 ∷ 1 ∷ 1 ∷ 1 ∷ 1 ∷ 4 ∷ 4 ∷ 4 ∷ 1 ∷ 1 ∷ 2 ∷ 2 ∷ 1 ∷ 2 ∷ 1 ∷ 1 ∷ 1 ∷ 4 ∷ 4 ∷ 4
+      ∷ 1 ∷ 1 ∷ [];
 }
 
 abbrev pub outer_causality_1 : List Entry
 outer_causality_1 = record { lane = 1; deed = deed.Init mode.Sta 3 (record { 0 = 0 }) } ∷ []
 
 abbrev pub outer_causality_2 : List Entry
-outer_causality_2 = record { lane = 1; deed = deed.Made (Some 1) (Some 3) (asked.Number 1) (asked.Number 1) (record { 0 = 0 }) } ∷ outer_causality_1
+outer_causality_2 =
+    record {
+      lane = 1;
+      deed = deed.Made (Some 1) (Some 3) (asked.Number 1) (asked.Number 1) (record { 0 = 0 });
+    }
+    ∷ outer_causality_1
 
 abbrev pub outer_causality_3 : List Entry
-outer_causality_3 = record { lane = 1; deed = deed.Made (Some 2) (Some 1) (asked.Number 2) (asked.Number 1) (record { 0 = 0 }) } ∷ outer_causality_2
+outer_causality_3 =
+    record {
+      lane = 1;
+      deed = deed.Made (Some 2) (Some 1) (asked.Number 2) (asked.Number 1) (record { 0 = 0 });
+    }
+    ∷ outer_causality_2
 
 abbrev pub outer_causality_4 : List Entry
-outer_causality_4 = record { lane = 1; deed = deed.Made (Some 3) (Some 3) (asked.Number 3) (asked.Number 2) (record { 0 = 0 }) } ∷ outer_causality_3
+outer_causality_4 =
+    record {
+      lane = 1;
+      deed = deed.Made (Some 3) (Some 3) (asked.Number 3) (asked.Number 2) (record { 0 = 0 });
+    }
+    ∷ outer_causality_3
 
 abbrev pub outer_causality_5 : List Entry
-outer_causality_5 = record { lane = 1; deed = deed.Made (Some 4) (Some 1) (asked.Number 4) (asked.Number 2) (record { 0 = 0 }) } ∷ outer_causality_4
+outer_causality_5 =
+    record {
+      lane = 1;
+      deed = deed.Made (Some 4) (Some 1) (asked.Number 4) (asked.Number 2) (record { 0 = 0 });
+    }
+    ∷ outer_causality_4
 
 abbrev pub outer_causality_6 : List Entry
-outer_causality_6 = record { lane = 1; deed = deed.Out 1 (Some 3) 2 0 route.Direct 1 None } ∷ outer_causality_5
+outer_causality_6 =
+    record { lane = 1; deed = deed.Out 1 (Some 3) 2 0 route.Direct 1 None } ∷ outer_causality_5
 
 abbrev pub outer_causality_7 : List Entry
-outer_causality_7 = record { lane = 1; deed = deed.Enter 1 3 3 None ((value.Ref (Some (record { object = 2; iface = 1 }))) ∷ []) } ∷ outer_causality_6
+outer_causality_7 =
+    record {
+      lane = 1;
+      deed = deed.Enter 1 3 3 None ((value.Ref (Some (record { object = 2; iface = 1 }))) ∷ []);
+    }
+    ∷ outer_causality_6
 
 abbrev pub outer_causality_8 : List Entry
-outer_causality_8 = record { lane = 1; deed = deed.Copy (Some (record { object = 2; iface = 1 })) } ∷ outer_causality_7
+outer_causality_8 =
+    record { lane = 1; deed = deed.Copy (Some (record { object = 2; iface = 1 })) } ∷ outer_causality_7
 
 abbrev pub outer_causality_9 : List Entry
 outer_causality_9 = record { lane = 1; deed = deed.Leave 1 (record { 0 = 0 }) None None } ∷ outer_causality_8
@@ -474,82 +970,171 @@ abbrev pub outer_causality_10 : List Entry
 outer_causality_10 = record { lane = 1; deed = deed.Back 1 (record { 0 = 0 }) None } ∷ outer_causality_9
 
 abbrev pub outer_causality_11 : List Entry
-outer_causality_11 = record { lane = 1; deed = deed.Out 2 (Some 4) 2 0 route.Post 2 (Some (5 ∷ 0 ∷ 7 ∷ 0 ∷ 0 ∷ 0 ∷ 0 ∷ 0 ∷ 0 ∷ 0 ∷ 0 ∷ 0 ∷ 2 ∷ 0 ∷ 0 ∷ 0 ∷ 0 ∷ 0 ∷ 0 ∷ 0 ∷ 0 ∷ 0 ∷ 0 ∷ 0 ∷ 0 ∷ 0 ∷ 0 ∷ 0 ∷ 0 ∷ 0 ∷ 0 ∷ 0 ∷ 0 ∷ 0 ∷ 2 ∷ 0 ∷ 72 ∷ 0 ∷ 0 ∷ 0 ∷ 72 ∷ 0 ∷ 0 ∷ 0 ∷ 77 ∷ 69 ∷ 79 ∷ 87 ∷ 1 ∷ 0 ∷ 0 ∷ 0 ∷ 1 ∷ 0 ∷ 11 ∷ 92 ∷ 0 ∷ 0 ∷ 0 ∷ 64 ∷ 128 ∷ 0 ∷ 0 ∷ 0 ∷ 0 ∷ 0 ∷ 0 ∷ 1 ∷ 0 ∷ 0 ∷ 0 ∷ 0 ∷ 5 ∷ 0 ∷ 0 ∷ 0 ∷ 3 ∷ 0 ∷ 0 ∷ 0 ∷ 0 ∷ 0 ∷ 0 ∷ 0 ∷ 1 ∷ 0 ∷ 0 ∷ 0 ∷ 0 ∷ 0 ∷ 0 ∷ 0 ∷ 1 ∷ 0 ∷ 0 ∷ 0 ∷ 1 ∷ 0 ∷ 3 ∷ 0 ∷ 1 ∷ 0 ∷ 0 ∷ 0 ∷ 0 ∷ 0 ∷ 0 ∷ 0 ∷ 2 ∷ 0 ∷ 1 ∷ 0 ∷ 0 ∷ 0 ∷ 0 ∷ 0 ∷ [])) } ∷ outer_causality_10
+outer_causality_11 =
+    record {
+      lane = 1;
+      deed = deed.Out 2 (Some 4) 2 0 route.Post 2
+          (Some (5 ∷ 0 ∷ 7 ∷ 0 ∷ 0 ∷ 0 ∷ 0 ∷ 0 ∷ 0 ∷ 0 ∷ 0 ∷ 0 ∷ 2 ∷ 0 ∷ 0 ∷ 0 ∷ 0 ∷ 0 ∷ 0 ∷ 0 ∷ 0 ∷ 0 ∷ 0 ∷ 0
+          ∷ 0 ∷ 0 ∷ 0 ∷ 0 ∷ 0 ∷ 0 ∷ 0 ∷ 0 ∷ 0 ∷ 0 ∷ 2 ∷ 0 ∷ 72 ∷ 0 ∷ 0 ∷ 0 ∷ 72 ∷ 0 ∷ 0 ∷ 0 ∷ 77 ∷ 69 ∷ 79
+          ∷ 87 ∷ 1 ∷ 0 ∷ 0 ∷ 0 ∷ 1 ∷ 0 ∷ 11 ∷ 92 ∷ 0 ∷ 0 ∷ 0 ∷ 64 ∷ 128 ∷ 0 ∷ 0 ∷ 0 ∷ 0 ∷ 0 ∷ 0 ∷ 1 ∷ 0 ∷ 0
+          ∷ 0 ∷ 0 ∷ 5 ∷ 0 ∷ 0 ∷ 0 ∷ 3 ∷ 0 ∷ 0 ∷ 0 ∷ 0 ∷ 0 ∷ 0 ∷ 0 ∷ 1 ∷ 0 ∷ 0 ∷ 0 ∷ 0 ∷ 0 ∷ 0 ∷ 0 ∷ 1 ∷ 0 ∷ 0
+          ∷ 0 ∷ 1 ∷ 0 ∷ 3 ∷ 0 ∷ 1 ∷ 0 ∷ 0 ∷ 0 ∷ 0 ∷ 0 ∷ 0 ∷ 0 ∷ 2 ∷ 0 ∷ 1 ∷ 0 ∷ 0 ∷ 0 ∷ 0 ∷ 0 ∷ []));
+    }
+    ∷ outer_causality_10
 
 abbrev pub outer_causality_12 : List Entry
-outer_causality_12 = record { lane = 4; deed = deed.Enter 2 4 1 None ((value.Ref (Some (record { object = 1; iface = 1 }))) ∷ []) } ∷ outer_causality_11
+outer_causality_12 =
+    record {
+      lane = 4;
+      deed = deed.Enter 2 4 1 None ((value.Ref (Some (record { object = 1; iface = 1 }))) ∷ []);
+    }
+    ∷ outer_causality_11
 
 abbrev pub outer_causality_13 : List Entry
-outer_causality_13 = record { lane = 4; deed = deed.Copy (Some (record { object = 1; iface = 1 })) } ∷ outer_causality_12
+outer_causality_13 =
+    record { lane = 4; deed = deed.Copy (Some (record { object = 1; iface = 1 })) } ∷ outer_causality_12
 
 abbrev pub outer_causality_14 : List Entry
-outer_causality_14 = record { lane = 4; deed = deed.Leave 2 (record { 0 = 0 }) None (Some (0 ∷ 0 ∷ 0 ∷ 0 ∷ 0 ∷ 0 ∷ 0 ∷ 0 ∷ 0 ∷ 0 ∷ 0 ∷ 0 ∷ [])) } ∷ outer_causality_13
+outer_causality_14 =
+    record {
+      lane = 4;
+      deed = deed.Leave 2 (record { 0 = 0 }) None
+          (Some (0 ∷ 0 ∷ 0 ∷ 0 ∷ 0 ∷ 0 ∷ 0 ∷ 0 ∷ 0 ∷ 0 ∷ 0 ∷ 0 ∷ []));
+    } ∷ outer_causality_13
 
 abbrev pub outer_causality_15 : List Entry
 outer_causality_15 = record { lane = 1; deed = deed.Back 2 (record { 0 = 0 }) None } ∷ outer_causality_14
 
 abbrev pub outer_causality_16 : List Entry
-outer_causality_16 = record { lane = 1; deed = deed.Register (Some 1) (Some (record { object = 3; iface = 2 })) (record { 0 = 0 }) } ∷ outer_causality_15
+outer_causality_16 =
+    record {
+      lane = 1;
+      deed = deed.Register (Some 1) (Some (record { object = 3; iface = 2 })) (record { 0 = 0 });
+    }
+    ∷ outer_causality_15
 
 abbrev pub outer_causality_17 : List Entry
 outer_causality_17 = record { lane = 2; deed = deed.Init mode.Mta 1 (record { 0 = 0 }) } ∷ outer_causality_16
 
 abbrev pub outer_causality_18 : List Entry
-outer_causality_18 = record { lane = 2; deed = deed.Get (pos 1) (Some (record { object = 3; iface = 2 })) 5 (record { 0 = 0 }) } ∷ outer_causality_17
+outer_causality_18 =
+    record {
+      lane = 2;
+      deed = deed.Get (pos 1) (Some (record { object = 3; iface = 2 })) 5 (record { 0 = 0 });
+    }
+    ∷ outer_causality_17
 
 abbrev pub outer_causality_19 : List Entry
-outer_causality_19 = record { lane = 1; deed = deed.Out 3 (Some 4) 2 1 route.Post 3 (Some (5 ∷ 0 ∷ 7 ∷ 0 ∷ 0 ∷ 0 ∷ 0 ∷ 0 ∷ 0 ∷ 0 ∷ 0 ∷ 0 ∷ 3 ∷ 0 ∷ 0 ∷ 0 ∷ 0 ∷ 0 ∷ 0 ∷ 0 ∷ 0 ∷ 0 ∷ 0 ∷ 0 ∷ 0 ∷ 0 ∷ 0 ∷ 0 ∷ 0 ∷ 0 ∷ 0 ∷ 0 ∷ 1 ∷ 0 ∷ 0 ∷ 0 ∷ 0 ∷ 0 ∷ 0 ∷ 0 ∷ [])) } ∷ outer_causality_18
+outer_causality_19 =
+    record {
+      lane = 1;
+      deed = deed.Out 3 (Some 4) 2 1 route.Post 3
+          (Some (5 ∷ 0 ∷ 7 ∷ 0 ∷ 0 ∷ 0 ∷ 0 ∷ 0 ∷ 0 ∷ 0 ∷ 0 ∷ 0 ∷ 3 ∷ 0 ∷ 0 ∷ 0 ∷ 0 ∷ 0 ∷ 0 ∷ 0 ∷ 0 ∷ 0 ∷ 0 ∷ 0
+          ∷ 0 ∷ 0 ∷ 0 ∷ 0 ∷ 0 ∷ 0 ∷ 0 ∷ 0 ∷ 1 ∷ 0 ∷ 0 ∷ 0 ∷ 0 ∷ 0 ∷ 0 ∷ 0 ∷ []));
+    } ∷ outer_causality_18
 
 abbrev pub outer_causality_20 : List Entry
-outer_causality_20 = record { lane = 2; deed = deed.Out 4 (Some 3) 2 1 route.Post 4 (Some (5 ∷ 0 ∷ 7 ∷ 0 ∷ 0 ∷ 0 ∷ 0 ∷ 0 ∷ 0 ∷ 0 ∷ 0 ∷ 0 ∷ 4 ∷ 0 ∷ 0 ∷ 0 ∷ 0 ∷ 0 ∷ 0 ∷ 0 ∷ 0 ∷ 0 ∷ 0 ∷ 0 ∷ 0 ∷ 0 ∷ 0 ∷ 0 ∷ 0 ∷ 0 ∷ 0 ∷ 0 ∷ 2 ∷ 0 ∷ 0 ∷ 0 ∷ 0 ∷ 0 ∷ 0 ∷ 0 ∷ [])) } ∷ outer_causality_19
+outer_causality_20 =
+    record {
+      lane = 2;
+      deed = deed.Out 4 (Some 3) 2 1 route.Post 4
+          (Some (5 ∷ 0 ∷ 7 ∷ 0 ∷ 0 ∷ 0 ∷ 0 ∷ 0 ∷ 0 ∷ 0 ∷ 0 ∷ 0 ∷ 4 ∷ 0 ∷ 0 ∷ 0 ∷ 0 ∷ 0 ∷ 0 ∷ 0 ∷ 0 ∷ 0 ∷ 0 ∷ 0
+          ∷ 0 ∷ 0 ∷ 0 ∷ 0 ∷ 0 ∷ 0 ∷ 0 ∷ 0 ∷ 2 ∷ 0 ∷ 0 ∷ 0 ∷ 0 ∷ 0 ∷ 0 ∷ 0 ∷ []));
+    } ∷ outer_causality_19
 
 abbrev pub outer_causality_21 : List Entry
-outer_causality_21 = record { lane = 1; deed = deed.Enter 4 3 3 (Some 4) ((value.Int (pos 2)) ∷ []) } ∷ outer_causality_20
+outer_causality_21 =
+    record { lane = 1; deed = deed.Enter 4 3 3 (Some 4) ((value.Int (pos 2)) ∷ []) } ∷ outer_causality_20
 
 abbrev pub outer_causality_22 : List Entry
-outer_causality_22 = record { lane = 1; deed = deed.Copy (Some (record { object = 2; iface = 1 })) } ∷ outer_causality_21
+outer_causality_22 =
+    record { lane = 1; deed = deed.Copy (Some (record { object = 2; iface = 1 })) } ∷ outer_causality_21
 
 abbrev pub outer_causality_23 : List Entry
-outer_causality_23 = record { lane = 1; deed = deed.Out 5 (Some 2) 1 0 route.Post 4 (Some (5 ∷ 0 ∷ 7 ∷ 0 ∷ 0 ∷ 0 ∷ 0 ∷ 0 ∷ 0 ∷ 0 ∷ 0 ∷ 0 ∷ 4 ∷ 0 ∷ 0 ∷ 0 ∷ 0 ∷ 0 ∷ 0 ∷ 0 ∷ 0 ∷ 0 ∷ 0 ∷ 0 ∷ 0 ∷ 0 ∷ 0 ∷ 0 ∷ 0 ∷ 0 ∷ 0 ∷ 0 ∷ 2 ∷ 0 ∷ 0 ∷ 0 ∷ 0 ∷ 0 ∷ 0 ∷ 0 ∷ [])) } ∷ outer_causality_22
+outer_causality_23 =
+    record {
+      lane = 1;
+      deed = deed.Out 5 (Some 2) 1 0 route.Post 4
+          (Some (5 ∷ 0 ∷ 7 ∷ 0 ∷ 0 ∷ 0 ∷ 0 ∷ 0 ∷ 0 ∷ 0 ∷ 0 ∷ 0 ∷ 4 ∷ 0 ∷ 0 ∷ 0 ∷ 0 ∷ 0 ∷ 0 ∷ 0 ∷ 0 ∷ 0 ∷ 0 ∷ 0
+          ∷ 0 ∷ 0 ∷ 0 ∷ 0 ∷ 0 ∷ 0 ∷ 0 ∷ 0 ∷ 2 ∷ 0 ∷ 0 ∷ 0 ∷ 0 ∷ 0 ∷ 0 ∷ 0 ∷ []));
+    } ∷ outer_causality_22
 
 abbrev pub outer_causality_24 : List Entry
-outer_causality_24 = record { lane = 4; deed = deed.Enter 3 4 1 None ((value.Int (pos 1)) ∷ []) } ∷ outer_causality_23
+outer_causality_24 =
+    record { lane = 4; deed = deed.Enter 3 4 1 None ((value.Int (pos 1)) ∷ []) } ∷ outer_causality_23
 
 abbrev pub outer_causality_25 : List Entry
-outer_causality_25 = record { lane = 4; deed = deed.Copy (Some (record { object = 1; iface = 1 })) } ∷ outer_causality_24
+outer_causality_25 =
+    record { lane = 4; deed = deed.Copy (Some (record { object = 1; iface = 1 })) } ∷ outer_causality_24
 
 abbrev pub outer_causality_26 : List Entry
-outer_causality_26 = record { lane = 4; deed = deed.Out 6 (Some 1) 1 0 route.Post 3 (Some (5 ∷ 0 ∷ 7 ∷ 0 ∷ 0 ∷ 0 ∷ 0 ∷ 0 ∷ 0 ∷ 0 ∷ 0 ∷ 0 ∷ 3 ∷ 0 ∷ 0 ∷ 0 ∷ 0 ∷ 0 ∷ 0 ∷ 0 ∷ 0 ∷ 0 ∷ 0 ∷ 0 ∷ 0 ∷ 0 ∷ 0 ∷ 0 ∷ 0 ∷ 0 ∷ 0 ∷ 0 ∷ 1 ∷ 0 ∷ 0 ∷ 0 ∷ 0 ∷ 0 ∷ 0 ∷ 0 ∷ [])) } ∷ outer_causality_25
+outer_causality_26 =
+    record {
+      lane = 4;
+      deed = deed.Out 6 (Some 1) 1 0 route.Post 3
+          (Some (5 ∷ 0 ∷ 7 ∷ 0 ∷ 0 ∷ 0 ∷ 0 ∷ 0 ∷ 0 ∷ 0 ∷ 0 ∷ 0 ∷ 3 ∷ 0 ∷ 0 ∷ 0 ∷ 0 ∷ 0 ∷ 0 ∷ 0 ∷ 0 ∷ 0 ∷ 0 ∷ 0
+          ∷ 0 ∷ 0 ∷ 0 ∷ 0 ∷ 0 ∷ 0 ∷ 0 ∷ 0 ∷ 1 ∷ 0 ∷ 0 ∷ 0 ∷ 0 ∷ 0 ∷ 0 ∷ 0 ∷ []));
+    } ∷ outer_causality_25
 
 abbrev pub outer_causality_27 : List Entry
-outer_causality_27 = record { lane = 1; deed = deed.Enter 6 1 3 (Some 2) ((value.Int (pos 1)) ∷ []) } ∷ outer_causality_26
+outer_causality_27 =
+    record { lane = 1; deed = deed.Enter 6 1 3 (Some 2) ((value.Int (pos 1)) ∷ []) } ∷ outer_causality_26
 
 abbrev pub outer_causality_28 : List Entry
-outer_causality_28 = record { lane = 1; deed = deed.Leave 6 (record { 0 = 0 }) (Some (value.Int (pos 1))) (Some (0 ∷ 0 ∷ 0 ∷ 0 ∷ 0 ∷ 0 ∷ 0 ∷ 0 ∷ 1 ∷ 0 ∷ 0 ∷ 0 ∷ 0 ∷ 0 ∷ 0 ∷ 0 ∷ 0 ∷ 0 ∷ 0 ∷ 0 ∷ [])) } ∷ outer_causality_27
+outer_causality_28 =
+    record {
+      lane = 1;
+      deed = deed.Leave 6 (record { 0 = 0 }) (Some (value.Int (pos 1)))
+          (Some (0 ∷ 0 ∷ 0 ∷ 0 ∷ 0 ∷ 0 ∷ 0 ∷ 0 ∷ 1 ∷ 0 ∷ 0 ∷ 0 ∷ 0 ∷ 0 ∷ 0 ∷ 0 ∷ 0 ∷ 0 ∷ 0 ∷ 0 ∷ []));
+    }
+    ∷ outer_causality_27
 
 abbrev pub outer_causality_29 : List Entry
-outer_causality_29 = record { lane = 4; deed = deed.Back 6 (record { 0 = 0 }) (Some (value.Int (pos 1))) } ∷ outer_causality_28
+outer_causality_29 =
+    record { lane = 4; deed = deed.Back 6 (record { 0 = 0 }) (Some (value.Int (pos 1))) } ∷ outer_causality_28
 
 abbrev pub outer_causality_30 : List Entry
-outer_causality_30 = record { lane = 5; deed = deed.Enter 5 2 1 None ((value.Int (pos 2)) ∷ []) } ∷ outer_causality_29
+outer_causality_30 =
+    record { lane = 5; deed = deed.Enter 5 2 1 None ((value.Int (pos 2)) ∷ []) } ∷ outer_causality_29
 
 abbrev pub outer_causality_31 : List Entry
-outer_causality_31 = record { lane = 4; deed = deed.Leave 3 (record { 0 = 0 }) (Some (value.Int (pos 1))) (Some (0 ∷ 0 ∷ 0 ∷ 0 ∷ 0 ∷ 0 ∷ 0 ∷ 0 ∷ 1 ∷ 0 ∷ 0 ∷ 0 ∷ 0 ∷ 0 ∷ 0 ∷ 0 ∷ 0 ∷ 0 ∷ 0 ∷ 0 ∷ [])) } ∷ outer_causality_30
+outer_causality_31 =
+    record {
+      lane = 4;
+      deed = deed.Leave 3 (record { 0 = 0 }) (Some (value.Int (pos 1)))
+          (Some (0 ∷ 0 ∷ 0 ∷ 0 ∷ 0 ∷ 0 ∷ 0 ∷ 0 ∷ 1 ∷ 0 ∷ 0 ∷ 0 ∷ 0 ∷ 0 ∷ 0 ∷ 0 ∷ 0 ∷ 0 ∷ 0 ∷ 0 ∷ []));
+    }
+    ∷ outer_causality_30
 
 abbrev pub outer_causality_32 : List Entry
-outer_causality_32 = record { lane = 5; deed = deed.Leave 5 (record { 0 = 0 }) (Some (value.Int (pos 2))) (Some (0 ∷ 0 ∷ 0 ∷ 0 ∷ 0 ∷ 0 ∷ 0 ∷ 0 ∷ 2 ∷ 0 ∷ 0 ∷ 0 ∷ 0 ∷ 0 ∷ 0 ∷ 0 ∷ 0 ∷ 0 ∷ 0 ∷ 0 ∷ [])) } ∷ outer_causality_31
+outer_causality_32 =
+    record {
+      lane = 5;
+      deed = deed.Leave 5 (record { 0 = 0 }) (Some (value.Int (pos 2)))
+          (Some (0 ∷ 0 ∷ 0 ∷ 0 ∷ 0 ∷ 0 ∷ 0 ∷ 0 ∷ 2 ∷ 0 ∷ 0 ∷ 0 ∷ 0 ∷ 0 ∷ 0 ∷ 0 ∷ 0 ∷ 0 ∷ 0 ∷ 0 ∷ []));
+    }
+    ∷ outer_causality_31
 
 abbrev pub outer_causality_33 : List Entry
-outer_causality_33 = record { lane = 1; deed = deed.Back 5 (record { 0 = 0 }) (Some (value.Int (pos 2))) } ∷ outer_causality_32
+outer_causality_33 =
+    record { lane = 1; deed = deed.Back 5 (record { 0 = 0 }) (Some (value.Int (pos 2))) } ∷ outer_causality_32
 
 abbrev pub outer_causality_34 : List Entry
-outer_causality_34 = record { lane = 1; deed = deed.Leave 4 (record { 0 = 0 }) (Some (value.Int (pos 2))) (Some (0 ∷ 0 ∷ 0 ∷ 0 ∷ 0 ∷ 0 ∷ 0 ∷ 0 ∷ 2 ∷ 0 ∷ 0 ∷ 0 ∷ 0 ∷ 0 ∷ 0 ∷ 0 ∷ 0 ∷ 0 ∷ 0 ∷ 0 ∷ [])) } ∷ outer_causality_33
+outer_causality_34 =
+    record {
+      lane = 1;
+      deed = deed.Leave 4 (record { 0 = 0 }) (Some (value.Int (pos 2)))
+          (Some (0 ∷ 0 ∷ 0 ∷ 0 ∷ 0 ∷ 0 ∷ 0 ∷ 0 ∷ 2 ∷ 0 ∷ 0 ∷ 0 ∷ 0 ∷ 0 ∷ 0 ∷ 0 ∷ 0 ∷ 0 ∷ 0 ∷ 0 ∷ []));
+    }
+    ∷ outer_causality_33
 
 abbrev pub outer_causality_35 : List Entry
-outer_causality_35 = record { lane = 2; deed = deed.Back 4 (record { 0 = 0 }) (Some (value.Int (pos 2))) } ∷ outer_causality_34
+outer_causality_35 =
+    record { lane = 2; deed = deed.Back 4 (record { 0 = 0 }) (Some (value.Int (pos 2))) } ∷ outer_causality_34
 
 abbrev pub outer_causality_36 : List Entry
-outer_causality_36 = record { lane = 1; deed = deed.Back 3 (record { 0 = 0 }) (Some (value.Int (pos 1))) } ∷ outer_causality_35
+outer_causality_36 =
+    record { lane = 1; deed = deed.Back 3 (record { 0 = 0 }) (Some (value.Int (pos 1))) } ∷ outer_causality_35
 
 abbrev pub outer_causality_37 : List Entry
 outer_causality_37 = record { lane = 2; deed = deed.Uninit (Some 1) 0 } ∷ outer_causality_36
@@ -580,9 +1165,44 @@ abbrev pub delayed : Scenario
 delayed = record {
   version = 1;
   pool = 1;
-  classes = record { interfaces = built_in_interfaces; classes = (record { name = codes "Cnt"; clsid = record { data1 = 1544224961; data2 = 0; data3 = 16384; data4 = 128 ∷ 0 ∷ 0 ∷ 0 ∷ 0 ∷ 0 ∷ 0 ∷ 1 ∷ [] }; model = model.Both; native = native.Counter; interfaces = 1 ∷ []; bodies = [] }) ∷ (record { name = codes "Far"; clsid = record { data1 = 1544224962; data2 = 0; data3 = 16384; data4 = 128 ∷ 0 ∷ 0 ∷ 0 ∷ 0 ∷ 0 ∷ 0 ∷ 1 ∷ [] }; model = model.Free; native = native.Counter; interfaces = 1 ∷ []; bodies = [] }) ∷ [] };
+  classes = record {
+    interfaces = built_in_interfaces;
+    classes = (record {
+      name = codes "Cnt";
+      clsid = record {
+        data1 = 1544224961;
+        data2 = 0;
+        data3 = 16384;
+        data4 = 128 ∷ 0 ∷ 0 ∷ 0 ∷ 0 ∷ 0 ∷ 0 ∷ 1 ∷ [];
+      };
+      model = model.Both;
+      native = native.Counter;
+      interfaces = 1 ∷ [];
+      bodies = [];
+    })
+        ∷ (record {
+          name = codes "Far";
+          clsid = record {
+            data1 = 1544224962;
+            data2 = 0;
+            data3 = 16384;
+            data4 = 128 ∷ 0 ∷ 0 ∷ 0 ∷ 0 ∷ 0 ∷ 0 ∷ 1 ∷ [];
+          };
+          model = model.Free;
+          native = native.Counter;
+          interfaces = 1 ∷ [];
+          bodies = [];
+        }) ∷ [];
+  };
   filters = ((rule.Incoming (Some 4) 0 verdict.Later) ∷ []) ∷ ((rule.Retry None 0 (pos 100)) ∷ []) ∷ [];
-  threads = ((stmt.Init mode.Sta) ∷ (stmt.SetFilter (Some 1)) ∷ (stmt.Create 0 (asked.Number 1) (asked.Number 1)) ∷ (stmt.Create 1 (asked.Number 2) (asked.Number 1)) ∷ (stmt.Register 0 0) ∷ (stmt.Call 1 1 0 ((arg.Op (op.Literal (value.Int (pos 1)))) ∷ []) (destination.Register 1)) ∷ (stmt.Pump 1) ∷ []) ∷ ((stmt.Init mode.Sta) ∷ (stmt.SetFilter (Some 2)) ∷ (stmt.Get 0 (op.Literal (value.Int (pos 1)))) ∷ (stmt.Call 0 1 0 ((arg.Op (op.Literal (value.Int (pos 2)))) ∷ []) (destination.Register 1)) ∷ []) ∷ [];
+  threads =
+      ((stmt.Init mode.Sta) ∷ (stmt.SetFilter (Some 1)) ∷ (stmt.Create 0 (asked.Number 1) (asked.Number 1))
+      ∷ (stmt.Create 1 (asked.Number 2) (asked.Number 1)) ∷ (stmt.Register 0 0)
+      ∷ (stmt.Call 1 1 0 ((arg.Op (op.Literal (value.Int (pos 1)))) ∷ []) (destination.Register 1))
+      ∷ (stmt.Pump 1) ∷ [])
+      ∷ ((stmt.Init mode.Sta) ∷ (stmt.SetFilter (Some 2)) ∷ (stmt.Get 0 (op.Literal (value.Int (pos 1))))
+      ∷ (stmt.Call 0 1 0 ((arg.Op (op.Literal (value.Int (pos 2)))) ∷ []) (destination.Register 1))
+      ∷ []) ∷ [];
   picks = 1 ∷ 1 ∷ 1 ∷ 1 ∷ 1 ∷ 2 ∷ 2 ∷ 2 ∷ 1 ∷ 2 ∷ 1 ∷ [];
 }
 
@@ -593,13 +1213,28 @@ abbrev pub delayed_2 : List Entry
 delayed_2 = record { lane = 1; deed = deed.SetFilter (Some 1) (record { 0 = 0 }) } ∷ delayed_1
 
 abbrev pub delayed_3 : List Entry
-delayed_3 = record { lane = 1; deed = deed.Made (Some 1) (Some 3) (asked.Number 1) (asked.Number 1) (record { 0 = 0 }) } ∷ delayed_2
+delayed_3 =
+    record {
+      lane = 1;
+      deed = deed.Made (Some 1) (Some 3) (asked.Number 1) (asked.Number 1) (record { 0 = 0 });
+    }
+    ∷ delayed_2
 
 abbrev pub delayed_4 : List Entry
-delayed_4 = record { lane = 1; deed = deed.Made (Some 2) (Some 1) (asked.Number 2) (asked.Number 1) (record { 0 = 0 }) } ∷ delayed_3
+delayed_4 =
+    record {
+      lane = 1;
+      deed = deed.Made (Some 2) (Some 1) (asked.Number 2) (asked.Number 1) (record { 0 = 0 });
+    }
+    ∷ delayed_3
 
 abbrev pub delayed_5 : List Entry
-delayed_5 = record { lane = 1; deed = deed.Register (Some 1) (Some (record { object = 1; iface = 1 })) (record { 0 = 0 }) } ∷ delayed_4
+delayed_5 =
+    record {
+      lane = 1;
+      deed = deed.Register (Some 1) (Some (record { object = 1; iface = 1 })) (record { 0 = 0 });
+    }
+    ∷ delayed_4
 
 abbrev pub delayed_6 : List Entry
 delayed_6 = record { lane = 2; deed = deed.Init mode.Sta 4 (record { 0 = 0 }) } ∷ delayed_5
@@ -608,13 +1243,29 @@ abbrev pub delayed_7 : List Entry
 delayed_7 = record { lane = 2; deed = deed.SetFilter (Some 2) (record { 0 = 0 }) } ∷ delayed_6
 
 abbrev pub delayed_8 : List Entry
-delayed_8 = record { lane = 2; deed = deed.Get (pos 1) (Some (record { object = 1; iface = 1 })) 5 (record { 0 = 0 }) } ∷ delayed_7
+delayed_8 =
+    record {
+      lane = 2;
+      deed = deed.Get (pos 1) (Some (record { object = 1; iface = 1 })) 5 (record { 0 = 0 });
+    } ∷ delayed_7
 
 abbrev pub delayed_9 : List Entry
-delayed_9 = record { lane = 1; deed = deed.Out 1 (Some 2) 1 0 route.Post 1 (Some (5 ∷ 0 ∷ 7 ∷ 0 ∷ 0 ∷ 0 ∷ 0 ∷ 0 ∷ 0 ∷ 0 ∷ 0 ∷ 0 ∷ 1 ∷ 0 ∷ 0 ∷ 0 ∷ 0 ∷ 0 ∷ 0 ∷ 0 ∷ 0 ∷ 0 ∷ 0 ∷ 0 ∷ 0 ∷ 0 ∷ 0 ∷ 0 ∷ 0 ∷ 0 ∷ 0 ∷ 0 ∷ 1 ∷ 0 ∷ 0 ∷ 0 ∷ 0 ∷ 0 ∷ 0 ∷ 0 ∷ [])) } ∷ delayed_8
+delayed_9 =
+    record {
+      lane = 1;
+      deed = deed.Out 1 (Some 2) 1 0 route.Post 1
+          (Some (5 ∷ 0 ∷ 7 ∷ 0 ∷ 0 ∷ 0 ∷ 0 ∷ 0 ∷ 0 ∷ 0 ∷ 0 ∷ 0 ∷ 1 ∷ 0 ∷ 0 ∷ 0 ∷ 0 ∷ 0 ∷ 0 ∷ 0 ∷ 0 ∷ 0 ∷ 0 ∷ 0
+          ∷ 0 ∷ 0 ∷ 0 ∷ 0 ∷ 0 ∷ 0 ∷ 0 ∷ 0 ∷ 1 ∷ 0 ∷ 0 ∷ 0 ∷ 0 ∷ 0 ∷ 0 ∷ 0 ∷ []));
+    } ∷ delayed_8
 
 abbrev pub delayed_10 : List Entry
-delayed_10 = record { lane = 2; deed = deed.Out 2 (Some 1) 1 0 route.Post 2 (Some (5 ∷ 0 ∷ 7 ∷ 0 ∷ 0 ∷ 0 ∷ 0 ∷ 0 ∷ 0 ∷ 0 ∷ 0 ∷ 0 ∷ 2 ∷ 0 ∷ 0 ∷ 0 ∷ 0 ∷ 0 ∷ 0 ∷ 0 ∷ 0 ∷ 0 ∷ 0 ∷ 0 ∷ 0 ∷ 0 ∷ 0 ∷ 0 ∷ 0 ∷ 0 ∷ 0 ∷ 0 ∷ 2 ∷ 0 ∷ 0 ∷ 0 ∷ 0 ∷ 0 ∷ 0 ∷ 0 ∷ [])) } ∷ delayed_9
+delayed_10 =
+    record {
+      lane = 2;
+      deed = deed.Out 2 (Some 1) 1 0 route.Post 2
+          (Some (5 ∷ 0 ∷ 7 ∷ 0 ∷ 0 ∷ 0 ∷ 0 ∷ 0 ∷ 0 ∷ 0 ∷ 0 ∷ 0 ∷ 2 ∷ 0 ∷ 0 ∷ 0 ∷ 0 ∷ 0 ∷ 0 ∷ 0 ∷ 0 ∷ 0 ∷ 0 ∷ 0
+          ∷ 0 ∷ 0 ∷ 0 ∷ 0 ∷ 0 ∷ 0 ∷ 0 ∷ 0 ∷ 2 ∷ 0 ∷ 0 ∷ 0 ∷ 0 ∷ 0 ∷ 0 ∷ 0 ∷ []));
+    } ∷ delayed_9
 
 abbrev pub delayed_11 : List Entry
 delayed_11 = record { lane = 1; deed = deed.Verdict 2 4 verdict.Later } ∷ delayed_10
@@ -626,10 +1277,17 @@ abbrev pub delayed_13 : List Entry
 delayed_13 = record { lane = 4; deed = deed.Enter 1 2 1 None ((value.Int (pos 1)) ∷ []) } ∷ delayed_12
 
 abbrev pub delayed_14 : List Entry
-delayed_14 = record { lane = 4; deed = deed.Leave 1 (record { 0 = 0 }) (Some (value.Int (pos 1))) (Some (0 ∷ 0 ∷ 0 ∷ 0 ∷ 0 ∷ 0 ∷ 0 ∷ 0 ∷ 1 ∷ 0 ∷ 0 ∷ 0 ∷ 0 ∷ 0 ∷ 0 ∷ 0 ∷ 0 ∷ 0 ∷ 0 ∷ 0 ∷ [])) } ∷ delayed_13
+delayed_14 =
+    record {
+      lane = 4;
+      deed = deed.Leave 1 (record { 0 = 0 }) (Some (value.Int (pos 1)))
+          (Some (0 ∷ 0 ∷ 0 ∷ 0 ∷ 0 ∷ 0 ∷ 0 ∷ 0 ∷ 1 ∷ 0 ∷ 0 ∷ 0 ∷ 0 ∷ 0 ∷ 0 ∷ 0 ∷ 0 ∷ 0 ∷ 0 ∷ 0 ∷ []));
+    }
+    ∷ delayed_13
 
 abbrev pub delayed_15 : List Entry
-delayed_15 = record { lane = 1; deed = deed.Back 1 (record { 0 = 0 }) (Some (value.Int (pos 1))) } ∷ delayed_14
+delayed_15 =
+    record { lane = 1; deed = deed.Back 1 (record { 0 = 0 }) (Some (value.Int (pos 1))) } ∷ delayed_14
 
 abbrev pub delayed_16 : List Entry
 delayed_16 = record { lane = 1; deed = deed.Pump 1 } ∷ delayed_15
@@ -644,10 +1302,17 @@ abbrev pub delayed_19 : List Entry
 delayed_19 = record { lane = 1; deed = deed.Enter 2 1 3 (Some 1) ((value.Int (pos 2)) ∷ []) } ∷ delayed_18
 
 abbrev pub delayed_20 : List Entry
-delayed_20 = record { lane = 1; deed = deed.Leave 2 (record { 0 = 0 }) (Some (value.Int (pos 2))) (Some (0 ∷ 0 ∷ 0 ∷ 0 ∷ 0 ∷ 0 ∷ 0 ∷ 0 ∷ 2 ∷ 0 ∷ 0 ∷ 0 ∷ 0 ∷ 0 ∷ 0 ∷ 0 ∷ 0 ∷ 0 ∷ 0 ∷ 0 ∷ [])) } ∷ delayed_19
+delayed_20 =
+    record {
+      lane = 1;
+      deed = deed.Leave 2 (record { 0 = 0 }) (Some (value.Int (pos 2)))
+          (Some (0 ∷ 0 ∷ 0 ∷ 0 ∷ 0 ∷ 0 ∷ 0 ∷ 0 ∷ 2 ∷ 0 ∷ 0 ∷ 0 ∷ 0 ∷ 0 ∷ 0 ∷ 0 ∷ 0 ∷ 0 ∷ 0 ∷ 0 ∷ []));
+    }
+    ∷ delayed_19
 
 abbrev pub delayed_21 : List Entry
-delayed_21 = record { lane = 2; deed = deed.Back 2 (record { 0 = 0 }) (Some (value.Int (pos 2))) } ∷ delayed_20
+delayed_21 =
+    record { lane = 2; deed = deed.Back 2 (record { 0 = 0 }) (Some (value.Int (pos 2))) } ∷ delayed_20
 
 abbrev pub delayed_22 : List Entry
 delayed_22 = record { lane = 1; deed = deed.EndPump } ∷ delayed_21
@@ -675,9 +1340,31 @@ abbrev pub forged : Scenario
 forged = record {
   version = 1;
   pool = 1;
-  classes = record { interfaces = built_in_interfaces; classes = (record { name = codes "Cnt"; clsid = record { data1 = 1544224961; data2 = 0; data3 = 16384; data4 = 128 ∷ 0 ∷ 0 ∷ 0 ∷ 0 ∷ 0 ∷ 0 ∷ 1 ∷ [] }; model = model.Both; native = native.Counter; interfaces = 1 ∷ []; bodies = [] }) ∷ [] };
+  classes = record {
+    interfaces = built_in_interfaces;
+    classes = (record {
+      name = codes "Cnt";
+      clsid = record {
+        data1 = 1544224961;
+        data2 = 0;
+        data3 = 16384;
+        data4 = 128 ∷ 0 ∷ 0 ∷ 0 ∷ 0 ∷ 0 ∷ 0 ∷ 1 ∷ [];
+      };
+      model = model.Both;
+      native = native.Counter;
+      interfaces = 1 ∷ [];
+      bodies = [];
+    }) ∷ [];
+  };
   filters = [];
-  threads = ((stmt.Init mode.Sta) ∷ (stmt.Create 0 (asked.Number 1) (asked.Number 1)) ∷ (stmt.Marshal 0 0 marshal.Normal) ∷ (stmt.Raw 1 (77 ∷ 69 ∷ 79 ∷ 87 ∷ 1 ∷ 0 ∷ 0 ∷ 0 ∷ 1 ∷ 0 ∷ 11 ∷ 92 ∷ 0 ∷ 0 ∷ 0 ∷ 64 ∷ 128 ∷ 0 ∷ 0 ∷ 0 ∷ 0 ∷ 0 ∷ 0 ∷ 1 ∷ 0 ∷ 0 ∷ 0 ∷ 0 ∷ 6 ∷ 0 ∷ 0 ∷ 0 ∷ 3 ∷ 0 ∷ 0 ∷ 0 ∷ 0 ∷ 0 ∷ 0 ∷ 0 ∷ 1 ∷ 0 ∷ 0 ∷ 0 ∷ 0 ∷ 0 ∷ 0 ∷ 0 ∷ 1 ∷ 0 ∷ 0 ∷ 0 ∷ 1 ∷ 0 ∷ 3 ∷ 0 ∷ 1 ∷ 0 ∷ 0 ∷ 0 ∷ 0 ∷ 0 ∷ 0 ∷ 0 ∷ 2 ∷ 0 ∷ 1 ∷ 0 ∷ 0 ∷ 0 ∷ 0 ∷ 0 ∷ [])) ∷ (stmt.Unmarshal 1 1) ∷ (stmt.Unmarshal 1 0) ∷ (stmt.Unmarshal 2 0) ∷ []) ∷ [];
+  threads =
+      ((stmt.Init mode.Sta) ∷ (stmt.Create 0 (asked.Number 1) (asked.Number 1))
+      ∷ (stmt.Marshal 0 0 marshal.Normal)
+      ∷ (stmt.Raw 1
+      (77 ∷ 69 ∷ 79 ∷ 87 ∷ 1 ∷ 0 ∷ 0 ∷ 0 ∷ 1 ∷ 0 ∷ 11 ∷ 92 ∷ 0 ∷ 0 ∷ 0 ∷ 64 ∷ 128 ∷ 0 ∷ 0 ∷ 0 ∷ 0 ∷ 0
+      ∷ 0 ∷ 1 ∷ 0 ∷ 0 ∷ 0 ∷ 0 ∷ 6 ∷ 0 ∷ 0 ∷ 0 ∷ 3 ∷ 0 ∷ 0 ∷ 0 ∷ 0 ∷ 0 ∷ 0 ∷ 0 ∷ 1 ∷ 0 ∷ 0 ∷ 0 ∷ 0 ∷ 0
+      ∷ 0 ∷ 0 ∷ 1 ∷ 0 ∷ 0 ∷ 0 ∷ 1 ∷ 0 ∷ 3 ∷ 0 ∷ 1 ∷ 0 ∷ 0 ∷ 0 ∷ 0 ∷ 0 ∷ 0 ∷ 0 ∷ 2 ∷ 0 ∷ 1 ∷ 0 ∷ 0 ∷ 0
+      ∷ 0 ∷ 0 ∷ [])) ∷ (stmt.Unmarshal 1 1) ∷ (stmt.Unmarshal 1 0) ∷ (stmt.Unmarshal 2 0) ∷ []) ∷ [];
   picks = [];
 }
 
@@ -685,10 +1372,23 @@ abbrev pub forged_1 : List Entry
 forged_1 = record { lane = 1; deed = deed.Init mode.Sta 3 (record { 0 = 0 }) } ∷ []
 
 abbrev pub forged_2 : List Entry
-forged_2 = record { lane = 1; deed = deed.Made (Some 1) (Some 3) (asked.Number 1) (asked.Number 1) (record { 0 = 0 }) } ∷ forged_1
+forged_2 =
+    record {
+      lane = 1;
+      deed = deed.Made (Some 1) (Some 3) (asked.Number 1) (asked.Number 1) (record { 0 = 0 });
+    } ∷ forged_1
 
 abbrev pub forged_3 : List Entry
-forged_3 = record { lane = 1; deed = deed.Marshal (Some 1) marshal.Normal (Some (record { object = 1; iface = 1 })) 5 (record { 0 = 0 }) (Some (77 ∷ 69 ∷ 79 ∷ 87 ∷ 1 ∷ 0 ∷ 0 ∷ 0 ∷ 1 ∷ 0 ∷ 11 ∷ 92 ∷ 0 ∷ 0 ∷ 0 ∷ 64 ∷ 128 ∷ 0 ∷ 0 ∷ 0 ∷ 0 ∷ 0 ∷ 0 ∷ 1 ∷ 0 ∷ 0 ∷ 0 ∷ 0 ∷ 5 ∷ 0 ∷ 0 ∷ 0 ∷ 3 ∷ 0 ∷ 0 ∷ 0 ∷ 0 ∷ 0 ∷ 0 ∷ 0 ∷ 1 ∷ 0 ∷ 0 ∷ 0 ∷ 0 ∷ 0 ∷ 0 ∷ 0 ∷ 1 ∷ 0 ∷ 0 ∷ 0 ∷ 1 ∷ 0 ∷ 3 ∷ 0 ∷ 1 ∷ 0 ∷ 0 ∷ 0 ∷ 0 ∷ 0 ∷ 0 ∷ 0 ∷ 2 ∷ 0 ∷ 1 ∷ 0 ∷ 0 ∷ 0 ∷ 0 ∷ 0 ∷ [])) } ∷ forged_2
+forged_3 =
+    record {
+      lane = 1;
+      deed = deed.Marshal (Some 1) marshal.Normal (Some (record { object = 1; iface = 1 })) 5
+          (record { 0 = 0 })
+          (Some (77 ∷ 69 ∷ 79 ∷ 87 ∷ 1 ∷ 0 ∷ 0 ∷ 0 ∷ 1 ∷ 0 ∷ 11 ∷ 92 ∷ 0 ∷ 0 ∷ 0 ∷ 64 ∷ 128 ∷ 0 ∷ 0 ∷ 0 ∷ 0
+          ∷ 0 ∷ 0 ∷ 1 ∷ 0 ∷ 0 ∷ 0 ∷ 0 ∷ 5 ∷ 0 ∷ 0 ∷ 0 ∷ 3 ∷ 0 ∷ 0 ∷ 0 ∷ 0 ∷ 0 ∷ 0 ∷ 0 ∷ 1 ∷ 0 ∷ 0 ∷ 0 ∷ 0 ∷ 0
+          ∷ 0 ∷ 0 ∷ 1 ∷ 0 ∷ 0 ∷ 0 ∷ 1 ∷ 0 ∷ 3 ∷ 0 ∷ 1 ∷ 0 ∷ 0 ∷ 0 ∷ 0 ∷ 0 ∷ 0 ∷ 0 ∷ 2 ∷ 0 ∷ 1 ∷ 0 ∷ 0 ∷ 0 ∷ 0
+          ∷ 0 ∷ []));
+    } ∷ forged_2
 
 abbrev pub forged_4 : List Entry
 forged_4 = record { lane = 1; deed = deed.Raw 1 72 } ∷ forged_3
@@ -697,7 +1397,12 @@ abbrev pub forged_5 : List Entry
 forged_5 = record { lane = 1; deed = deed.Unmarshal None None 0 (record { 0 = 0x800401fd }) } ∷ forged_4
 
 abbrev pub forged_6 : List Entry
-forged_6 = record { lane = 1; deed = deed.Unmarshal (Some 1) (Some (record { object = 1; iface = 1 })) 0 (record { 0 = 0 }) } ∷ forged_5
+forged_6 =
+    record {
+      lane = 1;
+      deed = deed.Unmarshal (Some 1) (Some (record { object = 1; iface = 1 })) 0 (record { 0 = 0 });
+    }
+    ∷ forged_5
 
 abbrev pub forged_7 : List Entry
 forged_7 = record { lane = 1; deed = deed.Unmarshal None None 0 (record { 0 = 0x800401fd }) } ∷ forged_6
@@ -716,9 +1421,27 @@ abbrev pub halved : Scenario
 halved = record {
   version = 1;
   pool = 1;
-  classes = record { interfaces = built_in_interfaces; classes = (record { name = codes "Far"; clsid = record { data1 = 1544224962; data2 = 0; data3 = 16384; data4 = 128 ∷ 0 ∷ 0 ∷ 0 ∷ 0 ∷ 0 ∷ 0 ∷ 1 ∷ [] }; model = model.Free; native = native.Counter; interfaces = 1 ∷ []; bodies = [] }) ∷ [] };
+  classes = record {
+    interfaces = built_in_interfaces;
+    classes = (record {
+      name = codes "Far";
+      clsid = record {
+        data1 = 1544224962;
+        data2 = 0;
+        data3 = 16384;
+        data4 = 128 ∷ 0 ∷ 0 ∷ 0 ∷ 0 ∷ 0 ∷ 0 ∷ 1 ∷ [];
+      };
+      model = model.Free;
+      native = native.Counter;
+      interfaces = 1 ∷ [];
+      bodies = [];
+    }) ∷ [];
+  };
   filters = [];
-  threads = ((stmt.Init mode.Sta) ∷ (stmt.Create 0 (asked.Number 1) (asked.Number 1)) ∷ (stmt.Marshal 0 0 marshal.Normal) ∷ (stmt.Marshal 1 0 marshal.Normal) ∷ (stmt.Marshal 2 0 marshal.Normal) ∷ (stmt.Marshal 3 0 marshal.Normal) ∷ []) ∷ [];
+  threads =
+      ((stmt.Init mode.Sta) ∷ (stmt.Create 0 (asked.Number 1) (asked.Number 1))
+      ∷ (stmt.Marshal 0 0 marshal.Normal) ∷ (stmt.Marshal 1 0 marshal.Normal)
+      ∷ (stmt.Marshal 2 0 marshal.Normal) ∷ (stmt.Marshal 3 0 marshal.Normal) ∷ []) ∷ [];
   picks = [];
 }
 
@@ -726,19 +1449,59 @@ abbrev pub halved_1 : List Entry
 halved_1 = record { lane = 1; deed = deed.Init mode.Sta 3 (record { 0 = 0 }) } ∷ []
 
 abbrev pub halved_2 : List Entry
-halved_2 = record { lane = 1; deed = deed.Made (Some 1) (Some 1) (asked.Number 1) (asked.Number 1) (record { 0 = 0 }) } ∷ halved_1
+halved_2 =
+    record {
+      lane = 1;
+      deed = deed.Made (Some 1) (Some 1) (asked.Number 1) (asked.Number 1) (record { 0 = 0 });
+    } ∷ halved_1
 
 abbrev pub halved_3 : List Entry
-halved_3 = record { lane = 1; deed = deed.Marshal (Some 1) marshal.Normal (Some (record { object = 1; iface = 1 })) 2 (record { 0 = 0 }) (Some (77 ∷ 69 ∷ 79 ∷ 87 ∷ 1 ∷ 0 ∷ 0 ∷ 0 ∷ 1 ∷ 0 ∷ 11 ∷ 92 ∷ 0 ∷ 0 ∷ 0 ∷ 64 ∷ 128 ∷ 0 ∷ 0 ∷ 0 ∷ 0 ∷ 0 ∷ 0 ∷ 1 ∷ 0 ∷ 0 ∷ 0 ∷ 0 ∷ 2 ∷ 0 ∷ 0 ∷ 0 ∷ 1 ∷ 0 ∷ 0 ∷ 0 ∷ 0 ∷ 0 ∷ 0 ∷ 0 ∷ 1 ∷ 0 ∷ 0 ∷ 0 ∷ 0 ∷ 0 ∷ 0 ∷ 0 ∷ 1 ∷ 0 ∷ 0 ∷ 0 ∷ 1 ∷ 0 ∷ 1 ∷ 0 ∷ 1 ∷ 0 ∷ 0 ∷ 0 ∷ 0 ∷ 0 ∷ 0 ∷ 0 ∷ 2 ∷ 0 ∷ 1 ∷ 0 ∷ 0 ∷ 0 ∷ 0 ∷ 0 ∷ [])) } ∷ halved_2
+halved_3 =
+    record {
+      lane = 1;
+      deed = deed.Marshal (Some 1) marshal.Normal (Some (record { object = 1; iface = 1 })) 2
+          (record { 0 = 0 })
+          (Some (77 ∷ 69 ∷ 79 ∷ 87 ∷ 1 ∷ 0 ∷ 0 ∷ 0 ∷ 1 ∷ 0 ∷ 11 ∷ 92 ∷ 0 ∷ 0 ∷ 0 ∷ 64 ∷ 128 ∷ 0 ∷ 0 ∷ 0 ∷ 0
+          ∷ 0 ∷ 0 ∷ 1 ∷ 0 ∷ 0 ∷ 0 ∷ 0 ∷ 2 ∷ 0 ∷ 0 ∷ 0 ∷ 1 ∷ 0 ∷ 0 ∷ 0 ∷ 0 ∷ 0 ∷ 0 ∷ 0 ∷ 1 ∷ 0 ∷ 0 ∷ 0 ∷ 0 ∷ 0
+          ∷ 0 ∷ 0 ∷ 1 ∷ 0 ∷ 0 ∷ 0 ∷ 1 ∷ 0 ∷ 1 ∷ 0 ∷ 1 ∷ 0 ∷ 0 ∷ 0 ∷ 0 ∷ 0 ∷ 0 ∷ 0 ∷ 2 ∷ 0 ∷ 1 ∷ 0 ∷ 0 ∷ 0 ∷ 0
+          ∷ 0 ∷ []));
+    } ∷ halved_2
 
 abbrev pub halved_4 : List Entry
-halved_4 = record { lane = 1; deed = deed.Marshal (Some 2) marshal.Normal (Some (record { object = 1; iface = 1 })) 1 (record { 0 = 0 }) (Some (77 ∷ 69 ∷ 79 ∷ 87 ∷ 1 ∷ 0 ∷ 0 ∷ 0 ∷ 1 ∷ 0 ∷ 11 ∷ 92 ∷ 0 ∷ 0 ∷ 0 ∷ 64 ∷ 128 ∷ 0 ∷ 0 ∷ 0 ∷ 0 ∷ 0 ∷ 0 ∷ 1 ∷ 0 ∷ 0 ∷ 0 ∷ 0 ∷ 1 ∷ 0 ∷ 0 ∷ 0 ∷ 1 ∷ 0 ∷ 0 ∷ 0 ∷ 0 ∷ 0 ∷ 0 ∷ 0 ∷ 1 ∷ 0 ∷ 0 ∷ 0 ∷ 0 ∷ 0 ∷ 0 ∷ 0 ∷ 1 ∷ 0 ∷ 0 ∷ 0 ∷ 1 ∷ 0 ∷ 1 ∷ 0 ∷ 2 ∷ 0 ∷ 0 ∷ 0 ∷ 0 ∷ 0 ∷ 0 ∷ 0 ∷ 2 ∷ 0 ∷ 1 ∷ 0 ∷ 0 ∷ 0 ∷ 0 ∷ 0 ∷ [])) } ∷ halved_3
+halved_4 =
+    record {
+      lane = 1;
+      deed = deed.Marshal (Some 2) marshal.Normal (Some (record { object = 1; iface = 1 })) 1
+          (record { 0 = 0 })
+          (Some (77 ∷ 69 ∷ 79 ∷ 87 ∷ 1 ∷ 0 ∷ 0 ∷ 0 ∷ 1 ∷ 0 ∷ 11 ∷ 92 ∷ 0 ∷ 0 ∷ 0 ∷ 64 ∷ 128 ∷ 0 ∷ 0 ∷ 0 ∷ 0
+          ∷ 0 ∷ 0 ∷ 1 ∷ 0 ∷ 0 ∷ 0 ∷ 0 ∷ 1 ∷ 0 ∷ 0 ∷ 0 ∷ 1 ∷ 0 ∷ 0 ∷ 0 ∷ 0 ∷ 0 ∷ 0 ∷ 0 ∷ 1 ∷ 0 ∷ 0 ∷ 0 ∷ 0 ∷ 0
+          ∷ 0 ∷ 0 ∷ 1 ∷ 0 ∷ 0 ∷ 0 ∷ 1 ∷ 0 ∷ 1 ∷ 0 ∷ 2 ∷ 0 ∷ 0 ∷ 0 ∷ 0 ∷ 0 ∷ 0 ∷ 0 ∷ 2 ∷ 0 ∷ 1 ∷ 0 ∷ 0 ∷ 0 ∷ 0
+          ∷ 0 ∷ []));
+    } ∷ halved_3
 
 abbrev pub halved_5 : List Entry
-halved_5 = record { lane = 1; deed = deed.Marshal (Some 3) marshal.Normal (Some (record { object = 1; iface = 1 })) 1 (record { 0 = 0 }) (Some (77 ∷ 69 ∷ 79 ∷ 87 ∷ 1 ∷ 0 ∷ 0 ∷ 0 ∷ 1 ∷ 0 ∷ 11 ∷ 92 ∷ 0 ∷ 0 ∷ 0 ∷ 64 ∷ 128 ∷ 0 ∷ 0 ∷ 0 ∷ 0 ∷ 0 ∷ 0 ∷ 1 ∷ 0 ∷ 0 ∷ 0 ∷ 0 ∷ 1 ∷ 0 ∷ 0 ∷ 0 ∷ 1 ∷ 0 ∷ 0 ∷ 0 ∷ 0 ∷ 0 ∷ 0 ∷ 0 ∷ 1 ∷ 0 ∷ 0 ∷ 0 ∷ 0 ∷ 0 ∷ 0 ∷ 0 ∷ 1 ∷ 0 ∷ 0 ∷ 0 ∷ 1 ∷ 0 ∷ 1 ∷ 0 ∷ 3 ∷ 0 ∷ 0 ∷ 0 ∷ 0 ∷ 0 ∷ 0 ∷ 0 ∷ 2 ∷ 0 ∷ 1 ∷ 0 ∷ 0 ∷ 0 ∷ 0 ∷ 0 ∷ [])) } ∷ halved_4
+halved_5 =
+    record {
+      lane = 1;
+      deed = deed.Marshal (Some 3) marshal.Normal (Some (record { object = 1; iface = 1 })) 1
+          (record { 0 = 0 })
+          (Some (77 ∷ 69 ∷ 79 ∷ 87 ∷ 1 ∷ 0 ∷ 0 ∷ 0 ∷ 1 ∷ 0 ∷ 11 ∷ 92 ∷ 0 ∷ 0 ∷ 0 ∷ 64 ∷ 128 ∷ 0 ∷ 0 ∷ 0 ∷ 0
+          ∷ 0 ∷ 0 ∷ 1 ∷ 0 ∷ 0 ∷ 0 ∷ 0 ∷ 1 ∷ 0 ∷ 0 ∷ 0 ∷ 1 ∷ 0 ∷ 0 ∷ 0 ∷ 0 ∷ 0 ∷ 0 ∷ 0 ∷ 1 ∷ 0 ∷ 0 ∷ 0 ∷ 0 ∷ 0
+          ∷ 0 ∷ 0 ∷ 1 ∷ 0 ∷ 0 ∷ 0 ∷ 1 ∷ 0 ∷ 1 ∷ 0 ∷ 3 ∷ 0 ∷ 0 ∷ 0 ∷ 0 ∷ 0 ∷ 0 ∷ 0 ∷ 2 ∷ 0 ∷ 1 ∷ 0 ∷ 0 ∷ 0 ∷ 0
+          ∷ 0 ∷ []));
+    } ∷ halved_4
 
 abbrev pub halved_6 : List Entry
-halved_6 = record { lane = 1; deed = deed.Marshal (Some 4) marshal.Normal (Some (record { object = 1; iface = 1 })) 5 (record { 0 = 0 }) (Some (77 ∷ 69 ∷ 79 ∷ 87 ∷ 1 ∷ 0 ∷ 0 ∷ 0 ∷ 1 ∷ 0 ∷ 11 ∷ 92 ∷ 0 ∷ 0 ∷ 0 ∷ 64 ∷ 128 ∷ 0 ∷ 0 ∷ 0 ∷ 0 ∷ 0 ∷ 0 ∷ 1 ∷ 0 ∷ 0 ∷ 0 ∷ 0 ∷ 5 ∷ 0 ∷ 0 ∷ 0 ∷ 1 ∷ 0 ∷ 0 ∷ 0 ∷ 0 ∷ 0 ∷ 0 ∷ 0 ∷ 1 ∷ 0 ∷ 0 ∷ 0 ∷ 0 ∷ 0 ∷ 0 ∷ 0 ∷ 1 ∷ 0 ∷ 0 ∷ 0 ∷ 1 ∷ 0 ∷ 1 ∷ 0 ∷ 4 ∷ 0 ∷ 0 ∷ 0 ∷ 0 ∷ 0 ∷ 0 ∷ 0 ∷ 2 ∷ 0 ∷ 1 ∷ 0 ∷ 0 ∷ 0 ∷ 0 ∷ 0 ∷ [])) } ∷ halved_5
+halved_6 =
+    record {
+      lane = 1;
+      deed = deed.Marshal (Some 4) marshal.Normal (Some (record { object = 1; iface = 1 })) 5
+          (record { 0 = 0 })
+          (Some (77 ∷ 69 ∷ 79 ∷ 87 ∷ 1 ∷ 0 ∷ 0 ∷ 0 ∷ 1 ∷ 0 ∷ 11 ∷ 92 ∷ 0 ∷ 0 ∷ 0 ∷ 64 ∷ 128 ∷ 0 ∷ 0 ∷ 0 ∷ 0
+          ∷ 0 ∷ 0 ∷ 1 ∷ 0 ∷ 0 ∷ 0 ∷ 0 ∷ 5 ∷ 0 ∷ 0 ∷ 0 ∷ 1 ∷ 0 ∷ 0 ∷ 0 ∷ 0 ∷ 0 ∷ 0 ∷ 0 ∷ 1 ∷ 0 ∷ 0 ∷ 0 ∷ 0 ∷ 0
+          ∷ 0 ∷ 0 ∷ 1 ∷ 0 ∷ 0 ∷ 0 ∷ 1 ∷ 0 ∷ 1 ∷ 0 ∷ 4 ∷ 0 ∷ 0 ∷ 0 ∷ 0 ∷ 0 ∷ 0 ∷ 0 ∷ 2 ∷ 0 ∷ 1 ∷ 0 ∷ 0 ∷ 0 ∷ 0
+          ∷ 0 ∷ []));
+    } ∷ halved_5
 
 abbrev pub halved_7 : List Entry
 halved_7 = record { lane = 1; deed = deed.Uninit (Some 3) 0 } ∷ halved_6

@@ -89,7 +89,8 @@ placing x c i (Some k) = placed_in k c i x
 
 abbrev pub made_as : Scenario → Sight → Asked → Asked → Result Placed HResult → Deed
 made_as s v k i (Err hr) = not_made s k i hr
-made_as s v k i (Ok p) = deed.Made (Some (v.objects + 1)) (Some p.owner) (asked.Number p.class) (asked.Number p.iface) S_OK
+made_as s v k i (Ok p) =
+    deed.Made (Some (v.objects + 1)) (Some p.owner) (asked.Number p.class) (asked.Number p.iface) S_OK
 
 abbrev pub created_of : Scenario → Sight → ℕ → ℕ → Asked → Asked → (class iface : Option ℕ) → Deed
 created_of s v l a k i None j = not_made s k i REGDB_E_CLASSNOTREG
@@ -121,7 +122,8 @@ object_in held = option_map (λ (r : RefValue). r.object) held
 
 abbrev pub queried : Scenario → Sight → ℕ → Option RefValue → Asked → Deed
 queried s v l held i =
-    deed.Query (object_in held) (shown (interface_number s i) i) (query_answer s v l (v.home l) held (interface_number s i))
+    deed.Query (object_in held) (shown (interface_number s i) i)
+    (query_answer s v l (v.home l) held (interface_number s i))
 
 -- The fields that a packet's bytes have: the interface, the references where it is a normal packet, the
 -- number of the owner as OXID, of the object as OID, and all with the packet's number as IPID.
@@ -171,7 +173,8 @@ abbrev pub marshalled : Scenario → Sight → ℕ → MarshalMode → Option Re
 marshalled s v l m held (Some hr) = deed.Marshal None m held 0 hr None
 marshalled s v l m None None = deed.Marshal None m None 0 E_POINTER None
 marshalled s v l m (Some r) None =
-    marshalled_as s v m (Some r) (with_packets v l (Marshals (number_or_zero (v.running l)) m r.object r.iface ∷ []))
+    marshalled_as s v m (Some r)
+    (with_packets v l (Marshals (number_or_zero (v.running l)) m r.object r.iface ∷ []))
 
 abbrev pub registered : Sight → Option RefValue → Option HResult → Deed
 registered v held (Some hr) = deed.Register None held hr
@@ -182,7 +185,8 @@ registered v held None = deed.Register (Some (length v.books.cookies + 1)) held 
 -- IPID are all its own. Source: CoUnmarshalInterface, CoReleaseMarshalData.
 abbrev pub same_fields : StdFields → StdFields → Bool
 same_fields f g =
-    same_guid f.iid g.iid && (f.refs == g.refs && (f.oxid == g.oxid && (f.oid == g.oid && same_guid f.ipid g.ipid)))
+    same_guid f.iid g.iid
+    && (f.refs == g.refs && (f.oxid == g.oxid && (f.oid == g.oid && same_guid f.ipid g.ipid)))
 
 abbrev pub is_named : Scenario → Sight → StdFields → ℕ → Bool
 is_named s v f p = (packet v.books p).outstanding && same_fields f (packet_fields s v (packet v.books p) p)
@@ -217,7 +221,8 @@ gained_refs _ false n = 5
 
 abbrev pub unmarshalled_as : Sight → ℕ → ℕ → Packet → Deed
 unmarshalled_as v l p k =
-    deed.Unmarshal (Some p) (Some (reference k.object k.iface)) (gained_refs k.mode (owned_by v l k.object) k.refs) S_OK
+    deed.Unmarshal (Some p) (Some (reference k.object k.iface))
+    (gained_refs k.mode (owned_by v l k.object) k.refs) S_OK
 
 abbrev pub unmarshalled : Sight → ℕ → Named → Deed
 unmarshalled v l (Refuses hr) = deed.Unmarshal None None 0 hr
@@ -236,7 +241,8 @@ cookie_number (negsuc g) = 0
 abbrev pub got_with : Sight → ℕ → ℤ → Cookie → Deed
 got_with v l g k =
     if v.books.live k.object
-    then deed.Get g (Some (reference k.object k.iface)) (gained_refs marshal.Strong (owned_by v l k.object) 0) S_OK
+    then deed.Get g (Some (reference k.object k.iface)) (gained_refs marshal.Strong (owned_by v l k.object) 0)
+    S_OK
     else deed.Get g None 0 CO_E_OBJNOTCONNECTED
 
 abbrev pub got_by : Sight → ℕ → ℤ → Cookie → Deed
@@ -248,7 +254,8 @@ got v l g (Some a) = got_by v l g (cookie v.books (cookie_number g))
 
 abbrev pub revoked : Sight → ℤ → Option ℕ → Deed
 revoked v g None = deed.Revoke g CO_E_NOTINITIALIZED
-revoked v g (Some a) = deed.Revoke g (if (cookie v.books (cookie_number g)).revoked then E_INVALIDARG else S_OK)
+revoked v g (Some a) =
+    deed.Revoke g (if (cookie v.books (cookie_number g)).revoked then E_INVALIDARG else S_OK)
 
 -- Disconnect is refused without home, on null, and in an apartment that does not own the object. Source:
 -- CoDisconnectObject.
@@ -270,7 +277,8 @@ abbrev pub out_bytes : Scenario → Sight → ℕ → Route → (cause : ℕ) �
 out_bytes s v l route.Direct k vs = None
 out_bytes s v l route.Refused k vs = None
 out_bytes s v l r k vs =
-    Some (request_bytes k vs (fields_since s v (with_packets v l (marshal_all (number_or_zero (v.running l)) (carried vs)))))
+    Some (request_bytes k vs
+    (fields_since s v (with_packets v l (marshal_all (number_or_zero (v.running l)) (carried vs)))))
 
 abbrev pub next_cause : Sight → ℕ → ℕ
 next_cause v l = cause_for v.issue v.causes (running_call (v.openers l))
@@ -278,7 +286,8 @@ next_cause v l = cause_for v.issue v.causes (running_call (v.openers l))
 abbrev pub out_on : Scenario → Sight → ℕ → Option RefValue → ℕ → ℕ → List Value → Route → Deed
 out_on s v l held i m args r =
     deed.Out (v.calls + 1) (object_in held) i m r (next_cause v l)
-    (out_bytes s v l r (next_cause v l) (sent_values true v.books.live (parameters (method_at s.classes i m)) args))
+    (out_bytes s v l r (next_cause v l)
+    (sent_values true v.books.live (parameters (method_at s.classes i m)) args))
 
 abbrev pub route_to : Sight → ℕ → Option RefValue → Route
 route_to v l None = route.Refused
@@ -293,7 +302,8 @@ called s v l held i m args None = out_on s v l held i m args (route_to v l held)
 abbrev pub reply_for : Scenario → Sight → ℕ → (wanted : Bool) → HResult → Option Value → Option (List ℕ)
 reply_for s v l false hr x = None
 reply_for s v l true hr x =
-    Some (reply_bytes hr x (fields_since s v (with_packets v l (marshal_all (number_or_zero (v.running l)) (carried (result_list x))))))
+    Some (reply_bytes hr x (fields_since s v
+    (with_packets v l (marshal_all (number_or_zero (v.running l)) (carried (result_list x))))))
 
 abbrev pub left_with : Scenario → Sight → ℕ → ℕ → (marshalled : Bool) → HResult → Option Value → Deed
 left_with s v l c m hr x = deed.Leave c hr x (reply_for s v l (m && not (v.returned c)) hr x)
@@ -302,7 +312,8 @@ abbrev pub left_as : Scenario → Sight → ℕ → ℕ → Option Issue → HRe
 left_as s v l c None hr x = left_with s v l c false hr None
 left_as s v l c (Some i) hr x =
     left_with s v l c (is_marshalled i.route) hr
-    (sent_result (is_marshalled i.route) v.books.live hr (result_kind (method_at s.classes i.iface i.method)) x)
+    (sent_result (is_marshalled i.route) v.books.live hr (result_kind (method_at s.classes i.iface i.method))
+    x)
 
 abbrev pub left_by : Scenario → Sight → ℕ → HResult → Option Value → Option ℕ → Deed
 left_by s v l hr x None = deed.Leave 0 hr None None
@@ -323,7 +334,8 @@ deed_of s v l (action.Raw b bytes) = deed.Raw b (length bytes)
 deed_of s v l (action.Register to held) = registered v held (hold_refusal v (v.home l) held)
 deed_of s v l (action.Get slot g) = got v l g (v.home l)
 deed_of s v l (action.Revoke g) = revoked v g (v.home l)
-deed_of s v l (action.Disconnect held) = deed.Disconnect (object_in held) (disconnect_answer v l (v.home l) held)
+deed_of s v l (action.Disconnect held) =
+    deed.Disconnect (object_in held) (disconnect_answer v l (v.home l) held)
 deed_of s v l (action.Post m w) = deed.Post m w (word_answer s v m)
 deed_of s v l (action.Quit m) = deed.Quit m (word_answer s v m)
 deed_of s v l (action.Leave hr x) = left_by s v l hr x (running_call (v.openers l))

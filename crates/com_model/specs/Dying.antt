@@ -15,8 +15,10 @@ is_entered s os o = any_of (λ l. runs o (os l)) (one_to (lanes s))
 
 -- An object is dying where it was made, has no Final, has no holder, and no Enter of it is open. Source:
 -- Essential COM, the release of an object when its last reference goes.
-abbrev pub is_dying_by : (objects : ℕ) → (finaled : ℕ → Bool) → (holders : ℕ → ℕ) → (entered : ℕ → Bool) → ℕ → Bool
-is_dying_by n finaled holders entered o = (nat_le 1 o && nat_le o n) && (not (finaled o) && (holders o == 0 && not (entered o)))
+abbrev pub is_dying_by : (objects : ℕ) → (finaled : ℕ → Bool) → (holders : ℕ → ℕ) → (entered : ℕ → Bool) → ℕ
+    → Bool
+is_dying_by n finaled holders entered o =
+    (nat_le 1 o && nat_le o n) && (not (finaled o) && (holders o == 0 && not (entered o)))
 
 abbrev pub is_dying : Scenario → List Entry → ℕ → Bool
 is_dying s h o = is_dying_by (objects h) (finaled h) (holders s h) (is_entered s (openers h)) o
@@ -24,7 +26,8 @@ is_dying s h o = is_dying_by (objects h) (finaled h) (holders s h) (is_entered s
 -- The dying objects in the order of the entries after which each was dying, and by number where one entry
 -- made several so.
 abbrev pub fallen_more : (ℕ → Bool) → ℕ → List ℕ → List ℕ
-fallen_more dying n before = filter dying before ++ filter (λ o. dying o && not (is_member o before)) (one_to n)
+fallen_more dying n before =
+    filter dying before ++ filter (λ o. dying o && not (is_member o before)) (one_to n)
 
 abbrev pub fallen : Scenario → List Entry → List ℕ
 fallen s [] = []

@@ -18,7 +18,8 @@ use Rattle.com_model.specs.Objects.{named, disconnects}
 use Rattle.com_model.specs.Calls.{Issue, Admission, issue, admitted, target, lane_of, is_marshalled, route_of}
 use Rattle.com_model.specs.Clock.{filter_of}
 pub use Rattle.com_model.specs.declared.keeps.Ending.{Ending}
-pub use Rattle.com_model.specs.declared.keeps.Ending.TheVariants.{AtIssue, AtAdmission, ByVerdict, ByRetry, ByCancel, ByDisconnection, ByLeave}
+pub use Rattle.com_model.specs.declared.keeps.Ending.TheVariants.{AtIssue, AtAdmission, ByVerdict, ByRetry}
+pub use Rattle.com_model.specs.declared.keeps.Ending.TheVariants.{ByCancel, ByDisconnection, ByLeave}
 
 -- What a deed does to the answers of calls: it ends one call, or all that wait for an object or for an STA's
 -- objects.
@@ -66,7 +67,8 @@ abbrev pub ending : Scenario → List Entry → ℕ → Option Ending
 ending s [] c = None
 ending s (e ∷ h) c =
     or_else (ending s h c)
-    (ends (end_effect (filtered s h) e.deed) c (target h c) (named h (target h c)) (can_be_cut (issue h c) (admitted h c)))
+    (ends (end_effect (filtered s h) e.deed) c (target h c) (named h (target h c))
+    (can_be_cut (issue h c) (admitted h c)))
 
 -- An answer: the HRESULT, and the value of a Leave.
 pub record Answer : Type 0 where

@@ -80,7 +80,8 @@ abbrev pub lanes_after : Scenario → (last : ℕ) → List ℕ
 lanes_after s last = numbers_from (last + 1) (lanes s - last) ++ one_to last
 
 abbrev pub in_round : Scenario → Sight → (last : ℕ) → Option Turn
-in_round s v last = option_map (λ l. record { lane = l; picks = [] }) (first_that (can_step s v) (lanes_after s last))
+in_round s v last =
+    option_map (λ l. record { lane = l; picks = [] }) (first_that (can_step s v) (lanes_after s last))
 
 abbrev pub at_clock : Sight → List ℕ → Option Turn
 at_clock v picks = option_map (λ t. record { lane = 0; picks = picks }) (tick_time v)
@@ -95,15 +96,18 @@ last_after (suc l) last = suc l
 
 -- One history grows until it has ended, by one entry a turn; so many turns as the limit has entries are
 -- enough.
-abbrev pub with_entry : (List Entry → List ℕ → ℕ → List Entry) → List Entry → Turn → ℕ → Option Deed → List Entry
+abbrev pub with_entry : (List Entry → List ℕ → ℕ → List Entry) → List Entry → Turn → ℕ → Option Deed
+    → List Entry
 with_entry go h t last None = h
 with_entry go h t last (Some d) = go (record { lane = t.lane; deed = d } ∷ h) t.picks (last_after t.lane last)
 
-abbrev pub with_turn : Scenario → (List Entry → List ℕ → ℕ → List Entry) → List Entry → ℕ → Option Turn → List Entry
+abbrev pub with_turn : Scenario → (List Entry → List ℕ → ℕ → List Entry) → List Entry → ℕ → Option Turn
+    → List Entry
 with_turn s go h last None = h
 with_turn s go h last (Some t) = with_entry go h t last (next s h t.lane)
 
-abbrev pub unless_ended : Scenario → (List Entry → List ℕ → ℕ → List Entry) → List Entry → List ℕ → ℕ → Option Ended → List Entry
+abbrev pub unless_ended : Scenario → (List Entry → List ℕ → ℕ → List Entry) → List Entry → List ℕ → ℕ
+    → Option Ended → List Entry
 unless_ended s go h picks last (Some x) = h
 unless_ended s go h picks last None = with_turn s go h last (turn s (sight s h) picks last)
 

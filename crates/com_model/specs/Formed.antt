@@ -96,19 +96,23 @@ abbrev pub same_method : Method → Method → Bool
 same_method m k = bytes_eq m.name k.name
 
 abbrev pub IsInterface : ℕ → Interface → Type 0
-IsInterface n i = IsName i.name × All (IsMethod n) i.methods × (length i.methods ≤ 32) × Distinct same_method i.methods
+IsInterface n i =
+    IsName i.name × All (IsMethod n) i.methods × (length i.methods ≤ 32) × Distinct same_method i.methods
 
 abbrev pub same_interface : Interface → Interface → Bool
 same_interface i k = bytes_eq i.name k.name || same_guid i.iid k.iid
 
 -- The IIDs that Microsoft's documentation gives to its own interfaces end alike.
 abbrev pub documented_iid : ℕ → Guid
-documented_iid n = record { data1 = n; data2 = 0; data3 = 0; data4 = 0xc0 ∷ 0 ∷ 0 ∷ 0 ∷ 0 ∷ 0 ∷ 0 ∷ 0x46 ∷ [] }
+documented_iid n =
+    record { data1 = n; data2 = 0; data3 = 0; data4 = 0xc0 ∷ 0 ∷ 0 ∷ 0 ∷ 0 ∷ 0 ∷ 0 ∷ 0x46 ∷ [] }
 
 -- A scenario may not declare the IIDs of IClassFactory, IMessageFilter and IGlobalInterfaceTable, nor name an
 -- interface as a type.
 abbrev pub is_reserved : Guid → Bool
-is_reserved g = same_guid g (documented_iid 1) || (same_guid g (documented_iid 0x16) || same_guid g (documented_iid 0x146))
+is_reserved g =
+    same_guid g (documented_iid 1)
+    || (same_guid g (documented_iid 0x16) || same_guid g (documented_iid 0x146))
 
 abbrev pub is_type_word : List ℕ → Bool
 is_type_word n =

@@ -154,7 +154,8 @@ writes (action.Release from held) d = to_answer (answer_in d) ∷ to_place from 
 writes (action.Marshal b held m) d = to_answer (answer_in d) ∷ marshalled_in b d
 writes (action.Unmarshal slot b) d = to_answer (answer_in d) ∷ ToSlot slot (taken_in d) ∷ []
 writes (action.Raw b bytes) d = to_answer (answer_in d) ∷ ToBuffer b bytes ∷ []
-writes (action.Register to held) d = to_answer (answer_in d) ∷ ToRegister to (value.Int (pos (cookie_in d))) ∷ []
+writes (action.Register to held) d =
+    to_answer (answer_in d) ∷ ToRegister to (value.Int (pos (cookie_in d))) ∷ []
 writes (action.Get slot g) d = to_answer (answer_in d) ∷ ToSlot slot (taken_in d) ∷ []
 writes (action.Call held i m args to) d = []
 writes (action.Leave hr v) d = []
@@ -206,7 +207,8 @@ with_frame Nobody r w = w
 
 -- The Out entry of a call keeps where the result is to go.
 abbrev pub wants : Action → Deed → Scene → Scene
-wants (action.Call held i m args to) (deed.Out c o j n r k bytes) w = record w { destinations = put c to w.destinations }
+wants (action.Call held i m args to) (deed.Out c o j n r k bytes) w =
+    record w { destinations = put c to w.destinations }
 wants _ d w = w
 
 abbrev pub acted : Actor → Option Outcome → Deed → Scene → Scene
@@ -220,28 +222,36 @@ arrived b l (deed.Leave c hr v bytes) w = record w { bodies = put c (entered [])
 arrived b l (deed.Enter c o a t vs) w = record w { bodies = put c (entered vs) w.bodies }
 arrived b l (deed.Back c hr v) w = fold (written b) w (to_answer hr ∷ to_destination (w.destinations c) v)
 arrived b l deed.EndPump w = written b w (to_answer S_OK)
-arrived b l (deed.Uninit a zero) w = record w { scripts = put l (record (w.scripts l) { slots = replicate 8 None }) w.scripts }
-arrived b l (deed.Final o) w = record w { cells = put o (record (w.cells o) { links = replicate 4 None }) w.cells }
+arrived b l (deed.Uninit a zero) w =
+    record w { scripts = put l (record (w.scripts l) { slots = replicate 8 None }) w.scripts }
+arrived b l (deed.Final o) w =
+    record w { cells = put o (record (w.cells o) { links = replicate 4 None }) w.cells }
 arrived b l _ w = w
 
 -- The end of an STA makes the links of all its objects null.
 abbrev pub cut_links : (named : ℕ → ℕ) → Option ℕ → Scene → Scene
 cut_links named None w = w
 cut_links named (Some a) w =
-    record w { cells = λ o. if named o == a then record (w.cells o) { links = replicate 4 None } else w.cells o }
+    record w {
+      cells = λ o. if named o == a then record (w.cells o) { links = replicate 4 None }
+          else w.cells o;
+    }
 
 abbrev pub acting : Scenario → (class : ℕ → ℕ) → (issue : ℕ → Option Issue) → Scene → Actor → Deed → Actor
 acting s k i w a d = unless_final d (unless_over a (outcome s k i w a))
 
 -- The scene after a deed of a lane, with who acts there before and after it.
-abbrev pub scene_after : Scenario → (class named : ℕ → ℕ) → (issue : ℕ → Option Issue) → (before after : Actor) → (lane : ℕ) → Deed → Scene → Scene
+abbrev pub scene_after : Scenario → (class named : ℕ → ℕ) → (issue : ℕ → Option Issue)
+    → (before after : Actor) → (lane : ℕ) → Deed → Scene → Scene
 scene_after s k n i a b l d w =
-    cut_links n (ends_sta d) (arrived b l d (acted (acting s k i w a d) (outcome s k i w (acting s k i w a d)) d w))
+    cut_links n (ends_sta d)
+    (arrived b l d (acted (acting s k i w a d) (outcome s k i w (acting s k i w a d)) d w))
 
 abbrev pub scene : Scenario → List Entry → Scene
 scene s [] = first_scene
 scene s (e ∷ h) =
-    scene_after s (class_of h) (named h) (issue h) (actor_in s h e.lane) (actor_in s (e ∷ h) e.lane) e.lane e.deed (scene s h)
+    scene_after s (class_of h) (named h) (issue h) (actor_in s h e.lane) (actor_in s (e ∷ h) e.lane) e.lane
+    e.deed (scene s h)
 
 -- The next action of a lane's body or script, where one acts.
 abbrev pub action_of : Option Outcome → Option Action

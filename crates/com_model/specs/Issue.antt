@@ -20,7 +20,8 @@ use Rattle.com_model.specs.Books.{books, out_values}
 use Rattle.com_model.specs.Endings.{Ending, Answer, ending, answer_of}
 
 -- The refusals of a call at its issue, the first that applies.
-abbrev pub call_refusal : Scenario → (home running : Option ℕ) → (owns : ℕ → ℕ → Bool) → (live : ℕ → Bool) → Option RefValue → (iface method : ℕ) → Option HResult
+abbrev pub call_refusal : Scenario → (home running : Option ℕ) → (owns : ℕ → ℕ → Bool) → (live : ℕ → Bool)
+    → Option RefValue → (iface method : ℕ) → Option HResult
 call_refusal s None r owns live held i m = Some CO_E_NOTINITIALIZED
 call_refusal s (Some a) r owns live None i m = Some E_POINTER
 call_refusal s (Some a) r owns live (Some t) i m =
@@ -29,7 +30,8 @@ call_refusal s (Some a) r owns live (Some t) i m =
     else if not (owns t.object (number_or_zero r)) && not (live t.object) then Some RPC_E_DISCONNECTED
     else None
 
-abbrev pub action_refusal : Scenario → (home running : Option ℕ) → (owns : ℕ → ℕ → Bool) → (live : ℕ → Bool) → Option Action → Option HResult
+abbrev pub action_refusal : Scenario → (home running : Option ℕ) → (owns : ℕ → ℕ → Bool) → (live : ℕ → Bool)
+    → Option Action → Option HResult
 action_refusal s a r owns live (Some (action.Call held i m args to)) = call_refusal s a r owns live held i m
 action_refusal s a r owns live _ = None
 
@@ -39,7 +41,8 @@ or_ok (Some hr) = hr
 
 -- The refusal of a call at its Out, as its lane stood before it.
 abbrev pub refusal_before : Scenario → List Entry → ℕ → HResult
-refusal_before s h l = or_ok (action_refusal s (home s h l) (running s h l) (owns s h) (books s h).live (act s h l))
+refusal_before s h l =
+    or_ok (action_refusal s (home s h l) (running s h l) (owns s h) (books s h).live (act s h l))
 
 abbrev pub own_refusal : Scenario → List Entry → ℕ → (own : Bool) → HResult → HResult
 own_refusal s h l true before = refusal_before s h l

@@ -19,7 +19,8 @@ asked_number (asked.Number n) = n
 asked_number (asked.Guid g) = 0
 
 abbrev pub makes : Deed → Option Making
-makes (deed.Made (Some o) (Some a) class iface hr) = Some (record { object = o; apartment = a; class = asked_number class })
+makes (deed.Made (Some o) (Some a) class iface hr) =
+    Some (record { object = o; apartment = a; class = asked_number class })
 makes _ = None
 
 abbrev pub made_or : Option Making → ℕ → Option Making → Option Making

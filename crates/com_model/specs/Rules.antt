@@ -55,7 +55,8 @@ call_sort v l c =
 
 abbrev pub verdict_on : Scenario → Sight → ℕ → ℕ → Verdict
 verdict_on s v l c =
-    incoming_answer (rules_of s (v.filter l)) (call_sort v l c) (waited v.issued_at v.clock (open_calls (v.openers l)))
+    incoming_answer (rules_of s (v.filter l)) (call_sort v l c)
+    (waited v.issued_at v.clock (open_calls (v.openers l)))
 
 abbrev pub is_handled_in : Scenario → Sight → ℕ → ℕ → Bool
 is_handled_in s v l c = is_handled (verdict_on s v l c)
@@ -66,9 +67,11 @@ arguments_gone v c = is_marshalled (route_of (v.issue c)) && any_of (is_gone v) 
 abbrev pub admission : Scenario → Sight → ℕ → ℕ → Deed
 admission s v l c =
     if nat_le 256 (length (v.openers l)) then deed.Refuse c RPC_E_OUT_OF_RESOURCES
-    else if posted_to_sta v c && not (is_handled_in s v l c) then deed.Verdict c (call_sort v l c) (verdict_on s v l c)
+    else if posted_to_sta v c && not (is_handled_in s v l c)
+    then deed.Verdict c (call_sort v l c) (verdict_on s v l c)
     else if arguments_gone v c then deed.Refuse c RPC_E_SERVER_CANTUNMARSHAL_DATA
-    else deed.Enter c (object_of (v.issue c)) (v.owner (object_of (v.issue c)) l) (where_true (posted_to_sta v c) (call_sort v l c)) (v.unread c)
+    else deed.Enter c (object_of (v.issue c)) (v.owner (object_of (v.issue c)) l)
+    (where_true (posted_to_sta v c) (call_sort v l c)) (v.unread c)
 
 -- 1. The Final of the first dying object that the lane serves.
 abbrev pub rule_final : Sight → ℕ → Option Deed
@@ -81,35 +84,38 @@ enters_itself v c = not (is_post (route_of (v.issue c))) && (is_none (v.admitted
 abbrev pub rule_own : Scenario → Sight → ℕ → Option Deed
 rule_own s v l = option_and_then (λ c. where_true (enters_itself v c) (admission s v l c)) (own_call v l)
 
--- 3. For a call with a due answer: the argument packets that are still outstanding are dropped, if it was not entered; then Back.
--- A result whose packet is not outstanding cannot be unmarshalled.
+-- 3. For a call with a due answer: the argument packets that are still outstanding are dropped, if it was not
+-- entered; then Back. A result whose packet is not outstanding cannot be unmarshalled.
 abbrev pub result_gone : Sight → ℕ → Option ℕ → Bool
 result_gone v c None = false
 result_gone v c (Some p) = is_leave (v.ending c) && is_gone v p
 
 abbrev pub back_answer : Sight → ℕ → Answer → Answer
-back_answer v c x = if result_gone v c (v.books.result c) then without_value RPC_E_CLIENT_CANTUNMARSHAL_DATA else x
+back_answer v c x =
+    if result_gone v c (v.books.result c) then without_value RPC_E_CLIENT_CANTUNMARSHAL_DATA else x
 
 abbrev pub back_with : ℕ → Answer → Deed
 back_with c x = deed.Back c x.hr x.value
 
 abbrev pub packet_left : Sight → ℕ → Option ℕ
-packet_left v c = if is_none (v.admitted c) then first_that (λ p. not (is_gone v p)) (v.books.arguments c) else None
+packet_left v c =
+    if is_none (v.admitted c) then first_that (λ p. not (is_gone v p)) (v.books.arguments c) else None
 
 abbrev pub answered : Sight → ℕ → Answer → Option ℕ → Deed
 answered v c x (Some p) = deed.DropPacket (Some p) S_OK
 answered v c x None = back_with c (back_answer v c x)
 
 abbrev pub rule_answer : Sight → ℕ → Option Deed
-rule_answer v l = option_and_then (λ c. option_map (λ x. answered v c x (packet_left v c)) (due_of v c)) (own_call v l)
+rule_answer v l =
+    option_and_then (λ c. option_map (λ x. answered v c x (packet_left v c)) (due_of v c)) (own_call v l)
 
 -- 4. The end of a pump whose bound is reached.
 abbrev pub rule_bound : Sight → ℕ → Option Deed
 rule_bound v l = where_true (bound_reached (v.openers l) (v.served l)) deed.EndPump
 
--- 5. The admission of the first call of the inbox. An STA's lane admits while its top is a pump or an Out of route post, the
--- host's also without opener; a pool lane only without opener. Source: the message queue of an STA,
--- IMessageFilter.
+-- 5. The admission of the first call of the inbox. An STA's lane admits while its top is a pump or an Out of
+-- route post, the host's also without opener; a pool lane only without opener. Source: the message queue of
+-- an STA, IMessageFilter.
 abbrev pub is_open_to_calls : Sight → LaneSort → Option Opener → Bool
 is_open_to_calls v sort (Some (Pumps n)) = true
 is_open_to_calls v sort (Some (Waits c)) = is_post (route_of (v.issue c))
@@ -121,7 +127,8 @@ is_open_to_calls v NoLane None = false
 
 abbrev pub admits_sta : Sight → ℕ → LaneSort → Option ℕ → Option ℕ
 admits_sta v l sort None = None
-admits_sta v l sort (Some a) = if is_sta a && is_open_to_calls v sort (top v l) then first (v.inbox a) else None
+admits_sta v l sort (Some a) =
+    if is_sta a && is_open_to_calls v sort (top v l) then first (v.inbox a) else None
 
 abbrev pub admits_next : Sight → ℕ → LaneSort → Option ℕ
 admits_next v l Pool = if is_none (top v l) then first (v.inbox mta) else None
@@ -155,11 +162,13 @@ asks_about s v l c d = where_true (in_sta (v.home l) && is_post (route_of (v.iss
 
 abbrev pub asked_on : Scenario → Sight → ℕ → ℕ → Option Word → Option Deed
 asked_on s v l c None = None
-asked_on s v l c (Some w) = asks_about s v l c (deed.Pending c w.word (pending_answer (rules_of s (v.filter l)) (since_out v c)))
+asked_on s v l c (Some w) =
+    asks_about s v l c (deed.Pending c w.word (pending_answer (rules_of s (v.filter l)) (since_out v c)))
 
 abbrev pub rule_pending : Scenario → Sight → ℕ → Option Deed
 rule_pending s v l =
-    option_and_then (λ c. asked_on s v l c (not_asked (mark_of (v.mail l).marks c) (v.mail l).words)) (own_call v l)
+    option_and_then (λ c. asked_on s v l c (not_asked (mark_of (v.mail l).marks c) (v.mail l).words))
+    (own_call v l)
 
 -- 9. A pump takes the first word; else, where a quit stands, it ends.
 abbrev pub takes_word : Option Word → (quit : Bool) → Option Deed
@@ -186,7 +195,8 @@ is_script_turn Thread None over = not over
 is_script_turn _ _ over = false
 
 abbrev pub rule_script : Scenario → Sight → ℕ → Option Deed
-rule_script s v l = where_true (is_script_turn (lane_sort s l) (top v l) (v.over l)) (scripted s v l (v.act l))
+rule_script s v l =
+    where_true (is_script_turn (lane_sort s l) (top v l) (v.over l)) (scripted s v l (v.act l))
 
 -- The next entry of a lane: the body's action where the top is an Enter, else the first of the ten rules that
 -- applies.

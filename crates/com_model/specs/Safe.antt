@@ -40,8 +40,8 @@ abbrev pub Either : Bool → Type 0 → Type 0 → Type 0
 Either true A B = A
 Either false A B = B
 
--- 1. Apartment: a body runs in an apartment that owns its object, and in that apartment's lane; a body of an agile object or of
--- one in the neutral apartment runs in the caller's lane.
+-- 1. Apartment: a body runs in an apartment that owns its object, and in that apartment's lane; a body of an
+-- agile object or of one in the neutral apartment runs in the caller's lane.
 abbrev pub InApartment : Scenario → List Entry → ℕ → Deed → Type 0
 InApartment s h l (deed.Enter c o a t vs) =
     (a ≡ owner s h o l)
@@ -51,8 +51,8 @@ InApartment s h l _ = Unit {0}
 abbrev pub Apartment : Scenario → List Entry → Type 0
 Apartment s h = EachEntry (InApartment s) h
 
--- 2. One stack: closers close the innermost opener; an open body of an STA stands in the lane that serves it; an action of a
--- body is made while its Enter is the top.
+-- 2. One stack: closers close the innermost opener; an open body of an STA stands in the lane that serves it;
+-- an action of a body is made while its Enter is the top.
 abbrev pub InServing : Scenario → List Entry → ℕ → List Opener → Type 0
 InServing s h l [] = Unit {0}
 InServing s h l (Enters c o a ∷ os) = (is_sta a ≡ true → serves s h l a ≡ true) × InServing s h l os
@@ -103,9 +103,9 @@ MadeOnTop ScriptAlone (o ∷ os) = ⊥
 abbrev pub OneStack : Scenario → List Entry → Type 0
 OneStack s h = EachPrefix (Stacked s) h × EachEntry (λ h l d. MadeOnTop (maker d) (openers h l)) h
 
--- 3. Reentry: a call posted to an STA is admitted as the first of the inbox, above a pump, a waiting call, or nothing in the host's
--- lane; it carries its call type and the filter's answer. A call posted to the MTA is admitted by a pool lane
--- without opener. A direct or switched call is entered while its own Out is the top.
+-- 3. Reentry: a call posted to an STA is admitted as the first of the inbox, above a pump, a waiting call, or
+-- nothing in the host's lane; it carries its call type and the filter's answer. A call posted to the MTA is
+-- admitted by a pool lane without opener. A direct or switched call is entered while its own Out is the top.
 abbrev pub CanAdmit : Scenario → List Entry → ℕ → List Opener → Type 0
 CanAdmit s h l [] = lane_sort s l ≡ Host
 CanAdmit s h l (Pumps n ∷ os) = Unit {0}
@@ -124,18 +124,20 @@ EntersBy s h l c t route.Post false =
 EntersBy s h l c t _ sta = (first (openers h l) ≡ Some (Waits c)) × (t ≡ None)
 
 abbrev pub Reenters : Scenario → List Entry → ℕ → Deed → Type 0
-Reenters s h l (deed.Enter c o a t vs) = EntersBy s h l c t (route_of (issue h c)) (is_sta (named h (target h c)))
+Reenters s h l (deed.Enter c o a t vs) =
+    EntersBy s h l c t (route_of (issue h c)) (is_sta (named h (target h c)))
 Reenters s h l (deed.Verdict c t v) =
     FirstOf s h (named h (target h c)) c × CanAdmit s h l (openers h l)
-    × (t ≡ call_sort (sight s h) l c) × (v ≡ verdict_on s (sight s h) l c) × (is_handled_in s (sight s h) l c ≡ false)
+    × (t ≡ call_sort (sight s h) l c) × (v ≡ verdict_on s (sight s h) l c)
+    × (is_handled_in s (sight s h) l c ≡ false)
 Reenters s h l _ = Unit {0}
 
 abbrev pub Reentry : Scenario → List Entry → Type 0
 Reentry s h = EachEntry (Reenters s) h
 
--- 4. Once: each call has one Out, at most one Enter, one Leave and one Back; Enter comes after Out, Leave after Enter, and Back
--- after Out. An Enter has the values that were sent; a Leave has what the body's step gives on its object's
--- own cells; a Back has the call's answer, and no Enter follows an answer.
+-- 4. Once: each call has one Out, at most one Enter, one Leave and one Back; Enter comes after Out, Leave
+-- after Enter, and Back after Out. An Enter has the values that were sent; a Leave has what the body's step
+-- gives on its object's own cells; a Back has the call's answer, and no Enter follows an answer.
 pub data Event : Type 0 where
   IsOut : (call : ℕ) → Event
   IsEnter : (call : ℕ) → Event
@@ -183,7 +185,8 @@ once h = EachEntry (λ h l d. ComesOnce (event d) (stage h)) h
 
 abbrev pub OwnReply : Scenario → List Entry → ℕ → Deed → Type 0
 OwnReply s h l (deed.Enter c o a t vs) = (vs ≡ sent s h c) × (ending s h c ≡ None)
-OwnReply s h l (deed.Leave c hr v bytes) = option_map (deed_of s (sight s h) l) (act s h l) ≡ Some (deed.Leave c hr v bytes)
+OwnReply s h l (deed.Leave c hr v bytes) =
+    option_map (deed_of s (sight s h) l) (act s h l) ≡ Some (deed.Leave c hr v bytes)
 OwnReply s h l (deed.Back c hr v) =
     option_map (back_answer (sight s h) c) (due_of (sight s h) c) ≡ Some (record { hr = hr; value = v })
 OwnReply s h l _ = Unit {0}
@@ -191,8 +194,8 @@ OwnReply s h l _ = Unit {0}
 abbrev pub Replies : Scenario → List Entry → Type 0
 Replies s h = once h × EachEntry (OwnReply s) h
 
--- 5. Balance: for every object and interface the stub's count is what proxies, packets and cookies hold. A proxy place of a
--- connected object has a proxy with at least 1 of its interface.
+-- 5. Balance: for every object and interface the stub's count is what proxies, packets and cookies hold. A
+-- proxy place of a connected object has a proxy with at least 1 of its interface.
 abbrev pub Balanced : Scenario → List Entry → Type 0
 Balanced s h = (o i : ℕ) → (books s h).stub o i ≡ held (apartments h) (books s h) o i
 
@@ -204,11 +207,12 @@ Secured s h =
 abbrev pub Balance : Scenario → List Entry → Type 0
 Balance s h = EachPrefix (λ h. Balanced s h × Secured s h) h
 
--- 6. Release: an object has at most one Final, made in a lane that serves its owner while it is dying and not connected. No Enter
--- of it and no direct place comes afterwards.
+-- 6. Release: an object has at most one Final, made in a lane that serves its owner while it is dying and not
+-- connected. No Enter of it and no direct place comes afterwards.
 abbrev pub Releases : Scenario → List Entry → ℕ → Deed → Type 0
 Releases s h l (deed.Final o) =
-    (finaled h o ≡ false) × (serves s h l (named h o) ≡ true) × (is_dying s h o ≡ true) × ((books s h).live o ≡ false)
+    (finaled h o ≡ false) × (serves s h l (named h o) ≡ true) × (is_dying s h o ≡ true)
+    × ((books s h).live o ≡ false)
 Releases s h l (deed.Enter c o a t vs) = finaled h o ≡ false
 Releases s h l _ = Unit {0}
 
@@ -218,8 +222,8 @@ Gone s h = (o : ℕ) → finaled h o ≡ true → direct_places s (ground s h) (
 abbrev pub Release : Scenario → List Entry → Type 0
 Release s h = EachEntry (Releases s) h × EachPrefix (Gone s) h
 
--- 7. Causes: a Back has the call's answer; each other refused entry has the first refusal that applies before it; each Refuse and
--- Verdict is what admission gives.
+-- 7. Causes: a Back has the call's answer; each other refused entry has the first refusal that applies before
+-- it; each Refuse and Verdict is what admission gives.
 abbrev pub is_refused_route : Route → Bool
 is_refused_route route.Refused = true
 is_refused_route _ = false

@@ -214,7 +214,8 @@ actor_of s st l = actor (lane_sort s l) l (openers_in st l)
 
 abbrev pub dies_in : Scenario → State → ℕ → Bool
 dies_in s st o =
-    is_dying_by (objects_in st) (λ x. is_member x st.finaled) (holders_in s (ground_in s st) (scene_in st) (books_in st))
+    is_dying_by (objects_in st) (λ x. is_member x st.finaled)
+    (holders_in s (ground_in s st) (scene_in st) (books_in st))
     (is_entered s (openers_in st)) o
 
 abbrev pub serves_in : Scenario → State → ℕ → ℕ → Bool
@@ -368,7 +369,9 @@ abbrev pub end_effect_in : Scenario → State → Entry → EndEffect
 end_effect_in s st e = end_effect (λ d. is_some (filter_in s st (lane_of (issue_in st d)))) e.deed
 
 abbrev pub ends_in : State → EndEffect → ℕ → Option Ending
-ends_in st x c = ends x c (object_of (issue_in st c)) (named_in st (object_of (issue_in st c))) (can_be_cut (issue_in st c) (admitted_in st c))
+ends_in st x c =
+    ends x c (object_of (issue_in st c)) (named_in st (object_of (issue_in st c)))
+    (can_be_cut (issue_in st c) (admitted_in st c))
 
 abbrev pub endings_by : State → EndEffect → List (Option Ending) → List (Option Ending)
 endings_by st EndsNone t = t
@@ -382,14 +385,18 @@ abbrev pub tables_after : Scenario → State → Entry → State
 tables_after s st e =
     record st {
       openers = changed_at (opens (effect e.deed)) e.lane [] st.openers;
-      served = changed_at (serves_more (effect e.deed) (opened (effect e.deed) (openers_in st e.lane))) e.lane 0 st.served;
+      served =
+          changed_at (serves_more (effect e.deed) (opened (effect e.deed) (openers_in st e.lane))) e.lane 0
+          st.served;
       homes = changed_at (homes_change (home_effect e.deed)) e.lane None st.homes;
       counts = changed_at (counts_change (home_effect e.deed)) e.lane 0 st.counts;
       made = changed_at (made_change (makes_sta e.deed)) e.lane [] st.made;
       over = changed_at (over_change (is_end e.deed)) e.lane false st.over;
       filters = changed_at (filters_change (filter_effect e.deed)) e.lane None st.filters;
       mail = changed_at (mail_change e.deed) (mail_lane e.lane e.deed) no_mail st.mail;
-      quits = changed_at (quit_change (not (bound_reached (openers_in st e.lane) (served_in st e.lane))) e.deed) (quit_lane e.lane e.deed) false st.quits;
+      quits =
+          changed_at (quit_change (not (bound_reached (openers_in st e.lane) (served_in st e.lane))) e.deed)
+          (quit_lane e.lane e.deed) false st.quits;
       stas = with_last st.stas (makes_sta e.deed);
       ended = with_last st.ended (ends_sta e.deed);
       makings = grown (is_some (makes e.deed)) (makes e.deed) st.makings;
@@ -411,7 +418,8 @@ tables_after s st e =
 abbrev pub refusals_after : Scenario → State → Entry → List HResult
 refusals_after s st e =
     grown (issued_by e)
-    (or_ok (action_refusal s (home_in s st e.lane) (running_in s st e.lane) (owns_in s st) (books_in st).live ((sight_of s st).act e.lane)))
+    (or_ok (action_refusal s (home_in s st e.lane) (running_in s st e.lane) (owns_in s st) (books_in st).live
+    ((sight_of s st).act e.lane)))
     st.refusals
 
 abbrev pub is_marshalled_by : Option Issue → Bool
@@ -436,7 +444,9 @@ unread_by st m x t = each_from (λ c vs. let_go (enters m c || is_some (ends_in 
 abbrev pub unread_after : Scenario → State → Entry → List (List Value)
 unread_after s st e =
     unread_by st (admits e.lane e.deed) (end_effect_in s st e)
-    (grown (issued_by e) (out_values s (books_in st) (is_marshalled_by (issues e.lane e.deed)) ((sight_of s st).act e.lane)) st.unread)
+    (grown (issued_by e)
+    (out_values s (books_in st) (is_marshalled_by (issues e.lane e.deed)) ((sight_of s st).act e.lane))
+    st.unread)
 
 -- The scene and the books, written as tables that have a row for each lane, call, object and buffer.
 abbrev pub scene_tables : Scenario → State → Scene → SceneTables
@@ -451,7 +461,9 @@ scene_tables s st w = record {
 abbrev pub book_tables : Scenario → State → Books → BookTables
 book_tables s st b = record {
   stub = tabulated (objects_in st + 1) (λ o. tabulated (length s.classes.interfaces) (b.stub o));
-  proxy = tabulated (next_sta_in st) (λ a. tabulated (objects_in st + 1) (λ o. tabulated (length s.classes.interfaces) (b.proxy a o)));
+  proxy =
+      tabulated (next_sta_in st)
+      (λ a. tabulated (objects_in st + 1) (λ o. tabulated (length s.classes.interfaces) (b.proxy a o)));
   packets = b.packets;
   cookies = b.cookies;
   live = tabulated (objects_in st + 1) b.live;
@@ -461,12 +473,14 @@ book_tables s st b = record {
 
 abbrev pub scene_next : Scenario → (before after : State) → Entry → Scene
 scene_next s st su e =
-    scene_after s (class_in st) (named_in st) (issue_in st) (actor_of s st e.lane) (actor_of s su e.lane) e.lane e.deed (scene_in st)
+    scene_after s (class_in st) (named_in st) (issue_in st) (actor_of s st e.lane)
+    (actor_of s su e.lane) e.lane e.deed (scene_in st)
 
 abbrev pub books_next : Scenario → (before after : State) → Scene → Entry → Books
 books_next s st su w e =
     closed s (ground_in s su) w e.deed
-    (most s (ground_in s su) w ((sight_of s st).act e.lane) (λ c. is_leave (ending_in st c)) (number_or_zero (running_in s st e.lane))
+    (most s (ground_in s su) w ((sight_of s st).act e.lane) (λ c. is_leave (ending_in st c))
+    (number_or_zero (running_in s st e.lane))
     e.deed (books_in st))
 
 abbrev pub with_fallen : Scenario → State → State
@@ -558,7 +572,10 @@ pub record SameBooks (b c : Books) : Type 0 where
 
 -- One clause for each part.
 pub record LanesStand (s : Scenario) (st : State) (h : List Entry) : Type 0 where
-  pub rows : (length st.openers ≡ lanes s + 1) × (length st.served ≡ lanes s + 1) × (length st.homes ≡ lanes s + 1) × (length st.counts ≡ lanes s + 1) × (length st.made ≡ lanes s + 1) × (length st.over ≡ lanes s + 1) × (length st.filters ≡ lanes s + 1) × (length st.mail ≡ lanes s + 1) × (length st.quits ≡ lanes s + 1)
+  pub rows : (length st.openers ≡ lanes s + 1) × (length st.served ≡ lanes s + 1)
+      × (length st.homes ≡ lanes s + 1) × (length st.counts ≡ lanes s + 1) × (length st.made ≡ lanes s + 1)
+      × (length st.over ≡ lanes s + 1) × (length st.filters ≡ lanes s + 1) × (length st.mail ≡ lanes s + 1)
+      × (length st.quits ≡ lanes s + 1)
   pub openers : (l : ℕ) → openers_in st l ≡ openers h l
   pub served : (l : ℕ) → served_in st l ≡ served h l
   pub homes : (l : ℕ) → slice_index_or st.homes l None ≡ thread_home h l
@@ -580,7 +597,8 @@ pub record ObjectsStand (st : State) (h : List Entry) : Type 0 where
 
 pub record CallsStand (st : State) (h : List Entry) : Type 0 where
   pub number : length st.issues ≡ calls h
-  pub rows : (length st.admissions ≡ calls h) × (length st.leavings ≡ calls h) × (length st.returned ≡ calls h) × (length st.phases ≡ calls h) × (length st.times ≡ calls h)
+  pub rows : (length st.admissions ≡ calls h) × (length st.leavings ≡ calls h)
+      × (length st.returned ≡ calls h) × (length st.phases ≡ calls h) × (length st.times ≡ calls h)
   pub issues : (c : ℕ) → issue_in st c ≡ issue h c
   pub admissions : (c : ℕ) → admitted_in st c ≡ admitted h c
   pub leavings : (c : ℕ) → left_in st c ≡ left h c

@@ -39,7 +39,8 @@ eight_digits n =
 
 -- an HRESULT: in version 2 its digits, otherwise its name, or its digits where it has none
 abbrev pub hresult_text : ℕ → HResult → List ℕ
-hresult_text version hr = if version == 2 then eight_digits hr.0 else unwrap_or (name_of hr.0) (eight_digits hr.0)
+hresult_text version hr =
+    if version == 2 then eight_digits hr.0 else unwrap_or (name_of hr.0) (eight_digits hr.0)
 
 -- a number behind its letter, or a dash where there is none
 abbrev pub named : List ℕ → Option ℕ → List ℕ
@@ -119,7 +120,8 @@ values_text (v ∷ rest) = value_text v ++ flat_map later_value_text rest
 -- what was done, behind the front of its line
 abbrev pub deed_line : ℕ → List ℕ → Deed → List ℕ
 deed_line version front (deed.Init m home hr) =
-    front ++ codes " init " ++ mode_text m ++ codes " a" ++ decimal home ++ codes " " ++ hresult_text version hr
+    front ++ codes " init " ++ mode_text m ++ codes " a" ++ decimal home ++ codes " "
+    ++ hresult_text version hr
 deed_line version front (deed.Uninit home count) =
     front ++ codes " uninit " ++ named (codes "a") home ++ codes " " ++ decimal count
 deed_line version front (deed.Made object apartment class iface hr) =
@@ -167,11 +169,13 @@ deed_line version front (deed.Out call object iface method r cause bytes) =
     ++ codes " I" ++ decimal iface ++ codes "." ++ decimal method ++ codes " " ++ route_text r
     ++ codes " cause" ++ decimal cause ++ codes " " ++ bytes_text bytes
 deed_line version front (deed.Verdict call call_type v) =
-    front ++ codes " verdict c" ++ decimal call ++ codes " " ++ decimal call_type ++ codes " " ++ verdict_text v
+    front ++ codes " verdict c" ++ decimal call ++ codes " " ++ decimal call_type ++ codes " "
+    ++ verdict_text v
 deed_line version front (deed.Refuse call hr) =
     front ++ codes " refuse c" ++ decimal call ++ codes " " ++ hresult_text version hr
 deed_line version front (deed.Enter call object apartment call_type values) =
-    front ++ codes " enter c" ++ decimal call ++ codes " o" ++ decimal object ++ codes " a" ++ decimal apartment
+    front ++ codes " enter c" ++ decimal call ++ codes " o" ++ decimal object ++ codes " a"
+    ++ decimal apartment
     ++ codes " " ++ call_type_text call_type ++ codes " (" ++ values_text values ++ codes ")"
 deed_line version front (deed.Leave call hr v bytes) =
     front ++ codes " leave c" ++ decimal call ++ codes " " ++ hresult_text version hr
@@ -183,7 +187,8 @@ deed_line version front (deed.Back call hr v) =
     front ++ codes " back c" ++ decimal call ++ codes " " ++ hresult_text version hr
     ++ codes " (" ++ one_value_text v ++ codes ")"
 deed_line version front (deed.Pending call word answer) =
-    front ++ codes " pending c" ++ decimal call ++ codes " " ++ signed_decimal word ++ codes " " ++ decimal answer
+    front ++ codes " pending c" ++ decimal call ++ codes " " ++ signed_decimal word ++ codes " "
+    ++ decimal answer
 deed_line version front (deed.Disconnect object hr) =
     front ++ codes " disconnect " ++ named (codes "o") object ++ codes " " ++ hresult_text version hr
 deed_line version front (deed.Final object) = front ++ codes " final o" ++ decimal object
@@ -198,7 +203,8 @@ line_text version place entry =
 -- the lines of a history, which is given with its newest entry first
 abbrev pub history_text : ℕ → List Entry → List ℕ
 history_text version [] = []
-history_text version (entry ∷ older) = history_text version older ++ line_text version (length older + 1) entry
+history_text version (entry ∷ older) =
+    history_text version older ++ line_text version (length older + 1) entry
 
 abbrev pub object_state_text : ObjectState → List ℕ
 object_state_text object_state.Live = codes "live"

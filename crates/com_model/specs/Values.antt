@@ -40,9 +40,11 @@ abbrev pub given_or_default : Kind → Option Value → Value
 given_or_default k None = default_of k
 given_or_default k (Some v) = v
 
-abbrev pub sent_result : (marshalled : Bool) → (live : ℕ → Bool) → HResult → Option Kind → Option Value → Option Value
+abbrev pub sent_result : (marshalled : Bool) → (live : ℕ → Bool) → HResult → Option Kind → Option Value
+    → Option Value
 sent_result m live hr None v = None
-sent_result m live hr (Some k) v = if is_failure hr then None else Some (sent_value m live k (given_or_default k v))
+sent_result m live hr (Some k) v =
+    if is_failure hr then None else Some (sent_value m live k (given_or_default k v))
 
 -- The references among values, in their order, without null.
 abbrev pub carried : List Value → List RefValue

@@ -123,10 +123,14 @@ taken_if n k ws = if n == 2 then filter (λ (w : Word). not (w.number == k)) ws 
 abbrev pub asked_about : ℕ → ℕ → Option Word → Mail → Mail
 asked_about c n None m = m
 asked_about c n (Some w) m =
-    record m { words = taken_if n w.number m.words; marks = record { call = c; number = w.number } ∷ without_mark c m.marks }
+    record m {
+      words = taken_if n w.number m.words;
+      marks = record { call = c; number = w.number } ∷ without_mark c m.marks;
+    }
 
 abbrev pub mail_after : MailEffect → Mail → Mail
-mail_after (Brings w) m = record m { posted = m.posted + 1; words = m.words ++ record { number = m.posted + 1; word = w } ∷ [] }
+mail_after (Brings w) m =
+    record m { posted = m.posted + 1; words = m.words ++ record { number = m.posted + 1; word = w } ∷ [] }
 mail_after Takes m = record m { words = without_first m.words }
 mail_after (Asks c n) m = asked_about c n (not_asked (mark_of m.marks c) m.words) m
 mail_after (Forgets c) m = record m { marks = without_mark c m.marks }
@@ -166,4 +170,5 @@ quit_after LeavesQuit b = b
 abbrev pub quit_stands : List Entry → ℕ → Bool
 quit_stands [] l = false
 quit_stands (e ∷ h) l =
-    quit_after (quit_effect l (e.lane == l && not (bound_reached (openers h l) (served h l))) e.deed) (quit_stands h l)
+    quit_after (quit_effect l (e.lane == l && not (bound_reached (openers h l) (served h l))) e.deed)
+    (quit_stands h l)

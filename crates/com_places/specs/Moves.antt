@@ -99,16 +99,21 @@ acted_moves g w a (Some r) d = writes_moves g (with_frame a r w) a (writes r.act
 -- The result of a direct call is at a place from its Leave to its Back.
 abbrev pub result_moved : Ground → ℕ → Option Value → List Move
 result_moved g c v =
-    if is_direct (route_of (g.issue c)) && not (g.returned c) then moved (entered_where (g.admitted c)) (value_reference v) else []
+    if is_direct (route_of (g.issue c)) && not (g.returned c)
+    then moved (entered_where (g.admitted c)) (value_reference v) else []
 
 abbrev pub arrived_moves : Ground → Scene → (after : Actor) → (lane : ℕ) → Deed → Moves
-arrived_moves g w b l (deed.Leave c hr v bytes) = record { lost = all_moved (entered_where (g.admitted c)) (w.bodies c).slots; gained = result_moved g c v }
-arrived_moves g w b l (deed.Enter c o a k vs) = record { lost = []; gained = all_moved (Some a) (entered vs).slots }
+arrived_moves g w b l (deed.Leave c hr v bytes) =
+    record { lost = all_moved (entered_where (g.admitted c)) (w.bodies c).slots; gained = result_moved g c v }
+arrived_moves g w b l (deed.Enter c o a k vs) =
+    record { lost = []; gained = all_moved (Some a) (entered vs).slots }
 arrived_moves g w b l (deed.Back c hr v) =
     together (record { lost = result_moved g c (left_value (g.left c)); gained = [] })
     (writes_moves g w b (to_answer hr ∷ to_destination (w.destinations c) v))
-arrived_moves g w b l (deed.Uninit a zero) = record { lost = all_moved (g.home l) (w.scripts l).slots; gained = [] }
-arrived_moves g w b l (deed.Final o) = record { lost = all_moved (Some (g.named o)) (w.cells o).links; gained = [] }
+arrived_moves g w b l (deed.Uninit a zero) =
+    record { lost = all_moved (g.home l) (w.scripts l).slots; gained = [] }
+arrived_moves g w b l (deed.Final o) =
+    record { lost = all_moved (Some (g.named o)) (w.cells o).links; gained = [] }
 arrived_moves g w b l _ = no_moves
 
 -- The end of an STA takes the links of all its objects.
@@ -144,5 +149,6 @@ entry_moves s h e =
 -- What an apartment holds after an entry, with what it lost, is what it held before, with what it gained.
 abbrev pub PlacesMove : Scenario → List Entry → Entry → Type 0
 PlacesMove s h e =
-    (a : ℕ) (t : Test) → places_that s (ground s (e ∷ h)) (scene s (e ∷ h)) a t + counted (entry_moves s h e).lost a t
+    (a : ℕ) (t : Test)
+    → places_that s (ground s (e ∷ h)) (scene s (e ∷ h)) a t + counted (entry_moves s h e).lost a t
     ≡ places_that s (ground s h) (scene s h) a t + counted (entry_moves s h e).gained a t

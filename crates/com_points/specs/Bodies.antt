@@ -57,8 +57,11 @@ take_place i =
 -- Null is refused. The new cookie is one more than the last one. The first free place of the four is taken.
 abbrev pub advise_body : List Stmt
 advise_body =
-    stmt.Same 1 0 7 ∷ stmt.SkipZero 1 1 ∷ leave_with e_pointer given.Nothing ∷ stmt.Load 2 4 ∷ stmt.Add 2 (int 1)
-    ∷ (take_place 0 ++ (take_place 1 ++ (take_place 2 ++ (take_place 3 ++ (leave_with advise_limit given.Nothing ∷ [])))))
+    stmt.Same 1 0 7 ∷ stmt.SkipZero 1 1 ∷ leave_with e_pointer given.Nothing ∷ stmt.Load 2 4
+    ∷ stmt.Add 2 (int 1)
+    ∷ (take_place 0
+    ++ (take_place 1
+    ++ (take_place 2 ++ (take_place 3 ++ (leave_with advise_limit given.Nothing ∷ [])))))
 
 -- ---- unadvise
 
@@ -68,12 +71,14 @@ look_in i = stmt.Set 1 (register 0) ∷ stmt.Load 2 i ∷ stmt.Sub 1 (register 2
 
 -- Puts the next cookie and sink in the place of this one.
 abbrev pub move_down : ℕ → List Stmt
-move_down i = stmt.Load 3 (i + 1) ∷ stmt.Store i (register 3) ∷ stmt.Copy (place.Link i) (place.Link (i + 1)) ∷ []
+move_down i =
+    stmt.Load 3 (i + 1) ∷ stmt.Store i (register 3) ∷ stmt.Copy (place.Link i) (place.Link (i + 1)) ∷ []
 
 -- A cookie is above 0. Where a cell has it, all behind it move one place down, and the last place is free.
 abbrev pub unadvise_body : List Stmt
 unadvise_body =
-    stmt.Less 1 (int 0) (register 0) ∷ stmt.SkipZero 1 1 ∷ stmt.Skip 1 ∷ leave_with no_connection given.Nothing
+    stmt.Less 1 (int 0) (register 0) ∷ stmt.SkipZero 1 1 ∷ stmt.Skip 1
+    ∷ leave_with no_connection given.Nothing
     ∷ (look_in 0 ++ (look_in 1 ++ (look_in 2 ++ (look_in 3 ++ (leave_with no_connection given.Nothing
     ∷ (move_down 0 ++ (move_down 1 ++ (move_down 2
     ++ (stmt.Store 3 (int 0) ∷ stmt.Release (place.Link 3) ∷ leave_with ok given.Nothing ∷ [])))))))))
@@ -92,7 +97,8 @@ look_at i =
 -- `ICounter.add` with the argument of `fire`.
 abbrev pub send_event : List Stmt
 send_event =
-    stmt.Less 2 (register 4) (register 1) ∷ stmt.SkipZero 2 1 ∷ leave_register 6 ∷ stmt.Set 5 (register 1) ∷ stmt.Add 6 (int 1)
+    stmt.Less 2 (register 4) (register 1) ∷ stmt.SkipZero 2 1 ∷ leave_register 6 ∷ stmt.Set 5 (register 1)
+    ∷ stmt.Add 6 (int 1)
     ∷ stmt.Call 0 1 0 (arg.Op (register 0) ∷ []) (destination.Register 7) ∷ []
 
 abbrev pub event_round : List Stmt

@@ -32,14 +32,16 @@ InOrder h = (o i c : ℕ) → Rising 0 (last h o i c) (visited h o i c)
 -- A sink that the source still keeps, and whose turn in an open event is past, got it.
 abbrev pub NonePassed : Scenario → List Entry → Type 0
 NonePassed s h =
-    (l c o a i : ℕ) (x : Sink) → Stands (Enters c o a) (openers h l) → IsEvent s h o i c → Held x (sinks h o i)
+    (l c o a i : ℕ) (x : Sink) → Stands (Enters c o a) (openers h l) → IsEvent s h o i c
+    → Held x (sinks h o i)
     → x.cookie ≤ reached (visited h o i c) → Held x (visited h o i c)
 
 -- Where the body leaves, each sink that was advised before the call was entered, and that the source still
 -- keeps, got the event.
 abbrev pub AllGot : Scenario → List Entry → ℕ → Deed → Type 0
 AllGot s h l (deed.Leave c hr v bytes) =
-    (o i : ℕ) (x : Sink) → IsEvent s h o i c → Held x (sinks h o i) → x.cookie ≤ last h o i c → Held x (visited h o i c)
+    (o i : ℕ) (x : Sink) → IsEvent s h o i c → Held x (sinks h o i) → x.cookie ≤ last h o i c
+    → Held x (visited h o i c)
 AllGot s h l _ = Unit {0}
 
 -- Each sink is taken under a cookie that is one more than the number of those that were taken before.

@@ -122,7 +122,8 @@ with_next false x xs = xs
 abbrev pub visited : List Entry → (object iface call : ℕ) → List Sink
 visited [] o i c = []
 visited (e ∷ h) o i c =
-    with_next (sends h e.lane c e.deed) (first_between (reached (visited h o i c)) (last h o i c) (sinks h o i)) (visited h o i c)
+    with_next (sends h e.lane c e.deed)
+    (first_between (reached (visited h o i c)) (last h o i c) (sinks h o i)) (visited h o i c)
 
 -- The sink to which the call's next Out has to go.
 abbrev pub next_sink : List Entry → (object iface call : ℕ) → Option Sink
@@ -145,5 +146,6 @@ Delivers h o i c _ = Unit {0}
 -- The sentence, of an entry and what stood before it.
 abbrev pub Delivered : Scenario → List Entry → ℕ → Deed → Type 0
 Delivered s h l d =
-    (o i c : ℕ) → IsSource s (class_of h o) i → is_on (issue h c) o i fire ≡ true → top_call (first (openers h l)) ≡ Some c
+    (o i c : ℕ) → IsSource s (class_of h o) i → is_on (issue h c) o i fire ≡ true
+    → top_call (first (openers h l)) ≡ Some c
     → Delivers h o i c d

@@ -18,7 +18,8 @@ abbrev pub number : ℕ → Value
 number n = value.Int (pos n)
 
 -- The body leaves with this answer and result, and the cells keep these sinks then.
-pub record Leaves (r : Outcome) (hr : HResult) (given : Option Value) (sinks : List Sink) (last : ℕ) : Type 0 where
+pub record Leaves (r : Outcome) (hr : HResult) (given : Option Value) (sinks : List Sink)
+    (last : ℕ) : Type 0 where
   pub action : r.action ≡ action.Leave hr given
   pub keeps : Keeps r.cells sinks last
 
@@ -48,12 +49,14 @@ pub record Begins (c : Cells) (n : ℤ) (last : ℕ) : Type 0 where
   pub same : alone fire_body 1 (entered (value.Int n ∷ [])) c ≡ alone fire_body 1 frame c
 
 -- The body calls `ICounter.add` with its argument on this sink, and goes on behind it.
-pub record Sends (r : Outcome) (sent : ℕ) (event : Value) (last : ℕ) (to : Sink) (sinks : List Sink) (given : ℕ) : Type 0 where
+pub record Sends (r : Outcome) (sent : ℕ) (event : Value) (last : ℕ) (to : Sink) (sinks : List Sink)
+    (given : ℕ) : Type 0 where
   pub action : r.action ≡ action.Call to.held 1 0 (event ∷ []) (destination.Register 7)
   pub keeps : Keeps r.cells sinks given
   pub next : AtRound r.frame (sent + 1) event last to.cookie
 
 -- Where there is a sink for the event it is sent there, and else the body leaves with the number of events.
-abbrev pub Fires : Outcome → (sent : ℕ) → (event : Value) → (last : ℕ) → List Sink → (given : ℕ) → Option Sink → Type 0
+abbrev pub Fires : Outcome → (sent : ℕ) → (event : Value) → (last : ℕ) → List Sink → (given : ℕ) → Option Sink
+    → Type 0
 Fires r sent event last sinks given None = Leaves r ok (Some (number sent)) sinks given
 Fires r sent event last sinks given (Some to) = Sends r sent event last to sinks given

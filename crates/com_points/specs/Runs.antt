@@ -39,7 +39,8 @@ by_itself s h c o i n = alone (body_for s h o i) n (entered (given_to h c)) (beg
 -- So many copies and releases are still before the body.
 pub record Rest (s : Scenario) (h : List Entry) (c o : ℕ) (i : Issue) (n : ℕ) : Type 0 where
   pub steps : ℕ
-  pub same : alone (body_for s h o i) steps ((scene s h).bodies c) ((scene s h).cells o) ≡ by_itself s h c o i n
+  pub same : alone (body_for s h o i) steps ((scene s h).bodies c) ((scene s h).cells o)
+      ≡ by_itself s h c o i n
 
 -- A call on an object that is not agile, entered in an STA, whose body comes to its Leave by itself.
 pub record Sits (s : Scenario) (h : List Entry) (c o a : ℕ) (i : Issue) (n : ℕ) : Type 0 where
@@ -51,13 +52,15 @@ pub record Sits (s : Scenario) (h : List Entry) (c o a : ℕ) (i : Issue) (n : �
 -- Such a body on top has what is left of that.
 abbrev pub StillAlone : Scenario → List Entry → Type 0
 StillAlone s h =
-    (l c o a : ℕ) (os : List Opener) (i : Issue) (n : ℕ) → openers h l ≡ Enters c o a ∷ os → Sits s h c o a i n
+    (l c o a : ℕ) (os : List Opener) (i : Issue) (n : ℕ) → openers h l ≡ Enters c o a ∷ os
+    → Sits s h c o a i n
     → Rest s h c o i n
 
 -- Its Leave has that answer and result, and leaves those cells.
 abbrev pub LeavesAlone : Scenario → List Entry → Entry → Type 0
 LeavesAlone s h e =
     (c o a : ℕ) (os : List Opener) (i : Issue) (n : ℕ) (hr : HResult) (x : Option Value)
-    → openers h e.lane ≡ Enters c o a ∷ os → Sits s h c o a i n → (by_itself s h c o i n).action ≡ action.Leave hr x
+    → openers h e.lane ≡ Enters c o a ∷ os → Sits s h c o a i n
+    → (by_itself s h c o i n).action ≡ action.Leave hr x
     → (d : ℕ) (y : HResult) (v : Option Value) (bytes : Option (List ℕ)) → e.deed ≡ deed.Leave d y v bytes
     → IsLeave e.deed c hr (result_of s h i hr x) × ((scene s (e ∷ h)).cells o ≡ (by_itself s h c o i n).cells)

@@ -14,4 +14,5 @@ Stands o (x ∷ xs) = (x ≡ o) ⊎ Stands o xs
 -- All bodies that are open in an STA stand in one lane.
 abbrev pub OneLane : List Entry → Type 0
 OneLane h =
-    (l m c o d x a : ℕ) → is_sta a ≡ true → Stands (Enters c o a) (openers h l) → Stands (Enters d x a) (openers h m) → l ≡ m
+    (l m c o d x a : ℕ) → is_sta a ≡ true → Stands (Enters c o a) (openers h l)
+    → Stands (Enters d x a) (openers h m) → l ≡ m

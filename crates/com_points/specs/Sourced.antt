@@ -31,7 +31,9 @@ pub record SourceRuns (s : Scenario) (class iface : ℕ) : Type 0 where
 -- has the answer, and the cells keep these sinks after it.
 abbrev pub SinksAfter : Scenario → List Entry → Entry → Type 0
 SinksAfter s h e =
-    (c o a : ℕ) (os : List Opener) (i : Issue) (n : ℕ) (hr : HResult) (given : Option Value) (sinks : List Sink) (last : ℕ)
-    → openers h e.lane ≡ Enters c o a ∷ os → Sits s h c o a i n → Leaves (by_itself s h c o i n) hr given sinks last
+    (c o a : ℕ) (os : List Opener) (i : Issue) (n : ℕ) (hr : HResult) (given : Option Value)
+    (sinks : List Sink) (last : ℕ)
+    → openers h e.lane ≡ Enters c o a ∷ os → Sits s h c o a i n
+    → Leaves (by_itself s h c o i n) hr given sinks last
     → (d : ℕ) (y : HResult) (v : Option Value) (bytes : Option (List ℕ)) → e.deed ≡ deed.Leave d y v bytes
     → IsLeave e.deed c hr (result_of s h i hr given) × Keeps ((scene s (e ∷ h)).cells o) sinks last

@@ -16,7 +16,13 @@ use Rattle.com_points.specs.Bodies.{advise_body, unadvise_body, fire_body}
 
 -- The interface of a source, after IConnectionPoint: its IID and its methods.
 abbrev pub point_iid : Guid
-point_iid = record { data1 = 0x5C0B0030; data2 = 0x0000; data3 = 0x4000; data4 = 0x80 ∷ 0 ∷ 0 ∷ 0 ∷ 0 ∷ 0 ∷ 0 ∷ 1 ∷ [] }
+point_iid =
+    record {
+      data1 = 0x5C0B0030;
+      data2 = 0x0000;
+      data3 = 0x4000;
+      data4 = 0x80 ∷ 0 ∷ 0 ∷ 0 ∷ 0 ∷ 0 ∷ 0 ∷ 1 ∷ [];
+    }
 
 abbrev pub advise : ℕ
 advise = 0

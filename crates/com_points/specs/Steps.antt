@@ -34,7 +34,8 @@ use Rattle.com_points.specs.Alone.{in_frame, in_cells, alone}
 
 -- The step of the body of a call, issued so, on its object.
 abbrev pub step_of : Scenario → List Entry → (call object : ℕ) → Issue → Outcome
-step_of s h c o i = body_step (body_of s.classes (class_of h o) i.iface i.method) ((scene s h).bodies c) ((scene s h).cells o)
+step_of s h c o i =
+    body_step (body_of s.classes (class_of h o) i.iface i.method) ((scene s h).bodies c) ((scene s h).cells o)
 
 abbrev pub IsOut : Deed → Option RefValue → (iface method : ℕ) → Type 0
 IsOut (deed.Out c x j n r k bytes) held i m = (x ≡ object_in held) × (j ≡ i) × (n ≡ m)
@@ -46,16 +47,21 @@ IsLeave (deed.Leave d y v bytes) c hr x = (d ≡ c) × (y ≡ hr) × (v ≡ x)
 IsLeave _ c hr x = ⊥
 
 abbrev pub result_of : Scenario → List Entry → Issue → HResult → Option Value → Option Value
-result_of s h i hr x = sent_result (is_marshalled i.route) (books s h).live hr (result_kind (method_at s.classes i.iface i.method)) x
+result_of s h i hr x =
+    sent_result (is_marshalled i.route) (books s h).live hr
+    (result_kind (method_at s.classes i.iface i.method)) x
 
 -- What the entry of each action is, and the frame and the cells after it: those of the step, and what a copy
 -- or a release puts at its place.
-abbrev pub StepsBy : Scenario → List Entry → (call object : ℕ) → Issue → Outcome → Deed → Scene → Action → Type 0
+abbrev pub StepsBy : Scenario → List Entry → (call object : ℕ) → Issue → Outcome → Deed → Scene → Action
+    → Type 0
 StepsBy s h c o i r d w (action.Copy to held) =
     (d ≡ deed.Copy held) × (w.bodies c ≡ in_frame to held r.frame) × (w.cells o ≡ in_cells to held r.cells)
 StepsBy s h c o i r d w (action.Release from held) =
-    (d ≡ deed.Release held) × (w.bodies c ≡ in_frame from None r.frame) × (w.cells o ≡ in_cells from None r.cells)
-StepsBy s h c o i r d w (action.Call held j m args to) = IsOut d held j m × (w.bodies c ≡ r.frame) × (w.cells o ≡ r.cells)
+    (d ≡ deed.Release held) × (w.bodies c ≡ in_frame from None r.frame)
+    × (w.cells o ≡ in_cells from None r.cells)
+StepsBy s h c o i r d w (action.Call held j m args to) =
+    IsOut d held j m × (w.bodies c ≡ r.frame) × (w.cells o ≡ r.cells)
 StepsBy s h c o i r d w (action.Leave hr x) = IsLeave d c hr (result_of s h i hr x) × (w.cells o ≡ r.cells)
 StepsBy s h c o i r d w _ = Unit {0}
 
@@ -92,19 +98,24 @@ left_alone s h c o i n = alone (body_for s h o i) (suc n) ((scene s h).bodies c)
 -- leaves.
 abbrev pub GoesOn : Scenario → List Entry → Entry → (call object : ℕ) → Issue → (steps : ℕ) → Action → Type 0
 GoesOn s h e c o i n (action.Copy to held) =
-    alone (body_for s h o i) n ((scene s (e ∷ h)).bodies c) ((scene s (e ∷ h)).cells o) ≡ left_alone s h c o i n
+    alone (body_for s h o i) n ((scene s (e ∷ h)).bodies c) ((scene s (e ∷ h)).cells o)
+    ≡ left_alone s h c o i n
 GoesOn s h e c o i n (action.Release from held) =
-    alone (body_for s h o i) n ((scene s (e ∷ h)).bodies c) ((scene s (e ∷ h)).cells o) ≡ left_alone s h c o i n
+    alone (body_for s h o i) n ((scene s (e ∷ h)).bodies c) ((scene s (e ∷ h)).cells o)
+    ≡ left_alone s h c o i n
 GoesOn s h e c o i n (action.Call held j m args to) =
-    ((left_alone s h c o i n).action ≡ action.Call held j m args to) × ((scene s (e ∷ h)).cells o ≡ (left_alone s h c o i n).cells)
+    ((left_alone s h c o i n).action ≡ action.Call held j m args to)
+    × ((scene s (e ∷ h)).cells o ≡ (left_alone s h c o i n).cells)
     × ((scene s (e ∷ h)).bodies c ≡ (left_alone s h c o i n).frame)
 GoesOn s h e c o i n (action.Leave hr x) =
-    ((left_alone s h c o i n).action ≡ action.Leave hr x) × ((scene s (e ∷ h)).cells o ≡ (left_alone s h c o i n).cells)
+    ((left_alone s h c o i n).action ≡ action.Leave hr x)
+    × ((scene s (e ∷ h)).cells o ≡ (left_alone s h c o i n).cells)
 GoesOn s h e c o i n _ = Unit {0}
 
 abbrev pub GoesAlone : Scenario → List Entry → Entry → Type 0
 GoesAlone s h e =
-    (c o a : ℕ) (os : List Opener) (i : Issue) (n : ℕ) → openers h e.lane ≡ Enters c o a ∷ os → issue h c ≡ Some i
+    (c o a : ℕ) (os : List Opener) (i : Issue) (n : ℕ) → openers h e.lane ≡ Enters c o a ∷ os
+    → issue h c ≡ Some i
     → GoesOn s h e c o i n (step_of s h c o i).action
 
 -- ---- frames that stay

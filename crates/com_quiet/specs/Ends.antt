@@ -25,12 +25,14 @@ abbrev pub rows_entered : Scenario → (before after : State) → Entry → Book
 rows_entered s st su e =
     kept (books_in st) e.deed
     (entered_rows (owns_in s su) (books_in st)
-    (rows s ((sight_of s st).act e.lane) (λ c. is_leave (ending_in st c)) (books_in st) (number_or_zero (running_in s st e.lane)) e.deed))
+    (rows s ((sight_of s st).act e.lane) (λ c. is_leave (ending_in st c)) (books_in st)
+    (number_or_zero (running_in s st e.lane)) e.deed))
 
 -- An object that is made is connected; one that is disconnected, or whose owner ends, is not any more.
 abbrev pub connects : Deed → (named : ℕ → ℕ) → (ℕ → Bool) → ℕ → Bool
 connects d named live o =
-    (made_by (makes d) o || live o) && (not (is_number o (disconnects d)) && not (is_number (named o) (ends_sta d)))
+    (made_by (makes d) o || live o)
+    && (not (is_number o (disconnects d)) && not (is_number (named o) (ends_sta d)))
 
 abbrev pub connected : Deed → (named : ℕ → ℕ) → Books → Books
 connected d named b = record b { live = connects d named b.live }
@@ -45,4 +47,5 @@ history_entered s h e =
     connected e.deed (named (e ∷ h))
     (kept (books s h) e.deed
     (entered_rows (owns s (e ∷ h)) (books s h)
-    (rows s (act s h e.lane) (λ c. is_leave (ending s h c)) (books s h) (number_or_zero (running s h e.lane)) e.deed)))
+    (rows s (act s h e.lane) (λ c. is_leave (ending s h c)) (books s h)
+    (number_or_zero (running s h e.lane)) e.deed)))

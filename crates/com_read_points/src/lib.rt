@@ -26,7 +26,8 @@ use std::alloc::Global;
 /// of this name or IID. Everything else is read by `com_scenario::parse`.
 ///
 /// The scenario keeps the limits, the forms and the ranges of the language, repeats no name or GUID, and
-/// names only what is declared. `Memory` comes where memory is short, and for a text of nearly 2^32 bytes or more.
+/// names only what is declared. `Memory` comes where memory is short, and for a text of nearly 2^32 bytes or
+/// more.
 #[tactic(auto, unfolding(crate::specs::Sources::reading_points))]
 pub fn read_points(alloc: Global, text: &[u8]) -> Result<Scenario, ScenarioError>
     ensures value { Gives (λ s. s) result (reading_points text.now) }

@@ -14,7 +14,8 @@ use Rattle.com_model.specs.Cases.{into_the_host_3, answer_first_10}
 
 -- A body of the host STA's object runs in the caller's lane.
 abbrev pub in_foreign_lane : List Entry
-in_foreign_lane = record { lane = 1; deed = deed.Enter 1 1 2 (Some 1) (value.Int (pos 7) ∷ []) } ∷ into_the_host_3
+in_foreign_lane =
+    record { lane = 1; deed = deed.Enter 1 1 2 (Some 1) (value.Int (pos 7) ∷ []) } ∷ into_the_host_3
 
 -- A call comes back while its body still runs above it.
 abbrev pub under_a_body : List Entry
@@ -22,7 +23,8 @@ under_a_body = record { lane = 1; deed = deed.Back 1 S_OK (Some (value.Int (pos 
 
 -- A lane admits a call above a call that has its answer.
 abbrev pub above_an_answer : List Entry
-above_an_answer = record { lane = 1; deed = deed.Enter 2 1 3 (Some 1) (value.Int (pos 2) ∷ []) } ∷ answer_first_10
+above_an_answer =
+    record { lane = 1; deed = deed.Enter 2 1 3 (Some 1) (value.Int (pos 2) ∷ []) } ∷ answer_first_10
 
 -- A call comes back with another value than its body gave.
 abbrev pub another_value : List Entry
@@ -35,7 +37,9 @@ unmarshalled_out_of_nothing = record {
   pool = 1;
   classes = direct_call.classes;
   filters = [];
-  threads = (stmt.Init mode.Mta ∷ stmt.Create 0 (asked.Number 1) (asked.Number 1) ∷ []) ∷ (stmt.Init mode.Sta ∷ stmt.Unmarshal 0 0 ∷ []) ∷ [];
+  threads =
+      (stmt.Init mode.Mta ∷ stmt.Create 0 (asked.Number 1) (asked.Number 1) ∷ [])
+      ∷ (stmt.Init mode.Sta ∷ stmt.Unmarshal 0 0 ∷ []) ∷ [];
   picks = [];
 }
 
@@ -47,7 +51,8 @@ two_apartments =
 
 abbrev pub out_of_nothing : List Entry
 out_of_nothing =
-    record { lane = 2; deed = deed.Unmarshal (Some 1) (Some (record { object = 1; iface = 1 })) 5 S_OK } ∷ two_apartments
+    record { lane = 2; deed = deed.Unmarshal (Some 1) (Some (record { object = 1; iface = 1 })) 5 S_OK }
+    ∷ two_apartments
 
 -- An object is released while a script holds it.
 abbrev pub held_by_a_script : List Entry

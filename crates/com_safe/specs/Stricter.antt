@@ -25,7 +25,8 @@ use Rattle.com_model.specs.Safe.{EachEntry, EachPrefix, BodyOrScript, MadeOnTop,
 
 -- An Enter is of the object that its call's Out names, and never of a call that was refused at its issue.
 abbrev pub EntersTarget : Scenario → List Entry → ℕ → Deed → Type 0
-EntersTarget s h l (deed.Enter c o a t vs) = (o ≡ target h c) × (is_refused_route (route_of (issue h c)) ≡ false)
+EntersTarget s h l (deed.Enter c o a t vs) =
+    (o ≡ target h c) × (is_refused_route (route_of (issue h c)) ≡ false)
 EntersTarget s h l _ = Unit {0}
 
 -- A packet is dropped by a statement of the body on top, or of a script where nothing is open; or by a rule,
@@ -44,7 +45,8 @@ pub record ByRule (s : Scenario) (h : List Entry) (l p : ℕ) : Type 0 where
   pub outstanding : (packet (books s h) p).outstanding ≡ true
 
 abbrev pub DropsOwn : Scenario → List Entry → ℕ → Deed → Type 0
-DropsOwn s h l (deed.DropPacket (Some p) hr) = ByStatement s h l (deed.DropPacket (Some p) hr) ⊎ ByRule s h l p
+DropsOwn s h l (deed.DropPacket (Some p) hr) =
+    ByStatement s h l (deed.DropPacket (Some p) hr) ⊎ ByRule s h l p
 DropsOwn s h l _ = Unit {0}
 
 -- A call is turned away in its own lane, while its Out is the top, or in a lane that serves its target's

@@ -17,12 +17,14 @@ use Rattle.com_model.specs.Dying.{is_entered, is_dying}
 -- connected.
 abbrev pub ReleasesOnce : Scenario → List Entry → ℕ → Deed → Type 0
 ReleasesOnce s h l (deed.Final o) =
-    (finaled h o ≡ false) × (serves s h l (named h o) ≡ true) × (is_dying s h o ≡ true) × ((books s h).live o ≡ false)
+    (finaled h o ≡ false) × (serves s h l (named h o) ≡ true) × (is_dying s h o ≡ true)
+    × ((books s h).live o ≡ false)
 ReleasesOnce s h l _ = Unit {0}
 
 -- At its Final no apartment that owns the object has a place of it, and no Enter of it is open.
 abbrev pub ReleasesBare : Scenario → List Entry → ℕ → Deed → Type 0
-ReleasesBare s h l (deed.Final o) = (direct_places s (ground s h) (scene s h) o ≡ 0) × (is_entered s (openers h) o ≡ false)
+ReleasesBare s h l (deed.Final o) =
+    (direct_places s (ground s h) (scene s h) o ≡ 0) × (is_entered s (openers h) o ≡ false)
 ReleasesBare s h l _ = Unit {0}
 
 -- What is not connected, and of which no stub counts and no proxy holds a public reference.

@@ -33,7 +33,8 @@ abbrev pub after_turn : Scenario → (State → List ℕ → ℕ → Run) → St
 after_turn s go st last None = over st
 after_turn s go st last (Some t) = after_deed s go st last t (next_of s st t.lane)
 
-abbrev pub unless_over : Scenario → (State → List ℕ → ℕ → Run) → State → List ℕ → (last : ℕ) → Option Ended → Run
+abbrev pub unless_over :
+    Scenario → (State → List ℕ → ℕ → Run) → State → List ℕ → (last : ℕ) → Option Ended → Run
 unless_over s go st picks last (Some x) = over st
 unless_over s go st picks last None = after_turn s go st last (turn_in s st picks last)
 

@@ -73,7 +73,8 @@ fn behind_take_place(body: &[Stmt], i: u8) -> Option<&[Stmt]>
 /// What stands behind a statement that leaves with this HRESULT.
 fn behind_leave(body: &[Stmt], answer: HResult) -> Option<&[Stmt]>
     ensures some { IfSome result (λ rest. body.now ≡ (leave_with answer given_of.Nothing ∷ []) ++ rest.now) }
-    ensures none { IfNone result ((rest : List Stmt) → body.now ≡ (leave_with answer given_of.Nothing ∷ []) ++ rest → ⊥) }
+    ensures none { IfNone result ((rest : List Stmt)
+        → body.now ≡ (leave_with answer given_of.Nothing ∷ []) ++ rest → ⊥) }
 {
     match body {
         [leave, rest @ ..] => {
@@ -88,9 +89,11 @@ fn behind_leave(body: &[Stmt], answer: HResult) -> Option<&[Stmt]>
 }
 
 fn behind_advise(body: &[Stmt]) -> Option<&[Stmt]>
-    ensures some { IfSome result (λ rest. body.now ≡ advise_head ++ (take_place 0 ++ (take_place 1 ++ (take_place 2
+    ensures some { IfSome result (λ rest. body.now
+        ≡ advise_head ++ (take_place 0 ++ (take_place 1 ++ (take_place 2
         ++ (take_place 3 ++ (leave_with advise_limit given_of.Nothing ∷ rest.now)))))) }
-    ensures none { IfNone result ((rest : List Stmt) → body.now ≡ advise_head ++ (take_place 0 ++ (take_place 1 ++ (take_place 2
+    ensures none { IfNone result ((rest : List Stmt)
+        → body.now ≡ advise_head ++ (take_place 0 ++ (take_place 1 ++ (take_place 2
         ++ (take_place 3 ++ (leave_with advise_limit given_of.Nothing ∷ rest))))) → ⊥) }
 {
     let rest = behind_advise_head(body)?;
@@ -188,7 +191,8 @@ fn behind_move_down(body: &[Stmt], i: u8) -> Option<&[Stmt]>
 fn behind_looks(body: &[Stmt]) -> Option<&[Stmt]>
     ensures some { IfSome result (λ rest. body.now ≡ unadvise_head ++ (look_in 0 ++ (look_in 1 ++ (look_in 2
         ++ (look_in 3 ++ (leave_with no_connection given_of.Nothing ∷ rest.now)))))) }
-    ensures none { IfNone result ((rest : List Stmt) → body.now ≡ unadvise_head ++ (look_in 0 ++ (look_in 1 ++ (look_in 2
+    ensures none { IfNone result ((rest : List Stmt)
+        → body.now ≡ unadvise_head ++ (look_in 0 ++ (look_in 1 ++ (look_in 2
         ++ (look_in 3 ++ (leave_with no_connection given_of.Nothing ∷ rest))))) → ⊥) }
 {
     let rest = behind_unadvise_head(body)?;
@@ -200,8 +204,10 @@ fn behind_looks(body: &[Stmt]) -> Option<&[Stmt]>
 }
 
 fn behind_moves(body: &[Stmt]) -> Option<&[Stmt]>
-    ensures some { IfSome result (λ rest. body.now ≡ move_down 0 ++ (move_down 1 ++ (move_down 2 ++ rest.now))) }
-    ensures none { IfNone result ((rest : List Stmt) → body.now ≡ move_down 0 ++ (move_down 1 ++ (move_down 2 ++ rest)) → ⊥) }
+    ensures some { IfSome result (λ rest. body.now
+        ≡ move_down 0 ++ (move_down 1 ++ (move_down 2 ++ rest.now))) }
+    ensures none { IfNone result ((rest : List Stmt)
+        → body.now ≡ move_down 0 ++ (move_down 1 ++ (move_down 2 ++ rest)) → ⊥) }
 {
     let rest = behind_move_down(body, 0)?;
     let rest = behind_move_down(rest, 1)?;
@@ -262,7 +268,8 @@ fn behind_look_at(body: &[Stmt], i: u8) -> Option<&[Stmt]>
 /// What stands behind the statements that send an event, or leave.
 fn behind_send_event(body: &[Stmt]) -> Option<&[Stmt]>
     ensures some { IfSome result (λ rest. body.now ≡ (leave_register 6 ∷ send_event) ++ rest.now) }
-    ensures none { IfNone result ((rest : List Stmt) → body.now ≡ (leave_register 6 ∷ send_event) ++ rest → ⊥) }
+    ensures none { IfNone result ((rest : List Stmt)
+        → body.now ≡ (leave_register 6 ∷ send_event) ++ rest → ⊥) }
 {
     match body {
         [none, less, test, leave, set, add, call, rest @ ..] => {
@@ -315,7 +322,8 @@ fn behind_fire_head(body: &[Stmt]) -> Option<&[Stmt]>
 fn behind_rounds(body: &[Stmt]) -> Option<&[Stmt]>
     ensures some { IfSome result (λ rest. body.now ≡ fire_head ++ (event_round ++ (event_round ++ (event_round
         ++ (event_round ++ rest.now))))) }
-    ensures none { IfNone result ((rest : List Stmt) → body.now ≡ fire_head ++ (event_round ++ (event_round ++ (event_round
+    ensures none { IfNone result ((rest : List Stmt)
+        → body.now ≡ fire_head ++ (event_round ++ (event_round ++ (event_round
         ++ (event_round ++ rest)))) → ⊥) }
 {
     let rest = behind_fire_head(body)?;

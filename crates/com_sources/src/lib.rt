@@ -25,8 +25,8 @@ pub const UNADVISE: u16 = 1;
 pub const FIRE: u16 = 2;
 
 /// The number of the interface of a source, if the class with this number is one (`some`), and `None` exactly
-/// where it is none (`none`): a source is a class with a model of an STA, whose one declared interface has the
-/// IID and the methods of a source's, and whose bodies are those of a source, whichever line declared it.
+/// where it is none (`none`): a source is a class with a model of an STA, whose one declared interface has
+/// the IID and the methods of a source's, and whose bodies are those of a source, whichever line declared it.
 #[tactic(auto, using(crate::proofs::Found::found, crate::proofs::Missed::no_class, crate::proofs::Missed::no_only, crate::proofs::Missed::no_interface, crate::proofs::Missed::no_looks))]
 pub fn source_interface(scenario: &Scenario, class: u32) -> Option<u16>
     ensures some { IfSome result (λ iface. IsSource scenario.now class iface) }

@@ -35,7 +35,10 @@ moment_in s st e = record {
 -- What the call has that the lane's action makes.
 abbrev pub issuing_in : Scenario → State → Entry → Issuing
 issuing_in s st e = record {
-  refusal = or_ok (action_refusal s (home_in s st e.lane) (running_in s st e.lane) (owns_in s st) (books_in st).live ((sight_of s st).act e.lane));
+  refusal =
+      or_ok
+      (action_refusal s (home_in s st e.lane) (running_in s st e.lane) (owns_in s st) (books_in st).live
+      ((sight_of s st).act e.lane));
   values = out_values s (books_in st) (is_marshalled_by (issues e.lane e.deed)) ((sight_of s st).act e.lane);
 }
 
@@ -43,7 +46,8 @@ issuing_in s st e = record {
 abbrev pub parts_after : Scenario → State → Entry → State
 parts_after s st e =
     state_of (lanes_after (lanes_of st) e) (objects_after (objects_of st) e)
-    (calls_after (objects_of st) (moment_in s st e) (issuing_in s st e) (calls_of st) e) st.scene st.books st.fallen (ticked e.deed st.clock) (st.entries + 1)
+    (calls_after (objects_of st) (moment_in s st e) (issuing_in s st e) (calls_of st) e) st.scene st.books
+    st.fallen (ticked e.deed st.clock) (st.entries + 1)
 
 -- Then the scene and the books after the entry.
 abbrev pub joined_after : Scenario → State → Entry → State
@@ -65,4 +69,5 @@ actor_after s st e = actor (lane_sort s e.lane) e.lane (openers_at (lanes_after 
 
 -- The tables of the scene after the entry, one changed row after another.
 abbrev pub scene_rows : Scenario → State → Entry → SceneTables
-scene_rows s st e = rows_after (named_in st) (acting_in s st e) (step_in s st e) (actor_after s st e) e st.scene
+scene_rows s st e =
+    rows_after (named_in st) (acting_in s st e) (step_in s st e) (actor_after s st e) e st.scene

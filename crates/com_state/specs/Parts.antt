@@ -96,7 +96,8 @@ calls_of st = record {
   causes = st.causes;
 }
 
-abbrev pub state_of : LaneTables → ObjectTables → CallTables → SceneTables → BookTables → (fallen : List ℕ) → (clock entries : ℕ) → State
+abbrev pub state_of : LaneTables → ObjectTables → CallTables → SceneTables → BookTables → (fallen : List ℕ)
+    → (clock entries : ℕ) → State
 state_of l o c scene books fallen clock entries = record {
   openers = l.openers;
   served = l.served;
@@ -140,14 +141,18 @@ served_at t l = slice_index_or t.served l 0
 abbrev pub lanes_after : LaneTables → Entry → LaneTables
 lanes_after t e = record {
   openers = changed_at (opens (effect e.deed)) e.lane [] t.openers;
-  served = changed_at (serves_more (effect e.deed) (opened (effect e.deed) (openers_at t e.lane))) e.lane 0 t.served;
+  served =
+      changed_at (serves_more (effect e.deed) (opened (effect e.deed) (openers_at t e.lane))) e.lane 0
+      t.served;
   homes = changed_at (homes_change (home_effect e.deed)) e.lane None t.homes;
   counts = changed_at (counts_change (home_effect e.deed)) e.lane 0 t.counts;
   made = changed_at (made_change (makes_sta e.deed)) e.lane [] t.made;
   over = changed_at (over_change (is_end e.deed)) e.lane false t.over;
   filters = changed_at (filters_change (filter_effect e.deed)) e.lane None t.filters;
   mail = changed_at (mail_change e.deed) (mail_lane e.lane e.deed) no_mail t.mail;
-  quits = changed_at (quit_change (not (bound_reached (openers_at t e.lane) (served_at t e.lane))) e.deed) (quit_lane e.lane e.deed) false t.quits;
+  quits =
+      changed_at (quit_change (not (bound_reached (openers_at t e.lane) (served_at t e.lane))) e.deed)
+      (quit_lane e.lane e.deed) false t.quits;
   stas = with_last t.stas (makes_sta e.deed);
   ended = with_last t.ended (ends_sta e.deed);
 }
@@ -193,7 +198,9 @@ abbrev pub end_effect_at : Moment → Entry → EndEffect
 end_effect_at m e = end_effect (λ c. m.filtered) e.deed
 
 abbrev pub ends_at : ObjectTables → CallTables → EndEffect → ℕ → Option Ending
-ends_at o t x c = ends x c (object_of (issue_at t c)) (named_at o (object_of (issue_at t c))) (can_be_cut (issue_at t c) (admission_at t c))
+ends_at o t x c =
+    ends x c (object_of (issue_at t c)) (named_at o (object_of (issue_at t c)))
+    (can_be_cut (issue_at t c) (admission_at t c))
 
 abbrev pub endings_after : ObjectTables → CallTables → EndEffect → List (Option Ending) → List (Option Ending)
 endings_after o t EndsNone xs = xs
@@ -201,7 +208,8 @@ endings_after o t (EndsCall c x) xs = changed_from_one (Some (λ y. or_else y (S
 endings_after o t (CutsObject p) xs = each_from (λ c y. or_else y (ends_at o t (CutsObject p) c)) 1 xs
 endings_after o t (CutsSta a) xs = each_from (λ c y. or_else y (ends_at o t (CutsSta a) c)) 1 xs
 
-abbrev pub unread_after : ObjectTables → CallTables → Option Admission → EndEffect → List (List Value) → List (List Value)
+abbrev pub unread_after : ObjectTables → CallTables → Option Admission → EndEffect → List (List Value)
+    → List (List Value)
 unread_after o t None EndsNone xs = xs
 unread_after o t None (EndsCall c x) xs = changed_from_one (Some (λ vs. [])) c [] xs
 unread_after o t (Some a) EndsNone xs = changed_from_one (Some (λ vs. [])) a.call [] xs
@@ -216,7 +224,8 @@ calls_after o m i t e = record {
   returned = returned_by (returns e.deed) (grown (issued_by e) false t.returned);
   endings = endings_after o t (end_effect_at m e) (grown (issued_by e) None t.endings);
   refusals = grown (issued_by e) i.refusal t.refusals;
-  unread = unread_after o t (admits e.lane e.deed) (end_effect_at m e) (grown (issued_by e) i.values t.unread);
+  unread =
+      unread_after o t (admits e.lane e.deed) (end_effect_at m e) (grown (issued_by e) i.values t.unread);
   phases = phases_by (post_effect e.deed) m.clock (grown (issued_by e) Unposted t.phases);
   times = grown (issued_by e) m.clock t.times;
   postings = posted_last (post_effect e.deed) t.postings;

@@ -25,7 +25,8 @@ pub record Rested (places : ℕ → ℕ → ℕ) (holders : ℕ → ℕ) (b : Bo
 pub record Settled (s : Scenario) (st : State) : Type 0 where
   pub scene : scene_tables s st (scene_in st) ≡ st.scene
   pub books : book_tables s st (books_in st) ≡ st.books
-  pub rested : Rested (places s (ground_in s st) (scene_in st)) (λ o. all_places s (ground_in s st) (scene_in st) o + held_outside (books_in st) o) (books_in st)
+  pub rested : Rested (places s (ground_in s st) (scene_in st))
+      (λ o. all_places s (ground_in s st) (scene_in st) o + held_outside (books_in st) o) (books_in st)
   pub dying : filter (dies_in s st) st.fallen ≡ st.fallen
   pub fell : (o : ℕ) → dies_in s st o ≡ true → is_member o st.fallen ≡ true
 

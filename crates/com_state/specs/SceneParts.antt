@@ -80,21 +80,25 @@ rows_framed Nobody r t = t
 
 -- The Out entry of a call keeps where the result is to go.
 abbrev pub row_wanted : Action → Deed → SceneTables → SceneTables
-row_wanted (action.Call held i m args to) (deed.Out c o j n r k bytes) t = record t { destinations = slice_set t.destinations c to }
+row_wanted (action.Call held i m args to) (deed.Out c o j n r k bytes) t =
+    record t { destinations = slice_set t.destinations c to }
 row_wanted _ d t = t
 
 abbrev pub rows_acted : Actor → Option Outcome → Deed → SceneTables → SceneTables
 rows_acted a None d t = t
-rows_acted a (Some r) d t = row_wanted r.action d (fold (row_written a) (rows_framed a r t) (writes r.action d))
+rows_acted a (Some r) d t =
+    row_wanted r.action d (fold (row_written a) (rows_framed a r t) (writes r.action d))
 
 -- An Enter begins a frame, and a Leave forgets it. A Back and an EndPump write for whoever acts after them.
 -- An Uninit to count 0 makes the script's slots null, and a Final the object's links.
 abbrev pub rows_arrived : (after : Actor) → (lane : ℕ) → Deed → SceneTables → SceneTables
 rows_arrived b l (deed.Leave c hr v bytes) t = with_body t c (entered [])
 rows_arrived b l (deed.Enter c o a k vs) t = with_body t c (entered vs)
-rows_arrived b l (deed.Back c hr v) t = fold (row_written b) t (to_answer hr ∷ to_destination (destination_at t c) v)
+rows_arrived b l (deed.Back c hr v) t =
+    fold (row_written b) t (to_answer hr ∷ to_destination (destination_at t c) v)
 rows_arrived b l deed.EndPump t = row_written b t (to_answer S_OK)
-rows_arrived b l (deed.Uninit a zero) t = with_script t l (record (script_at t l) { slots = replicate 8 None })
+rows_arrived b l (deed.Uninit a zero) t =
+    with_script t l (record (script_at t l) { slots = replicate 8 None })
 rows_arrived b l (deed.Final o) t = with_cells t o (record (cells_at t o) { links = replicate 4 None })
 rows_arrived b l _ t = t
 
@@ -104,10 +108,12 @@ without_links c = record c { links = replicate 4 None }
 
 abbrev pub links_cut : (named : ℕ → ℕ) → Option ℕ → SceneTables → SceneTables
 links_cut named None t = t
-links_cut named (Some a) t = record t { cells = each_from (λ o c. if named o == a then without_links c else c) 0 t.cells }
+links_cut named (Some a) t =
+    record t { cells = each_from (λ o c. if named o == a then without_links c else c) 0 t.cells }
 
 -- The tables after an entry, with who acts in its lane, the step of whoever does, and who acts there
 -- afterwards.
-abbrev pub rows_after : (named : ℕ → ℕ) → (acting : Actor) → Option Outcome → (after : Actor) → Entry → SceneTables → SceneTables
+abbrev pub rows_after : (named : ℕ → ℕ) → (acting : Actor) → Option Outcome → (after : Actor) → Entry
+    → SceneTables → SceneTables
 rows_after named a r b e t =
     links_cut named (ends_sta e.deed) (rows_arrived b e.lane e.deed (rows_acted a r e.deed (with_rows e t)))
