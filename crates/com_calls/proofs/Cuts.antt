@@ -15,8 +15,7 @@ use Rattle.com_calls.specs.declared.rows.Cut.TheVariants as cut
 use Rattle.com_model.specs.declared.keeps.Issue.{Issue}
 use Rattle.com_model.specs.declared.keeps.Admission.{Admission}
 use Rattle.com_inbox.specs.Queues.{Queues}
-use Rattle.com_calls.specs.declared.rows.CallRow.{CallRow}
-use Rattle.com_calls.specs.Rows.{row_at, reaches}
+use Rattle.com_calls.specs.Rows.{RowView, row_at, reaches}
 use Rattle.com_calls.specs.Inside.{kept_of, apartments_of}
 use Rattle.com_calls.specs.Kept.{Kept, IsNamed}
 use Rattle.com_calls.specs.Steps.{values_gone}
@@ -116,7 +115,7 @@ cut_next b x k =
     subst (λ (n : ℕ). cut_one_at (cut_below b x n) n (cut_by b x n) ≡ cut_below b x (n + 1)) e (cut-more b x k)
 
 -- Whether the row of a call is reached.
-abbrev pub reached : Cut → Option CallRow → Bool
+abbrev pub reached : Cut → Option RowView → Bool
 reached x None = false
 reached x (Some r) = reaches x r
 
@@ -128,13 +127,13 @@ unreached : (x : Cut) → false ≡ reached-by x None None 0
 unreached (cut.Object p) = refl
 unreached (cut.Sta a) = refl
 
-reached-in : (x : Cut) (rows : List CallRow) (k : ℕ) → reached x (slice_get rows k) ≡ reached-by x (slice_index_or (map (λ (r : CallRow). Some r.issue) rows) k None) (slice_index_or (map (λ (r : CallRow). r.admission) rows) k None) (slice_index_or (apartments_of rows) k 0)
+reached-in : (x : Cut) (rows : List RowView) (k : ℕ) → reached x (slice_get rows k) ≡ reached-by x (slice_index_or (map (λ (r : RowView). Some r.issue) rows) k None) (slice_index_or (map (λ (r : RowView). r.admission) rows) k None) (slice_index_or (apartments_of rows) k 0)
 reached-in x [] k = unreached x
 reached-in (cut.Object p) (r ∷ rs) zero = refl
 reached-in (cut.Sta a) (r ∷ rs) zero = refl
 reached-in x (r ∷ rs) (suc k) = reached-in x rs k
 
-pub reached-seen : (x : Cut) (rows : List CallRow) (posted waiting : Queues) (room causes call : ℕ) → reached x (row_at rows call) ≡ cut_by (kept_of rows posted waiting room causes) x call
+pub reached-seen : (x : Cut) (rows : List RowView) (posted waiting : Queues) (room causes call : ℕ) → reached x (row_at rows call) ≡ cut_by (kept_of rows posted waiting room causes) x call
 reached-seen (cut.Object p) rows posted waiting room causes zero = refl
 reached-seen (cut.Sta a) rows posted waiting room causes zero = refl
 reached-seen (cut.Object p) rows posted waiting room causes (suc k) = reached-in (cut.Object p) rows k

@@ -9,16 +9,13 @@ use Rattle.std.proofs.lemmas.Bool.{ltb-true, ltb-false}
 use Rattle.std.proofs.lemmas.List.Folds.{list_any-append}
 use Rattle.std.proofs.lemmas.Map.Keys.{IsDistinct-push}
 use Rattle.std.proofs.lemmas.Map.Steps.{length-le_from_distinct_below}
-use Rattle.com_base.specs.declared.hresult.HResult.{HResult}
-use Rattle.com_base.specs.declared.value.Value.{Value}
 use Rattle.com_model.specs.declared.keeps.Ending.{Ending}
 use Rattle.com_model.specs.declared.keeps.Phase.{Phase}
 use Rattle.com_model.specs.declared.keeps.Phase.TheVariants.{Unposted, Queued, Judged, Delayed, GivenUp}
 use Rattle.com_model.specs.Lists.{or_else, lesser, least, one_to, number_or_zero}
 use Rattle.com_model.specs.Waiting.{is_queued}
 use Rattle.com_inbox.specs.Queues.{Queues}
-use Rattle.com_calls.specs.declared.rows.CallRow.{CallRow}
-use Rattle.com_calls.specs.Rows.{changed_in, changed_row, row_at, phased, left_or}
+use Rattle.com_calls.specs.Rows.{RowView, changed_in, changed_row, row_at, phased}
 use Rattle.com_calls.specs.Waits.{wait_until, wait_of, next_wait, sooner_of}
 use Rattle.com_calls.specs.Inside.{kept_of, is_delayed, row_delayed, row_wait, settles, stays, IsCovered}
 use Rattle.com_calls.proofs.Inboxes.{length-changed, length-grown, apart}
@@ -72,7 +69,7 @@ distinct-filter p (x ∷ xs) h = elim (p x) as (λ t. IsDistinct eqb (cond t (x 
   | false ↦ distinct-filter p xs h.1
 ]
 
-none-left : (c : ℕ) (rows : List CallRow) (xs : List ℕ) → list_any (eqb c) (filter (stays rows c) xs) ≡ false
+none-left : (c : ℕ) (rows : List RowView) (xs : List ℕ) → list_any (eqb c) (filter (stays rows c) xs) ≡ false
 none-left c rows [] = refl
 none-left c rows (x ∷ xs) = elim (x == c) as (λ t. (x == c) ≡ t → list_any (eqb c) (cond (not t && row_delayed (row_at rows x)) (x ∷ filter (stays rows c) xs) (filter (stays rows c) xs)) ≡ false) [
   | true ↦ λ e. none-left c rows xs
@@ -84,46 +81,46 @@ none-left c rows (x ∷ xs) = elim (x == c) as (λ t. (x == c) ≡ t → list_an
 
 -- ---- rows
 
-delayed-in : (f : CallRow → CallRow) (k : ℕ) (rows : List CallRow) (j : ℕ) → ((r : CallRow) → is_delayed (f r).phase (f r).ending ≡ true → is_delayed r.phase r.ending ≡ true) → row_delayed (slice_get (changed_in f k rows) j) ≡ true → row_delayed (slice_get rows j) ≡ true
+delayed-in : (f : RowView → RowView) (k : ℕ) (rows : List RowView) (j : ℕ) → ((r : RowView) → is_delayed (f r).phase (f r).ending ≡ true → is_delayed r.phase r.ending ≡ true) → row_delayed (slice_get (changed_in f k rows) j) ≡ true → row_delayed (slice_get rows j) ≡ true
 delayed-in f k [] j p h = h
 delayed-in f zero (r ∷ rs) zero p h = p r h
 delayed-in f zero (r ∷ rs) (suc j) p h = h
 delayed-in f (suc k) (r ∷ rs) zero p h = h
 delayed-in f (suc k) (r ∷ rs) (suc j) p h = delayed-in f k rs j p h
 
-delayed-changed : (f : CallRow → CallRow) (c : ℕ) (rows : List CallRow) (x : ℕ) → ((r : CallRow) → is_delayed (f r).phase (f r).ending ≡ true → is_delayed r.phase r.ending ≡ true) → row_delayed (row_at (changed_row f c rows) x) ≡ true → row_delayed (row_at rows x) ≡ true
+delayed-changed : (f : RowView → RowView) (c : ℕ) (rows : List RowView) (x : ℕ) → ((r : RowView) → is_delayed (f r).phase (f r).ending ≡ true → is_delayed r.phase r.ending ≡ true) → row_delayed (row_at (changed_row f c rows) x) ≡ true → row_delayed (row_at rows x) ≡ true
 delayed-changed f zero rows x p h = h
 delayed-changed f (suc k) rows zero p h = h
 delayed-changed f (suc k) rows (suc j) p h = delayed-in f k rows j p h
 
-other-in : (f : CallRow → CallRow) (k : ℕ) (rows : List CallRow) (j : ℕ) → (j ≡ k → ⊥) → slice_get (changed_in f k rows) j ≡ slice_get rows j
+other-in : (f : RowView → RowView) (k : ℕ) (rows : List RowView) (j : ℕ) → (j ≡ k → ⊥) → slice_get (changed_in f k rows) j ≡ slice_get rows j
 other-in f k [] j p = refl
 other-in f zero (r ∷ rs) zero p = absurd (p refl)
 other-in f zero (r ∷ rs) (suc j) p = refl
 other-in f (suc k) (r ∷ rs) zero p = refl
 other-in f (suc k) (r ∷ rs) (suc j) p = other-in f k rs j (λ q. p (ap (λ (n : ℕ). suc n) q))
 
-other-row : (f : CallRow → CallRow) (c : ℕ) (rows : List CallRow) (x : ℕ) → (x ≡ c → ⊥) → row_at (changed_row f c rows) x ≡ row_at rows x
+other-row : (f : RowView → RowView) (c : ℕ) (rows : List RowView) (x : ℕ) → (x ≡ c → ⊥) → row_at (changed_row f c rows) x ≡ row_at rows x
 other-row f zero rows x p = refl
 other-row f (suc k) rows zero p = refl
 other-row f (suc k) rows (suc j) p = other-in f k rows j (λ q. p (ap (λ (n : ℕ). suc n) q))
 
-grown-in : (rows : List CallRow) (r : CallRow) (k : ℕ) → is_delayed r.phase r.ending ≡ false → row_delayed (slice_get (rows ++ r ∷ []) k) ≡ row_delayed (slice_get rows k)
+grown-in : (rows : List RowView) (r : RowView) (k : ℕ) → is_delayed r.phase r.ending ≡ false → row_delayed (slice_get (rows ++ r ∷ []) k) ≡ row_delayed (slice_get rows k)
 grown-in [] r zero e = e
 grown-in [] r (suc k) e = refl
 grown-in (x ∷ xs) r zero e = refl
 grown-in (x ∷ xs) r (suc k) e = grown-in xs r k e
 
-grown-row : (rows : List CallRow) (r : CallRow) (c : ℕ) → is_delayed r.phase r.ending ≡ false → row_delayed (row_at (rows ++ r ∷ []) c) ≡ row_delayed (row_at rows c)
+grown-row : (rows : List RowView) (r : RowView) (c : ℕ) → is_delayed r.phase r.ending ≡ false → row_delayed (row_at (rows ++ r ∷ []) c) ≡ row_delayed (row_at rows c)
 grown-row rows r zero e = refl
 grown-row rows r (suc k) e = grown-in rows r k e
 
-inside-in : (rows : List CallRow) (k : ℕ) → row_delayed (slice_get rows k) ≡ true → k < length rows
+inside-in : (rows : List RowView) (k : ℕ) → row_delayed (slice_get rows k) ≡ true → k < length rows
 inside-in [] k h = absurd cc
 inside-in (r ∷ rs) zero h = omega arith
 inside-in (r ∷ rs) (suc k) h = let z : k < length rs = inside-in rs k h in omega (arith, z)
 
-inside : (rows : List CallRow) (c : ℕ) → row_delayed (row_at rows c) ≡ true → (1 ≤ c) × (c ≤ length rows)
+inside : (rows : List RowView) (c : ℕ) → row_delayed (row_at rows c) ≡ true → (1 ≤ c) × (c ≤ length rows)
 inside rows zero h = absurd cc
 inside rows (suc k) h = let z : k < length rows = inside-in rows k h in (omega (arith, z), omega (arith, z))
 
@@ -142,7 +139,7 @@ covered_none room capacity h = record {
     nothing zero e = e
     nothing (suc k) e = e
 
-pub covered_fewer : (f : CallRow → CallRow) (c : ℕ) (rows : List CallRow) (delayed : List ℕ) (capacity room : ℕ) → ((r : CallRow) → is_delayed (f r).phase (f r).ending ≡ true → is_delayed r.phase r.ending ≡ true) → IsCovered rows delayed capacity room → IsCovered (changed_row f c rows) delayed capacity room
+pub covered_fewer : (f : RowView → RowView) (c : ℕ) (rows : List RowView) (delayed : List ℕ) (capacity room : ℕ) → ((r : RowView) → is_delayed (f r).phase (f r).ending ≡ true → is_delayed r.phase r.ending ≡ true) → IsCovered rows delayed capacity room → IsCovered (changed_row f c rows) delayed capacity room
 covered_fewer f c rows delayed capacity room fewer p = record {
   distinct = p.distinct;
   known = λ q h. let z : q < length rows + 1 = p.known q h in let n : length (changed_row f c rows) ≡ length rows = length-changed f c rows in omega (arith, z, n);
@@ -150,7 +147,7 @@ covered_fewer f c rows delayed capacity room fewer p = record {
   spare = p.spare;
 }
 
-pub covered_grown : (r : CallRow) (rows : List CallRow) (delayed : List ℕ) (capacity room : ℕ) → is_delayed r.phase r.ending ≡ false → IsCovered rows delayed capacity room → IsCovered (rows ++ r ∷ []) delayed capacity room
+pub covered_grown : (r : RowView) (rows : List RowView) (delayed : List ℕ) (capacity room : ℕ) → is_delayed r.phase r.ending ≡ false → IsCovered rows delayed capacity room → IsCovered (rows ++ r ∷ []) delayed capacity room
 covered_grown r rows delayed capacity room e p = record {
   distinct = p.distinct;
   known = λ q h. let z : q < length rows + 1 = p.known q h in let n : length (rows ++ r ∷ []) ≡ length rows + 1 = length-grown rows r in omega (arith, z, n);
@@ -158,7 +155,7 @@ covered_grown r rows delayed capacity room e p = record {
   spare = p.spare;
 }
 
-pub covered_roomier : (rows : List CallRow) (delayed : List ℕ) (capacity room more more_room : ℕ) → more_room < more → IsCovered rows delayed capacity room → IsCovered rows delayed more more_room
+pub covered_roomier : (rows : List RowView) (delayed : List ℕ) (capacity room more more_room : ℕ) → more_room < more → IsCovered rows delayed capacity room → IsCovered rows delayed more more_room
 covered_roomier rows delayed capacity room more more_room h p = record {
   distinct = p.distinct;
   known = p.known;
@@ -167,7 +164,7 @@ covered_roomier rows delayed capacity room more more_room h p = record {
 }
 
 -- A call waits for a time from now on.
-pub covered_delayed : (x : Phase) (c : ℕ) (rows : List CallRow) (delayed : List ℕ) (capacity room : ℕ) → c ≤ length rows → IsCovered rows delayed capacity room → IsCovered (changed_row (phased x) c rows) (filter (stays rows c) delayed ++ c ∷ []) capacity room
+pub covered_delayed : (x : Phase) (c : ℕ) (rows : List RowView) (delayed : List ℕ) (capacity room : ℕ) → c ≤ length rows → IsCovered rows delayed capacity room → IsCovered (changed_row (phased x) c rows) (filter (stays rows c) delayed ++ c ∷ []) capacity room
 covered_delayed x c rows delayed capacity room high p = record {
   distinct = IsDistinct-push nat_eq_equiv (filter (stays rows c) delayed) c (distinct-filter (stays rows c) delayed p.distinct) (none-left c rows delayed);
   known = λ q h. in-both q (list_any-append (eqb q) (filter (stays rows c) delayed) (c ∷ [])) h;
@@ -193,7 +190,7 @@ covered_delayed x c rows delayed capacity room high p = record {
         or-last false false k = k
     which y false e h =
         let same : row_at (changed_row (phased x) c rows) y ≡ row_at rows y = other-row (phased x) c rows y (λ q. apart y c q e) in
-        let there : row_delayed (row_at rows y) ≡ true = ap (λ (r : Option CallRow). row_delayed r) (sym same) ∙ h in
+        let there : row_delayed (row_at rows y) ≡ true = ap (λ (r : Option RowView). row_delayed r) (sym same) ∙ h in
         let kept : stays rows c y ≡ true = ap₂ (λ (a b : Bool). not a && b) e there in
         or-first (list_any (eqb y) (filter (stays rows c) delayed)) (eqb y c) (any-filter y (stays rows c) delayed (p.covers y there) kept)
       where
@@ -202,7 +199,7 @@ covered_delayed x c rows delayed capacity room high p = record {
         or-first false d k = absurd cc
 
 -- There is a place for it.
-pub delayed_fits : (c : ℕ) (rows : List CallRow) (delayed : List ℕ) (capacity room : ℕ) → c ≤ length rows → length rows ≤ room → IsCovered rows delayed capacity room → length (filter (stays rows c) delayed) < capacity
+pub delayed_fits : (c : ℕ) (rows : List RowView) (delayed : List ℕ) (capacity room : ℕ) → c ≤ length rows → length rows ≤ room → IsCovered rows delayed capacity room → length (filter (stays rows c) delayed) < capacity
 delayed_fits c rows delayed capacity room high within p =
     let q : IsCovered (changed_row (phased Queued) c rows) (filter (stays rows c) delayed ++ c ∷ []) capacity room = covered_delayed Queued c rows delayed capacity room high p in
     let n : length (filter (stays rows c) delayed ++ c ∷ []) ≤ length (changed_row (phased Queued) c rows) + 1 = length-le_from_distinct_below (filter (stays rows c) delayed ++ c ∷ []) (length (changed_row (phased Queued) c rows) + 1) q.distinct q.known in
@@ -216,7 +213,7 @@ delayed_fits c rows delayed capacity room high within p =
     one-longer (y ∷ ys) x = let e : length (ys ++ x ∷ []) ≡ length ys + 1 = one-longer ys x in omega (arith, e)
 
 -- Which changes let no more calls wait.
-pub ended_fewer : (x : Ending) (r : CallRow) → is_delayed r.phase (or_else r.ending (Some x)) ≡ true → is_delayed r.phase r.ending ≡ true
+pub ended_fewer : (x : Ending) (r : RowView) → is_delayed r.phase (or_else r.ending (Some x)) ≡ true → is_delayed r.phase r.ending ≡ true
 ended_fewer x r h = absurd (none r.phase r.ending h)
   where
     none : (p : Phase) (e : Option Ending) → is_delayed p (or_else e (Some x)) ≡ true → ⊥
@@ -237,20 +234,6 @@ answered-not Queued y = refl
 answered-not (Judged v) y = refl
 answered-not (Delayed t) y = refl
 answered-not GivenUp y = refl
-
-pub left_fewer : (c : ℕ) (hr : HResult) (v : Option Value) (e : Option Ending) (r : CallRow) → is_delayed (left_or e c hr v r).phase (left_or e c hr v r).ending ≡ true → is_delayed r.phase r.ending ≡ true
-left_fewer c hr v None r h = absurd (let z : is_delayed r.phase (left_or None c hr v r).ending ≡ true = h in no z)
-  where
-    no : is_delayed r.phase (left_or None c hr v r).ending ≡ true → ⊥
-    no z = none r.phase z
-      where
-        none : (p : Phase) → is_delayed p (left_or None c hr v r).ending ≡ true → ⊥
-        none Unposted h = cc
-        none Queued h = cc
-        none (Judged w) h = cc
-        none (Delayed t) h = cc
-        none GivenUp h = cc
-left_fewer c hr v (Some x) r h = h
 
 pub settled_fewer : (p : Phase) → settles p ≡ true → (e : Option Ending) → is_delayed p e ≡ false
 settled_fewer (Judged v) h None = refl
@@ -300,10 +283,10 @@ sooner-none (Some t) = refl
 pub least_folded : (w : ℕ → Option ℕ) (xs : List ℕ) → fold (λ b c. sooner_of b (w c)) None xs ≡ least (filter_map w xs)
 least_folded w xs = least-fold w None xs ∙ sooner-none (least (filter_map w xs))
 
-pub queued_no : (r : CallRow) → is_delayed Queued r.ending ≡ true → is_delayed r.phase r.ending ≡ true
+pub queued_no : (r : RowView) → is_delayed Queued r.ending ≡ true → is_delayed r.phase r.ending ≡ true
 queued_no r h = let e : is_delayed Queued r.ending ≡ false = queued_fewer r.ending in absurd cc
 
-pub settled_no : (p : Phase) → settles p ≡ true → (r : CallRow) → is_delayed p r.ending ≡ true → is_delayed r.phase r.ending ≡ true
+pub settled_no : (p : Phase) → settles p ≡ true → (r : RowView) → is_delayed p r.ending ≡ true → is_delayed r.phase r.ending ≡ true
 settled_no p k r h = let e : is_delayed p r.ending ≡ false = settled_fewer p k r.ending in absurd cc
 
 -- The least of a list is below each of its numbers, and is one of them.
@@ -383,7 +366,7 @@ waits-delayed now t Queued e h = absurd cc
 waits-delayed now t (Judged v) e h = absurd cc
 waits-delayed now t GivenUp e h = absurd cc
 
-row-waits : (now t : ℕ) (r : Option CallRow) → row_wait now r ≡ Some t → row_delayed r ≡ true
+row-waits : (now t : ℕ) (r : Option RowView) → row_wait now r ≡ Some t → row_delayed r ≡ true
 row-waits now t None h = absurd cc
 row-waits now t (Some r) h = waits-delayed now t r.phase r.ending h
 
@@ -400,12 +383,12 @@ member-one_to (suc n) c low high = list_any-append (eqb c) (one_to n) (suc n ∷
         or-last false false k = k
     which ih false e = let z : c ≤ n = grind (arith, nat_tests, e, high) in ap (λ (a : Bool). a || (eqb c (suc n) || false)) (ih z)
 
-wait-in : (now : ℕ) (rows : List CallRow) (k : ℕ) → row_wait now (slice_get rows k) ≡ wait_until now (slice_index_or (map (λ (r : CallRow). r.phase) rows) k Unposted) (is_some (slice_index_or (map (λ (r : CallRow). r.ending) rows) k None))
+wait-in : (now : ℕ) (rows : List RowView) (k : ℕ) → row_wait now (slice_get rows k) ≡ wait_until now (slice_index_or (map (λ (r : RowView). r.phase) rows) k Unposted) (is_some (slice_index_or (map (λ (r : RowView). r.ending) rows) k None))
 wait-in now [] k = refl
 wait-in now (r ∷ rs) zero = refl
 wait-in now (r ∷ rs) (suc k) = wait-in now rs k
 
-wait-seen : (now : ℕ) (rows : List CallRow) (posted waiting : Queues) (room causes c : ℕ) → row_wait now (row_at rows c) ≡ wait_of (kept_of rows posted waiting room causes) now c
+wait-seen : (now : ℕ) (rows : List RowView) (posted waiting : Queues) (room causes c : ℕ) → row_wait now (row_at rows c) ≡ wait_of (kept_of rows posted waiting room causes) now c
 wait-seen now rows posted waiting room causes zero = refl
 wait-seen now rows posted waiting room causes (suc k) = wait-in now rows k
 
@@ -413,10 +396,10 @@ filter_map-same : (f g : ℕ → Option ℕ) (xs : List ℕ) → ((x : ℕ) → 
 filter_map-same f g [] p = refl
 filter_map-same f g (x ∷ xs) p = ap₂ (λ (o : Option ℕ) (ys : List ℕ). cons_option o ys) (p x) (filter_map-same f g xs p)
 
-pub next-seen : (rows : List CallRow) (posted waiting : Queues) (capacity room causes now : ℕ) (delayed : List ℕ) → IsCovered rows delayed capacity room → least (filter_map (λ c. row_wait now (row_at rows c)) delayed) ≡ next_wait (kept_of rows posted waiting room causes) now
+pub next-seen : (rows : List RowView) (posted waiting : Queues) (capacity room causes now : ℕ) (delayed : List ℕ) → IsCovered rows delayed capacity room → least (filter_map (λ c. row_wait now (row_at rows c)) delayed) ≡ next_wait (kept_of rows posted waiting room causes) now
 next-seen rows posted waiting capacity room causes now delayed p =
     same-least (λ c. row_wait now (row_at rows c)) delayed (one_to (length rows))
     (λ c t h e. let z = inside rows c (row-waits now t (row_at rows c) e) in member-one_to (length rows) c z.0 z.1)
     (λ c t h e. p.covers c (row-waits now t (row_at rows c) e))
     ∙ ap (λ (xs : List ℕ). least xs) (filter_map-same (λ c. row_wait now (row_at rows c)) (wait_of (kept_of rows posted waiting room causes) now) (one_to (length rows)) (wait-seen now rows posted waiting room causes))
-    ∙ ap (λ (n : ℕ). least (filter_map (wait_of (kept_of rows posted waiting room causes) now) (one_to n))) (sym (length-map rows (λ (r : CallRow). Some r.issue)))
+    ∙ ap (λ (n : ℕ). least (filter_map (wait_of (kept_of rows posted waiting room causes) now) (one_to n))) (sym (length-map rows (λ (r : RowView). Some r.issue)))

@@ -9,21 +9,24 @@ use Rattle.com_model.specs.declared.keeps.Phase.TheVariants.{Queued, Unposted}
 use Rattle.com_model.specs.Lists.{first, or_else}
 use Rattle.com_model.specs.Waiting.{Posts, posted_last, is_queued}
 use Rattle.com_state.specs.Parts.{CallTables}
-use Rattle.com_calls.specs.declared.rows.CallRow.{CallRow}
 use Rattle.com_base.specs.declared.hresult.HResult.{HResult}
 use Rattle.com_base.specs.declared.value.Value.{Value}
 use Rattle.com_model.specs.declared.keeps.Admission.{Admission}
 use Rattle.com_model.specs.declared.keeps.Ending.{Ending}
+use Rattle.com_model.specs.declared.keeps.Ending.TheVariants.{ByLeave}
 use Rattle.com_model.specs.declared.keeps.Phase.{Phase}
-use Rattle.com_calls.specs.Rows.{call_tables, changed_in, changed_row, phased, admitting, ending_by, left_or, left_with, new_row_of}
+use Rattle.com_calls.specs.Rows.{RowView, row_at, late_row, call_tables, changed_in, changed_row, phased, admitting, ending_by, left_with, new_row_of}
 use Rattle.com_books.specs.Counting.{count_if}
 use Rattle.com_model.specs.declared.keeps.Issue.{Issue}
 use Rattle.com_calls.specs.declared.rows.Issued.{Issued}
-use Rattle.com_calls.specs.Kept.{Kept, with_tables, waits_at, inbox_at}
-use Rattle.com_calls.specs.Steps.{posted_at}
+use Rattle.com_model.specs.declared.keeps.Leaving.{Leaving}
+use Rattle.com_calls.specs.Leaves.{joined, with_later, with_late_call}
+use Rattle.com_calls.proofs.Leaves.{joined_grown}
+use Rattle.com_calls.specs.Kept.{Kept, with_tables, with_call, waits_at, inbox_at}
+use Rattle.com_calls.specs.Steps.{posted_at, left_at, grown_at}
 use Rattle.com_calls.specs.Inside.{apartments_of, kept_of, row_waits, waits_in, waits_row, IsKept}
 use Rattle.com_calls.proofs.Changed.{column}
-use Rattle.com_calls.proofs.Columns.{tables_phased}
+use Rattle.com_calls.proofs.Columns.{tables_phased, tables_left}
 
 pub apart : (k c : ℕ) → k ≡ c → (k == c) ≡ false → ⊥
 apart k c q e = let z : (k == k) ≡ true = grind (arith, common_steps) in let y : (k == k) ≡ false = ap (λ (j : ℕ). k == j) q ∙ e in cc
@@ -97,55 +100,55 @@ holder_without h c [] = refl
 holder_without h c (xs ∷ xss) = rw (times_without c xs) (holder_without (h + 1) c xss)
 
 -- Rows after one changed.
-pub length-in : (f : CallRow → CallRow) (k : ℕ) (rows : List CallRow) → length (changed_in f k rows) ≡ length rows
+pub length-in : (f : RowView → RowView) (k : ℕ) (rows : List RowView) → length (changed_in f k rows) ≡ length rows
 length-in f k [] = refl
 length-in f zero (r ∷ rs) = refl
 length-in f (suc k) (r ∷ rs) = ap (λ (n : ℕ). suc n) (length-in f k rs)
 
-pub length-changed : (f : CallRow → CallRow) (c : ℕ) (rows : List CallRow) → length (changed_row f c rows) ≡ length rows
+pub length-changed : (f : RowView → RowView) (c : ℕ) (rows : List RowView) → length (changed_row f c rows) ≡ length rows
 length-changed f zero rows = refl
 length-changed f (suc k) rows = length-in f k rows
 
-home-in : (f : CallRow → CallRow) (k : ℕ) (rows : List CallRow) (j : ℕ) (d : CallRow) → ((r : CallRow) → r.apartment ≡ (f r).apartment) → (slice_index_or (changed_in f k rows) j d).apartment ≡ (slice_index_or rows j d).apartment
+home-in : (f : RowView → RowView) (k : ℕ) (rows : List RowView) (j : ℕ) (d : RowView) → ((r : RowView) → r.apartment ≡ (f r).apartment) → (slice_index_or (changed_in f k rows) j d).apartment ≡ (slice_index_or rows j d).apartment
 home-in f k [] j d p = refl
 home-in f zero (r ∷ rs) zero d p = sym (p r)
 home-in f zero (r ∷ rs) (suc j) d p = refl
 home-in f (suc k) (r ∷ rs) zero d p = refl
 home-in f (suc k) (r ∷ rs) (suc j) d p = home-in f k rs j d p
 
-home-changed : (f : CallRow → CallRow) (c : ℕ) (rows : List CallRow) (j : ℕ) (d : CallRow) → ((r : CallRow) → r.apartment ≡ (f r).apartment) → (slice_index_or (changed_row f c rows) j d).apartment ≡ (slice_index_or rows j d).apartment
+home-changed : (f : RowView → RowView) (c : ℕ) (rows : List RowView) (j : ℕ) (d : RowView) → ((r : RowView) → r.apartment ≡ (f r).apartment) → (slice_index_or (changed_row f c rows) j d).apartment ≡ (slice_index_or rows j d).apartment
 home-changed f zero rows j d p = refl
 home-changed f (suc k) rows j d p = home-in f k rows j d p
 
-waits-other_in : (f : CallRow → CallRow) (a k : ℕ) (rows : List CallRow) (j : ℕ) → (j ≡ k → ⊥) → waits_in (changed_in f k rows) a j ≡ waits_in rows a j
+waits-other_in : (f : RowView → RowView) (a k : ℕ) (rows : List RowView) (j : ℕ) → (j ≡ k → ⊥) → waits_in (changed_in f k rows) a j ≡ waits_in rows a j
 waits-other_in f a k [] j p = refl
 waits-other_in f a zero (r ∷ rs) zero p = absurd (p refl)
 waits-other_in f a zero (r ∷ rs) (suc j) p = refl
 waits-other_in f a (suc k) (r ∷ rs) zero p = refl
 waits-other_in f a (suc k) (r ∷ rs) (suc j) p = waits-other_in f a k rs j (λ q. p (ap (λ (n : ℕ). suc n) q))
 
-pub waits-other : (f : CallRow → CallRow) (a c : ℕ) (rows : List CallRow) → AgreeBut c (waits_row (changed_row f c rows) a) (waits_row rows a)
+pub waits-other : (f : RowView → RowView) (a c : ℕ) (rows : List RowView) → AgreeBut c (waits_row (changed_row f c rows) a) (waits_row rows a)
 waits-other f a zero rows x p = refl
 waits-other f a (suc k) rows zero p = refl
 waits-other f a (suc k) rows (suc j) p = waits-other_in f a k rows j (λ q. p (ap (λ (n : ℕ). suc n) q))
 
-waits-none_in : (f : CallRow → CallRow) (a k : ℕ) (rows : List CallRow) → ((r : CallRow) → row_waits a (f r) ≡ false) → waits_in (changed_in f k rows) a k ≡ false
+waits-none_in : (f : RowView → RowView) (a k : ℕ) (rows : List RowView) → ((r : RowView) → row_waits a (f r) ≡ false) → waits_in (changed_in f k rows) a k ≡ false
 waits-none_in f a k [] p = refl
 waits-none_in f a zero (r ∷ rs) p = p r
 waits-none_in f a (suc k) (r ∷ rs) p = waits-none_in f a k rs p
 
-pub waits-none : (f : CallRow → CallRow) (a c : ℕ) (rows : List CallRow) → ((r : CallRow) → row_waits a (f r) ≡ false) → waits_row (changed_row f c rows) a c ≡ false
+pub waits-none : (f : RowView → RowView) (a c : ℕ) (rows : List RowView) → ((r : RowView) → row_waits a (f r) ≡ false) → waits_row (changed_row f c rows) a c ≡ false
 waits-none f a zero rows p = refl
 waits-none f a (suc k) rows p = waits-none_in f a k rows p
 
-waits-same_in : (f : CallRow → CallRow) (a k : ℕ) (rows : List CallRow) (j : ℕ) → ((r : CallRow) → row_waits a (f r) ≡ row_waits a r) → waits_in (changed_in f k rows) a j ≡ waits_in rows a j
+waits-same_in : (f : RowView → RowView) (a k : ℕ) (rows : List RowView) (j : ℕ) → ((r : RowView) → row_waits a (f r) ≡ row_waits a r) → waits_in (changed_in f k rows) a j ≡ waits_in rows a j
 waits-same_in f a k [] j p = refl
 waits-same_in f a zero (r ∷ rs) zero p = p r
 waits-same_in f a zero (r ∷ rs) (suc j) p = refl
 waits-same_in f a (suc k) (r ∷ rs) zero p = refl
 waits-same_in f a (suc k) (r ∷ rs) (suc j) p = waits-same_in f a k rs j p
 
-waits-same : (f : CallRow → CallRow) (a c : ℕ) (rows : List CallRow) (x : ℕ) → ((r : CallRow) → row_waits a (f r) ≡ row_waits a r) → waits_row (changed_row f c rows) a x ≡ waits_row rows a x
+waits-same : (f : RowView → RowView) (a c : ℕ) (rows : List RowView) (x : ℕ) → ((r : RowView) → row_waits a (f r) ≡ row_waits a r) → waits_row (changed_row f c rows) a x ≡ waits_row rows a x
 waits-same f a zero rows x p = refl
 waits-same f a (suc k) rows zero p = refl
 waits-same f a (suc k) rows (suc j) p = waits-same_in f a k rows j p
@@ -155,8 +158,8 @@ filter-same f g [] p = refl
 filter-same f g (x ∷ xs) p = rw (p x, filter-same f g xs p) refl
 
 -- The calls are kept after a call ceased to wait.
-pub kept_retired : (f : CallRow → CallRow) (c : ℕ) (rows : List CallRow) (posted waiting : Queues) (capacity room causes : ℕ) → IsKept rows posted waiting capacity room causes
-    → ((r : CallRow) → r.apartment ≡ (f r).apartment) → ((a : ℕ) (r : CallRow) → row_waits a (f r) ≡ false)
+pub kept_retired : (f : RowView → RowView) (c : ℕ) (rows : List RowView) (posted waiting : Queues) (capacity room causes : ℕ) → IsKept rows posted waiting capacity room causes
+    → ((r : RowView) → r.apartment ≡ (f r).apartment) → ((a : ℕ) (r : RowView) → row_waits a (f r) ≡ false)
     → IsKept (changed_row f c rows) posted (without_number waiting c) capacity room causes
 kept_retired f c rows posted waiting capacity room causes p home none =
     let same : length (changed_row f c rows) ≡ length rows = length-changed f c rows in
@@ -178,8 +181,8 @@ kept_retired f c rows posted waiting capacity room causes p home none =
     }
 
 -- The calls are kept after a change that inboxes do not see.
-pub kept_same : (f : CallRow → CallRow) (c : ℕ) (rows : List CallRow) (posted waiting : Queues) (capacity room causes : ℕ) → IsKept rows posted waiting capacity room causes
-    → ((r : CallRow) → r.apartment ≡ (f r).apartment) → ((a : ℕ) (r : CallRow) → row_waits a (f r) ≡ row_waits a r)
+pub kept_same : (f : RowView → RowView) (c : ℕ) (rows : List RowView) (posted waiting : Queues) (capacity room causes : ℕ) → IsKept rows posted waiting capacity room causes
+    → ((r : RowView) → r.apartment ≡ (f r).apartment) → ((a : ℕ) (r : RowView) → row_waits a (f r) ≡ row_waits a r)
     → IsKept (changed_row f c rows) posted waiting capacity room causes
 kept_same f c rows posted waiting capacity room causes p home waits =
     let same : length (changed_row f c rows) ≡ length rows = length-changed f c rows in
@@ -198,22 +201,32 @@ kept_same f c rows posted waiting capacity room causes p home waits =
     }
 
 -- What contracts see after it.
-pub seen_retired : (f : CallRow → CallRow) (c : ℕ) (rows : List CallRow) (posted waiting : Queues) (room causes : ℕ) (t : CallTables) → t ≡ call_tables (changed_row f c rows) (queue_at posted 0) causes
-    → ((r : CallRow) → r.apartment ≡ (f r).apartment)
+pub seen_retired : (f : RowView → RowView) (c : ℕ) (rows : List RowView) (posted waiting : Queues) (room causes : ℕ) (t : CallTables) → t ≡ call_tables (changed_row f c rows) (queue_at posted 0) causes
+    → ((r : RowView) → r.apartment ≡ (f r).apartment)
     → kept_of (changed_row f c rows) posted (without_number waiting c) room causes ≡ with_tables (kept_of rows posted waiting room causes) t
 seen_retired f c rows posted waiting room causes t e home = λ i. record {
   tables = sym e i;
-  apartments = sym (column (λ (r : CallRow). r.apartment) f None c 0 rows home) i;
+  apartments = sym (column (λ (r : RowView). r.apartment) f None c 0 rows home) i;
   room = room;
   inboxes = length-map waiting.queues (without c) i;
 }
 
-pub seen_same : (f : CallRow → CallRow) (c : ℕ) (rows : List CallRow) (posted waiting : Queues) (room causes : ℕ) (t : CallTables) → t ≡ call_tables (changed_row f c rows) (queue_at posted 0) causes
-    → ((r : CallRow) → r.apartment ≡ (f r).apartment)
+pub seen_left : (c : ℕ) (hr : HResult) (v : Option Value) (rows : List RowView) (ys : List (Option Leaving)) (posted waiting : Queues) (room causes : ℕ)
+    → with_later (kept_of (changed_row (left_with c hr v) c rows) posted (without_number waiting c) room causes) (with_late_call ys c (late_row (row_at rows c) (record { call = c; hr = hr; value = v })))
+    ≡ with_tables (with_later (kept_of rows posted waiting room causes) ys) (left_at (with_later (kept_of rows posted waiting room causes) ys).tables c hr v)
+seen_left c hr v rows ys posted waiting room causes = λ i. record {
+  tables = sym (tables_left c hr v rows ys (queue_at posted 0) causes) i;
+  apartments = sym (column (λ (r : RowView). r.apartment) (left_with c hr v) None c 0 rows (λ r. refl)) i;
+  room = room;
+  inboxes = length-map waiting.queues (without c) i;
+}
+
+pub seen_same : (f : RowView → RowView) (c : ℕ) (rows : List RowView) (posted waiting : Queues) (room causes : ℕ) (t : CallTables) → t ≡ call_tables (changed_row f c rows) (queue_at posted 0) causes
+    → ((r : RowView) → r.apartment ≡ (f r).apartment)
     → kept_of (changed_row f c rows) posted waiting room causes ≡ with_tables (kept_of rows posted waiting room causes) t
 seen_same f c rows posted waiting room causes t e home = λ i. record {
   tables = sym e i;
-  apartments = sym (column (λ (r : CallRow). r.apartment) f None c 0 rows home) i;
+  apartments = sym (column (λ (r : RowView). r.apartment) f None c 0 rows home) i;
   room = room;
   inboxes = length waiting.queues;
 }
@@ -225,21 +238,21 @@ posted-queue c q h =
     get_or-set_same (map (without c) q.queues) 0 (queue_at (without_number q c) 0 ++ c ∷ []) [] (omega (arith, h, n))
     ∙ ap (λ (xs : List ℕ). xs ++ c ∷ []) (queue-without c q.queues 0 ∙ without-is c (queue_at q 0))
 
-pub inbox-posted : (f : CallRow → CallRow) (a c : ℕ) (rows : List CallRow) (ps : List ℕ) → filter (waits_row (changed_row f c rows) a) (posted_last (Posts c) ps) ≡ without c (filter (waits_row rows a) ps) ++ cond (waits_row (changed_row f c rows) a c) (c ∷ []) []
+pub inbox-posted : (f : RowView → RowView) (a c : ℕ) (rows : List RowView) (ps : List ℕ) → filter (waits_row (changed_row f c rows) a) (posted_last (Posts c) ps) ≡ without c (filter (waits_row rows a) ps) ++ cond (waits_row (changed_row f c rows) a c) (c ∷ []) []
 inbox-posted f a c rows ps =
     filter-append (waits_row (changed_row f c rows) a) (filter (λ d. not (d == c)) ps) (c ∷ [])
     ∙ ap (λ (xs : List ℕ). xs ++ cond (waits_row (changed_row f c rows) a c) (c ∷ []) []) (filter-moved c (waits_row (changed_row f c rows) a) (waits_row rows a) ps (waits-other f a c rows))
 
 -- Whether a row that is posted waits at an apartment.
-abbrev pub is_open : CallRow → Bool
+abbrev pub is_open : RowView → Bool
 is_open r = is_none r.admission && is_none r.ending
 
-waits-posted_in : (a k : ℕ) (rows : List CallRow) (d : CallRow) → k < length rows → waits_in (changed_in (phased Queued) k rows) a k ≡ ((slice_index_or rows k d).apartment == a && is_open (slice_index_or rows k d))
+waits-posted_in : (a k : ℕ) (rows : List RowView) (d : RowView) → k < length rows → waits_in (changed_in (phased Queued) k rows) a k ≡ ((slice_index_or rows k d).apartment == a && is_open (slice_index_or rows k d))
 waits-posted_in a k [] d h = absurd (omega (arith, h))
 waits-posted_in a zero (r ∷ rs) d h = refl
 waits-posted_in a (suc k) (r ∷ rs) d h = waits-posted_in a k rs d (omega (arith, h))
 
-pub waits-posted : (a c : ℕ) (rows : List CallRow) (d : CallRow) → 1 ≤ c → c ≤ length rows → waits_row (changed_row (phased Queued) c rows) a c ≡ ((slice_index_or rows (c - 1) d).apartment == a && is_open (slice_index_or rows (c - 1) d))
+pub waits-posted : (a c : ℕ) (rows : List RowView) (d : RowView) → 1 ≤ c → c ≤ length rows → waits_row (changed_row (phased Queued) c rows) a c ≡ ((slice_index_or rows (c - 1) d).apartment == a && is_open (slice_index_or rows (c - 1) d))
 waits-posted a zero rows d low high = absurd (omega (arith, low))
 waits-posted a (suc k) rows d low high =
     let e : suc k - 1 ≡ k = omega arith in
@@ -262,7 +275,7 @@ set-kept (x ∷ xs) zero q = refl
 set-kept (x ∷ xs) (suc a) q = ap (λ (n : ℕ). suc n) (set-kept xs a q)
 
 -- Where the posted call is neither entered nor answered, it waits at the end of its apartment's inbox.
-pub kept_posted : (c : ℕ) (rows : List CallRow) (posted waiting : Queues) (capacity room causes : ℕ) (d : CallRow) → IsKept rows posted waiting capacity room causes → 1 ≤ c → c ≤ length rows → is_open (slice_index_or rows (c - 1) d) ≡ true
+pub kept_posted : (c : ℕ) (rows : List RowView) (posted waiting : Queues) (capacity room causes : ℕ) (d : RowView) → IsKept rows posted waiting capacity room causes → 1 ≤ c → c ≤ length rows → is_open (slice_index_or rows (c - 1) d) ≡ true
     → IsKept (changed_row (phased Queued) c rows) (with_last (without_number posted c) 0 c) (with_last (without_number waiting c) (slice_index_or rows (c - 1) d).apartment c) capacity room causes
 kept_posted c rows posted waiting capacity room causes d p low high is_open_now =
     let same : length (changed_row (phased Queued) c rows) ≡ length rows = length-changed (phased Queued) c rows in
@@ -302,7 +315,7 @@ kept_posted c rows posted waiting capacity room causes d p low high is_open_now 
         rw e (get_or-set_other (map (without c) waiting.queues) (slice_index_or rows (c - 1) d).apartment a (queue_at (without_number waiting c) (slice_index_or rows (c - 1) d).apartment ++ c ∷ []) [] (λ q. apart (slice_index_or rows (c - 1) d).apartment a (sym q) e)
         ∙ queue-without c waiting.queues a ∙ sym (append-none (without c (queue_at waiting a))))
 
-pub kept_posted_closed : (c : ℕ) (rows : List CallRow) (posted waiting : Queues) (capacity room causes : ℕ) (d : CallRow) → IsKept rows posted waiting capacity room causes → 1 ≤ c → c ≤ length rows → is_open (slice_index_or rows (c - 1) d) ≡ false
+pub kept_posted_closed : (c : ℕ) (rows : List RowView) (posted waiting : Queues) (capacity room causes : ℕ) (d : RowView) → IsKept rows posted waiting capacity room causes → 1 ≤ c → c ≤ length rows → is_open (slice_index_or rows (c - 1) d) ≡ false
     → IsKept (changed_row (phased Queued) c rows) (with_last (without_number posted c) 0 c) (without_number waiting c) capacity room causes
 kept_posted_closed c rows posted waiting capacity room causes d p low high is_closed =
     let same : length (changed_row (phased Queued) c rows) ≡ length rows = length-changed (phased Queued) c rows in
@@ -330,46 +343,46 @@ kept_posted_closed c rows posted waiting capacity room causes d p low high is_cl
     }
 
 -- What contracts see of it.
-pub seen_posted : (c : ℕ) (rows : List CallRow) (posted waiting : Queues) (queue room causes : ℕ) → 1 ≤ length posted.queues
+pub seen_posted : (c : ℕ) (rows : List RowView) (posted waiting : Queues) (queue room causes : ℕ) → 1 ≤ length posted.queues
     → kept_of (changed_row (phased Queued) c rows) (with_last (without_number posted c) 0 c) (with_last (without_number waiting c) queue c) room causes ≡ with_tables (kept_of rows posted waiting room causes) (posted_at (call_tables rows (queue_at posted 0) causes) c)
 seen_posted c rows posted waiting queue room causes h = λ i. record {
   tables = (ap (λ (xs : List ℕ). call_tables (changed_row (phased Queued) c rows) xs causes) (posted-queue c posted h) ∙ sym (tables_phased Queued c rows (posted_last (Posts c) (queue_at posted 0)) causes)) i;
-  apartments = sym (column (λ (r : CallRow). r.apartment) (phased Queued) None c 0 rows (λ r. refl)) i;
+  apartments = sym (column (λ (r : RowView). r.apartment) (phased Queued) None c 0 rows (λ r. refl)) i;
   room = room;
   inboxes = (set-kept (map (without c) waiting.queues) queue (queue_at (without_number waiting c) queue ++ c ∷ []) ∙ length-map waiting.queues (without c)) i;
 }
 
-pub seen_posted_closed : (c : ℕ) (rows : List CallRow) (posted waiting : Queues) (room causes : ℕ) → 1 ≤ length posted.queues
+pub seen_posted_closed : (c : ℕ) (rows : List RowView) (posted waiting : Queues) (room causes : ℕ) → 1 ≤ length posted.queues
     → kept_of (changed_row (phased Queued) c rows) (with_last (without_number posted c) 0 c) (without_number waiting c) room causes ≡ with_tables (kept_of rows posted waiting room causes) (posted_at (call_tables rows (queue_at posted 0) causes) c)
 seen_posted_closed c rows posted waiting room causes h = λ i. record {
   tables = (ap (λ (xs : List ℕ). call_tables (changed_row (phased Queued) c rows) xs causes) (posted-queue c posted h) ∙ sym (tables_phased Queued c rows (posted_last (Posts c) (queue_at posted 0)) causes)) i;
-  apartments = sym (column (λ (r : CallRow). r.apartment) (phased Queued) None c 0 rows (λ r. refl)) i;
+  apartments = sym (column (λ (r : RowView). r.apartment) (phased Queued) None c 0 rows (λ r. refl)) i;
   room = room;
   inboxes = length-map waiting.queues (without c) i;
 }
 
 -- One call more, that is not posted.
-waits-grown_in : (rows : List CallRow) (r : CallRow) (a k : ℕ) → row_waits a r ≡ false → waits_in (rows ++ r ∷ []) a k ≡ waits_in rows a k
+waits-grown_in : (rows : List RowView) (r : RowView) (a k : ℕ) → row_waits a r ≡ false → waits_in (rows ++ r ∷ []) a k ≡ waits_in rows a k
 waits-grown_in [] r a zero e = e
 waits-grown_in [] r a (suc k) e = refl
 waits-grown_in (x ∷ xs) r a zero e = refl
 waits-grown_in (x ∷ xs) r a (suc k) e = waits-grown_in xs r a k e
 
-waits-grown : (rows : List CallRow) (r : CallRow) (a c : ℕ) → row_waits a r ≡ false → waits_row (rows ++ r ∷ []) a c ≡ waits_row rows a c
+waits-grown : (rows : List RowView) (r : RowView) (a c : ℕ) → row_waits a r ≡ false → waits_row (rows ++ r ∷ []) a c ≡ waits_row rows a c
 waits-grown rows r a zero e = refl
 waits-grown rows r a (suc k) e = waits-grown_in rows r a k e
 
-home-grown : (rows : List CallRow) (r : CallRow) (k n : ℕ) (d : CallRow) → ((j : ℕ) → j < length rows → (slice_index_or rows j d).apartment < n) → r.apartment < n → k < length (rows ++ r ∷ []) → (slice_index_or (rows ++ r ∷ []) k d).apartment < n
+home-grown : (rows : List RowView) (r : RowView) (k n : ℕ) (d : RowView) → ((j : ℕ) → j < length rows → (slice_index_or rows j d).apartment < n) → r.apartment < n → k < length (rows ++ r ∷ []) → (slice_index_or (rows ++ r ∷ []) k d).apartment < n
 home-grown [] r zero n d p q h = q
 home-grown [] r (suc k) n d p q h = absurd (omega (arith, h))
 home-grown (x ∷ xs) r zero n d p q h = p 0 (omega arith)
 home-grown (x ∷ xs) r (suc k) n d p q h = home-grown xs r k n d (λ j z. p (suc j) (omega (arith, z))) q (omega (arith, h))
 
-pub length-grown : (rows : List CallRow) (r : CallRow) → length (rows ++ r ∷ []) ≡ length rows + 1
+pub length-grown : (rows : List RowView) (r : RowView) → length (rows ++ r ∷ []) ≡ length rows + 1
 length-grown [] r = refl
 length-grown (x ∷ xs) r = let e : length (xs ++ r ∷ []) ≡ length xs + 1 = length-grown xs r in omega (arith, e)
 
-pub kept_grown : (rows : List CallRow) (r : CallRow) (posted waiting : Queues) (capacity room causes more : ℕ) → IsKept rows posted waiting capacity room causes → length rows < room → more ≤ 1 → r.apartment < length waiting.queues → ((a : ℕ) → row_waits a r ≡ false)
+pub kept_grown : (rows : List RowView) (r : RowView) (posted waiting : Queues) (capacity room causes more : ℕ) → IsKept rows posted waiting capacity room causes → length rows < room → more ≤ 1 → r.apartment < length waiting.queues → ((a : ℕ) → row_waits a r ≡ false)
     → IsKept (rows ++ r ∷ []) posted waiting capacity room (more + causes)
 kept_grown rows r posted waiting capacity room causes more p spare one home none =
     let longer : length (rows ++ r ∷ []) ≡ length rows + 1 = length-grown rows r in
@@ -385,7 +398,7 @@ kept_grown rows r posted waiting capacity room causes more p spare one home none
     }
 
 -- More room.
-pub kept_roomier : (rows : List CallRow) (posted waiting more_posted more_waiting : Queues) (capacity more room more_room causes : ℕ) → IsKept rows posted waiting capacity room causes
+pub kept_roomier : (rows : List RowView) (posted waiting more_posted more_waiting : Queues) (capacity more room more_room causes : ℕ) → IsKept rows posted waiting capacity room causes
     → ((a : ℕ) → queue_at more_posted a ≡ queue_at posted a) → ((a : ℕ) → queue_at more_waiting a ≡ queue_at waiting a) → length posted.queues ≤ length more_posted.queues → length waiting.queues ≤ length more_waiting.queues
     → room ≤ more_room → more_room ≤ more → more_room ≤ more_posted.numbers → more_room ≤ more_waiting.numbers
     → IsKept rows more_posted more_waiting more more_room causes
@@ -413,7 +426,7 @@ length-filled [] (suc n) = let e : length (let none : List (List ℕ) = [] in no
 length-filled (q ∷ qs) n = let e : length (qs ++ replicate n []) ≡ length qs + n = length-filled qs n in omega (arith, e)
 
 -- What contracts say of a waiting call is what its row says.
-waits-seen_in : (rows : List CallRow) (a k : ℕ) → (slice_index_or (apartments_of rows) k 0 == a && (is_queued (slice_index_or (map (λ (r : CallRow). r.phase) rows) k Unposted) && (is_none (slice_index_or (map (λ (r : CallRow). r.admission) rows) k None) && is_none (slice_index_or (map (λ (r : CallRow). r.ending) rows) k None)))) ≡ waits_in rows a k
+waits-seen_in : (rows : List RowView) (a k : ℕ) → (slice_index_or (apartments_of rows) k 0 == a && (is_queued (slice_index_or (map (λ (r : RowView). r.phase) rows) k Unposted) && (is_none (slice_index_or (map (λ (r : RowView). r.admission) rows) k None) && is_none (slice_index_or (map (λ (r : RowView). r.ending) rows) k None)))) ≡ waits_in rows a k
 waits-seen_in [] a k = no-and (0 == a)
   where
     no-and : (x : Bool) → (x && false) ≡ false
@@ -422,7 +435,7 @@ waits-seen_in [] a k = no-and (0 == a)
 waits-seen_in (r ∷ rs) a zero = refl
 waits-seen_in (r ∷ rs) a (suc k) = waits-seen_in rs a k
 
-waits-seen : (rows : List CallRow) (posted waiting : Queues) (room causes : ℕ) (a c : ℕ) → waits_at (kept_of rows posted waiting room causes) a c ≡ waits_row rows a c
+waits-seen : (rows : List RowView) (posted waiting : Queues) (room causes : ℕ) (a c : ℕ) → waits_at (kept_of rows posted waiting room causes) a c ≡ waits_row rows a c
 waits-seen rows posted waiting room causes a zero = no-and (0 == a)
   where
     no-and : (x : Bool) → (x && false) ≡ false
@@ -435,7 +448,7 @@ first-is [] = refl
 first-is (x ∷ xs) = refl
 
 -- The first of an inbox.
-pub first-seen : (rows : List CallRow) (posted waiting : Queues) (capacity room causes : ℕ) → IsKept rows posted waiting capacity room causes → (a : ℕ) → slice_get (queue_at waiting a) 0 ≡ first (inbox_at (kept_of rows posted waiting room causes) a)
+pub first-seen : (rows : List RowView) (posted waiting : Queues) (capacity room causes : ℕ) → IsKept rows posted waiting capacity room causes → (a : ℕ) → slice_get (queue_at waiting a) 0 ≡ first (inbox_at (kept_of rows posted waiting room causes) a)
 first-seen rows posted waiting capacity room causes p a =
     first-is (queue_at waiting a)
     ∙ ap (λ (xs : List ℕ). first xs) (p.inboxes a ∙ sym (filter-same (waits_at (kept_of rows posted waiting room causes) a) (waits_row rows a) (queue_at posted 0) (waits-seen rows posted waiting room causes a)))
@@ -450,28 +463,24 @@ and-none : (x y : Bool) → y ≡ false → (x && y) ≡ false
 and-none true y e = e
 and-none false y e = refl
 
-pub entered_waits_not : (x : Admission) (a : ℕ) (r : CallRow) → row_waits a (admitting x r) ≡ false
+pub entered_waits_not : (x : Admission) (a : ℕ) (r : RowView) → row_waits a (admitting x r) ≡ false
 entered_waits_not x a r = shut (r.apartment == a) (is_queued r.phase) false refl
 
 some-else : (e : Option Ending) (x : Ending) → is_none (or_else e (Some x)) ≡ false
 some-else None x = refl
 some-else (Some y) x = refl
 
-pub ended_waits_not : (x : Ending) (a : ℕ) (r : CallRow) → row_waits a (ending_by x r) ≡ false
+pub ended_waits_not : (x : Ending) (a : ℕ) (r : RowView) → row_waits a (ending_by x r) ≡ false
 ended_waits_not x a r = shut (r.apartment == a) (is_queued r.phase) (is_none r.admission && is_none (or_else r.ending (Some x))) (and-none (is_none r.admission) (is_none (or_else r.ending (Some x))) (some-else r.ending x))
 
-left-or_waits_not : (c : ℕ) (hr : HResult) (v : Option Value) (a : ℕ) (e : Option Ending) (r : CallRow) → r.ending ≡ e → row_waits a (left_or e c hr v r) ≡ false
-left-or_waits_not c hr v a None r h = shut (r.apartment == a) (is_queued r.phase) (is_none r.admission && false) (and-none (is_none r.admission) false refl)
-left-or_waits_not c hr v a (Some x) r h = shut (r.apartment == a) (is_queued r.phase) (is_none r.admission && is_none r.ending) (and-none (is_none r.admission) (is_none r.ending) (ap (λ (y : Option Ending). is_none y) h))
+pub left_waits_not : (c : ℕ) (hr : HResult) (v : Option Value) (a : ℕ) (r : RowView) → row_waits a (left_with c hr v r) ≡ false
+left_waits_not c hr v a r = ended_waits_not (ByLeave hr v) a r
 
-pub left_waits_not : (c : ℕ) (hr : HResult) (v : Option Value) (a : ℕ) (r : CallRow) → row_waits a (left_with c hr v r) ≡ false
-left_waits_not c hr v a r = left-or_waits_not c hr v a r.ending r refl
-
-pub phased_waits_not : (p : Phase) → is_queued p ≡ false → (a : ℕ) (r : CallRow) → row_waits a (phased p r) ≡ false
+pub phased_waits_not : (p : Phase) → is_queued p ≡ false → (a : ℕ) (r : RowView) → row_waits a (phased p r) ≡ false
 phased_waits_not p h a r = and-none (r.apartment == a) (is_queued p && (is_none r.admission && is_none r.ending)) (ap (λ (b : Bool). b && (is_none r.admission && is_none r.ending)) h)
 
-pub issues-length : (rows : List CallRow) (posted waiting : Queues) (room causes : ℕ) (b : Kept) → kept_of rows posted waiting room causes ≡ b → length b.tables.issues ≡ length rows
-issues-length rows posted waiting room causes b e = ap (λ (k : Kept). length k.tables.issues) (sym e) ∙ length-map rows (λ (r : CallRow). Some r.issue)
+pub issues-length : (rows : List RowView) (posted waiting : Queues) (room causes : ℕ) (later : List (Option Leaving)) (b : Kept) → with_later (kept_of rows posted waiting room causes) later ≡ b → length b.tables.issues ≡ length rows
+issues-length rows posted waiting room causes later b e = ap (λ (k : Kept). length k.tables.issues) (sym e) ∙ length-map rows (λ (r : RowView). Some r.issue)
 
 pub drawn-low : (b : Bool) → count_if b ≤ 1
 drawn-low true = omega arith
@@ -479,3 +488,33 @@ drawn-low false = omega arith
 
 pub new_waits_not : (x : Issue) (i : Issued) (now a : ℕ) → row_waits a (new_row_of x i now) ≡ false
 new_waits_not x i now a = and-none (i.apartment == a) false refl
+
+snoc : {X : Type 0} (g : RowView → X) (rows : List RowView) (r : RowView) → map g (rows ++ r ∷ []) ≡ map g rows ++ g r ∷ []
+snoc g [] r = refl
+snoc g (x ∷ xs) r = ap (λ (ys : List _). g x ∷ ys) (snoc g xs r)
+
+-- What contracts see of one call more.
+pub seen_grown : (x : Issue) (made : Issued) (clock : ℕ) (rows : List RowView) (ys : List (Option Leaving)) (posted waiting : Queues) (room causes drawn : ℕ) → length ys ≤ length rows
+    → with_later (kept_of (rows ++ new_row_of x made clock ∷ []) posted waiting room (drawn + causes)) ys
+    ≡ with_call (with_later (kept_of rows posted waiting room causes) ys) made.apartment (grown_at (with_later (kept_of rows posted waiting room causes) ys).tables x (record { refusal = made.refusal; values = made.values }) clock drawn)
+seen_grown x made clock rows ys posted waiting room causes drawn h =
+    let r : RowView = new_row_of x made clock in
+    let e : length (map (λ (r : RowView). r.leaving) rows) ≡ length rows = length-map rows (λ (r : RowView). r.leaving) in
+    λ i. record {
+      tables = record {
+        issues = snoc (λ (r : RowView). Some r.issue) rows r i;
+        admissions = snoc (λ (r : RowView). r.admission) rows r i;
+        leavings = (ap (λ (zs : List (Option Leaving)). joined zs ys) (snoc (λ (r : RowView). r.leaving) rows r) ∙ joined_grown (map (λ (r : RowView). r.leaving) rows) ys (omega (arith, h, e))) i;
+        returned = snoc (λ (r : RowView). r.returned) rows r i;
+        endings = snoc (λ (r : RowView). r.ending) rows r i;
+        refusals = snoc (λ (r : RowView). r.refusal) rows r i;
+        unread = snoc (λ (r : RowView). r.unread) rows r i;
+        phases = snoc (λ (r : RowView). r.phase) rows r i;
+        times = snoc (λ (r : RowView). r.time) rows r i;
+        postings = queue_at posted 0;
+        causes = drawn + causes;
+      };
+      apartments = snoc (λ (r : RowView). r.apartment) rows r i;
+      room = room;
+      inboxes = length waiting.queues;
+    }

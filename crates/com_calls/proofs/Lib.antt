@@ -5,3 +5,5 @@ pub mod Entries
 pub mod Cuts
 pub mod RowReads
 pub mod Delays
+pub mod Numbered
+pub mod Leaves

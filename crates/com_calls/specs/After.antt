@@ -43,8 +43,10 @@ effect_of (cut.Object p) = CutsObject p
 effect_of (cut.Sta a) = CutsSta a
 
 abbrev pub cut_by : Kept → Cut → (call : ℕ) → Bool
-cut_by b (cut.Object p) c = can_be_cut (issue_at b.tables c) (admission_at b.tables c) && p == object_of (issue_at b.tables c)
-cut_by b (cut.Sta a) c = can_be_cut (issue_at b.tables c) (admission_at b.tables c) && a == from_one b.apartments c 0
+cut_by b (cut.Object p) c =
+    can_be_cut (issue_at b.tables c) (admission_at b.tables c) && p == object_of (issue_at b.tables c)
+cut_by b (cut.Sta a) c =
+    can_be_cut (issue_at b.tables c) (admission_at b.tables c) && a == from_one b.apartments c 0
 
 abbrev pub cut_one_at : CallTables → ℕ → Bool → CallTables
 cut_one_at t c true = ended_at t c ending.ByDisconnection
@@ -57,6 +59,8 @@ below f n c x = if nat_lt c n then f c x else x
 -- The calls below a number are cut.
 abbrev pub cut_below : Kept → Cut → (bound : ℕ) → CallTables
 cut_below b x n = record b.tables {
-  endings = each_from (below (λ c y. or_else y (where_true (cut_by b x c) ending.ByDisconnection)) n) 1 b.tables.endings;
+  endings =
+      each_from (below (λ c y. or_else y (where_true (cut_by b x c) ending.ByDisconnection)) n) 1
+      b.tables.endings;
   unread = each_from (below (λ c vs. let_go (cut_by b x c) vs) n) 1 b.tables.unread;
 }

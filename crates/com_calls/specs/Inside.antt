@@ -9,15 +9,14 @@ use Rattle.com_model.specs.declared.keeps.Phase.TheVariants.{Judged, Delayed, Gi
 use Rattle.com_calls.specs.Waits.{wait_until}
 use Rattle.com_model.specs.Waiting.{is_queued}
 use Rattle.com_inbox.specs.Queues.{Queues, queue_at}
-use Rattle.com_calls.specs.declared.rows.CallRow.{CallRow}
-use Rattle.com_calls.specs.Rows.{call_tables, row_at}
+use Rattle.com_calls.specs.Rows.{RowView, call_tables, row_at}
 use Rattle.com_calls.specs.Kept.{Kept}
 
-abbrev pub apartments_of : List CallRow → List ℕ
-apartments_of rows = map (λ (r : CallRow). r.apartment) rows
+abbrev pub apartments_of : List RowView → List ℕ
+apartments_of rows = map (λ (r : RowView). r.apartment) rows
 
 -- All postings are one queue.
-abbrev pub kept_of : List CallRow → (posted waiting : Queues) → (room causes : ℕ) → Kept
+abbrev pub kept_of : List RowView → (posted waiting : Queues) → (room causes : ℕ) → Kept
 kept_of rows posted waiting room causes = record {
   tables = call_tables rows (queue_at posted 0) causes;
   apartments = apartments_of rows;
@@ -25,26 +24,27 @@ kept_of rows posted waiting room causes = record {
   inboxes = length waiting.queues;
 }
 
-abbrev pub row_waits : (apartment : ℕ) → CallRow → Bool
+abbrev pub row_waits : (apartment : ℕ) → RowView → Bool
 row_waits a r = r.apartment == a && (is_queued r.phase && (is_none r.admission && is_none r.ending))
 
-abbrev pub waits_in : List CallRow → (apartment place : ℕ) → Bool
+abbrev pub waits_in : List RowView → (apartment place : ℕ) → Bool
 waits_in [] a k = false
 waits_in (r ∷ rs) a zero = row_waits a r
 waits_in (r ∷ rs) a (suc k) = waits_in rs a k
 
-abbrev pub waits_row : List CallRow → (apartment call : ℕ) → Bool
+abbrev pub waits_row : List RowView → (apartment call : ℕ) → Bool
 waits_row rows a zero = false
 waits_row rows a (suc k) = waits_in rows a k
 
-pub record IsKept (rows : List CallRow) (posted waiting : Queues) (capacity room causes : ℕ) : Type 0 where
+pub record IsKept (rows : List RowView) (posted waiting : Queues) (capacity room causes : ℕ) : Type 0 where
   pub within : length rows ≤ room
   pub capacity_is : room ≤ capacity
   pub posted_room : room ≤ posted.numbers
   pub waiting_room : room ≤ waiting.numbers
   pub one : 1 ≤ length posted.queues
   pub causes_are : causes ≤ length rows
-  pub homes : (k : ℕ) (d : CallRow) → k < length rows → (slice_index_or rows k d).apartment < length waiting.queues
+  pub homes : (k : ℕ) (d : RowView)
+      → k < length rows → (slice_index_or rows k d).apartment < length waiting.queues
   pub inboxes : (a : ℕ) → queue_at waiting a ≡ filter (waits_row rows a) (queue_at posted 0)
 
 -- A call waits for a time.
@@ -52,12 +52,12 @@ abbrev pub is_delayed : Phase → Option Ending → Bool
 is_delayed (Delayed t) None = true
 is_delayed _ _ = false
 
-abbrev pub row_delayed : Option CallRow → Bool
+abbrev pub row_delayed : Option RowView → Bool
 row_delayed None = false
 row_delayed (Some r) = is_delayed r.phase r.ending
 
 -- Until when the call of a row waits.
-abbrev pub row_wait : (now : ℕ) → Option CallRow → Option ℕ
+abbrev pub row_wait : (now : ℕ) → Option RowView → Option ℕ
 row_wait now None = None
 row_wait now (Some r) = wait_until now r.phase (is_some r.ending)
 
@@ -68,11 +68,11 @@ settles GivenUp = true
 settles _ = false
 
 -- What stays in the list of those that wait for a time, where a call is put at its end.
-abbrev pub stays : List CallRow → (call other : ℕ) → Bool
+abbrev pub stays : List RowView → (call other : ℕ) → Bool
 stays rows c q = not (q == c) && row_delayed (row_at rows q)
 
 -- Each call that waits for a time is in the list; none is in it twice.
-pub record IsCovered (rows : List CallRow) (delayed : List ℕ) (capacity room : ℕ) : Type 0 where
+pub record IsCovered (rows : List RowView) (delayed : List ℕ) (capacity room : ℕ) : Type 0 where
   pub distinct : IsDistinct nat_eq delayed
   pub known : (q : ℕ) → list_any (nat_eq q) delayed ≡ true → q < length rows + 1
   pub covers : (c : ℕ) → row_delayed (row_at rows c) ≡ true → list_any (nat_eq c) delayed ≡ true

@@ -39,7 +39,8 @@ no_tables = record {
 abbrev pub waits_at : Kept → (apartment call : ℕ) → Bool
 waits_at b a c =
     from_one b.apartments c 0 == a
-    && (is_queued (from_one b.tables.phases c Unposted) && (is_none (from_one b.tables.admissions c None) && is_none (from_one b.tables.endings c None)))
+    && (is_queued (from_one b.tables.phases c Unposted)
+    && (is_none (from_one b.tables.admissions c None) && is_none (from_one b.tables.endings c None)))
 
 abbrev pub inbox_at : Kept → (apartment : ℕ) → List ℕ
 inbox_at b a = filter (waits_at b a) b.tables.postings

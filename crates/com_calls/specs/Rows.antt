@@ -1,4 +1,4 @@
--- The tables of calls, read from the code's rows, and what an entry changes in one row.
+-- What is seen of the row of a call, the tables of calls, and what an entry changes in one row.
 use Rattle.std.specs.Prelude.{ℕ, zero, suc, Bool, true, false, ◌==◌, ◌&&◌, List, [], ◌∷◌, map, Option, Some}
 use Rattle.std.specs.Prelude.{None, slice_get}
 use Rattle.com_base.specs.declared.hresult.HResult.{HResult}
@@ -14,92 +14,109 @@ use Rattle.com_model.specs.Endings.{can_be_cut}
 use Rattle.com_state.specs.Parts.{CallTables}
 use Rattle.com_calls.specs.declared.rows.Cut.{Cut}
 use Rattle.com_calls.specs.declared.rows.Cut.TheVariants as cut
-use Rattle.com_calls.specs.declared.rows.Left.{Left}
-use Rattle.com_calls.specs.declared.rows.Left.TheVariants.{Nothing, AsAnswer, Apart}
 use Rattle.com_calls.specs.declared.rows.Issued.{Issued}
 use Rattle.com_model.specs.declared.keeps.Issue.{Issue}
 use Rattle.com_model.specs.declared.keeps.Phase.TheVariants.{Unposted}
-use Rattle.com_calls.specs.declared.rows.CallRow.{CallRow}
 
--- What the body of a call left with: the row keeps it once where it is the answer too.
-abbrev pub leaving_of : Left → Option Ending → Option Leaving
-leaving_of (AsAnswer c) (Some (ByLeave hr v)) = Some (record { call = c; hr = hr; value = v })
-leaving_of (Apart x) e = Some x
-leaving_of _ e = None
+-- what its Out entry says; the apartment of its target when it was issued; its Enter and its Leave; whether
+-- its Back was made; what fixed its answer; its refusal, or S_OK; what it sends, until that is let go; where
+-- it stands since its last posting; and the clock when it was issued
+pub record RowView : Type 0 where
+  pub issue : Issue
+  pub apartment : ℕ
+  pub admission : Option Admission
+  pub leaving : Option Leaving
+  pub returned : Bool
+  pub ending : Option Ending
+  pub refusal : HResult
+  pub unread : List Value
+  pub phase : Phase
+  pub time : ℕ
 
-abbrev pub values_of : Option (List Value) → List Value
-values_of None = []
-values_of (Some vs) = vs
-
-abbrev pub call_tables : List CallRow → (postings : List ℕ) → (causes : ℕ) → CallTables
+abbrev pub call_tables : List RowView → (postings : List ℕ) → (causes : ℕ) → CallTables
 call_tables rows postings causes = record {
-  issues = map (λ (r : CallRow). Some r.issue) rows;
-  admissions = map (λ (r : CallRow). r.admission) rows;
-  leavings = map (λ (r : CallRow). leaving_of r.left r.ending) rows;
-  returned = map (λ (r : CallRow). r.returned) rows;
-  endings = map (λ (r : CallRow). r.ending) rows;
-  refusals = map (λ (r : CallRow). r.refusal) rows;
-  unread = map (λ (r : CallRow). values_of r.unread) rows;
-  phases = map (λ (r : CallRow). r.phase) rows;
-  times = map (λ (r : CallRow). r.time) rows;
+  issues = map (λ (r : RowView). Some r.issue) rows;
+  admissions = map (λ (r : RowView). r.admission) rows;
+  leavings = map (λ (r : RowView). r.leaving) rows;
+  returned = map (λ (r : RowView). r.returned) rows;
+  endings = map (λ (r : RowView). r.ending) rows;
+  refusals = map (λ (r : RowView). r.refusal) rows;
+  unread = map (λ (r : RowView). r.unread) rows;
+  phases = map (λ (r : RowView). r.phase) rows;
+  times = map (λ (r : RowView). r.time) rows;
   postings = postings;
   causes = causes;
 }
 
 -- The row of a number is changed; rows count from 1, and a number without row changes none.
-abbrev pub changed_in : (CallRow → CallRow) → ℕ → List CallRow → List CallRow
+abbrev pub changed_in : (RowView → RowView) → ℕ → List RowView → List RowView
 changed_in f k [] = []
 changed_in f zero (r ∷ rs) = f r ∷ rs
 changed_in f (suc k) (r ∷ rs) = r ∷ changed_in f k rs
 
-abbrev pub changed_row : (CallRow → CallRow) → (call : ℕ) → List CallRow → List CallRow
+abbrev pub changed_row : (RowView → RowView) → (call : ℕ) → List RowView → List RowView
 changed_row f zero rows = rows
 changed_row f (suc k) rows = changed_in f k rows
 
-abbrev pub admitting : Admission → CallRow → CallRow
-admitting a r = record r { admission = Some a; unread = None }
+abbrev pub admitting : Admission → RowView → RowView
+admitting a r = record r { admission = Some a; unread = [] }
 
-abbrev pub ending_by : Ending → CallRow → CallRow
-ending_by x r = record r { ending = or_else r.ending (Some x); unread = None }
+abbrev pub ending_by : Ending → RowView → RowView
+ending_by x r = record r { ending = or_else r.ending (Some x); unread = [] }
 
-abbrev pub left_or : Option Ending → (call : ℕ) → HResult → Option Value → CallRow → CallRow
-left_or None c hr v r = record r { ending = Some (ByLeave hr v); left = AsAnswer c; unread = None }
-left_or (Some x) c hr v r = record r { left = Apart (record { call = c; hr = hr; value = v }); unread = None }
+-- The Leave that fixes the answer, where none is fixed.
+abbrev pub first_left : Option Ending → Option Leaving → Leaving → Option Leaving
+first_left None x l = Some l
+first_left (Some e) x l = x
 
-abbrev pub left_with : (call : ℕ) → HResult → Option Value → CallRow → CallRow
-left_with c hr v r = left_or r.ending c hr v r
+-- The Leave, where an answer was fixed before it.
+abbrev pub late_of : Option Ending → Leaving → Option Leaving
+late_of None l = None
+late_of (Some e) l = Some l
 
-abbrev pub returning : CallRow → CallRow
+abbrev pub late_row : Option RowView → Leaving → Option Leaving
+late_row None l = None
+late_row (Some r) l = late_of r.ending l
+
+-- A body leaves. Its Leave is in the row where it fixes the answer.
+abbrev pub left_with : (call : ℕ) → HResult → Option Value → RowView → RowView
+left_with c hr v r = record r {
+  leaving = first_left r.ending r.leaving (record { call = c; hr = hr; value = v });
+  ending = or_else r.ending (Some (ByLeave hr v));
+  unread = [];
+}
+
+abbrev pub returning : RowView → RowView
 returning r = record r { returned = true }
 
-abbrev pub phased : Phase → CallRow → CallRow
+abbrev pub phased : Phase → RowView → RowView
 phased p r = record r { phase = p }
 
-abbrev pub taken : CallRow → CallRow
-taken r = record r { unread = None }
+abbrev pub taken : RowView → RowView
+taken r = record r { unread = [] }
 
 -- The row of a call at its Out entry.
-abbrev pub new_row_of : Issue → Issued → (clock : ℕ) → CallRow
+abbrev pub new_row_of : Issue → Issued → (clock : ℕ) → RowView
 new_row_of x i now = record {
   issue = x;
   apartment = i.apartment;
   admission = None;
-  left = Nothing;
+  leaving = None;
   returned = false;
   ending = None;
   refusal = i.refusal;
-  unread = Some i.values;
+  unread = i.values;
   phase = Unposted;
   time = now;
 }
 
 -- The row of a call.
-abbrev pub row_at : List CallRow → (call : ℕ) → Option CallRow
+abbrev pub row_at : List RowView → (call : ℕ) → Option RowView
 row_at rows zero = None
 row_at rows (suc k) = slice_get rows k
 
 -- A disconnection reaches the calls of other routes than direct that were not entered.
-abbrev pub reaches : Cut → CallRow → Bool
+abbrev pub reaches : Cut → RowView → Bool
 reaches (cut.Object p) r = can_be_cut (Some r.issue) r.admission && p == object_of (Some r.issue)
 reaches (cut.Sta a) r = can_be_cut (Some r.issue) r.admission && a == r.apartment
 

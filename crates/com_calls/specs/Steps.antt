@@ -20,10 +20,16 @@ abbrev pub values_gone : ℕ → List (List Value) → List (List Value)
 values_gone c xs = changed_from_one (Some (λ vs. [])) c [] xs
 
 abbrev pub entered_at : CallTables → Admission → CallTables
-entered_at t a = record t { admissions = changed_from_one (Some (λ x. Some a)) a.call None t.admissions; unread = values_gone a.call t.unread }
+entered_at t a = record t {
+  admissions = changed_from_one (Some (λ x. Some a)) a.call None t.admissions;
+  unread = values_gone a.call t.unread;
+}
 
 abbrev pub ended_at : CallTables → ℕ → Ending → CallTables
-ended_at t c x = record t { endings = changed_from_one (Some (λ y. or_else y (Some x))) c None t.endings; unread = values_gone c t.unread }
+ended_at t c x = record t {
+  endings = changed_from_one (Some (λ y. or_else y (Some x))) c None t.endings;
+  unread = values_gone c t.unread;
+}
 
 abbrev pub left_at : CallTables → ℕ → HResult → Option Value → CallTables
 left_at t c hr v = record t {
@@ -39,7 +45,10 @@ abbrev pub phased_at : CallTables → ℕ → Phase → CallTables
 phased_at t c p = record t { phases = changed_from_one (Some (λ x. p)) c Unposted t.phases }
 
 abbrev pub posted_at : CallTables → ℕ → CallTables
-posted_at t c = record t { phases = changed_from_one (Some (λ x. Queued)) c Unposted t.phases; postings = posted_last (Posts c) t.postings }
+posted_at t c = record t {
+  phases = changed_from_one (Some (λ x. Queued)) c Unposted t.phases;
+  postings = posted_last (Posts c) t.postings;
+}
 
 abbrev pub taken_at : CallTables → ℕ → CallTables
 taken_at t c = record t { unread = values_gone c t.unread }
@@ -72,4 +81,7 @@ grown_at t x i now k = record t {
 
 -- The entry of an Out.
 abbrev pub out_entry : Issue → Option (List ℕ) → Entry
-out_entry x bytes = record { lane = x.lane; deed = deed.Out x.call x.object x.iface x.method x.route x.cause bytes }
+out_entry x bytes = record {
+  lane = x.lane;
+  deed = deed.Out x.call x.object x.iface x.method x.route x.cause bytes;
+}

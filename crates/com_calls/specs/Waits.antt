@@ -11,7 +11,8 @@ wait_until now (Delayed t) false = where_true (nat_lt now t) t
 wait_until now _ _ = None
 
 abbrev pub wait_of : Kept → (now call : ℕ) → Option ℕ
-wait_of b now c = wait_until now (from_one b.tables.phases c Unposted) (is_some (from_one b.tables.endings c None))
+wait_of b now c =
+    wait_until now (from_one b.tables.phases c Unposted) (is_some (from_one b.tables.endings c None))
 
 -- The least of these times.
 abbrev pub next_wait : Kept → (now : ℕ) → Option ℕ

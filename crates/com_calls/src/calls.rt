@@ -24,11 +24,11 @@ ghost use Rattle.com_calls.specs.Steps.{entered_at, ended_at, left_at, returned_
 ghost use Rattle.com_calls.specs.Steps.{taken_at, grown_at, out_entry, is_known, delay_of};
 
 use crate::rows::{CallRow, Cut, Issued};
-use crate::{rows, waits};
+use crate::{later, rows, waits};
 use com_base::{HResult, Memory, Rows, Value};
 use com_filter::Verdict;
 use com_inbox::Inbox;
-use com_model::{Admission, Deed, Ending, Issue, Phase, Route};
+use com_model::{Admission, Deed, Ending, Issue, Leaving, Phase, Route};
 use std::alloc::Global;
 use std::marker::Model;
 
@@ -47,21 +47,27 @@ pub struct Calls {
     // The calls that wait for a time, and some that did: what waits no more is taken out where a call comes
     // in.
     delayed: Vec<u32>,
+    // The Leaves that came after the answers, at the places of their calls. Few calls have one.
+    later: Vec<Option<Leaving>>,
     room: u32,
     causes: u32,
 }
 
 impl Model for Calls {
-    ghost use Rattle.std.specs.Prelude.{vec_capacity};
+    ghost use Rattle.std.specs.Prelude.{◌≤◌, vec_len, vec_capacity};
+    ghost use Rattle.com_calls.specs.Leaves.{with_later};
     ghost use Rattle.com_calls.specs.Kept.{Kept};
     ghost use Rattle.com_calls.specs.Inside.{kept_of, IsKept, IsCovered};
+    ghost use Rattle.com_calls.specs.Fates.{IsNumbered};
 
     ghost Value = { Kept };
 
-    ghost view = { λ s. kept_of s.rows.items s.posted s.waiting s.room s.causes };
+    ghost view = { λ s. with_later (kept_of s.rows.items s.posted s.waiting s.room s.causes)
+        s.later.items };
 
     ghost invariant = { λ s. IsKept s.rows.items s.posted s.waiting (vec_capacity s.rows) s.room s.causes
-        × IsCovered s.rows.items s.delayed.items (vec_capacity s.delayed) s.room };
+        × IsCovered s.rows.items s.delayed.items (vec_capacity s.delayed) s.room × IsNumbered s.rows.items
+        × (s.room ≤ vec_capacity s.later) × (vec_len s.later ≤ vec_len s.rows) };
 }
 
 impl Calls {
@@ -78,6 +84,7 @@ impl Calls {
             posted,
             waiting,
             delayed,
+            later: Vec::new(alloc),
             room: 0,
             causes: 0,
         })
@@ -98,6 +105,8 @@ impl Calls {
         self.posted.reserve(1, room)?;
         self.delayed
             .reserve((room as usize + 1).saturating_sub(self.delayed.len()))?;
+        self.later
+            .reserve((room as usize).saturating_sub(self.later.len()))?;
         self.waiting.reserve(apartment + 1, room)?;
         self.room = room;
         Ok(())
@@ -268,7 +277,7 @@ impl Calls {
     {
         match rows::row_of(&self.rows, call) {
             None => false,
-            Some(row) => rows::is_reached(row, cut),
+            Some(row) => row.is_reached(cut),
         }
     }
 
@@ -289,7 +298,7 @@ impl Calls {
     {
         match rows::row_of(&self.rows, call) {
             None => None,
-            Some(row) => Some(row.issue),
+            Some(row) => Some(row.issue()),
         }
     }
 
@@ -299,7 +308,7 @@ impl Calls {
     {
         match rows::row_of(&self.rows, call) {
             None => 0,
-            Some(row) => row.apartment,
+            Some(row) => row.apartment(),
         }
     }
 
@@ -309,7 +318,7 @@ impl Calls {
     {
         match rows::row_of(&self.rows, call) {
             None => None,
-            Some(row) => row.admission,
+            Some(row) => row.admission(),
         }
     }
 
@@ -317,9 +326,10 @@ impl Calls {
     pub fn has_left(&self, call: u32) -> bool
         ensures { result ≡ is_some (from_one self.now.tables.leavings call None) }
     {
+        let late = later::leaving(&self.later, call);
         match rows::row_of(&self.rows, call) {
             None => false,
-            Some(row) => rows::has_left(row),
+            Some(row) => row.has_left(late),
         }
     }
 
@@ -328,9 +338,10 @@ impl Calls {
     pub fn left_value(&self, call: u32) -> Option<&Value>
         ensures { option_copied result ≡ value_left (from_one self.now.tables.leavings call None) }
     {
+        let late = later::leaving(&self.later, call);
         match rows::row_of(&self.rows, call) {
             None => None,
-            Some(row) => rows::left_value(row),
+            Some(row) => row.left_value(late),
         }
     }
 
@@ -340,7 +351,7 @@ impl Calls {
     {
         match rows::row_of(&self.rows, call) {
             None => false,
-            Some(row) => row.returned,
+            Some(row) => row.is_returned(),
         }
     }
 
@@ -350,7 +361,7 @@ impl Calls {
     {
         match rows::row_of(&self.rows, call) {
             None => None,
-            Some(row) => row.ending.as_ref(),
+            Some(row) => row.ending(),
         }
     }
 
@@ -360,7 +371,7 @@ impl Calls {
     {
         match rows::row_of(&self.rows, call) {
             None => HResult::S_OK,
-            Some(row) => row.refusal,
+            Some(row) => row.refusal(),
         }
     }
 
@@ -370,7 +381,7 @@ impl Calls {
     {
         match rows::row_of(&self.rows, call) {
             None => &[],
-            Some(row) => rows::unread(row),
+            Some(row) => row.unread(),
         }
     }
 
@@ -380,7 +391,7 @@ impl Calls {
     {
         match rows::row_of(&self.rows, call) {
             None => Phase::Unposted,
-            Some(row) => row.phase,
+            Some(row) => row.phase(),
         }
     }
 
@@ -390,7 +401,7 @@ impl Calls {
     {
         match rows::row_of(&self.rows, call) {
             None => 0,
-            Some(row) => row.time,
+            Some(row) => row.time(),
         }
     }
 
@@ -407,17 +418,14 @@ impl Calls {
         ensures values { result ≡ from_one self.old.tables.unread call [] }
         ensures taken { self.new ≡ with_tables self.old (taken_at self.old.tables call) }
     {
-        match rows::take(&mut self.rows, call) {
-            None => Rows::new(alloc),
-            Some(values) => values,
-        }
+        rows::take(&mut self.rows, alloc, call)
     }
 
     /// A body is entered.
     fn enter(&mut self, admission: Admission)
         ensures { self.new ≡ with_tables self.old (entered_at self.old.tables admission) }
     {
-        rows::admit(&mut self.rows, admission.call, admission);
+        rows::admit(&mut self.rows, admission);
         self.waiting.remove(admission.call);
     }
 
@@ -434,7 +442,8 @@ impl Calls {
     fn leave_row(&mut self, call: u32, hr: HResult, value: Option<Value>)
         ensures { self.new ≡ with_tables self.old (left_at self.old.tables call hr value) }
     {
-        rows::leave(&mut self.rows, call, hr, value);
+        let late = rows::leave(&mut self.rows, call, hr, value);
+        later::keep(&mut self.later, call, late);
         self.waiting.remove(call);
     }
 
@@ -479,8 +488,8 @@ impl Calls {
         ensures { self.new ≡ with_tables self.old (posted_at self.old.tables call) }
     {
         let row = &self.rows[call as usize - 1];
-        let apartment = row.apartment;
-        let open = rows::is_open(row);
+        let apartment = row.apartment();
+        let open = row.is_open();
         rows::phase(&mut self.rows, call, Phase::Queued);
         self.posted.remove(call);
         self.posted.post(0, call);
@@ -493,12 +502,13 @@ impl Calls {
 
     /// A call more, that is neither posted nor refused.
     fn push(&mut self, issue: Issue, issued: Issued, outermost: bool, clock: u64)
+        requires number { issue.call ≡ length self.old.tables.issues + 1 }
         requires room { length self.old.tables.issues < self.old.room }
         requires inbox { issued.apartment < self.old.inboxes }
         ensures { self.new ≡ with_call self.old issued.apartment (grown_at self.old.tables issue
             (record { refusal = issued.refusal; values = issued.values }) clock (count_if outermost)) }
     {
-        self.rows.push_reserved(rows::new_row(issue, issued, clock));
+        self.rows.push_reserved(CallRow::new(issue, issued, clock));
         self.causes = drawn(outermost) + self.causes;
     }
 }

@@ -4,6 +4,7 @@
 #![tactic(auto)]
 
 mod calls;
+mod later;
 mod laws;
 mod rows;
 mod waits;
@@ -11,4 +12,4 @@ mod waits;
 pub use calls::Calls;
 pub use com_base::Memory;
 pub use laws::{apartments_stay_named, no_calls_at_first, ticks_are_waits, values_are_taken_first};
-pub use rows::{CallRow, Cut, Issued, Left};
+pub use rows::{CallRow, Cut, Issued};

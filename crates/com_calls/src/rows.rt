@@ -1,48 +1,88 @@
 //! A row for each call, and what an entry changes in one row.
 
-ghost use Rattle.std.specs.Prelude.{◌≡◌, ◌&&◌, is_none, is_some, map, []};
+ghost use Rattle.std.specs.Prelude.{◌≡◌, ◌&&◌, true, false, is_none, is_some, map, []};
+ghost use Rattle.com_model.specs.Endings.{is_leave};
 ghost use Rattle.com_calls.specs.Rows.{changed_row, admitting, ending_by, left_with, returning, phased};
-ghost use Rattle.com_calls.specs.Rows.{taken, new_row_of, row_at, reaches, values_of, leaving_of, value_left};
-ghost use Rattle.com_model.specs.Lists.{from_one};
+ghost use Rattle.com_calls.specs.Rows.{taken, new_row_of, row_at, reaches, value_left, late_of, late_row};
+ghost use Rattle.com_calls.specs.Fates.{IsNumbered};
+ghost use Rattle.com_model.specs.Lists.{from_one, or_else};
 ghost use Rattle.std.specs.Option.{option_copied};
 
 use com_base::{HResult, Rows, Value};
-use com_model::{Admission, Ending, Issue, Leaving, Phase};
+use com_model::{Admission, Ending, Issue, Leaving, Phase, Route};
+use std::alloc::Global;
+use std::marker::Model;
+use std::mem;
 
-/// What the body of a call left with.
+/// What has become of a call. What it sends is let go before its body can leave, so both share one place. A
+/// Leave that comes after the answer stands apart.
 #[derive(Debug, Drop)]
-pub enum Left {
-    /// It did not leave yet.
-    Nothing,
-    /// With the answer of this call.
-    AsAnswer { call: u32 },
-    /// With something else than the answer, which had been fixed before.
-    Apart(Leaving),
+enum Fate {
+    /// No answer is fixed, and these values are not read yet.
+    Sent(Rows<Value>),
+    /// No answer is fixed, and what it sent is let go.
+    Open,
+    /// This fixed its answer.
+    Answered(Ending),
 }
 
-/// One call.
+/// Where a call was entered.
+#[derive(Debug, Clone, Copy)]
+struct Entered {
+    /// The lane in which its body runs.
+    lane: u32,
+    /// The apartment in which its body runs.
+    apartment: u32,
+}
+
+/// One call, seen as its row in each of the tables of calls. The rows are kept as long as the core, so the
+/// fields are in an order in which they lie close together.
 #[derive(Debug, Drop)]
 pub struct CallRow {
-    /// What its Out entry says of it.
-    pub issue: Issue,
-    /// The apartment of its target when it was issued.
-    pub apartment: u32,
-    /// Its Enter, once it was entered.
-    pub admission: Option<Admission>,
-    /// Its Leave, once its body has left.
-    pub left: Left,
-    /// Whether its Back was made.
-    pub returned: bool,
-    /// What has fixed its answer, once something has.
-    pub ending: Option<Ending>,
-    /// The refusal of a call that was refused at once, else S_OK.
-    pub refusal: HResult,
-    /// What it sends, until that is let go.
-    pub unread: Option<Rows<Value>>,
-    /// Whether it was posted, refused or retried.
-    pub phase: Phase,
-    /// The clock when it was issued, in virtual milliseconds.
-    pub time: u64,
+    fate: Fate,
+    phase: Phase,
+    // The clock when it was issued, in virtual milliseconds.
+    time: u64,
+    call: u32,
+    lane: u32,
+    object: Option<u32>,
+    cause: u32,
+    // The apartment of its target when it was issued.
+    apartment: u32,
+    entered: Option<Entered>,
+    refusal: HResult,
+    iface: u16,
+    method: u16,
+    route: Route,
+    returned: bool,
+}
+
+impl Model for CallRow {
+    ghost use Rattle.com_calls.specs.Rows.{RowView};
+    ghost use Rattle.com_calls.specs.Fates.{admission_of, leaving_of, ending_of, unread_of};
+
+    ghost Value = { RowView };
+
+    ghost view = { λ s. record {
+      issue = record {
+        call = s.call;
+        lane = s.lane;
+        object = s.object;
+        iface = s.iface;
+        method = s.method;
+        route = s.route;
+        cause = s.cause;
+      };
+      apartment = s.apartment;
+      admission = admission_of s.call s.entered;
+      leaving = leaving_of s.call s.fate;
+      returned = s.returned;
+      ending = ending_of s.fate;
+      refusal = s.refusal;
+      unread = unread_of s.fate;
+      phase = s.phase;
+      time = s.time;
+    } };
 }
 
 /// What a call has at its Out entry: the refusal, or S_OK, the values that it sends, and its target's
@@ -66,6 +106,233 @@ pub enum Cut {
     Sta(u32),
 }
 
+impl CallRow {
+    /// The row of a call at its Out entry: it is neither posted nor refused yet.
+    pub fn new(issue: Issue, issued: Issued, clock: u64) -> CallRow
+        ensures { result ≡ new_row_of issue issued clock }
+    {
+        CallRow {
+            fate: Fate::Sent(issued.values),
+            phase: Phase::Unposted,
+            time: clock,
+            call: issue.call,
+            lane: issue.lane,
+            object: issue.object,
+            cause: issue.cause,
+            apartment: issued.apartment,
+            entered: None,
+            refusal: issued.refusal,
+            iface: issue.iface,
+            method: issue.method,
+            route: issue.route,
+            returned: false,
+        }
+    }
+
+    /// What its Out entry says of it.
+    pub fn issue(&self) -> Issue
+        ensures { result ≡ self.now.issue }
+    {
+        Issue {
+            call: self.call,
+            lane: self.lane,
+            object: self.object,
+            iface: self.iface,
+            method: self.method,
+            route: self.route,
+            cause: self.cause,
+        }
+    }
+
+    /// The apartment of its target when it was issued.
+    pub fn apartment(&self) -> u32
+        ensures { result ≡ self.now.apartment }
+    {
+        self.apartment
+    }
+
+    /// Its Enter, once it was entered.
+    pub fn admission(&self) -> Option<Admission>
+        ensures { result ≡ self.now.admission }
+    {
+        match self.entered {
+            None => None,
+            Some(entered) => Some(Admission {
+                call: self.call,
+                lane: entered.lane,
+                apartment: entered.apartment,
+            }),
+        }
+    }
+
+    /// Whether its body left, where `late` is the Leave that came after its answer.
+    pub fn has_left(&self, late: Option<&Leaving>) -> bool
+        ensures { result ≡ is_some (or_else (option_copied late.entry) self.now.leaving) }
+    {
+        match late {
+            Some(_) => true,
+            None => matches!(self.fate, Fate::Answered(Ending::ByLeave(..))),
+        }
+    }
+
+    /// The value that its body left with, where `late` is the Leave that came after its answer.
+    pub fn left_value<'a>(&'a self, late: Option<&'a Leaving>) -> Option<&'a Value>
+        ensures { option_copied result ≡ value_left (or_else (option_copied late.entry) self.now.leaving) }
+    {
+        match (late, &self.fate) {
+            (Some(late), _) => late.value.as_ref(),
+            (None, Fate::Answered(Ending::ByLeave(_, value))) => value.as_ref(),
+            _ => None,
+        }
+    }
+
+    /// Whether its Back was made.
+    pub fn is_returned(&self) -> bool
+        ensures { result ≡ self.now.returned }
+    {
+        self.returned
+    }
+
+    /// What has fixed its answer, once something has.
+    pub fn ending(&self) -> Option<&Ending>
+        ensures { option_copied result ≡ self.now.ending }
+    {
+        match &self.fate {
+            Fate::Answered(ending) => Some(ending),
+            _ => None,
+        }
+    }
+
+    /// Whether its answer is fixed.
+    pub fn is_answered(&self) -> bool
+        ensures { result ≡ is_some self.now.ending }
+    {
+        matches!(self.fate, Fate::Answered(_))
+    }
+
+    /// The refusal of a call that was refused at once, else S_OK.
+    pub fn refusal(&self) -> HResult
+        ensures { result ≡ self.now.refusal }
+    {
+        self.refusal
+    }
+
+    /// What it sends, until that is let go.
+    pub fn unread(&self) -> &[Value]
+        ensures { result.now ≡ self.now.unread }
+    {
+        match &self.fate {
+            Fate::Sent(values) => values.as_slice(),
+            _ => &[],
+        }
+    }
+
+    /// Where it stands since its last posting.
+    pub fn phase(&self) -> Phase
+        ensures { result ≡ self.now.phase }
+    {
+        self.phase
+    }
+
+    /// The clock when it was issued, in virtual milliseconds.
+    pub fn time(&self) -> u64
+        ensures { result ≡ self.now.time }
+    {
+        self.time
+    }
+
+    /// Whether it is neither entered nor answered.
+    pub fn is_open(&self) -> bool
+        ensures { result ≡ (is_none self.now.admission && is_none self.now.ending) }
+    {
+        self.entered.is_none() && !self.is_answered()
+    }
+
+    /// Whether a disconnection reaches it: where its route is not direct and it was not entered.
+    pub fn is_reached(&self, cut: Cut) -> bool
+        ensures { result ≡ reaches cut self.now }
+    {
+        let open = self.route.is_marshalled() && self.entered.is_none();
+        match cut {
+            Cut::Object(object) => open && object == self.object.unwrap_or(0),
+            Cut::Sta(apartment) => open && apartment == self.apartment,
+        }
+    }
+
+    fn admit(&mut self, admission: Admission)
+        requires { admission.call ≡ self.old.issue.call }
+        ensures { self.new ≡ admitting admission self.old }
+    {
+        self.entered = Some(Entered {
+            lane: admission.lane,
+            apartment: admission.apartment,
+        });
+        self.let_go();
+    }
+
+    // What the call sends is let go.
+    fn let_go(&mut self)
+        ensures { self.new ≡ taken self.old }
+    {
+        if let Fate::Sent(_) = self.fate {
+            self.fate = Fate::Open;
+        }
+    }
+
+    fn end(&mut self, ending: Ending)
+        requires { is_leave (Some ending) ≡ false }
+        ensures { self.new ≡ ending_by ending self.old }
+    {
+        if self.is_answered() {
+            return;
+        }
+        self.fate = Fate::Answered(ending);
+    }
+
+    // The body leaves. Its Leave comes back where an answer was fixed before.
+    fn leave(&mut self, hr: HResult, value: Option<Value>) -> Option<Leaving>
+        ensures row { self.new ≡ left_with self.old.issue.call hr value self.old }
+        ensures late { result ≡ late_of self.old.ending (record {
+          call = self.old.issue.call;
+          hr = hr;
+          value = value;
+        }) }
+    {
+        if self.is_answered() {
+            return Some(Leaving {
+                call: self.call,
+                hr,
+                value,
+            });
+        }
+        self.fate = Fate::Answered(Ending::ByLeave(hr, value));
+        None
+    }
+
+    // The values of the call are taken away. It takes no memory.
+    fn take(&mut self, alloc: Global) -> Rows<Value>
+        ensures row { self.new ≡ taken self.old }
+        ensures values { result ≡ self.old.unread }
+    {
+        match &mut self.fate {
+            Fate::Sent(values) => mem::replace(values, Rows::new(alloc)),
+            _ => Rows::new(alloc),
+        }
+    }
+
+    fn give_back(&mut self)
+        ensures { self.new ≡ returning self.old }
+    {
+        self.returned = true;
+    }
+
+    fn set_phase(&mut self, phase: Phase)
+        ensures { self.new ≡ phased phase self.old }
+    {
+        self.phase = phase;
+    }
+}
+
 /// The row of a call. `None` exactly where there is none.
 pub fn row_of(rows: &[CallRow], call: u32) -> Option<&CallRow>
     ensures { option_copied result ≡ row_at rows.now call }
@@ -74,98 +341,46 @@ pub fn row_of(rows: &[CallRow], call: u32) -> Option<&CallRow>
     rows.get(place as usize)
 }
 
-/// Whether a disconnection reaches a call: one of another route than direct that was not entered.
-pub fn is_reached(row: &CallRow, cut: Cut) -> bool
-    ensures { result ≡ reaches cut row.now }
-{
-    let open = row.issue.route.is_marshalled() && row.admission.is_none();
-    match cut {
-        Cut::Object(object) => open && object == row.issue.object.unwrap_or(0),
-        Cut::Sta(apartment) => open && apartment == row.apartment,
-    }
-}
-
-/// The row of a call at its Out entry: it is neither posted nor refused yet.
-pub fn new_row(issue: Issue, issued: Issued, clock: u64) -> CallRow
-    ensures { result ≡ new_row_of issue issued clock }
-{
-    CallRow {
-        issue,
-        apartment: issued.apartment,
-        admission: None,
-        left: Left::Nothing,
-        returned: false,
-        ending: None,
-        refusal: issued.refusal,
-        unread: Some(issued.values),
-        phase: Phase::Unposted,
-        time: clock,
-    }
-}
-
-/// Whether a call is neither entered nor answered.
-pub fn is_open(row: &CallRow) -> bool
-    ensures { result ≡ (is_none row.now.admission && is_none row.now.ending) }
-{
-    row.admission.is_none() && row.ending.is_none()
-}
-
 /// A body is entered.
 #[tactic(auto, using(crate::proofs::Changed::changed_at, crate::proofs::Changed::changed_past, crate::proofs::Changed::changed_none))]
-pub fn admit(rows: &mut [CallRow], call: u32, admission: Admission)
-    ensures { rows.new ≡ changed_row (admitting admission) call rows.old }
+pub fn admit(rows: &mut [CallRow], admission: Admission)
+    requires { IsNumbered rows.old }
+    ensures { rows.new ≡ changed_row (admitting admission) admission.call rows.old }
 {
+    let call = admission.call;
     if call == 0 || call as usize > rows.len() {
         return;
     }
-    let row = &mut rows[call as usize - 1];
-    row.admission = Some(admission);
-    row.unread = None;
+    rows[call as usize - 1].admit(admission);
 }
 
 /// An answer is fixed, unless one is fixed already.
 #[tactic(auto, using(crate::proofs::Changed::changed_at, crate::proofs::Changed::changed_past, crate::proofs::Changed::changed_none))]
 pub fn end(rows: &mut [CallRow], call: u32, ending: Ending)
+    requires { is_leave (Some ending) ≡ false }
     ensures { rows.new ≡ changed_row (ending_by ending) call rows.old }
 {
     if call == 0 || call as usize > rows.len() {
         return;
     }
-    end_row(&mut rows[call as usize - 1], ending);
+    rows[call as usize - 1].end(ending);
 }
 
-fn end_row(row: &mut CallRow, ending: Ending)
-    ensures { row.new ≡ ending_by ending row.old }
-{
-    row.unread = None;
-    match row.ending {
-        Some(_) => {}
-        None => row.ending = Some(ending),
-    }
-}
-
-/// A body leaves. That is the answer, unless one is fixed already.
+/// A body leaves. That is the answer, or its Leave comes back where an answer was fixed before.
 #[tactic(auto, using(crate::proofs::Changed::changed_at, crate::proofs::Changed::changed_past, crate::proofs::Changed::changed_none))]
-pub fn leave(rows: &mut [CallRow], call: u32, hr: HResult, value: Option<Value>)
-    ensures { rows.new ≡ changed_row (left_with call hr value) call rows.old }
+pub fn leave(rows: &mut [CallRow], call: u32, hr: HResult, value: Option<Value>) -> Option<Leaving>
+    requires { IsNumbered rows.old }
+    ensures rows { rows.new ≡ changed_row (left_with call hr value) call rows.old }
+    ensures late { result ≡ late_row (row_at rows.old call) (record {
+      call = call;
+      hr = hr;
+      value = value;
+    }) }
 {
     if call == 0 || call as usize > rows.len() {
-        return;
+        return None;
     }
-    leave_row(&mut rows[call as usize - 1], call, hr, value);
-}
-
-fn leave_row(row: &mut CallRow, call: u32, hr: HResult, value: Option<Value>)
-    ensures { row.new ≡ left_with call hr value row.old }
-{
-    row.unread = None;
-    match row.ending {
-        Some(_) => row.left = Left::Apart(Leaving { call, hr, value }),
-        None => {
-            row.ending = Some(Ending::ByLeave(hr, value));
-            row.left = Left::AsAnswer { call };
-        }
-    }
+    rows[call as usize - 1].leave(hr, value)
 }
 
 /// A call comes back.
@@ -176,7 +391,7 @@ pub fn give_back(rows: &mut [CallRow], call: u32)
     if call == 0 || call as usize > rows.len() {
         return;
     }
-    rows[call as usize - 1].returned = true;
+    rows[call as usize - 1].give_back();
 }
 
 /// A posted call comes into another phase.
@@ -187,49 +402,17 @@ pub fn phase(rows: &mut [CallRow], call: u32, phase: Phase)
     if call == 0 || call as usize > rows.len() {
         return;
     }
-    rows[call as usize - 1].phase = phase;
+    rows[call as usize - 1].set_phase(phase);
 }
 
-/// The values of a call are taken away.
+/// The values of a call are taken away. It takes no memory.
 #[tactic(auto, using(crate::proofs::Changed::changed_past, crate::proofs::Changed::changed_none, crate::proofs::RowReads::read_past, crate::proofs::RowReads::read_none))]
-pub fn take(rows: &mut [CallRow], call: u32) -> Option<Rows<Value>>
+pub fn take(rows: &mut [CallRow], alloc: Global, call: u32) -> Rows<Value>
     ensures rows { rows.new ≡ changed_row taken call rows.old }
-    ensures values { values_of result ≡ from_one (map (λ r. values_of r.unread) rows.old) call [] }
+    ensures values { result ≡ from_one (map (λ r. r.unread) rows.old) call [] }
 {
     if call == 0 || call as usize > rows.len() {
-        return None;
+        return Rows::new(alloc);
     }
-    rows[call as usize - 1].unread.take()
-}
-
-/// Whether the body of a call left.
-pub fn has_left(row: &CallRow) -> bool
-    ensures { result ≡ is_some (leaving_of row.now.left row.now.ending) }
-{
-    match (&row.left, &row.ending) {
-        (Left::Apart(_), _) => true,
-        (Left::AsAnswer { .. }, Some(Ending::ByLeave(..))) => true,
-        _ => false,
-    }
-}
-
-/// The value that the body of a call left with.
-pub fn left_value(row: &CallRow) -> Option<&Value>
-    ensures { option_copied result ≡ value_left (leaving_of row.now.left row.now.ending) }
-{
-    match (&row.left, &row.ending) {
-        (Left::Apart(leaving), _) => leaving.value.as_ref(),
-        (Left::AsAnswer { .. }, Some(Ending::ByLeave(_, value))) => value.as_ref(),
-        _ => None,
-    }
-}
-
-/// The values that a call sends.
-pub fn unread(row: &CallRow) -> &[Value]
-    ensures { result.now ≡ values_of row.now.unread }
-{
-    match &row.unread {
-        None => &[],
-        Some(values) => values.as_slice(),
-    }
+    rows[call as usize - 1].take(alloc)
 }

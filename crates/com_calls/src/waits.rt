@@ -45,7 +45,7 @@ fn wait_of(rows: &[CallRow], call: u32, now: u64) -> Option<u64>
 fn row_wait(row: &CallRow, now: u64) -> Option<u64>
     ensures { result ≡ wait_until now row.now.phase (is_some row.now.ending) }
 {
-    match (row.phase, &row.ending) {
+    match (row.phase(), row.ending()) {
         (Phase::Delayed { until }, None) => { if now < until { Some(until) } else { None } }
         _ => None,
     }
@@ -64,7 +64,7 @@ fn is_delayed(rows: &[CallRow], call: u32) -> bool
 fn is_row_delayed(row: &CallRow) -> bool
     ensures { result ≡ is_delayed row.now.phase row.now.ending }
 {
-    matches!((row.phase, &row.ending), (Phase::Delayed { .. }, None))
+    matches!((row.phase(), row.ending()), (Phase::Delayed { .. }, None))
 }
 
 /// Takes out of the list the calls that wait for no time any more, and this call.

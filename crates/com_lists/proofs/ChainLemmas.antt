@@ -248,6 +248,9 @@ after-changed : (t : Bool) (n : Node) (after : Option ℕ) → (cond t (record n
 after-changed true n after = refl
 after-changed false n after = refl
 
+pub length_after_set : (nodes nodes₁ : List Node) (z : ℕ) (v : Node) → nodes₁ ≡ set nodes z v → length nodes₁ ≡ length nodes
+length_after_set nodes nodes₁ z v e = rw e (length-set nodes z v)
+
 -- the last node of a list is one of the nodes
 pub last_within : (heads : List Head) (nodes : List Node) (xss : List (List ℕ)) (k : ℕ) → StandsFor heads nodes xss → (z : ℕ) → last_or None (get_or xss k []) ≡ Some z → z < length nodes
 last_within heads nodes xss k s =
@@ -355,10 +358,9 @@ length-heads : (heads : List Head) (nodes : List Node) (xss : List (List ℕ)) �
 length-heads heads nodes xss s = ap length s.heads_are ∙ simp length-map
 
 pub reads_node : (heads : List Head) (nodes : List Node) (xss : List (List ℕ)) → StandsFor heads nodes xss → (x k : ℕ) (r : Node)
-    → IsSome (holder_from 0 x xss) → r ≡ get_or nodes x r → r.holder ≡ Some k → ReadsNode heads nodes xss x k r
-reads_node heads nodes xss s x k r some e h =
+    → IsSome (holder_from 0 x xss) → r ≡ node_at nodes x → r.holder ≡ Some k → ReadsNode heads nodes xss x k r
+reads_node heads nodes xss s x k r some is h =
     let node_in = held_within heads nodes xss s x some in
-    let is : r ≡ node_at nodes x = get_or_read nodes x r node_in e free_node in
     let held : holder_from 0 x xss ≡ Some k = sym (s.holder_is x) ∙ ap (λ (n : Node). n.holder) (sym is) ∙ h in
     let b : r.before ≡ previous_in_all x xss = ap (λ (n : Node). n.before) is ∙ s.before_is x in
     let a : r.after ≡ next_in_all x xss = ap (λ (n : Node). n.after) is ∙ s.after_is x in
@@ -375,12 +377,12 @@ reads_node heads nodes xss s x k r some e h =
 pub stands_for_itself : (heads : List Head) (nodes : List Node) (xss : List (List ℕ)) → StandsFor heads nodes xss → StandsFor heads nodes (lists_of heads nodes)
 stands_for_itself heads nodes xss s = rw (lists_of_stands heads nodes xss s) s
 
-pub stands_after_unlink : (heads : List Head) (nodes : List Node) (xss : List (List ℕ)) (x k : ℕ) (r : Node) (heads₁ heads₂ : List Head) (nodes₁ nodes₂ : List Node) → StandsFor heads nodes xss
+pub stands_after_unlink : (heads : List Head) (nodes : List Node) (xss : List (List ℕ)) (x k : ℕ) (r : Node) (heads₁ heads₂ : List Head) (nodes₁ nodes₂ nodes₃ : List Node) → StandsFor heads nodes xss
     → ReadsNode heads nodes xss x k r → heads₁ ≡ with_first k r.before r.after heads → nodes₁ ≡ with_after r.before r.after nodes
     → heads₂ ≡ with_last_node k r.after r.before heads₁ → nodes₂ ≡ with_before r.after r.before nodes₁
-    → StandsFor heads₂ (set nodes₂ x free_node) (map (without x) xss)
-stands_after_unlink heads nodes xss x k r heads₁ heads₂ nodes₁ nodes₂ s read h₁ n₁ h₂ n₂ =
-    rw (h₂, n₂, h₁, n₁) (stands-unlink heads nodes xss k x r.before r.after s read.holder read.before read.after)
+    → nodes₃ ≡ set nodes₂ x free_node → StandsFor heads₂ nodes₃ (map (without x) xss)
+stands_after_unlink heads nodes xss x k r heads₁ heads₂ nodes₁ nodes₂ nodes₃ s read h₁ n₁ h₂ n₂ n₃ =
+    rw (n₃, h₂, n₂, h₁, n₁) (stands-unlink heads nodes xss k x r.before r.after s read.holder read.before read.after)
 
 pub same_linked : (a b : List (List ℕ)) (m n : ℕ) → a ≡ b → m ≡ n → ◌≡◌ {A = Linked} (record { lists = a; nodes = m }) (record { lists = b; nodes = n })
 same_linked a b m n e f =
@@ -395,14 +397,14 @@ pub reads_last_within : (heads : List Head) (nodes : List Node) (xss : List (Lis
 reads_last_within heads nodes xss s k r lt e z last =
     last_within heads nodes xss k s z (ap (λ (h : Head). h.last) (sym (reads_head heads nodes xss s k r lt e)) ∙ last)
 
-pub stands_after_push : (heads : List Head) (nodes : List Node) (xss : List (List ℕ)) (x k : ℕ) (r : Head) (heads₁ heads₂ : List Head) (nodes₁ nodes₂ : List Node) → StandsFor heads nodes xss
+pub stands_after_push : (heads : List Head) (nodes : List Node) (xss : List (List ℕ)) (x k : ℕ) (r : Head) (heads₁ heads₂ : List Head) (nodes₁ nodes₂ nodes₃ : List Node) → StandsFor heads nodes xss
     → k < length xss → x < length nodes → holder_from 0 x xss ≡ None → r ≡ get_or heads k r
     → heads₁ ≡ with_first k r.last (Some x) heads → nodes₁ ≡ with_after r.last (Some x) nodes
     → heads₂ ≡ with_last_node k None (Some x) heads₁ → nodes₂ ≡ nodes₁
-    → StandsFor heads₂ (set nodes₂ x (record { holder = Some k; before = r.last; after = None })) (set xss k (get_or xss k [] ++ x ∷ []))
-stands_after_push heads nodes xss x k r heads₁ heads₂ nodes₁ nodes₂ s k_in x_in free e h₁ n₁ h₂ n₂ =
+    → nodes₃ ≡ set nodes₂ x (record { holder = Some k; before = r.last; after = None }) → StandsFor heads₂ nodes₃ (set xss k (get_or xss k [] ++ x ∷ []))
+stands_after_push heads nodes xss x k r heads₁ heads₂ nodes₁ nodes₂ nodes₃ s k_in x_in free e h₁ n₁ h₂ n₂ n₃ =
     let last = ap (λ (h : Head). h.last) (reads_head heads nodes xss s k r k_in e) in
-    rw (h₂, n₂, h₁, n₁) (stands-push heads nodes xss k x r.last s k_in x_in free last)
+    rw (n₃, h₂, n₂, h₁, n₁) (stands-push heads nodes xss k x r.last s k_in x_in free last)
 
 pub is_apart : (heads : List Head) (nodes : List Node) (xss : List (List ℕ)) (n : ℕ) → StandsFor heads nodes xss → n ≡ length nodes → IsApart (record { lists = xss; nodes = n })
 is_apart heads nodes xss n s e = record { once = s.once; within = λ y le. stands_within heads nodes xss s y (omega arith) }
@@ -421,13 +423,13 @@ take_all (suc n) [] le = refl
 take_all {X} (suc n) (x ∷ xs) le = ap (λ (ys : List X). x ∷ ys) (take_all n xs (omega arith))
 
 -- heads and nodes filled up, or nodes alone
-pub stands_grown : (heads heads₁ heads₂ : List Head) (nodes nodes₁ : List Node) (xss : List (List ℕ)) (ok : Bool) (m n i j : ℕ) → StandsFor heads nodes xss
-    → length heads ≤ m → length nodes ≤ n → heads₁ ≡ heads → heads₂ ≡ cond ok (take m heads₁ ++ replicate i empty_head) heads₁ → nodes₁ ≡ take n nodes ++ replicate j free_node
+pub stands_grown : (heads heads₁ heads₂ : List Head) (nodes nodes₁ : List Node) (xss : List (List ℕ)) (ok : Bool) (m i j : ℕ) → StandsFor heads nodes xss
+    → length heads ≤ m → heads₁ ≡ heads → heads₂ ≡ cond ok (take m heads₁ ++ replicate i empty_head) heads₁ → nodes₁ ≡ nodes ++ replicate j free_node
     → StandsFor heads₂ nodes₁ (xss ++ replicate (cond ok i 0) [])
-stands_grown heads heads₁ heads₂ nodes nodes₁ xss true m n i j s hle nle h₁ h₂ n₁ =
-    rw (h₂, n₁, h₁, take_all m heads hle, take_all n nodes nle) (stands-filled heads nodes xss i j s)
-stands_grown heads heads₁ heads₂ nodes nodes₁ xss false m n i j s hle nle h₁ h₂ n₁ =
-    rw (h₂, n₁, h₁, take_all n nodes nle) (rw (append-nil heads) at (stands-filled heads nodes xss 0 j s))
+stands_grown heads heads₁ heads₂ nodes nodes₁ xss true m i j s hle h₁ h₂ n₁ =
+    rw (h₂, n₁, h₁, take_all m heads hle) (stands-filled heads nodes xss i j s)
+stands_grown heads heads₁ heads₂ nodes nodes₁ xss false m i j s hle h₁ h₂ n₁ =
+    rw (h₂, n₁, h₁) (rw (append-nil heads) at (stands-filled heads nodes xss 0 j s))
 
 pub length-lists_of : (heads : List Head) (nodes : List Node) → length (lists_of heads nodes) ≡ length heads
 length-lists_of heads nodes = simp length-map

@@ -1,3 +1,4 @@
 pub mod ListLemmas
 pub mod AllLemmas
 pub mod ChainLemmas
+pub mod Stored

@@ -1,11 +1,13 @@
 //! Linked lists by index: a list of nodes for each head, no node in two, and each change in constant
-//! time.
+//! time on average. Nodes that no list has had take room, and nothing is written there.
 #![tactic(auto)]
 
 ghost use Rattle.std.specs.Prelude.{◌≡◌, ◌+◌, ◌-◌, ◌<◌, ◌≤◌, [], ◌++◌, length, replicate, None, IsSome, OnOk};
-ghost use Rattle.std.specs.Prelude.{OnErr, IfOk, IfSome, MatchOption, slice_get, slice_set, vec_len};
+ghost use Rattle.std.specs.Prelude.{OnErr, IfOk, IfSome, MatchOption, slice_get, slice_set};
+ghost use Rattle.std.specs.Prelude.{vec_len, vec_capacity};
 ghost use Rattle.std.specs.Option.{ForSome};
 ghost use Rattle.com_lists.specs.Linked.{IsApart, list_of, holder_of, next_in_all, with_last, without_node};
+ghost use Rattle.com_lists.specs.Chain.{free_node, node_at};
 ghost use Rattle.com_lists.specs.Chain.{with_after, with_before, with_first, with_last_node};
 
 use std::alloc::Global;
@@ -31,6 +33,95 @@ impl Node {
     };
 }
 
+/// What is kept of the nodes, seen as the list of it. Room is kept for all of them, and a node is written
+/// only when it, or one behind it, is first put into a list: those that are not written are in no list.
+#[derive(Debug, Drop)]
+struct Nodes {
+    written: Vec<Node>,
+    count: u32,
+}
+
+impl Model for Nodes {
+    ghost use Rattle.std.specs.Prelude.{◌-◌, ◌≤◌, ◌++◌, List, replicate, vec_len, vec_capacity};
+    ghost use Rattle.com_lists.specs.declared.Node.{Node};
+    ghost use Rattle.com_lists.specs.Chain.{free_node};
+
+    ghost Value = { List Node };
+
+    ghost view = { λ s. s.written.items ++ replicate (s.count - vec_len s.written) free_node };
+
+    ghost invariant = { λ s. (vec_len s.written ≤ s.count) × (s.count ≤ vec_capacity s.written) };
+}
+
+impl Nodes {
+    /// No nodes.
+    fn new(alloc: Global) -> Self
+        ensures { result ≡ [] }
+    {
+        Nodes {
+            written: Vec::new(alloc),
+            count: 0,
+        }
+    }
+
+    /// How many nodes there are.
+    fn len(&self) -> usize
+        ensures { result ≡ length self.now }
+    {
+        self.count as usize
+    }
+
+    /// Adds nodes in no list until there are so many. It writes none of them.
+    fn grow(&mut self, count: u32) -> Result<(), Memory>
+        requires { length self.old ≤ count }
+        ensures nodes { OnOk result (self.new
+            ≡ self.old ++ replicate (count - length self.old) free_node) }
+        ensures err { OnErr result (self.new ≡ self.old) }
+    {
+        self.written.reserve(count as usize - self.written.len())?;
+        self.count = count;
+        Ok(())
+    }
+
+    /// What is kept of a node.
+    fn at(&self, node: u32) -> Node
+        ensures { result ≡ node_at self.now node }
+    {
+        match self.written.get(node as usize) {
+            Some(kept) => *kept,
+            None => Node::FREE,
+        }
+    }
+
+    /// Lets this be kept of a node. It takes no memory.
+    fn set(&mut self, node: u32, kept: Node)
+        requires { node < length self.old }
+        ensures { self.new ≡ slice_set self.old node kept }
+    {
+        let place = node as usize;
+        if place < self.written.len() {
+            self.written[place] = kept;
+            return;
+        }
+        fill(&mut self.written, place);
+        self.written.push_reserved(kept);
+    }
+}
+
+/// Writes nodes in no list until so many are written. There is room for them.
+fn fill(written: &mut Vec<Node>, count: usize)
+    requires more { vec_len written.old ≤ count }
+    requires room { count ≤ vec_capacity written.old }
+    ensures items { written.new.items
+        ≡ written.old.items ++ replicate (count - vec_len written.old) free_node }
+    ensures len { vec_len written.new ≡ count }
+    ensures capacity { vec_capacity written.old ≤ vec_capacity written.new }
+{
+    let Ok(()) = written.resize(count, Node::FREE) else {
+        unreachable!()
+    };
+}
+
 /// What is kept of a head: the ends of its list.
 #[derive(Debug, Clone, Copy)]
 struct Head {
@@ -52,22 +143,22 @@ impl Head {
 #[derive(Debug, Drop)]
 pub struct Lists {
     heads: Vec<Head>,
-    nodes: Vec<Node>,
+    nodes: Nodes,
 }
 
 impl Model for Lists {
-    ghost use Rattle.std.specs.Prelude.{vec_len};
+    ghost use Rattle.std.specs.Prelude.{length};
     ghost use Rattle.com_lists.specs.Linked.{Linked};
     ghost use Rattle.com_lists.specs.Chain.{lists_of, StandsFor};
 
     ghost Value = { Linked };
 
     ghost view = { λ s. record {
-      lists = lists_of s.heads.items s.nodes.items;
-      nodes = vec_len s.nodes;
+      lists = lists_of s.heads.items s.nodes;
+      nodes = length s.nodes;
     } };
 
-    ghost invariant = { λ s. StandsFor s.heads.items s.nodes.items (lists_of s.heads.items s.nodes.items) };
+    ghost invariant = { λ s. StandsFor s.heads.items s.nodes (lists_of s.heads.items s.nodes) };
 }
 
 impl Lists {
@@ -78,7 +169,7 @@ impl Lists {
     {
         Lists {
             heads: Vec::new(alloc),
-            nodes: Vec::new(alloc),
+            nodes: Nodes::new(alloc),
         }
     }
 
@@ -103,7 +194,7 @@ impl Lists {
     {
         let more = heads as usize - self.heads.len();
         self.heads.reserve(more)?;
-        self.nodes.resize(nodes as usize, Node::FREE)?;
+        self.nodes.grow(nodes)?;
         self.heads.resize(heads as usize, Head::EMPTY)
     }
 
@@ -132,11 +223,12 @@ impl Lists {
         let last = self.heads[head as usize].last;
         set_next(&mut self.heads, &mut self.nodes, head, last, Some(node));
         set_previous(&mut self.heads, &mut self.nodes, head, None, Some(node));
-        self.nodes[node as usize] = Node {
+        let kept = Node {
             holder: Some(head),
             before: last,
             after: None,
         };
+        self.nodes.set(node, kept);
     }
 
     /// The first node of the list of a head. `None` exactly where the list is empty.
@@ -169,11 +261,11 @@ impl Lists {
             holder,
             before,
             after,
-        } = self.nodes[node as usize];
+        } = self.nodes.at(node);
         let Some(head) = holder else { unreachable!() };
         set_next(&mut self.heads, &mut self.nodes, head, before, after);
         set_previous(&mut self.heads, &mut self.nodes, head, after, before);
-        self.nodes[node as usize] = Node::FREE;
+        self.nodes.set(node, Node::FREE);
     }
 
     /// The node right behind this one in its list. `None` exactly where this one is the last.
@@ -181,7 +273,7 @@ impl Lists {
         requires { IsSome (holder_of self.now node) }
         ensures { result ≡ next_in_all node self.now.lists }
     {
-        self.nodes[node as usize].after
+        self.nodes.at(node).after
     }
 
     /// The head whose list has the node. `None` exactly where no list has it.
@@ -190,49 +282,55 @@ impl Lists {
         ensures head { result ≡ holder_of self.now node }
         ensures apart { IsApart self.now }
     {
-        self.nodes[node as usize].holder
+        self.nodes.at(node).holder
     }
 }
 
 /// Lets `after` follow `before` in the list of `head`, or begin it where nothing stands before.
 fn set_next(
     heads: &mut Vec<Head>,
-    nodes: &mut Vec<Node>,
+    nodes: &mut Nodes,
     head: u32,
     before: Option<u32>,
     after: Option<u32>,
 )
     requires head { head < vec_len heads.old }
-    requires before { ForSome before (λ b. b < vec_len nodes.old) }
+    requires before { ForSome before (λ b. b < length nodes.old) }
     ensures heads_len { vec_len heads.new ≡ vec_len heads.old }
     ensures heads { heads.new.items ≡ with_first head before after heads.old.items }
-    ensures nodes_len { vec_len nodes.new ≡ vec_len nodes.old }
-    ensures nodes { nodes.new.items ≡ with_after before after nodes.old.items }
+    ensures nodes_len { length nodes.new ≡ length nodes.old }
+    ensures nodes { nodes.new ≡ with_after before after nodes.old }
 {
     match before {
         None => heads[head as usize].first = after,
-        Some(before) => nodes[before as usize].after = after,
+        Some(before) => {
+            let kept = nodes.at(before);
+            nodes.set(before, Node { after, ..kept });
+        }
     }
 }
 
 /// Lets `before` stand before `after` in the list of `head`, or end it where nothing stands behind.
 fn set_previous(
     heads: &mut Vec<Head>,
-    nodes: &mut Vec<Node>,
+    nodes: &mut Nodes,
     head: u32,
     after: Option<u32>,
     before: Option<u32>,
 )
     requires head { head < vec_len heads.old }
-    requires after { ForSome after (λ a. a < vec_len nodes.old) }
+    requires after { ForSome after (λ a. a < length nodes.old) }
     ensures heads_len { vec_len heads.new ≡ vec_len heads.old }
     ensures heads { heads.new.items ≡ with_last_node head after before heads.old.items }
-    ensures nodes_len { vec_len nodes.new ≡ vec_len nodes.old }
-    ensures nodes { nodes.new.items ≡ with_before after before nodes.old.items }
+    ensures nodes_len { length nodes.new ≡ length nodes.old }
+    ensures nodes { nodes.new ≡ with_before after before nodes.old }
 {
     match after {
         None => heads[head as usize].last = before,
-        Some(after) => nodes[after as usize].before = before,
+        Some(after) => {
+            let kept = nodes.at(after);
+            nodes.set(after, Node { before, ..kept });
+        }
     }
 }
 

@@ -1,7 +1,9 @@
-use Rattle.std.proofs.Common.{arith, sym}
-use Rattle.com_calls.specs.Rows.{returning}
+use Rattle.std.proofs.Common.{arith, sym, ap, ◌∙◌, slice_set, ◌-◌}
+use Rattle.com_calls.specs.Rows.{RowView, returning}
 use Rattle.com_calls.proofs.Changed.{changed_at}
 use Rattle.com_calls.proofs.rows.give_back.Goals as goal
 
 pub returns : goal.returns
-returns c = sym (changed_at returning c.args.call c.args.rows.now c.index-rows-call.result (omega arith) (omega arith))
+returns c =
+    ap (λ (r : RowView). slice_set c.args.rows.now (c.args.call - 1) r) c.give_back.ensures
+    ∙ sym (changed_at returning c.args.call c.args.rows.now c.index-rows-call.result (omega arith) (omega arith))

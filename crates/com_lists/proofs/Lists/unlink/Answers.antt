@@ -1,34 +1,34 @@
 use Rattle.std.proofs.Common.{arith}
-use Rattle.com_lists.proofs.ChainLemmas.{reads_node, stands_for_itself, stands_after_unlink, lists_of_stands, same_linked}
+use Rattle.com_lists.proofs.ChainLemmas.{reads_node, stands_for_itself, stands_after_unlink, lists_of_stands, length_after_set, same_linked}
 use Rattle.com_lists.proofs.Lists.unlink.Goals as goal
 
 pub set_next-requires-clause-head : goal.set_next-requires-clause-head
 set_next-requires-clause-head c =
-    let read = reads_node _ _ _ c.self.invariant c.args.node c.in-Some.head c.index.result.now (rw (← c.self.view_is) at c.requires) c.index.ensures c.in-Some.is in
+    let read = reads_node _ _ _ c.self.invariant c.args.node c.in-Some.head c.at-holder.result (rw (← c.self.view_is) at c.requires) c.at-holder.ensures c.in-Some.is in
     omega (arith, read.head_in, c.self.inside.heads.ok.0)
 
 pub set_next-requires-clause-before : goal.set_next-requires-clause-before
 set_next-requires-clause-before c = λ z e.
-    let read = reads_node _ _ _ c.self.invariant c.args.node c.in-Some.head c.index.result.now (rw (← c.self.view_is) at c.requires) c.index.ensures c.in-Some.is in
-    omega (arith, read.before_in z e, c.self.inside.nodes.ok.0)
+    let read = reads_node _ _ _ c.self.invariant c.args.node c.in-Some.head c.at-holder.result (rw (← c.self.view_is) at c.requires) c.at-holder.ensures c.in-Some.is in
+    omega (arith, read.before_in z e)
 
 pub set_previous-requires-clause-head : goal.set_previous-requires-clause-head
 set_previous-requires-clause-head c =
-    let read = reads_node _ _ _ c.self.invariant c.args.node c.in-Some.head c.index.result.now (rw (← c.self.view_is) at c.requires) c.index.ensures c.in-Some.is in
+    let read = reads_node _ _ _ c.self.invariant c.args.node c.in-Some.head c.at-holder.result (rw (← c.self.view_is) at c.requires) c.at-holder.ensures c.in-Some.is in
     omega (arith, read.head_in, c.self.inside.heads.ok.0, c.set_next.ensures.heads_len)
 
 pub set_previous-requires-clause-after : goal.set_previous-requires-clause-after
 set_previous-requires-clause-after c = λ z e.
-    let read = reads_node _ _ _ c.self.invariant c.args.node c.in-Some.head c.index.result.now (rw (← c.self.view_is) at c.requires) c.index.ensures c.in-Some.is in
-    omega (arith, read.after_in z e, c.self.inside.nodes.ok.0, c.set_next.ensures.nodes_len)
+    let read = reads_node _ _ _ c.self.invariant c.args.node c.in-Some.head c.at-holder.result (rw (← c.self.view_is) at c.requires) c.at-holder.ensures c.in-Some.is in
+    omega (arith, read.after_in z e, c.set_next.ensures.nodes_len)
 
 pub invariant_of-self : goal.invariant_of-self
 invariant_of-self c =
-    let read = reads_node _ _ _ c.self.invariant c.args.node c.in-Some.head c.index.result.now (rw (← c.self.view_is) at c.requires) c.index.ensures c.in-Some.is in
-    stands_for_itself _ _ _ (stands_after_unlink _ _ _ _ _ _ _ _ _ _ c.self.invariant read c.set_next.ensures.heads c.set_next.ensures.nodes c.set_previous.ensures.heads c.set_previous.ensures.nodes)
+    let read = reads_node _ _ _ c.self.invariant c.args.node c.in-Some.head c.at-holder.result (rw (← c.self.view_is) at c.requires) c.at-holder.ensures c.in-Some.is in
+    stands_for_itself _ _ _ (stands_after_unlink _ _ _ _ _ _ _ _ _ _ _ c.self.invariant read c.set_next.ensures.heads c.set_next.ensures.nodes c.set_previous.ensures.heads c.set_previous.ensures.nodes c.set.ensures)
 
 pub returns : goal.returns
 returns c =
-    let read = reads_node _ _ _ c.self.invariant c.args.node c.in-Some.head c.index.result.now (rw (← c.self.view_is) at c.requires) c.index.ensures c.in-Some.is in
-    let stands = stands_after_unlink _ _ _ _ _ _ _ _ _ _ c.self.invariant read c.set_next.ensures.heads c.set_next.ensures.nodes c.set_previous.ensures.heads c.set_previous.ensures.nodes in
-    rw (← c.self.view_is) (same_linked _ _ _ _ (lists_of_stands _ _ _ stands) (omega (arith, c.set_next.ensures.nodes_len, c.set_previous.ensures.nodes_len)))
+    let read = reads_node _ _ _ c.self.invariant c.args.node c.in-Some.head c.at-holder.result (rw (← c.self.view_is) at c.requires) c.at-holder.ensures c.in-Some.is in
+    let stands = stands_after_unlink _ _ _ _ _ _ _ _ _ _ _ c.self.invariant read c.set_next.ensures.heads c.set_next.ensures.nodes c.set_previous.ensures.heads c.set_previous.ensures.nodes c.set.ensures in
+    rw (← c.self.view_is) (same_linked _ _ _ _ (lists_of_stands _ _ _ stands) (omega (arith, c.set_next.ensures.nodes_len, c.set_previous.ensures.nodes_len, length_after_set _ _ _ _ c.set.ensures)))

@@ -1,6 +1,5 @@
 use Rattle.std.proofs.Common.{◌∙◌, sym, ap, List, Option}
-use Rattle.com_calls.specs.declared.rows.CallRow.{CallRow}
-use Rattle.com_calls.specs.Rows.{row_at}
+use Rattle.com_calls.specs.Rows.{RowView, row_at}
 use Rattle.com_calls.specs.Kept.{Kept}
 use Rattle.com_model.specs.Lists.{from_one}
 use Rattle.com_model.specs.Answers.{S_OK}
@@ -10,11 +9,11 @@ use Rattle.com_calls.proofs.calls.Calls.refusal.Goals as goal
 pub returns-in-None : goal.returns-in-None
 returns-in-None c =
     let s = c.self.inside in
-    (ap (λ (r : Option CallRow). read_or (λ (r : CallRow). r.refusal) S_OK r) (c.in-None.ensures ∙ ap (λ (xs : List CallRow). row_at xs c.args.call) c.deref.ensures.value)
-    ∙ sym (read (λ (r : CallRow). r.refusal) s.rows.items c.args.call S_OK) ∙ ap (λ (b : Kept). from_one b.tables.refusals c.args.call S_OK) c.self.view_is)
+    (ap (λ (r : Option RowView). read_or (λ (r : RowView). r.refusal) S_OK r) (c.in-None.ensures ∙ ap (λ (xs : List RowView). row_at xs c.args.call) c.deref.ensures.value)
+    ∙ sym (read (λ (r : RowView). r.refusal) s.rows.items c.args.call S_OK) ∙ ap (λ (b : Kept). from_one b.tables.refusals c.args.call S_OK) c.self.view_is)
 
 pub returns-in-Some : goal.returns-in-Some
 returns-in-Some c =
     let s = c.self.inside in
-    (ap (λ (r : Option CallRow). read_or (λ (r : CallRow). r.refusal) S_OK r) (c.in-Some.ensures ∙ ap (λ (xs : List CallRow). row_at xs c.args.call) c.deref.ensures.value)
-    ∙ sym (read (λ (r : CallRow). r.refusal) s.rows.items c.args.call S_OK) ∙ ap (λ (b : Kept). from_one b.tables.refusals c.args.call S_OK) c.self.view_is)
+    c.refusal.ensures ∙ (ap (λ (r : Option RowView). read_or (λ (r : RowView). r.refusal) S_OK r) (c.in-Some.ensures ∙ ap (λ (xs : List RowView). row_at xs c.args.call) c.deref.ensures.value)
+    ∙ sym (read (λ (r : RowView). r.refusal) s.rows.items c.args.call S_OK) ∙ ap (λ (b : Kept). from_one b.tables.refusals c.args.call S_OK) c.self.view_is)

@@ -1,0 +1,41 @@
+-- How a row keeps what is seen of it. No public clause cites this module.
+use Rattle.std.specs.Prelude.{ℕ, suc, ◌≡◌, ◌<◌, List, [], length, slice_index_or}
+use Rattle.std.specs.Prelude.{Option, Some, None}
+use Rattle.com_base.specs.declared.value.Value.{Value}
+use Rattle.com_model.specs.declared.keeps.Admission.{Admission}
+use Rattle.com_model.specs.declared.keeps.Leaving.{Leaving}
+use Rattle.com_model.specs.declared.keeps.Ending.{Ending}
+use Rattle.com_model.specs.declared.keeps.Ending.TheVariants.{ByLeave}
+use Rattle.com_calls.specs.declared.rows.Fate.{Fate}
+use Rattle.com_calls.specs.declared.rows.Fate.TheVariants.{Sent, Answered}
+use Rattle.com_calls.specs.declared.rows.Entered.{Entered}
+use Rattle.com_calls.specs.Rows.{RowView}
+
+-- What the Enter of a call says, by its number.
+abbrev pub admission_of : (call : ℕ) → Option Entered → Option Admission
+admission_of c None = None
+admission_of c (Some x) = Some (record { call = c; lane = x.lane; apartment = x.apartment })
+
+-- What the Leave of a call says, where its Leave fixed its answer.
+abbrev pub leaving_by : (call : ℕ) → Ending → Option Leaving
+leaving_by c (ByLeave hr v) = Some (record { call = c; hr = hr; value = v })
+leaving_by c _ = None
+
+-- What the Leave of a call says, where its Leave fixed its answer.
+abbrev pub leaving_of : (call : ℕ) → Fate → Option Leaving
+leaving_of c (Answered x) = leaving_by c x
+leaving_of c _ = None
+
+-- What fixed the answer of a call.
+abbrev pub ending_of : Fate → Option Ending
+ending_of (Answered x) = Some x
+ending_of _ = None
+
+-- What a call sends, until that is let go.
+abbrev pub unread_of : Fate → List Value
+unread_of (Sent vs) = vs
+unread_of _ = []
+
+-- Each row has the number of its call, from 1.
+abbrev pub IsNumbered : List RowView → Type 0
+IsNumbered rows = (k : ℕ) (d : RowView) → k < length rows → (slice_index_or rows k d).issue.call ≡ suc k
