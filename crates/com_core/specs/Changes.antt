@@ -22,24 +22,30 @@ sent_by (Some x) = Some (record { refusal = x.refusal; values = x.values })
 
 -- The parts after an entry: with who acts, the step of whoever does, who acts afterwards, whether the caller
 -- of the call that a Verdict names has a filter, what the call has that it issues, and the clock before it.
-pub record Becomes (p q : PartTables) (e : Entry) (acting : Actor) (r : Option Outcome) (follows : Actor) (filtered : Bool) (x : Option Sent) (clock : ℕ) : Type 0 where
+pub record Becomes (p q : PartTables) (e : Entry) (acting : Actor) (r : Option Outcome) (follows : Actor)
+    (filtered : Bool) (x : Option Sent) (clock : ℕ) : Type 0 where
   pub lanes : q.lanes ≡ lanes_after p.lanes e
   pub objects : q.objects ≡ objects_after p.objects e
-  pub calls : q.calls.tables ≡ calls_after p.objects (moment_at p.lanes e.lane filtered clock) (issuing_of x) p.calls.tables e
+  pub calls : q.calls.tables
+      ≡ calls_after p.objects (moment_at p.lanes e.lane filtered clock) (issuing_of x) p.calls.tables e
   pub scene : q.scene ≡ rows_after (named_at p.objects) acting r follows e p.scene
   pub entries : q.entries ≡ p.entries + 1
 
 -- The list of the dying was settled: without the one that was released, and with these behind it.
 abbrev pub SettlesAs : (gone : Option ℕ) → (before fresh after : List ℕ) → Type 0
 SettlesAs gone before fresh later =
-    (dying : ℕ → Bool) (n : ℕ) → DieBut dying gone before → Falls dying n before fresh → later ≡ fallen_more dying n before
+    (dying : ℕ → Bool) (n : ℕ) → DieBut dying gone before → Falls dying n before fresh
+    → later ≡ fallen_more dying n before
 
 -- Those of the candidates that are dying by the objects, the holders and the bodies after an entry, and were
 -- not before.
-abbrev pub fresh_by : ObjectTables → (holders : ℕ → ℕ) → (entered fallen touched : List ℕ) → Deed → (acting : Actor) → List ℕ
+abbrev pub fresh_by : ObjectTables → (holders : ℕ → ℕ) → (entered fallen touched : List ℕ) → Deed
+    → (acting : Actor) → List ℕ
 fresh_by o holders entered fallen touched d a =
     filter (begins_by o holders entered fallen) (placed_in (other_object (length o.makings) d a) touched)
 
 -- The list of the dying after an entry, by what the entry has made of the rest.
-abbrev pub Settles : ObjectTables → (holders : ℕ → ℕ) → (entered fallen touched : List ℕ) → Deed → (acting : Actor) → (later : List ℕ) → Type 0
-Settles o holders entered fallen touched d a later = SettlesAs (finals d) fallen (fresh_by o holders entered fallen touched d a) later
+abbrev pub Settles : ObjectTables → (holders : ℕ → ℕ) → (entered fallen touched : List ℕ) → Deed
+    → (acting : Actor) → (later : List ℕ) → Type 0
+Settles o holders entered fallen touched d a later =
+    SettlesAs (finals d) fallen (fresh_by o holders entered fallen touched d a) later

@@ -34,7 +34,8 @@ use Rattle.com_core.specs.Stands.{IsGiven, IsReached, Stands, seen_by}
 
 -- What the parts of a core are between entries: those of a state that a legal history comes to, with the
 -- bodies counted.
-pub record IsCore (s : Scenario) (st : State) (p : PartTables) (b : Books) (entered fallen : List ℕ) (clock : ℕ) : Type 0 where
+pub record IsCore (s : Scenario) (st : State) (p : PartTables) (b : Books) (entered fallen : List ℕ)
+    (clock : ℕ) : Type 0 where
   pub reached : IsReached s st
   pub stands : Stands st p b fallen clock
   pub bodies : CountsBodies s st entered
@@ -42,26 +43,34 @@ pub record IsCore (s : Scenario) (st : State) (p : PartTables) (b : Books) (ente
 -- An entry was applied to a ledger with these moves, beside what there was; the objects that lost their last
 -- holder were written down; and places that are what the ledger counts total the places of each object.
 pub record Booked (g : Around) (d : Deed) (m : Moves) (w u : Held) : Type 0 where
-  pub applies : (gained lost : List Move) → movings_of gained ≡ m.gained → movings_of lost ≡ m.lost → Applies g d gained lost (tally w.tables w.calls) (tally u.tables u.calls)
-  pub loses : (gained lost : List Move) → movings_of gained ≡ m.gained → movings_of lost ≡ m.lost → Loses g d gained lost (tally w.tables w.calls) (tally u.tables u.calls) u.touched
+  pub applies : (gained lost : List Move) → movings_of gained ≡ m.gained → movings_of lost ≡ m.lost
+      → Applies g d gained lost (tally w.tables w.calls) (tally u.tables u.calls)
+  pub loses : (gained lost : List Move) → movings_of gained ≡ m.gained → movings_of lost ≡ m.lost
+      → Loses g d gained lost (tally w.tables w.calls) (tally u.tables u.calls) u.touched
   pub rise : Rise 0 u.touched (length u.tables.objects)
   pub totals : (n : ℕ) (places : ℕ → ℕ → ℕ) → Counts n places u.tables → Totals n places u.tables
 
 -- The same beside what the parts are: with the home of the lane and the apartment in which it runs, what the
 -- entry carries, and the moves by who acts before and after it and by the step of whoever does.
-abbrev pub BookedBy : Scenario → PartTables → (home running : Option ℕ) → (carried : List RefValue) → Entry → (acting : Actor) → Option Outcome → (follows : Actor) → (before after : Held) → Type 0
+abbrev pub BookedBy : Scenario → PartTables → (home running : Option ℕ) → (carried : List RefValue) → Entry
+    → (acting : Actor) → Option Outcome → (follows : Actor) → (before after : Held) → Type 0
 BookedBy s p home running carried e a r b w u =
-    Booked (around p.calls.tables p.objects s.classes carried (number_or_zero running)) e.deed (moves_stepped (ground_at home p.objects p.calls.tables) p.scene a r b e) w u
+    Booked (around p.calls.tables p.objects s.classes carried (number_or_zero running)) e.deed
+    (moves_stepped (ground_at home p.objects p.calls.tables) p.scene a r b e) w u
 
 -- All has changed by an entry, with who makes it, the step of whoever does, what it carries, and what the
 -- call has that it issues.
-pub record Changed (s : Scenario) (p q : PartTables) (w u : Held) (entered more fallen later : List ℕ) (clock : ℕ) (e : Entry) (acting : Actor) (r : Option Outcome) (carried : List RefValue) (x : Option Sent) : Type 0 where
+pub record Changed (s : Scenario) (p q : PartTables) (w u : Held) (entered more fallen later : List ℕ)
+    (clock : ℕ) (e : Entry) (acting : Actor) (r : Option Outcome) (carried : List RefValue)
+    (x : Option Sent) : Type 0 where
   pub follows : Actor
   pub filtered : Bool
   pub home : Option ℕ
   pub running : Option ℕ
-  pub acts_after : length (openers_at p.lanes e.lane) < 2 ^ 32 → e.lane < length p.lanes.openers → follows ≡ actor_later (seen_by s p fallen clock) e.lane e.deed
-  pub filter_is : filtered ≡ filtered_by (λ c. is_some (filter_seen (seen_by s p fallen clock) (lane_of (issue_at p.calls.tables c)))) e.deed
+  pub acts_after : length (openers_at p.lanes e.lane) < 2 ^ 32 → e.lane < length p.lanes.openers
+      → follows ≡ actor_later (seen_by s p fallen clock) e.lane e.deed
+  pub filter_is : filtered ≡ filtered_by (λ c. is_some
+      (filter_seen (seen_by s p fallen clock) (lane_of (issue_at p.calls.tables c)))) e.deed
   pub home_is : home ≡ home_seen (seen_by s p fallen clock) e.lane
   pub running_is : running ≡ running_seen (seen_by s p fallen clock) e.lane
   pub becomes : Becomes p q e acting r follows filtered x clock
@@ -82,7 +91,8 @@ pub record TiesLater (s : Scenario) (st : State) (lane : ℕ) (d : Deed) (u : He
 
 -- The entry is the next one of its lane in a state; what its change rests on is what there is in the state;
 -- all has changed by it; and a ledger that was tied to the state is tied to the state after the entry.
-pub record MakesNext (s : Scenario) (st : State) (p q : PartTables) (w u : Held) (entered more fallen later : List ℕ) (clock lane : ℕ) (d : Deed) : Type 0 where
+pub record MakesNext (s : Scenario) (st : State) (p q : PartTables) (w u : Held)
+    (entered more fallen later : List ℕ) (clock lane : ℕ) (d : Deed) : Type 0 where
   pub acting : Actor
   pub step : Option Outcome
   pub follows : Actor

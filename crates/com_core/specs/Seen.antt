@@ -54,12 +54,14 @@ IsWhole c = IsCore c.scenario (core_state c) c.parts (books_held c.held) c.enter
 -- it: the books, where the ledger was tied to the state.
 abbrev pub Steps : (lane : ℕ) → (old new : CoreView) → Entry → Type 0
 Steps lane old new e =
-    MakesNext old.scenario (core_state old) old.parts new.parts old.held new.held old.entered new.entered old.fallen new.fallen old.clock lane e.deed
+    MakesNext old.scenario (core_state old) old.parts new.parts old.held new.held old.entered new.entered
+    old.fallen new.fallen old.clock lane e.deed
 
 -- What a core keeps has come to this by an entry of a lane: where the core is whole, that is the lane's next
 -- one, and all has changed by it.
 abbrev pub TurnsTo : Scenario → (lane : ℕ) → (old new : Running) → Entry → Type 0
-TurnsTo s lane old new e = IsWhole (core_of s old) → 1 ≤ lane → lane ≤ lanes s → Steps lane (core_of s old) (core_of s new) e
+TurnsTo s lane old new e =
+    IsWhole (core_of s old) → 1 ≤ lane → lane ≤ lanes s → Steps lane (core_of s old) (core_of s new) e
 
 -- A core is whole, and its ledger is tied to its state.
 pub record IsKept (c : CoreView) : Type 0 where

@@ -27,12 +27,22 @@ pub record Stands (st : State) (p : PartTables) (b : Books) (fallen : List ℕ) 
   pub clock_is : clock ≡ st.clock
 
 abbrev pub no_book_tables : BookTables
-no_book_tables = record { stub = []; proxy = []; packets = []; cookies = []; live = []; arguments = []; result = [] }
+no_book_tables = record {
+  stub = [];
+  proxy = [];
+  packets = [];
+  cookies = [];
+  live = [];
+  arguments = [];
+  result = [];
+}
 
 -- The state whose parts these are: the books are written as tables, with a row for each of what there is.
-abbrev pub state_by : Scenario → LaneTables → ObjectTables → CallTables → SceneTables → Books → (fallen : List ℕ) → (clock entries : ℕ) → State
+abbrev pub state_by : Scenario → LaneTables → ObjectTables → CallTables → SceneTables → Books
+    → (fallen : List ℕ) → (clock entries : ℕ) → State
 state_by s l o c w b fallen clock entries =
-    state_of l o c w (book_tables s (state_of l o c w no_book_tables fallen clock entries) b) fallen clock entries
+    state_of l o c w (book_tables s (state_of l o c w no_book_tables fallen clock entries) b)
+    fallen clock entries
 
 abbrev pub state_read : Scenario → PartTables → Books → (fallen : List ℕ) → (clock : ℕ) → State
 state_read s p b fallen clock = state_by s p.lanes p.objects p.calls.tables p.scene b fallen clock p.entries
@@ -63,7 +73,8 @@ IsSent s st e (Some x) = issuing_in s st e ≡ record { refusal = x.refusal; val
 -- What is handed to the parts of an entry is what there is in the state: who acts, the step of whoever does,
 -- who acts afterwards, whether the caller of a call has a filter, and what the call has that the entry
 -- issues.
-pub record IsGiven (s : Scenario) (st : State) (e : Entry) (acting : Actor) (r : Option Outcome) (follows : Actor) (filtered : Bool) (x : Option Sent) : Type 0 where
+pub record IsGiven (s : Scenario) (st : State) (e : Entry) (acting : Actor) (r : Option Outcome)
+    (follows : Actor) (filtered : Bool) (x : Option Sent) : Type 0 where
   pub acts : acting ≡ acting_in s st e
   pub step : r ≡ step_in s st e
   pub next : follows ≡ actor_after s st e

@@ -27,7 +27,7 @@ ghost use Rattle.com_state.specs.After.{filtered_by};
 ghost use Rattle.com_state.specs.Parts.{issue_at, openers_at};
 ghost use Rattle.com_view.specs.Seen.{filter_seen, home_seen, running_seen};
 
-use crate::running::{Running, unproved};
+use crate::running::{Running, forget, unproved};
 use com_base::{Memory, RefValue};
 use com_body::Outcome;
 use com_fates::{Fates, count_bodies, other_by, released_by};
@@ -288,7 +288,8 @@ impl Running {
         ensures clock { OnOk result (self.new.clock ≡ ticked entry.now.deed self.old.clock) }
         ensures changed { OnOk result
             (Changed scenario.now self.old.parts self.new.parts self.old.ledger self.new.ledger
-            self.old.entered self.new.entered self.old.fallen self.new.fallen self.old.clock entry.now (acting_of acting)
+            self.old.entered self.new.entered self.old.fallen self.new.fallen self.old.clock entry.now
+            (acting_of acting)
             outcome.old carried.now (sent_by issued)) }
         ensures whole { OnOk result (self.new.broken ≡ false) }
         ensures breaks { OnErr result (self.new.broken ≡ true) }
@@ -323,7 +324,8 @@ impl Running {
         ensures entries { OnOk result (self.new.parts.entries ≡ self.old.parts.entries + 1) }
         ensures clock { IfOk result (λ entry. self.new.clock ≡ ticked entry.deed self.old.clock) }
         ensures next { IfOk result (λ entry. IsCore scenario.now (state_read scenario.now self.old.parts
-            (books_held self.old.ledger) self.old.fallen self.old.clock) self.old.parts (books_held self.old.ledger)
+            (books_held self.old.ledger) self.old.fallen self.old.clock) self.old.parts
+            (books_held self.old.ledger)
             self.old.entered self.old.fallen self.old.clock → 1 ≤ lane → lane ≤ lanes scenario.now
             → MakesNext scenario.now (state_read scenario.now self.old.parts
             (books_held self.old.ledger) self.old.fallen
@@ -381,13 +383,15 @@ impl Running {
         }
     }
 
-    /// Makes the next entry of a lane that can step. The only error is want of memory.
+    /// Makes the next entry of a lane that can step. The step of the entry before, which lies in `step`,
+    /// makes room for that of this one. The only error is want of memory.
     pub fn step(
         &mut self,
         scenario: &Scenario,
         alloc: Global,
         lane: u32,
         servants: &mut Vec<Box<dyn Servant + Send>>,
+        step: &mut Option<Outcome>,
     ) -> Result<Entry, Memory>
         requires sound { SoundUnless self.old.broken self.old.parts self.old.entered }
         requires few { Few self.old.parts }
@@ -398,7 +402,8 @@ impl Running {
         ensures entries { OnOk result (self.new.parts.entries ≡ self.old.parts.entries + 1) }
         ensures clock { IfOk result (λ entry. self.new.clock ≡ ticked entry.deed self.old.clock) }
         ensures next { IfOk result (λ entry. IsCore scenario.now (state_read scenario.now self.old.parts
-            (books_held self.old.ledger) self.old.fallen self.old.clock) self.old.parts (books_held self.old.ledger)
+            (books_held self.old.ledger) self.old.fallen self.old.clock) self.old.parts
+            (books_held self.old.ledger)
             self.old.entered self.old.fallen self.old.clock → 1 ≤ lane → lane ≤ lanes scenario.now
             → MakesNext scenario.now (state_read scenario.now self.old.parts
             (books_held self.old.ledger) self.old.fallen
@@ -415,12 +420,12 @@ impl Running {
         if self.broken {
             return Err(Memory);
         }
-        let mut step = None;
-        let made = self.turn_of(scenario, alloc, lane, servants, &mut step)?;
+        forget(step);
+        let made = self.turn_of(scenario, alloc, lane, servants, step)?;
         if !self.can_make(&made.doing.deed) {
             return Err(unproved());
         }
-        self.make_turn(scenario, lane, made, &mut step)
+        self.make_turn(scenario, lane, made, step)
     }
 
     /// Makes the clock's entry. The only error is want of memory.
@@ -434,7 +439,8 @@ impl Running {
         ensures entries { OnOk result (self.new.parts.entries ≡ self.old.parts.entries + 1) }
         ensures clock { IfOk result (λ entry. self.new.clock ≡ ticked entry.deed self.old.clock) }
         ensures next { IfOk result (λ entry. IsCore scenario.now (state_read scenario.now self.old.parts
-            (books_held self.old.ledger) self.old.fallen self.old.clock) self.old.parts (books_held self.old.ledger)
+            (books_held self.old.ledger) self.old.fallen self.old.clock) self.old.parts
+            (books_held self.old.ledger)
             self.old.entered self.old.fallen self.old.clock
             → standing_of scenario.now (state_read scenario.now
             self.old.parts (books_held self.old.ledger) self.old.fallen self.old.clock) ≡ standing.Ticks

@@ -1,12 +1,13 @@
 //! All that a core keeps of a history beside its scenario, and how it is read.
 
-ghost use Rattle.std.specs.Prelude.{◌≡◌, ◌∷◌, [], false, IfOk, OnOk};
+ghost use Rattle.std.specs.Prelude.{◌≡◌, ◌∷◌, [], false, IfOk, None, OnOk};
 ghost use Rattle.com_calls.specs.Kept.{IsNamed};
 ghost use Rattle.com_core.specs.Beginning.{BeginsParts};
 ghost use Rattle.com_core.specs.Sound.{Few, Sound};
 ghost use Rattle.com_ledger.specs.Ties.{IsNew};
 
 use com_base::Memory;
+use com_body::Outcome;
 use com_ledger::Ledger;
 use com_model::Scenario;
 use com_moves::Moves;
@@ -43,6 +44,15 @@ fn no_bodies(alloc: Global) -> Result<Entered, Memory>
     let mut entered = Entered::new(alloc);
     entered.make()?;
     Ok(entered)
+}
+
+/// Forgets a step, where there is one. `None` is written only then: it is as wide as a step.
+pub fn forget(step: &mut Option<Outcome>)
+    ensures { step.new ≡ None }
+{
+    if step.is_some() {
+        *step = None;
+    }
 }
 
 impl Running {

@@ -46,6 +46,9 @@ pub struct Core {
     scenario: Arc<Scenario>,
     count: u32,
     running: Running,
+    // The step of the entry that was made last, if it was somebody's. It lies here from step to step, since
+    // it is wide, and nobody reads it between two entries.
+    step: Option<Outcome>,
 }
 
 impl Model for Core {
@@ -103,6 +106,7 @@ impl Core {
             scenario,
             count,
             running,
+            step: None,
         })
     }
 
@@ -223,7 +227,8 @@ impl Core {
         if lane > self.count {
             return Err(unproved());
         }
-        self.running.step(&self.scenario, alloc, lane, servants)
+        self.running
+            .step(&self.scenario, alloc, lane, servants, &mut self.step)
     }
 
     /// Makes the clock's entry, where the clock goes on: to the least time that a call waits for. The only
@@ -347,7 +352,8 @@ impl Core {
         ensures err { OnErr result (self.new.broken ≡ false → self.new ≡ self.old) }
         ensures scenario { self.new.scenario ≡ self.old.scenario }
     {
-        self.running.advance(&self.scenario, alloc, lane)
+        self.running
+            .advance(&self.scenario, alloc, lane, &mut self.step)
     }
 
     /// Makes the next entry of a lane that needs no servant, or of lane 0 the clock's entry, where the clock

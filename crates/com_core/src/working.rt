@@ -19,7 +19,7 @@ ghost use Rattle.com_state.specs.SceneParts.{body_at};
 ghost use Rattle.com_turns.specs.Turns.{IsTurn, body_seen};
 ghost use Rattle.com_view.specs.Nexts.{is_body};
 
-use crate::running::{Running, unproved};
+use crate::running::{Running, forget, unproved};
 use com_base::Memory;
 use com_body::{Cells, Job, Outcome};
 use com_jobs::CommitError;
@@ -83,7 +83,8 @@ impl Running {
     ) -> Result<Turn, Memory>
         requires few { Few self.now.parts }
         requires step { (c o a : ℕ) → first (openers_at self.now.parts.lanes lane) ≡ Some (Enters c o a)
-            → outcome.now ≡ body_seen (seen_by scenario.now self.now.parts self.now.fallen self.now.clock) c o }
+            → outcome.now
+            ≡ body_seen (seen_by scenario.now self.now.parts self.now.fallen self.now.clock) c o }
         ensures named { IsNamed self.now.parts.objects self.now.parts.calls }
         ensures turn { IfOk result (λ made. IsTurn
             (seen_by scenario.now self.now.parts self.now.fallen self.now.clock)
@@ -199,12 +200,14 @@ impl Running {
         }
     }
 
-    /// Makes the next entry of a lane in which no body is innermost. The only error is want of memory.
+    /// Makes the next entry of a lane in which no body is innermost. The step of the entry before, which lies
+    /// in `step`, makes room for that of this one. The only error is want of memory.
     pub fn advance(
         &mut self,
         scenario: &Scenario,
         alloc: Global,
         lane: u32,
+        step: &mut Option<Outcome>,
     ) -> Result<Entry, Memory>
         requires sound { SoundUnless self.old.broken self.old.parts self.old.entered }
         requires few { Few self.old.parts }
@@ -222,11 +225,11 @@ impl Running {
         if self.broken {
             return Err(Memory);
         }
-        let mut step = None;
-        let made = self.own_turn_of(scenario, alloc, lane, &mut step)?;
+        forget(step);
+        let made = self.own_turn_of(scenario, alloc, lane, step)?;
         if !self.can_make(&made.doing.deed) {
             return Err(unproved());
         }
-        self.make_turn(scenario, lane, made, &mut step)
+        self.make_turn(scenario, lane, made, step)
     }
 }

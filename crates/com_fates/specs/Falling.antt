@@ -17,7 +17,8 @@ use Rattle.com_fates.specs.Bodies.{left_object}
 -- run.
 abbrev pub dies_by : ObjectTables → (holders : ℕ → ℕ) → (entered : List ℕ) → ℕ → Bool
 dies_by o holders entered x =
-    is_dying_by (length o.makings) (λ y. is_member y o.finaled) holders (λ y. not (slice_index_or entered y 0 == 0)) x
+    is_dying_by (length o.makings) (λ y. is_member y o.finaled) holders
+    (λ y. not (slice_index_or entered y 0 == 0)) x
 
 -- And was not dying before.
 abbrev pub begins_by : ObjectTables → (holders : ℕ → ℕ) → (entered fallen : List ℕ) → ℕ → Bool

@@ -173,7 +173,8 @@ impl<'a> Fates<'a> {
     ) -> Result<Option<u32>, Memory>
         ensures { IfOk result (λ left. (rest : List ℕ)
             → fresh.new.items ++ filter (begins_by self.now.objects.now
-            (holders_of self.now.ledger.now.tables) self.now.entered.now self.now.fallen.now) (placed_in left rest)
+            (holders_of self.now.ledger.now.tables) self.now.entered.now self.now.fallen.now)
+            (placed_in left rest)
             ≡ fresh.old.items ++ filter (begins_by self.now.objects.now
             (holders_of self.now.ledger.now.tables)
             self.now.entered.now self.now.fallen.now) (placed_in other (object ∷ rest))) }

@@ -39,7 +39,8 @@ Rowed t u r = books_of u ≡ changed (books_of t) (change (owns_of t.objects) (b
 pub record Brought (t u : Tables) (moves : List Move) : Type 0 where
   pub made : length u.objects ≡ length t.objects
   pub owns : (x c : ℕ) → owns_of u.objects x c ≡ owns_of t.objects x c
-  pub counts : (n : ℕ) (places : ℕ → ℕ → ℕ) → AllBelow n moves → Counts n places t → Counts n (plus places moves) u
+  pub counts : (n : ℕ) (places : ℕ → ℕ → ℕ) → AllBelow n moves → Counts n places t
+      → Counts n (plus places moves) u
 
 -- Rows were entered that take no holder. The places that they bring are of one apartment, and are written
 -- down behind others.
@@ -52,7 +53,8 @@ pub record Gained (apartment : ℕ) (rows : List Row) (t u : Tables) (before aft
 
 -- A row that takes a holder was entered, to the end of its entry.
 pub record Taken (row : Row) (t u : Tables) : Type 0 where
-  pub books : (n : ℕ) (places : ℕ → ℕ → ℕ) → Tells n places u → Totals n places u → books_of u ≡ ends n places (changed (books_of t) (change (owns_of t.objects) (books_of t) row))
+  pub books : (n : ℕ) (places : ℕ → ℕ → ℕ) → Tells n places u → Totals n places u
+      → books_of u ≡ ends n places (changed (books_of t) (change (owns_of t.objects) (books_of t) row))
   pub places : SamePlaces t u
 
 -- These objects are not connected any more.
@@ -64,8 +66,11 @@ pub record Cut (gone : ℕ → Bool) (t u : Tables) : Type 0 where
 pub record Exchanged (brought gained : List Move) (t u : Tables) : Type 0 where
   pub objects : AsOwned t u
   pub none : brought ≡ [] → books_of u ≡ books_of t
-  pub counts : (n : ℕ) (places : ℕ → ℕ → ℕ) → AllBelow n brought → AllBelow n gained → Counts n (plus places brought) t → Counts n (plus places gained) u
-  pub books : (n : ℕ) (places later : ℕ → ℕ → ℕ) → AllBelow n brought → AllBelow n gained → Counts n (plus places brought) t → ((c x : ℕ) → later c x ≤ plus places gained c x) → ends n later (books_of u) ≡ ends n later (books_of t)
+  pub counts : (n : ℕ) (places : ℕ → ℕ → ℕ) → AllBelow n brought → AllBelow n gained
+      → Counts n (plus places brought) t → Counts n (plus places gained) u
+  pub books : (n : ℕ) (places later : ℕ → ℕ → ℕ) → AllBelow n brought → AllBelow n gained
+      → Counts n (plus places brought) t → ((c x : ℕ) → later c x ≤ plus places gained c x)
+      → ends n later (books_of u) ≡ ends n later (books_of t)
 
 -- Rows were entered that bring and take no place.
 pub record Marshalled (rows : List Row) (t u : Tables) : Type 0 where
@@ -87,9 +92,12 @@ AreMade made places = (c x : ℕ) → made < x → places c x ≡ 0
 pub record Made (apartment : ℕ) (held : RefValue) (t u : Tables) : Type 0 where
   pub next : held.object ≡ length t.objects + 1
   pub owns : (x c : ℕ) → x ≤ length t.objects → owns_of u.objects x c ≡ owns_of t.objects x c
-  pub counts : (n : ℕ) (places : ℕ → ℕ → ℕ) → apartment < n → AreMade (length t.objects) places → Counts n places t → Counts n (plus places (moved_to apartment held ∷ [])) u
-  pub books : books_of u ≡ made_live held.object (changed (books_of t) (change (owns_of u.objects) (books_of t) (Makes apartment held.object held.iface)))
+  pub counts : (n : ℕ) (places : ℕ → ℕ → ℕ) → apartment < n → AreMade (length t.objects) places
+      → Counts n places t → Counts n (plus places (moved_to apartment held ∷ [])) u
+  pub books : books_of u ≡ made_live held.object (changed (books_of t)
+      (change (owns_of u.objects) (books_of t) (Makes apartment held.object held.iface)))
 
 -- No object has fewer holders, where places are counted and none holds an object that was not made.
 abbrev pub KeepsHeld : ℕ → (t u : Tables) → Type 0
-KeepsHeld a t u = (n : ℕ) (places : ℕ → ℕ → ℕ) → a < n → AreMade (length t.objects) places → Counts n places t → HoldsMore t u
+KeepsHeld a t u = (n : ℕ) (places : ℕ → ℕ → ℕ) → a < n → AreMade (length t.objects) places → Counts n places t
+    → HoldsMore t u

@@ -42,7 +42,13 @@ pub record Around : Type 0 where
   pub apartment : ℕ
 
 abbrev pub around : CallTables → ObjectTables → ClassTables → List RefValue → ℕ → Around
-around calls objects classes carried apartment = record { calls = calls; objects = objects; classes = classes; carried = carried; apartment = apartment }
+around calls objects classes carried apartment = record {
+  calls = calls;
+  objects = objects;
+  classes = classes;
+  carried = carried;
+  apartment = apartment;
+}
 
 -- Who holds references, and the packets of each call.
 pub record Tally : Type 0 where
@@ -76,7 +82,9 @@ pub record StandsAround (s : Scenario) (st : State) (l : ℕ) (d : Deed) (g : Ar
 
 -- The books with the rows of the entry, with what it keeps of packets, and which objects it connects.
 abbrev pub entered : Scenario → Option Action → Around → (owned : ℕ → ℕ → Bool) → Deed → Books → Books
-entered s x g owned d b = connected d (named_at g.objects) (kept b d (entered_rows owned b (rows s x (left_by g.calls) b g.apartment d)))
+entered s x g owned d b =
+    connected d (named_at g.objects)
+    (kept b d (entered_rows owned b (rows s x (left_by g.calls) b g.apartment d)))
 
 -- The row of the deed ends a holder that is no place, and brings nothing.
 abbrev pub ends_holder : (left : ℕ → Bool) → Deed → Bool
@@ -105,53 +113,68 @@ brings_to a _ = a
 -- The row of a deed leaves no object fewer holders, where places are counted and none holds an object that
 -- was not made.
 abbrev pub KeepsHeldBy : (apartment : ℕ) → Deed → (t u : Tables) → Type 0
-KeepsHeldBy a d t u = (n : ℕ) (places : ℕ → ℕ → ℕ) → brings_to a d < n → AreMade (length t.objects) places → Counts n places t → HoldsMore t u
+KeepsHeldBy a d t u = (n : ℕ) (places : ℕ → ℕ → ℕ) → brings_to a d < n → AreMade (length t.objects) places
+    → Counts n places t → HoldsMore t u
 
 -- The row of a deed was entered, but for one that ends a holder: the books are with it, and it brought these
 -- places.
-pub record Given (g : Around) (e : (ℕ → ℕ → Bool) → Books) (d : Deed) (w : Tally) (before : List Move) (v : Tally) (after : List Move) : Type 0 where
+pub record Given (g : Around) (e : (ℕ → ℕ → Bool) → Books) (d : Deed) (w : Tally) (before : List Move)
+    (v : Tally) (after : List Move) : Type 0 where
   pub moves : List Move
   pub written : after ≡ before ++ moves
   pub none : ends_holder (left_by g.calls) d ≡ true → moves ≡ []
   pub below : (n : ℕ) → brings_to g.apartment d < n → AllBelow n moves
-  pub owns : (x c : ℕ) → (makes d ≡ None) ⊎ (x ≤ length w.tables.objects) → owns_of v.tables.objects x c ≡ owns_of w.tables.objects x c
+  pub owns : (x c : ℕ) → (makes d ≡ None) ⊎ (x ≤ length w.tables.objects)
+      → owns_of v.tables.objects x c ≡ owns_of w.tables.objects x c
   pub objects : Grown g.classes (makes d) w.tables v.tables
-  pub counts : (n : ℕ) (places : ℕ → ℕ → ℕ) → AllBelow n moves → AreMade (length w.tables.objects) places → Counts n places w.tables → Counts n (plus places moves) v.tables
+  pub counts : (n : ℕ) (places : ℕ → ℕ → ℕ) → AllBelow n moves → AreMade (length w.tables.objects) places
+      → Counts n places w.tables → Counts n (plus places moves) v.tables
   pub calls : (l : ℕ) → length v.calls ≡ count_if (is_some (issues l d)) + length w.calls
   pub books : books_tallied v ≡ e (owns_of v.tables.objects)
 
 abbrev pub Gives : Around → Deed → Tally → List Move → Tally → List Move → Type 0
 Gives g d w before v after = (s : Scenario) (x : Option Action) → Carries s x (books_tallied w) d g.carried
-    → Given g (λ owned. if ends_holder (left_by g.calls) d then books_tallied w else entered s x g owned d (books_tallied w)) d w before v after
+    → Given g (λ owned. if ends_holder (left_by g.calls) d then books_tallied w
+    else entered s x g owned d (books_tallied w)) d w before v after
 
 -- The rows of a deed that keeps nothing of packets were entered.
 abbrev pub RowsOf : (apartment : ℕ) → Deed → (before after : Tables) → (written more : List Move) → Type 0
-RowsOf a d t u xs ys = (s : Scenario) (x : Option Action) (left : ℕ → Bool) (b : Books) → Gained a (rows s x left b a d) t u xs ys
+RowsOf a d t u xs ys = (s : Scenario) (x : Option Action) (left : ℕ → Bool) (b : Books)
+    → Gained a (rows s x left b a d) t u xs ys
 
 -- The row of a deed that ends a holder was entered, to the end of the entry, and that of another changed
 -- nothing.
 pub record Closed (e : Books) (w v : Tally) : Type 0 where
   pub places : SamePlaces w.tables v.tables
-  pub books : (n : ℕ) (places later : ℕ → ℕ → ℕ) → Counts n places v.tables → ((c x : ℕ) → later c x ≤ places c x) → ends n later (books_tallied v) ≡ ends n later e
+  pub books : (n : ℕ) (places later : ℕ → ℕ → ℕ) → Counts n places v.tables
+      → ((c x : ℕ) → later c x ≤ places c x) → ends n later (books_tallied v) ≡ ends n later e
 
 abbrev pub Closes : Around → Deed → Tally → Tally → Type 0
 Closes g d w v = (s : Scenario) (x : Option Action) (owned : ℕ → ℕ → Bool)
-    → Closed (if ends_holder (left_by g.calls) d then entered s x g owned d (books_tallied w) else books_tallied w) w v
+    → Closed (if ends_holder (left_by g.calls) d then entered s x g owned d (books_tallied w)
+    else books_tallied w) w v
 
 -- The row of a deed that ends a holder, whatever calls carry and whatever owns.
 abbrev pub ClosesTables : ObjectTables → Deed → (before after : Tables) → Type 0
-ClosesTables objects d t u = (s : Scenario) (x : Option Action) (g : Around) (owned : ℕ → ℕ → Bool) (calls : List CallPackets)
-    → g.objects ≡ objects → Closed (entered s x g owned d (books_with t calls)) (tally t calls) (tally u calls)
+ClosesTables objects d t u =
+    (s : Scenario) (x : Option Action) (g : Around) (owned : ℕ → ℕ → Bool) (calls : List CallPackets)
+    → g.objects ≡ objects
+    → Closed (entered s x g owned d (books_with t calls)) (tally t calls) (tally u calls)
 
 -- The result of a call that comes back is given up: its packet has this number, or there is none.
 abbrev pub GivesUp : (number : ℕ) → (before after : Tables) → Type 0
-GivesUp number t u = (s : Scenario) (x : Option Action) (g : Around) (owned : ℕ → ℕ → Bool) (calls : List CallPackets) (c : ℕ) (hr : HResult) (v : Option Value)
-    → left_by g.calls c ≡ false → (call_at calls c).result ≡ number → Closed (entered s x g owned (deed.Back c hr v) (books_with t calls)) (tally t calls) (tally u calls)
+GivesUp number t u =
+    (s : Scenario) (x : Option Action) (g : Around) (owned : ℕ → ℕ → Bool) (calls : List CallPackets)
+    (c : ℕ) (hr : HResult) (v : Option Value)
+    → left_by g.calls c ≡ false → (call_at calls c).result ≡ number
+    → Closed (entered s x g owned (deed.Back c hr v) (books_with t calls)) (tally t calls) (tally u calls)
 
 -- The row of a new object, or none.
-abbrev pub MakesOrNone : ClassTables → (apartment : ℕ) → (object owner : Option ℕ) → (class iface : Asked) → (before after : Tables) → (written more : List Move) → Type 0
+abbrev pub MakesOrNone : ClassTables → (apartment : ℕ) → (object owner : Option ℕ) → (class iface : Asked)
+    → (before after : Tables) → (written more : List Move) → Type 0
 MakesOrNone classes a (Some o) (Some w) (asked.Number k) (asked.Number i) t u xs ys =
-    Made a (record { object = o; iface = i }) t u × (ys ≡ xs ++ moved_to a (record { object = o; iface = i }) ∷ [])
+    Made a (record { object = o; iface = i }) t u
+    × (ys ≡ xs ++ moved_to a (record { object = o; iface = i }) ∷ [])
     × Grown classes (Some (record { object = o; apartment = w; class = k })) t u
 MakesOrNone classes a None w k i t u xs ys = (u ≡ t) × (ys ≡ xs)
 MakesOrNone classes a (Some o) w k i t u xs ys = ⊥
@@ -159,23 +182,33 @@ MakesOrNone classes a (Some o) w k i t u xs ys = ⊥
 -- An entry was applied: where the places are counted, and those that are lost and gained are counted off and
 -- on, the places after it are counted, and the books are those with the entry's rows, at the entry's end.
 -- What owns objects is exact for those after it: one that it makes is owned as its making says.
-pub record Applied (e : (ℕ → ℕ → Bool) → Books) (g : Around) (d : Deed) (gained lost : List Move) (w v : Tally) : Type 0 where
+pub record Applied (e : (ℕ → ℕ → Bool) → Books) (g : Around) (d : Deed) (gained lost : List Move)
+    (w v : Tally) : Type 0 where
   pub calls : (l : ℕ) → length v.calls ≡ count_if (is_some (issues l d)) + length w.calls
   pub owned : ℕ → ℕ → Bool
-  pub owns : (x c : ℕ) → (makes d ≡ None) ⊎ (x ≤ length w.tables.objects) → owned x c ≡ owns_of w.tables.objects x c
+  pub owns : (x c : ℕ) → (makes d ≡ None) ⊎ (x ≤ length w.tables.objects)
+      → owned x c ≡ owns_of w.tables.objects x c
   pub exact : (x c : ℕ) → owned x c ≡ owns_of v.tables.objects x c
   pub objects : Grown g.classes (makes d) w.tables v.tables
-  pub counts : (n : ℕ) (places later : ℕ → ℕ → ℕ) → brings_to g.apartment d < n → AllBelow n gained → AllBelow n lost → AreMade (length w.tables.objects) places
-      → Counts n places w.tables → ((c x : ℕ) → plus later lost c x ≡ plus places gained c x) → Counts n later v.tables
-  pub books : (n : ℕ) (places later : ℕ → ℕ → ℕ) → brings_to g.apartment d < n → AllBelow n gained → AllBelow n lost → AreMade (length w.tables.objects) places
-      → Counts n places w.tables → ((c x : ℕ) → plus later lost c x ≡ plus places gained c x) → books_tallied v ≡ ends n later (e owned)
+  pub counts : (n : ℕ) (places later : ℕ → ℕ → ℕ) → brings_to g.apartment d < n → AllBelow n gained
+      → AllBelow n lost → AreMade (length w.tables.objects) places
+      → Counts n places w.tables → ((c x : ℕ) → plus later lost c x ≡ plus places gained c x)
+      → Counts n later v.tables
+  pub books : (n : ℕ) (places later : ℕ → ℕ → ℕ) → brings_to g.apartment d < n → AllBelow n gained
+      → AllBelow n lost → AreMade (length w.tables.objects) places
+      → Counts n places w.tables → ((c x : ℕ) → plus later lost c x ≡ plus places gained c x)
+      → books_tallied v ≡ ends n later (e owned)
 
 abbrev pub Applies : Around → Deed → (gained lost : List Move) → Tally → Tally → Type 0
-Applies g d gained lost w v = (s : Scenario) (x : Option Action) → Carries s x (books_tallied w) d g.carried → Applied (λ owned. entered s x g owned d (books_tallied w)) g d gained lost w v
+Applies g d gained lost w v = (s : Scenario) (x : Option Action) → Carries s x (books_tallied w) d g.carried
+    → Applied (λ owned. entered s x g owned d (books_tallied w)) g d gained lost w v
 
 -- An entry was applied: where the places are counted, and those that are lost and gained are counted off and
 -- on, each object that had a holder before it and has none after it is among those that were written down.
 abbrev pub Loses : Around → Deed → (gained lost : List Move) → (w v : Tally) → (touched : List ℕ) → Type 0
-Loses g d gained lost w v touched = (s : Scenario) (x : Option Action) → Carries s x (books_tallied w) d g.carried
-    → (n : ℕ) (places later : ℕ → ℕ → ℕ) → brings_to g.apartment d < n → AllBelow n gained → AllBelow n lost → AreMade (length w.tables.objects) places
-    → Counts n places w.tables → ((c x : ℕ) → plus later lost c x ≡ plus places gained c x) → Touches w.tables v.tables [] touched
+Loses g d gained lost w v touched =
+    (s : Scenario) (x : Option Action) → Carries s x (books_tallied w) d g.carried
+    → (n : ℕ) (places later : ℕ → ℕ → ℕ) → brings_to g.apartment d < n → AllBelow n gained → AllBelow n lost
+    → AreMade (length w.tables.objects) places
+    → Counts n places w.tables → ((c x : ℕ) → plus later lost c x ≡ plus places gained c x)
+    → Touches w.tables v.tables [] touched

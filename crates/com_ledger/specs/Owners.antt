@@ -11,7 +11,8 @@ use Rattle.com_model.specs.Tables.{has_agile_model}
 -- before.
 abbrev pub owns_by : ClassTables → Option Making → (object apartment : ℕ) → Bool → Bool
 owns_by t None o a x = x
-owns_by t (Some m) o a x = if m.object == o then has_agile_model (class_at t m.class) || a == m.apartment else x
+owns_by t (Some m) o a x =
+    if m.object == o then has_agile_model (class_at t m.class) || a == m.apartment else x
 
 -- There is one object more where one is made. That is owned as its making says, and every other as before.
 pub record Grown (classes : ClassTables) (making : Option Making) (t u : Tables) : Type 0 where
@@ -20,4 +21,5 @@ pub record Grown (classes : ClassTables) (making : Option Making) (t u : Tables)
 
 -- There are as many objects, and each is owned as before.
 abbrev pub AsOwned : Tables → Tables → Type 0
-AsOwned t u = (length u.objects ≡ length t.objects) × ((x c : ℕ) → owns_of u.objects x c ≡ owns_of t.objects x c)
+AsOwned t u =
+    (length u.objects ≡ length t.objects) × ((x c : ℕ) → owns_of u.objects x c ≡ owns_of t.objects x c)

@@ -46,7 +46,8 @@ owns_after s m o a x = owns_by s.classes m o a x
 -- A made object is one more.
 pub record ObjectsGrow (s : Scenario) (d : Deed) (w u : Held) : Type 0 where
   pub number : length u.tables.objects ≡ one_more (makes d) (length w.tables.objects)
-  pub owns : (o a : ℕ) → owns_of u.tables.objects o a ≡ owns_after s (makes d) o a (owns_of w.tables.objects o a)
+  pub owns : (o a : ℕ) → owns_of u.tables.objects o a
+      ≡ owns_after s (makes d) o a (owns_of w.tables.objects o a)
 
 pub record Ties (s : Scenario) (st : State) (w : Held) : Type 0 where
   pub books : books_held w ≡ books_in st
@@ -75,7 +76,8 @@ pub record EndedAt (n : ℕ) (later : ℕ → ℕ → ℕ) (entered : Books) (u 
 -- places after the entry, with the books with the entry's rows; and it has one more object and one more
 -- call, where the entry makes or issues one.
 pub record EntryEnds (s : Scenario) (st : State) (l : ℕ) (d : Deed) (w u : Held) : Type 0 where
-  pub ended : EndedAt (next_sta_in (after s st l d)) (places_at s (after s st l d)) (books_entered s st (after s st l d) (record { lane = l; deed = d })) u
+  pub ended : EndedAt (next_sta_in (after s st l d)) (places_at s (after s st l d))
+      (books_entered s st (after s st l d) (record { lane = l; deed = d })) u
   pub objects : ObjectsGrow s d w u
   pub calls : length u.calls ≡ count_if (issued_by (record { lane = l; deed = d })) + length w.calls
 
@@ -83,31 +85,43 @@ pub record EntryEnds (s : Scenario) (st : State) (l : ℕ) (d : Deed) (w u : Hel
 -- connects and what not.
 abbrev pub books_by_rows : Scenario → State → (lane : ℕ) → Deed → (owned : ℕ → ℕ → Bool) → Books → Books
 books_by_rows s st l d owned b =
-    connected d (named_in st) (kept b d (entered_rows owned b (rows s ((sight_of s st).act l) (λ c. is_leave (ending_in st c)) b (number_or_zero (running_in s st l)) d)))
+    connected d (named_in st)
+    (kept b d (entered_rows owned b (rows s ((sight_of s st).act l) (λ c. is_leave (ending_in st c)) b
+    (number_or_zero (running_in s st l)) d)))
 
 -- An entry was applied to a ledger: whatever it takes as who owns objects, it is right of those that were
 -- made before, and of the one that the entry makes; and where the places before the entry are what was
 -- counted, the places after it are what is counted, and the books are those with the entry's rows, at their
 -- end for these places.
-pub record AppliedAs (s : Scenario) (st : State) (l : ℕ) (d : Deed) (gained lost : List Move) (w u : Held) : Type 0 where
+pub record AppliedAs (s : Scenario) (st : State) (l : ℕ) (d : Deed) (gained lost : List Move)
+    (w u : Held) : Type 0 where
   pub owned : ℕ → ℕ → Bool
-  pub others : (o c : ℕ) → (makes d ≡ None) ⊎ (o ≤ length w.tables.objects) → owned o c ≡ owns_of w.tables.objects o c
-  pub made : (m : Making) → makes d ≡ Some m → owned m.object (number_or_zero (running_in s st l)) ≡ owns_in s (after s st l d) m.object (number_or_zero (running_in s st l))
-  pub counts : AllBelow (next_sta_in (after s st l d)) gained → AllBelow (next_sta_in (after s st l d)) lost → ((c o : ℕ) → length w.tables.objects < o → places_at s st c o ≡ 0)
-      → Counts (next_sta_in (after s st l d)) (places_at s st) w.tables → ((c o : ℕ) → plus (places_at s (after s st l d)) lost c o ≡ plus (places_at s st) gained c o)
+  pub others : (o c : ℕ) → (makes d ≡ None) ⊎ (o ≤ length w.tables.objects)
+      → owned o c ≡ owns_of w.tables.objects o c
+  pub made : (m : Making) → makes d ≡ Some m → owned m.object (number_or_zero (running_in s st l))
+      ≡ owns_in s (after s st l d) m.object (number_or_zero (running_in s st l))
+  pub counts : AllBelow (next_sta_in (after s st l d)) gained → AllBelow (next_sta_in (after s st l d)) lost
+      → ((c o : ℕ) → length w.tables.objects < o → places_at s st c o ≡ 0)
+      → Counts (next_sta_in (after s st l d)) (places_at s st) w.tables
+      → ((c o : ℕ) → plus (places_at s (after s st l d)) lost c o ≡ plus (places_at s st) gained c o)
       → Counts (next_sta_in (after s st l d)) (places_at s (after s st l d)) u.tables
-  pub books : AllBelow (next_sta_in (after s st l d)) gained → AllBelow (next_sta_in (after s st l d)) lost → ((c o : ℕ) → length w.tables.objects < o → places_at s st c o ≡ 0)
-      → Counts (next_sta_in (after s st l d)) (places_at s st) w.tables → ((c o : ℕ) → plus (places_at s (after s st l d)) lost c o ≡ plus (places_at s st) gained c o)
-      → books_held u ≡ ends (next_sta_in (after s st l d)) (places_at s (after s st l d)) (books_by_rows s st l d owned (books_held w))
+  pub books : AllBelow (next_sta_in (after s st l d)) gained → AllBelow (next_sta_in (after s st l d)) lost
+      → ((c o : ℕ) → length w.tables.objects < o → places_at s st c o ≡ 0)
+      → Counts (next_sta_in (after s st l d)) (places_at s st) w.tables
+      → ((c o : ℕ) → plus (places_at s (after s st l d)) lost c o ≡ plus (places_at s st) gained c o)
+      → books_held u ≡ ends (next_sta_in (after s st l d)) (places_at s (after s st l d))
+      (books_by_rows s st l d owned (books_held w))
   pub totals : (n : ℕ) (places : ℕ → ℕ → ℕ) → Counts n places u.tables → Totals n places u.tables
 
 -- Each object that had a holder in the one state and has none in the other is in the list.
 abbrev pub AllTouched : Scenario → (before after : State) → List ℕ → Type 0
-AllTouched s st su touched = (o : ℕ) → (holders_at s st o == 0) ≡ false → (holders_at s su o == 0) ≡ true → is_member o touched ≡ true
+AllTouched s st su touched =
+    (o : ℕ) → (holders_at s st o == 0) ≡ false → (holders_at s su o == 0) ≡ true → is_member o touched ≡ true
 
 -- The owner of each object is the apartment that its making names.
 abbrev pub OwnersTie : State → Held → Type 0
 OwnersTie st w = (o : ℕ) → (object_in w.tables.objects o).owner ≡ named_in st o
 
 abbrev pub OwnersGrow : Deed → (w u : Held) → Type 0
-OwnersGrow d w u = (o : ℕ) → (object_in u.tables.objects o).owner ≡ owner_after (makes d) o (object_in w.tables.objects o).owner
+OwnersGrow d w u = (o : ℕ) → (object_in u.tables.objects o).owner
+    ≡ owner_after (makes d) o (object_in w.tables.objects o).owner

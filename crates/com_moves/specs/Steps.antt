@@ -96,7 +96,8 @@ abbrev pub links_with : Option Written → List (Option RefValue) → List (Opti
 links_with None xs = xs
 links_with (Some x) xs = links_placed x.place x.held xs
 
-abbrev pub slots_stepped : SceneTables → Actor → Option Outcome → Deed → (who : Actor) → List (Option RefValue)
+abbrev pub slots_stepped : SceneTables → Actor → Option Outcome → Deed → (who : Actor)
+    → List (Option RefValue)
 slots_stepped t a None d b = (frame_of t b).slots
 slots_stepped t a (Some r) d b =
     if has_frame_of a b then slots_with (place_write r.action d) r.frame.slots else (frame_of t b).slots
@@ -131,7 +132,8 @@ FewValues _ = Unit {0}
 -- ---- what arrives, by the slots and links after the step
 
 -- A result that comes back to a slot.
-abbrev pub given_moves : (apartment : Option ℕ) → (slots : List (Option RefValue)) → Destination → Option Value → Movings
+abbrev pub given_moves : (apartment : Option ℕ) → (slots : List (Option RefValue)) → Destination
+    → Option Value → Movings
 given_moves a xs (destination.Slot k) v = exchanged a xs k (value_reference v)
 given_moves a xs _ v = no_moves
 
@@ -141,12 +143,16 @@ result_at c k v =
     if is_direct (route_of (issue_at c k)) && not (from_one c.returned k false)
     then moved (entered_where (admission_at c k)) (value_reference v) else []
 
-abbrev pub arrived_stepped : Ground → SceneTables → (acting : Actor) → Option Outcome → (after : Actor) → (lane : ℕ) → Deed → Movings
+abbrev pub arrived_stepped : Ground → SceneTables → (acting : Actor) → Option Outcome → (after : Actor)
+    → (lane : ℕ) → Deed → Movings
 arrived_stepped g t a r b l (deed.Leave c hr v bytes) = record {
   lost = all_moved (entered_where (g.admitted c)) (slots_stepped t a r (deed.Leave c hr v bytes) (Body c 0));
   gained = result_moved g c v;
 }
-arrived_stepped g t a r b l (deed.Enter c o x k vs) = record { lost = []; gained = all_moved (Some x) (references vs) }
+arrived_stepped g t a r b l (deed.Enter c o x k vs) = record {
+  lost = [];
+  gained = all_moved (Some x) (references vs);
+}
 arrived_stepped g t a r b l (deed.Back c hr v) =
     together (record { lost = result_moved g c (left_value (g.left c)); gained = [] })
     (given_moves (slots_where g b) (slots_stepped t a r (deed.Back c hr v) b) (destination_at t c) v)
@@ -160,20 +166,27 @@ arrived_stepped g t a r b l (deed.Final o) = record {
 }
 arrived_stepped g t a r b l _ = no_moves
 
-abbrev pub links_of_step : (named : ℕ → ℕ) → SceneTables → (acting : Actor) → Option Outcome → Deed → (apartment : ℕ) → (objects : List ℕ) → List Moving
+abbrev pub links_of_step : (named : ℕ → ℕ) → SceneTables → (acting : Actor) → Option Outcome → Deed
+    → (apartment : ℕ) → (objects : List ℕ) → List Moving
 links_of_step n t a r d x [] = []
-links_of_step n t a r d x (o ∷ os) = (if n o == x then all_moved (Some x) (links_stepped t a r d o) else []) ++ links_of_step n t a r d x os
+links_of_step n t a r d x (o ∷ os) =
+    (if n o == x then all_moved (Some x) (links_stepped t a r d o) else []) ++ links_of_step n t a r d x os
 
-abbrev pub ended_stepped : Ground → SceneTables → (acting : Actor) → Option Outcome → Deed → Option ℕ → Movings
+abbrev pub ended_stepped : Ground → SceneTables → (acting : Actor) → Option Outcome → Deed → Option ℕ
+    → Movings
 ended_stepped g t a r d None = no_moves
-ended_stepped g t a r d (Some x) = record { lost = links_of_step g.named t a r d x (one_to g.objects); gained = [] }
+ended_stepped g t a r d (Some x) = record {
+  lost = links_of_step g.named t a r d x (one_to g.objects);
+  gained = [];
+}
 
 abbrev pub acted_stepped : Ground → (acting : Actor) → Option Outcome → Deed → Movings
 acted_stepped g a None d = no_moves
 acted_stepped g a (Some r) d = step_moves g a r (place_write r.action d)
 
 -- All moves of an entry.
-abbrev pub moves_stepped : Ground → SceneTables → (acting : Actor) → Option Outcome → (after : Actor) → Entry → Movings
+abbrev pub moves_stepped : Ground → SceneTables → (acting : Actor) → Option Outcome → (after : Actor) → Entry
+    → Movings
 moves_stepped g t a r b e =
     together (acted_stepped g a r e.deed)
     (together (arrived_stepped g t a r b e.lane e.deed) (ended_stepped g t a r e.deed (ends_sta e.deed)))

@@ -20,12 +20,15 @@ moves_by g w a r b e =
     (ended_moves g (arrived b e.lane e.deed (acted a r e.deed w)) (ends_sta e.deed)))
 
 abbrev pub moves_in : Scenario → State → Entry → Moves
-moves_in s st e = moves_by (ground_in s st) (scene_in st) (acting_in s st e) (step_in s st e) (actor_after s st e) e
+moves_in s st e =
+    moves_by (ground_in s st) (scene_in st) (acting_in s st e) (step_in s st e) (actor_after s st e) e
 
 -- What an apartment holds after an entry, with what it lost, is what it held before, with what it gained.
 abbrev pub PlacesMoveIn : Scenario → State → Entry → Type 0
 PlacesMoveIn s st e =
-    (a : ℕ) (t : Test) → places_that s (ground_in s (after s st e.lane e.deed)) (scene_in (after s st e.lane e.deed)) a t + counted (moves_in s st e).lost a t
+    (a : ℕ) (t : Test)
+    → places_that s (ground_in s (after s st e.lane e.deed)) (scene_in (after s st e.lane e.deed)) a t
+    + counted (moves_in s st e).lost a t
     ≡ places_that s (ground_in s st) (scene_in st) a t + counted (moves_in s st e).gained a t
 
 -- What the moves of an entry rest on, with the home of its lane; what they do not look at is left out.
@@ -44,5 +47,6 @@ ground_at home o c = record {
   returned = λ k. from_one c.returned k false;
 }
 
-abbrev pub moves_at : (home : Option ℕ) → ObjectTables → CallTables → SceneTables → (acting : Actor) → Option Outcome → (after : Actor) → Entry → Moves
+abbrev pub moves_at : (home : Option ℕ) → ObjectTables → CallTables → SceneTables → (acting : Actor)
+    → Option Outcome → (after : Actor) → Entry → Moves
 moves_at home o c t a r b e = moves_by (ground_at home o c) (scene_read t) a r b e

@@ -292,7 +292,8 @@ impl Moves {
         ensures { OnOk result (self.new ≡ record self.old {
           lost = self.old.lost
               ++ (if named_at objects.now object == apartment
-              then all_moved (Some apartment) (links_stepped scene.now (acting_of acting) outcome.now deed.now object)
+              then all_moved (Some apartment) (links_stepped scene.now (acting_of acting)
+              outcome.now deed.now object)
               else []);
         }) }
     {
@@ -419,7 +420,8 @@ impl Moves {
         requires { FitsDeed deed.now }
         ensures { OnOk result (self.new ≡ record self.old {
           lost = self.old.lost
-              ++ links_of_step (named_at objects.now) scene.now (acting_of acting) outcome.now deed.now apartment
+              ++ links_of_step (named_at objects.now) scene.now (acting_of acting)
+              outcome.now deed.now apartment
               (one_to (length objects.now.makings));
         }) }
     {

@@ -112,8 +112,8 @@ impl Moves {
         put(&mut self.gained, apartment, held)
     }
 
-    /// A write at a place of a list, counted from 0: what stood there is lost, and what comes there gained. The
-    /// only error is want of memory.
+    /// A write at a place of a list, counted from 0: what stood there is lost, and what comes there gained.
+    /// The only error is want of memory.
     pub fn exchange(
         &mut self,
         apartment: Option<u32>,

@@ -45,7 +45,8 @@ abbrev pub IsWriting : Option Outcome → Type 0
 IsWriting None = Unit {0}
 IsWriting (Some r) = WritesInRange r.action
 
-pub record Fits (l : LaneTables) (o : ObjectTables) (b : Kept) (lane : ℕ) (d : Deed) (clock : ℕ) : Type 0 where
+pub record Fits (l : LaneTables) (o : ObjectTables) (b : Kept) (lane : ℕ) (d : Deed)
+    (clock : ℕ) : Type 0 where
   pub stas : NamesStas l d
   pub back : TakesBack l lane d
   pub made : IsMade (length o.makings) (finals d)

@@ -89,9 +89,9 @@ impl Parts {
     }
 
     /// Makes of the parts what an entry makes of them. `outcome` has the step of whoever makes the entry by
-    /// one, which is taken out. The only error is want of memory; then the lanes, the objects and the calls
-    /// are as they were, and the scene is so or is that after the entry: where a lane or an object wants a
-    /// row when the scene has changed.
+    /// one; what is left of it has no use any more. The only error is want of memory; then the lanes, the
+    /// objects and the calls are as they were, and the scene is so or is that after the entry: where a lane
+    /// or an object wants a row when the scene has changed.
     pub fn apply(&mut self, change: Change<'_>, outcome: &mut Option<Outcome>) -> Result<(), Memory>
         requires frame { FitsFrame (acting_of change.acting) outcome.old }
         ensures lanes { OnOk result (self.new.lanes ≡ lanes_after self.old.lanes
@@ -132,9 +132,8 @@ impl Parts {
         let owners = owners_for(self.alloc, &self.objects, deed)?;
         let given = given_to(deed, target_of(&self.objects, deed), issued)?;
         make_room(&mut self.calls, deed, given.apartment)?;
-        let step = outcome.take();
         self.scene
-            .apply(acting, step, after, lane, deed, owners.as_slice())?;
+            .apply(acting, outcome, after, lane, deed, owners.as_slice())?;
         change_rows(&mut self.lanes, &mut self.objects, lane, deed)?;
         change_calls(&mut self.calls, lane, deed, given, now);
         self.entries += 1;

@@ -26,8 +26,9 @@ use std::sync::Arc;
 /// The row has one servant of each kind, in the order of the kinds. Each entry that a body made is a step of
 /// the servant of its class's kind (`served`), and every place keeps its kind (`row`).
 ///
-/// `WriteFault` comes only where the sink's count of faults rose in this call, and `Memory` is want of memory. Whatever is answered,
-/// what was written is a prefix of that text (`prefix`); after either, servants may have counted steps.
+/// `WriteFault` comes only where the sink's count of faults rose in this call, and `Memory` is want of
+/// memory. Whatever is answered, what was written is a prefix of that text (`prefix`); after either, servants
+/// may have counted steps.
 #[tactic(auto, using(com_io::proofs::Passing::prefix_of_none))]
 pub fn replay<K: Sink>(
     alloc: Global,

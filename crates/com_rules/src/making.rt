@@ -238,7 +238,8 @@ pub fn fields_made<B: Found>(
 ) -> Result<Vec<StdFields>, Memory>
     ensures { IfOk result (λ fields. fields.items
         ≡ fields_since view.now.scenario (sight_by view.now (B.books books.now))
-        (with_packets (sight_by view.now (B.books books.now)) lane (marshal_all (number_or_zero (running_seen view.now lane)) carried.now))) }
+        (with_packets (sight_by view.now (B.books books.now)) lane
+        (marshal_all (number_or_zero (running_seen view.now lane)) carried.now))) }
 {
     let rows = all_outgoing(view, books, alloc, lane, carried)?;
     let refs = packet_refs(alloc, rows.as_slice())?;

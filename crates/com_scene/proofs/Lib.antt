@@ -3,4 +3,3 @@ pub mod GiveLemmas
 pub mod KeptLemmas
 pub mod RowLemmas
 pub mod StepLemmas
-pub mod PreparedLemmas

@@ -4,4 +4,3 @@ pub mod Ranges
 pub mod Scenes
 pub mod Seen
 pub mod Steps
-pub mod Prepared

@@ -1,5 +1,5 @@
 //! The step of whoever acts: its frame and cells, and what the entry writes.
-ghost use Rattle.std.specs.Prelude.{◌≡◌, ℕ, OnOk, OnErr};
+ghost use Rattle.std.specs.Prelude.{◌≡◌, ℕ, OnOk, OnErr, Some};
 ghost use Rattle.com_scene.specs.Actors.{acting_of};
 ghost use Rattle.com_scene.specs.Kept.{IsKept, IsStep};
 ghost use Rattle.com_scene.specs.Ranges.{FitsDeed};
@@ -10,27 +10,29 @@ use crate::actor::Actor;
 use crate::tables::Tables;
 use crate::writes::{Bytes, Wanted, Writes, wanted_by};
 use com_base::Memory;
-use com_body::{Cells, Frame, Outcome};
+use com_body::{Action, Cells, Frame, Outcome};
 use com_model::Deed;
+use std::mem;
 
 impl Tables {
-    // Whoever acts goes on to a frame and cells, and puts bytes in a buffer. The only error is want of
-    // memory, and then nothing has changed.
+    // Whoever acts goes on to a frame and cells, and puts bytes in a buffer. The frame that was there before
+    // comes in the place of the given one. The only error is want of memory, and then nothing has changed.
     fn step(
         &mut self,
         acting: Actor,
-        frame: Frame,
-        cells: Cells,
+        frame: &mut Frame,
+        cells: &Cells,
         bytes: Option<Bytes>,
     ) -> Result<(), Memory>
-        ensures ok { OnOk result (seen self.new ≡ stepped acting frame cells bytes (seen self.old)) }
+        ensures ok { OnOk result (seen self.new
+            ≡ stepped acting frame.old cells.now bytes (seen self.old)) }
         ensures err { OnErr result (seen self.new ≡ seen self.old) }
         ensures seated { (c : ℕ) → IsSeated self.old.calls.items c → IsSeated self.new.calls.items c }
     {
         match acting {
             Actor::Body { call, object } => {
                 self.place(call, frame)?;
-                self.set_cells(object, cells);
+                self.set_cells(object, *cells);
                 self.set_bytes(bytes);
                 Ok(())
             }
@@ -43,47 +45,62 @@ impl Tables {
         }
     }
 
-    // The step of whoever acts, and what the entry writes for it.
+    // The step of whoever acts, and what the entry writes for it. The step is used where it lies. It is a
+    // function of its own: most entries are nobody's step, and would make room here for a frame.
+    #[inline(never)]
     #[tactic(auto, using(crate::proofs::StepLemmas::acted_is))]
-    fn go_on(&mut self, acting: Actor, outcome: Option<Outcome>, deed: &Deed) -> Result<(), Memory>
+    fn go_on(&mut self, acting: Actor, outcome: &mut Outcome, deed: &Deed) -> Result<(), Memory>
         requires deed { FitsDeed deed.now }
-        requires step { IsStep (acting_of acting) outcome }
-        ensures ok { OnOk result (seen self.new ≡ acted acting outcome deed.now (seen self.old)) }
+        requires step { IsStep (acting_of acting) (Some outcome.old) }
+        ensures ok { OnOk result (seen self.new
+            ≡ acted acting (Some outcome.old) deed.now (seen self.old)) }
         ensures err { OnErr result (seen self.new ≡ seen self.old) }
         ensures seated { (c : ℕ) → IsSeated self.old.calls.items c → IsSeated self.new.calls.items c }
     {
-        let Some(outcome) = outcome else {
-            return Ok(());
-        };
-        let Outcome {
-            mut frame,
-            mut cells,
-            action,
-        } = outcome;
+        let action = mem::replace(&mut outcome.action, Action::Uninit);
         let wanted = wanted_by(&action, deed);
         let writes = Writes::of(action, deed)?;
-        let bytes = writes.put(&mut frame, &mut cells);
-        self.step(acting, frame, cells, bytes)?;
+        let bytes = writes.put(&mut outcome.frame, &mut outcome.cells);
+        self.step(acting, &mut outcome.frame, &outcome.cells, bytes)?;
         self.want(wanted);
         Ok(())
     }
 
-    /// The step of whoever acts, where it makes the entry. The only error is want of memory, and then nothing
-    /// has changed.
-    pub fn act(
+    // The step of whoever acts, where it makes the entry.
+    fn go(
         &mut self,
         acting: Actor,
-        outcome: Option<Outcome>,
+        outcome: &mut Option<Outcome>,
         deed: &Deed,
     ) -> Result<(), Memory>
         requires deed { FitsDeed deed.now }
-        requires step { IsStep (acting_of acting) outcome }
+        requires step { IsStep (acting_of acting) outcome.old }
+        ensures ok { OnOk result (seen self.new ≡ acted acting outcome.old deed.now (seen self.old)) }
+        ensures err { OnErr result (seen self.new ≡ seen self.old) }
+        ensures seated { (c : ℕ) → IsSeated self.old.calls.items c → IsSeated self.new.calls.items c }
+    {
+        match outcome {
+            Some(outcome) => self.go_on(acting, outcome, deed),
+            None => Ok(()),
+        }
+    }
+
+    /// The step of whoever acts, where it makes the entry. What is left of the step has no use any more. The
+    /// only error is want of memory, and then the tables have not changed.
+    pub fn act(
+        &mut self,
+        acting: Actor,
+        outcome: &mut Option<Outcome>,
+        deed: &Deed,
+    ) -> Result<(), Memory>
+        requires deed { FitsDeed deed.now }
+        requires step { IsStep (acting_of acting) outcome.old }
         requires kept { IsKept (seen self.old) }
-        ensures ok { OnOk result (seen self.new ≡ acted acting outcome deed.now (seen self.old)) }
+        ensures ok { OnOk result (seen self.new ≡ acted acting outcome.old deed.now (seen self.old)) }
         ensures err { OnErr result (seen self.new ≡ seen self.old) }
         ensures kept { IsKept (seen self.new) }
         ensures seated { (c : ℕ) → IsSeated self.old.calls.items c → IsSeated self.new.calls.items c }
     {
-        self.go_on(acting, outcome, deed)
+        self.go(acting, outcome, deed)
     }
 }

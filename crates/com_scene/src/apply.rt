@@ -24,12 +24,17 @@ use com_model::Deed;
 #[tactic(auto, using(crate::proofs::KeptLemmas::call_kept, crate::proofs::KeptLemmas::object_kept, crate::proofs::KeptLemmas::destination_in_range))]
 impl Tables {
     // The entry that issues a call.
-    fn issue(&mut self, acting: Actor, outcome: Option<Outcome>, deed: &Deed) -> Result<(), Memory>
+    fn issue(
+        &mut self,
+        acting: Actor,
+        outcome: &mut Option<Outcome>,
+        deed: &Deed,
+    ) -> Result<(), Memory>
         requires deed { FitsDeed deed.now }
-        requires step { IsStep (acting_of acting) outcome }
+        requires step { IsStep (acting_of acting) outcome.old }
         requires kept { IsKept (seen self.old) }
         ensures ok { OnOk result (seen self.new
-            ≡ acted acting outcome deed.now (with_call (seen self.old))) }
+            ≡ acted acting outcome.old deed.now (with_call (seen self.old))) }
         ensures err { OnErr result (seen self.new ≡ seen self.old) }
     {
         self.add_call()?;
@@ -43,12 +48,17 @@ impl Tables {
     }
 
     // The entry that makes an object.
-    fn make(&mut self, acting: Actor, outcome: Option<Outcome>, deed: &Deed) -> Result<(), Memory>
+    fn make(
+        &mut self,
+        acting: Actor,
+        outcome: &mut Option<Outcome>,
+        deed: &Deed,
+    ) -> Result<(), Memory>
         requires deed { FitsDeed deed.now }
-        requires step { IsStep (acting_of acting) outcome }
+        requires step { IsStep (acting_of acting) outcome.old }
         requires kept { IsKept (seen self.old) }
         ensures ok { OnOk result (seen self.new
-            ≡ acted acting outcome deed.now (with_object (seen self.old))) }
+            ≡ acted acting outcome.old deed.now (with_object (seen self.old))) }
         ensures err { OnErr result (seen self.new ≡ seen self.old) }
     {
         self.add_object()?;
@@ -65,17 +75,17 @@ impl Tables {
     fn begin(
         &mut self,
         acting: Actor,
-        outcome: Option<Outcome>,
+        outcome: &mut Option<Outcome>,
         deed: &Deed,
         call: u32,
         values: &[Value],
     ) -> Result<(), Memory>
         requires deed { FitsDeed deed.now }
-        requires step { IsStep (acting_of acting) outcome }
+        requires step { IsStep (acting_of acting) outcome.old }
         requires kept { IsKept (seen self.old) }
         requires values { length values.now ≤ 4 }
         ensures ok { OnOk result (seen self.new
-            ≡ with_body (acted acting outcome deed.now (seen self.old)) call (entered values.now)) }
+            ≡ with_body (acted acting outcome.old deed.now (seen self.old)) call (entered values.now)) }
         ensures err { OnErr result (seen self.new ≡ seen self.old) }
     {
         let alloc = *self.calls.allocator();
@@ -90,15 +100,15 @@ impl Tables {
     fn end(
         &mut self,
         acting: Actor,
-        outcome: Option<Outcome>,
+        outcome: &mut Option<Outcome>,
         deed: &Deed,
         call: u32,
     ) -> Result<(), Memory>
         requires deed { FitsDeed deed.now }
-        requires step { IsStep (acting_of acting) outcome }
+        requires step { IsStep (acting_of acting) outcome.old }
         requires kept { IsKept (seen self.old) }
         ensures ok { OnOk result (seen self.new
-            ≡ with_body (acted acting outcome deed.now (seen self.old)) call (entered [])) }
+            ≡ with_body (acted acting outcome.old deed.now (seen self.old)) call (entered [])) }
         ensures err { OnErr result (seen self.new ≡ seen self.old) }
     {
         self.act(acting, outcome, deed)?;
@@ -110,7 +120,7 @@ impl Tables {
     fn give_back(
         &mut self,
         acting: Actor,
-        outcome: Option<Outcome>,
+        outcome: &mut Option<Outcome>,
         after: Actor,
         deed: &Deed,
         call: u32,
@@ -118,12 +128,12 @@ impl Tables {
         value: &Option<Value>,
     ) -> Result<(), Memory>
         requires deed { FitsDeed deed.now }
-        requires step { IsStep (acting_of acting) outcome }
+        requires step { IsStep (acting_of acting) outcome.old }
         requires kept { IsKept (seen self.old) }
         ensures ok { OnOk result (seen self.new
-            ≡ fold (row_written (acting_of after)) (acted acting outcome deed.now (seen self.old))
+            ≡ fold (row_written (acting_of after)) (acted acting outcome.old deed.now (seen self.old))
             (to_answer hr ∷ to_destination
-            (destination_at (acted acting outcome deed.now (seen self.old)) call) value.now)) }
+            (destination_at (acted acting outcome.old deed.now (seen self.old)) call) value.now)) }
         ensures err { OnErr result (seen self.new ≡ seen self.old) }
     {
         let value = copied(value)?;
@@ -138,15 +148,15 @@ impl Tables {
     fn end_pump(
         &mut self,
         acting: Actor,
-        outcome: Option<Outcome>,
+        outcome: &mut Option<Outcome>,
         after: Actor,
         deed: &Deed,
     ) -> Result<(), Memory>
         requires deed { FitsDeed deed.now }
-        requires step { IsStep (acting_of acting) outcome }
+        requires step { IsStep (acting_of acting) outcome.old }
         requires kept { IsKept (seen self.old) }
         ensures ok { OnOk result (seen self.new
-            ≡ row_written (acting_of after) (acted acting outcome deed.now (seen self.old))
+            ≡ row_written (acting_of after) (acted acting outcome.old deed.now (seen self.old))
             (to_answer S_OK)) }
         ensures err { OnErr result (seen self.new ≡ seen self.old) }
     {
@@ -160,19 +170,19 @@ impl Tables {
     fn uninitialise(
         &mut self,
         acting: Actor,
-        outcome: Option<Outcome>,
+        outcome: &mut Option<Outcome>,
         lane: u32,
         deed: &Deed,
         home: Option<u32>,
         owners: &[u32],
     ) -> Result<(), Memory>
         requires deed { FitsDeed deed.now }
-        requires step { IsStep (acting_of acting) outcome }
+        requires step { IsStep (acting_of acting) outcome.old }
         requires kept { IsKept (seen self.old) }
         ensures ok { OnOk result (seen self.new
             ≡ links_cut (λ o. slice_index_or owners.now o 0) (ends_sta (of_deed.Uninit home 0))
             (rows_arrived (acting_of acting) lane (of_deed.Uninit home 0)
-            (acted acting outcome deed.now (seen self.old)))) }
+            (acted acting outcome.old deed.now (seen self.old)))) }
         ensures err { OnErr result (seen self.new ≡ seen self.old) }
     {
         self.act(acting, outcome, deed)?;
@@ -199,16 +209,16 @@ impl Tables {
     fn finish(
         &mut self,
         acting: Actor,
-        outcome: Option<Outcome>,
+        outcome: &mut Option<Outcome>,
         deed: &Deed,
         object: u32,
     ) -> Result<(), Memory>
         requires deed { FitsDeed deed.now }
-        requires step { IsStep (acting_of acting) outcome }
+        requires step { IsStep (acting_of acting) outcome.old }
         requires kept { IsKept (seen self.old) }
         ensures ok { OnOk result (seen self.new
-            ≡ with_cells (acted acting outcome deed.now (seen self.old)) object
-            (without_links (cells_at (acted acting outcome deed.now (seen self.old)) object))) }
+            ≡ with_cells (acted acting outcome.old deed.now (seen self.old)) object
+            (without_links (cells_at (acted acting outcome.old deed.now (seen self.old)) object))) }
         ensures err { OnErr result (seen self.new ≡ seen self.old) }
     {
         self.act(acting, outcome, deed)?;
@@ -217,21 +227,22 @@ impl Tables {
     }
 
     /// The tables after an entry of a lane. The list has the apartment of each object, from 0; only the end
-    /// of an STA reads it. The only error is want of memory, and then nothing has changed.
+    /// of an STA reads it. What is left of the step has no use any more. The only error is want of memory,
+    /// and then the tables have not changed.
     pub fn apply(
         &mut self,
         acting: Actor,
-        outcome: Option<Outcome>,
+        outcome: &mut Option<Outcome>,
         after: Actor,
         lane: u32,
         deed: &Deed,
         owners: &[u32],
     ) -> Result<(), Memory>
         requires deed { FitsDeed deed.now }
-        requires step { IsStep (acting_of acting) outcome }
+        requires step { IsStep (acting_of acting) outcome.old }
         requires kept { IsKept (seen self.old) }
         ensures ok { OnOk result (seen self.new
-            ≡ rows_after (λ o. slice_index_or owners.now o 0) (acting_of acting) outcome (acting_of after)
+            ≡ rows_after (λ o. slice_index_or owners.now o 0) (acting_of acting) outcome.old (acting_of after)
             (record { lane = lane; deed = deed.now }) (seen self.old)) }
         ensures err { OnErr result (seen self.new ≡ seen self.old) }
     {

@@ -10,12 +10,10 @@ mod act;
 mod actor;
 mod apply;
 mod arrive;
-mod prepared;
 mod readers;
 mod scene;
 mod tables;
 mod writes;
 
 pub use actor::Actor;
-pub use prepared::Prepared;
 pub use scene::Scene;

@@ -6,12 +6,10 @@ ghost use Rattle.com_model.specs.Frames.{to_answer};
 ghost use Rattle.com_state.specs.SceneParts.{cells_at, destination_at, row_written, rows_acted, rows_after};
 ghost use Rattle.com_scene.specs.Actors.{acting_of};
 ghost use Rattle.com_scene.specs.Kept.{FitsActor, IsStep, NamesOwners};
-ghost use Rattle.com_scene.specs.Prepared.{KeepsScene, prepared};
 ghost use Rattle.com_scene.specs.Ranges.{FitsDeed};
 ghost use Rattle.com_scene.specs.Scenes.{new_scene, frame_of};
 
 use crate::actor::Actor;
-use crate::prepared::Prepared;
 use crate::tables::Tables;
 use com_base::{HResult, Memory, Value};
 use com_body::{Cells, Destination, Frame, Outcome};
@@ -84,77 +82,26 @@ impl Scene {
 
     /// The scene after an entry of a lane. `acting` and `outcome` are who makes the entry and its step, and
     /// `after` who acts in the lane afterwards. `owners` has the apartment that names the owner of each
-    /// object, from 0, where the entry ends an STA; else it may be empty. The only error is want of memory,
-    /// and then nothing has changed.
+    /// object, from 0, where the entry ends an STA; else it may be empty. The step is used where it lies, and
+    /// what is left of it has no use any more. The only error is want of memory, and then the scene has not
+    /// changed.
     pub fn apply(
         &mut self,
         acting: Actor,
-        outcome: Option<Outcome>,
+        outcome: &mut Option<Outcome>,
         after: Actor,
         lane: u32,
         deed: &Deed,
         owners: &[u32],
     ) -> Result<(), Memory>
         requires deed { FitsDeed deed.now }
-        requires step { IsStep (acting_of acting) outcome }
+        requires step { IsStep (acting_of acting) outcome.old }
         ensures ok { (named : ℕ → ℕ) → NamesOwners named (ends_sta deed.now) owners.now →
-            OnOk result (self.new ≡ rows_after named (acting_of acting) outcome (acting_of after)
+            OnOk result (self.new ≡ rows_after named (acting_of acting) outcome.old (acting_of after)
             (record { lane = lane; deed = deed.now }) self.old) }
         ensures err { OnErr result (self.new ≡ self.old) }
     {
         self.tables
             .apply(acting, outcome, after, lane, deed, owners)
-    }
-    /// The step of whoever acts, where it makes the entry, and what the entry writes for it, made ready for
-    /// `commit`. The only error is want of memory.
-    pub fn prepare(
-        &self,
-        alloc: Global,
-        acting: Actor,
-        outcome: Option<Outcome>,
-        deed: &Deed,
-    ) -> Result<Prepared, Memory>
-        requires deed { FitsDeed deed.now }
-        requires step { IsStep (acting_of acting) outcome }
-        ensures does { IfOk result (λ ready. prepared ready self.now
-            ≡ rows_acted (acting_of acting) outcome deed.now self.now) }
-        ensures keeps { IfOk result (λ ready. KeepsScene ready) }
-    {
-        Prepared::new(alloc, acting, outcome, deed)
-    }
-
-    /// Whoever acts is given an HRESULT, made ready for `commit`. The only error is want of memory.
-    pub fn prepare_answer(
-        &self,
-        alloc: Global,
-        acting: Actor,
-        hr: HResult,
-    ) -> Result<Prepared, Memory>
-        ensures does { IfOk result (λ ready. prepared ready self.now
-            ≡ row_written (acting_of acting) self.now (to_answer hr)) }
-        ensures keeps { IfOk result (λ ready. KeepsScene ready) }
-    {
-        let mut frame = self.own_frame(alloc, acting)?;
-        frame.set_register(15, Value::Int(hr.0 as i64));
-        Prepared::place(alloc, acting, frame)
-    }
-
-    // A copy of the frame of whoever acts.
-    fn own_frame(&self, alloc: Global, acting: Actor) -> Result<Frame, Memory>
-        ensures frame { IfOk result (λ frame. frame ≡ frame_of self.now (acting_of acting)) }
-        ensures slots { IfOk result (λ frame. FitsActor (acting_of acting) frame) }
-    {
-        match self.frame(acting) {
-            Some(frame) => frame.copy(alloc),
-            None => Frame::enter(alloc, &[]),
-        }
-    }
-
-    /// Does a change that was made ready.
-    pub fn commit(&mut self, ready: Prepared)
-        requires { KeepsScene ready }
-        ensures { self.new ≡ prepared ready self.old }
-    {
-        self.tables.change(ready);
     }
 }

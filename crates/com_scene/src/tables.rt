@@ -14,6 +14,7 @@ use com_base::{ByteList, HResult, Memory, Value};
 use com_body::{Cells, Destination, Frame};
 use std::alloc::Global;
 use std::marker::Model;
+use std::mem;
 
 /// A frame is given an HRESULT, and the result of a call: a destination register takes a value, and stays
 /// where there is none; a slot takes a reference, or null.
@@ -81,11 +82,11 @@ impl Seat {
         &self.frame
     }
 
-    /// Puts another frame in place of this one.
-    pub fn set(&mut self, frame: Frame)
-        ensures { self.new ≡ frame }
+    /// Puts another frame in place of this one, and this one in place of the other.
+    pub fn swap(&mut self, frame: &mut Frame)
+        ensures { self.new ≡ frame.old }
     {
-        *self.frame = frame;
+        mem::swap(&mut *self.frame, frame);
     }
 
     fn receive(&mut self, hr: HResult, to: Destination, value: Option<Value>)
@@ -104,18 +105,21 @@ pub struct CallRow {
 }
 
 impl CallRow {
-    /// Gives the body of the call a frame. The only error is want of memory, and then nothing has changed.
-    fn place(&mut self, alloc: Global, frame: Frame) -> Result<(), Memory>
-        ensures frame { OnOk result (self.new.frame ≡ Some frame) }
+    /// Gives the body of the call a frame, and takes the one that it had, where it had one. The only error is
+    /// want of memory, and then nothing has changed.
+    fn place(&mut self, alloc: Global, frame: &mut Frame) -> Result<(), Memory>
+        ensures frame { OnOk result (self.new.frame ≡ Some frame.old) }
         ensures destination { self.new.destination ≡ self.old.destination }
         ensures seated { IsSome self.old.frame → IsSome self.new.frame }
         ensures err { OnErr result (self.new ≡ self.old) }
     {
         if let Some(seat) = &mut self.frame {
-            seat.set(frame);
+            seat.swap(frame);
             return Ok(());
         }
-        self.frame = Some(Seat::new(alloc, frame)?);
+        let mut seat = Seat::new(alloc, Frame::enter(alloc, &[])?)?;
+        seat.swap(frame);
+        self.frame = Some(seat);
         Ok(())
     }
 
@@ -183,9 +187,10 @@ pub struct Tables {
 
 #[tactic(auto, using(crate::proofs::RowLemmas::set_beyond, crate::proofs::RowLemmas::map_set, crate::proofs::RowLemmas::map_kept, crate::proofs::RowLemmas::map_length, crate::proofs::RowLemmas::seated_set))]
 impl Tables {
-    /// Gives the body of a call a frame. The only error is want of memory, and then nothing has changed.
-    pub fn place(&mut self, call: u32, frame: Frame) -> Result<(), Memory>
-        ensures ok { OnOk result (seen self.new ≡ with_body (seen self.old) call frame) }
+    /// Gives the body of a call a frame, and takes the one that it had. The only error is want of memory, and
+    /// then nothing has changed.
+    pub fn place(&mut self, call: u32, frame: &mut Frame) -> Result<(), Memory>
+        ensures ok { OnOk result (seen self.new ≡ with_body (seen self.old) call frame.old) }
         ensures err { OnErr result (seen self.new ≡ seen self.old) }
         ensures seated { (c : ℕ) → IsSeated self.old.calls.items c → IsSeated self.new.calls.items c }
     {
@@ -197,13 +202,13 @@ impl Tables {
         row.place(alloc, frame)
     }
 
-    /// Puts another frame in place of a script's.
-    pub fn set_script(&mut self, lane: u32, frame: Frame)
-        ensures tables { seen self.new ≡ with_script (seen self.old) lane frame }
+    /// Puts another frame in place of a script's, and that one in place of the other.
+    pub fn set_script(&mut self, lane: u32, frame: &mut Frame)
+        ensures tables { seen self.new ≡ with_script (seen self.old) lane frame.old }
         ensures calls { self.new.calls ≡ self.old.calls }
     {
         if (lane as usize) < self.scripts.len() {
-            self.scripts[lane as usize] = frame;
+            mem::swap(&mut self.scripts[lane as usize], frame);
         }
     }
 

@@ -118,6 +118,10 @@ leave_last : (l : ℕ) (t : Bool) → t ≡ true → cond t Nobody (Script l) �
 leave_last l true e = refl
 leave_last l false e = absurd cc
 
+-- What was taken out of a place is what stood there.
+pub taken_is : (r x : Outcome) → Some r ≡ Some x → r ≡ x
+taken_is r x e = cc
+
 pub script_steps : (w : Seen) (l : ℕ) (r : Outcome) → Turns w l → r ≡ script_seen w l → is_leave r.action ≡ false → Steps w l (Script l) r
 script_steps w l r h e f =
     record {

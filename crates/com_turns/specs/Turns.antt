@@ -45,7 +45,9 @@ actor_seen w l = actor (lane_sort w.scenario l) l (openers_at w.lanes l)
 
 -- The step of whoever acts: that of a body, and that of a script.
 abbrev pub body_seen : Seen → (call object : ℕ) → Outcome
-body_seen w c o = issued_body w.scenario (class_at w.objects o) (issue_at w.calls.tables c) (body_at w.scene c) (cells_at w.scene o)
+body_seen w c o =
+    issued_body w.scenario (class_at w.objects o) (issue_at w.calls.tables c) (body_at w.scene c)
+    (cells_at w.scene o)
 
 abbrev pub script_seen : Seen → (lane : ℕ) → Outcome
 script_seen w l = body_step (script w.scenario l) (script_at w.scene l) new_cells
@@ -55,14 +57,16 @@ outcome_seen w a = outcome w.scenario (class_at w.objects) (issue_at w.calls.tab
 
 -- Who makes an entry of a lane by a step, and that step.
 abbrev pub acting_seen : Seen → ℕ → Deed → Acting
-acting_seen w l d = acting w.scenario (class_at w.objects) (issue_at w.calls.tables) (scene_read w.scene) (actor_seen w l) d
+acting_seen w l d =
+    acting w.scenario (class_at w.objects) (issue_at w.calls.tables) (scene_read w.scene) (actor_seen w l) d
 
 abbrev pub step_seen : Seen → ℕ → Deed → Option Outcome
 step_seen w l d = outcome_seen w (acting_seen w l d)
 
 -- Who acts in a lane after an entry of it.
 abbrev pub actor_later : Seen → ℕ → Deed → Acting
-actor_later w l d = actor (lane_sort w.scenario l) l (openers_at (lanes_after w.lanes (record { lane = l; deed = d })) l)
+actor_later w l d =
+    actor (lane_sort w.scenario l) l (openers_at (lanes_after w.lanes (record { lane = l; deed = d })) l)
 
 -- Whoever acts in a lane goes on by this step, which is not the Leave of a script.
 pub record Steps (w : Seen) (l : ℕ) (a : Acting) (r : Outcome) : Type 0 where

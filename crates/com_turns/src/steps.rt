@@ -1,12 +1,12 @@
 //! The step of whoever acts in a lane.
 
-ghost use Rattle.std.specs.Prelude.{◌≡◌, IfOk, OnOk, map};
+ghost use Rattle.std.specs.Prelude.{◌≡◌, IfOk, None, OnOk, Some, map};
 ghost use Rattle.com_servant.specs.Rows.{row};
 ghost use Rattle.com_servant.specs.Steps.{native_at};
 ghost use Rattle.com_state.specs.Parts.{class_at};
 ghost use Rattle.com_turns.specs.Turns.{body_seen, one_served, script_seen};
 ghost use Rattle.com_scene.specs.Kept.{HasSlots};
-ghost use Rattle.com_moves.specs.Steps.{BodiesWhole};
+ghost use Rattle.com_moves.specs.Steps.{BodiesWhole, IsWhole};
 
 use com_acting::step_of;
 use com_base::Memory;
@@ -23,8 +23,8 @@ pub fn unproved() -> Memory {
     Memory
 }
 
-/// The next step of the body of a call, on an object, by the servant of its class's kind, which has made one
-/// more then. The only error is want of memory.
+/// Puts the next step of the body of a call, on an object, in `step`, by the servant of its class's kind,
+/// which has made one more then. The only error is want of memory, and then `step` stays empty.
 #[tactic(auto, using(crate::proofs::Whole::job_whole, crate::proofs::Bodies::job_steps, crate::proofs::Bodies::job_kind))]
 pub fn body_step(
     view: &View<'_>,
@@ -32,25 +32,33 @@ pub fn body_step(
     call: u32,
     object: u32,
     servants: &mut Vec<Box<dyn Servant + Send>>,
-) -> Result<Outcome, Memory>
+    step: &mut Option<Outcome>,
+) -> Result<(), Memory>
+    requires none { step.old ≡ None }
     requires row { map kind_of servants.old.items ≡ row }
     requires bodies { BodiesWhole view.now.scene }
     ensures row { map kind_of servants.new.items ≡ row }
-    ensures whole { IfOk result (λ outcome. HasSlots outcome.frame) }
-    ensures outcome { IfOk result (λ outcome. outcome ≡ body_seen view.now call object) }
+    ensures whole { IsWhole step.new }
+    ensures outcome { OnOk result (step.new ≡ Some (body_seen view.now call object)) }
     ensures counted { OnOk result (map stepped servants.new.items
         ≡ one_served (native_at view.now.scenario.classes (class_at view.now.objects object))
         (map stepped servants.old.items)) }
 {
     let job = work_of(view, alloc, call, object)?;
-    let outcome = serve(alloc, servants, &view.scenario.classes, &job)?;
-    Ok(outcome)
+    *step = Some(serve(alloc, servants, &view.scenario.classes, &job)?);
+    Ok(())
 }
 
-/// The next step of the script of a lane. The only error is want of memory.
-pub fn script_step(view: &View<'_>, alloc: Global, lane: u32) -> Result<Outcome, Memory>
-    ensures whole { IfOk result (λ outcome. HasSlots outcome.frame) }
-    ensures outcome { IfOk result (λ outcome. outcome ≡ script_seen view.now lane) }
+/// Puts the next step of the script of a lane in `step`. The only error is want of memory.
+pub fn script_step(
+    view: &View<'_>,
+    alloc: Global,
+    lane: u32,
+    step: &mut Option<Outcome>,
+) -> Result<(), Memory>
+    requires none { step.old ≡ None }
+    ensures whole { IsWhole step.new }
+    ensures outcome { OnOk result (step.new ≡ Some (script_seen view.now lane)) }
 {
     if lane == 0 {
         return Err(unproved());
@@ -59,7 +67,10 @@ pub fn script_step(view: &View<'_>, alloc: Global, lane: u32) -> Result<Outcome,
         return Err(unproved());
     };
     match step_of(alloc, view.scene, Actor::Script { lane }, body)? {
-        Some(outcome) => Ok(outcome),
+        Some(outcome) => {
+            *step = Some(outcome);
+            Ok(())
+        }
         None => Err(unproved()),
     }
 }

@@ -27,8 +27,8 @@ use com_servant::Servant;
 use com_view::View;
 use std::alloc::Global;
 
-/// A turn of a lane: who makes the entry by a step, where one does, the entry, and what goes with it. The step
-/// itself lies beside it: most turns are nobody's step, and a step is wide.
+/// A turn of a lane: who makes the entry by a step, where one does, the entry, and what goes with it. The
+/// step itself lies beside it: most turns are nobody's step, and a step is wide.
 #[derive(Debug, Drop)]
 pub struct Turn {
     /// Who makes the entry by its step, and nobody where no step does.
@@ -126,16 +126,20 @@ fn own_step<B: Found>(
     ensures whole { IsWhole step.new }
     ensures turn { IfOk result (λ made. IsTurn view.now (B.books books.now) lane step.new made) }
 {
-    let outcome = script_step(view, alloc, lane)?;
+    script_step(view, alloc, lane, step)?;
+    let Some(outcome) = step else {
+        return Err(unproved());
+    };
     if is_leave(&outcome.action) {
+        *step = None;
         return Ok(by_rule(alloc, script_over(view, lane)));
     }
-    let made = step_turn(view, books, alloc, lane, Actor::Script { lane }, &outcome)?;
-    *step = Some(outcome);
-    Ok(made)
+    step_turn(view, books, alloc, lane, Actor::Script { lane }, outcome)
 }
 
-// The turn of a lane whose script acts. The Final of a dying object that the lane serves comes before it.
+// The turn of a lane whose script acts. The Final of a dying object that the lane serves comes before it. It
+// is a function of its own, since a step is wide, and each turn of `own_turn` would make room for it.
+#[inline(never)]
 fn script_turn<B: Found>(
     view: &View<'_>,
     books: &B,
@@ -220,6 +224,48 @@ pub fn given_turn<B: Found>(
     })
 }
 
+// The turn of a lane in which a body is innermost: a function of its own, since a step is wide, and each turn
+// of `next_turn` would make room for it.
+#[inline(never)]
+fn body_turn<B: Found>(
+    view: &View<'_>,
+    books: &B,
+    alloc: Global,
+    lane: u32,
+    servants: &mut Vec<Box<dyn Servant + Send>>,
+    step: &mut Option<Outcome>,
+) -> Result<Option<Turn>, Memory>
+    requires none { step.old ≡ None }
+    requires stas { length view.now.lanes.stas + 4 ≤ 2 ^ 32 }
+    requires bodies { BodiesWhole view.now.scene }
+    requires row { map kind_of servants.old.items ≡ row }
+    ensures whole { IsWhole step.new }
+    ensures row { map kind_of servants.new.items ≡ row }
+    ensures turn { IfOk result (λ made. IsNext view.now (B.books books.now) lane step.new made) }
+    ensures deed { IfOk result (λ made. 1 ≤ lane → lane ≤ lanes view.now.scenario →
+        deed_made made ≡ next_by view.now.scenario (sight_by view.now (B.books books.now))
+        (lane_sort view.now.scenario lane) lane) }
+    ensures served { OnOk result (map stepped servants.new.items
+        ≡ one_served (kind_seen view.now lane) (map stepped servants.old.items)) }
+{
+    let Some(Opener::Enters { call, object, .. }) = view.lanes.top(lane) else {
+        return Err(unproved());
+    };
+    body_step(view, alloc, call, object, servants, step)?;
+    let Some(outcome) = step else {
+        return Err(unproved());
+    };
+    let turn = step_turn(
+        view,
+        books,
+        alloc,
+        lane,
+        Actor::Body { call, object },
+        outcome,
+    )?;
+    Ok(Some(turn))
+}
+
 /// The turn of a lane, and none where it makes no entry as things stand: the entry that the rules give the
 /// lane, who makes it by a step, and what goes with it. The step is put in `step`. Where a body is innermost
 /// in the lane, the servant of its class's kind computes its step, and has made one more then. The only error
@@ -245,18 +291,8 @@ pub fn next_turn<B: Found>(
     ensures served { OnOk result (map stepped servants.new.items
         ≡ one_served (kind_seen view.now lane) (map stepped servants.old.items)) }
 {
-    let Some(Opener::Enters { call, object, .. }) = view.lanes.top(lane) else {
-        return own_turn(view, books, alloc, lane, step);
-    };
-    let outcome = body_step(view, alloc, call, object, servants)?;
-    let turn = step_turn(
-        view,
-        books,
-        alloc,
-        lane,
-        Actor::Body { call, object },
-        &outcome,
-    )?;
-    *step = Some(outcome);
-    Ok(Some(turn))
+    match view.lanes.top(lane) {
+        Some(Opener::Enters { .. }) => body_turn(view, books, alloc, lane, servants, step),
+        _ => own_turn(view, books, alloc, lane, step),
+    }
 }

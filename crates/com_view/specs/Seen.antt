@@ -32,7 +32,15 @@ pub record Seen : Type 0 where
 
 -- Where nobody holds a reference. What a rule gives without references is the same in all books.
 abbrev pub no_books : Books
-no_books = record { stub = λ o i. 0; proxy = λ a o i. 0; packets = []; cookies = []; live = λ o. false; arguments = λ c. []; result = λ c. None }
+no_books = record {
+  stub = λ o i. 0;
+  proxy = λ a o i. 0;
+  packets = [];
+  cookies = [];
+  live = λ o. false;
+  arguments = λ c. [];
+  result = λ c. None;
+}
 
 abbrev pub home_seen : Seen → ℕ → Option ℕ
 home_seen w l = home_by_sort (lane_sort w.scenario l) (slice_index_or w.lanes.homes l None)
@@ -61,7 +69,9 @@ sight_by w b = record {
   running = running_seen w;
   count = λ l. slice_index_or w.lanes.counts l 0;
   over = λ l. slice_index_or w.lanes.over l false;
-  act = λ l. act_by w.scenario (class_at w.objects) (issue_at w.calls.tables) (scene_read w.scene) (actor (lane_sort w.scenario l) l (openers_at w.lanes l));
+  act =
+      λ l. act_by w.scenario (class_at w.objects) (issue_at w.calls.tables) (scene_read w.scene)
+      (actor (lane_sort w.scenario l) l (openers_at w.lanes l));
   filter = filter_seen w;
   mail = λ l. slice_index_or w.lanes.mail l no_mail;
   quit = λ l. slice_index_or w.lanes.quits l false;

@@ -47,7 +47,8 @@ impl<'a> View<'a> {
         ensures { IfOk result (λ made. made
             ≡ deed.Enter call (object_of ((bare self.now).issue call)) ((bare self.now).owner (object_of
             ((bare self.now).issue call)) lane)
-            (where_true (posted_to_sta (bare self.now) call) (call_sort (bare self.now) lane call)) ((bare self.now).unread call)) }
+            (where_true (posted_to_sta (bare self.now) call) (call_sort (bare self.now) lane call))
+            ((bare self.now).unread call)) }
     {
         let object = self.object_of(call);
         let apartment = self.owner(object, lane);
@@ -69,7 +70,8 @@ impl<'a> View<'a> {
             then deed.Refuse call RPC_E_SERVER_CANTUNMARSHAL_DATA
             else deed.Enter call (object_of ((bare self.now).issue call)) ((bare self.now).owner (object_of
             ((bare self.now).issue call)) lane)
-            (where_true (posted_to_sta (bare self.now) call) (call_sort (bare self.now) lane call)) ((bare self.now).unread call))) }
+            (where_true (posted_to_sta (bare self.now) call) (call_sort (bare self.now) lane call))
+            ((bare self.now).unread call))) }
     {
         if gone {
             return Ok(Deed::Refuse {
@@ -84,7 +86,8 @@ impl<'a> View<'a> {
     fn turned_away(&self, lane: u32, call: u32) -> Option<Deed>
         ensures { result ≡ where_true (posted_to_sta (bare self.now) call && not
             (is_handled_in self.now.scenario (bare self.now) lane call))
-            (deed.Verdict call (call_sort (bare self.now) lane call) (verdict_on self.now.scenario (bare self.now) lane call)) }
+            (deed.Verdict call (call_sort (bare self.now) lane call)
+            (verdict_on self.now.scenario (bare self.now) lane call)) }
     {
         if !self.posted_to_sta(call) {
             return None;

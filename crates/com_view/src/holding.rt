@@ -175,7 +175,8 @@ impl<'a> View<'a> {
     pub fn ruled_later(&self, lane: u32) -> Option<Deed>
         ensures { (b : Books) → result ≡ or_else (rule_retry self.now.scenario (sight_by self.now b) lane)
             (or_else (rule_again (sight_by self.now b) lane)
-            (or_else (rule_pending self.now.scenario (sight_by self.now b) lane) (rule_word (sight_by self.now b) lane))) }
+            (or_else (rule_pending self.now.scenario (sight_by self.now b) lane)
+            (rule_word (sight_by self.now b) lane))) }
     {
         if let Some(deed) = self.retry(lane) {
             return Some(deed);

@@ -1,27 +1,29 @@
-use Rattle.std.proofs.Common.{Option, subst, sym, ◌∙◌}
+use Rattle.std.proofs.Common.{◌≡◌, Option, Some, refl, subst, sym, ◌∙◌}
 use Rattle.com_body.specs.declared.frame.Outcome.{Outcome}
-use Rattle.com_turns.specs.Turns.{IsTurn}
-use Rattle.com_turns.proofs.Stepping.{over_rules, rule_turn, script_steps, step_next, turns_in}
+use Rattle.com_turns.specs.Turns.{IsTurn, script_seen}
+use Rattle.com_turns.proofs.Stepping.{over_rules, rule_turn, script_steps, step_next, taken_is, turns_in}
 use Rattle.com_turns.proofs.turns.own_step.Goals as goal
 
 pub step_turn-requires-clause-steps : goal.step_turn-requires-clause-steps
 step_turn-requires-clause-steps g c =
     let b = g.B.References.books c.args.books.now in
-    script_steps c.args.view.now c.args.lane c.in_ok-outcome.outcome (turns_in c.args.view.now b c.args.lane c.requires.script)
-    c.in_ok-outcome.ensures.outcome (sym c.is_leave.ensures ∙ c.if-is_leave.false)
+    let e : c.in-Some.outcome ≡ script_seen c.args.view.now c.args.lane = taken_is _ _ (sym c.in-Some.is ∙ c.in_ok-script_step.ensures.outcome) in
+    script_steps c.args.view.now c.args.lane c.in-Some.outcome (turns_in c.args.view.now b c.args.lane c.requires.script)
+    e (sym c.is_leave.ensures ∙ c.if-is_leave.false)
 
 pub step_turn-requires-clause-next : goal.step_turn-requires-clause-next
 step_turn-requires-clause-next g c =
     let b = g.B.References.books c.args.books.now in
-    step_next c.args.view.now b c.args.lane c.in_ok-outcome.outcome c.requires.script c.requires.no_final
-    (script_steps c.args.view.now c.args.lane c.in_ok-outcome.outcome (turns_in c.args.view.now b c.args.lane c.requires.script)
-    c.in_ok-outcome.ensures.outcome (sym c.is_leave.ensures ∙ c.if-is_leave.false))
+    let e : c.in-Some.outcome ≡ script_seen c.args.view.now c.args.lane = taken_is _ _ (sym c.in-Some.is ∙ c.in_ok-script_step.ensures.outcome) in
+    step_next c.args.view.now b c.args.lane c.in-Some.outcome c.requires.script c.requires.no_final
+    (script_steps c.args.view.now c.args.lane c.in-Some.outcome (turns_in c.args.view.now b c.args.lane c.requires.script)
+    e (sym c.is_leave.ensures ∙ c.if-is_leave.false))
 
 pub returns-then-is_leave-clause-turn : goal.returns-then-is_leave-clause-turn
 returns-then-is_leave-clause-turn g c =
     let b = g.B.References.books c.args.books.now in
-    subst (λ (r : Option Outcome). IsTurn c.args.view.now b c.args.lane r c.by_rule.result) (sym c.requires.none)
-    (rule_turn c.args.view.now b c.args.lane c.script_over.result c.by_rule.result
-    (over_rules c.args.view.now b c.args.lane c.in_ok-outcome.outcome c.script_over.result c.requires.script c.requires.no_final
-    c.in_ok-outcome.ensures.outcome (sym c.is_leave.ensures ∙ c.if-is_leave.true) (c.script_over.ensures b))
-    c.by_rule.ensures.deed c.by_rule.ensures.acting c.by_rule.ensures.issued c.by_rule.ensures.carried)
+    let e : c.in-Some.outcome ≡ script_seen c.args.view.now c.args.lane = taken_is _ _ (sym c.in-Some.is ∙ c.in_ok-script_step.ensures.outcome) in
+    rule_turn c.args.view.now b c.args.lane c.script_over.result c.by_rule.result
+    (over_rules c.args.view.now b c.args.lane c.in-Some.outcome c.script_over.result c.requires.script c.requires.no_final
+    e (sym c.is_leave.ensures ∙ c.if-is_leave.true) (c.script_over.ensures b))
+    c.by_rule.ensures.deed c.by_rule.ensures.acting c.by_rule.ensures.issued c.by_rule.ensures.carried
