@@ -1,7 +1,7 @@
 -- From the entry that a runtime made to a turn of the schedule, and from a turn to a step of the stream.
 use Rattle.std.proofs.Common.{sym, subst, ◌∙◌, ap, arith, inl, inr, drop}
 use Rattle.std.proofs.lemmas.Grind.{common_steps}
-use Rattle.std.specs.Prelude.{◌≡◌, refl, ℕ, zero, suc, ◌+◌, ◌≤◌, ◌<◌, Bool, true, false, cond, ◌==◌, List, ◌∷◌, ◌++◌, Option, Some, None, Result, Ok, Err, OnErr}
+use Rattle.std.specs.Prelude.{◌≡◌, refl, ℕ, zero, suc, ◌+◌, ◌≤◌, ◌<◌, Bool, true, false, cond, ◌==◌, List, ◌∷◌, ◌++◌, Option, Some, None, Result, Ok, Err, IfOk, OnOk, OnErr}
 use Rattle.com_io.specs.Told.{GainsPrefix}
 use Rattle.com_model.specs.declared.counts.Ended.{Ended}
 use Rattle.com_model.specs.declared.counts.Ended.TheVariants as ended
@@ -134,6 +134,28 @@ turn_of_lane_at r s all picks st new tried left last l e same list goes t low p 
   where
     at : List ℕ → Option Turn
     at ls = Some (record { lane = l; picks = ls })
+
+-- ---- the same of a result that is handed on, whether or not there is an entry
+
+pub turn_of_result : {E : Type 0} (answer : Result Entry E) (r s : Scenario) (all picks : List ℕ) (st new : State) (tried left last l : ℕ) → r ≡ s → all ≡ picks → ended_now s st ≡ None → turn_now r st (drop tried all) last ≡ Some (record { lane = l; picks = drop left all }) → 1 ≤ l → IfOk answer (λ e. IsNext r st l e new) → IfOk answer (λ e. IsTurn s st (drop tried picks) last e new (drop left picks) l)
+turn_of_result (Ok e) r s all picks st new tried left last l same list goes t low p =
+    turn_of_lane_at r s all picks st new tried left last l e same list goes t low p
+turn_of_result (Err x) r s all picks st new tried left last l same list goes t low p = tt
+
+pub result_serves : {E : Type 0} (answer : Result Entry E) (r s : Scenario) (st new : State) (l : ℕ) (steps steps_new : List ℕ) → r ≡ s → IfOk answer (λ e. IsNext r st l e new) → OnOk answer (steps_new ≡ served_in r st l steps) → IfOk answer (λ e. steps_new ≡ served_in s st e.lane steps)
+result_serves (Ok e) r s st new l steps steps_new same p q =
+    subst (λ (x : Scenario). steps_new ≡ served_in x st l steps) same q ∙ ap (λ (k : ℕ). served_in s st k steps) (sym p.by)
+result_serves (Err x) r s st new l steps steps_new same p q = tt
+
+pub turn_of_tick : {E : Type 0} (answer : Result Entry E) (r s : Scenario) (st new : State) (picks : List ℕ) (last : ℕ) → r ≡ s → ended_now s st ≡ None → standing.Ticks ≡ standing_of s st → IfOk answer (λ e. IsNext r st 0 e new) → IfOk answer (λ e. IsTurn s st picks last e new picks last)
+turn_of_tick (Ok e) r s st new picks last same goes t p =
+    turn_of_clock s st new picks last e goes t (subst (λ (x : Scenario). IsNext x st 0 e new) same p)
+turn_of_tick (Err x) r s st new picks last same goes t p = tt
+
+pub tick_serves : {E : Type 0} (answer : Result Entry E) (r s : Scenario) (st new : State) (steps : List ℕ) → r ≡ s → IfOk answer (λ e. IsNext r st 0 e new) → IfOk answer (λ e. steps ≡ served_in s st e.lane steps)
+tick_serves (Ok e) r s st new steps same p =
+    clock_serves s st new e steps (subst (λ (x : Scenario). IsNext x st 0 e new) same p)
+tick_serves (Err x) r s st new steps same p = tt
 
 pub step_made_at : (s : Scenario) (st new : State) (picks picks_new : List ℕ) (last last_new place : ℕ) (lines lines_new kept : List ℕ) (held held_new : Option (List ℕ)) (steps steps_new : List ℕ) (e : Entry) → kept ≡ lines → IsTurn s st picks last e new picks_new last_new → place ≡ new.entries → GoesOn held held_new kept lines_new (line_text s.version place e) → steps_new ≡ served_in s st e.lane steps → IsMade s (record { state = st; picks = picks; last = last; lines = lines; held = held; steps = steps }) (record { state = new; picks = picks_new; last = last_new; lines = lines_new; held = held_new; steps = steps_new }) e
 step_made_at s st new picks picks_new last last_new place lines lines_new kept held held_new steps steps_new e k t p g q =

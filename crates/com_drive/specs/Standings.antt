@@ -60,4 +60,5 @@ Reached s st = Formed s × ((h : List Entry) × StandsFor s st h)
 
 -- The turn is that of a lane, with these picks left, if any lane can step.
 pub record HasTurn (s : Scenario) (st : State) (picks : List ℕ) (last lane : ℕ) (left : List ℕ) : Type 0 where
-  pub turn : standing_of s st ≡ standing.Runs → turn_now s st picks last ≡ Some (record { lane = lane; picks = left })
+  pub turn : standing_of s st ≡ standing.Runs
+      → turn_now s st picks last ≡ Some (record { lane = lane; picks = left })

@@ -50,7 +50,8 @@ served_by s (e ∷ h) steps = served_at s h e.lane (served_by s h steps)
 
 -- One turn of the schedule: the history has not ended, the turn is that of the entry's lane, and afterwards
 -- these picks are left, and this is the last lane.
-pub record IsTurn (s : Scenario) (st : State) (picks : List ℕ) (last : ℕ) (e : Entry) (new : State) (picks_new : List ℕ) (last_new : ℕ) : Type 0 where
+pub record IsTurn (s : Scenario) (st : State) (picks : List ℕ) (last : ℕ) (e : Entry) (new : State)
+    (picks_new : List ℕ) (last_new : ℕ) : Type 0 where
   pub goes_on : ended_now s st ≡ None
   pub turn : turn_now s st picks last ≡ Some (record { lane = e.lane; picks = picks_new })
   pub next : IsNext s st e.lane e new

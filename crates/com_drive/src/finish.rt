@@ -50,7 +50,8 @@ pub fn finish<C: Runtime, K: Sink>(
     requires reached { Reached scenario.now (C.state runtime.now) }
     requires whole { C.broken runtime.now ≡ false }
     ensures ok { OnOk result (Gains (K.held sink.old) (K.held sink.new) (kept.old
-        ++ report_text (all_counts_in scenario.now (C.state runtime.now)) (C.state runtime.now).entries (C.state runtime.now).clock ended)) }
+        ++ report_text (all_counts_in scenario.now (C.state runtime.now))
+        (C.state runtime.now).entries (C.state runtime.now).clock ended)) }
     ensures answer { IfOk result (λ replayed. replayed
         ≡ record {
           ended = ended;
@@ -59,7 +60,8 @@ pub fn finish<C: Runtime, K: Sink>(
               (C.state runtime.now).clock;
         }) }
     ensures prefix { GainsPrefix (K.held sink.old) (K.held sink.new) (kept.old
-        ++ report_text (all_counts_in scenario.now (C.state runtime.now)) (C.state runtime.now).entries (C.state runtime.now).clock ended) }
+        ++ report_text (all_counts_in scenario.now (C.state runtime.now))
+        (C.state runtime.now).entries (C.state runtime.now).clock ended) }
     ensures fault { result ≡ Err replay_error.WriteFault
         → Rose (K.faults_of sink.old) (K.faults_of sink.new) }
     ensures counts { K.faults_of sink.old ≤ K.faults_of sink.new }

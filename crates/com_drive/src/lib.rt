@@ -35,8 +35,8 @@ pub use stream::{Step, Stream};
 /// the report to the sink. The row has one servant of each kind, in the order of the kinds, and keeps them
 /// so; each counts the steps of the bodies of its kind.
 ///
-/// `WriteFault` comes only where the sink's count of faults rose in this call, and `Memory` is want of memory. Whatever is
-/// answered, what was written is a prefix of the whole text.
+/// `WriteFault` comes only where the sink's count of faults rose in this call, and `Memory` is want of
+/// memory. Whatever is answered, what was written is a prefix of the whole text.
 pub fn drive<C: Runtime, K: Sink>(
     alloc: Global,
     scenario: &Scenario,

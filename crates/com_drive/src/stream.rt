@@ -58,7 +58,7 @@ impl Stream {
     }
 
     // Has the lane whose turn it is make its entry.
-    #[tactic(auto, using(crate::proofs::Turning::turn_of_lane, crate::proofs::Turning::below_limit))]
+    #[tactic(auto, using(crate::proofs::Turning::below_limit))]
     fn lane_turn<C: Runtime>(
         &mut self,
         alloc: Global,
@@ -90,14 +90,13 @@ impl Stream {
         ensures served { IfOk result (λ entry. map stepped servants.new.items
             ≡ served_in scenario.now (C.state runtime.old) entry.lane (map stepped servants.old.items)) }
     {
-        let entry = runtime.step(alloc, chosen.lane, servants)?;
         self.tried = chosen.tried;
         self.last = chosen.lane;
-        Ok(entry)
+        runtime.step(alloc, chosen.lane, servants)
     }
 
     // Has the lane whose turn it is make its entry, or the clock where no lane can step.
-    #[tactic(auto, using(crate::proofs::Turning::turn_of_clock, crate::proofs::Turning::below_limit, crate::proofs::Turning::clock_serves, crate::proofs::Turning::not_finished, crate::proofs::Turning::not_stuck, crate::proofs::Choices::not_runs))]
+    #[tactic(auto, using(crate::proofs::Turning::below_limit, crate::proofs::Turning::not_finished, crate::proofs::Turning::not_stuck, crate::proofs::Choices::not_runs))]
     fn turn<C: Runtime>(
         &mut self,
         alloc: Global,
@@ -112,7 +111,8 @@ impl Stream {
         requires goes { IfSome chosen (λ chosen. CanGo (C.scenario runtime.old)
             (C.state runtime.old) chosen.lane) }
         requires turn { IfSome chosen (λ chosen. HasTurn (C.scenario runtime.old) (C.state runtime.old)
-            (drop self.old.tried scenario.now.picks) self.old.last chosen.lane (drop chosen.tried scenario.now.picks)) }
+            (drop self.old.tried scenario.now.picks) self.old.last
+            chosen.lane (drop chosen.tried scenario.now.picks)) }
         requires none { chosen ≡ None → none_can_in (C.scenario runtime.old) (C.state runtime.old) ≡ true }
         requires goes_on { ended_now scenario.now (C.state runtime.old) ≡ None }
         requires entries { (C.state runtime.old).entries ≤ limit scenario.now }
@@ -136,10 +136,7 @@ impl Stream {
                 Some(chosen) => self.lane_turn(alloc, scenario, runtime, chosen, servants),
                 None => unreachable!(),
             },
-            Standing::Ticks => {
-                let entry = runtime.tick()?;
-                Ok(entry)
-            }
+            Standing::Ticks => runtime.tick(),
             Standing::Finished => unreachable!(),
             Standing::Stuck => unreachable!(),
         }
@@ -152,8 +149,9 @@ impl Stream {
     /// The runtime's state stands for a history of the scenario, which is formed; and it did not run out of
     /// memory in the middle of an entry. At Ok that is so again.
     ///
-    /// `WriteFault` comes only where the sink's count of faults rose in this call, and `Memory` is want of memory. After either
-    /// the lines may be broken off: what was written is a prefix of what was kept and the turn's line.
+    /// `WriteFault` comes only where the sink's count of faults rose in this call, and `Memory` is want of
+    /// memory. After either the lines may be broken off: what was written is a prefix of what was kept and
+    /// the turn's line.
     #[tactic(auto, using(crate::proofs::Turning::step_over, crate::proofs::Turning::step_made, crate::proofs::Turning::step_failed, crate::proofs::Turning::step_began, crate::proofs::Choices::same_turn, crate::proofs::Resting::same_reached))]
     pub fn step<C: Runtime, K: Sink>(
         &mut self,
@@ -222,8 +220,8 @@ impl Stream {
 
     /// Writes the lines that are kept, and the report of a runtime whose history has ended so.
     ///
-    /// `WriteFault` comes only where the sink's count of faults rose in this call, and `Memory` is want of memory. What was
-    /// written is a prefix of the lines and the report.
+    /// `WriteFault` comes only where the sink's count of faults rose in this call, and `Memory` is want of
+    /// memory. What was written is a prefix of the lines and the report.
     pub fn finish<C: Runtime, K: Sink>(
         &mut self,
         alloc: Global,
@@ -236,7 +234,8 @@ impl Stream {
         requires reached { Reached scenario.now (C.state runtime.now) }
         requires whole { C.broken runtime.now ≡ false }
         ensures ok { OnOk result (Gains (K.held sink.old) (K.held sink.new) (self.old.lines
-            ++ report_text (all_counts_in scenario.now (C.state runtime.now)) (C.state runtime.now).entries (C.state runtime.now).clock ended)) }
+            ++ report_text (all_counts_in scenario.now (C.state runtime.now))
+            (C.state runtime.now).entries (C.state runtime.now).clock ended)) }
         ensures answer { IfOk result (λ replayed. replayed
             ≡ record {
               ended = ended;
@@ -245,7 +244,8 @@ impl Stream {
                   (C.state runtime.now).clock;
             }) }
         ensures prefix { GainsPrefix (K.held sink.old) (K.held sink.new) (self.old.lines
-            ++ report_text (all_counts_in scenario.now (C.state runtime.now)) (C.state runtime.now).entries (C.state runtime.now).clock ended) }
+            ++ report_text (all_counts_in scenario.now (C.state runtime.now))
+            (C.state runtime.now).entries (C.state runtime.now).clock ended) }
         ensures fault { result ≡ Err replay_error.WriteFault
             → Rose (K.faults_of sink.old) (K.faults_of sink.new) }
         ensures counts { K.faults_of sink.old ≤ K.faults_of sink.new }

@@ -56,3 +56,9 @@ pub object_line_behind : (text : List ℕ) (number : ℕ) (c : Counts)
     ++ codes " tables " ++ decimal c.tables ++ codes " stub " ++ decimal c.stub ++ codes "\n"
     ≡ text ++ object_line number c
 object_line_behind text number c = simp append_assoc
+
+-- the front of an entry's line, which was written from its end: the lane, the word before it, and the place
+pub front_of_line : (place lane whole behind digits : List ℕ) → whole ≡ place ++ behind → behind ≡ 32 ∷ 76 ∷ digits → digits ≡ lane ++ []
+    → whole ≡ place ++ codes " L" ++ lane
+front_of_line place lane whole behind digits w b d =
+    w ∙ ap (λ x. place ++ x) (b ∙ ap (λ x. 32 ∷ 76 ∷ x) (d ∙ append-nil lane)) ∙ sym (append_assoc place (codes " L") lane)

@@ -43,8 +43,7 @@ fn entry_line(text: &mut Text, version: u8, place: u64, entry: &Entry) -> Result
     ensures front { text.new.front ≡ text.old.front }
     ensures ok { OnOk result (text.new.text ≡ line_text version place entry.now) }
 {
-    text.number(place)?;
-    text.numbered(b" L", entry.lane as u64)?;
+    text.place_and_lane(place, entry.lane)?;
     deed(text, version, &entry.deed)?;
     text.push(b"\n")
 }

@@ -1,13 +1,13 @@
 //! What a line is written with: the text that grows, and the words that stand in many lines.
-ghost use Rattle.std.specs.Prelude.{◌≡◌, ◌++◌, ℕ, [], ◌<◌, ◌≤◌, ◌/◌, ◌%◌, OnOk, decimal, codes, slice_index};
-ghost use Rattle.std.specs.Prelude.{length};
+ghost use Rattle.std.specs.Prelude.{◌≡◌, ◌++◌, ◌+◌, ℕ, [], ◌∷◌, ◌<◌, ◌≤◌, ◌/◌, ◌%◌, OnOk, decimal, codes};
+ghost use Rattle.std.specs.Prelude.{length, drop, slice_index};
 ghost use Rattle.std.specs.Fmt.{signed_decimal};
 ghost use Rattle.hex.specs.Hex.{encode_lower, upper_digits};
 ghost use Rattle.com_model.specs.Text.{eight_digits, hresult_text, named, held_text, asked_text, bytes_text};
 
 use com_base::{ByteList, HResult, Memory, RefValue};
 use com_body::Asked;
-use itoa::Buffer;
+use itoa::{Buffer, write_digits};
 use std::marker::Model;
 
 /// A list of bytes to which a text is being appended, so that the text can be taken back where
@@ -81,6 +81,20 @@ impl Text {
     {
         let mut digits = Buffer::new();
         self.push(digits.format(number).as_bytes())
+    }
+
+    /// Appends the place of an entry and its lane behind an `L`, in decimal digits and as one piece.
+    pub fn place_and_lane(&mut self, place: u64, lane: u32) -> Result<(), Memory>
+        ensures front { self.new.front ≡ self.old.front }
+        ensures ok { OnOk result (self.new.text
+            ≡ self.old.text ++ (decimal place ++ codes " L" ++ decimal lane)) }
+    {
+        let mut piece = [0u8; FRONT];
+        let lane_at = write_digits(lane as u64, &mut piece, FRONT);
+        let word_at = lane_at - 2;
+        lane_word(&mut piece, word_at);
+        let start = write_digits(place, &mut piece, word_at);
+        self.push(&piece[start..])
     }
 
     /// Appends a word and a number in decimal digits.
@@ -210,11 +224,23 @@ impl Text {
     }
 }
 
+/// Two numbers of at most 20 digits, and the word of two bytes between them.
+const FRONT: usize = 42;
+
 /// How many bytes are turned into digits at a time.
 const PIECE: usize = 64;
 
 /// How many digits they have.
 const DIGITS: usize = 128;
+
+/// Writes the word before a lane's number.
+fn lane_word(bytes: &mut [u8], at: usize)
+    requires { at + 2 ≤ length bytes.old }
+    ensures { drop at bytes.new ≡ 32 ∷ 76 ∷ drop (at + 2) bytes.old }
+{
+    bytes[at] = b' ';
+    bytes[at + 1] = b'L';
+}
 
 /// The upper-case hexadecimal digit of a number below 16.
 fn upper_digit(number: u32) -> u8
