@@ -3,9 +3,9 @@
 ghost use Rattle.std.specs.Prelude.{◌≡◌, ◌≤◌, IfOk};
 ghost use Rattle.com_model.specs.Tables.{lanes};
 ghost use Rattle.com_threads.specs.Histories.{Adds, UpToDate};
-ghost use Rattle.com_threads.specs.Turns.{IsComputed, IsTaken};
+ghost use Rattle.com_threads.specs.Turns.{IsWork};
 
-use crate::desk::{Brought, Desk, Turn};
+use crate::desk::{Desk, Turn, Work};
 use com_base::Memory;
 use com_jobs::Jobs;
 use com_model::{Entry, Scenario};
@@ -31,7 +31,8 @@ impl Plays for Brand {
 // A runtime and its history. Once memory was wanting, no entry is made any more.
 #[derive(Drop)]
 pub(crate) struct Book<C: Jobs + Drop, J: Plays> {
-    desk: Desk<C>,
+    // In a box, since the turnstile moves the book at each enter and each leave.
+    desk: Box<Desk<C>>,
     failed: bool,
     of: PhantomData<J>,
 }
@@ -43,24 +44,24 @@ impl<C: Jobs + Drop, J: Plays> Model for Book<C, J> {
 
     ghost Value = { List AnyEntry };
 
-    ghost view = { λ b. b.desk.pages.entries };
+    ghost view = { λ b. b.desk.value.pages.entries };
 
-    ghost invariant = { λ b. b.failed ≡ false → UpToDate J.scenario (C.scenario b.desk.core)
-        (C.state b.desk.core) (C.broken b.desk.core) b.desk.pages };
+    ghost invariant = { λ b. b.failed ≡ false → UpToDate J.scenario (C.scenario b.desk.value.core)
+        (C.state b.desk.value.core) (C.broken b.desk.value.core) b.desk.value.pages };
 }
 
 impl<C: Jobs + Drop, J: Plays> Book<C, J> {
     // A book round a runtime that has made no entry.
-    pub(crate) fn new(desk: Desk<C>) -> Book<C, J>
+    pub(crate) fn new(alloc: Global, desk: Desk<C>) -> Result<Book<C, J>, Memory>
         requires { UpToDate J.scenario (C.scenario desk.core) (C.state desk.core) (C.broken desk.core)
             desk.pages }
-        ensures { result ≡ desk.pages.entries }
+        ensures { IfOk result (λ book. book ≡ desk.pages.entries) }
     {
-        Book {
-            desk,
+        Ok(Book {
+            desk: Box::new(alloc, desk)?,
             failed: false,
             of: PhantomData,
-        }
+        })
     }
 
     #[tactic(auto, using(crate::proofs::Added::at_named, crate::proofs::Added::named_at, crate::proofs::Added::adds_none))]
@@ -70,18 +71,18 @@ impl<C: Jobs + Drop, J: Plays> Book<C, J> {
         alloc: Global,
         scenario: &Scenario,
         lane: u32,
-        brought: Brought,
+        work: &mut Work,
     ) -> Turn
         requires scenario { scenario.now ≡ J.scenario }
         requires lane { (1 ≤ lane) × (lane ≤ lanes scenario.now) }
-        requires brought { IsComputed scenario.now brought }
+        requires work { IsWork scenario.now work.old }
         ensures adds { Adds lane self.old self.new }
-        ensures turn { IsTaken scenario.now result }
+        ensures work { IsWork scenario.now work.new }
     {
         if self.failed {
             return Turn::Over;
         }
-        match self.desk.turn(alloc, scenario, lane, brought) {
+        match self.desk.turn(alloc, scenario, lane, work) {
             Ok(turn) => turn,
             Err(_) => {
                 self.failed = true;
@@ -125,7 +126,7 @@ impl<C: Jobs + Drop, J: Plays> Book<C, J> {
         if failed {
             return Err(Memory);
         }
-        Ok(desk)
+        Ok(Box::into_inner(desk))
     }
 }
 

@@ -8,7 +8,8 @@ ghost use Rattle.com_model.specs.Ends.{limit};
 ghost use Rattle.com_model.specs.Tables.{lanes};
 ghost use Rattle.com_servant.specs.Steps.{job_step};
 ghost use Rattle.com_threads.specs.Histories.{Adds, UpToDate};
-ghost use Rattle.com_threads.specs.Turns.{IsComputed, IsTaken};
+ghost use Rattle.com_threads.specs.declared.desk.Turn.TheVariants as turn;
+ghost use Rattle.com_threads.specs.Turns.{IsNextOf, IsWork};
 
 use crate::pages::Pages;
 use com_base::Memory;
@@ -17,12 +18,16 @@ use com_jobs::{CommitError, Jobs, Next, Standing};
 use com_model::Scenario;
 use std::alloc::Global;
 
+// How many entries of its own a lane makes at most before its worker leaves the lock, beside the one whose
+// step was computed.
+const OWN_ENTRIES: u32 = 64;
+
 // What a worker finds for its lane.
-#[derive(Drop)]
+#[derive(Debug, Clone, Copy, PartialEq, Eq)]
 pub(crate) enum Turn {
-    // The step of a body, to be computed outside of the lock.
-    Works(Job),
-    // The lane has an entry of its own to make.
+    // The step of a body, to be computed outside of the lock. Its job lies in the worker's work.
+    Works,
+    // The lane may have more entries of its own to make.
     Goes,
     // The lane cannot step.
     Waits,
@@ -30,14 +35,24 @@ pub(crate) enum Turn {
     Over,
 }
 
-// What a worker brings back into the lock.
+// The job that a worker has taken, and what its servant computed for it. Both are wide, so they lie in one
+// place from the worker's first turn to its last.
 #[derive(Drop)]
-pub(crate) enum Brought {
-    Nothing,
-    // A job, and what its servant computed for it.
-    Step(Job, Outcome),
-    // The servant wanted memory.
-    WantOfMemory,
+pub(crate) struct Work {
+    pub(crate) job: Option<Job>,
+    pub(crate) step: Option<Result<Outcome, Memory>>,
+}
+
+impl Work {
+    // No job.
+    pub(crate) fn new() -> Work
+        ensures { result ≡ record { job = None; step = None } }
+    {
+        Work {
+            job: None,
+            step: None,
+        }
+    }
 }
 
 // A runtime, and the history that it has made.
@@ -113,25 +128,6 @@ impl<C: Jobs + Drop> Desk<C> {
         self.pages.write(entry)
     }
 
-    // Makes the lane's own entry, if it has one to make and there is room.
-    #[tactic(auto, using(crate::proofs::Added::reached_at, crate::proofs::Added::adds_none))]
-    fn go_on(&mut self, alloc: Global, scenario: &Scenario, lane: u32) -> Result<(), Memory>
-        requires at { UpToDate scenario.now (C.scenario self.old.core) (C.state self.old.core)
-            (C.broken self.old.core) self.old.pages }
-        requires lane { (1 ≤ lane) × (lane ≤ lanes scenario.now) }
-        ensures at { OnOk result (UpToDate scenario.now (C.scenario self.new.core) (C.state self.new.core)
-            (C.broken self.new.core) self.new.pages) }
-        ensures adds { Adds lane self.old.pages.entries self.new.pages.entries }
-    {
-        if self.is_full(scenario) {
-            return Ok(());
-        }
-        if self.core.next(lane) != Next::Own {
-            return Ok(());
-        }
-        self.advance(alloc, scenario, lane)
-    }
-
     // What a lane that cannot step finds: where the clock goes on, its entry is made.
     #[tactic(auto, using(crate::proofs::Added::reached_at, crate::proofs::Added::adds_none))]
     fn wait(&mut self, alloc: Global, scenario: &Scenario) -> Result<Turn, Memory>
@@ -141,7 +137,7 @@ impl<C: Jobs + Drop> Desk<C> {
         ensures at { OnOk result (UpToDate scenario.now (C.scenario self.new.core) (C.state self.new.core)
             (C.broken self.new.core) self.new.pages) }
         ensures adds { Adds 0 self.old.pages.entries self.new.pages.entries }
-        ensures turn { IfOk result (λ turn. IsTaken scenario.now turn) }
+        ensures rests { IfOk result (λ found. ¬ (found ≡ turn.Works) × ¬ (found ≡ turn.Goes)) }
     {
         match self.core.standing() {
             Standing::Runs => Ok(Turn::Waits),
@@ -163,66 +159,93 @@ impl<C: Jobs + Drop> Desk<C> {
         ensures at { OnOk result (UpToDate scenario.now (C.scenario self.new.core) (C.state self.new.core)
             (C.broken self.new.core) self.new.pages) }
         ensures adds { Adds 0 self.old.pages.entries self.new.pages.entries }
-        ensures turn { IfOk result (λ turn. IsTaken scenario.now turn) }
+        ensures next { IfOk result (IsNextOf scenario.now (C.state self.new.core) lane) }
     {
         if self.is_full(scenario) {
             return Ok(Turn::Over);
         }
         match self.core.next(lane) {
-            Next::Body => {
-                let job = self.core.job(alloc, lane)?;
-                Ok(Turn::Works(job))
-            }
+            Next::Body => Ok(Turn::Works),
             Next::Own => Ok(Turn::Goes),
             Next::Over => Ok(Turn::Over),
             Next::Wait => self.wait(alloc, scenario),
         }
     }
 
-    // Takes what a worker brings.
+    // Makes the entries of the lane for which no servant is needed, one after the other, until the lane finds
+    // something else, or has made so many.
+    #[tactic(auto, using(crate::proofs::Added::adds_none))]
+    fn go_on(&mut self, alloc: Global, scenario: &Scenario, lane: u32) -> Result<Turn, Memory>
+        requires at { UpToDate scenario.now (C.scenario self.old.core) (C.state self.old.core)
+            (C.broken self.old.core) self.old.pages }
+        requires lane { (1 ≤ lane) × (lane ≤ lanes scenario.now) }
+        ensures at { OnOk result (UpToDate scenario.now (C.scenario self.new.core) (C.state self.new.core)
+            (C.broken self.new.core) self.new.pages) }
+        ensures adds { Adds lane self.old.pages.entries self.new.pages.entries }
+        ensures works { IfOk result (λ found. found ≡ turn.Works
+            → next_in scenario.now (C.state self.new.core) lane ≡ next.Body) }
+    {
+        for _ in 0..OWN_ENTRIES {
+            match self.ask(alloc, scenario, lane)? {
+                Turn::Goes => self.advance(alloc, scenario, lane)?,
+                turn => return Ok(turn),
+            }
+        }
+        Ok(Turn::Goes)
+    }
+
+    // Takes what a worker brings, and leaves it no job.
     #[tactic(auto, using(crate::proofs::Added::adds_none))]
     fn bring(
         &mut self,
         alloc: Global,
         scenario: &Scenario,
         lane: u32,
-        brought: Brought,
+        work: &mut Work,
     ) -> Result<(), Memory>
         requires at { UpToDate scenario.now (C.scenario self.old.core) (C.state self.old.core)
             (C.broken self.old.core) self.old.pages }
         requires lane { (1 ≤ lane) × (lane ≤ lanes scenario.now) }
-        requires brought { IsComputed scenario.now brought }
+        requires work { IsWork scenario.now work.old }
         ensures at { OnOk result (UpToDate scenario.now (C.scenario self.new.core) (C.state self.new.core)
             (C.broken self.new.core) self.new.pages) }
         ensures adds { Adds lane self.old.pages.entries self.new.pages.entries }
+        ensures none { work.new ≡ record { job = None; step = None } }
     {
-        match brought {
-            Brought::Nothing => Ok(()),
-            Brought::Step(job, outcome) => self.commit(alloc, scenario, lane, job, outcome),
-            Brought::WantOfMemory => Err(Memory),
+        let Some(job) = work.job.take() else {
+            return Ok(());
+        };
+        match work.step.take() {
+            Some(Ok(outcome)) => self.commit(alloc, scenario, lane, job, outcome),
+            Some(Err(_)) => Err(Memory),
+            None => Ok(()),
         }
     }
 
-    // One turn of a lane's worker: what it brings is committed, the lane's own entry is made, and it is told
-    // what is next.
+    // One turn of a lane's worker: what it brings is committed, the lane's own entries are made, and it is
+    // told what is next. Where that is the step of a body, its job is taken.
     pub(crate) fn turn(
         &mut self,
         alloc: Global,
         scenario: &Scenario,
         lane: u32,
-        brought: Brought,
+        work: &mut Work,
     ) -> Result<Turn, Memory>
         requires at { UpToDate scenario.now (C.scenario self.old.core) (C.state self.old.core)
             (C.broken self.old.core) self.old.pages }
         requires lane { (1 ≤ lane) × (lane ≤ lanes scenario.now) }
-        requires brought { IsComputed scenario.now brought }
+        requires work { IsWork scenario.now work.old }
         ensures at { OnOk result (UpToDate scenario.now (C.scenario self.new.core) (C.state self.new.core)
             (C.broken self.new.core) self.new.pages) }
         ensures adds { Adds lane self.old.pages.entries self.new.pages.entries }
-        ensures turn { IfOk result (λ turn. IsTaken scenario.now turn) }
+        ensures work { IsWork scenario.now work.new }
     {
-        self.bring(alloc, scenario, lane, brought)?;
-        self.go_on(alloc, scenario, lane)?;
-        self.ask(alloc, scenario, lane)
+        self.bring(alloc, scenario, lane, work)?;
+        let turn = self.go_on(alloc, scenario, lane)?;
+        if turn != Turn::Works {
+            return Ok(turn);
+        }
+        work.job = Some(self.core.job(alloc, lane)?);
+        Ok(turn)
     }
 }

@@ -27,6 +27,7 @@ use com_turnstile::{Guard, Turnstile};
 use std::alloc::Global;
 use std::marker::Brand;
 use std::sync::Wait;
+use std::thread;
 use std::thread::Threads;
 
 /// What a run has made.
@@ -74,6 +75,14 @@ fn answer<C: Jobs + Drop>(
     })
 }
 
+// How many processors the workers have, and 1 where that is not known.
+fn processors<R: Threads>(rt: &R) -> u32 {
+    match thread::available_parallelism(rt) {
+        Ok(count) => u32::try_from(count.get()).unwrap_or(u32::MAX),
+        Err(_) => 1,
+    }
+}
+
 #[tactic(auto, using(crate::proofs::Added::first_told, crate::proofs::Added::few_passes, crate::proofs::Added::few_sum, crate::proofs::Added::at_named))]
 // A run whose book names the scenario.
 fn run_named<
@@ -104,13 +113,13 @@ fn run_named<
 {
     let count = core.lanes();
     let pages = Pages::new(alloc, count)?;
-    let book = Book::<C, J>::new(Desk { core, pages });
+    let book = Book::<C, J>::new(alloc, Desk { core, pages })?;
     let (turnstile, mut passes) = Turnstile::new(alloc, book, count + 1)?;
     let Some(driver) = passes.pop() else {
         unreachable!()
     };
     let lock = &turnstile;
-    let bells = Bells::new();
+    let bells = Bells::new(processors(rt));
     let bell = &bells;
     let workers = deal(alloc, scenario, lock, passes, crew, count)?;
     let mut rows = in_threads(
@@ -140,8 +149,8 @@ fn run_named<
 /// servant of each kind in the order of the kinds.
 ///
 /// The history is legal in the scenario and has ended (`lawful`, `ended`), and what is told with it is its
-/// own (`counts`, `clock`, `commits`). Which history it is rests on how the threads fall. The only error is want
-/// of memory, which is answered only once all workers were joined; the crew is gone then.
+/// own (`counts`, `clock`, `commits`). Which history it is rests on how the threads fall. The only error is
+/// want of memory, which is answered only once all workers were joined; the crew is gone then.
 pub fn run_on<C: Jobs + Drop + Send, R: Threads + Wait + Sync, G: Gate + Sync>(
     rt: &R,
     alloc: Global,

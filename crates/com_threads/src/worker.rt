@@ -1,19 +1,16 @@
 //! One worker for each lane.
 ghost use Rattle.std.specs.Prelude.{◌≡◌, ℕ, ◌+◌, ◌≤◌, All, IfOk, Some, map, slice_get, vec_len};
 ghost use Rattle.std.specs.Fork.{AcceptsJobs, GivesJobs};
-ghost use Rattle.com_jobs.specs.Jobs.{HasShape};
 ghost use Rattle.com_model.specs.Tables.{lanes};
 ghost use Rattle.com_servant.specs.Rows.{row};
-ghost use Rattle.com_servant.specs.Steps.{IsOfItsClass};
-ghost use Rattle.com_threads.specs.Turns.{IsComputed, IsTaken};
+ghost use Rattle.com_threads.specs.Turns.{IsWork};
 ghost use Rattle.com_turnstile.specs.Passes.{IsPassOf, lane_of};
 
-use crate::bells::Bells;
+use crate::bells::{Bells, Doing};
 use crate::book::{Book, Plays};
-use crate::desk::{Brought, Turn};
+use crate::desk::{Turn, Work};
 use crate::gate::Gate;
 use com_base::Memory;
-use com_body::Job;
 use com_jobs::Jobs;
 use com_model::Scenario;
 use com_servant::{Servant, serve};
@@ -30,8 +27,10 @@ pub type Row = Vec<Box<dyn Servant + Send>>;
 // After so many turns one after the other in which its lane could not step a worker ends.
 const IDLE_TURNS: u32 = 1_000;
 
-// How long a worker sleeps, in microseconds, where a lane can step whose worker is at work.
-const LONG: u64 = 1_000;
+// How long a worker sleeps at most, in microseconds, where a lane can step whose worker has begun. So long
+// may a lane that can step have to wait where nobody rings for its worker, as while the gate holds another
+// one.
+const LONG: u64 = 5_000;
 
 // How long it sleeps where lanes can step whose workers have not begun. It may be that no thread can be made
 // for them before this worker ends.
@@ -47,11 +46,10 @@ pub(crate) struct Worker<B: Grows, S: Drop> {
 
 // A worker between two turns.
 #[derive(Drop)]
-struct Shift<C: Jobs + Drop, J: Plays> {
+struct Shift {
     lane: u32,
-    pass: Pass<Book<C, J>>,
     servants: Row,
-    brought: Brought,
+    work: Work,
     // How many jobs it has taken.
     jobs: u64,
     // For how many turns its lane could not step, one after the other.
@@ -67,64 +65,157 @@ struct Held<C: Jobs + Drop, J: Plays> {
     sleep: u64,
 }
 
-// Rings for the sleeping worker of one lane, if it can step.
-fn rouse<C: Jobs + Drop, J: Plays>(book: &Book<C, J>, bells: &Bells, lane: u32) {
-    if bells.sleeps(lane) && book.calls(lane) {
-        bells.ring(lane);
-    }
+// For whom a worker rings once it has left the lock. Whoever was rung for while the lock is held would wake
+// only to wait for it.
+#[derive(Clone, Copy)]
+enum Rings {
+    Nobody,
+    One(u32),
+    All,
 }
 
-// Rings for all workers that sleep and whose lanes can step. Answers for how long the worker of the lane
-// `own` may sleep: not at all where nobody is at work on a lane that can step.
-fn rouse_all<C: Jobs + Drop, J: Plays>(book: &Book<C, J>, bells: &Bells, own: u32) -> u64 {
-    let mut sleep = 0;
-    for lane in 1..=book.lanes() {
-        if lane == own || !book.calls(lane) || bells.has_ended(lane) {
-            continue;
+// What a worker does once it has left the lock: for whom it rings, and for how long it may sleep, in
+// microseconds.
+#[derive(Clone, Copy)]
+struct Round {
+    rings: Rings,
+    sleep: u64,
+}
+
+// What a worker whose lane cannot step sees of the others.
+#[derive(Drop)]
+struct Look {
+    // How many are at work on lanes that can step.
+    at_work: u32,
+    // How many doze.
+    dozing: u32,
+    // The first that dozes, and the first that sleeps, though its lane can step.
+    dozer: Option<u32>,
+    sleeper: Option<u32>,
+    // For how long this worker may sleep: not at all where nobody is there for a lane that can step.
+    sleep: u64,
+}
+
+impl Look {
+    // Sees the workers of all lanes but `own`, that of the next lane first.
+    fn round<C: Jobs + Drop, J: Plays>(book: &Book<C, J>, bells: &Bells, own: u32) -> Look {
+        let mut look = Look {
+            at_work: 0,
+            dozing: 0,
+            dozer: None,
+            sleeper: None,
+            sleep: 0,
+        };
+        for lane in own.saturating_add(1)..=book.lanes() {
+            look.see(bells.doing(lane), lane, book.calls(lane));
         }
-        bells.ring(lane);
-        if bells.has_begun(lane) {
-            sleep = LONG;
-        } else if sleep == 0 {
-            sleep = SHORT;
+        for lane in 1..own {
+            look.see(bells.doing(lane), lane, book.calls(lane));
+        }
+        look
+    }
+
+    // Who goes on, unless enough are at work.
+    fn next(&self, bells: &Bells) -> Rings {
+        if bells.are_enough(self.at_work) {
+            return Rings::Nobody;
+        }
+        match self.dozer.or(self.sleeper) {
+            Some(lane) => Rings::One(lane),
+            None => Rings::Nobody,
         }
     }
-    if book.calls(own) {
-        return 0;
+
+    // Sees the worker of one lane, that can step or cannot.
+    fn see(&mut self, doing: Doing, lane: u32, can_step: bool) {
+        if doing == Doing::Dozes {
+            self.dozing = self.dozing.saturating_add(1);
+        }
+        if !can_step || doing == Doing::Gone {
+            return;
+        }
+        if doing == Doing::Absent {
+            self.sleep = self.sleep.max(SHORT);
+            return;
+        }
+        self.sleep = LONG;
+        match doing {
+            Doing::Awake => self.at_work = self.at_work.saturating_add(1),
+            Doing::Dozes => self.dozer = self.dozer.or(Some(lane)),
+            Doing::Asleep => self.sleeper = self.sleeper.or(Some(lane)),
+            _ => {}
+        }
     }
-    sleep
 }
 
-// Rings for all workers that sleep.
-fn ring_all<C: Jobs + Drop, J: Plays>(book: &Book<C, J>, bells: &Bells) {
+// How many workers are at the lock or on their way to it.
+fn at_work<C: Jobs + Drop, J: Plays>(book: &Book<C, J>, bells: &Bells) -> u32 {
+    let mut count = 0u32;
     for lane in 1..=book.lanes() {
-        bells.ring(lane);
+        if bells.doing(lane) == Doing::Awake {
+            count = count.saturating_add(1);
+        }
+    }
+    count
+}
+
+// Another worker to go on beside one that goes on, where too few are at work. It looks at one other lane each
+// time, since the others lose nothing: there is one core.
+fn helper<C: Jobs + Drop, J: Plays>(book: &Book<C, J>, bells: &Bells) -> Rings {
+    let lane = book.other_lane();
+    let doing = bells.doing(lane);
+    if doing != Doing::Dozes && doing != Doing::Asleep {
+        return Rings::Nobody;
+    }
+    if bells.are_enough(at_work(book, bells)) || !book.calls(lane) {
+        return Rings::Nobody;
+    }
+    Rings::One(lane)
+}
+
+// Another worker goes on in the place of one whose lane cannot step, unless enough are at work. It says that
+// it waits, unless the clock's entry has let its own lane step.
+fn hand_on<C: Jobs + Drop, J: Plays>(book: &Book<C, J>, bells: &Bells, own: u32) -> Round {
+    let look = Look::round(book, bells, own);
+    if look.sleep == 0 || book.calls(own) {
+        return Round {
+            rings: Rings::Nobody,
+            sleep: 0,
+        };
+    }
+    bells.set(own, look.dozing);
+    Round {
+        rings: look.next(bells),
+        sleep: look.sleep,
     }
 }
 
-// Rings for those who have something to do after a turn. While a lane can step it looks at one other lane
-// each time, since the others lose nothing: there is one core. Answers for how long the lane's worker may sleep.
+// Looks round after a turn, and says what the lane's worker does next.
 fn look_round<C: Jobs + Drop, J: Plays>(
     book: &Book<C, J>,
     bells: &Bells,
     lane: u32,
-    turn: &Turn,
-    at: u32,
-) -> u64 {
+    turn: Turn,
+) -> Round {
     match turn {
-        Turn::Works(_) | Turn::Goes => {
-            rouse(book, bells, at);
-            0
+        Turn::Works => {
+            let rings = helper(book, bells);
+            bells.away(lane);
+            Round { rings, sleep: 0 }
         }
-        Turn::Waits => rouse_all(book, bells, lane),
-        Turn::Over => {
-            ring_all(book, bells);
-            0
-        }
+        Turn::Goes => Round {
+            rings: helper(book, bells),
+            sleep: 0,
+        },
+        Turn::Waits => hand_on(book, bells, lane),
+        Turn::Over => Round {
+            rings: Rings::All,
+            sleep: 0,
+        },
     }
 }
 
-// One stay under the lock. A worker that is to sleep says so before it leaves.
+// One stay under the lock. Once it has left, it rings for those who have something to do.
 fn hold<C: Jobs + Drop, J: Plays, R: Wait>(
     rt: &R,
     alloc: Global,
@@ -133,38 +224,38 @@ fn hold<C: Jobs + Drop, J: Plays, R: Wait>(
     bells: &Bells,
     pass: Pass<Book<C, J>>,
     lane: u32,
-    brought: Brought,
+    work: &mut Work,
 ) -> Held<C, J>
     requires pass { IsPassOf lock.now pass × (lane_of pass ≡ lane) }
     requires scenario { scenario.now ≡ J.scenario }
     requires lane { (1 ≤ lane) × (lane ≤ lanes scenario.now) }
-    requires brought { IsComputed scenario.now brought }
+    requires work { IsWork scenario.now work.old }
     ensures pass { IsPassOf lock.now result.pass × (lane_of result.pass ≡ lane) }
-    ensures turn { IsTaken scenario.now result.turn }
+    ensures work { IsWork scenario.now work.new }
 {
     let mut guard = lock.enter(rt, pass);
-    let turn = guard.value.turn(alloc, scenario, lane, brought);
-    let at = guard.value.other_lane();
-    let sleep = look_round(&guard.value, bells, lane, &turn, at);
-    if sleep > 0 {
-        bells.set(lane);
-    }
+    let turn = guard.value.turn(alloc, scenario, lane, work);
+    let Round { rings, sleep } = look_round(&guard.value, bells, lane, turn);
     let pass = lock.leave(guard);
+    match rings {
+        Rings::Nobody => {}
+        Rings::One(other) => bells.ring(other),
+        Rings::All => bells.ring_all(),
+    }
     Held { pass, turn, sleep }
 }
 
-// Has the servant of the job's kind compute its step.
-fn compute(alloc: Global, scenario: &Scenario, servants: &mut Row, job: Job) -> Brought
-    requires class { IsOfItsClass scenario.now.classes job }
-    requires shape { HasShape job.frame }
+// Has the servant of the job's kind compute its step, and puts it beside the job.
+fn compute(alloc: Global, scenario: &Scenario, servants: &mut Row, work: &mut Work)
+    requires work { IsWork scenario.now work.old }
     requires servants { map kind_of servants.old.items ≡ row }
-    ensures computed { IsComputed scenario.now result }
+    ensures work { IsWork scenario.now work.new }
     ensures servants { map kind_of servants.new.items ≡ row }
 {
-    match serve(alloc, servants, &scenario.classes, &job) {
-        Ok(outcome) => Brought::Step(job, outcome),
-        Err(_) => Brought::WantOfMemory,
-    }
+    let Some(job) = &work.job else {
+        return;
+    };
+    work.step = Some(serve(alloc, servants, &scenario.classes, job));
 }
 
 // Waits for a while, without the lock.
@@ -173,66 +264,48 @@ fn pause<R: Wait>(rt: &R, bells: &Bells, lane: u32, sleep: u64) {
         thread::yield_now();
         return;
     }
-    bells.sleep(rt, lane, Duration::from_micros(sleep));
+    bells.wait(rt, lane, Duration::from_micros(sleep));
 }
 
-impl<C: Jobs + Drop, J: Plays> Shift<C, J> {
-    // One turn: what the worker brings is committed and its lane's own entry is made, under the lock. The
-    // step of a body is then computed outside of it, and the gate is called. Answers whether the worker goes on.
-    fn turn<R: Wait, G: Gate>(
-        self,
+impl Shift {
+    // What the worker does without the lock, after a turn in it. The step of a body is computed, and the gate
+    // is called. Answers whether the worker goes on.
+    fn outside<R: Wait, G: Gate>(
+        &mut self,
         rt: &R,
         alloc: Global,
         scenario: &Scenario,
-        lock: &Turnstile<Book<C, J>>,
         bells: &Bells,
         gate: &G,
-    ) -> (Shift<C, J>, bool)
-        requires pass { IsPassOf lock.now self.pass × (lane_of self.pass ≡ self.lane) }
-        requires scenario { scenario.now ≡ J.scenario }
-        requires lane { (1 ≤ self.lane) × (self.lane ≤ lanes scenario.now) }
-        requires brought { IsComputed scenario.now self.brought }
-        requires servants { map kind_of self.servants.items ≡ row }
-        ensures pass { IsPassOf lock.now result.0.pass × (lane_of result.0.pass ≡ result.0.lane) }
-        ensures lane { result.0.lane ≡ self.lane }
-        ensures brought { IsComputed scenario.now result.0.brought }
-        ensures servants { map kind_of result.0.servants.items ≡ row }
+        turn: Turn,
+        sleep: u64,
+    ) -> bool
+        requires work { IsWork scenario.now self.old.work }
+        requires servants { map kind_of self.old.servants.items ≡ row }
+        ensures lane { self.new.lane ≡ self.old.lane }
+        ensures work { IsWork scenario.now self.new.work }
+        ensures servants { map kind_of self.new.servants.items ≡ row }
     {
-        let Shift {
-            lane,
-            pass,
-            mut servants,
-            brought,
-            jobs,
-            idle,
-        } = self;
-        let Held { pass, turn, sleep } = hold(
-            rt, alloc, scenario, lock, bells, pass, lane, brought,
-        );
-        let (brought, jobs, idle, goes_on) = match turn {
-            Turn::Works(job) => {
-                let brought = compute(alloc, scenario, &mut servants, job);
-                let jobs = jobs.saturating_add(1);
-                gate.between(lane, jobs);
-                (brought, jobs, 0, true)
+        match turn {
+            Turn::Works => {
+                compute(alloc, scenario, &mut self.servants, &mut self.work);
+                self.jobs = self.jobs.saturating_add(1);
+                self.idle = 0;
+                gate.between(self.lane, self.jobs);
+                bells.awake(self.lane);
+                true
             }
-            Turn::Goes => (Brought::Nothing, jobs, 0, true),
+            Turn::Goes => {
+                self.idle = 0;
+                true
+            }
             Turn::Waits => {
-                pause(rt, bells, lane, sleep);
-                let idle = idle.saturating_add(1);
-                (Brought::Nothing, jobs, idle, idle < IDLE_TURNS)
+                pause(rt, bells, self.lane, sleep);
+                self.idle = self.idle.saturating_add(1);
+                self.idle < IDLE_TURNS
             }
-            Turn::Over => (Brought::Nothing, jobs, idle, false),
-        };
-        let shift = Shift {
-            lane,
-            pass,
-            servants,
-            brought,
-            jobs,
-            idle,
-        };
-        (shift, goes_on)
+            Turn::Over => false,
+        }
     }
 }
 
@@ -255,22 +328,35 @@ pub(crate) fn work<C: Jobs + Drop, J: Plays, R: Wait, G: Gate>(
 {
     let Worker {
         lane,
-        pass,
+        mut pass,
         servants,
     } = worker;
     bells.awake(lane);
     let mut shift = Shift {
         lane,
-        pass,
         servants,
-        brought: Brought::Nothing,
+        work: Work::new(),
         jobs: 0,
         idle: 0,
     };
     for _ in rt.forever() {
-        let (later, goes_on) = shift.turn(rt, alloc, scenario, lock, bells, gate);
-        shift = later;
-        if !goes_on {
+        let held = hold(
+            rt,
+            alloc,
+            scenario,
+            lock,
+            bells,
+            pass,
+            lane,
+            &mut shift.work,
+        );
+        let Held {
+            pass: later,
+            turn,
+            sleep,
+        } = held;
+        pass = later;
+        if !shift.outside(rt, alloc, scenario, bells, gate, turn, sleep) {
             break;
         }
     }

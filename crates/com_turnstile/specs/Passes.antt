@@ -37,7 +37,8 @@ pub record IsIdle {T E : Type 0} (id : TableId) (seat : Seat (Option T) (View E)
   pub no_turn : seat.me.0.turn ≡ false
 
 -- A seat of this turnstile that has the number n, and has seen the opening list alone
-pub record IsNewSeat {T E : Type 0} (id : TableId) (opening : List E) (n : ℕ) (seat : Seat (Option T) (View E)) : Type 0 where
+pub record IsNewSeat {T E : Type 0} (id : TableId) (opening : List E) (n : ℕ)
+    (seat : Seat (Option T) (View E)) : Type 0 where
   pub idle : IsIdle id seat
   pub number : seat.me.0.number ≡ n
   pub opening_kept : seat.me.0.opening ≡ opening
@@ -57,7 +58,8 @@ pub record IsGuardOf {T E : Type 0} (t : Turnstile T E) (g : Guard T E) : Type 0
   pub counted : g.pass.count ≡ length (seen_by g.pass)
 
 -- The pass of the lane n, which may enter, has seen the opening list alone and has made no entry
-pub record IsNewPass {T E : Type 0} (t : Turnstile T E) (opening : List E) (n : ℕ) (p : Pass T E) : Type 0 where
+pub record IsNewPass {T E : Type 0} (t : Turnstile T E) (opening : List E) (n : ℕ)
+    (p : Pass T E) : Type 0 where
   pub pass : IsPassOf t p
   pub lane : lane_of p ≡ n
   pub opening_kept : opening_of p ≡ opening
@@ -73,7 +75,8 @@ module _ {T E : Type 0} where
   -- after the opening list, the list has of the pass's lane just the entries that the pass made, each once
   -- and in their order
   abbrev pub HasOwn : (E → ℕ) → Pass T E → List E → Type 0
-  HasOwn lane p entries = (later : List E) × (entries ≡ opening_of p ++ later) × (of_lane lane (lane_of p) later ≡ own_of p)
+  HasOwn lane p entries =
+      (later : List E) × (entries ≡ opening_of p ++ later) × (of_lane lane (lane_of p) later ≡ own_of p)
 
   -- the list begins with what the pass has seen, and each entry after that has the pass's lane, or lane 0
   abbrev pub MayLeave : (E → ℕ) → Pass T E → List E → Type 0
@@ -82,4 +85,6 @@ module _ {T E : Type 0} where
   -- the new pass has made what the old one had, and the entries of its lane that the list has after what the
   -- old one had seen
   abbrev pub HasMade : (E → ℕ) → Pass T E → List E → Pass T E → Type 0
-  HasMade lane old entries new = (more : List E) → entries ≡ seen_by old ++ more → own_of new ≡ own_of old ++ of_lane lane (lane_of old) more
+  HasMade lane old entries new =
+      (more : List E) → entries ≡ seen_by old ++ more
+      → own_of new ≡ own_of old ++ of_lane lane (lane_of old) more

@@ -32,7 +32,15 @@ module _ {E : Type 0} where
 
   -- the view of the seat that is split off: the next number, the opening list, and no ticket
   abbrev pub next_view : View E → View E
-  next_view v = record { number = v.number + 1; splits = true; ticket = None; turn = false; opening = v.opening; seen = v.opening; mine = [] }
+  next_view v = record {
+    number = v.number + 1;
+    splits = true;
+    ticket = None;
+    turn = false;
+    opening = v.opening;
+    seen = v.opening;
+    mine = [];
+  }
 
 -- a seat's view, and the slots that it holds
 abbrev pub Holder : Type 0 → Type 0 → Type 0
@@ -41,7 +49,9 @@ Holder T E = Me (Option T) (View E)
 module _ {T E : Type 0} where
   -- Draw: the seat has the ticket if the word was as expected, and else nothing has changed
   abbrev pub drew : Step (Option T) → Holder T E → ℕ → Holder T E → Type 0
-  drew st before found after = (found ≡ st.first → after ≡ (with_ticket before.0 st.first, before.1)) × (found ≢ st.first → after ≡ before)
+  drew st before found after =
+      (found ≡ st.first → after ≡ (with_ticket before.0 st.first, before.1))
+      × (found ≢ st.first → after ≡ before)
 
   -- The seat holds the slot, with a value. The value's list begins with what the seat had seen, and after the
   -- opening list it has of the seat's lane just the seat's own entries
@@ -55,12 +65,15 @@ module _ {T E : Type 0} where
 
   -- Load the ticket that is served: if it is the seat's, the seat has entered, and else nothing has changed
   abbrev pub served : (T → List E) → (E → ℕ) → Step (Option T) → Holder T E → ℕ → Holder T E → Type 0
-  served list lane st before found after = (before.0.ticket ≡ Some found → Entered list lane before after) × (before.0.ticket ≢ Some found → after ≡ before)
+  served list lane st before found after =
+      (before.0.ticket ≡ Some found → Entered list lane before after)
+      × (before.0.ticket ≢ Some found → after ≡ before)
 
   -- Publish: the new entries of the value that the seat holds join its view
   abbrev pub published : (T → List E) → (E → ℕ) → Step (Option T) → Holder T E → ℕ → Holder T E → Type 0
   published list lane st before found after =
-      (x : T) (more : List E) → before.1 ≡ (0, Some x) ∷ [] → list x ≡ before.0.seen ++ more → after ≡ (with_more lane before.0 more, before.1)
+      (x : T) (more : List E) → before.1 ≡ (0, Some x) ∷ [] → list x ≡ before.0.seen ++ more
+      → after ≡ (with_more lane before.0 more, before.1)
 
   -- Advance: the slot is at home, and the seat has neither turn nor ticket
   abbrev pub advanced : Step (Option T) → Holder T E → ℕ → Holder T E → Type 0

@@ -30,7 +30,15 @@ ticket_count (Some t) = 1
 module _ {E : Type 0} where
   -- what the first pass knows
   abbrev pub first_view : List E → View E
-  first_view opening = record { number = 1; splits = true; ticket = None; turn = false; opening = opening; seen = opening; mine = [] }
+  first_view opening = record {
+    number = 1;
+    splits = true;
+    ticket = None;
+    turn = false;
+    opening = opening;
+    seen = opening;
+    mine = [];
+  }
 
   -- the view with the index j
   abbrev pub IsViewAt : List (View E) → ℕ → View E → Type 0
@@ -54,7 +62,8 @@ module _ {E : Type 0} where
   OneBeginsOther xs ys = IsPrefix xs ys ⊎ IsPrefix ys xs
 
 -- What is so of each view by itself, where so many tickets were drawn and this one is served
-pub record Fits {E : Type 0} (lane : E → ℕ) (opening later : List E) (drawn serving : ℕ) (v : View E) : Type 0 where
+pub record Fits {E : Type 0} (lane : E → ℕ) (opening later : List E) (drawn serving : ℕ)
+    (v : View E) : Type 0 where
   -- its number is above 0
   pub numbered : 0 < v.number
   -- it keeps the opening list
@@ -69,7 +78,8 @@ pub record Fits {E : Type 0} (lane : E → ℕ) (opening later : List E) (drawn 
   pub turns : v.turn ≡ true → (v.ticket ≡ Some serving) × (v.seen ≡ opening ++ later)
 
 -- The rule, of the words, of the slot, which is the one home, and of the views
-pub record InTurn {T E : Type 0} (list : T → List E) (lane : E → ℕ) (opening : List E) (s : State (Option T) (View E)) : Type 0 where
+pub record InTurn {T E : Type 0} (list : T → List E) (lane : E → ℕ) (opening : List E)
+    (s : State (Option T) (View E)) : Type 0 where
   -- what was published after the opening list
   pub later : List E
   -- there are three words
@@ -77,26 +87,33 @@ pub record InTurn {T E : Type 0} (list : T → List E) (lane : E → ℕ) (openi
   -- there is one slot
   pub one_slot : length s.homes ≡ 1
   -- what is so of each view by itself
-  pub each : (j : ℕ) (v : View E) → IsViewAt s.views j v → Fits lane opening later (tickets_drawn s) (ticket_served s) v
+  pub each : (j : ℕ) (v : View E) → IsViewAt s.views j v
+      → Fits lane opening later (tickets_drawn s) (ticket_served s) v
   -- the numbers of the views are different
-  pub apart : (i j : ℕ) (v w : View E) → IsViewAt s.views i v → IsViewAt s.views j w → v.number ≡ w.number → i ≡ j
+  pub apart : (i j : ℕ) (v w : View E) → IsViewAt s.views i v → IsViewAt s.views j w → v.number ≡ w.number
+      → i ≡ j
   -- a view that may be split has the greatest number
-  pub greatest : (i j : ℕ) (v w : View E) → IsViewAt s.views i v → IsViewAt s.views j w → v.splits ≡ true → w.number ≤ v.number
+  pub greatest : (i j : ℕ) (v w : View E) → IsViewAt s.views i v → IsViewAt s.views j w → v.splits ≡ true
+      → w.number ≤ v.number
   -- a number above 0 that no view has has no entry after the opening list
-  pub absent : (n : ℕ) → 0 < n → ((j : ℕ) (v : View E) → IsViewAt s.views j v → v.number ≢ n) → of_lane lane n later ≡ []
+  pub absent : (n : ℕ) → 0 < n → ((j : ℕ) (v : View E) → IsViewAt s.views j v → v.number ≢ n)
+      → of_lane lane n later ≡ []
   -- the ticket that is served, and the number of views with a ticket, make the number of tickets drawn
   pub tally : ticket_served s + tickets_out s.views ≡ tickets_drawn s
   -- the number of tickets drawn fits a word
   pub fits_word : tickets_drawn s < 18446744073709551616
   -- the tickets are different
-  pub tickets : (i j : ℕ) (v w : View E) → IsViewAt s.views i v → IsViewAt s.views j w → (t : ℕ) → v.ticket ≡ Some t → w.ticket ≡ Some t → i ≡ j
+  pub tickets : (i j : ℕ) (v w : View E) → IsViewAt s.views i v → IsViewAt s.views j w → (t : ℕ)
+      → v.ticket ≡ Some t → w.ticket ≡ Some t → i ≡ j
   -- of what any two views have seen one begins with the other
-  pub nested : (i j : ℕ) (v w : View E) → IsViewAt s.views i v → IsViewAt s.views j w → OneBeginsOther v.seen w.seen
+  pub nested : (i j : ℕ) (v w : View E) → IsViewAt s.views i v → IsViewAt s.views j w
+      → OneBeginsOther v.seen w.seen
   -- the longest that any has seen is the published list
   pub longest : IsSeen s.views (opening ++ later)
   -- the published list has as many entries as the third word says
   pub counted : entries_published s ≡ length (opening ++ later)
   -- while no view has its turn, the slot is at home with a value whose list is the published list
-  pub home : NoTurn s.views → (x : T) × (get_elem? s.homes 0 ≡ some (some (Some x))) × (list x ≡ opening ++ later)
+  pub home : NoTurn s.views → (x : T) × (get_elem? s.homes 0 ≡ some (some (Some x)))
+      × (list x ≡ opening ++ later)
   -- while a view has its turn, the slot is out
   pub out : (j : ℕ) (v : View E) → IsViewAt s.views j v → v.turn ≡ true → get_elem? s.homes 0 ≡ some none

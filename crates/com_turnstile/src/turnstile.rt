@@ -12,7 +12,7 @@ use std::snapshot::Snapshot;
 use std::sync::Wait;
 use std::sync::atomic::AtomicU64;
 use std::sync::atomic::Ordering::SeqCst;
-use std::{array, hint};
+use std::{array, hint, thread};
 
 // The word that counts the tickets drawn.
 const TICKETS: usize = 0;
@@ -26,8 +26,11 @@ const ENTRIES: usize = 2;
 // The slot of the value.
 const VALUE: usize = 0;
 
-// How often a pass that waits looks for its turn before it sleeps.
-const LOOKS: u32 = 200;
+// How often a pass that waits looks for its turn before it lets other threads run.
+const LOOKS: u32 = 50;
+
+// How often it lets them run, and looks again, before it sleeps.
+const YIELDS: u32 = 20;
 
 // No more tickets than this are out at a time, since a turnstile has at most 64 passes.
 const TICKETS_OUT: usize = 64;
@@ -172,14 +175,19 @@ impl<T: Grows> Turnstile<T> {
         unreachable!()
     }
 
-    // Waits for a while in which the ticket may come to be served: it looks a few times, and then sleeps
-    // until the pass before it leaves.
+    // Waits for a while in which the ticket may come to be served: it looks a few times, and then lets other
+    // threads run between two looks, since the pass inside may need this very processor. Then it sleeps until
+    // the pass before it leaves.
     fn pause<R: Wait>(&self, rt: &R, ticket: u64) {
-        for _ in 0..LOOKS {
+        for look in 0..LOOKS + YIELDS {
             if self.table.shared.peek(SERVING) == ticket {
                 return;
             }
-            hint::spin_loop();
+            if look < LOOKS {
+                hint::spin_loop();
+            } else {
+                thread::yield_now();
+            }
         }
         self.bells.set(ticket);
         if self.table.shared.peek(SERVING) != ticket {

@@ -9,8 +9,8 @@ use Rattle.com_turnstile.proofs.Lists.{slice_get_longer, slice_get_last}
 use Rattle.com_turnstile.specs.Passes.{IsPassOf, lane_of}
 use Rattle.com_threads.proofs.run.run_named.Goals as goal
 
-pub new-book-requires : goal.new-book-requires
-new-book-requires g c =
+pub new-requires-2 : goal.new-requires-2
+new-requires-2 g c =
     first_told c.args.scenario.now g.J.Plays.scenario _ _ _ _ c.lanes-count.result c.requires.named c.requires.formed c.requires.scenario c.requires.whole c.requires.first c.lanes-count.ensures c.in_ok-pages.ensures
 
 pub deal-requires-clause-new : goal.deal-requires-clause-new
