@@ -33,7 +33,8 @@ entry_line version place e = deed_line version (decimal place ++ codes " L" ++ d
 -- The lines of a history, which is given with its newest entry first.
 unfoldable pub history_lines : ℕ → List Entry → List (List ℕ)
 history_lines version [] = []
-history_lines version (e ∷ older) = history_lines version older ++ (entry_line version (length older + 1) e ∷ [])
+history_lines version (e ∷ older) =
+    history_lines version older ++ (entry_line version (length older + 1) e ∷ [])
 
 -- The lines of the report behind a history. There are none where it has not ended.
 unfoldable pub report_lines : Scenario → List Entry → List (List ℕ)
@@ -68,11 +69,13 @@ lane_due s h (Some line) = named line
 -- The only line that may stand behind a history that has not ended: that of the next entry of this lane, if
 -- it has one.
 unfoldable pub line_due : Scenario → List Entry → (found : Option (List ℕ)) → Option (List ℕ)
-line_due s h found = option_map (entry_line s.version (length h + 1)) (option_and_then (entry_of s h) (lane_due s h found))
+line_due s h found =
+    option_map (entry_line s.version (length h + 1)) (option_and_then (entry_of s h) (lane_due s h found))
 
 -- The only line that may stand behind a history, and behind the lines of its report but for those that are
 -- left. Behind the report there is none.
-abbrev pub legal_line : Scenario → List Entry → (left : List (List ℕ)) → (found : Option (List ℕ)) → Option (List ℕ)
+abbrev pub legal_line : Scenario → List Entry → (left : List (List ℕ)) → (found : Option (List ℕ))
+    → Option (List ℕ)
 legal_line s h left found = if is_some (ended_as s h) then first left else line_due s h found
 
 -- ---- the answer

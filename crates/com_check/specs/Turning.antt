@@ -28,7 +28,8 @@ lane_in s st last (Some line) = named line
 
 unfoldable pub line_in : Scenario → State → (last : ℕ) → (found : Option (List ℕ)) → Option (List ℕ)
 line_in s st last found =
-    option_map (entry_line s.version (st.entries + 1)) (option_and_then (entry_in s st) (lane_in s st last found))
+    option_map (entry_line s.version (st.entries + 1))
+    (option_and_then (entry_in s st) (lane_in s st last found))
 
 -- ---- entries
 
@@ -45,31 +46,37 @@ pub record IsScheduled (s : Scenario) (st : State) (last : ℕ) (e : Entry) (new
 -- ---- lines
 
 -- The found line is that of the next entry of the lane that it names, which was made.
-pub record IsEntry (s : Scenario) (st : State) (last : ℕ) (found : List ℕ) (new : State) (last_new : ℕ) : Type 0 where
+pub record IsEntry (s : Scenario) (st : State) (last : ℕ) (found : List ℕ) (new : State) (last_new : ℕ)
+    : Type 0 where
   pub entry : Entry
   pub next : IsNext s st entry.lane entry new
   pub line : found ≡ entry_line s.version (st.entries + 1) entry
   pub follows : last_new ≡ last_after entry.lane last
 
 -- The only legal line is another one, or there is none.
-pub record IsOther (s : Scenario) (st : State) (last : ℕ) (found : Option (List ℕ)) (j : Judged) : Type 0 where
+pub record IsOther (s : Scenario) (st : State) (last : ℕ) (found : Option (List ℕ)) (j : Judged)
+    : Type 0 where
   pub answer : j ≡ judged.Differs (st.entries + 1) (shown found) (shown (line_in s st last found))
   pub differ : found ≢ line_in s st last found
 
 -- The found line is that of the lane's entry, and the lane is the last one, if it is not the clock's; or else
 -- the line differs.
-abbrev pub IsCompared : (place lane : ℕ) → (found line : List ℕ) → (last : ℕ) → Option Judged → (last_new : ℕ) → Type 0
+abbrev pub IsCompared : (place lane : ℕ) → (found line : List ℕ) → (last : ℕ) → Option Judged
+    → (last_new : ℕ) → Type 0
 IsCompared place lane found line last None last_new = (found ≡ line) × (last_new ≡ last_after lane last)
-IsCompared place lane found line last (Some j) last_new = (found ≢ line) × (j ≡ judged.Differs place found line)
+IsCompared place lane found line last (Some j) last_new =
+    (found ≢ line) × (j ≡ judged.Differs place found line)
 
-abbrev pub IsTurn : Scenario → State → (last : ℕ) → (found : List ℕ) → Option Judged → State → (last_new : ℕ) → Type 0
+abbrev pub IsTurn : Scenario → State → (last : ℕ) → (found : List ℕ) → Option Judged → State
+    → (last_new : ℕ) → Type 0
 IsTurn s st last found None new last_new = IsEntry s st last found new last_new
 IsTurn s st last found (Some j) new last_new = IsOther s st last (Some found) j
 
 -- ---- the report
 
 -- Lines of a report were compared with those that a trace has left, behind so many lines.
-pub record DiffersIn (before : ℕ) (report trace : List (List ℕ)) (line : ℕ) (found legal : List ℕ) : Type 0 where
+pub record DiffersIn (before : ℕ) (report trace : List (List ℕ)) (line : ℕ) (found legal : List ℕ)
+    : Type 0 where
   pub front : List (List ℕ)
   pub back : List (List ℕ)
   pub rest : List (List ℕ)
@@ -82,8 +89,11 @@ pub record DiffersIn (before : ℕ) (report trace : List (List ℕ)) (line : ℕ
 
 abbrev pub IsReported : ℕ → List (List ℕ) → List (List ℕ) → Judged → Type 0
 IsReported before report trace judged.Agrees = report ≡ trace
-IsReported before report trace (judged.Differs line found legal) = DiffersIn before report trace line found legal
+IsReported before report trace (judged.Differs line found legal) =
+    DiffersIn before report trace line found legal
 
 -- What a trace has left was judged beside the report of a runtime whose history has ended so.
 abbrev pub IsTold : Scenario → State → Ended → (rest : List ℕ) → Judged → Type 0
-IsTold s st x rest j = IsReported st.entries (lines_of (report_text (all_counts_in s st) st.entries st.clock x)) (lines_of rest) j
+IsTold s st x rest j =
+    IsReported st.entries (lines_of (report_text (all_counts_in s st) st.entries st.clock x)) (lines_of rest)
+    j

@@ -62,7 +62,7 @@ fn is_over(line: &[Word]) -> bool
 {
     match line {
         [] => true,
-        [word, ..] => is_remark(word.sort),
+        [word, ..] => is_remark(word.sort()),
     }
 }
 

@@ -139,8 +139,8 @@ pub trait PlayingCommand: InputReader {
     ghost served: { Self.Read → List ℕ → List ℕ };
 
     /// Answers what was read: writes the whole text that goes with the status, or a front of it where the
-    /// sink's count of faults rose or want of memory came. The row has one servant of each kind, in the order of
-    /// the kinds, and keeps them so.
+    /// sink's count of faults rose or want of memory came. The row has one servant of each kind, in the order
+    /// of the kinds, and keeps them so.
     fn play<K: Sink>(
         alloc: Global,
         read: Self::Read,

@@ -1,14 +1,14 @@
 //! What an input is, and the line of a fault.
 ghost use Rattle.std.specs.Arc.{arc_value};
-ghost use Rattle.std.specs.Prelude.{◌≡◌, ◌++◌, Err, IfOk, OnErr, OnOk, decimal};
+ghost use Rattle.std.specs.Prelude.{◌≡◌, Err, IfOk, OnErr};
 ghost use Rattle.com_read_operands.specs.declared.faults.ScenarioError.TheVariants as errors;
 ghost use Rattle.com_commands.specs.Inputs.{answer_of, read_as};
 ghost use Rattle.com_commands.specs.Statuses.{refused_line};
 
+use crate::numbers::push_number;
 use com_base::{ByteList, Memory};
 use com_model::Scenario;
 use com_read_operands::{Fault, ScenarioError};
-use itoa::Buffer;
 use std::alloc::{AllocError, Global};
 use std::sync::Arc;
 
@@ -77,11 +77,4 @@ pub fn refused_line(alloc: Global, fault: Fault) -> Result<ByteList, Memory>
     push_number(&mut line, fault.number as u64)?;
     line.push_all(b"\n")?;
     Ok(line)
-}
-
-fn push_number(line: &mut ByteList, number: u64) -> Result<(), Memory>
-    ensures { OnOk result (line.new ≡ line.old ++ decimal number) }
-{
-    let mut buffer = Buffer::new();
-    line.push_all(buffer.format(number).as_bytes())
 }

@@ -1,5 +1,5 @@
-//! Whether a crew of servants is whole. A function that makes the boxes of servants in a loop has no invariant
-//! that names their kinds; so it asks here once, when all are made.
+//! Whether a crew of servants is whole. A function that makes the boxes of servants in a loop has no
+//! invariant that names their kinds; so it asks here once, when all are made.
 #![tactic(auto)]
 
 ghost use Rattle.std.specs.Prelude.{◌≡◌, ◌↔◌, All, IsTrue, map, vec_len};
@@ -31,8 +31,8 @@ fn is_row(servants: &Vec<Box<dyn Servant + Send>>) -> bool
         && is_kind(latch, Native::Latch)
 }
 
-/// Whether a crew has 25 rows, each with one servant of each kind in the order of the kinds. True exactly where
-/// it has. It takes no memory, and asks each servant for its kind alone.
+/// Whether a crew has 25 rows, each with one servant of each kind in the order of the kinds. True exactly
+/// where it has. It takes no memory, and asks each servant for its kind alone.
 pub fn is_manned(crew: &Vec<Vec<Box<dyn Servant + Send>>>) -> bool
     ensures { IsTrue result
         ↔ ((vec_len crew.now ≡ 25) × All (λ servants. map kind_of servants.items ≡ row) crew.now.items) }

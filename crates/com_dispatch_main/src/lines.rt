@@ -1,23 +1,16 @@
 //! The lines that say what each late-bound call of a text is bound to.
 
-ghost use Rattle.std.specs.Prelude.{◌≡◌, ◌++◌, [], OnOk, IfOk, decimal, unwrap_or};
+ghost use Rattle.std.specs.Prelude.{◌≡◌, ◌++◌, [], OnOk, IfOk, unwrap_or};
 ghost use Rattle.com_base.specs.HResults.{name_of};
 ghost use Rattle.com_print_operands.specs.Words.{value_word};
 ghost use Rattle.com_dispatch_main.specs.Lines.{arg_text, later_arg_text, later_args_text, args_text};
 ghost use Rattle.com_dispatch_main.specs.Lines.{outcome_text, binding_text, bindings_text};
 
 use com_base::{ByteList, HResult, Memory, Value};
+use com_commands::push_number;
 use com_dispatch::{BindOutcome, Binding, DispArg};
 use com_print_operands::push_value;
-use itoa::Buffer;
 use std::alloc::Global;
-
-fn push_number(out: &mut ByteList, number: u64) -> Result<(), Memory>
-    ensures { OnOk result (out.new ≡ out.old ++ decimal number) }
-{
-    let mut digits = Buffer::new();
-    out.push_all(digits.format(number).as_bytes())
-}
 
 /// Appends a literal as the language writes it.
 #[tactic(auto, using(crate::proofs::Pieces::behind_space))]

@@ -61,7 +61,8 @@ fn replayed<K: Sink>(
     ensures answered { IsAnswered (IsHistory (arc_value scenario)) result (K.held sink.old) (K.held sink.new)
         (K.faults_of sink.old) (K.faults_of sink.new) }
     ensures served { IsEnd result
-        → map stepped servants.new.items ≡ whole_served (arc_value scenario) (map stepped servants.old.items) }
+        → map stepped servants.new.items
+        ≡ whole_served (arc_value scenario) (map stepped servants.old.items) }
     ensures row { map kind_of servants.new.items ≡ row }
 {
     match replay(alloc, scenario, servants, sink) {

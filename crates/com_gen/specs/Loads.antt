@@ -33,8 +33,8 @@ apartment_text w = if w % 2 == 1 then codes "thread\ninit sta\n" else codes "thr
 -- says, and released.
 unfoldable pub round_of : (class argument : ℕ) → List ℕ
 round_of class argument =
-    codes "create s0 N" ++ decimal (1 + class % 5) ++ codes " ICounter\ncall s0 ICounter.add " ++ decimal (argument % 1000)
-    ++ codes " -> r1\nrelease s0\n"
+    codes "create s0 N" ++ decimal (1 + class % 5) ++ codes " ICounter\ncall s0 ICounter.add "
+    ++ decimal (argument % 1000) ++ codes " -> r1\nrelease s0\n"
 
 abbrev pub round_text : Lcg → List ℕ
 round_text g = round_of (word g) (word (behind g))

@@ -2,11 +2,23 @@
 use crate::generate;
 use std::test::Fail;
 
-const FRONT: &[u8] =
-    b"thread\ninit mta\ncreate s0 N5 ICounter\ncall s0 ICounter.add 417 -> r1\nrelease s0\ncreate s0 N5 ICounter\ncall s0 ICounter.add 235 -> r1\nrelease s0\ncreate s0 N1 ICounter\n";
+const FRONT: &[u8] = b"thread\n\
+      init mta\n\
+      create s0 N5 ICounter\n\
+      call s0 ICounter.add 417 -> r1\n\
+      release s0\n\
+      create s0 N5 ICounter\n\
+      call s0 ICounter.add 235 -> r1\n\
+      release s0\n\
+      create s0 N1 ICounter\n";
 
-const BACK: &[u8] =
-    b"create s0 N4 ICounter\ncall s0 ICounter.add 739 -> r1\nrelease s0\ncreate s0 N3 ICounter\ncall s0 ICounter.add 509 -> r1\nrelease s0\nend\n";
+const BACK: &[u8] = b"create s0 N4 ICounter\n\
+      call s0 ICounter.add 739 -> r1\n\
+      release s0\n\
+      create s0 N3 ICounter\n\
+      call s0 ICounter.add 509 -> r1\n\
+      release s0\n\
+      end\n";
 
 const HEAD: usize = 336;
 

@@ -8,8 +8,9 @@ use std::test::*;
 #[test]
 fn an_outline_has_what_its_lines_declare(rt: HostRuntime) -> Result<(), Fail> {
     let alloc = rt.alloc();
-    let text =
-        b"scenario 2\npool 3\ninterface A {5C0B0001-0000-4000-8000-000000000009}\nmethod go int -> A\nfilter F\npending 5 wait\nend\nthread\nskip 1\nsetfilter F\nend\npicks 1 2\npicks 3";
+    let text = b"scenario 2\npool 3\ninterface A {5C0B0001-0000-4000-8000-000000000009}\n\
+        method go int -> A\nfilter F\npending 5 wait\nend\nthread\nskip 1\nsetfilter F\n\
+        end\npicks 1 2\npicks 3";
     let outline = outline_of(alloc, Rows::new(alloc), text)?;
     assert_eq!(rt; outline.version, 2);
     assert_eq!(rt; outline.pool, 3);

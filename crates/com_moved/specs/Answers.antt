@@ -19,7 +19,8 @@ pub record IsCarried (s : Scenario) (trace before : List ℕ) (answer : Moved) :
   pub lawful : legal (moved s) carried.history
   pub ends : ended_as (moved s) carried.history ≡ ended_as s carried.history
   pub agrees : answer.agrees ≡ true
-  pub written : answer.text ≡ (before ++ codes "trace\n") ++ (text (moved s) carried.history ++ report (moved s) carried.history)
+  pub written : answer.text ≡ (before ++ codes "trace\n")
+      ++ (text (moved s) carried.history ++ report (moved s) carried.history)
 
 -- The trace differs, and the answer is what is printed of that.
 pub record IsRefused (s : Scenario) (trace : List ℕ) (answer : Moved) : Type 0 where

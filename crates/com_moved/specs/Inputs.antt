@@ -20,7 +20,8 @@ second_fault header = record { number = 1; line = header.line; column = header.c
 abbrev pub within_version_1 : Option SecondVersion → Result Scenario Fault → Result Scenario Fault
 within_version_1 None read = read
 within_version_1 (Some header) (Ok scenario) = Err (second_fault header)
-within_version_1 (Some header) (Err fault) = Err (if nat_lt fault.line header.line then fault else second_fault header)
+within_version_1 (Some header) (Err fault) =
+    Err (if nat_lt fault.line header.line then fault else second_fault header)
 
 abbrev pub with_trace : Result Scenario Fault → Option (List ℕ) → Result Moving Fault
 with_trace (Err fault) trace = Err fault
@@ -31,7 +32,8 @@ abbrev pub moving_by : List ℕ → Cut → Result Moving Fault
 moving_by bytes (cuts.Missing line column) =
     with_trace (within_version_1 (second_version (lines_of bytes)) (reading bytes)) None
 moving_by bytes (cuts.At until from) =
-    with_trace (within_version_1 (second_version (lines_of bytes)) (reading (take until bytes))) (Some (drop from bytes))
+    with_trace (within_version_1 (second_version (lines_of bytes)) (reading (take until bytes)))
+    (Some (drop from bytes))
 
 -- The scenario of version 1 and the trace that an input spells, or its first fault.
 unfoldable pub moving_of : List ℕ → Result Moving Fault

@@ -1,15 +1,14 @@
 //! What is moved to version 2: a scenario of version 1, and a trace behind it.
 ghost use Rattle.std.specs.Prelude.{◌≡◌, ◌<◌, ◌-◌, ◌^◌, IfOk, OnOk, drop, length, option_map};
 ghost use Rattle.com_model.specs.Formed.{Formed};
-ghost use Rattle.com_scenario.specs.Scenarios.{reading};
 ghost use Rattle.com_moved.specs.Inputs.{moving_of, second_fault, with_trace, within_version_1};
 
 use com_base::{ByteList, Memory};
 use com_check::{Cut, cut_text};
-use com_commands::first_fault;
+use com_commands::read_scenario;
 use com_model::Scenario;
 use com_read_operands::Fault;
-use com_scenario::{SecondVersion, parse, second_version};
+use com_scenario::{SecondVersion, second_version};
 use std::alloc::Global;
 
 /// What is moved.
@@ -41,15 +40,6 @@ pub fn read_moving(alloc: Global, bytes: &[u8]) -> Result<Result<Moving, Fault>,
             Ok(with_trace(within_version_1(header, read), Some(trace)))
         }
     }
-}
-
-// The scenario that a text spells, or its first fault. The only error is want of memory.
-#[tactic(auto, using(com_commands::proofs::Asking::given_read))]
-fn read_scenario(alloc: Global, text: &[u8]) -> Result<Result<Scenario, Fault>, Memory>
-    ensures value { IfOk result (λ read. read ≡ reading text.now) }
-    ensures formed { IfOk result (λ read. IfOk read (λ scenario. Formed scenario)) }
-{
-    first_fault(parse(alloc, text))
 }
 
 // The fault of a header of version 2: at the word `2`.

@@ -1,19 +1,11 @@
 //! The lines of events.
-ghost use Rattle.std.specs.Prelude.{◌≡◌, ◌++◌, IfOk, OnOk, codes, decimal};
+ghost use Rattle.std.specs.Prelude.{◌≡◌, ◌++◌, IfOk, OnOk};
 ghost use Rattle.com_points_main.specs.Events.{cookie_words, event_line, event_lines};
 
 use com_base::{ByteList, Memory};
+use com_commands::push_number;
 use com_deliveries::Delivery;
-use itoa::Buffer;
 use std::alloc::Global;
-
-// Appends a number in decimal digits.
-fn push_number(out: &mut ByteList, number: u64) -> Result<(), Memory>
-    ensures { OnOk result (out.new ≡ out.old ++ decimal number) }
-{
-    let mut digits = Buffer::new();
-    out.push_all(digits.format(number).as_bytes())
-}
 
 // Appends cookies, each behind a space.
 fn push_cookies(out: &mut ByteList, cookies: &[u64]) -> Result<(), Memory>

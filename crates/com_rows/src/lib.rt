@@ -8,4 +8,8 @@ mod replays;
 #[cfg(test)]
 mod rows;
 #[cfg(test)]
+mod servants;
+#[cfg(test)]
+mod streams;
+#[cfg(test)]
 mod tests;

@@ -1,7 +1,6 @@
 //! What a replay makes of the servants that it is handed.
-ghost use Rattle.std.specs.Prelude.{◌≡◌, [], ◌∷◌, ◌++◌, OnOk, map};
 
-use com_base::Memory;
+use crate::servants::add;
 use com_body::Native;
 use com_io::MemorySink;
 use com_model::Ended;
@@ -11,21 +10,19 @@ use com_servant::{Counter, Interpreter, Latch, Relay, Servant};
 use std::sync::Arc;
 use std::test::Fail;
 
-const THREE_ADDS: &[u8] =
-    b"scenario 1\nnative Cnt {5C0B00C1-0000-4000-8000-000000000001} Both counter\nthread\ninit sta\ncreate s0 Cnt ICounter\ncall s0 ICounter.add 1\nend\nthread\ninit sta\ncreate s0 Cnt ICounter\ncall s0 ICounter.add 1\ncall s0 ICounter.add 1\nend\n";
-
-/// Puts one servant more behind a row. Its kind is told to the proof alone.
-fn add(
-    servants: &mut Vec<Box<dyn Servant + Send>>,
-    servant: Box<dyn Servant + Send>,
-    _kind: Native,
-) -> Result<(), Memory>
-    requires { kind_of servant ≡ _kind }
-    ensures { OnOk result (map kind_of servants.new.items ≡ map kind_of servants.old.items ++ (_kind ∷ [])) }
-{
-    servants.push(servant)?;
-    Ok(())
-}
+const THREE_ADDS: &[u8] = b"scenario 1\n\
+      native Cnt {5C0B00C1-0000-4000-8000-000000000001} Both counter\n\
+      thread\n\
+      init sta\n\
+      create s0 Cnt ICounter\n\
+      call s0 ICounter.add 1\n\
+      end\n\
+      thread\n\
+      init sta\n\
+      create s0 Cnt ICounter\n\
+      call s0 ICounter.add 1\n\
+      call s0 ICounter.add 1\n\
+      end\n";
 
 #[test]
 fn an_entry_of_a_body_is_a_step_of_the_servant_of_its_kind(rt: HostRuntime) -> Result<(), Fail> {

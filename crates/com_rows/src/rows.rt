@@ -1,36 +1,15 @@
 //! Calls of the top with a crew of servants that have made no step.
-ghost use Rattle.std.specs.Prelude.{◌≡◌, ◌∷◌, ◌++◌, [], IfOk, OnOk, map};
 
 use com_base::Memory;
-use com_body::Native;
 use com_crew::{ROWS, is_manned};
 use com_io::{MemorySink, MemorySource};
+use com_retrace::{boxed, row_of};
 use com_servant::{Counter, Interpreter, Latch, Relay, Servant};
 use com_threads::OpenGate;
 use com_top::com_main;
 use std::alloc::{AllocError, Global};
 use std::sync::Wait;
 use std::thread::Threads;
-
-// A value in a box. The only error is want of memory.
-fn boxed<T: Drop>(alloc: Global, value: T) -> Result<Box<T>, Memory>
-    ensures { IfOk result (λ boxed. boxed.value ≡ value) }
-{
-    Ok(Box::new(alloc, value)?)
-}
-
-// Puts one servant more behind a row. Its kind is told to the proof alone. The only error is want of memory.
-fn add(
-    servants: &mut Vec<Box<dyn Servant + Send>>,
-    servant: Box<dyn Servant + Send>,
-    _kind: Native,
-) -> Result<(), Memory>
-    requires { kind_of servant ≡ _kind }
-    ensures { OnOk result (map kind_of servants.new.items ≡ map kind_of servants.old.items ++ (_kind ∷ [])) }
-{
-    servants.push(servant)?;
-    Ok(())
-}
 
 /// What the top call answers to these words, and how many steps the servants of all rows made.
 pub fn answer<R: Threads + Wait + Sync>(
@@ -42,20 +21,13 @@ pub fn answer<R: Threads + Wait + Sync>(
 ) -> Result<(u8, u64), Memory> {
     let mut crew: Vec<Vec<Box<dyn Servant + Send>>> = Vec::new(alloc);
     for _ in 0..ROWS {
-        let mut servants: Vec<Box<dyn Servant + Send>> = Vec::new(alloc);
-        add(
-            &mut servants,
+        crew.push(row_of(
+            alloc,
             boxed(alloc, Interpreter::new())?,
-            Native::Bodies,
-        )?;
-        add(
-            &mut servants,
             boxed(alloc, Counter::new())?,
-            Native::Counter,
-        )?;
-        add(&mut servants, boxed(alloc, Relay::new())?, Native::Relay)?;
-        add(&mut servants, boxed(alloc, Latch::new())?, Native::Latch)?;
-        crew.push(servants)?;
+            boxed(alloc, Relay::new())?,
+            boxed(alloc, Latch::new())?,
+        )?)?;
     }
     // The loop has no invariant that names the kinds of boxes, so they are looked at once.
     if !is_manned(&crew) {

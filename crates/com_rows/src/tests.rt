@@ -8,23 +8,68 @@ use std::sync::Wait;
 use std::test::Fail;
 use std::thread::Threads;
 
-const DIRECT_CALL: &[u8] =
-    b"scenario 1\nnative Cnt {5C0B00C1-0000-4000-8000-000000000001} Both counter\nthread\ninit sta\ncreate s0 Cnt ICounter\ncall s0 ICounter.add 5 -> r1\nrelease s0\nuninit\nend\n";
+const DIRECT_CALL: &[u8] = b"scenario 1\n\
+      native Cnt {5C0B00C1-0000-4000-8000-000000000001} Both counter\n\
+      thread\n\
+      init sta\n\
+      create s0 Cnt ICounter\n\
+      call s0 ICounter.add 5 -> r1\n\
+      release s0\n\
+      uninit\n\
+      end\n";
 
-const DIRECT_CALL_TEXT: &[u8] =
-    b"1 L1 init sta a3 S_OK\n2 L1 made o1 a3 C1 I1 S_OK\n3 L1 out c1 o1 I1.0 direct cause1 -\n4 L1 enter c1 o1 a3 - (5)\n5 L1 leave c1 S_OK (5) -\n6 L1 back c1 S_OK (5)\n7 L1 release o1 I1\n8 L1 final o1\n9 L1 uninit a3 0\n10 L1 end\no1 C1 a3 released direct 0 proxies 0 packets 0 tables 0 stub 0\nentries 10 clock 0\nend ok\n";
+const DIRECT_CALL_TEXT: &[u8] = b"1 L1 init sta a3 S_OK\n\
+      2 L1 made o1 a3 C1 I1 S_OK\n\
+      3 L1 out c1 o1 I1.0 direct cause1 -\n\
+      4 L1 enter c1 o1 a3 - (5)\n\
+      5 L1 leave c1 S_OK (5) -\n\
+      6 L1 back c1 S_OK (5)\n\
+      7 L1 release o1 I1\n\
+      8 L1 final o1\n\
+      9 L1 uninit a3 0\n\
+      10 L1 end\n\
+      o1 C1 a3 released direct 0 proxies 0 packets 0 tables 0 stub 0\n\
+      entries 10 clock 0\n\
+      end ok\n";
 
-const NULL_CALL: &[u8] =
-    b"scenario 1\nnative Cnt {5C0B00C1-0000-4000-8000-000000000001} Both counter\nthread\ninit sta\ncall s0 ICounter.add 5 -> r1\nend";
+const NULL_CALL: &[u8] = b"scenario 1\n\
+      native Cnt {5C0B00C1-0000-4000-8000-000000000001} Both counter\n\
+      thread\n\
+      init sta\n\
+      call s0 ICounter.add 5 -> r1\n\
+      end";
 
-const NULL_CALL_TEXT: &[u8] =
-    b"1 L1 init sta a3 S_OK\n2 L1 out c1 - I1.0 none cause1 -\n3 L1 back c1 E_POINTER ()\n4 L1 uninit a3 0\n5 L1 end\nentries 5 clock 0\nend ok\n";
+const NULL_CALL_TEXT: &[u8] = b"1 L1 init sta a3 S_OK\n\
+      2 L1 out c1 - I1.0 none cause1 -\n\
+      3 L1 back c1 E_POINTER ()\n\
+      4 L1 uninit a3 0\n\
+      5 L1 end\n\
+      entries 5 clock 0\n\
+      end ok\n";
 
-const VERSION_2_CALL: &[u8] =
-    b"scenario 2\nnative Cnt {5C0B00C1-0000-4000-8000-000000000001} Both counter\nthread\ninit sta\ncreate s0 Cnt ICounter\ncall s0 ICounter.add 5 -> r1\nrelease s0\nuninit\nend\n";
+const VERSION_2_CALL: &[u8] = b"scenario 2\n\
+      native Cnt {5C0B00C1-0000-4000-8000-000000000001} Both counter\n\
+      thread\n\
+      init sta\n\
+      create s0 Cnt ICounter\n\
+      call s0 ICounter.add 5 -> r1\n\
+      release s0\n\
+      uninit\n\
+      end\n";
 
-const VERSION_2_CALL_TEXT: &[u8] =
-    b"1 L1 init sta a3 00000000\n2 L1 made o1 a3 C1 I1 00000000\n3 L1 out c1 o1 I1.0 direct cause1 -\n4 L1 enter c1 o1 a3 - (5)\n5 L1 leave c1 00000000 (5) -\n6 L1 back c1 00000000 (5)\n7 L1 release o1 I1\n8 L1 final o1\n9 L1 uninit a3 0\n10 L1 end\no1 C1 a3 released direct 0 proxies 0 packets 0 tables 0 stub 0\nentries 10 clock 0\nend ok\n";
+const VERSION_2_CALL_TEXT: &[u8] = b"1 L1 init sta a3 00000000\n\
+      2 L1 made o1 a3 C1 I1 00000000\n\
+      3 L1 out c1 o1 I1.0 direct cause1 -\n\
+      4 L1 enter c1 o1 a3 - (5)\n\
+      5 L1 leave c1 00000000 (5) -\n\
+      6 L1 back c1 00000000 (5)\n\
+      7 L1 release o1 I1\n\
+      8 L1 final o1\n\
+      9 L1 uninit a3 0\n\
+      10 L1 end\n\
+      o1 C1 a3 released direct 0 proxies 0 packets 0 tables 0 stub 0\n\
+      entries 10 clock 0\n\
+      end ok\n";
 
 #[test]
 fn worked_cases_are_written_whole(rt: HostRuntime) -> Result<(), Fail> {
@@ -129,7 +174,9 @@ fn other_words_are_usage_and_read_nothing(rt: HostRuntime) -> Result<(), Fail> {
     assert_eq!(rt; replay(&rt, rt.alloc(), &mut source, &mut sink)?, 2);
     assert_eq!(rt;
         sink.held(),
-        b"usage: comrun replay|run|check|load N|objref|migrate|waits|dispatch|points\nrefused 1 1 1\n".as_slice()
+        b"usage: comrun replay|run|check|load N|objref|migrate|waits|dispatch|points\n\
+          refused 1 1 1\n"
+            .as_slice()
     );
     Ok(())
 }
@@ -211,8 +258,19 @@ fn a_scenario_without_threads_ends_at_once(rt: HostRuntime) -> Result<(), Fail> 
 
 #[test]
 fn spelling_and_unused_sections_change_nothing(rt: HostRuntime) -> Result<(), Fail> {
-    let text =
-        b"; one call\nscenario 1 ; the header\npicks 3 1\n\nnative Cnt {5c0b00c1-0000-4000-8000-000000000001} Both counter\r\nnative Other {5C0B00C1-0000-4000-8000-000000000002} none latch\nthread\n\tinit  sta\n create s0 {5C0B00C1-0000-4000-8000-000000000001} {5C0B0001-0000-4000-8000-000000000001}\n call s0 ICounter.add 005 -> r1\n release s0\nend\npool 2";
+    let text = b"; one call\n\
+          scenario 1 ; the header\n\
+          picks 3 1\n\
+          \n\
+          native Cnt {5c0b00c1-0000-4000-8000-000000000001} Both counter\r\n\
+          native Other {5C0B00C1-0000-4000-8000-000000000002} none latch\n\
+          thread\n\
+          \tinit  sta\n\
+          \x20create s0 {5C0B00C1-0000-4000-8000-000000000001} {5C0B0001-0000-4000-8000-000000000001}\n\
+          \x20call s0 ICounter.add 005 -> r1\n\
+          \x20release s0\n\
+          end\n\
+          pool 2";
     let (status, written) = replayed(&rt, rt.alloc(), ByteList::from_slice(rt.alloc(), text)?)?;
     assert_eq!(rt; status, 0);
     assert_eq!(rt; written.as_slice(), DIRECT_CALL_TEXT);
@@ -240,10 +298,16 @@ fn the_longest_text_depends_on_the_version(rt: HostRuntime) -> Result<(), Fail> 
 
 #[test]
 fn a_standard_objref_is_shown_by_its_fields(rt: HostRuntime) -> Result<(), Fail> {
-    let digits =
-        b"4d454f570100000001000b5c000000408000000000000001000000000500000003000000000000000100000000000000010000000100030001000000000000000200010000000000\n";
-    let shown =
-        b"kind standard\niid {5C0B0001-0000-4000-8000-000000000001}\nflags 00000000\nrefs 5\noxid 0000000000000003\noid 0000000000000001\nipid {00000001-0001-0003-0100-000000000000}\nentries 2 security 1\n";
+    let digits = b"4d454f570100000001000b5c00000040800000000000000100000000050000000300000000000000\
+          0100000000000000010000000100030001000000000000000200010000000000\n";
+    let shown = b"kind standard\n\
+          iid {5C0B0001-0000-4000-8000-000000000001}\n\
+          flags 00000000\n\
+          refs 5\n\
+          oxid 0000000000000003\n\
+          oid 0000000000000001\n\
+          ipid {00000001-0001-0003-0100-000000000000}\n\
+          entries 2 security 1\n";
     let bytes = ByteList::from_slice(rt.alloc(), digits)?;
     let mut source = MemorySource::new(bytes, 1000, Vec::new(rt.alloc()));
     let mut sink = MemorySink::new(rt.alloc(), 10_000, 1000, Vec::new(rt.alloc()))?;

@@ -83,8 +83,8 @@ fn reply<R: Threads + Wait + Sync, G: Gate + Sync>(
 /// Reads a scenario from the source, runs it on threads by the crew's servants, and writes its history and
 /// report to the sink. An input that is too long or whose text is no scenario is refused by a line with the
 /// line, the column and the number of the fault. The answer is the exit status: each has its cause
-/// (`answers`). Where want of memory comes, nothing was written (`unwritten`). The crew has 25 rows at least, as
-/// many as a scenario has lanes at most.
+/// (`answers`). Where want of memory comes, nothing was written (`unwritten`). The crew has 25 rows at least,
+/// as many as a scenario has lanes at most.
 pub fn run_main<R: Threads + Wait + Sync, S: Source, K: Sink, G: Gate + Sync>(
     rt: &R,
     alloc: Global,

@@ -11,7 +11,8 @@ const LOOKS: u64 = 10_000_000;
 const STAYS: u64 = 10_000;
 
 /// Holds each of the lanes 1 and 2 between the step and the commit of its first job, until the other one is
-/// there too, and lane 2 for a while longer. A lane that did not see the other one goes on after so many looks.
+/// there too, and lane 2 for a while longer. A lane that did not see the other one goes on after so many
+/// looks.
 #[derive(Drop)]
 pub struct Meeting {
     here: [AtomicU64; 2],

@@ -1,13 +1,11 @@
 //! The two lanes of a run are at work at the same time, by the servants of its crew.
-ghost use Rattle.std.specs.Prelude.{◌≡◌, ◌++◌, ◌∷◌, [], All, IfOk, OnOk, map, vec_len};
-ghost use Rattle.com_servant.specs.Rows.{row};
 
 use crate::counted::{Counted, Steps};
 use crate::meeting::Meeting;
 use com_base::ByteList;
-use com_body::Native;
 use com_crew::{ROWS, is_manned};
 use com_io::{MemorySink, MemorySource};
+use com_retrace::{boxed, row_of};
 use com_servant::{Counter, Interpreter, Latch, Memory, Relay, Servant};
 use com_top::com_main;
 use std::alloc::{AllocError, Global};
@@ -15,8 +13,19 @@ use std::sync::{Arc, Wait};
 use std::test::*;
 use std::thread::Threads;
 
-const TWO_COUNTERS: &[u8] =
-    b"scenario 1\nnative Cnt {5C0B00C1-0000-4000-8000-000000000001} Both counter\nthread\ninit sta\ncreate s0 Cnt ICounter\ncall s0 ICounter.add 1 -> r1\nend\nthread\ninit sta\ncreate s0 Cnt ICounter\ncall s0 ICounter.add 1 -> r1\ncall s0 ICounter.add 1 -> r1\nend\n";
+const TWO_COUNTERS: &[u8] = b"scenario 1\n\
+      native Cnt {5C0B00C1-0000-4000-8000-000000000001} Both counter\n\
+      thread\n\
+      init sta\n\
+      create s0 Cnt ICounter\n\
+      call s0 ICounter.add 1 -> r1\n\
+      end\n\
+      thread\n\
+      init sta\n\
+      create s0 Cnt ICounter\n\
+      call s0 ICounter.add 1 -> r1\n\
+      call s0 ICounter.add 1 -> r1\n\
+      end\n";
 
 // How many of the lines are entries of a lane.
 fn entries_of(lines: &[u8], lane: u8) -> usize {
@@ -31,26 +40,6 @@ fn entries_of(lines: &[u8], lane: u8) -> usize {
     count
 }
 
-// A value in a box. The only error is want of memory.
-fn boxed<T: Drop>(alloc: Global, value: T) -> Result<Box<T>, Memory>
-    ensures { IfOk result (λ boxed. boxed.value ≡ value) }
-{
-    Ok(Box::new(alloc, value)?)
-}
-
-// Puts one servant more behind a row. Its kind is told to the proof alone.
-fn add(
-    servants: &mut Vec<Box<dyn Servant + Send>>,
-    servant: Box<dyn Servant + Send>,
-    _kind: Native,
-) -> Result<(), Memory>
-    requires { kind_of servant ≡ _kind }
-    ensures { OnOk result (map kind_of servants.new.items ≡ map kind_of servants.old.items ++ (_kind ∷ [])) }
-{
-    servants.push(servant)?;
-    Ok(())
-}
-
 // What a word answers for the two counters, and what it writes, with a crew whose steps are counted. The
 // counters of the first row may refuse each step.
 fn answered<R: Threads + Wait + Sync>(
@@ -63,16 +52,17 @@ fn answered<R: Threads + Wait + Sync>(
 ) -> Result<(u8, ByteList), Memory> {
     let mut crew: Vec<Vec<Box<dyn Servant + Send>>> = Vec::new(alloc);
     for at in 0..ROWS {
-        let mut servants: Vec<Box<dyn Servant + Send>> = Vec::new(alloc);
         let bodies = Counted::new(Interpreter::new(), at, false, steps.clone()?);
-        add(&mut servants, boxed(alloc, bodies)?, Native::Bodies)?;
         let counter = Counted::new(Counter::new(), at, refuses && at == 0, steps.clone()?);
-        add(&mut servants, boxed(alloc, counter)?, Native::Counter)?;
         let relay = Counted::new(Relay::new(), at, false, steps.clone()?);
-        add(&mut servants, boxed(alloc, relay)?, Native::Relay)?;
         let latch = Counted::new(Latch::new(), at, false, steps.clone()?);
-        add(&mut servants, boxed(alloc, latch)?, Native::Latch)?;
-        crew.push(servants)?;
+        crew.push(row_of(
+            alloc,
+            boxed(alloc, bodies)?,
+            boxed(alloc, counter)?,
+            boxed(alloc, relay)?,
+            boxed(alloc, latch)?,
+        )?)?;
     }
     // The loop has no invariant that names the kinds of boxes, so they are looked at once.
     if !is_manned(&crew) {

@@ -11,9 +11,9 @@ use Rattle.com_drive.specs.Replays.{IsReplay, whole_text}
 use Rattle.com_written.proofs.Schedule.{legal-end}
 use Rattle.com_commands.specs.declared.statuses.Status.{Status}
 use Rattle.com_commands.specs.declared.statuses.Status.TheVariants as status
+use Rattle.com_commands.specs.Histories.{IsHistory}
 use Rattle.com_commands.specs.Responses.{GainsFront, IsAnswered}
 use Rattle.com_commands.specs.Statuses.{status_at}
-use Rattle.com_top.specs.Scenarios.{IsHistory}
 
 some_end : (o : Option Ended) → is_some o ≡ true → (x : Ended) × (o ≡ Some x)
 some_end None e = cc

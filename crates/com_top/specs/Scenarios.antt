@@ -1,6 +1,5 @@
--- A scenario as an input, and what `replay` answers for it.
+-- A scenario as an input, and what is known of the replay of each.
 use Rattle.std.specs.Prelude.{◌≡◌, ℕ, ◌⊎◌, List, Option, Some}
-use Rattle.std.proofs.Common.{subst, sym}
 use Rattle.com_io.specs.Faults.{Rose}
 use Rattle.com_io.specs.Told.{Gains}
 use Rattle.com_model.specs.declared.counts.Ended.{Ended}
@@ -12,26 +11,14 @@ use Rattle.com_scenario.specs.Sizes.{is_too_long}
 use Rattle.com_written.specs.OneHistory.{OneHistory}
 use Rattle.com_commands.specs.declared.inputs.Input.{Input}
 use Rattle.com_commands.specs.declared.inputs.Input.TheVariants as input
-use Rattle.com_commands.specs.declared.statuses.Status.{Status}
+use Rattle.com_commands.specs.Histories.{IsHistory}
 use Rattle.com_commands.specs.Inputs.{input_of}
 use Rattle.com_commands.specs.Responses.{Responds}
-use Rattle.com_commands.specs.Statuses.{Concludes, Sides, code_of, end_concludes, status_at}
+use Rattle.com_commands.specs.Statuses.{Sides, code_of, status_at}
 
 -- What an input of these bytes is: too long for its version, faulty, or a scenario.
 abbrev pub scenario_input : List ℕ → Input Scenario
 scenario_input = input_of is_too_long reading
-
--- The text and the report of the one history of a scenario, and the status of its end.
-pub record IsHistory (scenario : Scenario) (s : Status) (text : List ℕ) : Type 0 where
-  pub ends : Ended
-  pub ended_is : ended_as scenario (scheduled scenario) ≡ Some ends
-  pub written : text ≡ whole_text scenario
-  pub status_is : s ≡ status_at ends
-
-pub history_concludes : (scenario : Scenario) (s : Status) (text : List ℕ) → IsHistory scenario s text
-    → Concludes s
-history_concludes scenario s text h =
-    subst (λ (x : Status). Concludes x) (sym h.status_is) (end_concludes h.ends)
 
 -- The number is that of the end of the one history of a scenario, and the sink gained exactly the text and
 -- the report of that history.

@@ -10,10 +10,11 @@ ghost use Rattle.com_top.specs.Checking.{IsAskable, IsVerdict, is_long_trace, qu
 ghost use Rattle.com_top.specs.Checking.{status_of, verdict_concludes, with_trace, without_trace};
 
 use crate::questions::Question;
-use crate::scenarios::{read_scenario, shared};
 use com_base::{ByteList, Memory};
 use com_check::{Cut, Judged, check, cut_text};
-use com_commands::{Input, InputReader, Reply, ReplyingCommand, Status, respond};
+use com_commands::{
+    Input, InputReader, Reply, ReplyingCommand, Status, read_scenario, respond, shared,
+};
 use com_io::{Sink, Source};
 use com_model::Scenario;
 use com_read_operands::Fault;
@@ -137,8 +138,8 @@ fn status_of(judged: &Judged) -> Status
 /// Reads a scenario's text, the line `trace` and a trace from the source, and says whether the trace agrees
 /// with the rules: it is the text and the report of a history; or else its first line that differs, with the
 /// only line that may stand there. An input that is too long, whose text is no scenario or that has no line
-/// `trace` is refused. The answer is the exit status: each has its cause (`answers`). Where want of memory comes,
-/// nothing was written (`unwritten`).
+/// `trace` is refused. The answer is the exit status: each has its cause (`answers`). Where want of memory
+/// comes, nothing was written (`unwritten`).
 pub fn check_main<S: Source, K: Sink>(alloc: Global, source: &mut S, sink: &mut K) -> u8
     ensures answers { Responds question_input IsVerdict result
         (sides_of S.left S.faults_of K.held K.faults_of source.old source.new sink.old sink.new) }

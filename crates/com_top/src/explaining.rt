@@ -12,9 +12,8 @@ ghost use Rattle.com_top.specs.Explaining.{IsExplained, explanation};
 ghost use Rattle.com_top.specs.Scenarios.{scenario_input};
 
 use crate::replays::ReplayCommand;
-use crate::scenarios::shared;
 use com_base::{ByteList, Memory};
-use com_commands::{Status, receive, say};
+use com_commands::{Status, receive, say, shared};
 use com_io::{Discard, Sink, Source};
 use com_model::Scenario;
 use com_record::{Recorded, keep};

@@ -1,16 +1,17 @@
 //! What follows from the causes of the statuses.
 ghost use Rattle.std.specs.Prelude.{ℕ};
+ghost use Rattle.com_commands.specs.Histories.{IsHistory};
 ghost use Rattle.com_commands.specs.Responses.{RespondsWhole};
 ghost use Rattle.com_top.specs.Checking.{IsVerdict, question_input};
 ghost use Rattle.com_top.specs.Explaining.{IsExplained};
 ghost use Rattle.com_top.specs.Loading.{IsLoaded, load_input};
-ghost use Rattle.com_top.specs.Scenarios.{IsHistory, ScenariosAreSafe, ScenariosReplay, scenario_input};
+ghost use Rattle.com_top.specs.Scenarios.{ScenariosAreSafe, ScenariosReplay, scenario_input};
 ghost use Rattle.com_top.specs.Showing.{IsShown, digits_input};
 
 /// Completeness of a replay: where the source tells its bytes and no count of faults rose, the sink gained
 /// the whole text of the input of these bytes, and the status is that of this text: 2 with the line of the
-/// refusal; 0, 5 or 6 with the text and report of the scenario's one history, as its end is; or want of memory
-/// comes.
+/// refusal; 0, 5 or 6 with the text and report of the scenario's one history, as its end is; or want of
+/// memory comes.
 pub fn completeness()
     ensures { RespondsWhole scenario_input IsHistory }
 {}

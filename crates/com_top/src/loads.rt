@@ -1,5 +1,5 @@
 //! The command `load`.
-ghost use Rattle.std.specs.Prelude.{◌≡◌, ◌++◌, [], IfOk, OnOk, decimal, map};
+ghost use Rattle.std.specs.Prelude.{◌≡◌, ◌++◌, [], IfOk, OnOk, map};
 ghost use Rattle.com_model.specs.Formed.{Formed};
 ghost use Rattle.com_servant.specs.Rows.{row};
 ghost use Rattle.com_drive.specs.Replays.{IsReplay, whole_served};
@@ -9,16 +9,14 @@ ghost use Rattle.com_commands.specs.Responses.{Causes, FitsServed, GivesWhole, R
 ghost use Rattle.com_commands.specs.Statuses.{IsEnd, sides_without_source};
 ghost use Rattle.com_top.specs.Loading.{IsLoaded, load_input, load_lines, loaded_served};
 
-use crate::scenarios::{read_scenario, shared};
 use com_base::{ByteList, Memory};
-use com_commands::{Reply, Status, say, status_at};
+use com_commands::{Reply, Status, push_number, read_scenario, say, shared, status_at};
 use com_gen::generate;
 use com_io::{Discard, Sink};
 use com_model::Scenario;
 use com_play::{Replayed, replay};
 use com_report::report;
 use com_servant::Servant;
-use itoa::Buffer;
 use std::alloc::{AllocError, Global};
 
 // The scenario of a number. The only error is want of memory.
@@ -82,8 +80,7 @@ fn load_lines(alloc: Global, number: u32, replayed: Replayed) -> Result<ByteList
 {
     let mut text = ByteList::new(alloc);
     text.push_all(b"load ")?;
-    let mut digits = Buffer::new();
-    text.push_all(digits.format(number).as_bytes())?;
+    push_number(&mut text, number as u64)?;
     text.push_all(b"\n")?;
     report(
         alloc,

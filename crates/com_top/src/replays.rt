@@ -7,13 +7,14 @@ ghost use Rattle.com_scenario.specs.Scenarios.{reading};
 ghost use Rattle.com_scenario.specs.Sizes.{is_too_long};
 ghost use Rattle.com_servant.specs.Rows.{row};
 ghost use Rattle.com_drive.specs.Replays.{whole_served};
+ghost use Rattle.com_commands.specs.Histories.{IsHistory, history_concludes};
 ghost use Rattle.com_commands.specs.Responses.{IsAnswered, Responds, Serves};
 ghost use Rattle.com_commands.specs.Statuses.{IsEnd, sides_of};
-ghost use Rattle.com_top.specs.Scenarios.{IsHistory, history_concludes, scenario_input};
+ghost use Rattle.com_top.specs.Scenarios.{scenario_input};
 
-use crate::scenarios::{scenario_input, shared};
+use crate::scenarios::scenario_input;
 use com_base::{ByteList, Memory};
-use com_commands::{Input, InputReader, PlayingCommand, Status, perform, status_at};
+use com_commands::{Input, InputReader, PlayingCommand, Status, perform, shared, status_at};
 use com_io::{Sink, Source};
 use com_model::Scenario;
 use com_play::{ReplayError, replay};

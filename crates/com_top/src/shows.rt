@@ -66,8 +66,8 @@ fn status_for(found: bool) -> Status
 }
 
 /// Reads hexadecimal text from the source, and shows the fields of the OBJREF that it spells, or its first
-/// fault. The answer is the exit status: each has its cause (`answers`). Where want of memory comes, nothing was
-/// written (`unwritten`). Source: MS-DCOM 2.2.18, "OBJREF".
+/// fault. The answer is the exit status: each has its cause (`answers`). Where want of memory comes, nothing
+/// was written (`unwritten`). Source: MS-DCOM 2.2.18, "OBJREF".
 pub fn objref_main<S: Source, K: Sink>(alloc: Global, source: &mut S, sink: &mut K) -> u8
     ensures answers { Responds digits_input IsShown result
         (sides_of S.left S.faults_of K.held K.faults_of source.old source.new sink.old sink.new) }
