@@ -15,6 +15,7 @@ ghost use Rattle.com_stub.specs.StubRows.{is_connected, has_stub};
 ghost use Rattle.com_stub.specs.Tables.{total_of};
 ghost use Rattle.com_slots.specs.Table.{held_in};
 ghost use Rattle.com_proxy.specs.Rows.{public_of, split_rows, local_of, changed_row, gaining, one_local_more};
+ghost use Rattle.std.specs.Prelude.{IfNone, IfSome};
 ghost use Rattle.com_proxy.specs.Rows.{public_sum, IsFree};
 ghost use Rattle.com_packets.specs.Sums.{normal_sum};
 ghost use Rattle.com_packets.specs.declared.Packet as P;
@@ -991,6 +992,34 @@ impl Holders {
         self.proxies.local(apartment, held.object, held.iface) > 0
     }
 
+    /// A reference to the object by which the apartment has a place: the one given where it has one of that,
+    /// else one by another interface. `None` exactly where it has no place of the object.
+    pub fn place_of(&self, apartment: u32, held: RefValue) -> Option<RefValue>
+        ensures object { IfSome result (λ place. place.object ≡ held.object) }
+        ensures proxied { IfSome result (λ place. owns_of self.now.objects held.object apartment ≡ false
+            → 0 < local_of self.now.proxies apartment held.object place.iface) }
+        ensures direct { IfSome result (λ place. owns_of self.now.objects held.object apartment ≡ true
+            → 0 < (object_in self.now.objects held.object).direct) }
+        ensures free { IfNone result (owns_of self.now.objects held.object apartment ≡ false
+            → IsFree self.now.proxies apartment held.object) }
+        ensures none { IfNone result (owns_of self.now.objects held.object apartment ≡ true
+            → (object_in self.now.objects held.object).direct ≡ 0) }
+    {
+        if self.has_place(apartment, held) {
+            return Some(held);
+        }
+        if self.owns(held.object, apartment) {
+            return None;
+        }
+        match self.proxies.any_local(apartment, held.object) {
+            None => None,
+            Some(iface) => Some(RefValue {
+                object: held.object,
+                iface,
+            }),
+        }
+    }
+
     /// One place more of a reference, and no public reference. The apartment need not hold it: a body of an
     /// object that every apartment owns writes the object's links in the neutral apartment. The only error is
     /// want of memory.
@@ -1034,6 +1063,7 @@ impl Holders {
             (Marshals apartment mode held.object held.iface))) }
         ensures places { OnOk result (SamePlaces self.old self.new) }
         ensures room { 0 < self.old.spare → result ≡ Err HoldersError.Memory → ⊥ }
+        ensures sure { 0 < self.old.spare → is_connected self.old.stubs held.object ≡ true → IsOk result }
         ensures offers { (x j : ℕ) → offers self.new x j ≡ offers self.old x j }
         ensures issued { OnOk result (self.new.issued ≡ self.old.issued + 1) }
         ensures err { OnErr result (self.new ≡ self.old) }
@@ -1091,6 +1121,9 @@ impl Holders {
         ensures offers { (x j : ℕ) → offers self.new x j ≡ offers self.old x j }
         ensures issued { OnOk result (self.new.issued ≡ self.old.issued + 1) }
         ensures room { 0 < self.old.spare → result ≡ Err HoldersError.Memory → ⊥ }
+        ensures sure { 0 < self.old.spare
+            → (owns_of self.old.objects object apartment || is_connected self.old.stubs object) ≡ true
+            → offers self.old object iface ≡ true → IsOk result }
         ensures err { OnErr result (self.new ≡ self.old) }
         ensures most { self.new.spare ≤ self.old.spare }
         ensures spare { self.old.spare ≤ self.new.spare + 1 }
@@ -1151,6 +1184,7 @@ impl Holders {
         ensures offers { (x j : ℕ) → offers self.new x j ≡ offers self.old x j }
         ensures issued { OnOk result (self.new.issued ≡ self.old.issued + 1) }
         ensures room { 0 < self.old.spare → result ≡ Err HoldersError.Memory → ⊥ }
+        ensures sure { 0 < self.old.spare → is_connected self.old.stubs held.object ≡ true → IsOk result }
         ensures err { OnErr result (self.new ≡ self.old) }
         ensures most { self.new.spare ≤ self.old.spare }
         ensures spare { self.old.spare ≤ self.new.spare + 1 }
@@ -1182,6 +1216,8 @@ impl Holders {
         ensures offers { (x j : ℕ) → offers self.new x j ≡ offers self.old x j }
         ensures issued { OnOk result (self.new.issued ≡ self.old.issued + 1) }
         ensures room { 0 < self.old.spare → result ≡ Err HoldersError.Memory → ⊥ }
+        ensures sure { 0 < self.old.spare → IsSomeAnd (held_in self.old.cookies cookie)
+            (λ held. is_connected self.old.stubs held.object ≡ true) → IsOk result }
         ensures err { OnErr result (self.new ≡ self.old) }
         ensures most { self.new.spare ≤ self.old.spare }
         ensures spare { self.old.spare ≤ self.new.spare + 1 }
@@ -1239,6 +1275,7 @@ impl Holders {
         ensures offers { (x j : ℕ) → offers self.new x j ≡ offers self.old x j }
         ensures issued { OnOk result (self.new.issued ≡ self.old.issued + 1) }
         ensures room { 0 < self.old.spare → result ≡ Err HoldersError.Memory → ⊥ }
+        ensures only { 0 < self.old.spare → OnErr result (result ≡ Err HoldersError.Unknown) }
         ensures err { OnErr result (self.new ≡ self.old) }
         ensures most { self.new.spare ≤ self.old.spare }
         ensures spare { self.old.spare ≤ self.new.spare + 1 }

@@ -10,12 +10,15 @@ pub mod Exchanging
 pub mod Following
 pub mod Gaining
 pub mod Giving
+pub mod Kept
 pub mod Listed
 pub mod Losing
 pub mod Lowest
 pub mod Makings
+pub mod Offered
 pub mod Owning
 pub mod Packed
+pub mod Placeless
 pub mod Placed
 pub mod Reading
 pub mod Rising

@@ -236,3 +236,9 @@ set-length (r ∷ rows) (suc k) row = omega (arith, set-length rows k row)
 pub answered_length : (rows : List CallPackets) (c p : ℕ) → length (with_result c p rows) ≡ length rows
 answered_length rows zero p = refl
 answered_length rows (suc k) p = set-length rows k (record (call_at rows (suc k)) { result = p })
+
+pub last_set : (xs : List CallPackets) (y z : CallPackets) (k : ℕ) → k ≡ length xs → slice_set (xs ++ y ∷ []) k z ≡ xs ++ z ∷ []
+last_set [] y z zero e = refl
+last_set [] y z (suc k) e = absurd (omega (arith, e))
+last_set (x ∷ xs) y z zero e = absurd (omega (arith, e))
+last_set (x ∷ xs) y z (suc k) e = ap (λ (l : List CallPackets). x ∷ l) (last_set xs y z k (omega (arith, e)))

@@ -1,6 +1,7 @@
 -- What an entry makes of the books of a ledger.
 use Rattle.std.specs.Prelude.{◌≡◌, ℕ, ◌+◌, ◌<◌, ◌≤◌, Bool, true, false, not, if◌then◌else◌, List, [], ◌∷◌}
-use Rattle.std.specs.Prelude.{◌++◌, length, Option, Some, None, is_some, ◌⊎◌}
+use Rattle.std.specs.Prelude.{◌++◌, length, Option, Some, None, is_some, ◌⊎◌, ◌==◌, ◌&&◌, ◌||◌}
+use Rattle.std.specs.Prelude.{slice_index_or}
 use Rattle.com_base.specs.declared.hresult.HResult.{HResult}
 use Rattle.com_base.specs.declared.value.RefValue.{RefValue}
 use Rattle.com_base.specs.declared.value.Value.{Value}
@@ -11,7 +12,7 @@ use Rattle.com_books.specs.Changes.{Books, entered_rows}
 use Rattle.com_books.specs.Counting.{count_if}
 use Rattle.com_classes.specs.Tables.{Tables as ClassTables}
 use Rattle.com_holders.specs.Places.{Counts, SamePlaces}
-use Rattle.com_holders.specs.Tables.{Tables, owns_of}
+use Rattle.com_holders.specs.Tables.{Tables, offers, owns_of}
 use Rattle.com_model.specs.declared.deeds.Deed.{Deed}
 use Rattle.com_model.specs.declared.deeds.Deed.TheVariants as deed
 use Rattle.com_model.specs.declared.scenario.Scenario.{Scenario}
@@ -23,13 +24,14 @@ use Rattle.com_model.specs.Objects.{makes}
 use Rattle.com_model.specs.State.{State, books_in, running_in, sight_of}
 use Rattle.com_model.specs.Values.{carried, result_list}
 use Rattle.com_moves.specs.declared.moves.Move.{Move}
+use Rattle.com_places.specs.Moves.{Moves as Movings}
 use Rattle.com_quiet.specs.Ends.{connected}
 use Rattle.com_refs.specs.Ends.{ends}
 use Rattle.com_state.specs.Parts.{CallTables, ObjectTables, calls_of, named_at, objects_of}
 use Rattle.com_ledger.specs.declared.calls.CallPackets.{CallPackets}
 use Rattle.com_ledger.specs.Books.{AreMade, Gained, Made, books_with, moved_to}
 use Rattle.com_ledger.specs.Calls.{call_at}
-use Rattle.com_ledger.specs.Moving.{plus, AllBelow, HoldsMore, Touches}
+use Rattle.com_ledger.specs.Moving.{no_move, plus, AllBelow, HoldsMore, Touches}
 use Rattle.com_ledger.specs.Owners.{Grown}
 
 -- What an entry's change rests on beside the entry: the tables of calls and of objects, the classes, the
@@ -168,6 +170,41 @@ GivesUp number t u =
     (c : ℕ) (hr : HResult) (v : Option Value)
     → left_by g.calls c ≡ false → (call_at calls c).result ≡ number
     → Closed (entered s x g owned (deed.Back c hr v) (books_with t calls)) (tally t calls) (tally u calls)
+
+-- The reference that the making of an object gives.
+abbrev pub is_made : (object : Option ℕ) → (iface : Asked) → (x j : ℕ) → Bool
+is_made (Some o) (asked.Number i) x j = x == o && j == i
+is_made _ _ x j = false
+
+abbrev pub is_made_by : Deed → (x j : ℕ) → Bool
+is_made_by (deed.Made o a k i hr) x j = is_made o i x j
+is_made_by _ x j = false
+
+-- How many packets a deed reads, where calls carry these.
+abbrev pub asked_packets : List CallPackets → Deed → ℕ
+asked_packets calls (deed.Enter c o y t vs) = (call_at calls c).count
+asked_packets calls _ = 0
+
+-- How many calls of the tables a row makes at most.
+abbrev pub row_steps : List CallPackets → (carried : List RefValue) → Deed → ℕ
+row_steps calls carried d = asked_packets calls d + length carried + 2
+
+-- How many objects the end of an apartment may disconnect, where so many were made.
+abbrev pub ended_objects : ℕ → Deed → ℕ
+ended_objects n (deed.Uninit home count) = n
+ended_objects n _ = 0
+
+-- How many objects at most an entry leaves without a holder.
+abbrev pub most_left : List CallPackets → ObjectTables → Deed → Movings → ℕ
+most_left calls objects d m =
+    length m.lost + asked_packets calls d + 3 + ended_objects (length objects.makings) d
+
+-- Each reference is of an interface in its object's set, once the deed has made its object.
+abbrev pub AllGiven : Tables → Deed → List Move → Type 0
+AllGiven t d ms = (k : ℕ) → k < length ms
+    → (offers t (slice_index_or ms k no_move).reference.object (slice_index_or ms k no_move).reference.iface
+    || is_made_by d (slice_index_or ms k no_move).reference.object
+    (slice_index_or ms k no_move).reference.iface) ≡ true
 
 -- The row of a new object, or none.
 abbrev pub MakesOrNone : ClassTables → (apartment : ℕ) → (object owner : Option ℕ) → (class iface : Asked)

@@ -1,8 +1,9 @@
 -- Places that moves bring and take, and what an entry's losses do to the books.
-use Rattle.std.specs.Prelude.{◌≡◌, ℕ, ◌+◌, ◌<◌, ◌≤◌, true, ◌==◌, ◌&&◌, List, [], ◌∷◌}
+use Rattle.std.specs.Prelude.{◌≡◌, ℕ, ◌+◌, ◌<◌, ◌≤◌, true, ◌==◌, ◌&&◌, List, [], ◌∷◌, length, slice_index_or}
+use Rattle.com_base.specs.declared.value.RefValue.{RefValue}
 use Rattle.com_books.specs.Counting.{count_if}
 use Rattle.com_holders.specs.Places.{Counts}
-use Rattle.com_holders.specs.Tables.{Tables, books_of}
+use Rattle.com_holders.specs.Tables.{Tables, books_of, offers}
 use Rattle.com_model.specs.Lists.{is_member}
 use Rattle.com_moves.specs.declared.moves.Move.{Move}
 use Rattle.com_refs.specs.Counts.{holders_of}
@@ -20,6 +21,21 @@ plus places ms c x = places c x + moves_at ms c x
 abbrev pub AllBelow : ℕ → List Move → Type 0
 AllBelow n [] = Unit {0}
 AllBelow n (m ∷ ms) = (m.apartment < n) × AllBelow n ms
+
+abbrev pub no_move : Move
+no_move = record { apartment = 0; reference = record { object = 0; iface = 0 } }
+
+-- Each reference is of an interface in its object's set.
+abbrev pub AllOffered : Tables → List Move → Type 0
+AllOffered t ms = (k : ℕ) → k < length ms
+    → offers t (slice_index_or ms k no_move).reference.object (slice_index_or ms k no_move).reference.iface
+    ≡ true
+
+-- The same of references without places.
+abbrev pub AllKnown : Tables → List RefValue → Type 0
+AllKnown t rs = (k : ℕ) → k < length rs
+    → offers t (slice_index_or rs k no_move.reference).object (slice_index_or rs k no_move.reference).iface
+    ≡ true
 
 -- Places were lost: these are left, and the books are at their end for them.
 pub record Ended (n : ℕ) (later : ℕ → ℕ → ℕ) (before after : Tables) : Type 0 where

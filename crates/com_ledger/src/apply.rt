@@ -1,15 +1,18 @@
 //! The change of the books by an entry.
-ghost use Rattle.std.specs.Prelude.{◌≡◌, ◌≤◌, ℕ, [], false, if◌then◌else◌, IsTrue, OnOk, List, length, take};
+ghost use Rattle.std.specs.Prelude.{◌≡◌, ◌+◌, ◌<◌, ◌≤◌, ◌^◌, ◌||◌, ℕ, [], false, true, if◌then◌else◌, IsTrue};
+ghost use Rattle.std.specs.Prelude.{OnErr, OnOk, List, length, take, vec_len, vec_capacity};
 ghost use Rattle.com_holders.specs.Places.{Counts, SamePlaces};
-ghost use Rattle.com_holders.specs.Tables.{books_of};
-ghost use Rattle.com_model.specs.Lists.{number_or_zero};
+ghost use Rattle.com_holders.specs.Tables.{books_of, offers};
+ghost use Rattle.com_model.specs.Lists.{is_member, number_or_zero};
 ghost use Rattle.com_moves.specs.declared.moves.Move.{Move};
 ghost use Rattle.com_moves.specs.Steps.{movings_of};
 ghost use Rattle.com_ledger.specs.Books.{Exchanged};
 ghost use Rattle.com_objects.specs.Settled.{Rise};
-ghost use Rattle.com_ledger.specs.Entries.{Gives, Closes, Applies, KeepsHeldBy, Loses, around, tally};
-ghost use Rattle.com_ledger.specs.Entries.{is_of_reference};
-ghost use Rattle.com_ledger.specs.Moving.{plus, AllBelow, Climbs, HoldsMore, Touches, TouchesCounted};
+ghost use Rattle.com_refs.specs.Counts.{holders_of};
+ghost use Rattle.com_ledger.specs.Entries.{AllGiven, Gives, Closes, Applies, KeepsHeldBy, Loses, around, tally};
+ghost use Rattle.com_ledger.specs.Entries.{asked_packets, ended_objects, is_made, is_made_by, is_of_reference};
+ghost use Rattle.com_ledger.specs.Entries.{most_left, row_steps};
+ghost use Rattle.com_ledger.specs.Moving.{plus, AllBelow, AllOffered, Climbs, HoldsMore, Touches, TouchesCounted};
 
 use crate::context::Context;
 use crate::ends::{end_connection, end_cookie, end_home, end_packet, give_up};
@@ -22,9 +25,11 @@ use crate::moving::{gain_all, lose_all};
 use crate::packing::{is_left, issue, read_all, reply};
 use crate::rows::{MOST_GIVEN, unproved};
 use com_base::{Memory, RefValue};
+use com_body::Asked;
 use com_deeds::number_or_zero;
 use com_model::{Deed, Entry};
 use com_moves::{Move, Moves};
+use com_objects::Objects;
 use com_refs::Refs;
 
 // What is carried, where there are bytes.
@@ -56,74 +61,154 @@ fn stands_first(brought: &[Move], gained: &[Move]) -> bool
 
 // What comes to places, with what the row brought: that stands first, but for a result that comes back to no
 // slot.
-fn take(
-    refs: &mut Refs,
-    touched: &mut Vec<u32>,
-    brought: &[Move],
-    gained: &[Move],
-) -> Result<(), Memory>
-    ensures exchanged { OnOk result (Exchanged brought.now gained.now refs.old refs.new) }
-    ensures touched { OnOk result ((n : ℕ) (places : ℕ → ℕ → ℕ) → AllBelow n brought.now
+fn take(refs: &mut Refs, touched: &mut Vec<u32>, brought: &[Move], gained: &[Move])
+    requires known { AllOffered refs.old gained.now }
+    requires few { refs.old.issued + length gained.now ≤ 2 ^ 28 }
+    requires room { length gained.now ≤ refs.old.spare }
+    requires written { vec_len touched.old + length brought.now ≤ vec_capacity touched.old }
+    ensures exchanged { Exchanged brought.now gained.now refs.old refs.new }
+    ensures touched { (n : ℕ) (places : ℕ → ℕ → ℕ) → AllBelow n brought.now
         → AllBelow n gained.now → Counts n (plus places brought.now) refs.old
-        → Touches refs.old refs.new touched.old.items touched.new.items) }
-    ensures climbs { OnOk result (Climbs 0 touched.old.items → Climbs 0 touched.new.items) }
+        → Touches refs.old refs.new touched.old.items touched.new.items }
+    ensures climbs { Climbs 0 touched.old.items → Climbs 0 touched.new.items }
+    ensures len { vec_len touched.new ≤ vec_len touched.old + length brought.now }
+    ensures capacity { vec_capacity touched.old ≤ vec_capacity touched.new }
 {
     if stands_first(brought, gained) {
-        return gain_all(refs, &gained[brought.len()..]);
+        gain_all(refs, &gained[brought.len()..]);
+        return;
     }
-    gain_all(refs, gained)?;
-    lose_all(refs, touched, brought)
+    gain_all(refs, gained);
+    lose_all(refs, touched, brought);
 }
 
-// Whether objects, which stand by number, are among those that were made.
-fn are_made(touched: &[u32], objects: u32) -> bool
-    ensures { IsTrue result → Climbs 0 touched.now → Rise 0 touched.now objects }
+// Whether the reference is the one that the making of an object gives.
+fn is_made(object: Option<u32>, iface: Asked, held: RefValue) -> bool
+    ensures { result ≡ is_made object iface held.object held.iface }
 {
-    if touched.len() == 0 {
-        return true;
-    }
-    let least = touched[0];
-    if least == 0 {
+    let Some(object) = object else {
         return false;
-    }
-    let most = touched[touched.len() - 1];
-    if most > objects {
+    };
+    let Asked::Number(iface) = iface else {
         return false;
+    };
+    held.object == object && u32::from(held.iface) == iface
+}
+
+// The same of the object that a deed makes.
+fn is_made_by(deed: &Deed, held: RefValue) -> bool
+    ensures { result ≡ is_made_by deed.now held.object held.iface }
+{
+    match deed {
+        Deed::Made { object, iface, .. } => is_made(*object, *iface, held),
+        _ => false,
+    }
+}
+
+// Whether the reference is by an interface of its object's set, once the object is made.
+fn can_place(refs: &Refs, deed: &Deed, held: RefValue) -> bool
+    ensures { result ≡ (offers refs.now held.object held.iface
+        || is_made_by deed.now held.object held.iface) }
+{
+    refs.offers(held.object, held.iface) || is_made_by(deed, held)
+}
+
+// Whether each reference that comes to a place is by an interface of its object's set, once the object is
+// made.
+fn can_gain(refs: &Refs, deed: &Deed, gained: &[Move]) -> bool
+    ensures { IsTrue result → AllGiven refs.now deed.now gained.now }
+{
+    for moved in gained {
+        if !can_place(refs, deed, moved.reference) {
+            return false;
+        }
     }
     true
 }
 
+// Leaves the numbers of objects, of which so many were made.
+fn keep_made(touched: &mut Vec<u32>, objects: u32)
+    requires { Climbs 0 touched.old.items }
+    ensures rise { Rise 0 touched.new.items objects }
+    ensures kept { (o : ℕ) → 0 < o → o ≤ objects → is_member o touched.old.items ≡ true
+        → is_member o touched.new.items ≡ true }
+    ensures len { vec_len touched.new ≤ vec_len touched.old }
+{
+    touched.retain(|object| *object > 0 && *object <= objects);
+}
+
+// How many objects at most an entry leaves without a holder: those of lost places, of places that its row
+// brought, and of what its row ends.
+fn most_noted(deed: &Deed, objects: &Objects, arguments: usize, lost: &[Move]) -> usize
+    requires { arguments < 2 ^ 32 }
+    ensures { result ≡ length lost.now + arguments + 3
+        + ended_objects (length objects.now.tables.makings) deed.now }
+{
+    let ended = match deed {
+        Deed::Uninit { .. } => objects.len() as usize,
+        _ => 0,
+    };
+    lost.len() + arguments + 3 + ended
+}
+
 impl Keeping {
     // The packets of a call's arguments that an Enter reads.
-    fn arguments_of(&self, deed: &Deed) -> usize {
+    fn arguments_of(&self, deed: &Deed) -> u32
+        ensures { result ≡ asked_packets self.now.calls deed.now }
+    {
         match deed {
-            Deed::Enter { call, .. } => self.calls.get(*call).count as usize,
+            Deed::Enter { call, .. } => self.calls.get(*call).count,
             _ => 0,
         }
     }
 
-    // Makes room for the entry, so that memory is wanted before anything has changed.
-    fn make_room(&mut self, deed: &Deed, context: Context<'_>, moves: &Moves) -> Result<(), Memory>
+    // Makes room for the entry, and looks whether the books take it. Nothing changes but room.
+    fn prepare(
+        &mut self,
+        deed: &Deed,
+        context: Context<'_>,
+        gained: &[Move],
+        lost: &[Move],
+    ) -> Result<(), Memory>
+        ensures refs { self.new.refs ≡ record self.old.refs { spare = self.new.refs.spare } }
         ensures places { SamePlaces self.old.refs self.new.refs }
         ensures books { books_of self.new.refs ≡ books_of self.old.refs }
         ensures calls { self.new.calls ≡ self.old.calls }
-        ensures brought { self.new.brought.items ≡ self.old.brought.items }
         ensures touched { self.new.touched.items ≡ self.old.touched.items }
+        ensures known { OnOk result (AllGiven self.new.refs deed.now gained.now) }
+        ensures none { OnOk result (holders_of self.new.refs 0 ≡ 0) }
+        ensures few { OnOk result (self.new.refs.issued
+            + row_steps self.new.calls context.entry.carried.now deed.now + length gained.now < 2 ^ 28) }
+        ensures room { OnOk result (row_steps self.new.calls context.entry.carried.now deed.now
+            + length gained.now ≤ self.new.refs.spare) }
+        ensures brought { OnOk result (asked_packets self.new.calls deed.now + 1
+            ≤ vec_capacity self.new.brought) }
+        ensures noted { OnOk result (length lost.now + asked_packets self.new.calls deed.now + 3
+            + ended_objects (length context.entry.objects.now.tables.makings) deed.now
+            ≤ vec_capacity self.new.touched) }
     {
-        let arguments = self.arguments_of(deed);
-        let gains = arguments
+        let arguments = self.arguments_of(deed) as usize;
+        let steps = arguments
             .saturating_add(context.carried.len())
-            .saturating_add(moves.gained().len())
+            .saturating_add(gained.len())
             .saturating_add(2);
         let most = MOST_GIVEN as usize;
-        if gains >= most || self.refs.issued() as usize + gains >= most {
+        if steps >= most || self.refs.issued() as usize + steps >= most {
             return Err(unproved());
         }
-        self.refs.reserve(gains as u32)?;
-        self.calls.reserve()?;
-        self.brought.reserve(gains)?;
+        self.refs.reserve(steps as u32)?;
+        if !can_gain(&self.refs, deed, gained) {
+            return Err(unproved());
+        }
+        if self.refs.is_held(0) {
+            return Err(unproved());
+        }
+        self.brought.clear();
+        self.brought.reserve(arguments + 1)?;
+        let noted = most_noted(deed, context.objects, arguments, lost);
         self.touched
-            .reserve(moves.lost().len().saturating_add(gains))
+            .reserve(noted.saturating_sub(self.touched.len()))?;
+        Ok(())
     }
 
     // The row of an entry that gives: it may bring places.
@@ -133,13 +218,28 @@ impl Keeping {
         context: Context<'_>,
         apartment: u32,
     ) -> Result<(), Memory>
+        requires few { self.old.refs.issued
+            + row_steps self.old.calls context.carried.now deed.now < 2 ^ 28 }
+        requires room { row_steps self.old.calls context.carried.now deed.now ≤ self.old.refs.spare }
+        requires places { vec_len self.old.brought + asked_packets self.old.calls deed.now + 1
+            ≤ vec_capacity self.old.brought }
         ensures gives { OnOk result (Gives
-            (around context.entry.calls.now.tables context.entry.objects.now context.entry.classes.now
+            (around context.entry.calls.now.tables context.entry.objects.now.tables context.entry.classes.now
             context.entry.carried.now apartment) deed.now
             (tally self.old.refs self.old.calls) self.old.brought.items
             (tally self.new.refs self.new.calls) self.new.brought.items) }
         ensures more { OnOk result (KeepsHeldBy apartment deed.now self.old.refs self.new.refs) }
-        ensures touched { self.new.touched.items ≡ self.old.touched.items }
+        ensures noted { self.new.touched ≡ self.old.touched }
+        ensures err_refs { OnErr result (self.new.refs ≡ self.old.refs) }
+        ensures err_calls { OnErr result (self.new.calls ≡ self.old.calls) }
+        ensures issued { self.new.refs.issued
+            ≤ self.old.refs.issued + row_steps self.old.calls context.entry.carried.now deed.now }
+        ensures spare { self.old.refs.spare
+            ≤ self.new.refs.spare + row_steps self.old.calls context.entry.carried.now deed.now }
+        ensures brought { vec_len self.new.brought
+            ≤ vec_len self.old.brought + asked_packets self.old.calls deed.now + 1 }
+        ensures offers { OnOk result ((x j : ℕ) → (offers self.old.refs x j || is_made_by deed.now x j) ≡ true
+            → offers self.new.refs x j ≡ true) }
     {
         match deed {
             Deed::Made {
@@ -197,13 +297,28 @@ impl Keeping {
         context: Context<'_>,
         apartment: u32,
     ) -> Result<(), Memory>
+        requires few { self.old.refs.issued
+            + row_steps self.old.calls context.carried.now deed.now < 2 ^ 28 }
+        requires room { row_steps self.old.calls context.carried.now deed.now ≤ self.old.refs.spare }
+        requires places { vec_len self.old.brought + asked_packets self.old.calls deed.now + 1
+            ≤ vec_capacity self.old.brought }
         ensures gives { OnOk result (is_of_reference deed.now ≡ false
-            → Gives (around context.entry.calls.now.tables context.entry.objects.now
+            → Gives (around context.entry.calls.now.tables context.entry.objects.now.tables
             context.entry.classes.now context.entry.carried.now apartment) deed.now
             (tally self.old.refs self.old.calls) self.old.brought.items
             (tally self.new.refs self.new.calls) self.new.brought.items) }
         ensures more { OnOk result (HoldsMore self.old.refs self.new.refs) }
-        ensures touched { self.new.touched.items ≡ self.old.touched.items }
+        ensures noted { self.new.touched ≡ self.old.touched }
+        ensures err_refs { OnErr result (self.new.refs ≡ self.old.refs) }
+        ensures err_calls { OnErr result (self.new.calls ≡ self.old.calls) }
+        ensures issued { self.new.refs.issued
+            ≤ self.old.refs.issued + row_steps self.old.calls context.entry.carried.now deed.now }
+        ensures spare { self.old.refs.spare
+            ≤ self.new.refs.spare + row_steps self.old.calls context.entry.carried.now deed.now }
+        ensures brought { vec_len self.new.brought
+            ≤ vec_len self.old.brought + asked_packets self.old.calls deed.now + 1 }
+        ensures offers { OnOk result ((x j : ℕ) → offers self.old.refs x j ≡ true
+            → offers self.new.refs x j ≡ true) }
     {
         match deed {
             Deed::Out { call, bytes, .. } => {
@@ -216,7 +331,8 @@ impl Keeping {
                 ..
             } => {
                 let packets = self.calls.get(*call);
-                read_all(&mut self.refs, &mut self.brought, *apartment, packets)
+                read_all(&mut self.refs, &mut self.brought, *apartment, packets);
+                Ok(())
             }
             Deed::Leave { call, bytes, .. } => {
                 let carried = carried_in(context.carried, bytes.is_some());
@@ -234,15 +350,21 @@ impl Keeping {
     }
 
     // The row of an entry that ends a holder which is no place: a packet, a cookie, or all of a connection.
-    fn enter_end(&mut self, deed: &Deed, context: Context<'_>, apartment: u32) -> Result<(), Memory>
-        ensures closes { OnOk result (Closes
-            (around context.entry.calls.now.tables context.entry.objects.now context.entry.classes.now
+    fn enter_end(&mut self, deed: &Deed, context: Context<'_>, apartment: u32)
+        requires room { vec_len self.old.touched
+            + ended_objects (length context.objects.now.tables.makings) deed.now
+            < vec_capacity self.old.touched }
+        ensures closes { Closes
+            (around context.entry.calls.now.tables context.entry.objects.now.tables context.entry.classes.now
             context.entry.carried.now apartment) deed.now (tally self.old.refs self.old.calls)
-            (tally self.new.refs self.old.calls)) }
-        ensures touched { OnOk result
-            (TouchesCounted self.old.refs self.new.refs self.old.touched.items self.new.touched.items) }
-        ensures climbs { OnOk result (Climbs 0 self.old.touched.items → Climbs 0 self.new.touched.items) }
+            (tally self.new.refs self.old.calls) }
+        ensures touched { TouchesCounted self.old.refs self.new.refs
+            self.old.touched.items self.new.touched.items }
+        ensures climbs { Climbs 0 self.old.touched.items → Climbs 0 self.new.touched.items }
         ensures calls { self.new.calls ≡ self.old.calls }
+        ensures len { vec_len self.new.touched ≤ vec_len self.old.touched
+            + ended_objects (length context.entry.objects.now.tables.makings) deed.now + 1 }
+        ensures capacity { vec_capacity self.old.touched ≤ vec_capacity self.new.touched }
     {
         let refs = &mut self.refs;
         let touched = &mut self.touched;
@@ -251,60 +373,76 @@ impl Keeping {
             Deed::Revoke { cookie, hr } => end_cookie(refs, touched, cookie, *hr),
             Deed::Back { call, .. } => {
                 if is_left(context.calls, *call) {
-                    return Ok(());
+                    return;
                 }
                 let number = self.calls.get(*call).result;
-                give_up(refs, touched, number)
+                give_up(refs, touched, number);
             }
             Deed::Disconnect { object, hr } => end_connection(refs, touched, *object, *hr),
             Deed::Uninit { home, count } => {
-                end_home(refs, touched, context.objects, *home, *count)
+                end_home(refs, touched, context.objects, *home, *count);
             }
-            _ => Ok(()),
+            _ => {}
         }
     }
 
     // The whole change by an entry: first the row that gives, then what comes to places, then the row that
-    // ends a holder, and then what leaves places.
+    // ends a holder, and then what leaves places. After an error nothing has changed but room.
     fn change(&mut self, entry: &Entry, context: Context<'_>, moves: &Moves) -> Result<(), Memory>
         ensures applies { OnOk result ((gained lost : List Move) → movings_of gained ≡ moves.now.gained
             → movings_of lost ≡ moves.now.lost
-            → Applies (around context.entry.calls.now.tables context.entry.objects.now
+            → Applies (around context.entry.calls.now.tables context.entry.objects.now.tables
             context.entry.classes.now context.entry.carried.now
             (number_or_zero context.entry.running)) entry.now.deed gained lost
             (tally self.old.refs self.old.calls) (tally self.new.refs self.new.calls)) }
         ensures touched { OnOk result ((gained lost : List Move) → movings_of gained ≡ moves.now.gained
             → movings_of lost ≡ moves.now.lost
-            → Loses (around context.entry.calls.now.tables context.entry.objects.now
+            → Loses (around context.entry.calls.now.tables context.entry.objects.now.tables
             context.entry.classes.now context.entry.carried.now
             (number_or_zero context.entry.running)) entry.now.deed gained lost
             (tally self.old.refs self.old.calls)
             (tally self.new.refs self.new.calls) self.new.touched.items) }
         ensures rise { OnOk result (Rise 0 self.new.touched.items (length self.new.refs.objects)) }
+        ensures few { OnOk result (length self.new.touched.items
+            ≤ most_left self.old.calls context.entry.objects.now.tables entry.now.deed moves.now) }
+        ensures err_refs { OnErr result
+            (self.new.refs ≡ record self.old.refs { spare = self.new.refs.spare }) }
+        ensures err_calls { OnErr result (self.new.calls ≡ self.old.calls) }
+        ensures err_touched { OnErr result (self.new.touched.items ≡ self.old.touched.items) }
     {
-        self.touched.clear();
+        let gained = moves.gained();
+        let lost = moves.lost();
+        self.prepare(&entry.deed, context, gained, lost)?;
         self.brought.clear();
-        self.make_room(&entry.deed, context, moves)?;
         let apartment = number_or_zero(context.running);
+        self.refs.bounds();
         self.enter_reference(&entry.deed, context, apartment)?;
+        self.touched.clear();
         take(
             &mut self.refs,
             &mut self.touched,
             self.brought.as_slice(),
-            moves.gained(),
-        )?;
-        self.enter_end(&entry.deed, context, apartment)?;
-        lose_all(&mut self.refs, &mut self.touched, moves.lost())?;
-        if !are_made(self.touched.as_slice(), self.refs.objects()) {
-            return Err(unproved());
-        }
+            gained,
+        );
+        self.enter_end(&entry.deed, context, apartment);
+        lose_all(&mut self.refs, &mut self.touched, lost);
+        keep_made(&mut self.touched, self.refs.objects());
         Ok(())
     }
 }
 
 impl Ledger {
+    /// How many objects at most an entry leaves without a holder.
+    pub fn most_left(&self, deed: &Deed, objects: &Objects, moves: &Moves) -> usize
+        ensures { result ≡ most_left self.now.calls objects.now.tables deed.now moves.now }
+    {
+        let arguments = self.keeping.arguments_of(deed) as usize;
+        most_noted(deed, objects, arguments, moves.lost())
+    }
+
     /// Makes of the books what an entry makes of them, which takes these references from places and brings
-    /// these. The only error is want of memory, or of a fact that is not proved here.
+    /// these. The only error is want of memory, or of a fact that is not proved here, and then nothing has
+    /// changed but room.
     ///
     /// Where places are counted, and those that are lost and gained are counted off and on, the places after
     /// the entry are counted, and the books are those with the entry's rows, at the entry's end. Each object
@@ -318,17 +456,23 @@ impl Ledger {
     ) -> Result<(), Memory>
         ensures applies { OnOk result ((gained lost : List Move) → movings_of gained ≡ moves.now.gained
             → movings_of lost ≡ moves.now.lost
-            → Applies (around context.entry.calls.now.tables context.entry.objects.now
+            → Applies (around context.entry.calls.now.tables context.entry.objects.now.tables
             context.entry.classes.now context.entry.carried.now
             (number_or_zero context.entry.running)) entry.now.deed gained lost
             (tally self.old.tables self.old.calls) (tally self.new.tables self.new.calls)) }
         ensures touched { OnOk result ((gained lost : List Move) → movings_of gained ≡ moves.now.gained
             → movings_of lost ≡ moves.now.lost
-            → Loses (around context.entry.calls.now.tables context.entry.objects.now
+            → Loses (around context.entry.calls.now.tables context.entry.objects.now.tables
             context.entry.classes.now context.entry.carried.now
             (number_or_zero context.entry.running)) entry.now.deed gained lost
             (tally self.old.tables self.old.calls) (tally self.new.tables self.new.calls) self.new.touched) }
         ensures rise { OnOk result (Rise 0 self.new.touched (length self.new.tables.objects)) }
+        ensures few { OnOk result (length self.new.touched
+            ≤ most_left self.old.calls context.entry.objects.now.tables entry.now.deed moves.now) }
+        ensures err_tables { OnErr result
+            (self.new.tables ≡ record self.old.tables { spare = self.new.tables.spare }) }
+        ensures err_calls { OnErr result (self.new.calls ≡ self.old.calls) }
+        ensures err_touched { OnErr result (self.new.touched ≡ self.old.touched) }
     {
         self.keeping.change(entry, context, moves)
     }

@@ -1,6 +1,7 @@
 //! The packets of each call.
-ghost use Rattle.std.specs.Prelude.{◌≡◌, ◌+◌, ◌<◌, ◌^◌, [], ◌∷◌, ◌++◌, length, OnOk, OnErr};
-ghost use Rattle.com_ledger.specs.Calls.{call_at, with_result};
+ghost use Rattle.std.specs.Prelude.{◌≡◌, ◌+◌, ◌<◌, ◌^◌, List, [], ◌∷◌, ◌++◌, length, OnOk, OnErr};
+ghost use Rattle.com_ledger.specs.declared.calls.CallPackets.{CallPackets};
+ghost use Rattle.com_ledger.specs.Calls.{call_at, no_packets, with_result};
 
 use com_base::Memory;
 use std::alloc::Global;
@@ -73,26 +74,30 @@ impl CallTable {
         }
     }
 
-    /// Makes room for one call.
-    pub fn reserve(&mut self) -> Result<(), Memory>
-        ensures { self.new ≡ self.old }
-    {
-        self.rows.reserve(1)
-    }
-
-    /// The packets of the arguments of the next call. Numbers past the last one that there is are none.
-    pub fn push(&mut self, first: u32, count: u32) -> Result<(), Memory>
-        requires { first + count < 2 ^ 32 }
-        ensures ok { OnOk result (self.new
-            ≡ self.old ++ record { first = first; count = count; result = 0 } ∷ []) }
+    /// One call more, without packets.
+    pub fn push(&mut self) -> Result<(), Memory>
+        ensures ok { OnOk result (self.new ≡ self.old ++ no_packets ∷ []) }
         ensures err { OnErr result (self.new ≡ self.old) }
     {
-        self.rows.push(CallPackets {
+        self.rows.push(NO_PACKETS)?;
+        Ok(())
+    }
+
+    /// The packets of the arguments of the last call, which had none. Numbers past the last one that there is
+    /// are none.
+    pub fn set_last(&mut self, first: u32, count: u32)
+        requires { first + count < 2 ^ 32 }
+        ensures { (rows : List CallPackets) → self.old ≡ rows ++ no_packets ∷ []
+            → self.new ≡ rows ++ record { first = first; count = count; result = 0 } ∷ [] }
+    {
+        let Some(place) = self.rows.len().checked_sub(1) else {
+            return;
+        };
+        self.rows[place] = CallPackets {
             first,
             count,
             result: 0,
-        })?;
-        Ok(())
+        };
     }
 
     /// The packet of the result of a call, or 0 where it has none.

@@ -1,5 +1,5 @@
 //! The rows of entries that end a holder which is no place: a packet, a cookie, or all of a connection.
-ghost use Rattle.std.specs.Prelude.{OnOk};
+ghost use Rattle.std.specs.Prelude.{◌+◌, ◌<◌, ◌≤◌, length, vec_len, vec_capacity};
 ghost use Rattle.com_model.specs.declared.deeds.Deed.TheVariants as deed;
 ghost use Rattle.com_base.specs.declared.hresult.HResult.{HResult};
 ghost use Rattle.com_state.specs.Parts.{ObjectTables};
@@ -7,83 +7,78 @@ ghost use Rattle.com_ledger.specs.Entries.{ClosesTables, GivesUp};
 ghost use Rattle.com_ledger.specs.Moving.{Climbs, TouchesCounted};
 
 use crate::rows::{disconnect, drop_packet, end_apartment, revoke};
-use com_base::{HResult, Memory};
+use com_base::HResult;
 use com_objects::Objects;
 use com_refs::Refs;
 
 /// The row of a packet that ends.
-pub fn end_packet(
-    refs: &mut Refs,
-    touched: &mut Vec<u32>,
-    packet: Option<u32>,
-) -> Result<(), Memory>
-    ensures row { OnOk result ((objects : ObjectTables) (hr : HResult)
-        → ClosesTables objects (deed.DropPacket packet hr) refs.old refs.new) }
-    ensures touched { OnOk result (TouchesCounted refs.old refs.new touched.old.items touched.new.items) }
-    ensures climbs { OnOk result (Climbs 0 touched.old.items → Climbs 0 touched.new.items) }
+pub fn end_packet(refs: &mut Refs, touched: &mut Vec<u32>, packet: Option<u32>)
+    requires room { vec_len touched.old < vec_capacity touched.old }
+    ensures row { (objects : ObjectTables) (hr : HResult)
+        → ClosesTables objects (deed.DropPacket packet hr) refs.old refs.new }
+    ensures touched { TouchesCounted refs.old refs.new touched.old.items touched.new.items }
+    ensures climbs { Climbs 0 touched.old.items → Climbs 0 touched.new.items }
+    ensures len { vec_len touched.new ≤ vec_len touched.old + 1 }
+    ensures capacity { vec_capacity touched.old ≤ vec_capacity touched.new }
 {
     let Some(packet) = packet else {
-        return Ok(());
+        return;
     };
-    drop_packet(refs, touched, packet)?;
+    drop_packet(refs, touched, packet);
     refs.tells();
-    Ok(())
 }
 
 /// The row of a cookie that ends.
-pub fn end_cookie(
-    refs: &mut Refs,
-    touched: &mut Vec<u32>,
-    cookie: &i64,
-    hr: HResult,
-) -> Result<(), Memory>
-    ensures row { OnOk result ((objects : ObjectTables)
-        → ClosesTables objects (deed.Revoke cookie.now hr) refs.old refs.new) }
-    ensures touched { OnOk result (TouchesCounted refs.old refs.new touched.old.items touched.new.items) }
-    ensures climbs { OnOk result (Climbs 0 touched.old.items → Climbs 0 touched.new.items) }
+pub fn end_cookie(refs: &mut Refs, touched: &mut Vec<u32>, cookie: &i64, hr: HResult)
+    requires room { vec_len touched.old < vec_capacity touched.old }
+    ensures row { (objects : ObjectTables)
+        → ClosesTables objects (deed.Revoke cookie.now hr) refs.old refs.new }
+    ensures touched { TouchesCounted refs.old refs.new touched.old.items touched.new.items }
+    ensures climbs { Climbs 0 touched.old.items → Climbs 0 touched.new.items }
+    ensures len { vec_len touched.new ≤ vec_len touched.old + 1 }
+    ensures capacity { vec_capacity touched.old ≤ vec_capacity touched.new }
 {
     if hr.0 != 0 {
-        return Ok(());
+        return;
     }
     let number = *cookie;
-    revoke(refs, touched, number)?;
+    revoke(refs, touched, number);
     refs.tells();
-    Ok(())
 }
 
 /// The row of a result's packet that is given up: the answer of its call is not its body's.
-pub fn give_up(refs: &mut Refs, touched: &mut Vec<u32>, number: u32) -> Result<(), Memory>
-    ensures row { OnOk result (GivesUp number refs.old refs.new) }
-    ensures touched { OnOk result (TouchesCounted refs.old refs.new touched.old.items touched.new.items) }
-    ensures climbs { OnOk result (Climbs 0 touched.old.items → Climbs 0 touched.new.items) }
+pub fn give_up(refs: &mut Refs, touched: &mut Vec<u32>, number: u32)
+    requires room { vec_len touched.old < vec_capacity touched.old }
+    ensures row { GivesUp number refs.old refs.new }
+    ensures touched { TouchesCounted refs.old refs.new touched.old.items touched.new.items }
+    ensures climbs { Climbs 0 touched.old.items → Climbs 0 touched.new.items }
+    ensures len { vec_len touched.new ≤ vec_len touched.old + 1 }
+    ensures capacity { vec_capacity touched.old ≤ vec_capacity touched.new }
 {
     if number == 0 {
-        return Ok(());
+        return;
     }
-    drop_packet(refs, touched, number)?;
+    drop_packet(refs, touched, number);
     refs.tells();
-    Ok(())
 }
 
 /// An object that is disconnected.
-pub fn end_connection(
-    refs: &mut Refs,
-    touched: &mut Vec<u32>,
-    object: Option<u32>,
-    hr: HResult,
-) -> Result<(), Memory>
-    ensures row { OnOk result ((objects : ObjectTables)
-        → ClosesTables objects (deed.Disconnect object hr) refs.old refs.new) }
-    ensures touched { OnOk result (TouchesCounted refs.old refs.new touched.old.items touched.new.items) }
-    ensures climbs { OnOk result (Climbs 0 touched.old.items → Climbs 0 touched.new.items) }
+pub fn end_connection(refs: &mut Refs, touched: &mut Vec<u32>, object: Option<u32>, hr: HResult)
+    requires room { vec_len touched.old < vec_capacity touched.old }
+    ensures row { (objects : ObjectTables)
+        → ClosesTables objects (deed.Disconnect object hr) refs.old refs.new }
+    ensures touched { TouchesCounted refs.old refs.new touched.old.items touched.new.items }
+    ensures climbs { Climbs 0 touched.old.items → Climbs 0 touched.new.items }
+    ensures len { vec_len touched.new ≤ vec_len touched.old + 1 }
+    ensures capacity { vec_capacity touched.old ≤ vec_capacity touched.new }
 {
     let Some(object) = object else {
-        return Ok(());
+        return;
     };
     if hr.0 != 0 {
-        return Ok(());
+        return;
     }
-    disconnect(refs, touched, object)
+    disconnect(refs, touched, object);
 }
 
 /// The last Uninit of a lane's home, which ends it where it is an STA.
@@ -93,19 +88,22 @@ pub fn end_home(
     objects: &Objects,
     home: Option<u32>,
     count: u32,
-) -> Result<(), Memory>
-    ensures row { OnOk result (ClosesTables objects.now (deed.Uninit home count) refs.old refs.new) }
-    ensures touched { OnOk result (TouchesCounted refs.old refs.new touched.old.items touched.new.items) }
-    ensures climbs { OnOk result (Climbs 0 touched.old.items → Climbs 0 touched.new.items) }
+)
+    requires room { vec_len touched.old + length objects.now.tables.makings ≤ vec_capacity touched.old }
+    ensures row { ClosesTables objects.now.tables (deed.Uninit home count) refs.old refs.new }
+    ensures touched { TouchesCounted refs.old refs.new touched.old.items touched.new.items }
+    ensures climbs { Climbs 0 touched.old.items → Climbs 0 touched.new.items }
+    ensures len { vec_len touched.new ≤ vec_len touched.old + length objects.now.tables.makings }
+    ensures capacity { vec_capacity touched.old ≤ vec_capacity touched.new }
 {
     let Some(home) = home else {
-        return Ok(());
+        return;
     };
     if count > 0 {
-        return Ok(());
+        return;
     }
     if home < 2 {
-        return Ok(());
+        return;
     }
-    end_apartment(refs, touched, objects, home)
+    end_apartment(refs, touched, objects, home);
 }

@@ -1,17 +1,19 @@
 //! The rows of entries that make, ask for, marshal, unmarshal, register or get a reference.
-ghost use Rattle.std.specs.Prelude.{◌≡◌, ℕ, true, IfOk, OnOk, List, Option};
+ghost use Rattle.std.specs.Prelude.{◌≡◌, ◌+◌, ◌<◌, ◌≤◌, ◌||◌, ℕ, true, IfOk, OnErr, OnOk, List, Option};
+ghost use Rattle.std.specs.Prelude.{vec_len, vec_capacity};
 ghost use Rattle.com_base.specs.declared.hresult.HResult.{HResult};
 ghost use Rattle.com_base.specs.declared.value.RefValue.{RefValue};
+ghost use Rattle.com_holders.specs.Tables.{offers};
 ghost use Rattle.com_model.specs.declared.deeds.Deed.TheVariants as deed;
 ghost use Rattle.com_model.specs.Books.{back_rows};
 ghost use Rattle.com_moves.specs.declared.moves.Move.{Move};
 ghost use Rattle.com_ledger.specs.Books.{Gained, KeepsHeld};
 ghost use Rattle.com_ledger.specs.Calls.{number_of};
-ghost use Rattle.com_ledger.specs.Entries.{RowsOf, MakesOrNone};
+ghost use Rattle.com_ledger.specs.Entries.{RowsOf, MakesOrNone, is_made};
 ghost use Rattle.com_ledger.specs.Moving.{HoldsMore};
 
 use crate::making::make;
-use crate::rows::{get, marshal, query, register, unmarshal, unproved};
+use crate::rows::{get, marshal, query, read, register, unproved};
 use com_base::{HResult, MarshalMode, Memory, RefValue};
 use com_body::Asked;
 use com_classes::Classes;
@@ -41,10 +43,18 @@ pub fn enter_made(
     class: Asked,
     iface: Asked,
 ) -> Result<(), Memory>
+    requires place { vec_len brought.old < vec_capacity brought.old }
+    requires room { 2 ≤ refs.old.spare }
     ensures row { OnOk result
         (MakesOrNone classes.now apartment object owner class iface refs.old refs.new brought.old.items
         brought.new.items) }
     ensures more { OnOk result (KeepsHeld apartment refs.old refs.new) }
+    ensures err { OnErr result (refs.new ≡ refs.old) }
+    ensures offers { OnOk result ((x j : ℕ) → (offers refs.old x j || is_made object iface x j) ≡ true
+        → offers refs.new x j ≡ true) }
+    ensures issued { refs.new.issued ≤ refs.old.issued + 2 }
+    ensures spare { refs.old.spare ≤ refs.new.spare + 2 }
+    ensures len { vec_len brought.new ≤ vec_len brought.old + 1 }
 {
     let Some(object) = object else {
         return Ok(());
@@ -71,9 +81,15 @@ pub fn enter_query(
     iface: Asked,
     hr: HResult,
 ) -> Result<(), Memory>
+    requires place { vec_len brought.old < vec_capacity brought.old }
     ensures row { OnOk result (RowsOf apartment
         (deed.Query object iface hr) refs.old refs.new brought.old.items brought.new.items) }
     ensures more { OnOk result (HoldsMore refs.old refs.new) }
+    ensures err { OnErr result (refs.new ≡ refs.old) }
+    ensures offers { (x j : ℕ) → offers refs.new x j ≡ offers refs.old x j }
+    ensures issued { refs.new.issued ≤ refs.old.issued + 1 }
+    ensures spare { refs.old.spare ≤ refs.new.spare + 1 }
+    ensures len { vec_len brought.new ≤ vec_len brought.old + 1 }
 {
     let Some(object) = object else {
         return Ok(());
@@ -95,14 +111,21 @@ pub fn enter_unmarshal(
     apartment: u32,
     packet: Option<u32>,
 ) -> Result<(), Memory>
+    requires place { vec_len brought.old < vec_capacity brought.old }
+    requires room { 0 < refs.old.spare }
     ensures row { OnOk result ((held : Option RefValue) (n : ℕ) (hr : HResult)
         → RowsOf apartment
         (deed.Unmarshal packet held n hr) refs.old refs.new brought.old.items brought.new.items) }
     ensures more { OnOk result (HoldsMore refs.old refs.new) }
+    ensures err { OnErr result (refs.new ≡ refs.old) }
+    ensures offers { (x j : ℕ) → offers refs.new x j ≡ offers refs.old x j }
+    ensures issued { refs.new.issued ≤ refs.old.issued + 1 }
+    ensures spare { refs.old.spare ≤ refs.new.spare + 1 }
+    ensures len { vec_len brought.new ≤ vec_len brought.old + 1 }
 {
     match packet {
         None => Ok(()),
-        Some(packet) => unmarshal(refs, brought, apartment, packet),
+        Some(packet) => read(refs, brought, apartment, packet),
     }
 }
 
@@ -114,9 +137,14 @@ pub fn enter_marshal(
     mode: MarshalMode,
     held: Option<RefValue>,
 ) -> Result<(), Memory>
+    requires room { 0 < refs.old.spare }
     ensures row { OnOk result ((n : ℕ) (hr : HResult) (bytes : Option (List ℕ)) (brought : List Move)
         → RowsOf apartment (deed.Marshal packet mode held n hr bytes) refs.old refs.new brought brought) }
     ensures more { OnOk result (HoldsMore refs.old refs.new) }
+    ensures err { OnErr result (refs.new ≡ refs.old) }
+    ensures offers { (x j : ℕ) → offers refs.new x j ≡ offers refs.old x j }
+    ensures issued { refs.new.issued ≤ refs.old.issued + 1 }
+    ensures spare { refs.old.spare ≤ refs.new.spare + 1 }
 {
     let Some(_) = packet else {
         return Ok(());
@@ -136,6 +164,10 @@ pub fn enter_register(
     ensures row { OnOk result ((a : ℕ) (hr : HResult) (brought : List Move)
         → RowsOf a (deed.Register cookie held hr) refs.old refs.new brought brought) }
     ensures more { OnOk result (HoldsMore refs.old refs.new) }
+    ensures err { OnErr result (refs.new ≡ refs.old) }
+    ensures offers { (x j : ℕ) → offers refs.new x j ≡ offers refs.old x j }
+    ensures issued { refs.new.issued ≤ refs.old.issued + 1 }
+    ensures spare { refs.old.spare ≤ refs.new.spare + 1 }
 {
     let Some(_) = cookie else {
         return Ok(());
@@ -154,10 +186,16 @@ pub fn enter_get(
     cookie: &i64,
     held: Option<RefValue>,
 ) -> Result<(), Memory>
+    requires place { vec_len brought.old < vec_capacity brought.old }
     ensures row { OnOk result ((n : ℕ) (hr : HResult)
         → RowsOf apartment
         (deed.Get cookie.now held n hr) refs.old refs.new brought.old.items brought.new.items) }
     ensures more { OnOk result (HoldsMore refs.old refs.new) }
+    ensures err { OnErr result (refs.new ≡ refs.old) }
+    ensures offers { (x j : ℕ) → offers refs.new x j ≡ offers refs.old x j }
+    ensures issued { refs.new.issued ≤ refs.old.issued + 1 }
+    ensures spare { refs.old.spare ≤ refs.new.spare + 1 }
+    ensures len { vec_len brought.new ≤ vec_len brought.old + 1 }
 {
     match held {
         None => Ok(()),
@@ -172,12 +210,19 @@ pub fn enter_back(
     apartment: u32,
     number: u32,
 ) -> Result<(), Memory>
+    requires place { vec_len brought.old < vec_capacity brought.old }
+    requires room { 0 < refs.old.spare }
     ensures row { OnOk result (Gained apartment (back_rows apartment true
         (number_of number)) refs.old refs.new brought.old.items brought.new.items) }
     ensures more { OnOk result (HoldsMore refs.old refs.new) }
+    ensures err { OnErr result (refs.new ≡ refs.old) }
+    ensures offers { (x j : ℕ) → offers refs.new x j ≡ offers refs.old x j }
+    ensures issued { refs.new.issued ≤ refs.old.issued + 1 }
+    ensures spare { refs.old.spare ≤ refs.new.spare + 1 }
+    ensures len { vec_len brought.new ≤ vec_len brought.old + 1 }
 {
     if number == 0 {
         return Ok(());
     }
-    unmarshal(refs, brought, apartment, number)
+    read(refs, brought, apartment, number)
 }

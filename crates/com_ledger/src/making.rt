@@ -1,6 +1,8 @@
 //! The row of a new object.
 ghost use Rattle.std.specs.Prelude.{◌≡◌, ◌+◌, ◌<◌, ◌≤◌, ◌^◌, ◌++◌, ◌∷◌, [], true, IsTrue, OnOk, Some, length};
+ghost use Rattle.std.specs.Prelude.{ℕ, OnErr, vec_len, vec_capacity};
 ghost use Rattle.com_holders.specs.Steps.{among};
+ghost use Rattle.com_holders.specs.Tables.{offers};
 ghost use Rattle.com_model.specs.Tables.{has_agile_model};
 ghost use Rattle.com_ledger.specs.Books.{KeepsHeld, Made, moved_to};
 ghost use Rattle.com_ledger.specs.Owners.{Grown};
@@ -68,11 +70,19 @@ pub fn make(
     owner: u32,
     class: u32,
 ) -> Result<(), Memory>
+    requires place { vec_len brought.old < vec_capacity brought.old }
+    requires room { 2 ≤ refs.old.spare }
     ensures brought { OnOk result (brought.new.items ≡ brought.old.items ++ moved_to apartment held ∷ []) }
     ensures made { OnOk result (Made apartment held refs.old refs.new) }
     ensures grown { OnOk result (Grown classes.now (Some
         (record { object = held.object; apartment = owner; class = class })) refs.old refs.new) }
     ensures more { OnOk result (KeepsHeld apartment refs.old refs.new) }
+    ensures err { OnErr result (refs.new ≡ refs.old) }
+    ensures offers { OnOk result ((x j : ℕ) → offers refs.old x j ≡ true → offers refs.new x j ≡ true) }
+    ensures offered { OnOk result (offers refs.new held.object held.iface ≡ true) }
+    ensures issued { refs.new.issued ≤ refs.old.issued + 2 }
+    ensures spare { refs.old.spare ≤ refs.new.spare + 2 }
+    ensures len { vec_len brought.new ≤ vec_len brought.old + 1 }
 {
     let Some(class) = classes.class(class) else {
         return Err(unproved());
@@ -91,5 +101,6 @@ pub fn make(
         set.as_slice(),
     )?;
     refs.tells();
-    bring(brought, apartment, held)
+    bring(brought, apartment, held);
+    Ok(())
 }

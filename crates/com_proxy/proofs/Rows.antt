@@ -134,6 +134,15 @@ not_free rs keys a o p e each h eo ea some free =
     let held : (row_at rs p).local ≡ 0 = ap (λ r. r.local) (sym row) ∙ free.none_held (row_at rs p).iface in
     omega arith
 
+-- a row with local references is that of its interface
+pub held_row : (rs : List ProxyRow) (keys : List ℕ) (a o p : ℕ) → keys ≡ proxies_of rs → EachFirst rs → p < length keys → (row_at rs p).object ≡ o → (row_at rs p).apartment ≡ a
+    → 0 < (row_at rs p).local → 0 < local_of rs a o (row_at rs p).iface
+held_row rs keys a o p e each h eo ea some =
+    let inside : p < length rs = row_inside key_of rs keys 0 e p h in
+    let row : row_of rs a o (row_at rs p).iface ≡ row_at rs p = row_first rs a o (row_at rs p).iface p each inside eo ea refl in
+    let same : local_of rs a o (row_at rs p).iface ≡ (row_at rs p).local = ap (λ r. r.local) row in
+    omega (arith, same, some)
+
 -- the lowest interface of which an apartment has public references
 pub lowest_place : (rs : List ProxyRow) (a o p : ℕ) → EachFirst rs → IsLowest a o rs p → place_of rs a o (row_at rs p).iface ≡ p
 lowest_place rs a o p each l = place_first rs a o (row_at rs p).iface p each l.inside l.of_object l.of_apartment refl

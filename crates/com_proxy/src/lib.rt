@@ -133,21 +133,34 @@ fn is_lower(rows: &[ProxyRow], iface: u16, place: Option<usize>) -> bool
     }
 }
 
+// An interface by which the apartment has a local reference to the object.
+fn any_held(rows: &[ProxyRow], proxies: &Chains, apartment: u32, object: u32) -> Option<u16>
+    requires keyed { proxies.now.keys ≡ proxies_of rows.now }
+    requires first { EachFirst rows.now }
+    ensures some { IfSome result (λ iface. 0 < local_of rows.now apartment object iface) }
+    ensures none { IfNone result (IsFree rows.now apartment object) }
+{
+    let mut at = proxies.last(proxy_key(apartment, object));
+    while let Some(place) = at {
+        let row = &rows[place];
+        if row.object == object && row.apartment == apartment && row.local > 0 {
+            return Some(row.iface);
+        }
+        at = proxies.earlier(place);
+    }
+    None
+}
+
 // True exactly where the apartment has no local reference to the object, by any interface.
 fn is_free(rows: &[ProxyRow], proxies: &Chains, apartment: u32, object: u32) -> bool
     requires keyed { proxies.now.keys ≡ proxies_of rows.now }
     requires first { EachFirst rows.now }
     ensures { IsTrue result ↔ IsFree rows.now apartment object }
 {
-    let mut at = proxies.last(proxy_key(apartment, object));
-    while let Some(place) = at {
-        let row = &rows[place];
-        if row.object == object && row.apartment == apartment && row.local > 0 {
-            return false;
-        }
-        at = proxies.earlier(place);
+    match any_held(rows, proxies, apartment, object) {
+        Some(_) => false,
+        None => true,
     }
-    true
 }
 
 // The public references of all proxies of the object, where they have a number.
@@ -272,6 +285,15 @@ impl Proxies {
             return self.rows[at].local;
         }
         0
+    }
+
+    /// An interface by which the apartment has a local reference to the object. `None` exactly where it has
+    /// none by any.
+    pub fn any_local(&self, apartment: u32, object: u32) -> Option<u16>
+        ensures some { IfSome result (λ iface. 0 < local_of self.now.rows apartment object iface) }
+        ensures none { IfNone result (IsFree self.now.rows apartment object) }
+    {
+        any_held(&self.rows, &self.proxies, apartment, object)
     }
 
     /// The public references of the interface that the proxy holds.

@@ -11,3 +11,4 @@ pub mod Rests
 pub mod Settling
 pub mod Steps
 pub mod Ties
+mod Bounds

@@ -14,7 +14,7 @@ ghost use Rattle.std.specs.Prelude.{None, IfSome, IfNone, IsSomeAnd, sum_by, if�
 ghost use Rattle.std.specs.Int.{from_le_bytes, w64};
 ghost use Rattle.com_stub.specs.StubRows.{is_connected};
 ghost use Rattle.com_slots.specs.Table.{held_in};
-ghost use Rattle.com_proxy.specs.Rows.{local_of};
+ghost use Rattle.com_proxy.specs.Rows.{IsFree, local_of};
 ghost use Rattle.com_holders.specs.Tables.{Tables, books_of, owns_of, owners_of, is_owned, object_in};
 ghost use Rattle.com_holders.specs.Tables.{direct_in, offers, outstanding_in};
 ghost use Rattle.com_holders.specs.Steps.{made_live, among};
@@ -342,6 +342,14 @@ impl Refs {
         self.holders.stands();
     }
 
+    /// How high the numbers of what stands in the tables are.
+    pub fn bounds(&self)
+        ensures held { (o : ℕ) → 0 < holders_of self.now o → o ≤ length self.now.objects }
+        ensures packets { length self.now.packets ≤ self.now.issued }
+    {
+        self.holders.stands();
+    }
+
     /// Between calls nothing is left to give back or to cut.
     pub fn rests(&self)
         ensures { (n : ℕ) (places : ℕ → ℕ → ℕ) → Tells n places self.now → Totals n places self.now
@@ -384,6 +392,7 @@ impl Refs {
         ensures issued { OnOk result (self.new.issued ≡ self.old.issued + 2) }
         ensures err { OnErr result (self.new ≡ record self.old { spare = self.new.spare }) }
         ensures room { 2 ≤ self.old.spare → IsOk result }
+        ensures spare { self.old.spare ≤ self.new.spare + 2 }
     {
         self.reserve(2)?;
         self.hold_made(object, owner, agile, apartment, iface, set);
@@ -421,6 +430,7 @@ impl Refs {
         ensures offers { (x j : ℕ) → offers self.new x j
             ≡ (offers self.old x j || (x == object && among j set.now)) }
         ensures issued { self.new.issued ≡ self.old.issued + 2 }
+        ensures spare { self.old.spare ≤ self.new.spare + 2 }
     {
         self.holders.stands();
         self.holders.add_object(owner, agile, set);
@@ -487,6 +497,22 @@ impl Refs {
         self.holders.has_place(apartment, held)
     }
 
+    /// A reference to the object by which the apartment has a place: the one given where it has one of that,
+    /// else one by another interface. `None` exactly where it has no place of the object.
+    pub fn place_of(&self, apartment: u32, held: RefValue) -> Option<RefValue>
+        ensures object { IfSome result (λ place. place.object ≡ held.object) }
+        ensures proxied { IfSome result (λ place. owns_of self.now.objects held.object apartment ≡ false
+            → 0 < local_of self.now.proxies apartment held.object place.iface) }
+        ensures direct { IfSome result (λ place. owns_of self.now.objects held.object apartment ≡ true
+            → 0 < (object_in self.now.objects held.object).direct) }
+        ensures free { IfNone result (owns_of self.now.objects held.object apartment ≡ false
+            → IsFree self.now.proxies apartment held.object) }
+        ensures none { IfNone result (owns_of self.now.objects held.object apartment ≡ true
+            → (object_in self.now.objects held.object).direct ≡ 0) }
+    {
+        self.holders.place_of(apartment, held)
+    }
+
     /// One place more of a reference, and no public reference. The apartment need not hold it: a body of an
     /// object that every apartment owns writes the object's links in the neutral apartment. The only error is
     /// want of memory.
@@ -534,6 +560,7 @@ impl Refs {
         ensures offers { (x j : ℕ) → offers self.new x j ≡ offers self.old x j }
         ensures issued { OnOk result (self.new.issued ≡ self.old.issued + 1) }
         ensures room { 0 < self.old.spare → result ≡ Err RefsError.Memory → ⊥ }
+        ensures sure { 0 < self.old.spare → is_connected self.old.stubs held.object ≡ true → IsOk result }
         ensures err { OnErr result (self.new ≡ self.old) }
         ensures spare { self.old.spare ≤ self.new.spare + 1 }
     {
@@ -561,6 +588,7 @@ impl Refs {
         ensures offers { (x j : ℕ) → offers self.new x j ≡ offers self.old x j }
         ensures issued { OnOk result (self.new.issued ≡ self.old.issued + 1) }
         ensures room { 0 < self.old.spare → result ≡ Err RefsError.Memory → ⊥ }
+        ensures sure { 0 < self.old.spare → is_connected self.old.stubs held.object ≡ true → IsOk result }
         ensures err { OnErr result (self.new ≡ self.old) }
         ensures spare { self.old.spare ≤ self.new.spare + 1 }
     {
@@ -594,6 +622,9 @@ impl Refs {
         ensures offers { (x j : ℕ) → offers self.new x j ≡ offers self.old x j }
         ensures issued { OnOk result (self.new.issued ≡ self.old.issued + 1) }
         ensures room { 0 < self.old.spare → result ≡ Err RefsError.Memory → ⊥ }
+        ensures sure { 0 < self.old.spare
+            → (owns_of self.old.objects object apartment || is_connected self.old.stubs object) ≡ true
+            → offers self.old object iface ≡ true → IsOk result }
         ensures err { OnErr result (self.new ≡ self.old) }
         ensures spare { self.old.spare ≤ self.new.spare + 1 }
     {
@@ -626,6 +657,8 @@ impl Refs {
         ensures offers { (x j : ℕ) → offers self.new x j ≡ offers self.old x j }
         ensures issued { OnOk result (self.new.issued ≡ self.old.issued + 1) }
         ensures room { 0 < self.old.spare → result ≡ Err RefsError.Memory → ⊥ }
+        ensures sure { 0 < self.old.spare → IsSomeAnd (held_in self.old.cookies cookie)
+            (λ held. is_connected self.old.stubs held.object ≡ true) → IsOk result }
         ensures err { OnErr result (self.new ≡ self.old) }
         ensures spare { self.old.spare ≤ self.new.spare + 1 }
     {
@@ -657,6 +690,7 @@ impl Refs {
         ensures offers { (x j : ℕ) → offers self.new x j ≡ offers self.old x j }
         ensures issued { OnOk result (self.new.issued ≡ self.old.issued + 1) }
         ensures room { 0 < self.old.spare → result ≡ Err RefsError.Memory → ⊥ }
+        ensures only { 0 < self.old.spare → OnErr result (result ≡ Err RefsError.Unknown) }
         ensures err { OnErr result (self.new ≡ self.old) }
         ensures spare { self.old.spare ≤ self.new.spare + 1 }
     {
@@ -843,6 +877,13 @@ impl Refs {
             return NO_COOKIE;
         };
         cookie_row(held, self.holders.connected(held.object))
+    }
+
+    /// The reference of a cookie. `None` exactly where it was never given or was revoked.
+    pub fn cookie(&self, number: u32) -> Option<RefValue>
+        ensures { result ≡ held_in self.now.cookies number }
+    {
+        self.holders.cookie(number)
     }
 
     /// How many cookies were given.

@@ -14,4 +14,4 @@ returns-clause-row c = λ objects s x g owned calls same.
     let u = c.revoke.new.refs in
     let fits : SFits w64 c.args.cookie.now = search rules in
     closed_revoke s x g owned calls t u c.tells.ensures.tells c.tells.ensures.totals c.args.cookie.now c.args.hr c.if-hr-ne0.false
-    (subst (λ (z : ℤ). Taken (Revokes (cookie_number z)) t u) (to_z-of_z w64 c.args.cookie.now fits) c.in_ok-revoke.ensures.row)
+    (subst (λ (z : ℤ). Taken (Revokes (cookie_number z)) t u) (to_z-of_z w64 c.args.cookie.now fits) c.revoke.ensures.row)

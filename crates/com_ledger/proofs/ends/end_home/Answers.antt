@@ -1,7 +1,6 @@
 use Rattle.std.proofs.Common.{◌≡◌, ◌≤◌, ℕ, eqb, true, nat_le, sym, subst, arith}
 use Rattle.std.specs.Prelude.{Option}
 use Rattle.std.proofs.lemmas.Bool.Decides.{nat_tests}
-use Rattle.std.proofs.lemmas.Result.{on_ok_weaker}
 use Rattle.com_model.specs.declared.deeds.Deed.TheVariants as deed
 use Rattle.com_state.specs.Parts.{ObjectTables, named_at}
 use Rattle.com_ledger.specs.Books.{Cut, books_with}
@@ -19,8 +18,7 @@ returns-clause-row c =
     let a = c.in-Some.home in
     let zero-left : c.args.count ≡ 0 = omega arith in
     let sta : 2 ≤ a = omega arith in
-    on_ok_weaker c.end_apartment.result (λ f. λ s x g owned calls same.
+    (λ s x g owned calls same.
     subst (λ (n : ℕ). Closed (entered s x g owned (deed.Uninit c.args.home n) (books_with t calls)) (tally t calls) (tally u calls)) (sym zero-left)
     (subst (λ (o : Option ℕ). Closed (entered s x g owned (deed.Uninit o 0) (books_with t calls)) (tally t calls) (tally u calls)) (sym c.in-Some.is)
-    (closed_uninit s x g owned calls t u a (is-sta a sta) (subst (λ (os : ObjectTables). Cut (λ y. eqb (named_at os y) a) t u) (sym same) f))))
-    c.end_apartment.ensures.cut
+    (closed_uninit s x g owned calls t u a (is-sta a sta) (subst (λ (os : ObjectTables). Cut (λ y. eqb (named_at os y) a) t u) (sym same) c.end_apartment.ensures.cut))))

@@ -11,4 +11,4 @@ returns-clause-row c = λ objects hr s x g owned calls same.
     let t = c.args.refs.now in
     let u = c.drop_packet.new.refs in
     subst (λ (p : Option ℕ). Closed (entered s x g owned (deed.DropPacket p hr) (books_with t calls)) (tally t calls) (tally u calls)) (sym c.in-Some.is)
-    (closed_drop s x g owned calls t u c.tells.ensures.tells c.tells.ensures.totals c.in-Some.packet hr c.in_ok-drop_packet.ensures.row)
+    (closed_drop s x g owned calls t u c.tells.ensures.tells c.tells.ensures.totals c.in-Some.packet hr c.drop_packet.ensures.row)

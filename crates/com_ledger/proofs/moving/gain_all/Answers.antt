@@ -4,15 +4,21 @@ use Rattle.com_ledger.proofs.Placed.{gained_none, gained_next, gained_all}
 use Rattle.com_ledger.proofs.moving.gain_all.Goals as goal
 
 pub loop-moved-init : goal.loop-moved-init
-loop-moved-init c = record { books = refl; objects = (refl, λ x a. refl); some = gained_none c.args.gained.now c.args.refs.now; more = λ o. omega arith }
+loop-moved-init c = record { books = refl; objects = (refl, λ x a. refl); some = gained_none c.args.gained.now c.args.refs.now; more = λ o. omega arith; offers = λ x j. refl; issued = omega arith; spare = omega arith }
+
+pub gain-requires-clause-known : goal.gain-requires-clause-known
+gain-requires-clause-known c = c.loop-moved.invariant.offers _ _ ∙ c.requires.known c.loop-moved.moved-index c.loop-moved-test.true
 
 pub loop-moved-preserved : goal.loop-moved-preserved
 loop-moved-preserved c = record {
-  books = c.in_ok-gain.ensures.books ∙ c.loop-moved.invariant.books;
-  objects = owned_then c.args.refs.now c.loop-moved.refs c.gain.new.refs c.loop-moved.invariant.objects c.in_ok-gain.ensures.objects;
+  books = c.gain.ensures.books ∙ c.loop-moved.invariant.books;
+  objects = owned_then c.args.refs.now c.loop-moved.refs c.gain.new.refs c.loop-moved.invariant.objects c.gain.ensures.objects;
   some = gained_next c.args.gained.now c.loop-moved.moved-index (record { apartment = 0; reference = record { object = 0; iface = 0 } })
-      c.args.refs.now c.loop-moved.refs c.gain.new.refs c.loop-moved-test.true c.loop-moved.invariant.some c.in_ok-gain.ensures.places;
-  more = λ o. omega (arith, c.loop-moved.invariant.more o, c.in_ok-gain.ensures.more o);
+      c.args.refs.now c.loop-moved.refs c.gain.new.refs c.loop-moved-test.true c.loop-moved.invariant.some c.gain.ensures.places;
+  more = λ o. omega (arith, c.loop-moved.invariant.more o, c.gain.ensures.more o);
+  offers = λ x j. c.gain.ensures.offers x j ∙ c.loop-moved.invariant.offers x j;
+  issued = omega (arith, c.loop-moved.invariant.issued, c.gain.ensures.issued);
+  spare = omega (arith, c.loop-moved.invariant.spare, c.gain.ensures.spare);
 }
 
 pub returns-clause-books : goal.returns-clause-books

@@ -1,5 +1,5 @@
-use Rattle.std.proofs.Common.{◌≡◌, ℕ, ◌≤◌}
-use Rattle.com_holders.specs.Tables.{books_of}
+use Rattle.std.proofs.Common.{◌≡◌, ℕ, ◌+◌, ◌≤◌}
+use Rattle.com_holders.specs.Tables.{books_of, offers}
 use Rattle.com_refs.specs.Counts.{holders_of}
 use Rattle.com_ledger.specs.Owners.{AsOwned}
 use Rattle.com_ledger.proofs.Placed.{GainedSome}
@@ -11,4 +11,7 @@ invariant-loop-moved l = record {
   objects : AsOwned l.initial.refs l.refs;
   some : GainedSome l.gained l.moved-index l.initial.refs l.refs;
   more : (o : ℕ) → holders_of l.initial.refs o ≤ holders_of l.refs o;
+  offers : (x j : ℕ) → offers l.refs x j ≡ offers l.initial.refs x j;
+  issued : l.refs.issued ≡ l.initial.refs.issued + l.moved-index;
+  spare : l.initial.refs.spare ≤ l.refs.spare + l.moved-index;
 }

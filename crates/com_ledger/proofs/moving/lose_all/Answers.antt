@@ -1,4 +1,4 @@
-use Rattle.std.proofs.Common.{refl}
+use Rattle.std.proofs.Common.{arith, refl}
 use Rattle.com_moves.specs.declared.moves.Move.{Move}
 use Rattle.com_ledger.proofs.Unheld.{touched-none, touched-next}
 use Rattle.com_ledger.proofs.Owning.{owned_then}
@@ -14,17 +14,21 @@ loop-moved-init c = record {
   ended = ended_none c.args.lost.now c.args.refs.now c.tells.ensures.tells c.tells.ensures.totals c.rests.ensures;
   touched = touched-none c.args.lost.now c.args.refs.now c.args.touched.now.items;
   climbs = λ m. m;
+  len = omega arith;
+  capacity = omega arith;
 }
 
 pub loop-moved-preserved : goal.loop-moved-preserved
 loop-moved-preserved c = record {
-  objects = owned_then c.args.refs.now c.loop-moved.refs c.lose.new.refs c.loop-moved.invariant.objects c.in_ok-lose.ensures.objects;
+  objects = owned_then c.args.refs.now c.loop-moved.refs c.lose.new.refs c.loop-moved.invariant.objects c.lose.ensures.objects;
   ended = ended_next c.args.lost.now c.loop-moved.moved-index no_move
-      c.args.refs.now c.loop-moved.refs c.lose.new.refs c.loop-moved-test.true c.loop-moved.invariant.ended c.in_ok-lose.ensures.ended;
+      c.args.refs.now c.loop-moved.refs c.lose.new.refs c.loop-moved-test.true c.loop-moved.invariant.ended c.lose.ensures.ended;
   touched = touched-next c.args.lost.now c.loop-moved.moved-index no_move
       c.args.refs.now c.loop-moved.refs c.lose.new.refs c.args.touched.now.items c.loop-moved.touched.items c.lose.new.touched.items
-      c.loop-moved-test.true c.loop-moved.invariant.ended c.loop-moved.invariant.touched c.in_ok-lose.ensures.touched;
-  climbs = λ m. c.in_ok-lose.ensures.climbs (c.loop-moved.invariant.climbs m);
+      c.loop-moved-test.true c.loop-moved.invariant.ended c.loop-moved.invariant.touched c.lose.ensures.touched;
+  climbs = λ m. c.lose.ensures.climbs (c.loop-moved.invariant.climbs m);
+  len = omega (arith, c.loop-moved.invariant.len, c.lose.ensures.len);
+  capacity = omega (arith, c.loop-moved.invariant.capacity, c.lose.ensures.capacity);
 }
 
 pub returns-clause-objects : goal.returns-clause-objects

@@ -1,3 +1,5 @@
+use Rattle.std.proofs.Common.{◌+◌, ◌≤◌}
+use Rattle.std.specs.Prelude.{vec_len, vec_capacity}
 use Rattle.com_ledger.specs.Moving.{Climbs}
 use Rattle.com_ledger.specs.Owners.{AsOwned}
 use Rattle.com_ledger.proofs.Unheld.{TouchedSome}
@@ -10,4 +12,6 @@ invariant-loop-moved l = record {
   ended : EndedSome l.lost l.moved-index l.initial.refs l.refs;
   touched : TouchedSome l.lost l.initial.refs l.refs l.initial.touched.items l.touched.items;
   climbs : Climbs 0 l.initial.touched.items → Climbs 0 l.touched.items;
+  len : vec_len l.touched ≤ vec_len l.initial.touched + l.moved-index;
+  capacity : vec_capacity l.initial.touched ≤ vec_capacity l.touched;
 }

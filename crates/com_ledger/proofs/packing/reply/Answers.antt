@@ -11,11 +11,11 @@ returns-clause-books c =
     let p = c.if-count-gt0.set_result in
     let low : 1 ≤ c.args.call = omega arith in
     let high : c.args.call ≤ length c.args.calls.now = omega (arith, c.len.ensures) in
-    let some : 0 < c.in_ok-first.count → p ≡ c.in_ok-first.first = elim c.if-count-gt0.branch [ then-count-gt0 w ↦ λ h. w.set_result-is | else-count-gt0 w ↦ λ h. absurd (omega arith) ] in
-    let none : c.in_ok-first.count ≡ 0 → p ≡ 0 = elim c.if-count-gt0.branch [ then-count-gt0 w ↦ λ h. absurd (omega arith) | else-count-gt0 w ↦ λ h. w.set_result-is ] in
-    ap (λ calls. books_with c.pack.new.refs calls) c.set_result.ensures
-    ∙ answered_books c.args.refs.now c.pack.new.refs c.args.calls.now p (marshal_all c.args.apartment c.args.carried.now) c.args.call c.in_ok-first.ensures.rows low high
-    (number_kept (books_of c.args.refs.now) (books_of c.pack.new.refs) c.in_ok-first.first c.in_ok-first.count p c.in_ok-first.ensures.first c.in_ok-first.ensures.count some none)
+    let some : 0 < c.pack-first.result.1 → p ≡ c.pack-first.result.0 = elim c.if-count-gt0.branch [ then-count-gt0 w ↦ λ h. w.set_result-is | else-count-gt0 w ↦ λ h. absurd (omega arith) ] in
+    let none : c.pack-first.result.1 ≡ 0 → p ≡ 0 = elim c.if-count-gt0.branch [ then-count-gt0 w ↦ λ h. absurd (omega arith) | else-count-gt0 w ↦ λ h. w.set_result-is ] in
+    ap (λ calls. books_with c.pack-first.new.refs calls) c.set_result.ensures
+    ∙ answered_books c.args.refs.now c.pack-first.new.refs c.args.calls.now p (marshal_all c.args.apartment c.args.carried.now) c.args.call c.pack-first.ensures.rows low high
+    (number_kept (books_of c.args.refs.now) (books_of c.pack-first.new.refs) c.pack-first.result.0 c.pack-first.result.1 p c.pack-first.ensures.first c.pack-first.ensures.count some none)
 
 pub returns-clause-calls : goal.returns-clause-calls
 returns-clause-calls c = ap (λ calls. length calls) c.set_result.ensures ∙ answered_length c.args.calls.now c.args.call c.if-count-gt0.set_result

@@ -1,7 +1,5 @@
 use Rattle.std.proofs.Common.{refl, sym, ◌∙◌, arith}
 use Rattle.com_ledger.proofs.Cutting.{cut_dead, same_rows}
-use Rattle.com_ledger.proofs.Losing.{on_ok}
-use Rattle.std.proofs.lemmas.Result.{on_ok_weaker}
 use Rattle.com_ledger.proofs.Unholding.{cut-direct, cut-written, touches-same}
 use Rattle.com_ledger.proofs.rows.disconnect.Goals as goal
 
@@ -15,10 +13,10 @@ returns-then-direct-gt0-clause-cut c = record {
 }
 
 pub returns-clause-cut : goal.returns-clause-cut
-returns-clause-cut c = on_ok c.touch.result (record {
+returns-clause-cut c = record {
   books = c.disconnect.ensures.books;
   places = same_rows c.args.refs.now c.disconnect.new.self c.disconnect.ensures.objects c.disconnect.ensures.proxies;
-})
+}
 
 pub returns-then-not-connected-clause-touched : goal.returns-then-not-connected-clause-touched
 returns-then-not-connected-clause-touched c = touches-same c.args.refs.now c.args.refs.now c.args.touched.now.items refl
@@ -29,6 +27,5 @@ returns-then-direct-gt0-clause-touched c =
     (omega (arith, c.direct.ensures, c.if-direct-gt0.true))
 
 pub returns-clause-touched : goal.returns-clause-touched
-returns-clause-touched c = on_ok_weaker c.touch.result (λ members.
-    cut-written c.args.refs.now c.disconnect.new.self c.args.object c.args.touched.now.items c.touch.new.touched.items c.disconnect.ensures.books c.disconnect.ensures.objects c.disconnect.ensures.proxies members)
-    c.touch.ensures.members
+returns-clause-touched c =
+    cut-written c.args.refs.now c.disconnect.new.self c.args.object c.args.touched.now.items c.touch.new.touched.items c.disconnect.ensures.books c.disconnect.ensures.objects c.disconnect.ensures.proxies c.touch.ensures.members

@@ -1,11 +1,10 @@
-use Rattle.std.proofs.Common.{◌≡◌, Bool, true, false, not, ◌&&◌, eqb, [], ◌∷◌, ap, subst, ◌∙◌, arith, eqb-true}
+use Rattle.std.proofs.Common.{◌≡◌, Bool, true, false, not, ◌&&◌, eqb, [], ◌∷◌, ap, sym, subst, ◌∙◌, arith, eqb-true}
 use Rattle.std.proofs.lemmas.Grind.{common_steps}
-use Rattle.std.proofs.lemmas.Result.{on_ok_weaker}
+use Rattle.std.specs.Prelude.{Option, Some, None}
 use Rattle.com_base.specs.declared.value.RefValue.{RefValue}
 use Rattle.com_books.specs.Changes.{Takes}
 use Rattle.com_ledger.specs.Books.{Gained}
 use Rattle.com_ledger.proofs.Gaining.{gained_one}
-use Rattle.com_ledger.proofs.Losing.{on_ok}
 use Rattle.com_ledger.proofs.Touched.{took-more}
 use Rattle.com_ledger.proofs.rows.get.Goals as goal
 
@@ -16,16 +15,21 @@ is-this found held other e f =
     let ei : found.iface ≡ held.iface = eqb-true found.iface held.iface (grind (arith, common_steps, both)) in
     ap (λ o. record { object = o; iface = found.iface }) eo ∙ ap (λ i. record { object = held.object; iface = i }) ei
 
+some-is : (x y : RefValue) → Some x ≡ Some y → x ≡ y
+some-is x y e = ap (λ (o : Option RefValue). unwrapped o) e where
+  unwrapped : Option RefValue → RefValue
+  unwrapped (Some r) = r
+  unwrapped None = x
+
 pub returns-clause-row : goal.returns-clause-row
 returns-clause-row c =
     let a = c.args.apartment in
     let found : RefValue = c.in-Ok.found in
-    let same : found ≡ c.args.held = is-this found c.args.held c.ne.result c.ne.ensures c.if-ne.false in
-    on_ok_weaker c.bring.result
-    (λ w. subst (λ (r : RefValue). Gained a (Takes a r.object r.iface ∷ []) c.args.refs.now c.get.new.self c.args.brought.now.items c.bring.new.brought.items) same
-    (gained_one a (Takes a found.object found.iface) c.args.refs.now c.get.new.self found c.args.brought.now.items c.bring.new.brought.items c.in-Ok.ensures.places c.in-Ok.ensures.row w))
-    c.bring.ensures
+    let kept : found ≡ c.in-Some.kept = some-is found c.in-Some.kept (sym c.in-Ok.ensures.held ∙ sym c.cookie.ensures ∙ c.in-Some.is) in
+    let same : found ≡ c.args.held = kept ∙ is-this c.in-Some.kept c.args.held c.ne.result c.ne.ensures c.if-ne.false in
+    subst (λ (r : RefValue). Gained a (Takes a r.object r.iface ∷ []) c.args.refs.now c.get.new.self c.args.brought.now.items c.bring.new.brought.items) same
+    (gained_one a (Takes a found.object found.iface) c.args.refs.now c.get.new.self found c.args.brought.now.items c.bring.new.brought.items c.in-Ok.ensures.places c.in-Ok.ensures.row c.bring.ensures.items)
 
 pub returns-clause-more : goal.returns-clause-more
-returns-clause-more c = on_ok c.bring.result
+returns-clause-more c =
     (λ x. took-more c.args.refs.now c.get.new.self c.args.apartment c.in-Ok.found.object c.in-Ok.found.iface _ c.in-Ok.ensures.row c.in-Ok.ensures.places x)

@@ -5,8 +5,7 @@ use Rattle.com_holders.specs.Tables.{books_of}
 use Rattle.com_holders.proofs.Cookies.{cookie_hidden}
 use Rattle.com_model.specs.Deeds.{cookie_number}
 use Rattle.com_refs.specs.Ends.{ends}
-use Rattle.com_ledger.proofs.Losing.{on_ok, taken_nothing, withdraw_found, withdraw_none}
-use Rattle.std.proofs.lemmas.Result.{on_ok_weaker}
+use Rattle.com_ledger.proofs.Losing.{taken_nothing, withdraw_found, withdraw_none}
 use Rattle.com_ledger.proofs.Unholding.{revoke-touched, touches-same}
 use Rattle.com_ledger.proofs.rows.revoke.Goals as goal
 
@@ -17,10 +16,10 @@ returns-in-Ok-clause-row c =
     let same = to_z-of_z w64 c.args.cookie c.ranges.cookie in
     let found : changed b (Withdraw c.cookie_number-number.result) ≡ changed b (Withdraw (cookie_number c.args.cookie)) =
     withdraw_found b 4294967296 _ c.cookie_number-number.result few c.cookie_number-number.ensures.within c.cookie_number-number.ensures.past ∙ ap (λ (z : ℤ). changed b (Withdraw (cookie_number z))) same in
-    on_ok c.touch_if.result (record {
+    record {
       books = λ n places tells totals. c.in-Ok.ensures.books n places tells totals ∙ ap (λ (x : Books). ends n places x) found;
       places = c.in-Ok.ensures.places;
-    })
+    }
 
 pub returns-in-Err-clause-row : goal.returns-in-Err-clause-row
 returns-in-Err-clause-row c =
@@ -33,10 +32,9 @@ returns-in-Err-clause-row c =
     (sym found ∙ withdraw_none b c.cookie_number-number.result (cookie_hidden c.args.refs.now c.cookie_number-number.result (c.revoke.ensures.unknown.0 (c.in-Err.is ∙ c.in-Err.ensures.only))))
 
 pub returns-in-Ok-clause-touched : goal.returns-in-Ok-clause-touched
-returns-in-Ok-clause-touched c = on_ok_weaker c.touch_if.result (λ members.
+returns-in-Ok-clause-touched c =
     revoke-touched c.args.refs.now c.revoke.new.self c.cookie_number-number.result c.in-Ok.lost c.args.touched.now.items c.touch_if.new.touched.items
-    c.tells.ensures.tells c.tells.ensures.totals c.rests.ensures c.tells-in-Ok.ensures.tells c.tells-in-Ok.ensures.totals c.in-Ok.ensures.places c.in-Ok.ensures.lost c.in-Ok.ensures.books members)
-    c.touch_if.ensures.members
+    c.tells.ensures.tells c.tells.ensures.totals c.rests.ensures c.tells-in-Ok.ensures.tells c.tells-in-Ok.ensures.totals c.in-Ok.ensures.places c.in-Ok.ensures.lost c.in-Ok.ensures.books c.touch_if.ensures.members
 
 pub returns-in-Err-clause-touched : goal.returns-in-Err-clause-touched
 returns-in-Err-clause-touched c = λ n places counts. touches-same c.args.refs.now c.revoke.new.self c.args.touched.now.items c.in-Err.ensures.err

@@ -1,42 +1,67 @@
-use Rattle.std.proofs.Common.{◌≡◌, ℕ, List, [], sym, subst, ◌∙◌}
+use Rattle.std.proofs.Common.{◌≡◌, ℕ, List, length, sym, ap, subst, ◌∙◌, arith}
+use Rattle.com_ledger.specs.declared.calls.CallPackets.{CallPackets}
+use Rattle.com_ledger.specs.Entries.{asked_packets}
+use Rattle.com_moves.specs.Steps.{moving_of}
+use Rattle.std.proofs.lemmas.List.{length-map}
 use Rattle.com_objects.specs.Settled.{Rise}
 use Rattle.com_ledger.specs.Entries.{Applies, Loses, around, tally}
 use Rattle.com_ledger.specs.Moving.{Climbs}
 use Rattle.com_ledger.proofs.Changing.{applies_whole}
+use Rattle.com_ledger.proofs.Kept.{held_made, loses_kept}
 use Rattle.com_ledger.proofs.Unholding.{loses_whole}
 use Rattle.com_ledger.proofs.keeping.Keeping.change.Goals as goal
 
+pub take-requires-clause-known : goal.take-requires-clause-known
+take-requires-clause-known c = λ k h. c.in_ok-enter_reference.ensures.offers _ _ (c.in_ok-prepare.ensures.known k h)
+
+pub keep_made-requires : goal.keep_made-requires
+keep_made-requires c =
+    c.lose_all.ensures.climbs (c.enter_end.ensures.climbs (c.take.ensures.climbs (subst (λ (l : List ℕ). Climbs 0 l) (sym c.clear-2.ensures.items) tt)))
+
 pub returns-clause-applies : goal.returns-clause-applies
 returns-clause-applies c = λ gained lost eg el.
-    subst (λ (k : ℕ). Applies (around c.args.context.calls.now.tables c.args.context.objects.now c.args.context.classes.now c.args.context.carried.now k) c.args.entry.now.deed gained lost (tally c.args.self.now.refs c.args.self.now.calls) (tally c.lose_all.new.refs c.enter_end.new.self.calls)) c.number_or_zero-apartment.ensures
-    (applies_whole (around c.args.context.calls.now.tables c.args.context.objects.now c.args.context.classes.now c.args.context.carried.now c.number_or_zero-apartment.result) c.args.entry.now.deed
-    c.args.self.now.refs c.make_room.new.self.refs c.enter_reference.new.self.refs c.take.new.refs c.enter_end.new.self.refs c.lose_all.new.refs
-    c.args.self.now.calls c.make_room.new.self.calls c.enter_reference.new.self.calls c.enter_end.new.self.calls
-    c.make_room.new.self.brought.items c.enter_reference.new.self.brought.items c.as_slice.result.now c.gained.result.now c.lost.result.now gained lost
-    c.in_ok-make_room.ensures.places c.in_ok-make_room.ensures.books c.in_ok-make_room.ensures.calls (c.in_ok-make_room.ensures.brought ∙ c.clear-2.ensures.items)
-    c.in_ok-enter_reference.ensures.gives c.as_slice.ensures.value c.in_ok-take.ensures.exchanged
-    c.in_ok-enter_end.ensures.closes c.in_ok-enter_end.ensures.calls
-    c.in_ok-lose_all.ensures.objects c.in_ok-lose_all.ensures.ended (eg ∙ sym c.gained.ensures) (el ∙ sym c.lost.ensures))
+    subst (λ (k : ℕ). Applies (around c.args.context.calls.now.tables c.args.context.objects.now.tables c.args.context.classes.now c.args.context.carried.now k) c.args.entry.now.deed gained lost (tally c.args.self.now.refs c.args.self.now.calls) (tally c.lose_all.new.refs c.enter_end.new.self.calls)) c.number_or_zero-apartment.ensures
+    (applies_whole (around c.args.context.calls.now.tables c.args.context.objects.now.tables c.args.context.classes.now c.args.context.carried.now c.number_or_zero-apartment.result) c.args.entry.now.deed
+    c.args.self.now.refs c.prepare.new.self.refs c.enter_reference.new.self.refs c.take.new.refs c.enter_end.new.self.refs c.lose_all.new.refs
+    c.args.self.now.calls c.prepare.new.self.calls c.enter_reference.new.self.calls c.enter_end.new.self.calls
+    c.clear.new.self.items c.enter_reference.new.self.brought.items c.as_slice.result.now c.gained-gained.result.now c.lost-lost.result.now gained lost
+    c.in_ok-prepare.ensures.places c.in_ok-prepare.ensures.books c.in_ok-prepare.ensures.calls c.clear.ensures.items
+    c.in_ok-enter_reference.ensures.gives c.as_slice.ensures.value c.take.ensures.exchanged
+    c.enter_end.ensures.closes c.enter_end.ensures.calls
+    c.lose_all.ensures.objects c.lose_all.ensures.ended (eg ∙ sym c.gained-gained.ensures) (el ∙ sym c.lost-lost.ensures))
 
 pub returns-clause-touched : goal.returns-clause-touched
 returns-clause-touched c = λ gained lost eg el.
-    subst (λ (k : ℕ). Loses (around c.args.context.calls.now.tables c.args.context.objects.now c.args.context.classes.now c.args.context.carried.now k) c.args.entry.now.deed gained lost (tally c.args.self.now.refs c.args.self.now.calls) (tally c.lose_all.new.refs c.enter_end.new.self.calls) c.lose_all.new.touched.items) c.number_or_zero-apartment.ensures
-    (loses_whole (around c.args.context.calls.now.tables c.args.context.objects.now c.args.context.classes.now c.args.context.carried.now c.number_or_zero-apartment.result) c.args.entry.now.deed
-    c.args.self.now.refs c.make_room.new.self.refs c.enter_reference.new.self.refs c.take.new.refs c.enter_end.new.self.refs c.lose_all.new.refs
-    c.args.self.now.calls c.make_room.new.self.calls c.enter_reference.new.self.calls c.enter_end.new.self.calls
-    c.make_room.new.self.brought.items c.enter_reference.new.self.brought.items c.as_slice.result.now c.gained.result.now c.lost.result.now gained lost
-    c.enter_reference.new.self.touched.items c.take.new.touched.items c.enter_end.new.self.touched.items c.lose_all.new.touched.items
-    c.in_ok-make_room.ensures.places c.in_ok-make_room.ensures.books c.in_ok-make_room.ensures.calls (c.in_ok-make_room.ensures.brought ∙ c.clear-2.ensures.items)
-    (c.in_ok-enter_reference.ensures.touched ∙ c.in_ok-make_room.ensures.touched ∙ c.clear.ensures.items)
+    subst (λ (k : ℕ). Loses (around c.args.context.calls.now.tables c.args.context.objects.now.tables c.args.context.classes.now c.args.context.carried.now k) c.args.entry.now.deed gained lost (tally c.args.self.now.refs c.args.self.now.calls) (tally c.lose_all.new.refs c.enter_end.new.self.calls) c.keep_made.new.touched.items) c.number_or_zero-apartment.ensures
+    (loses_kept (around c.args.context.calls.now.tables c.args.context.objects.now.tables c.args.context.classes.now c.args.context.carried.now c.number_or_zero-apartment.result) c.args.entry.now.deed gained lost (tally c.args.self.now.refs c.args.self.now.calls) (tally c.lose_all.new.refs c.enter_end.new.self.calls)
+    c.lose_all.new.touched.items c.keep_made.new.touched.items
+    (applies_whole (around c.args.context.calls.now.tables c.args.context.objects.now.tables c.args.context.classes.now c.args.context.carried.now c.number_or_zero-apartment.result) c.args.entry.now.deed
+    c.args.self.now.refs c.prepare.new.self.refs c.enter_reference.new.self.refs c.take.new.refs c.enter_end.new.self.refs c.lose_all.new.refs
+    c.args.self.now.calls c.prepare.new.self.calls c.enter_reference.new.self.calls c.enter_end.new.self.calls
+    c.clear.new.self.items c.enter_reference.new.self.brought.items c.as_slice.result.now c.gained-gained.result.now c.lost-lost.result.now gained lost
+    c.in_ok-prepare.ensures.places c.in_ok-prepare.ensures.books c.in_ok-prepare.ensures.calls c.clear.ensures.items
+    c.in_ok-enter_reference.ensures.gives c.as_slice.ensures.value c.take.ensures.exchanged
+    c.enter_end.ensures.closes c.enter_end.ensures.calls
+    c.lose_all.ensures.objects c.lose_all.ensures.ended (eg ∙ sym c.gained-gained.ensures) (el ∙ sym c.lost-lost.ensures))
+    (held_made c.args.self.now.refs c.prepare.new.self.refs c.prepare.new.self.refs.spare c.in_ok-prepare.ensures.refs c.in_ok-prepare.ensures.none c.bounds.ensures.held)
+    (λ o some most m. c.keep_made.ensures.kept o some (omega (arith, most, c.objects.ensures)) m)
+    (loses_whole (around c.args.context.calls.now.tables c.args.context.objects.now.tables c.args.context.classes.now c.args.context.carried.now c.number_or_zero-apartment.result) c.args.entry.now.deed
+    c.args.self.now.refs c.prepare.new.self.refs c.enter_reference.new.self.refs c.take.new.refs c.enter_end.new.self.refs c.lose_all.new.refs
+    c.args.self.now.calls c.prepare.new.self.calls c.enter_reference.new.self.calls c.enter_end.new.self.calls
+    c.clear.new.self.items c.enter_reference.new.self.brought.items c.as_slice.result.now c.gained-gained.result.now c.lost-lost.result.now gained lost
+    c.clear-2.new.self.items c.take.new.touched.items c.enter_end.new.self.touched.items c.lose_all.new.touched.items
+    c.in_ok-prepare.ensures.places c.in_ok-prepare.ensures.books c.in_ok-prepare.ensures.calls c.clear.ensures.items
+    c.clear-2.ensures.items
     c.in_ok-enter_reference.ensures.gives c.as_slice.ensures.value c.in_ok-enter_reference.ensures.more
-    c.in_ok-take.ensures.exchanged c.in_ok-take.ensures.touched
-    c.in_ok-enter_end.ensures.closes c.in_ok-enter_end.ensures.touched
-    c.in_ok-lose_all.ensures.touched (eg ∙ sym c.gained.ensures) (el ∙ sym c.lost.ensures))
+    c.take.ensures.exchanged c.take.ensures.touched
+    c.enter_end.ensures.closes c.enter_end.ensures.touched
+    c.lose_all.ensures.touched (eg ∙ sym c.gained-gained.ensures) (el ∙ sym c.lost-lost.ensures)))
 
 pub returns-clause-rise : goal.returns-clause-rise
-returns-clause-rise c =
-    let nothing : c.enter_reference.new.self.touched.items ≡ [] = c.in_ok-enter_reference.ensures.touched ∙ c.in_ok-make_room.ensures.touched ∙ c.clear.ensures.items in
-    let first : Climbs 0 c.enter_reference.new.self.touched.items = subst (λ (l : List ℕ). Climbs 0 l) (sym nothing) tt in
-    let climbs : Climbs 0 c.lose_all.new.touched.items = c.in_ok-lose_all.ensures.climbs (c.in_ok-enter_end.ensures.climbs (c.in_ok-take.ensures.climbs first)) in
-    let rise : Rise 0 c.as_slice-2.result.now c.objects.result = c.are_made.ensures c.if-not-are_made.false (subst (λ (l : List ℕ). Climbs 0 l) (sym c.as_slice-2.ensures.value) climbs) in
-    subst (λ (n : ℕ). Rise 0 c.lose_all.new.touched.items n) c.objects.ensures (subst (λ (l : List ℕ). Rise 0 l c.objects.result) c.as_slice-2.ensures.value rise)
+returns-clause-rise c = subst (λ (n : ℕ). Rise 0 c.keep_made.new.touched.items n) c.objects.ensures c.keep_made.ensures.rise
+
+pub returns-clause-few : goal.returns-clause-few
+returns-clause-few c =
+    let many : length c.lost-lost.result.now ≡ length c.args.moves.now.lost = sym (length-map c.lost-lost.result.now moving_of) ∙ ap (λ l. length l) c.lost-lost.ensures in
+    let asked : asked_packets c.prepare.new.self.calls c.args.entry.now.deed ≡ asked_packets c.args.self.now.calls c.args.entry.now.deed = ap (λ (l : List CallPackets). asked_packets l c.args.entry.now.deed) c.in_ok-prepare.ensures.calls in
+    omega (arith, many, asked, c.as_slice.ensures.len, c.keep_made.ensures.len, c.lose_all.ensures.len, c.enter_end.ensures.len, c.take.ensures.len, c.in_ok-enter_reference.ensures.brought, c.clear.ensures.len, c.clear-2.ensures.len)

@@ -1,44 +1,47 @@
-use Rattle.std.proofs.Common.{◌<◌, sym, subst}
+use Rattle.std.proofs.Common.{◌≡◌, ◌<◌, ◌||◌, true, sym, subst, ap, ◌∙◌}
+use Rattle.com_holders.specs.Tables.{offers}
 use Rattle.std.proofs.lemmas.Result.{on_ok_weaker}
 use Rattle.com_model.specs.declared.deeds.Deed.{Deed}
-use Rattle.com_ledger.specs.Entries.{Gives, around, brings_to, tally}
+use Rattle.com_ledger.specs.Entries.{Gives, around, brings_to, is_made_by, tally}
 use Rattle.com_ledger.proofs.Giving.{gives_made, gives_query, gives_marshal, gives_unmarshal, gives_register, gives_get, not_of_reference}
+use Rattle.com_ledger.proofs.Losing.{on_ok}
+use Rattle.com_ledger.proofs.Offered.{or_left, unmade}
 use Rattle.com_ledger.proofs.keeping.Keeping.enter_reference.Goals as goal
 
 pub returns-in-Made-clause-gives : goal.returns-in-Made-clause-gives
 returns-in-Made-clause-gives c = on_ok_weaker c.enter_made.result (λ m.
-    subst (λ (d : Deed). Gives (around c.args.context.calls.now.tables c.args.context.objects.now c.args.context.classes.now c.args.context.carried.now c.args.apartment) d (tally c.args.self.now.refs c.args.self.now.calls) c.args.self.now.brought.items (tally c.enter_made.new.refs c.args.self.now.calls) c.enter_made.new.brought.items) (sym c.in-Made.is)
-    (gives_made (around c.args.context.calls.now.tables c.args.context.objects.now c.args.context.classes.now c.args.context.carried.now c.args.apartment) c.in-Made.object c.in-Made.owner c.in-Made.class c.in-Made.iface _ c.args.self.now.refs c.enter_made.new.refs c.args.self.now.calls c.args.self.now.brought.items c.enter_made.new.brought.items m))
+    subst (λ (d : Deed). Gives (around c.args.context.calls.now.tables c.args.context.objects.now.tables c.args.context.classes.now c.args.context.carried.now c.args.apartment) d (tally c.args.self.now.refs c.args.self.now.calls) c.args.self.now.brought.items (tally c.enter_made.new.refs c.args.self.now.calls) c.enter_made.new.brought.items) (sym c.in-Made.is)
+    (gives_made (around c.args.context.calls.now.tables c.args.context.objects.now.tables c.args.context.classes.now c.args.context.carried.now c.args.apartment) c.in-Made.object c.in-Made.owner c.in-Made.class c.in-Made.iface _ c.args.self.now.refs c.enter_made.new.refs c.args.self.now.calls c.args.self.now.brought.items c.enter_made.new.brought.items m))
     c.enter_made.ensures.row
 
 pub returns-in-Query-clause-gives : goal.returns-in-Query-clause-gives
 returns-in-Query-clause-gives c = on_ok_weaker c.enter_query.result (λ m.
-    subst (λ (d : Deed). Gives (around c.args.context.calls.now.tables c.args.context.objects.now c.args.context.classes.now c.args.context.carried.now c.args.apartment) d (tally c.args.self.now.refs c.args.self.now.calls) c.args.self.now.brought.items (tally c.enter_query.new.refs c.args.self.now.calls) c.enter_query.new.brought.items) (sym c.in-Query.is)
-    (gives_query (around c.args.context.calls.now.tables c.args.context.objects.now c.args.context.classes.now c.args.context.carried.now c.args.apartment) c.in-Query.object c.in-Query.iface c.in-Query.hr c.args.self.now.refs c.enter_query.new.refs c.args.self.now.calls c.args.self.now.brought.items c.enter_query.new.brought.items m))
+    subst (λ (d : Deed). Gives (around c.args.context.calls.now.tables c.args.context.objects.now.tables c.args.context.classes.now c.args.context.carried.now c.args.apartment) d (tally c.args.self.now.refs c.args.self.now.calls) c.args.self.now.brought.items (tally c.enter_query.new.refs c.args.self.now.calls) c.enter_query.new.brought.items) (sym c.in-Query.is)
+    (gives_query (around c.args.context.calls.now.tables c.args.context.objects.now.tables c.args.context.classes.now c.args.context.carried.now c.args.apartment) c.in-Query.object c.in-Query.iface c.in-Query.hr c.args.self.now.refs c.enter_query.new.refs c.args.self.now.calls c.args.self.now.brought.items c.enter_query.new.brought.items m))
     c.enter_query.ensures.row
 
 pub returns-in-Marshal-clause-gives : goal.returns-in-Marshal-clause-gives
 returns-in-Marshal-clause-gives c = on_ok_weaker c.enter_marshal.result (λ m.
-    subst (λ (d : Deed). Gives (around c.args.context.calls.now.tables c.args.context.objects.now c.args.context.classes.now c.args.context.carried.now c.args.apartment) d (tally c.args.self.now.refs c.args.self.now.calls) c.args.self.now.brought.items (tally c.enter_marshal.new.refs c.args.self.now.calls) c.args.self.now.brought.items) (sym c.in-Marshal.is)
-    (gives_marshal (around c.args.context.calls.now.tables c.args.context.objects.now c.args.context.classes.now c.args.context.carried.now c.args.apartment) c.in-Marshal.packet c.in-Marshal.mode c.in-Marshal.held _ _ _ c.args.self.now.refs c.enter_marshal.new.refs c.args.self.now.calls c.args.self.now.brought.items c.args.self.now.brought.items (m _ _ _ c.args.self.now.brought.items)))
+    subst (λ (d : Deed). Gives (around c.args.context.calls.now.tables c.args.context.objects.now.tables c.args.context.classes.now c.args.context.carried.now c.args.apartment) d (tally c.args.self.now.refs c.args.self.now.calls) c.args.self.now.brought.items (tally c.enter_marshal.new.refs c.args.self.now.calls) c.args.self.now.brought.items) (sym c.in-Marshal.is)
+    (gives_marshal (around c.args.context.calls.now.tables c.args.context.objects.now.tables c.args.context.classes.now c.args.context.carried.now c.args.apartment) c.in-Marshal.packet c.in-Marshal.mode c.in-Marshal.held _ _ _ c.args.self.now.refs c.enter_marshal.new.refs c.args.self.now.calls c.args.self.now.brought.items c.args.self.now.brought.items (m _ _ _ c.args.self.now.brought.items)))
     c.enter_marshal.ensures.row
 
 pub returns-in-Unmarshal-clause-gives : goal.returns-in-Unmarshal-clause-gives
 returns-in-Unmarshal-clause-gives c = on_ok_weaker c.enter_unmarshal.result (λ m.
-    subst (λ (d : Deed). Gives (around c.args.context.calls.now.tables c.args.context.objects.now c.args.context.classes.now c.args.context.carried.now c.args.apartment) d (tally c.args.self.now.refs c.args.self.now.calls) c.args.self.now.brought.items (tally c.enter_unmarshal.new.refs c.args.self.now.calls) c.enter_unmarshal.new.brought.items) (sym c.in-Unmarshal.is)
-    (gives_unmarshal (around c.args.context.calls.now.tables c.args.context.objects.now c.args.context.classes.now c.args.context.carried.now c.args.apartment) c.in-Unmarshal.packet _ _ _ c.args.self.now.refs c.enter_unmarshal.new.refs c.args.self.now.calls c.args.self.now.brought.items c.enter_unmarshal.new.brought.items (m _ _ _)))
+    subst (λ (d : Deed). Gives (around c.args.context.calls.now.tables c.args.context.objects.now.tables c.args.context.classes.now c.args.context.carried.now c.args.apartment) d (tally c.args.self.now.refs c.args.self.now.calls) c.args.self.now.brought.items (tally c.enter_unmarshal.new.refs c.args.self.now.calls) c.enter_unmarshal.new.brought.items) (sym c.in-Unmarshal.is)
+    (gives_unmarshal (around c.args.context.calls.now.tables c.args.context.objects.now.tables c.args.context.classes.now c.args.context.carried.now c.args.apartment) c.in-Unmarshal.packet _ _ _ c.args.self.now.refs c.enter_unmarshal.new.refs c.args.self.now.calls c.args.self.now.brought.items c.enter_unmarshal.new.brought.items (m _ _ _)))
     c.enter_unmarshal.ensures.row
 
 pub returns-in-Register-clause-gives : goal.returns-in-Register-clause-gives
 returns-in-Register-clause-gives c = on_ok_weaker c.enter_register.result (λ m.
-    subst (λ (d : Deed). Gives (around c.args.context.calls.now.tables c.args.context.objects.now c.args.context.classes.now c.args.context.carried.now c.args.apartment) d (tally c.args.self.now.refs c.args.self.now.calls) c.args.self.now.brought.items (tally c.enter_register.new.refs c.args.self.now.calls) c.args.self.now.brought.items) (sym c.in-Register.is)
-    (gives_register (around c.args.context.calls.now.tables c.args.context.objects.now c.args.context.classes.now c.args.context.carried.now c.args.apartment) c.in-Register.cookie c.in-Register.held _ c.args.self.now.refs c.enter_register.new.refs c.args.self.now.calls c.args.self.now.brought.items c.args.self.now.brought.items (m c.args.apartment _ c.args.self.now.brought.items)))
+    subst (λ (d : Deed). Gives (around c.args.context.calls.now.tables c.args.context.objects.now.tables c.args.context.classes.now c.args.context.carried.now c.args.apartment) d (tally c.args.self.now.refs c.args.self.now.calls) c.args.self.now.brought.items (tally c.enter_register.new.refs c.args.self.now.calls) c.args.self.now.brought.items) (sym c.in-Register.is)
+    (gives_register (around c.args.context.calls.now.tables c.args.context.objects.now.tables c.args.context.classes.now c.args.context.carried.now c.args.apartment) c.in-Register.cookie c.in-Register.held _ c.args.self.now.refs c.enter_register.new.refs c.args.self.now.calls c.args.self.now.brought.items c.args.self.now.brought.items (m c.args.apartment _ c.args.self.now.brought.items)))
     c.enter_register.ensures.row
 
 pub returns-in-Get-clause-gives : goal.returns-in-Get-clause-gives
 returns-in-Get-clause-gives c = on_ok_weaker c.enter_get.result (λ m.
-    subst (λ (d : Deed). Gives (around c.args.context.calls.now.tables c.args.context.objects.now c.args.context.classes.now c.args.context.carried.now c.args.apartment) d (tally c.args.self.now.refs c.args.self.now.calls) c.args.self.now.brought.items (tally c.enter_get.new.refs c.args.self.now.calls) c.enter_get.new.brought.items) (sym c.in-Get.is)
-    (gives_get (around c.args.context.calls.now.tables c.args.context.objects.now c.args.context.classes.now c.args.context.carried.now c.args.apartment) c.in-Get.cookie c.in-Get.held _ _ c.args.self.now.refs c.enter_get.new.refs c.args.self.now.calls c.args.self.now.brought.items c.enter_get.new.brought.items (m _ _)))
+    subst (λ (d : Deed). Gives (around c.args.context.calls.now.tables c.args.context.objects.now.tables c.args.context.classes.now c.args.context.carried.now c.args.apartment) d (tally c.args.self.now.refs c.args.self.now.calls) c.args.self.now.brought.items (tally c.enter_get.new.refs c.args.self.now.calls) c.enter_get.new.brought.items) (sym c.in-Get.is)
+    (gives_get (around c.args.context.calls.now.tables c.args.context.objects.now.tables c.args.context.classes.now c.args.context.carried.now c.args.apartment) c.in-Get.cookie c.in-Get.held _ _ c.args.self.now.refs c.enter_get.new.refs c.args.self.now.calls c.args.self.now.brought.items c.enter_get.new.brought.items (m _ _)))
     c.enter_get.ensures.row
 
 pub returns-in_default-clause-gives : goal.returns-in_default-clause-gives
@@ -66,3 +69,31 @@ returns-in-Get-clause-more c = on_ok_weaker c.enter_get.result (λ more. λ n pl
 
 pub returns-in_default-clause-more : goal.returns-in_default-clause-more
 returns-in_default-clause-more c = on_ok_weaker c.enter_call.result (λ more. λ n places low made counts. more) c.enter_call.ensures.more
+
+pub returns-in-Made-clause-offers : goal.returns-in-Made-clause-offers
+returns-in-Made-clause-offers c = on_ok_weaker c.enter_made.result
+    (λ m. λ x j e. m x j (subst (λ (d : Deed). (offers c.args.self.now.refs x j || is_made_by d x j) ≡ true) c.in-Made.is e)) c.enter_made.ensures.offers
+
+pub returns-in-Query-clause-offers : goal.returns-in-Query-clause-offers
+returns-in-Query-clause-offers c = on_ok c.enter_query.result
+    (λ x j e. c.enter_query.ensures.offers x j ∙ or_left (offers c.args.self.now.refs x j) (is_made_by c.args.deed.now x j) e (ap (λ (d : Deed). is_made_by d x j) c.in-Query.is))
+
+pub returns-in-Marshal-clause-offers : goal.returns-in-Marshal-clause-offers
+returns-in-Marshal-clause-offers c = on_ok c.enter_marshal.result
+    (λ x j e. c.enter_marshal.ensures.offers x j ∙ or_left (offers c.args.self.now.refs x j) (is_made_by c.args.deed.now x j) e (ap (λ (d : Deed). is_made_by d x j) c.in-Marshal.is))
+
+pub returns-in-Unmarshal-clause-offers : goal.returns-in-Unmarshal-clause-offers
+returns-in-Unmarshal-clause-offers c = on_ok c.enter_unmarshal.result
+    (λ x j e. c.enter_unmarshal.ensures.offers x j ∙ or_left (offers c.args.self.now.refs x j) (is_made_by c.args.deed.now x j) e (ap (λ (d : Deed). is_made_by d x j) c.in-Unmarshal.is))
+
+pub returns-in-Register-clause-offers : goal.returns-in-Register-clause-offers
+returns-in-Register-clause-offers c = on_ok c.enter_register.result
+    (λ x j e. c.enter_register.ensures.offers x j ∙ or_left (offers c.args.self.now.refs x j) (is_made_by c.args.deed.now x j) e (ap (λ (d : Deed). is_made_by d x j) c.in-Register.is))
+
+pub returns-in-Get-clause-offers : goal.returns-in-Get-clause-offers
+returns-in-Get-clause-offers c = on_ok c.enter_get.result
+    (λ x j e. c.enter_get.ensures.offers x j ∙ or_left (offers c.args.self.now.refs x j) (is_made_by c.args.deed.now x j) e (ap (λ (d : Deed). is_made_by d x j) c.in-Get.is))
+
+pub returns-in_default-clause-offers : goal.returns-in_default-clause-offers
+returns-in_default-clause-offers c = on_ok_weaker c.enter_call.result
+    (λ m. λ x j e. m x j (or_left (offers c.args.self.now.refs x j) (is_made_by c.args.deed.now x j) e (unmade c.args.deed.now x j c.in_default.not-Made))) c.enter_call.ensures.offers

@@ -12,5 +12,17 @@ returns-clause-applies c = rw (← c.self.view_is) c.change.ensures.applies
 
 pub returns-clause-touched : goal.returns-clause-touched
 returns-clause-touched c =
-    subst (λ (h : Held). OnOk c.change.result ((gained lost : List Move) → movings_of gained ≡ c.args.moves.now.gained → movings_of lost ≡ c.args.moves.now.lost → Loses (around c.args.context.calls.now.tables c.args.context.objects.now c.args.context.classes.now c.args.context.carried.now (number_or_zero c.args.context.running)) c.args.entry.now.deed gained lost (tally h.tables h.calls) (tally c.change.new.self.refs c.change.new.self.calls) c.change.new.self.touched.items))
+    subst (λ (h : Held). OnOk c.change.result ((gained lost : List Move) → movings_of gained ≡ c.args.moves.now.gained → movings_of lost ≡ c.args.moves.now.lost → Loses (around c.args.context.calls.now.tables c.args.context.objects.now.tables c.args.context.classes.now c.args.context.carried.now (number_or_zero c.args.context.running)) c.args.entry.now.deed gained lost (tally h.tables h.calls) (tally c.change.new.self.refs c.change.new.self.calls) c.change.new.self.touched.items))
     c.self.view_is c.change.ensures.touched
+
+pub returns-clause-few : goal.returns-clause-few
+returns-clause-few c = rw (← c.self.view_is) c.change.ensures.few
+
+pub returns-clause-err_tables : goal.returns-clause-err_tables
+returns-clause-err_tables c = rw (← c.self.view_is) c.change.ensures.err_refs
+
+pub returns-clause-err_calls : goal.returns-clause-err_calls
+returns-clause-err_calls c = rw (← c.self.view_is) c.change.ensures.err_calls
+
+pub returns-clause-err_touched : goal.returns-clause-err_touched
+returns-clause-err_touched c = rw (← c.self.view_is) c.change.ensures.err_touched
