@@ -1,6 +1,7 @@
 -- Rows of tables.
-use Rattle.std.proofs.Common.{◌≡◌, ℕ, zero, suc, ◌+◌, Bool, true, false, List, [], ◌∷◌, refl, ◌∙◌, ap, slice_index_or, slice_set, length, ◌≤◌, Some, None, ℤ, pos, negsuc}
-use Rattle.std.proofs.lemmas.List.{set_past as set-past}
+use Rattle.std.proofs.Common.{◌≡◌, ℕ, zero, suc, ◌+◌, Bool, true, false, List, [], ◌∷◌, refl, ◌∙◌, ap, slice_index_or, slice_set, length, map, slice_get, ◌++◌, ◌≤◌, Option, Some, None, sym, ℤ, pos, negsuc}
+use Rattle.std.proofs.lemmas.List.{set_past as set-past, map-set, map-append}
+use Rattle.std.proofs.Math.Seq.{map-set_same}
 use Rattle.com_base.specs.declared.hresult.HResult.{HResult}
 use Rattle.com_model.specs.Answers.{is_S_OK}
 use Rattle.com_model.specs.Lists.{where_true, without_first}
@@ -12,6 +13,7 @@ use Rattle.com_model.specs.declared.keeps.Opener.{Opener}
 use Rattle.com_model.specs.declared.keeps.Opener.TheVariants.{Pumps, Waits, Enters}
 use Rattle.com_model.specs.Openers.{Closes, Leaves, left_on}
 use Rattle.com_lanes.specs.Bodies.{is_one_pump}
+use Rattle.com_lanes.specs.Rooms.{Roomed, OpenerRows, MailRows, openers_in, mail_in, numbers_in, no_opener, no_word, no_number}
 
 pub set_own : {X : Type 0} (xs : List X) (i : ℕ) (d : X) → slice_set xs i (slice_index_or xs i d) ≡ xs
 set_own [] i d = refl
@@ -73,3 +75,74 @@ posted_seen l (negsuc m) w hr t = refl
 pub quit_seen : (l : ℕ) (own : Bool) (z : ℤ) (hr : HResult) (t : List Bool) → quit_to z hr t ≡ changed_at (quit_change own (deed.Quit z hr)) (quit_lane l (deed.Quit z hr)) false t
 quit_seen l own (pos m) hr t = refl
 quit_seen l own (negsuc m) hr t = refl
+
+-- ---- the tables in rows that say what has room
+
+read-map : {X Y : Type 0} (f : X → Y) (xs : List X) (i : ℕ) (d : X) → slice_index_or (map f xs) i (f d) ≡ f (slice_index_or xs i d)
+read-map f [] i d = refl
+read-map f (x ∷ xs) zero d = refl
+read-map f (x ∷ xs) (suc i) d = read-map f xs i d
+
+read-some : {X Y : Type 0} (f : X → Y) (xs : List X) (i : ℕ) (x : X) (e : Y) → slice_get xs i ≡ Some x → slice_index_or (map f xs) i e ≡ f x
+read-some f [] i x e q = absurd cc
+read-some f (y ∷ ys) zero x e q = ap f (let z : y ≡ x = cc in z)
+read-some f (y ∷ ys) (suc i) x e q = read-some f ys i x e q
+
+read-none : {X Y : Type 0} (f : X → Y) (xs : List X) (i : ℕ) (e : Y) → slice_get xs i ≡ None → slice_index_or (map f xs) i e ≡ e
+read-none f [] i e q = refl
+read-none f (y ∷ ys) zero e q = absurd cc
+read-none f (y ∷ ys) (suc i) e q = read-none f ys i e q
+
+pub openers_set : (t : List OpenerRows) (i : ℕ) (r : OpenerRows) → openers_in (slice_set t i r) ≡ slice_set (openers_in t) i r.openers
+openers_set t i r = map-set (λ (r : OpenerRows). r.openers) t i r
+
+pub openers_at : (t : List OpenerRows) (i : ℕ) → slice_index_or (openers_in t) i [] ≡ (slice_index_or t i no_opener).openers
+openers_at t i = read-map (λ (r : OpenerRows). r.openers) t i no_opener
+
+pub openers_same : (t : List OpenerRows) (i : ℕ) (r d : OpenerRows) → r.openers ≡ (slice_index_or t i d).openers → openers_in (slice_set t i r) ≡ openers_in t
+openers_same t i r d e = map-set_same (λ (r : OpenerRows). r.openers) t i r d e
+
+pub openers_some : (t : List OpenerRows) (i : ℕ) (r : OpenerRows) → slice_get t i ≡ Some r → slice_index_or (openers_in t) i [] ≡ r.openers
+openers_some t i r q = read-some (λ (r : OpenerRows). r.openers) t i r [] q
+
+pub openers_none : (t : List OpenerRows) (i : ℕ) → slice_get t i ≡ None → slice_index_or (openers_in t) i [] ≡ []
+openers_none t i q = read-none (λ (r : OpenerRows). r.openers) t i [] q
+
+pub openers_more : (t : List OpenerRows) (r : OpenerRows) → openers_in (t ++ r ∷ []) ≡ openers_in t ++ r.openers ∷ []
+openers_more t r = map-append (λ (r : OpenerRows). r.openers) t (r ∷ [])
+
+pub mail_set : (t : List MailRows) (i : ℕ) (r : MailRows) → mail_in (slice_set t i r) ≡ slice_set (mail_in t) i r.mail
+mail_set t i r = map-set (λ (r : MailRows). r.mail) t i r
+
+pub mail_at : (t : List MailRows) (i : ℕ) → slice_index_or (mail_in t) i no_mail ≡ (slice_index_or t i no_word).mail
+mail_at t i = read-map (λ (r : MailRows). r.mail) t i no_word
+
+pub mail_same : (t : List MailRows) (i : ℕ) (r d : MailRows) → r.mail ≡ (slice_index_or t i d).mail → mail_in (slice_set t i r) ≡ mail_in t
+mail_same t i r d e = map-set_same (λ (r : MailRows). r.mail) t i r d e
+
+pub mail_some : (t : List MailRows) (i : ℕ) (r : MailRows) → slice_get t i ≡ Some r → slice_index_or (mail_in t) i no_mail ≡ r.mail
+mail_some t i r q = read-some (λ (r : MailRows). r.mail) t i r no_mail q
+
+pub mail_none : (t : List MailRows) (i : ℕ) → slice_get t i ≡ None → slice_index_or (mail_in t) i no_mail ≡ no_mail
+mail_none t i q = read-none (λ (r : MailRows). r.mail) t i no_mail q
+
+pub mail_more : (t : List MailRows) (r : MailRows) → mail_in (t ++ r ∷ []) ≡ mail_in t ++ r.mail ∷ []
+mail_more t r = map-append (λ (r : MailRows). r.mail) t (r ∷ [])
+
+pub numbers_set : (t : List (Roomed ℕ)) (i : ℕ) (r : Roomed ℕ) → numbers_in (slice_set t i r) ≡ slice_set (numbers_in t) i r.rows
+numbers_set t i r = map-set (λ (r : Roomed ℕ). r.rows) t i r
+
+pub numbers_at : (t : List (Roomed ℕ)) (i : ℕ) → slice_index_or (numbers_in t) i [] ≡ (slice_index_or t i no_number).rows
+numbers_at t i = read-map (λ (r : Roomed ℕ). r.rows) t i no_number
+
+pub numbers_same : (t : List (Roomed ℕ)) (i : ℕ) (r d : Roomed ℕ) → r.rows ≡ (slice_index_or t i d).rows → numbers_in (slice_set t i r) ≡ numbers_in t
+numbers_same t i r d e = map-set_same (λ (r : Roomed ℕ). r.rows) t i r d e
+
+pub numbers_some : (t : List (Roomed ℕ)) (i : ℕ) (r : Roomed ℕ) → slice_get t i ≡ Some r → slice_index_or (numbers_in t) i [] ≡ r.rows
+numbers_some t i r q = read-some (λ (r : Roomed ℕ). r.rows) t i r [] q
+
+pub numbers_none : (t : List (Roomed ℕ)) (i : ℕ) → slice_get t i ≡ None → slice_index_or (numbers_in t) i [] ≡ []
+numbers_none t i q = read-none (λ (r : Roomed ℕ). r.rows) t i [] q
+
+pub numbers_more : (t : List (Roomed ℕ)) (r : Roomed ℕ) → numbers_in (t ++ r ∷ []) ≡ numbers_in t ++ r.rows ∷ []
+numbers_more t r = map-append (λ (r : Roomed ℕ). r.rows) t (r ∷ [])

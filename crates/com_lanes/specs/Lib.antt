@@ -4,3 +4,5 @@ pub mod StasKept
 pub mod Words
 pub mod Changes
 pub mod First
+pub mod Rooms
+pub mod Tables

@@ -2,6 +2,8 @@
 use Rattle.std.specs.Prelude.{◌≡◌, ℕ, suc, ◌+◌, ◌-◌, ◌<◌, ◌≤◌, ◌^◌, Bool, false, ◌==◌, ◌&&◌, nat_le, cond}
 use Rattle.std.specs.Prelude.{List, [], ◌∷◌, length, Option, Some, None, slice_index_or, slice_get}
 use Rattle.com_model.specs.Lists.{is_member, tabulated}
+use Rattle.com_lanes.specs.Apartments.{StaTables}
+use Rattle.com_lanes.specs.Rooms.{Roomed, numbers_in}
 use Rattle.com_lanes.specs.declared.stas.Sta.{Sta}
 
 abbrev pub unmade : Sta
@@ -10,6 +12,9 @@ unmade = record { maker = 0; gone = false }
 -- The apartments of so many rows.
 abbrev pub numbers_of : List Sta → List ℕ
 numbers_of rows = tabulated (length rows) (λ i. i + 3)
+
+abbrev pub stas_of : (makers : List (Roomed ℕ)) → List Sta → (ended : List ℕ) → StaTables
+stas_of makers rows ended = record { made = numbers_in makers; stas = numbers_of rows; ended = ended }
 
 abbrev pub is_maker : ℕ → Option Sta → Bool
 is_maker l None = false

@@ -1,6 +1,6 @@
 //! One row of a table that has a row for each lane. A lane that has no row changes nothing.
 ghost use Rattle.std.specs.Prelude.{◌≡◌, ℕ, ◌+◌, ◌<◌, ◌≤◌, ◌^◌, length, ◌∷◌, [], false, true, if◌then◌else◌};
-ghost use Rattle.std.specs.Prelude.{Option, OnOk, OnErr, slice_index_or, slice_set};
+ghost use Rattle.std.specs.Prelude.{Option, OnOk, slice_index_or, slice_set};
 ghost use Rattle.com_model.specs.Answers.{is_S_OK};
 ghost use Rattle.com_model.specs.Apartments.{Initialises, Uninitialises, home_after, count_after, makes_sta};
 ghost use Rattle.com_model.specs.Apartments.{ends_sta, with_last};
@@ -11,6 +11,8 @@ ghost use Rattle.com_model.specs.State.{changed_at, filters_change};
 ghost use Rattle.com_model.specs.Waiting.{no_mail, mail_after, Takes, Asks, Forgets};
 ghost use Rattle.com_lanes.specs.Bodies.{is_one_pump};
 ghost use Rattle.com_lanes.specs.Changes.{IsBelow, IsNumber, natural, posted_to, quit_to, stas_made};
+ghost use Rattle.com_lanes.specs.Rooms.{HasEnd, HasMark, HasSlot, HasSta, HasWordTo, mail_in, no_opener, no_word};
+ghost use Rattle.com_lanes.specs.Rooms.{openers_in};
 
 use crate::mail::Mail;
 use crate::openers::Openers;
@@ -27,26 +29,35 @@ pub(crate) fn put<T: Copy>(column: &mut Vec<T>, lane: u32, value: T)
     }
 }
 
-/// Opens one more in a lane. The only error is want of memory, and then nothing has changed.
-pub(crate) fn push_opener(
-    column: &mut Vec<Openers>,
-    lane: u32,
-    opener: Opener,
-) -> Result<(), Memory>
-    ensures ok { OnOk result (column.new.items
-        ≡ slice_set column.old.items lane (opener ∷ slice_index_or column.old.items lane [])) }
-    ensures err { OnErr result (column.new.items ≡ column.old.items) }
+/// Makes room for one opener more in a lane. The only error is want of memory.
+#[tactic(auto, using(crate::proofs::Rows::openers_same))]
+pub(crate) fn reserve_opener(column: &mut Vec<Openers>, lane: u32) -> Result<(), Memory>
+    ensures openers { openers_in column.new.items ≡ openers_in column.old.items }
+    ensures slot { OnOk result (HasSlot (slice_index_or column.new.items lane no_opener)) }
 {
     match column.get_mut(lane as usize) {
-        Some(openers) => openers.push(opener),
+        Some(openers) => openers.reserve(),
         None => Ok(()),
     }
 }
 
+/// Opens one more in a lane.
+#[tactic(auto, using(crate::proofs::Rows::openers_set, crate::proofs::Rows::openers_at))]
+pub(crate) fn push_opener(column: &mut Vec<Openers>, lane: u32, opener: Opener)
+    requires slot { HasSlot (slice_index_or column.old.items lane no_opener) }
+    ensures { openers_in column.new.items ≡ slice_set (openers_in column.old.items) lane
+        (opener ∷ slice_index_or (openers_in column.old.items) lane []) }
+{
+    if let Some(openers) = column.get_mut(lane as usize) {
+        openers.push(opener);
+    }
+}
+
 /// Closes the innermost of a lane.
+#[tactic(auto, using(crate::proofs::Rows::openers_set, crate::proofs::Rows::openers_at))]
 pub(crate) fn pop_opener(column: &mut Vec<Openers>, lane: u32)
-    ensures { column.new.items
-        ≡ slice_set column.old.items lane (without_first (slice_index_or column.old.items lane [])) }
+    ensures { openers_in column.new.items ≡ slice_set (openers_in column.old.items) lane
+        (without_first (slice_index_or (openers_in column.old.items) lane [])) }
 {
     if let Some(openers) = column.get_mut(lane as usize) {
         openers.pop();
@@ -58,7 +69,7 @@ pub(crate) fn pop_opener(column: &mut Vec<Openers>, lane: u32)
 pub(crate) fn count_left(column: &mut Vec<u64>, openers: &Vec<Openers>, lane: u32, call: u32)
     requires { slice_index_or column.old.items lane 0 + 1 < 2 ^ 64 }
     ensures { column.new.items ≡ slice_set column.old.items lane
-        (left_on (Closes (Leaves call)) (slice_index_or openers.now.items lane [])
+        (left_on (Closes (Leaves call)) (slice_index_or (openers_in openers.now.items) lane [])
         (slice_index_or column.old.items lane 0)) }
 {
     if !one_pump_at(openers, lane) {
@@ -70,8 +81,9 @@ pub(crate) fn count_left(column: &mut Vec<u64>, openers: &Vec<Openers>, lane: u3
 }
 
 /// Whether a pump alone is open in a lane.
+#[tactic(auto, using(crate::proofs::Rows::openers_some, crate::proofs::Rows::openers_none))]
 fn one_pump_at(openers: &Vec<Openers>, lane: u32) -> bool
-    ensures { result ≡ is_one_pump (slice_index_or openers.now.items lane []) }
+    ensures { result ≡ is_one_pump (slice_index_or (openers_in openers.now.items) lane []) }
 {
     match openers.get(lane as usize) {
         Some(openers) => openers.is_one_pump(),
@@ -149,59 +161,79 @@ fn natural(number: i64) -> Option<u64>
     }
 }
 
-/// Brings a word to the lane that a Post names, where the answer is S_OK. The only error is want of memory,
-/// and then nothing has changed.
-#[tactic(auto, using(crate::proofs::Rows::posted_none, crate::proofs::Rows::posted_some, crate::proofs::Rows::posted_not, crate::proofs::Rows::set_past))]
-pub(crate) fn bring_at(
-    column: &mut Vec<Mail>,
-    to: i64,
-    word: i64,
-    hr: HResult,
-) -> Result<(), Memory>
-    requires { (l : ℕ) → (slice_index_or column.old.items l no_mail).posted + 1 < 2 ^ 64 }
-    ensures ok { OnOk result (column.new.items ≡ posted_to to word hr column.old.items) }
-    ensures err { OnErr result (column.new.items ≡ column.old.items) }
+/// Makes room for a word to the lane that a Post names. The only error is want of memory.
+#[tactic(auto, using(crate::proofs::Rows::mail_same))]
+pub(crate) fn reserve_word(column: &mut Vec<Mail>, to: i64) -> Result<(), Memory>
+    ensures mail { mail_in column.new.items ≡ mail_in column.old.items }
+    ensures word { OnOk result (HasWordTo column.new.items (natural to)) }
 {
-    if !is_s_ok(hr) {
-        return Ok(());
-    }
     let Some(lane) = natural(to) else {
         return Ok(());
     };
     match column.get_mut(lane as usize) {
-        Some(mail) => mail.bring(word),
+        Some(mail) => mail.reserve_word(),
         None => Ok(()),
     }
 }
 
+/// Brings a word to the lane that a Post names, where the answer is S_OK.
+#[tactic(auto, using(crate::proofs::Rows::posted_none, crate::proofs::Rows::posted_some, crate::proofs::Rows::posted_not, crate::proofs::Rows::set_past, crate::proofs::Rows::mail_set, crate::proofs::Rows::mail_at))]
+pub(crate) fn bring_at(column: &mut Vec<Mail>, to: i64, word: i64, hr: HResult)
+    requires posted { (l : ℕ) → (slice_index_or column.old.items l no_word).mail.posted + 1 < 2 ^ 64 }
+    requires room { HasWordTo column.old.items (natural to) }
+    ensures { mail_in column.new.items ≡ posted_to to word hr (mail_in column.old.items) }
+{
+    if !is_s_ok(hr) {
+        return;
+    }
+    let Some(lane) = natural(to) else {
+        return;
+    };
+    if let Some(mail) = column.get_mut(lane as usize) {
+        mail.bring(word);
+    }
+}
+
 /// Takes the first word of a lane.
+#[tactic(auto, using(crate::proofs::Rows::mail_set, crate::proofs::Rows::mail_at))]
 pub(crate) fn take_at(column: &mut Vec<Mail>, lane: u32)
-    ensures { column.new.items
-        ≡ slice_set column.old.items lane (mail_after Takes (slice_index_or column.old.items lane no_mail)) }
+    ensures { mail_in column.new.items ≡ slice_set (mail_in column.old.items) lane
+        (mail_after Takes (slice_index_or (mail_in column.old.items) lane no_mail)) }
 {
     if let Some(mail) = column.get_mut(lane as usize) {
         mail.take();
     }
 }
 
-/// Asks a call of a lane about the next word. The only error is want of memory, and then nothing has changed.
-pub(crate) fn ask_at(column: &mut Vec<Mail>, lane: u32, call: u32, answer: u8) -> Result<(), Memory>
-    ensures ok { OnOk result (column.new.items
-        ≡ slice_set column.old.items lane (mail_after (Asks call answer)
-        (slice_index_or column.old.items lane no_mail))) }
-    ensures err { OnErr result (column.new.items ≡ column.old.items) }
+/// Makes room for a mark of a lane. The only error is want of memory.
+#[tactic(auto, using(crate::proofs::Rows::mail_same))]
+pub(crate) fn reserve_mark(column: &mut Vec<Mail>, lane: u32) -> Result<(), Memory>
+    ensures mail { mail_in column.new.items ≡ mail_in column.old.items }
+    ensures mark { OnOk result (HasMark (slice_index_or column.new.items lane no_word)) }
 {
     match column.get_mut(lane as usize) {
-        Some(mail) => mail.ask(call, answer),
+        Some(mail) => mail.reserve_mark(),
         None => Ok(()),
     }
 }
 
+/// Asks a call of a lane about the next word.
+#[tactic(auto, using(crate::proofs::Rows::mail_set, crate::proofs::Rows::mail_at))]
+pub(crate) fn ask_at(column: &mut Vec<Mail>, lane: u32, call: u32, answer: u8)
+    requires room { HasMark (slice_index_or column.old.items lane no_word) }
+    ensures { mail_in column.new.items ≡ slice_set (mail_in column.old.items) lane
+        (mail_after (Asks call answer) (slice_index_or (mail_in column.old.items) lane no_mail)) }
+{
+    if let Some(mail) = column.get_mut(lane as usize) {
+        mail.ask(call, answer);
+    }
+}
+
 /// A call of a lane came back.
+#[tactic(auto, using(crate::proofs::Rows::mail_set, crate::proofs::Rows::mail_at))]
 pub(crate) fn forget_at(column: &mut Vec<Mail>, lane: u32, call: u32)
-    ensures { column.new.items
-        ≡ slice_set column.old.items lane (mail_after (Forgets call)
-        (slice_index_or column.old.items lane no_mail)) }
+    ensures { mail_in column.new.items ≡ slice_set (mail_in column.old.items) lane
+        (mail_after (Forgets call) (slice_index_or (mail_in column.old.items) lane no_mail)) }
 {
     if let Some(mail) = column.get_mut(lane as usize) {
         mail.forget(call);
@@ -233,33 +265,52 @@ pub(crate) fn end_quit(column: &mut Vec<bool>, lane: u32, by_quit: bool)
     }
 }
 
-/// A lane that is initialised makes an apartment where it asks for one of its own and the answer is S_OK.
-/// The only error is want of memory, and then nothing has changed.
-pub(crate) fn make_sta(
+/// Makes room for the apartment that a lane makes which is initialised, if it makes one. The only error is
+/// want of memory.
+pub(crate) fn reserve_sta(
     stas: &mut Stas,
     lane: u32,
     mode: Mode,
     home: u32,
     hr: HResult,
 ) -> Result<(), Memory>
-    requires next { IsNumber (length stas.old.stas + 3) (makes_sta (Deed.Init mode home hr)) }
-    requires room { length stas.old.stas + 4 ≤ 2 ^ 32 }
-    ensures ok { OnOk result (stas.new ≡ stas_made stas.old lane (makes_sta (Deed.Init mode home hr))) }
-    ensures err { OnErr result (stas.new ≡ stas.old) }
+    ensures tables { stas.new.tables ≡ stas.old.tables }
+    ensures room { OnOk result (HasSta stas.new lane (makes_sta (Deed.Init mode home hr))) }
 {
     match mode {
         Mode::Mta => Ok(()),
-        Mode::Sta => { if is_s_ok(hr) { stas.make(lane) } else { Ok(()) } }
+        Mode::Sta => {
+            if is_s_ok(hr) {
+                stas.reserve_made(lane)
+            } else {
+                Ok(())
+            }
+        }
     }
 }
 
-/// The apartment of a lane ends where this is left of the lane's initialisations. The only error is want of
-/// memory, and then nothing has changed.
-pub(crate) fn end_sta(stas: &mut Stas, home: Option<u32>, count: u32) -> Result<(), Memory>
-    requires { IsBelow (length stas.old.stas + 3) (ends_sta (Deed.Uninit home count)) }
-    ensures ok { OnOk result (stas.new
-        ≡ record stas.old { ended = with_last stas.old.ended (ends_sta (Deed.Uninit home count)) }) }
-    ensures err { OnErr result (stas.new ≡ stas.old) }
+/// A lane that is initialised makes an apartment where it asks for one of its own and the answer is S_OK.
+pub(crate) fn make_sta(stas: &mut Stas, lane: u32, mode: Mode, home: u32, hr: HResult)
+    requires next { IsNumber (length stas.old.tables.stas + 3) (makes_sta (Deed.Init mode home hr)) }
+    requires number { length stas.old.tables.stas + 4 ≤ 2 ^ 32 }
+    requires room { HasSta stas.old lane (makes_sta (Deed.Init mode home hr)) }
+    ensures { stas.new.tables ≡ stas_made stas.old.tables lane (makes_sta (Deed.Init mode home hr)) }
+{
+    match mode {
+        Mode::Mta => {}
+        Mode::Sta => {
+            if is_s_ok(hr) {
+                stas.make(lane)
+            }
+        }
+    }
+}
+
+/// Makes room for the end of the apartment of a lane, where this is left of the lane's initialisations. The
+/// only error is want of memory.
+pub(crate) fn reserve_end(stas: &mut Stas, home: Option<u32>, count: u32) -> Result<(), Memory>
+    ensures tables { stas.new.tables ≡ stas.old.tables }
+    ensures room { OnOk result (HasEnd stas.new (ends_sta (Deed.Uninit home count))) }
 {
     let Some(apartment) = home else {
         return Ok(());
@@ -267,11 +318,32 @@ pub(crate) fn end_sta(stas: &mut Stas, home: Option<u32>, count: u32) -> Result<
     match count {
         0 => {
             if apartment >= HOST_STA {
-                stas.end(apartment)
+                stas.reserve_end()
             } else {
                 Ok(())
             }
         }
         _ => Ok(()),
+    }
+}
+
+/// The apartment of a lane ends where this is left of the lane's initialisations.
+pub(crate) fn end_sta(stas: &mut Stas, home: Option<u32>, count: u32)
+    requires below { IsBelow (length stas.old.tables.stas + 3) (ends_sta (Deed.Uninit home count)) }
+    requires room { HasEnd stas.old (ends_sta (Deed.Uninit home count)) }
+    ensures { stas.new.tables ≡ record stas.old.tables {
+      ended = with_last stas.old.tables.ended (ends_sta (Deed.Uninit home count));
+    } }
+{
+    let Some(apartment) = home else {
+        return;
+    };
+    match count {
+        0 => {
+            if apartment >= HOST_STA {
+                stas.end(apartment);
+            }
+        }
+        _ => {}
     }
 }

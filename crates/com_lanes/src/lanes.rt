@@ -7,6 +7,7 @@ ghost use Rattle.com_model.specs.Openers.{running_call, running_object, entered_
 ghost use Rattle.com_model.specs.Waiting.{no_mail, mark_of, not_asked, bound_reached};
 ghost use Rattle.com_state.specs.Parts.{openers_at, served_at};
 ghost use Rattle.com_lanes.specs.First.{first_lanes};
+ghost use Rattle.com_lanes.specs.Rooms.{mail_in, openers_in};
 
 use crate::mail::Mail;
 use crate::openers::Openers;
@@ -17,7 +18,8 @@ use std::alloc::Global;
 use std::marker::Model;
 
 /// What a core keeps of each lane, by the lane's number from 0, and of the single-threaded apartments that
-/// threads made. Lane 0 is the clock's.
+/// threads made. Lane 0 is the clock's. Seen as the tables of lanes, beside the lists that grow with the room
+/// that they have.
 #[derive(Debug, Drop)]
 pub struct Lanes {
     pub(crate) openers: Vec<Openers>,
@@ -32,22 +34,17 @@ pub struct Lanes {
 }
 
 impl Model for Lanes {
-    ghost use Rattle.com_state.specs.Parts.{LaneTables};
+    ghost use Rattle.com_lanes.specs.Rooms.{LaneRows};
+    ghost use Rattle.com_lanes.specs.Tables.{tables_of};
 
-    ghost Value = { LaneTables };
+    ghost Value = { LaneRows };
 
     ghost view = { λ a. record {
+      tables = tables_of a.openers.items a.served.items a.homes.items a.counts.items a.over.items
+          a.filters.items a.mail.items a.quits.items a.stas.tables;
       openers = a.openers.items;
-      served = a.served.items;
-      homes = a.homes.items;
-      counts = a.counts.items;
-      made = a.stas.made;
-      over = a.over.items;
-      filters = a.filters.items;
       mail = a.mail.items;
-      quits = a.quits.items;
-      stas = a.stas.stas;
-      ended = a.stas.ended;
+      stas = a.stas;
     } };
 }
 
@@ -55,7 +52,7 @@ impl Lanes {
     /// The lanes before the first entry: nothing is open, and no lane has a home. The only error is want of
     /// memory.
     pub fn new(alloc: Global, lanes: u32) -> Result<Lanes, Memory>
-        ensures { IfOk result (λ new. new ≡ first_lanes lanes) }
+        ensures { IfOk result (λ new. new.tables ≡ first_lanes lanes) }
     {
         let rows = lanes as usize + 1;
         Ok(Lanes {
@@ -72,8 +69,9 @@ impl Lanes {
     }
 
     /// The innermost opener of a lane.
+    #[tactic(auto, using(crate::proofs::Rows::openers_some, crate::proofs::Rows::openers_none))]
     pub fn top(&self, lane: u32) -> Option<Opener>
-        ensures { result ≡ first (openers_at self.now lane) }
+        ensures { result ≡ first (openers_at self.now.tables lane) }
     {
         match self.openers.get(lane as usize) {
             Some(openers) => openers.top(),
@@ -82,8 +80,9 @@ impl Lanes {
     }
 
     /// How many openers a lane has.
+    #[tactic(auto, using(crate::proofs::Rows::openers_some, crate::proofs::Rows::openers_none))]
     pub fn depth(&self, lane: u32) -> usize
-        ensures { result ≡ length (openers_at self.now lane) }
+        ensures { result ≡ length (openers_at self.now.tables lane) }
     {
         match self.openers.get(lane as usize) {
             Some(openers) => openers.len(),
@@ -92,8 +91,9 @@ impl Lanes {
     }
 
     /// The opener of a lane at a place, counted from the outermost.
+    #[tactic(auto, using(crate::proofs::Rows::openers_some, crate::proofs::Rows::openers_none))]
     pub fn at(&self, lane: u32, place: u32) -> Option<Opener>
-        ensures { result ≡ slice_get (reverse (openers_at self.now lane)) place }
+        ensures { result ≡ slice_get (reverse (openers_at self.now.tables lane)) place }
     {
         match self.openers.get(lane as usize) {
             Some(openers) => openers.at(place),
@@ -102,8 +102,9 @@ impl Lanes {
     }
 
     /// The object of the innermost body of a lane.
+    #[tactic(auto, using(crate::proofs::Rows::openers_some, crate::proofs::Rows::openers_none))]
     pub fn running(&self, lane: u32) -> Option<u32>
-        ensures { result ≡ running_object (openers_at self.now lane) }
+        ensures { result ≡ running_object (openers_at self.now.tables lane) }
     {
         match self.openers.get(lane as usize) {
             Some(openers) => openers.running_object(),
@@ -112,8 +113,9 @@ impl Lanes {
     }
 
     /// The call of the innermost body of a lane.
+    #[tactic(auto, using(crate::proofs::Rows::openers_some, crate::proofs::Rows::openers_none))]
     pub fn running_call(&self, lane: u32) -> Option<u32>
-        ensures { result ≡ running_call (openers_at self.now lane) }
+        ensures { result ≡ running_call (openers_at self.now.tables lane) }
     {
         match self.openers.get(lane as usize) {
             Some(openers) => openers.running_call(),
@@ -122,8 +124,9 @@ impl Lanes {
     }
 
     /// The apartment that the innermost body of a lane was entered in.
+    #[tactic(auto, using(crate::proofs::Rows::openers_some, crate::proofs::Rows::openers_none))]
     pub fn running_apartment(&self, lane: u32) -> Option<u32>
-        ensures { result ≡ entered_apartment (openers_at self.now lane) }
+        ensures { result ≡ entered_apartment (openers_at self.now.tables lane) }
     {
         match self.openers.get(lane as usize) {
             Some(openers) => openers.entered_apartment(),
@@ -132,8 +135,9 @@ impl Lanes {
     }
 
     /// The calls that a lane waits for, the outermost first.
+    #[tactic(auto, using(crate::proofs::Rows::openers_some, crate::proofs::Rows::openers_none))]
     pub fn open_calls(&self, lane: u32) -> &[u32]
-        ensures { result.now ≡ reverse (open_calls (openers_at self.now lane)) }
+        ensures { result.now ≡ reverse (open_calls (openers_at self.now.tables lane)) }
     {
         match self.openers.get(lane as usize) {
             Some(openers) => openers.open_calls(),
@@ -143,7 +147,7 @@ impl Lanes {
 
     /// How many bodies have left that the pump of a lane admitted.
     pub fn served(&self, lane: u32) -> u64
-        ensures { result ≡ served_at self.now lane }
+        ensures { result ≡ served_at self.now.tables lane }
     {
         match self.served.get(lane as usize) {
             Some(served) => *served,
@@ -154,7 +158,7 @@ impl Lanes {
     /// Whether the pump of a lane has a bound and has reached it.
     #[tactic(auto, using(crate::proofs::Bounds::bound_of_first))]
     pub fn bound_is_reached(&self, lane: u32) -> bool
-        ensures { result ≡ bound_reached (openers_at self.now lane) (served_at self.now lane) }
+        ensures { result ≡ bound_reached (openers_at self.now.tables lane) (served_at self.now.tables lane) }
     {
         match self.top(lane) {
             Some(Opener::Pumps { bound: 0 }) => false,
@@ -165,7 +169,7 @@ impl Lanes {
 
     /// The home of a lane that was initialised.
     pub fn home(&self, lane: u32) -> Option<u32>
-        ensures { result ≡ slice_index_or self.now.homes lane None }
+        ensures { result ≡ slice_index_or self.now.tables.homes lane None }
     {
         match self.homes.get(lane as usize) {
             Some(home) => *home,
@@ -175,7 +179,7 @@ impl Lanes {
 
     /// How many of a lane's initialisations are open.
     pub fn count(&self, lane: u32) -> u32
-        ensures { result ≡ slice_index_or self.now.counts lane 0 }
+        ensures { result ≡ slice_index_or self.now.tables.counts lane 0 }
     {
         match self.counts.get(lane as usize) {
             Some(count) => *count,
@@ -185,7 +189,7 @@ impl Lanes {
 
     /// Whether a lane has ended.
     pub fn is_over(&self, lane: u32) -> bool
-        ensures { result ≡ slice_index_or self.now.over lane false }
+        ensures { result ≡ slice_index_or self.now.tables.over lane false }
     {
         match self.over.get(lane as usize) {
             Some(over) => *over,
@@ -195,7 +199,7 @@ impl Lanes {
 
     /// The message filter that a lane named last.
     pub fn filter(&self, lane: u32) -> Option<u32>
-        ensures { result ≡ slice_index_or self.now.filters lane None }
+        ensures { result ≡ slice_index_or self.now.tables.filters lane None }
     {
         match self.filters.get(lane as usize) {
             Some(filter) => *filter,
@@ -205,7 +209,7 @@ impl Lanes {
 
     /// Whether a quit stands for a lane.
     pub fn quit_stands(&self, lane: u32) -> bool
-        ensures { result ≡ slice_index_or self.now.quits lane false }
+        ensures { result ≡ slice_index_or self.now.tables.quits lane false }
     {
         match self.quits.get(lane as usize) {
             Some(quit) => *quit,
@@ -214,8 +218,9 @@ impl Lanes {
     }
 
     /// The first word of a lane.
+    #[tactic(auto, using(crate::proofs::Rows::mail_some, crate::proofs::Rows::mail_none))]
     pub fn first_word(&self, lane: u32) -> Option<Word>
-        ensures { result ≡ first (slice_index_or self.now.mail lane no_mail).words }
+        ensures { result ≡ first (slice_index_or self.now.tables.mail lane no_mail).words }
     {
         match self.mail.get(lane as usize) {
             Some(mail) => mail.first(),
@@ -224,9 +229,10 @@ impl Lanes {
     }
 
     /// The first word of a lane that its call was not asked about yet.
+    #[tactic(auto, using(crate::proofs::Rows::mail_some, crate::proofs::Rows::mail_none))]
     pub fn word_not_asked(&self, lane: u32, call: u32) -> Option<Word>
-        ensures { result ≡ not_asked (mark_of (slice_index_or self.now.mail lane no_mail).marks call)
-            (slice_index_or self.now.mail lane no_mail).words }
+        ensures { result ≡ not_asked (mark_of (slice_index_or self.now.tables.mail lane no_mail).marks call)
+            (slice_index_or self.now.tables.mail lane no_mail).words }
     {
         match self.mail.get(lane as usize) {
             Some(mail) => mail.not_asked(call),
@@ -236,8 +242,8 @@ impl Lanes {
 
     /// The number of the next single-threaded apartment that a thread makes.
     pub fn next_sta(&self) -> u32
-        requires { length self.now.stas + 4 ≤ 2 ^ 32 }
-        ensures { result ≡ length self.now.stas + 3 }
+        requires { length self.now.tables.stas + 4 ≤ 2 ^ 32 }
+        ensures { result ≡ length self.now.tables.stas + 3 }
     {
         self.stas.next()
     }
@@ -245,14 +251,15 @@ impl Lanes {
     /// The main single-threaded apartment: the oldest that a thread made and that has not ended, else the
     /// host's. Source: the documentation of apartments, "main apartment".
     pub fn main_sta(&self) -> u32
-        ensures { result ≡ or_host (first (filter (λ a. not (is_member a self.now.ended)) self.now.stas)) }
+        ensures { result ≡ or_host (first
+            (filter (λ a. not (is_member a self.now.tables.ended)) self.now.tables.stas)) }
     {
         self.stas.main()
     }
 
     /// Whether a lane made this apartment, and so serves it.
     pub fn serves(&self, lane: u32, apartment: u32) -> bool
-        ensures { result ≡ is_member apartment (slice_index_or self.now.made lane []) }
+        ensures { result ≡ is_member apartment (slice_index_or self.now.tables.made lane []) }
     {
         self.stas.made_by(lane, apartment)
     }
@@ -270,8 +277,9 @@ fn filled<T: Copy>(alloc: Global, rows: usize, row: T) -> Result<Vec<T>, Memory>
 }
 
 /// So many lanes with nothing open. The only error is want of memory.
+#[tactic(auto, using(crate::proofs::Rows::openers_more))]
 fn no_openers(alloc: Global, rows: usize) -> Result<Vec<Openers>, Memory>
-    ensures { IfOk result (λ table. table.items ≡ tabulated rows (λ l. [])) }
+    ensures { IfOk result (λ table. openers_in table.items ≡ tabulated rows (λ l. [])) }
 {
     let mut table = Vec::new(alloc);
     for i in 0..rows {
@@ -281,8 +289,9 @@ fn no_openers(alloc: Global, rows: usize) -> Result<Vec<Openers>, Memory>
 }
 
 /// So many lanes with no word. The only error is want of memory.
+#[tactic(auto, using(crate::proofs::Rows::mail_more))]
 fn no_mails(alloc: Global, rows: usize) -> Result<Vec<Mail>, Memory>
-    ensures { IfOk result (λ table. table.items ≡ tabulated rows (λ l. no_mail)) }
+    ensures { IfOk result (λ table. mail_in table.items ≡ tabulated rows (λ l. no_mail)) }
 {
     let mut table = Vec::new(alloc);
     for i in 0..rows {

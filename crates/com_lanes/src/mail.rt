@@ -1,10 +1,11 @@
 //! The words of one lane.
-ghost use Rattle.std.specs.Prelude.{◌≡◌, ◌+◌, ◌<◌, ◌≤◌, ◌^◌, OnOk, OnErr, length, slice_get};
+ghost use Rattle.std.specs.Prelude.{◌≡◌, ◌+◌, ◌<◌, ◌≤◌, ◌^◌, OnOk, length, slice_get};
 ghost use Rattle.com_model.specs.Lists.{first};
 ghost use Rattle.com_model.specs.Waiting.{no_mail, mail_after, mark_of, not_asked, Brings, Takes, Asks};
 ghost use Rattle.com_model.specs.Waiting.{Forgets};
 ghost use Rattle.std.specs.List.{remove};
 ghost use Rattle.std.specs.List.Sorted.{IsNonDecreasingBy};
+ghost use Rattle.com_lanes.specs.Rooms.{HasMark, HasWord};
 ghost use Rattle.com_lanes.specs.Words.{number_of};
 
 use crate::marks::Marks;
@@ -17,7 +18,8 @@ use std::marker::Model;
 /// PENDINGMSG_WAITDEFPROCESS: the word that a filter was asked about goes.
 const WAIT_DEFAULT: u8 = 2;
 
-/// The words that were posted to a lane and not taken, and what each outgoing call was last asked about.
+/// The words that were posted to a lane and not taken, and what each outgoing call was last asked about. Seen
+/// with how many of both there is room for.
 #[derive(Debug, Drop)]
 pub struct Mail {
     posted: u64,
@@ -26,12 +28,17 @@ pub struct Mail {
 }
 
 impl Model for Mail {
-    ghost use Rattle.com_model.specs.Waiting.{Mail as MailSeen};
-    ghost use Rattle.com_lanes.specs.Words.{Ascend};
+    ghost use Rattle.std.specs.VecDeque.{deque_capacity};
+    ghost use Rattle.com_lanes.specs.Rooms.{MailRows};
+    ghost use Rattle.com_lanes.specs.Words.{Ascend, mail_of};
 
-    ghost Value = { MailSeen };
+    ghost Value = { MailRows };
 
-    ghost view = { λ a. record { posted = a.posted; words = a.words.items; marks = a.marks } };
+    ghost view = { λ a. record {
+      mail = mail_of a.posted a.words.items a.marks.rows;
+      words = deque_capacity a.words;
+      marks = a.marks.room;
+    } };
 
     ghost invariant = { λ a. Ascend 0 a.words.items a.posted };
 }
@@ -39,7 +46,7 @@ impl Model for Mail {
 impl Mail {
     /// No word was posted. It takes no memory.
     pub fn new(alloc: Global) -> Mail
-        ensures { result ≡ no_mail }
+        ensures { result.mail ≡ no_mail }
     {
         Mail {
             posted: 0,
@@ -50,14 +57,14 @@ impl Mail {
 
     /// The first word.
     pub fn first(&self) -> Option<Word>
-        ensures { result ≡ first self.now.words }
+        ensures { result ≡ first self.now.mail.words }
     {
         self.words.front().copied()
     }
 
     /// The first word that a call was not asked about yet.
     pub fn not_asked(&self, call: u32) -> Option<Word>
-        ensures { result ≡ not_asked (mark_of self.now.marks call) self.now.words }
+        ensures { result ≡ not_asked (mark_of self.now.mail.marks call) self.now.mail.words }
     {
         let place = place_after(&self.words, self.marks.of(call));
         word_at(&self.words, place)
@@ -65,48 +72,57 @@ impl Mail {
 
     /// Takes the first word off, if there is one.
     pub fn take(&mut self)
-        ensures { self.new ≡ mail_after Takes self.old }
+        ensures { self.new.mail ≡ mail_after Takes self.old.mail }
     {
         let _ = self.words.pop_front();
     }
 
-    /// A word comes. The only error is want of memory, and then nothing has changed.
-    pub fn bring(&mut self, word: i64) -> Result<(), Memory>
-        requires room { self.old.posted + 1 < 2 ^ 64 }
-        ensures ok { OnOk result (self.new ≡ mail_after (Brings word) self.old) }
-        ensures err { OnErr result (self.new ≡ self.old) }
+    /// Makes room for one word more. The only error is want of memory.
+    pub fn reserve_word(&mut self) -> Result<(), Memory>
+        ensures mail { self.new.mail ≡ self.old.mail }
+        ensures word { OnOk result (HasWord self.new) }
+    {
+        self.words.reserve(1)
+    }
+
+    /// Makes room for one mark more. The only error is want of memory.
+    pub fn reserve_mark(&mut self) -> Result<(), Memory>
+        ensures mail { self.new.mail ≡ self.old.mail }
+        ensures mark { OnOk result (HasMark self.new) }
+    {
+        self.marks.reserve()
+    }
+
+    /// A word comes.
+    pub fn bring(&mut self, word: i64)
+        requires posted { self.old.mail.posted + 1 < 2 ^ 64 }
+        requires room { HasWord self.old }
+        ensures { self.new.mail ≡ mail_after (Brings word) self.old.mail }
     {
         let number = self.posted + 1;
-        match self.words.push_back(Word { number, word }) {
-            Ok(()) => {
-                self.posted = number;
-                Ok(())
-            }
-            Err(_) => Err(Memory),
-        }
+        self.words.push_back_reserved(Word { number, word });
+        self.posted = number;
     }
 
     /// A call is asked about the first word that it was not asked about yet, and the word goes where the
-    /// answer is 2, PENDINGMSG_WAITDEFPROCESS. The only error is want of memory, and then nothing has
-    /// changed.
-    pub fn ask(&mut self, call: u32, answer: u8) -> Result<(), Memory>
-        ensures ok { OnOk result (self.new ≡ mail_after (Asks call answer) self.old) }
-        ensures err { OnErr result (self.new ≡ self.old) }
+    /// answer is 2, PENDINGMSG_WAITDEFPROCESS.
+    pub fn ask(&mut self, call: u32, answer: u8)
+        requires room { HasMark self.old }
+        ensures { self.new.mail ≡ mail_after (Asks call answer) self.old.mail }
     {
         let place = place_after(&self.words, self.marks.of(call));
         let Some(word) = word_at(&self.words, place) else {
-            return Ok(());
+            return;
         };
-        self.marks.set(call, word.number)?;
+        self.marks.set(call, word.number);
         if answer == WAIT_DEFAULT {
             take_out(&mut self.words, place);
         }
-        Ok(())
     }
 
     /// A call came back.
     pub fn forget(&mut self, call: u32)
-        ensures { self.new ≡ mail_after (Forgets call) self.old }
+        ensures { self.new.mail ≡ mail_after (Forgets call) self.old.mail }
     {
         self.marks.forget(call);
     }

@@ -1,6 +1,7 @@
 //! What each outgoing call of a lane was last asked about.
-ghost use Rattle.std.specs.Prelude.{◌≡◌, [], ◌∷◌, OnOk, OnErr};
+ghost use Rattle.std.specs.Prelude.{◌≡◌, ◌<◌, [], ◌∷◌, OnOk};
 ghost use Rattle.com_model.specs.Waiting.{mark_of, without_mark};
+ghost use Rattle.com_lanes.specs.Rooms.{HasRow};
 
 use com_base::Memory;
 use com_model::Mark;
@@ -8,25 +9,26 @@ use std::alloc::Global;
 use std::collections::VecDeque;
 use std::marker::Model;
 
-/// The marks of a lane, the youngest first, one at most for each call.
+/// The marks of a lane, the youngest first, one at most for each call, and for how many there is room.
 #[derive(Debug, Drop)]
 pub struct Marks {
     marks: VecDeque<Mark>,
 }
 
 impl Model for Marks {
-    ghost use Rattle.std.specs.Prelude.{List};
+    ghost use Rattle.std.specs.VecDeque.{deque_capacity};
     ghost use Rattle.com_model.specs.declared.keeps.Mark.{Mark};
+    ghost use Rattle.com_lanes.specs.Rooms.{Roomed};
 
-    ghost Value = { List Mark };
+    ghost Value = { Roomed Mark };
 
-    ghost view = { λ a. a.marks.items };
+    ghost view = { λ a. record { rows = a.marks.items; room = deque_capacity a.marks } };
 }
 
 impl Marks {
     /// No call was asked. It takes no memory.
     pub fn new(alloc: Global) -> Marks
-        ensures { result ≡ [] }
+        ensures { result.rows ≡ [] }
     {
         Marks {
             marks: VecDeque::new(alloc),
@@ -35,26 +37,31 @@ impl Marks {
 
     /// The number of the word that a call was last asked about, or 0.
     pub fn of(&self, call: u32) -> u64
-        ensures { result ≡ mark_of self.now call }
+        ensures { result ≡ mark_of self.now.rows call }
     {
         mark_in(&self.marks, call)
     }
 
-    /// A call was asked about this word. The only error is want of memory, and then nothing has changed.
-    pub fn set(&mut self, call: u32, number: u64) -> Result<(), Memory>
-        ensures ok { OnOk result (self.new
-            ≡ record { call = call; number = number } ∷ without_mark call self.old) }
-        ensures err { OnErr result (self.new ≡ self.old) }
+    /// Makes room for one mark more. The only error is want of memory.
+    pub fn reserve(&mut self) -> Result<(), Memory>
+        ensures rows { self.new.rows ≡ self.old.rows }
+        ensures room { OnOk result (HasRow self.new) }
     {
-        self.marks.reserve(1)?;
+        self.marks.reserve(1)
+    }
+
+    /// A call was asked about this word.
+    pub fn set(&mut self, call: u32, number: u64)
+        requires { HasRow self.old }
+        ensures { self.new.rows ≡ record { call = call; number = number } ∷ without_mark call self.old.rows }
+    {
         self.marks.retain(|mark| mark.call != call);
         self.marks.push_front_reserved(Mark { call, number });
-        Ok(())
     }
 
     /// A call came back.
     pub fn forget(&mut self, call: u32)
-        ensures { self.new ≡ without_mark call self.old }
+        ensures { self.new.rows ≡ without_mark call self.old.rows }
     {
         self.marks.retain(|mark| mark.call != call);
     }

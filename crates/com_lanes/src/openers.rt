@@ -1,8 +1,9 @@
 //! What is open in one lane.
-ghost use Rattle.std.specs.Prelude.{◌≡◌, [], ◌∷◌, OnOk, OnErr, length, reverse, slice_get};
+ghost use Rattle.std.specs.Prelude.{◌≡◌, [], ◌∷◌, OnOk, length, reverse, slice_get};
 ghost use Rattle.com_model.specs.Lists.{first, without_first};
 ghost use Rattle.com_model.specs.Openers.{running_call, running_object, entered_apartment, open_calls};
 ghost use Rattle.com_lanes.specs.Bodies.{is_one_pump};
+ghost use Rattle.com_lanes.specs.Rooms.{HasSlot};
 
 use crate::stack::Stack;
 use com_base::Memory;
@@ -21,8 +22,9 @@ pub struct Body {
     pub apartment: u32,
 }
 
-/// The openers of a lane, seen as a list with the innermost first. Beside them stand those that are bodies,
-/// and the calls that are waited for, so that the innermost of each is known without a walk.
+/// The openers of a lane, seen as a list with the innermost first, and for how many there is room. Beside
+/// them stand those that are bodies, and the calls that are waited for, so that the innermost of each is
+/// known without a walk.
 #[derive(Debug, Drop)]
 pub struct Openers {
     openers: Stack<Opener>,
@@ -31,23 +33,29 @@ pub struct Openers {
 }
 
 impl Model for Openers {
-    ghost use Rattle.std.specs.Prelude.{List, ◌≡◌};
-    ghost use Rattle.com_model.specs.declared.keeps.Opener.{Opener};
+    ghost use Rattle.std.specs.Prelude.{◌≡◌};
+    ghost use Rattle.com_lanes.specs.Rooms.{OpenerRows};
 
-    ghost Value = { List Opener };
+    ghost Value = { OpenerRows };
 
     ghost use Rattle.com_model.specs.Openers.{open_calls};
     ghost use Rattle.com_lanes.specs.Bodies.{bodies_of};
 
-    ghost view = { λ a. a.openers };
+    ghost view = { λ a. record {
+      openers = a.openers.rows;
+      room = a.openers.room;
+      bodies = a.bodies.room;
+      waits = a.waits.room;
+    } };
 
-    ghost invariant = { λ a. (bodies_of a.openers ≡ a.bodies) × (open_calls a.openers ≡ a.waits) };
+    ghost invariant = { λ a. (bodies_of a.openers.rows ≡ a.bodies.rows)
+        × (open_calls a.openers.rows ≡ a.waits.rows) };
 }
 
 impl Openers {
     /// Nothing is open. It takes no memory.
     pub fn new(alloc: Global) -> Openers
-        ensures { result ≡ [] }
+        ensures { result.openers ≡ [] }
     {
         Openers {
             openers: Stack::new(alloc),
@@ -56,20 +64,26 @@ impl Openers {
         }
     }
 
-    /// Opens one more. The only error is want of memory, and then nothing has changed.
-    pub fn push(&mut self, opener: Opener) -> Result<(), Memory>
-        ensures ok { OnOk result (self.new ≡ opener ∷ self.old) }
-        ensures err { OnErr result (self.new ≡ self.old) }
+    /// Makes room for one opener more, of whatever kind. The only error is want of memory.
+    pub fn reserve(&mut self) -> Result<(), Memory>
+        ensures openers { self.new.openers ≡ self.old.openers }
+        ensures slot { OnOk result (HasSlot self.new) }
+    {
+        self.openers.reserve()?;
+        self.bodies.reserve()?;
+        self.waits.reserve()
+    }
+
+    /// Opens one more.
+    pub fn push(&mut self, opener: Opener)
+        requires slot { HasSlot self.old }
+        ensures openers { self.new.openers ≡ opener ∷ self.old.openers }
     {
         match opener {
             Opener::Pumps { .. } => self.openers.push(opener),
             Opener::Waits { call } => {
-                self.waits.push(call)?;
-                let pushed = self.openers.push(opener);
-                if pushed.is_err() {
-                    self.waits.pop();
-                }
-                pushed
+                self.waits.push(call);
+                self.openers.push(opener);
             }
             Opener::Enters {
                 call,
@@ -80,12 +94,8 @@ impl Openers {
                     call,
                     object,
                     apartment,
-                })?;
-                let pushed = self.openers.push(opener);
-                if pushed.is_err() {
-                    self.bodies.pop();
-                }
-                pushed
+                });
+                self.openers.push(opener);
             }
         }
     }
@@ -93,7 +103,7 @@ impl Openers {
     /// Closes the innermost.
     #[tactic(auto, using(crate::proofs::Bodies::pop_pump, crate::proofs::Bodies::pop_wait, crate::proofs::Bodies::pop_body, crate::proofs::Bodies::pop_none))]
     pub fn pop(&mut self)
-        ensures { self.new ≡ without_first self.old }
+        ensures { self.new.openers ≡ without_first self.old.openers }
     {
         match self.openers.top() {
             Some(Opener::Enters { .. }) => {
@@ -111,21 +121,21 @@ impl Openers {
 
     /// The innermost.
     pub fn top(&self) -> Option<Opener>
-        ensures { result ≡ first self.now }
+        ensures { result ≡ first self.now.openers }
     {
         self.openers.top()
     }
 
     /// How many are open.
     pub fn len(&self) -> usize
-        ensures { result ≡ length self.now }
+        ensures { result ≡ length self.now.openers }
     {
         self.openers.len()
     }
 
     /// The opener at a place, counted from the outermost.
     pub fn at(&self, place: u32) -> Option<Opener>
-        ensures { result ≡ slice_get (reverse self.now) place }
+        ensures { result ≡ slice_get (reverse self.now.openers) place }
     {
         self.openers.at(place)
     }
@@ -133,7 +143,7 @@ impl Openers {
     /// The call of the innermost body.
     #[tactic(auto, using(crate::proofs::Bodies::call_of_first))]
     pub fn running_call(&self) -> Option<u32>
-        ensures { result ≡ running_call self.now }
+        ensures { result ≡ running_call self.now.openers }
     {
         match self.bodies.top() {
             Some(body) => Some(body.call),
@@ -144,7 +154,7 @@ impl Openers {
     /// The object of the innermost body.
     #[tactic(auto, using(crate::proofs::Bodies::object_of_first))]
     pub fn running_object(&self) -> Option<u32>
-        ensures { result ≡ running_object self.now }
+        ensures { result ≡ running_object self.now.openers }
     {
         match self.bodies.top() {
             Some(body) => Some(body.object),
@@ -155,7 +165,7 @@ impl Openers {
     /// The apartment of the innermost body.
     #[tactic(auto, using(crate::proofs::Bodies::apartment_of_first))]
     pub fn entered_apartment(&self) -> Option<u32>
-        ensures { result ≡ entered_apartment self.now }
+        ensures { result ≡ entered_apartment self.now.openers }
     {
         match self.bodies.top() {
             Some(body) => Some(body.apartment),
@@ -165,14 +175,14 @@ impl Openers {
 
     /// The calls that are waited for, the outermost first.
     pub fn open_calls(&self) -> &[u32]
-        ensures { result.now ≡ reverse (open_calls self.now) }
+        ensures { result.now ≡ reverse (open_calls self.now.openers) }
     {
         self.waits.as_slice()
     }
 
     /// Whether a pump alone is open.
     pub fn is_one_pump(&self) -> bool
-        ensures { result ≡ is_one_pump self.now }
+        ensures { result ≡ is_one_pump self.now.openers }
     {
         self.openers.len() == 1 && matches!(self.openers.top(), Some(Opener::Pumps { .. }))
     }

@@ -118,7 +118,7 @@ impl Moves {
     ) -> Result<(), Memory>
         requires { IsWhole (Some outcome.now) }
         ensures { OnOk result (self.new
-            ≡ together self.old (step_moves (ground_at home objects.now calls.now.tables)
+            ≡ together self.old (step_moves (ground_at home objects.now.tables calls.now.tables)
             (acting_of acting) outcome.now written)) }
     {
         let Some(Written { place, held }) = written else {
@@ -152,7 +152,7 @@ impl Moves {
         requires deed { FitsDeed deed.now }
         requires outcome { IsWhole outcome.now }
         ensures { OnOk result (self.new
-            ≡ together self.old (acted_stepped (ground_at home objects.now calls.now.tables)
+            ≡ together self.old (acted_stepped (ground_at home objects.now.tables calls.now.tables)
             (acting_of acting) outcome.now deed.now)) }
     {
         let Some(outcome) = outcome else {
@@ -291,7 +291,7 @@ impl Moves {
         requires { FitsDeed deed.now }
         ensures { OnOk result (self.new ≡ record self.old {
           lost = self.old.lost
-              ++ (if named_at objects.now object == apartment
+              ++ (if named_at objects.now.tables object == apartment
               then all_moved (Some apartment) (links_stepped scene.now (acting_of acting)
               outcome.now deed.now object)
               else []);
@@ -352,7 +352,7 @@ impl Moves {
     ) -> Result<(), Memory>
         requires { FitsDeed deed.now }
         ensures { OnOk result (self.new ≡ together self.old (record {
-          lost = all_moved (Some (named_at objects.now object))
+          lost = all_moved (Some (named_at objects.now.tables object))
               (links_stepped scene.now (acting_of acting) outcome.now deed.now object);
           gained = [];
         })) }
@@ -381,7 +381,7 @@ impl Moves {
         requires bodies { BodiesWhole scene.now }
         requires after { FrameWhole scene.now (acting_of after) }
         ensures { OnOk result (self.new
-            ≡ together self.old (arrived_stepped (ground_at home objects.now calls.now.tables)
+            ≡ together self.old (arrived_stepped (ground_at home objects.now.tables calls.now.tables)
             scene.now (acting_of acting) outcome.now (acting_of after) lane deed.now)) }
     {
         match deed {
@@ -420,9 +420,9 @@ impl Moves {
         requires { FitsDeed deed.now }
         ensures { OnOk result (self.new ≡ record self.old {
           lost = self.old.lost
-              ++ links_of_step (named_at objects.now) scene.now (acting_of acting)
+              ++ links_of_step (named_at objects.now.tables) scene.now (acting_of acting)
               outcome.now deed.now apartment
-              (one_to (length objects.now.makings));
+              (one_to (length objects.now.tables.makings));
         }) }
     {
         let count = objects.len();
@@ -445,7 +445,7 @@ impl Moves {
     ) -> Result<(), Memory>
         requires { FitsDeed deed.now }
         ensures { OnOk result (self.new
-            ≡ together self.old (ended_stepped (ground_at home objects.now calls.now.tables)
+            ≡ together self.old (ended_stepped (ground_at home objects.now.tables calls.now.tables)
             scene.now (acting_of acting) outcome.now deed.now (ends_sta deed.now))) }
     {
         let Some(apartment) = ended_sta(deed) else {
@@ -472,7 +472,7 @@ impl Moves {
         requires bodies { BodiesWhole scene.now }
         requires after { FrameWhole scene.now (acting_of after) }
         ensures { OnOk result (self.new
-            ≡ together self.old (moves_stepped (ground_at home objects.now calls.now.tables)
+            ≡ together self.old (moves_stepped (ground_at home objects.now.tables calls.now.tables)
             scene.now (acting_of acting) outcome.now (acting_of after) entry.now)) }
     {
         self.act(home, objects, calls, acting, outcome, &entry.deed)?;
@@ -508,7 +508,8 @@ impl Moves {
         requires outcome { IsWhole outcome.now }
         requires bodies { BodiesWhole scene.now }
         requires after { FrameWhole scene.now (acting_of after) }
-        ensures moves { OnOk result (self.new ≡ moves_stepped (ground_at home objects.now calls.now.tables)
+        ensures moves { OnOk result (self.new
+            ≡ moves_stepped (ground_at home objects.now.tables calls.now.tables)
             scene.now (acting_of acting) outcome.now (acting_of after) entry.now) }
         ensures err { OnErr result (self.new ≡ no_moves) }
     {

@@ -3,6 +3,7 @@ use Rattle.std.specs.Prelude.{◌≡◌, ℕ, ◌<◌, ◌≤◌, ◌^◌, zero,
 use Rattle.std.specs.Prelude.{None, slice_get}
 use Rattle.com_model.specs.declared.keeps.Making.{Making}
 use Rattle.com_model.specs.Lists.{from_one, is_member}
+use Rattle.com_state.specs.Parts.{ObjectTables}
 use Rattle.com_objects.specs.declared.objects.Row.{Row}
 
 abbrev pub unmade : Row
@@ -10,6 +11,9 @@ unmade = record { making = record { object = 0; apartment = 0; class = 0 }; rele
 
 abbrev pub makings_of : List Row → List (Option Making)
 makings_of rows = map (λ (r : Row). Some r.making) rows
+
+abbrev pub tables_of : List Row → (finaled : List ℕ) → ObjectTables
+tables_of rows finaled = record { makings = makings_of rows; finaled = finaled }
 
 abbrev pub released_in : List Row → ℕ → Bool
 released_in rows o = (from_one rows o unmade).released

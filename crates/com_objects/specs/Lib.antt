@@ -1,2 +1,4 @@
 pub mod Kept
+pub mod Rooms
 pub mod Settled
+pub mod Lists

@@ -1,5 +1,5 @@
 //! The dying objects, which wait for their Finals.
-ghost use Rattle.std.specs.Prelude.{◌≡◌, ◌≤◌, ℕ, Bool, [], ◌++◌, OnOk, OnErr, vec_len, vec_capacity};
+ghost use Rattle.std.specs.Prelude.{◌≡◌, ◌≤◌, ℕ, Bool, [], ◌++◌, ◌+◌, OnOk, length, vec_len, vec_capacity};
 ghost use Rattle.com_model.specs.Dying.{fallen_more};
 ghost use Rattle.com_objects.specs.Settled.{DieBut, Falls, without};
 
@@ -8,46 +8,58 @@ use std::alloc::Global;
 use std::marker::Model;
 
 /// The numbers of the objects that are dying, in the order of the entries after which each was, and by number
-/// where one entry made several so.
+/// where one entry made several so; and for how many more there is room.
 #[derive(Debug, Drop)]
 pub struct Fallen {
     objects: Vec<u32>,
 }
 
 impl Model for Fallen {
-    ghost use Rattle.std.specs.Prelude.{List, ℕ};
+    ghost use Rattle.std.specs.Prelude.{◌-◌, vec_len, vec_capacity};
+    ghost use Rattle.com_objects.specs.Lists.{DyingList};
 
-    ghost Value = { List ℕ };
+    ghost Value = { DyingList };
 
-    ghost view = { λ a. a.objects.items };
+    ghost view = { λ a. record {
+      objects = a.objects.items;
+      spare = vec_capacity a.objects - vec_len a.objects;
+    } };
 }
 
 impl Fallen {
     /// No object is dying. It takes no memory.
     pub fn new(alloc: Global) -> Fallen
-        ensures { result ≡ [] }
+        ensures { result.objects ≡ [] }
     {
         Fallen {
             objects: Vec::new(alloc),
         }
     }
 
-    /// After an entry: `gone` was released by it, if it is one, and `fresh` are those that are dying now
-    /// and were not before, by number. The only error is want of memory, and then nothing has changed.
-    #[tactic(auto, using(crate::proofs::Settling::settled))]
-    pub fn settle(&mut self, gone: Option<u32>, fresh: &[u32]) -> Result<(), Memory>
-        ensures ok { OnOk result ((dying : ℕ → Bool) (n : ℕ) → DieBut dying gone self.old
-            → Falls dying n self.old fresh.now → self.new ≡ fallen_more dying n self.old) }
-        ensures err { OnErr result (self.new ≡ self.old) }
+    /// Makes room for so many more. The only error is want of memory, and then nothing has changed.
+    pub fn reserve(&mut self, more: usize) -> Result<(), Memory>
+        ensures room { OnOk result (more ≤ self.new.spare) }
+        ensures objects { self.new.objects ≡ self.old.objects }
     {
-        self.objects.reserve(fresh.len())?;
+        self.objects.reserve(more)
+    }
+
+    /// After an entry: `gone` was released by it, if it is one, and `fresh` are those that are dying now
+    /// and were not before, by number. There is room for them.
+    #[tactic(auto, using(crate::proofs::Settling::settled))]
+    pub fn settle(&mut self, gone: Option<u32>, fresh: &[u32])
+        requires { length fresh.now ≤ self.old.spare }
+        ensures { (dying : ℕ → Bool) (n : ℕ) → DieBut dying gone self.old.objects
+            → Falls dying n self.old.objects fresh.now
+            → self.new.objects ≡ fallen_more dying n self.old.objects }
+    {
         take_out(&mut self.objects, gone);
-        self.objects.extend_from_slice(fresh)
+        append(&mut self.objects, fresh);
     }
 
     /// The dying objects in their order.
     pub fn as_slice(&self) -> &[u32]
-        ensures { result.now ≡ self.now }
+        ensures { result.now ≡ self.now.objects }
     {
         self.objects.as_slice()
     }
@@ -63,4 +75,14 @@ fn take_out(objects: &mut Vec<u32>, gone: Option<u32>)
         Some(released) => objects.retain(|object| *object != released),
         None => {}
     }
+}
+
+/// Adds these at the end. There is room for them.
+fn append(objects: &mut Vec<u32>, fresh: &[u32])
+    requires { vec_len objects.old + length fresh.now ≤ vec_capacity objects.old }
+    ensures { objects.new.items ≡ objects.old.items ++ fresh.now }
+{
+    let Ok(()) = objects.extend_from_slice(fresh) else {
+        unreachable!()
+    };
 }

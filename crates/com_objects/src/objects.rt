@@ -1,10 +1,11 @@
 //! The objects that were made.
-ghost use Rattle.std.specs.Prelude.{◌≡◌, ◌+◌, ◌<◌, ◌^◌, [], ◌∷◌, ◌++◌, length, OnOk, OnErr, Some, is_some};
+ghost use Rattle.std.specs.Prelude.{◌≡◌, ◌+◌, ◌<◌, ◌^◌, [], ◌∷◌, ◌++◌, length, OnOk, Some, is_some};
 ghost use Rattle.com_model.specs.Lists.{is_member};
 ghost use Rattle.com_model.specs.Objects.{asked_number, makes, finals};
 ghost use Rattle.com_model.specs.State.{grown};
 ghost use Rattle.com_state.specs.Parts.{making_at, named_at, class_at, objects_after};
 ghost use Rattle.com_objects.specs.Kept.{IsMade, row_of};
+ghost use Rattle.com_objects.specs.Rooms.{HasRowFor};
 
 use com_base::{HResult, Memory};
 use com_body::Asked;
@@ -20,7 +21,7 @@ struct Row {
 }
 
 /// The objects that were made, numbered from 1 in the order of making, and those that were released, in
-/// the order of their Finals.
+/// the order of their Finals. Seen as their tables, beside the room for more of each.
 #[derive(Debug, Drop)]
 pub struct Objects {
     rows: Vec<Row>,
@@ -28,13 +29,18 @@ pub struct Objects {
 }
 
 impl Model for Objects {
-    ghost use Rattle.com_state.specs.Parts.{ObjectTables};
+    ghost use Rattle.std.specs.Prelude.{vec_capacity};
+    ghost use Rattle.com_objects.specs.Rooms.{ObjectRows};
 
-    ghost Value = { ObjectTables };
+    ghost Value = { ObjectRows };
 
-    ghost use Rattle.com_objects.specs.Kept.{ObjectsKept, makings_of};
+    ghost use Rattle.com_objects.specs.Kept.{ObjectsKept, tables_of};
 
-    ghost view = { λ a. record { makings = makings_of a.rows.items; finaled = a.finaled.items } };
+    ghost view = { λ a. record {
+      tables = tables_of a.rows.items a.finaled.items;
+      made = vec_capacity a.rows;
+      gone = vec_capacity a.finaled;
+    } };
 
     ghost invariant = { λ a. ObjectsKept a.rows.items a.finaled.items };
 }
@@ -42,7 +48,7 @@ impl Model for Objects {
 impl Objects {
     /// No object was made. It takes no memory.
     pub fn new(alloc: Global) -> Objects
-        ensures { result ≡ record { makings = []; finaled = [] } }
+        ensures { result.tables ≡ record { makings = []; finaled = [] } }
     {
         Objects {
             rows: Vec::new(alloc),
@@ -50,16 +56,28 @@ impl Objects {
         }
     }
 
-    /// Makes of the objects what an entry of a lane makes of them. The only error is want of memory, and then
-    /// nothing has changed.
+    /// Makes room for the row that an entry brings. The only error is want of memory.
+    pub fn reserve(&mut self, deed: &Deed) -> Result<(), Memory>
+        ensures tables { self.new.tables ≡ self.old.tables }
+        ensures space { OnOk result (HasRowFor self.new deed.now) }
+    {
+        match deed {
+            Deed::Made { .. } => self.rows.reserve(1),
+            Deed::Final { .. } => self.finaled.reserve(1),
+            _ => Ok(()),
+        }
+    }
+
+    /// Makes of the objects what an entry of a lane makes of them, for which there is room. It takes no
+    /// memory.
     ///
     /// A Final names an object that was made.
-    pub fn apply(&mut self, lane: u32, deed: &Deed) -> Result<(), Memory>
-        requires released { IsMade (length self.old.makings) (finals deed.now) }
-        requires room { length self.old.makings + 1 < 2 ^ 32 }
-        ensures ok { OnOk result (self.new
-            ≡ objects_after self.old (record { lane = lane; deed = deed.now })) }
-        ensures err { OnErr result (self.new ≡ self.old) }
+    pub fn apply(&mut self, lane: u32, deed: &Deed)
+        requires released { IsMade (length self.old.tables.makings) (finals deed.now) }
+        requires room { length self.old.tables.makings + 1 < 2 ^ 32 }
+        requires space { HasRowFor self.old deed.now }
+        ensures { self.new.tables
+            ≡ objects_after self.old.tables (record { lane = lane; deed = deed.now }) }
     {
         match deed {
             Deed::Made {
@@ -69,41 +87,41 @@ impl Objects {
                 ..
             } => self.make(making_of(*object, *apartment, class)),
             Deed::Final { object } => self.release(*object),
-            _ => Ok(()),
+            _ => {}
         }
     }
 
     /// Makes one more, if one is made.
-    fn make(&mut self, making: Option<Making>) -> Result<(), Memory>
-        requires { length self.old.makings + 1 < 2 ^ 32 }
-        ensures ok { OnOk result (self.new
-            ≡ record self.old { makings = grown (is_some making) making self.old.makings }) }
-        ensures err { OnErr result (self.new ≡ self.old) }
+    fn make(&mut self, making: Option<Making>)
+        requires number { length self.old.tables.makings + 1 < 2 ^ 32 }
+        requires space { length self.old.tables.makings < self.old.made }
+        ensures { self.new.tables ≡ record self.old.tables {
+          makings = grown (is_some making) making self.old.tables.makings;
+        } }
     {
         let Some(making) = making else {
-            return Ok(());
+            return;
         };
-        self.rows.push(Row {
+        self.rows.push_reserved(Row {
             making,
             released: false,
-        })?;
-        Ok(())
+        });
     }
 
     /// Releases an object.
-    fn release(&mut self, object: u32) -> Result<(), Memory>
-        requires { IsMade (length self.old.makings) (Some object) }
-        ensures ok { OnOk result (self.new ≡ record self.old { finaled = self.old.finaled ++ object ∷ [] }) }
-        ensures err { OnErr result (self.new ≡ self.old) }
+    fn release(&mut self, object: u32)
+        requires made { IsMade (length self.old.tables.makings) (Some object) }
+        requires space { length self.old.tables.finaled < self.old.gone }
+        ensures { self.new.tables
+            ≡ record self.old.tables { finaled = self.old.tables.finaled ++ object ∷ [] } }
     {
-        self.finaled.push(object)?;
+        self.finaled.push_reserved(object);
         self.rows[object as usize - 1].released = true;
-        Ok(())
     }
 
     /// How many were made.
     pub fn len(&self) -> u32
-        ensures { result ≡ length self.now.makings }
+        ensures { result ≡ length self.now.tables.makings }
     {
         self.rows.len() as u32
     }
@@ -111,7 +129,7 @@ impl Objects {
     /// The making of an object.
     #[tactic(auto, using(crate::proofs::Kept::making_of_row))]
     pub fn making(&self, object: u32) -> Option<Making>
-        ensures { result ≡ making_at self.now object }
+        ensures { result ≡ making_at self.now.tables object }
     {
         match row_at(&self.rows, object) {
             Some(row) => Some(row.making),
@@ -122,7 +140,7 @@ impl Objects {
     /// The apartment that owns an object, the neutral one for an agile object, and 0 for one that was not
     /// made.
     pub fn owner(&self, object: u32) -> u32
-        ensures { result ≡ named_at self.now object }
+        ensures { result ≡ named_at self.now.tables object }
     {
         match self.making(object) {
             Some(making) => making.apartment,
@@ -132,7 +150,7 @@ impl Objects {
 
     /// The number of an object's class, and 0 for one that was not made.
     pub fn class(&self, object: u32) -> u32
-        ensures { result ≡ class_at self.now object }
+        ensures { result ≡ class_at self.now.tables object }
     {
         match self.making(object) {
             Some(making) => making.class,
@@ -143,7 +161,7 @@ impl Objects {
     /// Whether an object was released.
     #[tactic(auto, using(crate::proofs::Kept::released_of_row))]
     pub fn is_released(&self, object: u32) -> bool
-        ensures { result ≡ is_member object self.now.finaled }
+        ensures { result ≡ is_member object self.now.tables.finaled }
     {
         match row_at(&self.rows, object) {
             Some(row) => row.released,

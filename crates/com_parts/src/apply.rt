@@ -1,22 +1,27 @@
 //! What an entry makes of the parts.
-ghost use Rattle.std.specs.Prelude.{◌≡◌, ◌⊎◌, ◌+◌, ◌<◌, ◌^◌, length, is_none, IsTrue, OnOk, OnErr};
+ghost use Rattle.std.specs.Prelude.{◌≡◌, ◌+◌, ◌<◌, ◌^◌, length, is_none, IsTrue, IfOk, OnOk, OnErr};
+ghost use Rattle.com_calls.specs.Kept.{with_room};
 ghost use Rattle.com_lanes.specs.Changes.{NamesStas, HasRoom};
+ghost use Rattle.com_lanes.specs.Rooms.{HasSpace};
 ghost use Rattle.com_model.specs.Objects.{finals};
 ghost use Rattle.com_model.specs.Openers.{running_call};
 ghost use Rattle.com_objects.specs.Kept.{IsMade};
+ghost use Rattle.com_objects.specs.Rooms.{HasRowFor};
 ghost use Rattle.com_scene.specs.Actors.{acting_of};
 ghost use Rattle.com_state.specs.Parts.{lanes_after, objects_after, calls_after, named_at, openers_at};
 ghost use Rattle.com_state.specs.SceneParts.{rows_after};
-ghost use Rattle.com_parts.specs.Fits.{Fits, IsWriting};
+ghost use Rattle.com_parts.specs.Begins.{IsBegun};
 ghost use Rattle.com_parts.specs.Changes.{FitsFrame, IsSame, issuing_of, moment_at};
+ghost use Rattle.com_parts.specs.Fits.{Fits, HasIssued, HasPlace, IsWriting};
 
-use crate::change::Change;
+use crate::change::{Begun, Change};
 use crate::fits::{fits, is_writing};
-use crate::issue::{Now, change_calls, given_to, make_room, target_of};
+use crate::issue::{change_calls, has_issued, left_value, make_room, target_of};
 use crate::owners::owners_for;
 use crate::parts::Parts;
 use com_base::Memory;
 use com_body::Outcome;
+use com_calls::Calls;
 use com_lanes::Lanes;
 use com_model::Deed;
 use com_objects::Objects;
@@ -26,30 +31,45 @@ const MOST_ENTRIES: u32 = 0x1000_0000;
 
 /// The answer where an entry is none that the rules give: one that names a call, an object or an apartment
 /// that there is not, or a number beyond its range. That no core asks for one is not proved here.
-fn unproved() -> Result<(), Memory>
-    ensures { OnOk result ⊥ }
-{
-    Err(Memory)
+fn unproved() -> Memory {
+    Memory
 }
 
-/// The lanes and the objects after an entry: no entry changes both. The only error is want of memory, and
-/// then nothing has changed.
-fn change_rows(
+/// Makes room for all rows that an entry brings, where a call that it issues goes to an object of this
+/// apartment. The only error is want of memory.
+fn reserve(
     lanes: &mut Lanes,
     objects: &mut Objects,
+    calls: &mut Calls,
     lane: u32,
     deed: &Deed,
+    apartment: u32,
 ) -> Result<(), Memory>
-    requires stas { NamesStas lanes.old deed.now }
-    requires counts { HasRoom lanes.old }
-    requires released { IsMade (length objects.old.makings) (finals deed.now) }
-    requires room { length objects.old.makings + 1 < 2 ^ 32 }
-    ensures lanes { OnOk result (lanes.new
-        ≡ lanes_after lanes.old (record { lane = lane; deed = deed.now })) }
-    ensures objects { OnOk result (objects.new
-        ≡ objects_after objects.old (record { lane = lane; deed = deed.now })) }
-    ensures kept { OnErr result (lanes.new ≡ lanes.old) }
-    ensures err { OnErr result (objects.new ≡ objects.old) }
+    requires { length calls.old.tables.issues + 1 < 2 ^ 32 }
+    ensures lanes { lanes.new.tables ≡ lanes.old.tables }
+    ensures objects { objects.new.tables ≡ objects.old.tables }
+    ensures calls { calls.new ≡ with_room calls.old calls.new.room calls.new.inboxes }
+    ensures space { OnOk result (HasSpace lanes.new lane deed.now) }
+    ensures row { OnOk result (HasRowFor objects.new deed.now) }
+    ensures place { OnOk result (HasPlace deed.now apartment calls.new) }
+{
+    lanes.reserve(lane, deed)?;
+    objects.reserve(deed)?;
+    make_room(calls, deed, apartment)
+}
+
+/// The lanes and the objects after an entry: no entry changes both.
+fn change_rows(lanes: &mut Lanes, objects: &mut Objects, lane: u32, deed: &Deed)
+    requires stas { NamesStas lanes.old.tables deed.now }
+    requires counts { HasRoom lanes.old.tables }
+    requires space { HasSpace lanes.old lane deed.now }
+    requires released { IsMade (length objects.old.tables.makings) (finals deed.now) }
+    requires room { length objects.old.tables.makings + 1 < 2 ^ 32 }
+    requires row { HasRowFor objects.old deed.now }
+    ensures lanes { lanes.new.tables
+        ≡ lanes_after lanes.old.tables (record { lane = lane; deed = deed.now }) }
+    ensures objects { objects.new.tables
+        ≡ objects_after objects.old.tables (record { lane = lane; deed = deed.now }) }
 {
     match deed {
         Deed::Made { .. } => objects.apply(lane, deed),
@@ -60,22 +80,27 @@ fn change_rows(
 
 /// Whether a lane runs no body.
 fn is_outermost(lanes: &Lanes, lane: u32) -> bool
-    ensures { result ≡ is_none (running_call (openers_at lanes.now lane)) }
+    ensures { result ≡ is_none (running_call (openers_at lanes.now.tables lane)) }
 {
     lanes.running_call(lane).is_none()
 }
 
+#[tactic(auto, using(crate::proofs::Starts::whole_kept, crate::proofs::Counts::has_room))]
 impl Parts {
     // Whether the parts take an entry.
     fn takes(&self, change: &Change<'_>, outcome: &Option<Outcome>) -> bool
         ensures fits { IsTrue result → Fits self.now.lanes self.now.objects self.now.calls
             change.now.lane change.now.deed.now change.now.clock }
         ensures writes { IsTrue result → IsWriting outcome.now }
+        ensures issued { IsTrue result → HasIssued change.now.deed.now change.now.issued }
         ensures few { IsTrue result → self.now.entries < 2 ^ 28 }
         ensures homes { length self.now.calls.apartments ≡ length self.now.calls.tables.issues }
     {
         let _calls = self.calls.len();
         if self.entries >= MOST_ENTRIES || !is_writing(outcome) {
+            return false;
+        }
+        if !has_issued(change.deed, &change.issued) {
             return false;
         }
         fits(
@@ -88,10 +113,85 @@ impl Parts {
         )
     }
 
-    /// Makes of the parts what an entry makes of them. `outcome` has the step of whoever makes the entry by
-    /// one; what is left of it has no use any more. The only error is want of memory; then the lanes, the
-    /// objects and the calls are as they were, and the scene is so or is that after the entry: where a lane
-    /// or an object wants a row when the scene has changed.
+    /// Begins a change by an entry: takes all memory that the entry needs, and changes the scene, which is
+    /// the last that can fail. `outcome` has the step of whoever makes the entry by one; what is left of it
+    /// has no use any more. The only error is want of memory; then nothing has changed, and the step is as it
+    /// was.
+    pub fn begin(
+        &mut self,
+        change: Change<'_>,
+        outcome: &mut Option<Outcome>,
+    ) -> Result<Begun, Memory>
+        requires frame { FitsFrame (acting_of change.acting) outcome.old }
+        ensures scene { OnOk result (self.new.scene ≡ rows_after (named_at self.old.objects)
+            (acting_of change.entry.acting) outcome.old (acting_of change.entry.after)
+            (record { lane = change.entry.lane; deed = change.entry.deed.now }) self.old.scene) }
+        ensures same { IsSame self.old self.new }
+        ensures begun { IfOk result (λ begun.
+            IsBegun self.new change.entry.lane change.entry.deed.now begun) }
+        ensures issued { IfOk result (λ begun. begun.issued ≡ change.entry.issued) }
+        ensures filtered { IfOk result (λ begun. begun.filtered ≡ change.entry.filtered) }
+        ensures clock { IfOk result (λ begun. begun.clock ≡ change.entry.clock) }
+        ensures err { OnErr result (self.new.scene ≡ self.old.scene) }
+        ensures whole { OnErr result (outcome.new ≡ outcome.old) }
+    {
+        if !self.takes(&change, outcome) {
+            return Err(unproved());
+        }
+        let Change {
+            lane,
+            deed,
+            acting,
+            after,
+            filtered,
+            clock,
+            issued,
+        } = change;
+        let owners = owners_for(self.alloc, &self.objects, deed)?;
+        let value = left_value(deed)?;
+        let begun = Begun {
+            issued,
+            apartment: target_of(&self.objects, deed),
+            value,
+            outermost: is_outermost(&self.lanes, lane),
+            filtered,
+            clock,
+        };
+        reserve(
+            &mut self.lanes,
+            &mut self.objects,
+            &mut self.calls,
+            lane,
+            deed,
+            begun.apartment,
+        )?;
+        self.scene
+            .apply(acting, outcome, after, lane, deed, owners.as_slice())?;
+        Ok(begun)
+    }
+
+    /// Finishes a change that was begun by the entry: the lanes, the objects and the calls after it. It takes
+    /// no memory, and cannot fail.
+    pub fn finish(&mut self, lane: u32, deed: &Deed, begun: Begun)
+        requires { IsBegun self.old lane deed.now begun }
+        ensures lanes { self.new.lanes
+            ≡ lanes_after self.old.lanes (record { lane = lane; deed = deed.now }) }
+        ensures objects { self.new.objects
+            ≡ objects_after self.old.objects (record { lane = lane; deed = deed.now }) }
+        ensures calls { self.new.calls.tables ≡ calls_after self.old.objects
+            (moment_at self.old.lanes lane begun.filtered begun.clock) (issuing_of begun.issued)
+            self.old.calls.tables (record { lane = lane; deed = deed.now }) }
+        ensures scene { self.new.scene ≡ self.old.scene }
+        ensures entries { self.new.entries ≡ self.old.entries + 1 }
+    {
+        change_rows(&mut self.lanes, &mut self.objects, lane, deed);
+        change_calls(&mut self.calls, lane, deed, begun);
+        self.entries += 1;
+    }
+
+    /// Makes of the parts what an entry makes of them: begins the change and finishes it. `outcome` has the
+    /// step of whoever makes the entry by one; what is left of it has no use any more. The only error is want
+    /// of memory; then nothing has changed, and the step is as it was.
     pub fn apply(&mut self, change: Change<'_>, outcome: &mut Option<Outcome>) -> Result<(), Memory>
         requires frame { FitsFrame (acting_of change.acting) outcome.old }
         ensures lanes { OnOk result (self.new.lanes ≡ lanes_after self.old.lanes
@@ -107,36 +207,13 @@ impl Parts {
             (record { lane = change.entry.lane; deed = change.entry.deed.now }) self.old.scene) }
         ensures entries { OnOk result (self.new.entries ≡ self.old.entries + 1) }
         ensures err { OnErr result (IsSame self.old self.new) }
-        ensures half { OnErr result ((self.new.scene ≡ self.old.scene)
-            ⊎ (self.new.scene ≡ rows_after (named_at self.old.objects)
-            (acting_of change.entry.acting) outcome.old (acting_of change.entry.after)
-            (record { lane = change.entry.lane; deed = change.entry.deed.now }) self.old.scene)) }
+        ensures same { OnErr result (self.new.scene ≡ self.old.scene) }
+        ensures whole { OnErr result (outcome.new ≡ outcome.old) }
     {
-        if !self.takes(&change, outcome) {
-            return unproved();
-        }
-        let Change {
-            lane,
-            deed,
-            acting,
-            after,
-            filtered,
-            clock,
-            issued,
-        } = change;
-        let now = Now {
-            outermost: is_outermost(&self.lanes, lane),
-            filtered,
-            clock,
-        };
-        let owners = owners_for(self.alloc, &self.objects, deed)?;
-        let given = given_to(deed, target_of(&self.objects, deed), issued)?;
-        make_room(&mut self.calls, deed, given.apartment)?;
-        self.scene
-            .apply(acting, outcome, after, lane, deed, owners.as_slice())?;
-        change_rows(&mut self.lanes, &mut self.objects, lane, deed)?;
-        change_calls(&mut self.calls, lane, deed, given, now);
-        self.entries += 1;
+        let lane = change.lane;
+        let deed = change.deed;
+        let begun = self.begin(change, outcome)?;
+        self.finish(lane, deed, begun);
         Ok(())
     }
 }

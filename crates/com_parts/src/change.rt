@@ -32,3 +32,20 @@ pub struct Change<'a> {
     /// What the call has that the entry issues, where it is an Out.
     pub issued: Option<Sent>,
 }
+
+/// What a change that was begun has for its end, beside the entry.
+#[derive(Debug, Drop)]
+pub struct Begun {
+    /// What the call has that the entry issues, where it is an Out.
+    pub issued: Option<Sent>,
+    /// The apartment of that call's target, and 0 where the entry issues none.
+    pub apartment: u32,
+    /// The value of a Leave.
+    pub value: Option<Value>,
+    /// Whether the lane ran no body before the entry.
+    pub outermost: bool,
+    /// Whether the caller's lane has a message filter, as the change says.
+    pub filtered: bool,
+    /// The clock before the entry, in milliseconds.
+    pub clock: u64,
+}

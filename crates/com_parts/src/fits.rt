@@ -24,8 +24,8 @@ pub(crate) fn fits(
     deed: &Deed,
     clock: u64,
 ) -> bool
-    requires { length lanes.now.stas + 4 ≤ 2 ^ 32 }
-    ensures { IsTrue result → Fits lanes.now objects.now calls.now lane deed.now clock }
+    requires { length lanes.now.tables.stas + 4 ≤ 2 ^ 32 }
+    ensures { IsTrue result → Fits lanes.now.tables objects.now.tables calls.now lane deed.now clock }
 {
     if !names_stas(lanes, deed) || !takes_back(lanes, lane, deed) {
         return false;
@@ -42,8 +42,8 @@ pub(crate) fn fits(
 // Whether the apartment that an entry makes is the next one, and the one that it ends was made or is the
 // host's.
 fn names_stas(lanes: &Lanes, deed: &Deed) -> bool
-    requires { length lanes.now.stas + 4 ≤ 2 ^ 32 }
-    ensures { IsTrue result → NamesStas lanes.now deed.now }
+    requires { length lanes.now.tables.stas + 4 ≤ 2 ^ 32 }
+    ensures { IsTrue result → NamesStas lanes.now.tables deed.now }
 {
     match deed {
         Deed::Init {
@@ -61,7 +61,7 @@ fn names_stas(lanes: &Lanes, deed: &Deed) -> bool
 
 // Whether an Uninit leaves no more initialisations than there are.
 fn takes_back(lanes: &Lanes, lane: u32, deed: &Deed) -> bool
-    ensures { IsTrue result → TakesBack lanes.now lane deed.now }
+    ensures { IsTrue result → TakesBack lanes.now.tables lane deed.now }
 {
     match deed {
         Deed::Uninit { count, .. } => *count <= lanes.count(lane),
@@ -71,7 +71,7 @@ fn takes_back(lanes: &Lanes, lane: u32, deed: &Deed) -> bool
 
 // Whether a Final names an object that was made.
 fn names_made(objects: &Objects, deed: &Deed) -> bool
-    ensures { IsTrue result → IsMade (length objects.now.makings) (finals deed.now) }
+    ensures { IsTrue result → IsMade (length objects.now.tables.makings) (finals deed.now) }
 {
     match deed {
         Deed::Final { object } => 1 <= *object && *object <= objects.len(),
@@ -93,7 +93,7 @@ fn names_call(calls: &Calls, deed: &Deed) -> bool
 
 // Whether an Out is on an object that was made, or on none.
 fn names_target(objects: &Objects, deed: &Deed) -> bool
-    ensures { IsTrue result → IsAimed (length objects.now.makings) deed.now }
+    ensures { IsTrue result → IsAimed (length objects.now.tables.makings) deed.now }
 {
     match deed {
         Deed::Out { object, .. } => object.unwrap_or(0) <= objects.len(),

@@ -1,8 +1,8 @@
 //! The parts of a core, changed together by one entry: the lanes, the objects, the calls with their inboxes,
 //! and what frames, cells and buffers hold.
 //!
-//! Each part becomes what the state by parts says of the entry. Whatever may want memory comes before what
-//! cannot.
+//! Each part becomes what the state by parts says of the entry. A change is begun, which takes all memory and
+//! changes the scene, and then it is finished, which cannot fail.
 #![tactic(auto)]
 
 mod apply;
@@ -12,5 +12,5 @@ mod issue;
 mod owners;
 mod parts;
 
-pub use change::{Change, Sent};
+pub use change::{Begun, Change, Sent};
 pub use parts::Parts;

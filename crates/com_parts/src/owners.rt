@@ -12,7 +12,8 @@ use std::alloc::Global;
 /// The apartment of each object, from 0, where an entry ends a single-threaded apartment; else none. The only
 /// error is want of memory.
 pub(crate) fn owners_for(alloc: Global, objects: &Objects, deed: &Deed) -> Result<Vec<u32>, Memory>
-    ensures { IfOk result (λ owners. NamesOwners (named_at objects.now) (ends_sta deed.now) owners.items) }
+    ensures { IfOk result (λ owners.
+        NamesOwners (named_at objects.now.tables) (ends_sta deed.now) owners.items) }
 {
     match deed {
         Deed::Uninit {
@@ -25,7 +26,8 @@ pub(crate) fn owners_for(alloc: Global, objects: &Objects, deed: &Deed) -> Resul
 
 #[tactic(auto, using(crate::proofs::Owned::owned_first, crate::proofs::Owned::owned_more, crate::proofs::Owned::owned_all))]
 fn owners(alloc: Global, objects: &Objects) -> Result<Vec<u32>, Memory>
-    ensures { IfOk result (λ owners. (o : ℕ) → named_at objects.now o ≡ slice_index_or owners.items o 0) }
+    ensures { IfOk result (λ owners. (o : ℕ) →
+        named_at objects.now.tables o ≡ slice_index_or owners.items o 0) }
 {
     let count = objects.len();
     let mut owners = Vec::new(alloc);

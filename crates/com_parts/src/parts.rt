@@ -26,20 +26,21 @@ pub struct Parts {
 }
 
 impl Model for Parts {
-    ghost use Rattle.com_parts.specs.Tables.{PartTables};
+    ghost use Rattle.com_parts.specs.Tables.{PartTables, rooms_of};
     ghost use Rattle.com_parts.specs.Whole.{IsWhole};
 
     ghost Value = { PartTables };
 
     ghost view = { λ p. record {
-      lanes = p.lanes;
-      objects = p.objects;
+      lanes = p.lanes.tables;
+      objects = p.objects.tables;
       calls = p.calls;
       scene = p.scene;
       entries = p.entries;
+      rooms = rooms_of p.lanes p.objects;
     } };
 
-    ghost invariant = { λ p. IsWhole p.lanes p.objects p.calls p.entries };
+    ghost invariant = { λ p. IsWhole p.lanes.tables p.objects.tables p.calls p.entries };
 }
 
 impl Parts {
@@ -68,14 +69,14 @@ impl Parts {
 
     /// The lanes.
     pub fn lanes(&self) -> &Lanes
-        ensures { result.now ≡ self.now.lanes }
+        ensures { result.now.tables ≡ self.now.lanes }
     {
         &self.lanes
     }
 
     /// The objects.
     pub fn objects(&self) -> &Objects
-        ensures { result.now ≡ self.now.objects }
+        ensures { result.now.tables ≡ self.now.objects }
     {
         &self.objects
     }

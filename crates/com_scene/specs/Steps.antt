@@ -58,6 +58,10 @@ more_writes (action.Register to held) d = ToRegister to (value.Int (pos (cookie_
 more_writes (action.Get slot g) d = ToSlot slot (taken_in d) ∷ []
 more_writes _ d = []
 
+abbrev pub raw_writes : Action → List Writing
+raw_writes (action.Raw b bytes) = ToBuffer b bytes ∷ []
+raw_writes _ = []
+
 abbrev pub frame_with : FrameView → Writing → FrameView
 frame_with f (ToRegister r v) = with_register f r v
 frame_with f (ToSlot k held) = with_slot f k held

@@ -36,6 +36,7 @@ impl Tables {
         ensures ok { OnOk result (seen self.new
             ≡ acted acting outcome.old deed.now (with_call (seen self.old))) }
         ensures err { OnErr result (seen self.new ≡ seen self.old) }
+        ensures whole { OnErr result (outcome.new ≡ outcome.old) }
     {
         self.add_call()?;
         match self.act(acting, outcome, deed) {
@@ -60,6 +61,7 @@ impl Tables {
         ensures ok { OnOk result (seen self.new
             ≡ acted acting outcome.old deed.now (with_object (seen self.old))) }
         ensures err { OnErr result (seen self.new ≡ seen self.old) }
+        ensures whole { OnErr result (outcome.new ≡ outcome.old) }
     {
         self.add_object()?;
         match self.act(acting, outcome, deed) {
@@ -87,6 +89,7 @@ impl Tables {
         ensures ok { OnOk result (seen self.new
             ≡ with_body (acted acting outcome.old deed.now (seen self.old)) call (entered values.now)) }
         ensures err { OnErr result (seen self.new ≡ seen self.old) }
+        ensures whole { OnErr result (outcome.new ≡ outcome.old) }
     {
         let alloc = *self.calls.allocator();
         let frame = Frame::enter(alloc, values)?;
@@ -110,6 +113,7 @@ impl Tables {
         ensures ok { OnOk result (seen self.new
             ≡ with_body (acted acting outcome.old deed.now (seen self.old)) call (entered [])) }
         ensures err { OnErr result (seen self.new ≡ seen self.old) }
+        ensures whole { OnErr result (outcome.new ≡ outcome.old) }
     {
         self.act(acting, outcome, deed)?;
         self.leave(call);
@@ -135,6 +139,7 @@ impl Tables {
             (to_answer hr ∷ to_destination
             (destination_at (acted acting outcome.old deed.now (seen self.old)) call) value.now)) }
         ensures err { OnErr result (seen self.new ≡ seen self.old) }
+        ensures whole { OnErr result (outcome.new ≡ outcome.old) }
     {
         let value = copied(value)?;
         self.seat(after)?;
@@ -159,6 +164,7 @@ impl Tables {
             ≡ row_written (acting_of after) (acted acting outcome.old deed.now (seen self.old))
             (to_answer S_OK)) }
         ensures err { OnErr result (seen self.new ≡ seen self.old) }
+        ensures whole { OnErr result (outcome.new ≡ outcome.old) }
     {
         self.seat(after)?;
         self.act(acting, outcome, deed)?;
@@ -184,6 +190,7 @@ impl Tables {
             (rows_arrived (acting_of acting) lane (of_deed.Uninit home 0)
             (acted acting outcome.old deed.now (seen self.old)))) }
         ensures err { OnErr result (seen self.new ≡ seen self.old) }
+        ensures whole { OnErr result (outcome.new ≡ outcome.old) }
     {
         self.act(acting, outcome, deed)?;
         self.clear_script(lane);
@@ -220,6 +227,7 @@ impl Tables {
             ≡ with_cells (acted acting outcome.old deed.now (seen self.old)) object
             (without_links (cells_at (acted acting outcome.old deed.now (seen self.old)) object))) }
         ensures err { OnErr result (seen self.new ≡ seen self.old) }
+        ensures whole { OnErr result (outcome.new ≡ outcome.old) }
     {
         self.act(acting, outcome, deed)?;
         self.clear_links(object);
@@ -228,7 +236,7 @@ impl Tables {
 
     /// The tables after an entry of a lane. The list has the apartment of each object, from 0; only the end
     /// of an STA reads it. What is left of the step has no use any more. The only error is want of memory,
-    /// and then the tables have not changed.
+    /// and then neither the tables nor the step have changed.
     pub fn apply(
         &mut self,
         acting: Actor,
@@ -245,6 +253,7 @@ impl Tables {
             ≡ rows_after (λ o. slice_index_or owners.now o 0) (acting_of acting) outcome.old (acting_of after)
             (record { lane = lane; deed = deed.now }) (seen self.old)) }
         ensures err { OnErr result (seen self.new ≡ seen self.old) }
+        ensures whole { OnErr result (outcome.new ≡ outcome.old) }
     {
         match deed {
             Deed::Out { .. } => self.issue(acting, outcome, deed),

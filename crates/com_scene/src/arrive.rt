@@ -1,5 +1,5 @@
 //! What an entry changes beside the step of whoever acts.
-ghost use Rattle.std.specs.Prelude.{◌≡◌, if◌then◌else◌, OnOk, IfOk, Some, None, ◌∷◌, fold, replicate};
+ghost use Rattle.std.specs.Prelude.{◌≡◌, ℕ, if◌then◌else◌, OnOk, IfOk, Some, None, ◌∷◌, fold, replicate};
 ghost use Rattle.std.specs.Prelude.{slice_index_or};
 ghost use Rattle.com_body.specs.Bodies.{IsDestination};
 ghost use Rattle.com_model.specs.Frames.{to_answer, to_destination};
@@ -65,6 +65,7 @@ impl Tables {
     pub fn seat(&mut self, actor: Actor) -> Result<(), Memory>
         ensures same { seen self.new ≡ seen self.old }
         ensures seated { OnOk result (IsSeatedActor self.new.calls.items actor) }
+        ensures kept { (c : ℕ) → IsSeated self.old.calls.items c → IsSeated self.new.calls.items c }
     {
         let Actor::Body { call, .. } = actor else {
             return Ok(());

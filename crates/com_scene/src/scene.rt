@@ -83,8 +83,8 @@ impl Scene {
     /// The scene after an entry of a lane. `acting` and `outcome` are who makes the entry and its step, and
     /// `after` who acts in the lane afterwards. `owners` has the apartment that names the owner of each
     /// object, from 0, where the entry ends an STA; else it may be empty. The step is used where it lies, and
-    /// what is left of it has no use any more. The only error is want of memory, and then the scene has not
-    /// changed.
+    /// what is left of it has no use any more. The only error is want of memory, and then neither the scene
+    /// nor the step has changed.
     pub fn apply(
         &mut self,
         acting: Actor,
@@ -100,6 +100,7 @@ impl Scene {
             OnOk result (self.new ≡ rows_after named (acting_of acting) outcome.old (acting_of after)
             (record { lane = lane; deed = deed.now }) self.old) }
         ensures err { OnErr result (self.new ≡ self.old) }
+        ensures whole { OnErr result (outcome.new ≡ outcome.old) }
     {
         self.tables
             .apply(acting, outcome, after, lane, deed, owners)

@@ -105,22 +105,17 @@ pub struct CallRow {
 }
 
 impl CallRow {
-    /// Gives the body of the call a frame, and takes the one that it had, where it had one. The only error is
-    /// want of memory, and then nothing has changed.
-    fn place(&mut self, alloc: Global, frame: &mut Frame) -> Result<(), Memory>
-        ensures frame { OnOk result (self.new.frame ≡ Some frame.old) }
+    /// Gives the body of the call another frame, and takes the one that it had.
+    fn place(&mut self, frame: &mut Frame)
+        requires seated { IsSome self.old.frame }
+        ensures frame { self.new.frame ≡ Some frame.old }
         ensures destination { self.new.destination ≡ self.old.destination }
-        ensures seated { IsSome self.old.frame → IsSome self.new.frame }
-        ensures err { OnErr result (self.new ≡ self.old) }
+        ensures seated { IsSome self.new.frame }
     {
-        if let Some(seat) = &mut self.frame {
-            seat.swap(frame);
-            return Ok(());
-        }
-        let mut seat = Seat::new(alloc, Frame::enter(alloc, &[])?)?;
+        let Some(seat) = &mut self.frame else {
+            return;
+        };
         seat.swap(frame);
-        self.frame = Some(seat);
-        Ok(())
     }
 
     /// The body of the call ends, and has no frame.
@@ -144,6 +139,7 @@ impl CallRow {
         ensures frame { seat_of self.new.frame ≡ seat_of self.old.frame }
         ensures destination { self.new.destination ≡ self.old.destination }
         ensures seated { OnOk result (IsSome self.new.frame) }
+        ensures kept { IsSome self.old.frame → IsSome self.new.frame }
     {
         if self.frame.is_some() {
             return Ok(());
@@ -187,19 +183,16 @@ pub struct Tables {
 
 #[tactic(auto, using(crate::proofs::RowLemmas::set_beyond, crate::proofs::RowLemmas::map_set, crate::proofs::RowLemmas::map_kept, crate::proofs::RowLemmas::map_length, crate::proofs::RowLemmas::seated_set))]
 impl Tables {
-    /// Gives the body of a call a frame, and takes the one that it had. The only error is want of memory, and
-    /// then nothing has changed.
-    pub fn place(&mut self, call: u32, frame: &mut Frame) -> Result<(), Memory>
-        ensures ok { OnOk result (seen self.new ≡ with_body (seen self.old) call frame.old) }
-        ensures err { OnErr result (seen self.new ≡ seen self.old) }
+    /// Gives the body of a call another frame, and takes the one that it had.
+    pub fn place(&mut self, call: u32, frame: &mut Frame)
+        requires seat { IsSeated self.old.calls.items call }
+        ensures tables { seen self.new ≡ with_body (seen self.old) call frame.old }
         ensures seated { (c : ℕ) → IsSeated self.old.calls.items c → IsSeated self.new.calls.items c }
     {
-        let alloc = *self.calls.allocator();
-        if call as usize >= self.calls.len() {
-            return Ok(());
+        if (call as usize) < self.calls.len() {
+            let row = &mut self.calls[call as usize];
+            row.place(frame);
         }
-        let row = &mut self.calls[call as usize];
-        row.place(alloc, frame)
     }
 
     /// Puts another frame in place of a script's, and that one in place of the other.

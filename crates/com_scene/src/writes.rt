@@ -1,15 +1,16 @@
 //! What an entry writes for whoever acts.
-ghost use Rattle.std.specs.Prelude.{◌≡◌, ◌<◌, ◌^◌, Some, IfOk, fold};
+ghost use Rattle.std.specs.Prelude.{◌≡◌, ◌<◌, ◌^◌, Some, IfOk, OnErr, fold};
 ghost use Rattle.com_body.specs.Bodies.{IsPlace};
 ghost use Rattle.com_model.specs.Frames.{taken_in, reference, cookie_in, marshalled_in, writes, to_place};
 ghost use Rattle.com_scene.specs.Ranges.{FitsDeed, WritesInRange, IsInRange};
-ghost use Rattle.com_scene.specs.Steps.{IsMoreInRange, writing_of, listed, more_writes, writes_of};
-ghost use Rattle.com_scene.specs.Steps.{frame_with};
+ghost use Rattle.com_scene.specs.Steps.{IsMoreInRange, writing_of, listed, more_writes, raw_writes};
+ghost use Rattle.com_scene.specs.Steps.{frame_with, writes_of};
 ghost use Rattle.com_scene.specs.Steps.{cells_with, bytes_of, wanted_of};
 
 use com_base::{ByteList, HResult, Memory, RefValue, Value};
 use com_body::{Action, Asked, Cells, Destination, Frame, Place};
 use com_model::Deed;
+use std::mem;
 
 /// One write: in a register or a slot of a frame, in a link of an object, or in a packet buffer.
 #[derive(Drop)]
@@ -135,42 +136,57 @@ fn marshalled(buffer: u8, deed: &Deed) -> Result<Option<Write>, Memory>
     }
 }
 
+// What a `raw` puts in a buffer. Its bytes are moved out of the action.
+fn raw_write(action: &mut Action) -> Option<Write>
+    requires { WritesInRange action.old }
+    ensures writes { listed None result ≡ raw_writes action.old }
+    ensures in_range { IsMoreInRange result }
+{
+    match mem::replace(action, Action::Uninit) {
+        Action::Raw { buffer, bytes } => Some(Write::Buffer(buffer, bytes)),
+        _ => None,
+    }
+}
+
 // What the destination of an action takes, by the entry that does the action. The only error is want of
-// memory.
-fn taken_write(action: Action, deed: &Deed) -> Result<Option<Write>, Memory>
+// memory, and then the action is as it was.
+fn taken_write(action: &mut Action, deed: &Deed) -> Result<Option<Write>, Memory>
     requires deed { FitsDeed deed.now }
-    requires action { WritesInRange action }
-    ensures writes { IfOk result (λ more. listed None more ≡ more_writes action deed.now) }
+    requires action { WritesInRange action.old }
+    ensures writes { IfOk result (λ more. listed None more ≡ more_writes action.old deed.now) }
     ensures in_range { IfOk result (λ more. IsMoreInRange more) }
+    ensures err { OnErr result (action.new ≡ action.old) }
 {
     Ok(match action {
-        Action::Create { slot, .. } => Some(Write::Slot(slot, taken(deed))),
-        Action::Query { to, .. } => Some(Write::Slot(to, taken(deed))),
-        Action::Copy { to, held } => Some(at_place(to, held)),
-        Action::Release { place, .. } => Some(at_place(place, None)),
-        Action::Marshal { buffer, .. } => return marshalled(buffer, deed),
-        Action::Unmarshal { slot, .. } => Some(Write::Slot(slot, taken(deed))),
-        Action::Raw { buffer, bytes } => Some(Write::Buffer(buffer, bytes)),
-        Action::Register { to, .. } => Some(Write::Register(to, Value::Int(cookie(deed) as i64))),
-        Action::Get { slot, .. } => Some(Write::Slot(slot, taken(deed))),
+        Action::Create { slot, .. } => Some(Write::Slot(*slot, taken(deed))),
+        Action::Query { to, .. } => Some(Write::Slot(*to, taken(deed))),
+        Action::Copy { to, held } => Some(at_place(*to, *held)),
+        Action::Release { place, .. } => Some(at_place(*place, None)),
+        Action::Marshal { buffer, .. } => return marshalled(*buffer, deed),
+        Action::Unmarshal { slot, .. } => Some(Write::Slot(*slot, taken(deed))),
+        Action::Raw { .. } => raw_write(action),
+        Action::Register { to, .. } => Some(Write::Register(*to, Value::Int(cookie(deed) as i64))),
+        Action::Get { slot, .. } => Some(Write::Slot(*slot, taken(deed))),
         _ => None,
     })
 }
 
 impl Writes {
-    /// What the entry of an action writes for whoever acts. The only error is want of memory.
-    pub fn of(action: Action, deed: &Deed) -> Result<Writes, Memory>
+    /// What the entry of an action writes for whoever acts. What is left of the action has no use any more.
+    /// The only error is want of memory, and then the action is as it was.
+    pub fn of(action: &mut Action, deed: &Deed) -> Result<Writes, Memory>
         requires deed { FitsDeed deed.now }
-        requires action { WritesInRange action }
-        ensures writes { IfOk result (λ made. writes_of made ≡ writes action deed.now) }
+        requires action { WritesInRange action.old }
+        ensures writes { IfOk result (λ made. writes_of made ≡ writes action.old deed.now) }
         ensures in_range { IfOk result (λ made. IsMoreInRange made.more) }
+        ensures err { OnErr result (action.new ≡ action.old) }
     {
         match action {
             Action::Call { .. } | Action::Leave { .. } | Action::Pump { .. } => Ok(Writes {
                 answer: None,
                 more: None,
             }),
-            action => Ok(Writes {
+            _ => Ok(Writes {
                 answer: Some(deed.answer()),
                 more: taken_write(action, deed)?,
             }),

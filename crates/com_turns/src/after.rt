@@ -21,8 +21,8 @@ use com_view::{Sort, View};
 // The opener below the innermost one of a lane.
 #[tactic(auto, using(crate::proofs::Openings::second_of, crate::proofs::Openings::none_below))]
 fn below(lanes: &Lanes, lane: u32) -> Option<Opener>
-    ensures { length (openers_at lanes.now lane) < 2 ^ 32 →
-        result ≡ first (without_first (openers_at lanes.now lane)) }
+    ensures { length (openers_at lanes.now.tables lane) < 2 ^ 32 →
+        result ≡ first (without_first (openers_at lanes.now.tables lane)) }
 {
     let depth = lanes.depth(lane);
     if depth < 2 {

@@ -33,11 +33,11 @@ impl<'a> Model for View<'a> {
 
     ghost view = { λ w. record {
       scenario = w.scenario.now;
-      lanes = w.lanes.now;
-      objects = w.objects.now;
+      lanes = w.lanes.now.tables;
+      objects = w.objects.now.tables;
       calls = w.calls.now;
       scene = w.scene.now;
-      fallen = w.fallen.now;
+      fallen = w.fallen.now.objects;
       clock = w.clock;
     } };
 }

@@ -1,6 +1,7 @@
 use Rattle.std.proofs.Common.{◌≡◌, []}
+use Rattle.com_lanes.specs.Rooms.{openers_in}
 use Rattle.com_model.specs.Lists.{tabulated}
 use Rattle.com_lanes.proofs.lanes.no_openers.Given as goal
 
 abbrev pub invariant-loop-i : goal.invariant-loop-i
-invariant-loop-i l = l.table.items ≡ tabulated l.i (λ k. [])
+invariant-loop-i l = openers_in l.table.items ≡ tabulated l.i (λ k. [])

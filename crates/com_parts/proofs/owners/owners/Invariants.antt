@@ -2,4 +2,4 @@ use Rattle.com_parts.proofs.Owned.{Owned}
 use Rattle.com_parts.proofs.owners.owners.Given as goal
 
 abbrev pub invariant-loop-before : goal.invariant-loop-before
-invariant-loop-before l = Owned l.objects l.before l.owners.items
+invariant-loop-before l = Owned l.objects.tables l.before l.owners.items
