@@ -13,9 +13,10 @@ use Rattle.com_drive.specs.Standings.{Reached, standing_of}
 use Rattle.com_drive.specs.Turns.{IsNext}
 use Rattle.com_core.specs.declared.running.Running.{Running}
 use Rattle.com_core.specs.Making.{TiesLater}
-use Rattle.com_core.specs.Seen.{CoreView, IsFirst, IsKept, IsWhole, KeptUnless, Steps, core_of, core_state}
+use Rattle.com_core.specs.Seen.{CoreView, IsAsBefore, IsFirst, IsKept, KeptUnless, IsWhole, Steps, core_of, core_state, kept_of}
 use Rattle.com_core.specs.Stands.{IsReached}
 use Rattle.com_core.proofs.Entries.{steps_stand}
+use Rattle.com_core.proofs.Shown.{core_alike, steps_shown, whole_kept}
 
 pub steps_kept : (lane : ℕ) (old new : CoreView) (e : Entry) → IsKept old → Steps lane old new e → new.scenario ≡ old.scenario → new.clock ≡ ticked e.deed old.clock
     → (core_state new ≡ after old.scenario (core_state old) lane e.deed) × IsKept new
@@ -74,22 +75,25 @@ next_stepped (Err x) lane old new k same was steps own tells = tt
 
 -- A step of what a core keeps is one of the core.
 pub step_taken : {E : Type 0} (x : Result Entry E) (lane : ℕ) (w s : Scenario) (r u : Running) → w ≡ s → 1 ≤ lane → lane ≤ lanes s
-    → IfOk x (λ e. IsWhole (core_of w r) → 1 ≤ lane → lane ≤ lanes w → Steps lane (core_of w r) (core_of w u) e)
+    → IfOk x (λ e. IsWhole (kept_of w r) → 1 ≤ lane → lane ≤ lanes w → Steps lane (kept_of w r) (kept_of w u) e)
     → IfOk x (λ e. IsWhole (core_of s r) → Steps lane (core_of s r) (core_of s u) e)
 step_taken (Ok e) lane w s r u same low high steps =
-    λ k. subst (λ (y : Scenario). IsWhole (core_of y r) → 1 ≤ lane → lane ≤ lanes y → Steps lane (core_of y r) (core_of y u) e) same steps k low high
+    λ k. steps_shown lane (kept_of s r) (kept_of s u) e
+    (subst (λ (y : Scenario). IsWhole (kept_of y r) → 1 ≤ lane → lane ≤ lanes y → Steps lane (kept_of y r) (kept_of y u) e) same steps (whole_kept (kept_of s r) k) low high)
 step_taken (Err x) lane w s r u same low high steps = tt
 
 -- So is the clock's entry, where the clock goes on.
 pub tick_taken : {E : Type 0} (x : Result Entry E) (w s : Scenario) (r u : Running) → w ≡ s
-    → (IsReached s (core_state (core_of s r)) → standing_of s (core_state (core_of s r)) ≡ standing.Ticks)
-    → IfOk x (λ e. IsWhole (core_of w r) → standing_of w (core_state (core_of w r)) ≡ standing.Ticks → Steps 0 (core_of w r) (core_of w u) e)
+    → (IsReached s (core_state (kept_of s r)) → standing_of s (core_state (kept_of s r)) ≡ standing.Ticks)
+    → IfOk x (λ e. IsWhole (kept_of w r) → standing_of w (core_state (kept_of w r)) ≡ standing.Ticks → Steps 0 (kept_of w r) (kept_of w u) e)
     → IfOk x (λ e. IsWhole (core_of s r) → Steps 0 (core_of s r) (core_of s u) e)
 tick_taken (Ok e) w s r u same due steps =
-    λ k. subst (λ (y : Scenario). IsWhole (core_of y r) → standing_of y (core_state (core_of y r)) ≡ standing.Ticks → Steps 0 (core_of y r) (core_of y u) e) same steps k (due k.reached)
+    λ k. let whole : IsWhole (kept_of s r) = whole_kept (kept_of s r) k in
+    steps_shown 0 (kept_of s r) (kept_of s u) e
+    (subst (λ (y : Scenario). IsWhole (kept_of y r) → standing_of y (core_state (kept_of y r)) ≡ standing.Ticks → Steps 0 (kept_of y r) (kept_of y u) e) same steps whole (due whole.reached))
 tick_taken (Err x) w s r u same due steps = tt
 
--- Where what a core keeps is as it was, so is the core.
-pub same_core : {E F : Type 0} (x : Result E F) (s : Scenario) (r u : Running) → OnErr x (u.broken ≡ false → u ≡ r) → OnErr x (u.broken ≡ false → core_of s u ≡ core_of s r)
-same_core (Ok e) s r u h = tt
-same_core (Err e) s r u h = λ b. ap (λ (v : Running). core_of s v) (h b)
+-- Where what a core keeps is as it was but for room, the core is as it was.
+pub same_core : {E F : Type 0} (x : Result E F) (s : Scenario) (r u : Running) → OnErr x (u.broken ≡ false → IsAsBefore r u) → OnErr x (u.broken ≡ false → core_of s u ≡ core_of s r)
+same_core (Ok e) s r u a = tt
+same_core (Err e) s r u a = λ b. core_alike s r u (a b)

@@ -9,6 +9,8 @@ pub mod Ticking
 pub mod Turned
 pub mod Tied
 pub mod Booking
+pub mod Shown
+pub mod Made
 pub mod Kept
 pub mod Counted
 pub mod Served

@@ -1,16 +1,20 @@
 -- How many bodies of an object run, entries and apartments there were, after an entry.
-use Rattle.std.proofs.Common.{◌≡◌, ℕ, zero, suc, ◌+◌, ◌≤◌, ◌<◌, ◌^◌, List, [], ◌∷◌, ◌++◌, All, Option, Some, None, Result, Ok, Err, OnOk, OnErr, arith, ap, sym, subst, ◌∙◌, length, slice_index_or}
+use Rattle.std.proofs.Common.{◌≡◌, ℕ, zero, suc, ◌+◌, ◌≤◌, ◌<◌, ◌^◌, Bool, List, [], ◌∷◌, ◌++◌, All, Option, Some, None, Result, Ok, Err, OnOk, OnErr, arith, ap, sym, subst, length, slice_index_or}
 use Rattle.std.proofs.lemmas.List.{length-append}
-use Rattle.std.specs.declared.alloc.AllocError.{AllocError}
+use Rattle.com_body.specs.declared.frame.Outcome.{Outcome}
 use Rattle.com_model.specs.declared.deeds.Entry.{Entry}
 use Rattle.com_model.specs.Apartments.{makes_sta, with_last}
+use Rattle.com_model.specs.Frames.{Actor}
 use Rattle.com_lanes.specs.First.{first_lanes}
 use Rattle.com_state.specs.Parts.{LaneTables, lanes_after}
 use Rattle.com_scene.specs.Kept.{HasSlots}
+use Rattle.com_parts.specs.declared.change.Sent.{Sent}
 use Rattle.com_parts.specs.Tables.{PartTables}
-use Rattle.com_parts.specs.Changes.{IsSame}
 use Rattle.com_fates.specs.Most.{Most}
+use Rattle.com_core.specs.Changes.{Becomes}
+use Rattle.com_core.specs.Shown.{parts_shown}
 use Rattle.com_core.specs.Sound.{Sound, Few}
+use Rattle.com_core.proofs.Shown.{few_alike, sound_alike}
 
 pub none_run : (n : ℕ) → Most n (0 ∷ [])
 none_run n zero = omega arith
@@ -34,26 +38,31 @@ last_more : (xs : List ℕ) (x : Option ℕ) → length (with_last xs x) ≤ len
 last_more xs None = omega arith
 last_more xs (Some a) = let e : length (xs ++ a ∷ []) ≡ length xs + 1 = length-append xs (a ∷ []) in omega (arith, e)
 
-pub few_later : (x : Result (Unit {0}) AllocError) (p q : PartTables) (e : Entry) → OnOk x (q.lanes ≡ lanes_after p.lanes e) → OnOk x (q.entries ≡ p.entries + 1)
-    → OnErr x (IsSame p q) → p.entries < 1_000_000 → Few p → Few q
-few_later (Ok tt) p q e l n same room f =
+pub few_later : (p q : PartTables) (e : Entry) → q.lanes ≡ lanes_after p.lanes e → q.entries ≡ p.entries + 1 → p.entries < 1_000_000 → Few p → Few q
+few_later p q e l n room f =
     let a : length q.lanes.stas ≡ length (with_last p.lanes.stas (makes_sta e.deed)) = ap (λ (t : LaneTables). length t.stas) l in
     let b : length (with_last p.lanes.stas (makes_sta e.deed)) ≤ length p.lanes.stas + 1 = last_more p.lanes.stas (makes_sta e.deed) in
     let c : length p.lanes.stas ≤ p.entries = f.stas in
     record { entries = omega (arith, n, room); stas = omega (arith, a, b, c, n) }
-few_later (Err y) p q e l n same room f =
-    let a : length q.lanes.stas ≡ length p.lanes.stas = ap (λ (t : LaneTables). length t.stas) same.lanes in
-    let b : q.entries ≡ p.entries = same.entries in
-    let c : length p.lanes.stas ≤ p.entries = f.stas in
-    let d : p.entries ≤ 1_000_000 = f.entries in
-    record { entries = omega (arith, b, d); stas = omega (arith, a, b, c) }
 
--- What holds after the holders, the parts and the running bodies have changed, in this order.
-pub sound_settled : (p q r t : PartTables) (xs ys zs ws : List ℕ) → Sound p xs → q ≡ p → ys ≡ xs → All HasSlots r.scene.bodies → r.entries ≡ q.entries + 1
-    → zs ≡ ys → t ≡ r → ((n : ℕ) → Most n zs → Most (n + 1) ws) → Sound t ws
-sound_settled p q r t xs ys zs ws s a b d e f g h =
-    let same : zs ≡ xs = f ∙ b in
-    let few : Most p.entries zs = subst (λ (us : List ℕ). Most p.entries us) (sym same) s.runs in
-    let one : r.entries ≡ p.entries + 1 = e ∙ ap (λ (u : PartTables). u.entries + 1) a in
-    let more : Most r.entries ws = subst (λ (n : ℕ). Most n ws) (sym one) (h p.entries few) in
-    subst (λ (u : PartTables). Sound u ws) (sym g) (record { bodies = d; runs = more })
+pub sound_later : (p q : PartTables) (xs ws : List ℕ) → Sound p xs → All HasSlots q.scene.bodies → q.entries ≡ p.entries + 1 → ((n : ℕ) → Most n xs → Most (n + 1) ws) → Sound q ws
+sound_later p q xs ws s a e h =
+    record { bodies = a; runs = subst (λ (n : ℕ). Most n ws) (sym e) (h p.entries s.runs) }
+
+-- ---- an entry that was made, or found no memory
+
+pub few_made : {E F : Type 0} (x : Result E F) (p q : PartTables) (e : Entry) (a : Actor) (o : Option Outcome) (b : Actor) (f : Bool) (y : Option Sent) (clock : ℕ)
+    → OnOk x (Becomes p q e a o b f y clock) → OnErr x (parts_shown q ≡ parts_shown p) → p.entries < 1_000_000 → Few p → Few q
+few_made (Ok z) p q e a o b f y clock m h room few = few_later p q e m.lanes m.entries room few
+few_made (Err z) p q e a o b f y clock m h room few = few_alike p q h few
+
+pub sound_made : {E F : Type 0} (x : Result E F) (p q : PartTables) (xs ys : List ℕ) (e : Entry) (a : Actor) (o : Option Outcome) (b : Actor) (f : Bool) (y : Option Sent) (clock : ℕ)
+    → OnOk x (Becomes p q e a o b f y clock) → OnOk x (All HasSlots q.scene.bodies) → OnOk x ((n : ℕ) → Most n xs → Most (n + 1) ys)
+    → OnErr x (parts_shown q ≡ parts_shown p) → OnErr x (ys ≡ xs) → Sound p xs → Sound q ys
+sound_made (Ok z) p q xs ys e a o b f y clock m k n h g s = sound_later p q xs ys s k m.entries n
+sound_made (Err z) p q xs ys e a o b f y clock m k n h g s = sound_alike p q xs ys h g s
+
+pub entries_made : {E F : Type 0} (x : Result E F) (p q : PartTables) (e : Entry) (a : Actor) (o : Option Outcome) (b : Actor) (f : Bool) (y : Option Sent) (clock : ℕ)
+    → OnOk x (Becomes p q e a o b f y clock) → OnOk x (q.entries ≡ p.entries + 1)
+entries_made (Ok z) p q e a o b f y clock m = m.entries
+entries_made (Err z) p q e a o b f y clock m = tt

@@ -27,27 +27,27 @@ use Rattle.com_view.specs.Seen.{Seen}
 use Rattle.com_work.specs.Work.{IsWork, work_seen}
 use Rattle.com_core.specs.declared.running.Running.{Running}
 use Rattle.com_core.specs.Nexts.{FitsTop, kept_top}
-use Rattle.com_core.specs.Seen.{core_of, core_state}
+use Rattle.com_core.specs.Seen.{core_state, kept_of}
 use Rattle.com_core.specs.Stands.{seen_by}
 
 -- The innermost opener of a lane, by the parts as by the state.
 pub job_read : (s : Scenario) (r : Running) (l c o a : ℕ) (x : Option Job) → Some (Enters c o a) ≡ first (openers_at r.parts.lanes l)
-    → work_seen (seen_by s r.parts r.fallen r.clock) c o ≡ x → job_of s (core_state (core_of s r)) l ≡ x
+    → work_seen (seen_by s r.parts r.fallen.objects r.clock) c o ≡ x → job_of s (core_state (kept_of s r)) l ≡ x
 unfolding job_of
-job_read s r l c o a x e w = sym (ap (λ (t : Option Opener). job_above s (core_state (core_of s r)) t) e) ∙ w
+job_read s r l c o a x e w = sym (ap (λ (t : Option Opener). job_above s (core_state (kept_of s r)) t) e) ∙ w
 
 pub kept_read : (s : Scenario) (r : Running) (l c o a : ℕ) → Some (Enters c o a) ≡ first (openers_at r.parts.lanes l)
-    → cells_at r.parts.scene o ≡ kept_in (core_state (core_of s r)) l
+    → cells_at r.parts.scene o ≡ kept_in (core_state (kept_of s r)) l
 unfolding kept_in
-kept_read s r l c o a e = ap (λ (t : Option Opener). kept_above (core_state (core_of s r)) t) e
+kept_read s r l c o a e = ap (λ (t : Option Opener). kept_above (core_state (kept_of s r)) t) e
 
-kept-tops : (s : Scenario) (r : Running) (t : Option Opener) → kept_top r.parts.scene t ≡ kept_above (core_state (core_of s r)) t
+kept-tops : (s : Scenario) (r : Running) (t : Option Opener) → kept_top r.parts.scene t ≡ kept_above (core_state (kept_of s r)) t
 kept-tops s r None = refl
 kept-tops s r (Some (Pumps n)) = refl
 kept-tops s r (Some (Waits c)) = refl
 kept-tops s r (Some (Enters c o a)) = refl
 
-pub kept_same : (s : Scenario) (r : Running) (l : ℕ) → kept_top r.parts.scene (first (openers_at r.parts.lanes l)) ≡ kept_in (core_state (core_of s r)) l
+pub kept_same : (s : Scenario) (r : Running) (l : ℕ) → kept_top r.parts.scene (first (openers_at r.parts.lanes l)) ≡ kept_in (core_state (kept_of s r)) l
 unfolding kept_in
 kept_same s r l = kept-tops s r (first (openers_at r.parts.lanes l))
 
@@ -78,53 +78,53 @@ not-body (Some (Pumps n)) e = refl
 not-body (Some (Waits c)) e = refl
 not-body (Some (Enters c o a)) e = absurd cc
 
-body-top : (s : Scenario) (r : Running) (l : ℕ) → next_in s (core_state (core_of s r)) l ≡ next.Body → Top (first (openers_at r.parts.lanes l))
+body-top : (s : Scenario) (r : Running) (l : ℕ) → next_in s (core_state (kept_of s r)) l ≡ next.Body → Top (first (openers_at r.parts.lanes l))
 unfolding next_in
 body-top s r l e =
     enter-top (first (openers_at r.parts.lanes l))
-    (body-enters (is_enter (first (openers_at r.parts.lanes l))) (can_step_in s (core_state (core_of s r)) l) (slice_index_or (core_state (core_of s r)).over l false) e)
+    (body-enters (is_enter (first (openers_at r.parts.lanes l))) (can_step_in s (core_state (kept_of s r)) l) (slice_index_or (core_state (kept_of s r)).over l false) e)
 
 -- Where another entry than a body's is next, no body is innermost.
-pub own_read : (s : Scenario) (r : Running) (l : ℕ) → next_in s (core_state (core_of s r)) l ≡ next.Own → is_body (first (openers_at r.parts.lanes l)) ≡ false
+pub own_read : (s : Scenario) (r : Running) (l : ℕ) → next_in s (core_state (kept_of s r)) l ≡ next.Own → is_body (first (openers_at r.parts.lanes l)) ≡ false
 unfolding next_in
 own_read s r l e =
     not-body (first (openers_at r.parts.lanes l))
-    (own-enters (is_enter (first (openers_at r.parts.lanes l))) (can_step_in s (core_state (core_of s r)) l) (slice_index_or (core_state (core_of s r)).over l false) e)
+    (own-enters (is_enter (first (openers_at r.parts.lanes l))) (can_step_in s (core_state (kept_of s r)) l) (slice_index_or (core_state (kept_of s r)).over l false) e)
 
 -- ---- a job that fits
 
-next-enter : (s : Scenario) (r : Running) (l c o a : ℕ) → Some (Enters c o a) ≡ first (openers_at r.parts.lanes l) → next_in s (core_state (core_of s r)) l ≡ next.Body
+next-enter : (s : Scenario) (r : Running) (l c o a : ℕ) → Some (Enters c o a) ≡ first (openers_at r.parts.lanes l) → next_in s (core_state (kept_of s r)) l ≡ next.Body
 unfolding next_in
 next-enter s r l c o a e =
-    ap (λ (t : Option Opener). next_by (is_enter t) (can_step_in s (core_state (core_of s r)) l) (slice_index_or (core_state (core_of s r)).over l false)) (sym e)
+    ap (λ (t : Option Opener). next_by (is_enter t) (can_step_in s (core_state (kept_of s r)) l) (slice_index_or (core_state (kept_of s r)).over l false)) (sym e)
 
 pub work_fits : (s : Scenario) (r : Running) (l c o a : ℕ) (job : Job) → Some (Enters c o a) ≡ first (openers_at r.parts.lanes l)
-    → IsWork (seen_by s r.parts r.fallen r.clock) c o job → Fits s (core_state (core_of s r)) l job
+    → IsWork (seen_by s r.parts r.fallen.objects r.clock) c o job → Fits s (core_state (kept_of s r)) l job
 work_fits s r l c o a job e w = record {
   body = next-enter s r l c o a e;
   same = job_read s r l c o a _ e w ∙ ap (λ (k : Cells). Some (record job { cells = k })) (kept_read s r l c o a e);
 }
 
 pub fits_work : (s : Scenario) (r : Running) (l c o a : ℕ) (job : Job) → Some (Enters c o a) ≡ first (openers_at r.parts.lanes l)
-    → Fits s (core_state (core_of s r)) l job → IsWork (seen_by s r.parts r.fallen r.clock) c o job
+    → Fits s (core_state (kept_of s r)) l job → IsWork (seen_by s r.parts r.fallen.objects r.clock) c o job
 fits_work s r l c o a job e f =
     sym (job_read s r l c o a _ e refl) ∙ f.same ∙ ap (λ (k : Cells). Some (record job { cells = k })) (sym (kept_read s r l c o a e))
 
-top-fits : (s : Scenario) (r : Running) (l : ℕ) (job : Job) (t : Option Opener) → t ≡ first (openers_at r.parts.lanes l) → FitsTop (seen_by s r.parts r.fallen r.clock) t job
-    → Fits s (core_state (core_of s r)) l job
+top-fits : (s : Scenario) (r : Running) (l : ℕ) (job : Job) (t : Option Opener) → t ≡ first (openers_at r.parts.lanes l) → FitsTop (seen_by s r.parts r.fallen.objects r.clock) t job
+    → Fits s (core_state (kept_of s r)) l job
 top-fits s r l job None e f = absurd f
 top-fits s r l job (Some (Pumps n)) e f = absurd f
 top-fits s r l job (Some (Waits c)) e f = absurd f
 top-fits s r l job (Some (Enters c o a)) e f = work_fits s r l c o a job e f
 
-fits-at : (s : Scenario) (r : Running) (l : ℕ) (job : Job) → Fits s (core_state (core_of s r)) l job → Top (first (openers_at r.parts.lanes l))
-    → FitsTop (seen_by s r.parts r.fallen r.clock) (first (openers_at r.parts.lanes l)) job
+fits-at : (s : Scenario) (r : Running) (l : ℕ) (job : Job) → Fits s (core_state (kept_of s r)) l job → Top (first (openers_at r.parts.lanes l))
+    → FitsTop (seen_by s r.parts r.fallen.objects r.clock) (first (openers_at r.parts.lanes l)) job
 fits-at s r l job f (top c o a e) =
-    subst (λ (t : Option Opener). FitsTop (seen_by s r.parts r.fallen r.clock) t job) e (fits_work s r l c o a job e f)
+    subst (λ (t : Option Opener). FitsTop (seen_by s r.parts r.fallen.objects r.clock) t job) e (fits_work s r l c o a job e f)
 
 -- A job is that of the innermost body where it fits the lane.
-pub fits_tops : (s : Scenario) (r : Running) (l : ℕ) (job : Job) (b : Bool) → (IsTrue b ↔ FitsTop (seen_by s r.parts r.fallen r.clock) (first (openers_at r.parts.lanes l)) job)
-    → (IsTrue b ↔ Fits s (core_state (core_of s r)) l job)
+pub fits_tops : (s : Scenario) (r : Running) (l : ℕ) (job : Job) (b : Bool) → (IsTrue b ↔ FitsTop (seen_by s r.parts r.fallen.objects r.clock) (first (openers_at r.parts.lanes l)) job)
+    → (IsTrue b ↔ Fits s (core_state (kept_of s r)) l job)
 fits_tops s r l job b p =
     (λ t. top-fits s r l job (first (openers_at r.parts.lanes l)) refl (p.0 t), λ f. p.1 (fits-at s r l job f (body-top s r l f.body)))
 
@@ -135,23 +135,23 @@ by-frame n None i f c job e = absurd cc
 by-frame n (Some k) None f c job e = absurd cc
 by-frame n (Some k) (Some i) f c job e = cc
 
-fresh-work : (s : Scenario) (r : Running) (l c o a : ℕ) (job : Job) → Some (Enters c o a) ≡ first (openers_at r.parts.lanes l) → Fits s (core_state (core_of s r)) l job
-    → job.cells ≡ kept_in (core_state (core_of s r)) l → work_seen (seen_by s r.parts r.fallen r.clock) c o ≡ Some job
-fresh-work s r l c o a job e f k = sym (job_read s r l c o a _ e refl) ∙ fitting-job s (core_state (core_of s r)) l job f k
+fresh-work : (s : Scenario) (r : Running) (l c o a : ℕ) (job : Job) → Some (Enters c o a) ≡ first (openers_at r.parts.lanes l) → Fits s (core_state (kept_of s r)) l job
+    → job.cells ≡ kept_in (core_state (kept_of s r)) l → work_seen (seen_by s r.parts r.fallen.objects r.clock) c o ≡ Some job
+fresh-work s r l c o a job e f k = sym (job_read s r l c o a _ e refl) ∙ fitting-job s (core_state (kept_of s r)) l job f k
 
-pub given_step : (s : Scenario) (r : Running) (l : ℕ) (job : Job) (x : Outcome) → Fits s (core_state (core_of s r)) l job → job.cells ≡ kept_in (core_state (core_of s r)) l → x ≡ job_step s.classes job
-    → (c o a : ℕ) → first (openers_at r.parts.lanes l) ≡ Some (Enters c o a) → x ≡ body_seen (seen_by s r.parts r.fallen r.clock) c o
+pub given_step : (s : Scenario) (r : Running) (l : ℕ) (job : Job) (x : Outcome) → Fits s (core_state (kept_of s r)) l job → job.cells ≡ kept_in (core_state (kept_of s r)) l → x ≡ job_step s.classes job
+    → (c o a : ℕ) → first (openers_at r.parts.lanes l) ≡ Some (Enters c o a) → x ≡ body_seen (seen_by s r.parts r.fallen.objects r.clock) c o
 given_step s r l job x f k e c o a t =
-    e ∙ job_steps (seen_by s r.parts r.fallen r.clock) c o job (fresh-work s r l c o a job (sym t) f k)
+    e ∙ job_steps (seen_by s r.parts r.fallen.objects r.clock) c o job (fresh-work s r l c o a job (sym t) f k)
 
-frame-slots : (s : Scenario) (r : Running) (l : ℕ) (job : Job) → ((c : ℕ) → HasSlots (body_at r.parts.scene c)) → Fits s (core_state (core_of s r)) l job → job.cells ≡ kept_in (core_state (core_of s r)) l
+frame-slots : (s : Scenario) (r : Running) (l : ℕ) (job : Job) → ((c : ℕ) → HasSlots (body_at r.parts.scene c)) → Fits s (core_state (kept_of s r)) l job → job.cells ≡ kept_in (core_state (kept_of s r)) l
     → Top (first (openers_at r.parts.lanes l)) → HasSlots job.frame
 frame-slots s r l job p f k (top c o a e) =
-    let w : Seen = seen_by s r.parts r.fallen r.clock in
+    let w : Seen = seen_by s r.parts r.fallen.objects r.clock in
     subst HasSlots (sym (by-frame (class_at w.objects o) (native_at s.classes (class_at w.objects o)) (issue_at w.calls.tables c) (body_at w.scene c) (cells_at w.scene o) job (fresh-work s r l c o a job e f k))) (p c)
 
-pub given_whole : (s : Scenario) (r : Running) (l : ℕ) (job : Job) (x : Outcome) → ((c : ℕ) → HasSlots (body_at r.parts.scene c)) → Fits s (core_state (core_of s r)) l job
-    → job.cells ≡ kept_in (core_state (core_of s r)) l → x ≡ job_step s.classes job → HasSlots x.frame
+pub given_whole : (s : Scenario) (r : Running) (l : ℕ) (job : Job) (x : Outcome) → ((c : ℕ) → HasSlots (body_at r.parts.scene c)) → Fits s (core_state (kept_of s r)) l job
+    → job.cells ≡ kept_in (core_state (kept_of s r)) l → x ≡ job_step s.classes job → HasSlots x.frame
 given_whole s r l job x p f k e =
     subst (λ (y : Outcome). HasSlots y.frame) (sym e) (job_whole s.classes job (frame-slots s r l job p f k (body-top s r l f.body)))
 

@@ -1,4 +1,5 @@
 pub mod Sound
+pub mod Shown
 pub mod Seen
 pub mod Stands
 pub mod Nexts

@@ -11,6 +11,7 @@ use Rattle.com_model.specs.Tables.{lanes}
 use Rattle.com_parts.specs.Tables.{PartTables}
 use Rattle.com_core.specs.declared.running.Running.{Running}
 use Rattle.com_core.specs.Making.{IsCore, MakesNext}
+use Rattle.com_core.specs.Shown.{held_shown, parts_shown}
 use Rattle.com_core.specs.Stands.{state_read}
 
 -- The scenario; the parts, who holds references, how many bodies of each object run, the dying objects and
@@ -24,17 +25,35 @@ pub record CoreView : Type 0 where
   pub clock : ℕ
   pub broken : Bool
 
--- What a contract sees of a core of a scenario that keeps so much of a history.
-abbrev pub core_of : Scenario → Running → CoreView
-core_of s r = record {
+-- All that is kept of a history in a core of a scenario, with the room that calls and references have.
+abbrev pub kept_of : Scenario → Running → CoreView
+kept_of s r = record {
   scenario = s;
   parts = r.parts;
   held = r.ledger;
-  entered = r.entered;
-  fallen = r.fallen;
+  entered = r.entered.counts;
+  fallen = r.fallen.objects;
   clock = r.clock;
   broken = r.broken;
 }
+
+-- A core without what is said of room.
+abbrev pub shown : CoreView → CoreView
+shown c = record c { parts = parts_shown c.parts; held = held_shown c.held }
+
+-- What a contract sees of a core of a scenario that keeps so much of a history: all but room, which an entry
+-- that finds no memory may have taken.
+abbrev pub core_of : Scenario → Running → CoreView
+core_of s r = shown (kept_of s r)
+
+-- What is kept is as it was, but for room.
+pub record IsAsBefore (r u : Running) : Type 0 where
+  pub parts : parts_shown u.parts ≡ parts_shown r.parts
+  pub held : held_shown u.ledger ≡ held_shown r.ledger
+  pub entered : u.entered.counts ≡ r.entered.counts
+  pub fallen : u.fallen.objects ≡ r.fallen.objects
+  pub clock : u.clock ≡ r.clock
+  pub broken : u.broken ≡ r.broken
 
 -- The state of the rules that a core is.
 abbrev pub core_state : CoreView → State
@@ -61,7 +80,7 @@ Steps lane old new e =
 -- one, and all has changed by it.
 abbrev pub TurnsTo : Scenario → (lane : ℕ) → (old new : Running) → Entry → Type 0
 TurnsTo s lane old new e =
-    IsWhole (core_of s old) → 1 ≤ lane → lane ≤ lanes s → Steps lane (core_of s old) (core_of s new) e
+    IsWhole (kept_of s old) → 1 ≤ lane → lane ≤ lanes s → Steps lane (kept_of s old) (kept_of s new) e
 
 -- A core is whole, and its ledger is tied to its state.
 pub record IsKept (c : CoreView) : Type 0 where

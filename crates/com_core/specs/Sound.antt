@@ -1,5 +1,5 @@
--- What holds of a core between entries, where no change was left half done.
-use Rattle.std.specs.Prelude.{◌≡◌, ℕ, ◌≤◌, Bool, false, List, All, length}
+-- What holds of a core between entries.
+use Rattle.std.specs.Prelude.{ℕ, ◌≤◌, List, All, length}
 use Rattle.com_scene.specs.Kept.{HasSlots}
 use Rattle.com_parts.specs.Tables.{PartTables}
 use Rattle.com_fates.specs.Most.{Most}
@@ -9,11 +9,7 @@ pub record Sound (parts : PartTables) (entered : List ℕ) : Type 0 where
   pub bodies : All HasSlots parts.scene.bodies
   pub runs : Most parts.entries entered
 
-abbrev pub SoundUnless : (broken : Bool) → PartTables → List ℕ → Type 0
-SoundUnless broken parts entered = broken ≡ false → Sound parts entered
-
--- There were a million entries at most, and no more apartments were made than there were entries. This holds
--- also where a change was left half done.
+-- There were a million entries at most, and no more apartments were made than there were entries.
 pub record Few (parts : PartTables) : Type 0 where
   pub entries : parts.entries ≤ 1_000_000
   pub stas : length parts.lanes.stas ≤ parts.entries

@@ -1,21 +1,23 @@
 //! The change of a core by an entry.
 
-ghost use Rattle.std.specs.Prelude.{◌≡◌, ℕ, ◌+◌, ◌<◌, ◌^◌, All, IfOk, IsTrue, OnErr, OnOk, false, is_some, length};
-ghost use Rattle.std.specs.Prelude.{map, slice_index_or, true, ◌≤◌};
+ghost use Rattle.std.specs.Prelude.{◌≡◌, ℕ, ◌+◌, ◌<◌, ◌≤◌, ◌^◌, All, IfOk, IsTrue, OnErr, OnOk, false, is_some};
+ghost use Rattle.std.specs.Prelude.{length, map, slice_index_or, vec_capacity};
 ghost use Rattle.com_calls.specs.Kept.{IsNamed};
-ghost use Rattle.com_core.specs.Making.{BookedBy, Changed, IsCore, MakesNext};
+ghost use Rattle.com_core.specs.Changes.{Becomes, Settles, sent_by};
+ghost use Rattle.com_core.specs.Making.{Booked, BookedBy, Changed};
+ghost use Rattle.com_core.specs.Seen.{IsAsBefore, IsWhole as IsWholeCore, Steps, TurnsTo, core_state, kept_of};
+ghost use Rattle.com_core.specs.Shown.{held_shown, parts_shown};
+ghost use Rattle.com_core.specs.Sound.{Few, Sound};
+ghost use Rattle.com_core.specs.Stands.{seen_by};
 ghost use Rattle.com_drive.specs.declared.runtime.Standing.TheVariants as standing;
 ghost use Rattle.com_drive.specs.Standings.{standing_of};
-ghost use Rattle.com_ledger.specs.Books.{books_held};
-ghost use Rattle.com_model.specs.Tables.{lanes};
-ghost use Rattle.com_turns.specs.Turns.{IsTurn, actor_later, kind_seen, one_served};
 ghost use Rattle.com_fates.specs.Bodies.{entered_after};
-ghost use Rattle.com_core.specs.Changes.{Becomes, Settles, sent_by};
-ghost use Rattle.com_core.specs.Sound.{Few, Sound, SoundUnless};
 ghost use Rattle.com_fates.specs.Most.{Most};
-ghost use Rattle.com_core.specs.Stands.{seen_by, state_read};
+ghost use Rattle.com_ledger.specs.Books.{books_held};
+ghost use Rattle.com_ledger.specs.Entries.{around, most_left};
 ghost use Rattle.com_model.specs.Calls.{lane_of};
 ghost use Rattle.com_model.specs.Clock.{ticked};
+ghost use Rattle.com_model.specs.Lists.{number_or_zero};
 ghost use Rattle.com_moves.specs.Steps.{IsWhole, moves_stepped};
 ghost use Rattle.com_moves.specs.Tables.{ground_at};
 ghost use Rattle.com_refs.specs.Counts.{holders_of};
@@ -25,6 +27,7 @@ ghost use Rattle.com_scene.specs.Ranges.{FitsDeed};
 ghost use Rattle.com_servant.specs.Rows.{row};
 ghost use Rattle.com_state.specs.After.{filtered_by};
 ghost use Rattle.com_state.specs.Parts.{issue_at, openers_at};
+ghost use Rattle.com_turns.specs.Turns.{IsTurn, actor_later, kind_seen, one_served};
 ghost use Rattle.com_view.specs.Seen.{filter_seen, home_seen, running_seen};
 
 use crate::running::{Running, forget, unproved};
@@ -78,17 +81,17 @@ impl Running {
     // What an entry's change rests on.
     fn glance(&self, scenario: &Scenario, entry: &Entry) -> Glance
         ensures home { result.home ≡ home_seen
-            (seen_by scenario.now self.now.parts self.now.fallen self.now.clock) entry.now.lane }
+            (seen_by scenario.now self.now.parts self.now.fallen.objects self.now.clock) entry.now.lane }
         ensures running { result.running
-            ≡ running_seen (seen_by scenario.now self.now.parts self.now.fallen self.now.clock)
+            ≡ running_seen (seen_by scenario.now self.now.parts self.now.fallen.objects self.now.clock)
             entry.now.lane }
         ensures after { length (openers_at self.now.parts.lanes entry.now.lane) < 2 ^ 32
             → entry.now.lane < length self.now.parts.lanes.openers
             → acting_of result.after ≡ actor_later
-            (seen_by scenario.now self.now.parts self.now.fallen self.now.clock)
+            (seen_by scenario.now self.now.parts self.now.fallen.objects self.now.clock)
             entry.now.lane entry.now.deed }
         ensures filtered { result.filtered ≡ filtered_by (λ c. is_some (filter_seen
-            (seen_by scenario.now self.now.parts self.now.fallen self.now.clock)
+            (seen_by scenario.now self.now.parts self.now.fallen.objects self.now.clock)
             (lane_of (issue_at self.now.parts.calls.tables c)))) entry.now.deed }
     {
         let view = self.view(scenario);
@@ -100,30 +103,59 @@ impl Running {
         }
     }
 
-    // What the entry takes from places and brings to them, and who holds references after it. The only error
-    // is want of memory.
+    // Room for the running bodies and the dying objects after an entry, whose moves are filled. The only
+    // error is want of memory.
+    fn make_room(&mut self, entry: &Entry) -> Result<(), Memory>
+        ensures body { OnOk result (0 < self.new.entered.spare) }
+        ensures dying { OnOk result (most_left self.old.ledger.calls self.old.parts.objects entry.now.deed
+            self.old.moves + 1 ≤ self.new.fallen.spare) }
+        ensures fresh { OnOk result (most_left self.old.ledger.calls self.old.parts.objects entry.now.deed
+            self.old.moves + 1 ≤ vec_capacity self.new.fresh) }
+        ensures entered { self.new.entered.counts ≡ self.old.entered.counts }
+        ensures fallen { self.new.fallen.objects ≡ self.old.fallen.objects }
+        ensures parts { self.new.parts ≡ self.old.parts }
+        ensures ledger { self.new.ledger ≡ self.old.ledger }
+        ensures moves { self.new.moves ≡ self.old.moves }
+        ensures clock { self.new.clock ≡ self.old.clock }
+        ensures broken { self.new.broken ≡ self.old.broken }
+    {
+        let most = self
+            .ledger
+            .most_left(&entry.deed, self.parts.objects(), &self.moves);
+        let Some(more) = most.checked_add(1) else {
+            return Err(Memory);
+        };
+        self.entered.reserve()?;
+        self.fallen.reserve(more)?;
+        self.fresh.clear();
+        self.fresh.reserve(more)
+    }
+
+    // What the entry takes from places and brings to them, and room for the running bodies and the dying
+    // objects after it. The only error is want of memory.
     #[tactic(auto, using(crate::proofs::Whole::bodies_whole, crate::proofs::Whole::frame_whole))]
-    fn change_holders(
+    fn prepare(
         &mut self,
-        scenario: &Scenario,
         glance: Glance,
         acting: Actor,
         outcome: &Option<Outcome>,
-        carried: &[RefValue],
         entry: &Entry,
     ) -> Result<(), Memory>
-        requires sound { Sound self.old.parts self.old.entered }
+        requires sound { Sound self.old.parts self.old.entered.counts }
         requires deed { FitsDeed entry.now.deed }
         requires whole { IsWhole outcome.now }
         ensures moves { OnOk result (self.new.moves ≡ moves_stepped
             (ground_at glance.home self.old.parts.objects self.old.parts.calls.tables) self.old.parts.scene
             (acting_of acting) outcome.now (acting_of glance.after) entry.now) }
-        ensures booked { OnOk result
-            (BookedBy scenario.now self.old.parts glance.home glance.running carried.now entry.now
-            (acting_of acting) outcome.now (acting_of glance.after) self.old.ledger self.new.ledger) }
+        ensures body { OnOk result (0 < self.new.entered.spare) }
+        ensures dying { OnOk result (most_left self.old.ledger.calls self.old.parts.objects entry.now.deed
+            self.new.moves + 1 ≤ self.new.fallen.spare) }
+        ensures fresh { OnOk result (most_left self.old.ledger.calls self.old.parts.objects entry.now.deed
+            self.new.moves + 1 ≤ vec_capacity self.new.fresh) }
+        ensures entered { self.new.entered.counts ≡ self.old.entered.counts }
+        ensures fallen { self.new.fallen.objects ≡ self.old.fallen.objects }
         ensures parts { self.new.parts ≡ self.old.parts }
-        ensures entered { self.new.entered ≡ self.old.entered }
-        ensures fallen { self.new.fallen ≡ self.old.fallen }
+        ensures ledger { self.new.ledger ≡ self.old.ledger }
         ensures clock { self.new.clock ≡ self.old.clock }
         ensures broken { self.new.broken ≡ self.old.broken }
     {
@@ -137,6 +169,32 @@ impl Running {
             glance.after,
             entry,
         )?;
+        self.make_room(entry)
+    }
+
+    // The books after an entry that was prepared. The only error is want of memory, and then they are as
+    // before but for room.
+    #[tactic(auto, using(crate::proofs::Shown::held_alike))]
+    fn book(
+        &mut self,
+        scenario: &Scenario,
+        glance: Glance,
+        carried: &[RefValue],
+        entry: &Entry,
+    ) -> Result<(), Memory>
+        ensures booked { OnOk result (Booked (around self.old.parts.calls.tables self.old.parts.objects
+            scenario.now.classes carried.now (number_or_zero glance.running)) entry.now.deed self.old.moves
+            self.old.ledger self.new.ledger) }
+        ensures few { OnOk result (length self.new.ledger.touched ≤ most_left self.old.ledger.calls
+            self.old.parts.objects entry.now.deed self.old.moves) }
+        ensures held { OnErr result (held_shown self.new.ledger ≡ held_shown self.old.ledger) }
+        ensures parts { self.new.parts ≡ self.old.parts }
+        ensures entered { self.new.entered ≡ self.old.entered }
+        ensures fallen { self.new.fallen ≡ self.old.fallen }
+        ensures fresh { self.new.fresh ≡ self.old.fresh }
+        ensures clock { self.new.clock ≡ self.old.clock }
+        ensures broken { self.new.broken ≡ self.old.broken }
+    {
         let context = Context {
             home: glance.home,
             running: glance.running,
@@ -150,8 +208,9 @@ impl Running {
         Ok(())
     }
 
-    // The parts after the entry. The only error is want of memory.
-    #[tactic(auto, using(crate::proofs::Whole::later_whole, crate::proofs::Whole::frame_fits, crate::proofs::Runs::few_later))]
+    // The parts after an entry. The only error is want of memory, and then they are as before but for room,
+    // and so is the step.
+    #[tactic(auto, using(crate::proofs::Whole::frame_fits))]
     fn change_parts(
         &mut self,
         glance: Glance,
@@ -160,19 +219,19 @@ impl Running {
         issued: Option<Issued>,
         entry: &Entry,
     ) -> Result<(), Memory>
-        requires sound { Sound self.old.parts self.old.entered }
+        requires sound { Sound self.old.parts self.old.entered.counts }
         requires deed { FitsDeed entry.now.deed }
         requires whole { IsWhole outcome.old }
-        requires few { Few self.old.parts }
-        requires room { self.old.parts.entries < 1_000_000 }
-        ensures few { Few self.new.parts }
         ensures becomes { OnOk result (Becomes self.old.parts self.new.parts entry.now
             (acting_of acting) outcome.old
             (acting_of glance.after) glance.filtered (sent_by issued) self.old.clock) }
         ensures bodies { OnOk result (All HasSlots self.new.parts.scene.bodies) }
+        ensures same { OnErr result (parts_shown self.new.parts ≡ parts_shown self.old.parts) }
+        ensures step { OnErr result (outcome.new ≡ outcome.old) }
         ensures entered { self.new.entered ≡ self.old.entered }
         ensures ledger { self.new.ledger ≡ self.old.ledger }
         ensures fallen { self.new.fallen ≡ self.old.fallen }
+        ensures fresh { self.new.fresh ≡ self.old.fresh }
         ensures clock { self.new.clock ≡ self.old.clock }
         ensures broken { self.new.broken ≡ self.old.broken }
     {
@@ -185,25 +244,31 @@ impl Running {
             clock: self.clock,
             issued: sent_of(issued),
         };
-        self.parts.apply(change, outcome)
+        let begun = self.parts.begin(change, outcome)?;
+        self.parts.finish(entry.lane, &entry.deed, begun);
+        Ok(())
     }
 
-    // The running bodies and the dying objects after the entry, whose parts are those after it. The only
-    // error is want of memory.
-    fn settle(&mut self, deed: &Deed, acting: Actor) -> Result<(), Memory>
-        requires few { (o : ℕ) → slice_index_or self.old.entered o 0 + 1 < 2 ^ 32 }
-        ensures runs { OnOk result ((n : ℕ) → Most n self.old.entered → Most (n + 1) self.new.entered) }
-        ensures entered { OnOk result (self.new.entered
-            ≡ entered_after deed.now (acting_of acting) self.old.entered) }
-        ensures fallen { OnOk result (Settles self.new.parts.objects
-            (holders_of self.new.ledger.tables) self.new.entered
-            self.old.fallen self.new.ledger.touched deed.now (acting_of acting) self.new.fallen) }
+    // The running bodies and the dying objects after the entry, whose parts and books are those after it.
+    // There is room for them.
+    fn settle(&mut self, deed: &Deed, acting: Actor)
+        requires few { (o : ℕ) → slice_index_or self.old.entered.counts o 0 + 1 < 2 ^ 32 }
+        requires body { 0 < self.old.entered.spare }
+        requires dying { length self.old.ledger.touched + 1 ≤ self.old.fallen.spare }
+        requires fresh { length self.old.ledger.touched + 1 ≤ vec_capacity self.old.fresh }
+        ensures runs { (n : ℕ) → Most n self.old.entered.counts → Most (n + 1) self.new.entered.counts }
+        ensures entered { self.new.entered.counts
+            ≡ entered_after deed.now (acting_of acting) self.old.entered.counts }
+        ensures fallen { Settles self.new.parts.objects
+            (holders_of self.new.ledger.tables) self.new.entered.counts
+            self.old.fallen.objects self.new.ledger.touched deed.now (acting_of acting)
+            self.new.fallen.objects }
         ensures parts { self.new.parts ≡ self.old.parts }
         ensures ledger { self.new.ledger ≡ self.old.ledger }
         ensures clock { self.new.clock ≡ self.old.clock }
         ensures broken { self.new.broken ≡ self.old.broken }
     {
-        count_bodies(&mut self.entered, deed, acting)?;
+        count_bodies(&mut self.entered, deed, acting);
         let fates = Fates {
             objects: self.parts.objects(),
             ledger: &self.ledger,
@@ -211,13 +276,15 @@ impl Running {
             fallen: &self.fallen,
         };
         let other = other_by(deed, acting, self.parts.objects().len());
-        fates.find_dying(&mut self.fresh, other)?;
-        self.fallen.settle(released_by(deed), self.fresh.as_slice())
+        fates.find_dying(&mut self.fresh, other);
+        self.fallen.settle(released_by(deed), self.fresh.as_slice());
     }
 
-    // Makes of all what an entry makes of it, with what it rests on. The only error is want of memory, and
-    // then it may be half done.
-    #[tactic(auto, using(crate::proofs::Runs::few_run))]
+    // Makes of all what an entry makes of it, with what it rests on. The only error is want of memory.
+    // Whatever may want it comes first: where the moves, room or the books want it, all is as before but for
+    // room. The scene takes memory as it changes, and comes last of this: where it wants it, the books have
+    // changed, and the core is broken. What comes behind cannot fail. The step is always as it was.
+    #[tactic(auto, using(crate::proofs::Shown::as_moved, crate::proofs::Shown::held_alike))]
     fn change(
         &mut self,
         scenario: &Scenario,
@@ -228,31 +295,41 @@ impl Running {
         carried: &[RefValue],
         entry: &Entry,
     ) -> Result<(), Memory>
-        requires sound { Sound self.old.parts self.old.entered }
+        requires sound { Sound self.old.parts self.old.entered.counts }
         requires few { Few self.old.parts }
         requires room { self.old.parts.entries < 1_000_000 }
         requires deed { FitsDeed entry.now.deed }
         requires whole { IsWhole outcome.old }
-        ensures few { Few self.new.parts }
-        ensures sound { OnOk result (Sound self.new.parts self.new.entered) }
+        requires unbroken { self.old.broken ≡ false }
         ensures becomes { OnOk result (Becomes self.old.parts self.new.parts entry.now
             (acting_of acting) outcome.old
             (acting_of glance.after) glance.filtered (sent_by issued) self.old.clock) }
-        ensures entered { OnOk result (self.new.entered
-            ≡ entered_after entry.now.deed (acting_of acting) self.old.entered) }
+        ensures bodies { OnOk result (All HasSlots self.new.parts.scene.bodies) }
+        ensures runs { OnOk result ((n : ℕ) → Most n self.old.entered.counts
+            → Most (n + 1) self.new.entered.counts) }
+        ensures entered { OnOk result (self.new.entered.counts
+            ≡ entered_after entry.now.deed (acting_of acting) self.old.entered.counts) }
         ensures fallen { OnOk result (Settles self.new.parts.objects
-            (holders_of self.new.ledger.tables) self.new.entered
-            self.old.fallen self.new.ledger.touched entry.now.deed (acting_of acting) self.new.fallen) }
+            (holders_of self.new.ledger.tables) self.new.entered.counts
+            self.old.fallen.objects self.new.ledger.touched entry.now.deed (acting_of acting)
+            self.new.fallen.objects) }
         ensures clock { OnOk result (self.new.clock ≡ ticked entry.now.deed self.old.clock) }
-        ensures booked { OnOk result
-            (BookedBy scenario.now self.old.parts glance.home glance.running carried.now entry.now
-            (acting_of acting) outcome.old (acting_of glance.after) self.old.ledger self.new.ledger) }
-        ensures broken { self.new.broken ≡ self.old.broken }
+        ensures booked { OnOk result (BookedBy scenario.now self.old.parts glance.home glance.running
+            carried.now entry.now (acting_of acting) outcome.old (acting_of glance.after) self.old.ledger
+            self.new.ledger) }
+        ensures unbroken { OnOk result (self.new.broken ≡ false) }
+        ensures same { OnErr result (parts_shown self.new.parts ≡ parts_shown self.old.parts) }
+        ensures kept { OnErr result (self.new.entered.counts ≡ self.old.entered.counts) }
+        ensures err { OnErr result (self.new.broken ≡ false → IsAsBefore self.old self.new) }
+        ensures step { OnErr result (outcome.new ≡ outcome.old) }
     {
-        self.change_holders(scenario, glance, acting, outcome, carried, entry)?;
+        self.prepare(glance, acting, outcome, entry)?;
+        self.book(scenario, glance, carried, entry)?;
+        self.broken = true;
         self.change_parts(glance, acting, outcome, issued, entry)?;
-        self.settle(&entry.deed, acting)?;
+        self.settle(&entry.deed, acting);
         self.clock = ticked(&entry.deed, self.clock);
+        self.broken = false;
         Ok(())
     }
 
@@ -267,7 +344,7 @@ impl Running {
         fits_deed(deed)
     }
 
-    // The same, with what it rests on. After want of memory it is broken.
+    // The same, with what it rests on.
     fn make(
         &mut self,
         scenario: &Scenario,
@@ -277,28 +354,27 @@ impl Running {
         carried: &[RefValue],
         entry: &Entry,
     ) -> Result<(), Memory>
-        requires sound { Sound self.old.parts self.old.entered }
+        requires unbroken { self.old.broken ≡ false }
+        requires sound { Sound self.old.parts self.old.entered.counts }
         requires few { Few self.old.parts }
         requires whole { IsWhole outcome.old }
         requires room { self.old.parts.entries < 1_000_000 }
         requires deed { FitsDeed entry.now.deed }
         ensures few { Few self.new.parts }
-        ensures sound { SoundUnless self.new.broken self.new.parts self.new.entered }
+        ensures sound { Sound self.new.parts self.new.entered.counts }
         ensures entries { OnOk result (self.new.parts.entries ≡ self.old.parts.entries + 1) }
         ensures clock { OnOk result (self.new.clock ≡ ticked entry.now.deed self.old.clock) }
         ensures changed { OnOk result
             (Changed scenario.now self.old.parts self.new.parts self.old.ledger self.new.ledger
-            self.old.entered self.new.entered self.old.fallen self.new.fallen self.old.clock entry.now
-            (acting_of acting)
+            self.old.entered.counts self.new.entered.counts self.old.fallen.objects self.new.fallen.objects
+            self.old.clock entry.now (acting_of acting)
             outcome.old carried.now (sent_by issued)) }
-        ensures whole { OnOk result (self.new.broken ≡ false) }
-        ensures breaks { OnErr result (self.new.broken ≡ true) }
+        ensures unbroken { OnOk result (self.new.broken ≡ false) }
+        ensures err { OnErr result (self.new.broken ≡ false → IsAsBefore self.old self.new) }
+        ensures step { OnErr result (outcome.new ≡ outcome.old) }
     {
         let glance = self.glance(scenario, entry);
-        self.broken = true;
-        self.change(scenario, glance, acting, outcome, issued, carried, entry)?;
-        self.broken = false;
-        Ok(())
+        self.change(scenario, glance, acting, outcome, issued, carried, entry)
     }
 
     // The entry of a turn of a lane.
@@ -310,29 +386,24 @@ impl Running {
         made: Turn,
         outcome: &mut Option<Outcome>,
     ) -> Result<Entry, Memory>
-        requires sound { Sound self.old.parts self.old.entered }
+        requires unbroken { self.old.broken ≡ false }
+        requires sound { Sound self.old.parts self.old.entered.counts }
         requires few { Few self.old.parts }
         requires whole { IsWhole outcome.old }
         requires named { IsNamed self.old.parts.objects self.old.parts.calls }
         requires room { self.old.parts.entries < 1_000_000 }
         requires deed { FitsDeed made.doing.deed }
-        requires turn { IsTurn (seen_by scenario.now self.old.parts self.old.fallen self.old.clock)
+        requires turn { IsTurn (seen_by scenario.now self.old.parts self.old.fallen.objects self.old.clock)
             (books_held self.old.ledger) lane outcome.old made }
         ensures few { Few self.new.parts }
-        ensures sound { SoundUnless self.new.broken self.new.parts self.new.entered }
+        ensures sound { Sound self.new.parts self.new.entered.counts }
         ensures lane { IfOk result (λ entry. entry.lane ≡ lane) }
         ensures entries { OnOk result (self.new.parts.entries ≡ self.old.parts.entries + 1) }
         ensures clock { IfOk result (λ entry. self.new.clock ≡ ticked entry.deed self.old.clock) }
-        ensures next { IfOk result (λ entry. IsCore scenario.now (state_read scenario.now self.old.parts
-            (books_held self.old.ledger) self.old.fallen self.old.clock) self.old.parts
-            (books_held self.old.ledger)
-            self.old.entered self.old.fallen self.old.clock → 1 ≤ lane → lane ≤ lanes scenario.now
-            → MakesNext scenario.now (state_read scenario.now self.old.parts
-            (books_held self.old.ledger) self.old.fallen
-            self.old.clock) self.old.parts self.new.parts self.old.ledger self.new.ledger self.old.entered
-            self.new.entered self.old.fallen self.new.fallen self.old.clock lane entry.deed) }
+        ensures next { IfOk result (λ entry. TurnsTo scenario.now lane self.old self.new entry) }
         ensures unbroken { OnOk result (self.new.broken ≡ false) }
-        ensures breaks { OnErr result (self.new.broken ≡ true) }
+        ensures err { OnErr result (self.new.broken ≡ false → IsAsBefore self.old self.new) }
+        ensures step { OnErr result (outcome.new ≡ outcome.old) }
     {
         let Turn { acting, doing } = made;
         let Doing {
@@ -363,18 +434,18 @@ impl Running {
         step: &mut Option<Outcome>,
     ) -> Result<Turn, Memory>
         requires none { step.old ≡ None }
-        requires sound { Sound self.now.parts self.now.entered }
+        requires sound { Sound self.now.parts self.now.entered.counts }
         requires few { Few self.now.parts }
         requires row { map kind_of servants.old.items ≡ row }
         ensures whole { IsWhole step.new }
         ensures named { IsNamed self.now.parts.objects self.now.parts.calls }
         ensures turn { IfOk result (λ made. IsTurn
-            (seen_by scenario.now self.now.parts self.now.fallen self.now.clock)
+            (seen_by scenario.now self.now.parts self.now.fallen.objects self.now.clock)
             (books_held self.now.ledger) lane step.new made) }
         ensures row { map kind_of servants.new.items ≡ row }
         ensures served { OnOk result (map stepped servants.new.items
             ≡ one_served (kind_seen (seen_by scenario.now
-            self.now.parts self.now.fallen self.now.clock) lane) (map stepped servants.old.items)) }
+            self.now.parts self.now.fallen.objects self.now.clock) lane) (map stepped servants.old.items)) }
     {
         let view = self.view(scenario);
         match next_turn(&view, &self.ledger, alloc, lane, servants, step)? {
@@ -385,6 +456,7 @@ impl Running {
 
     /// Makes the next entry of a lane that can step. The step of the entry before, which lies in `step`,
     /// makes room for that of this one. The only error is want of memory.
+    #[tactic(auto, using(crate::proofs::Shown::as_before))]
     pub fn step(
         &mut self,
         scenario: &Scenario,
@@ -393,29 +465,22 @@ impl Running {
         servants: &mut Vec<Box<dyn Servant + Send>>,
         step: &mut Option<Outcome>,
     ) -> Result<Entry, Memory>
-        requires sound { SoundUnless self.old.broken self.old.parts self.old.entered }
+        requires sound { Sound self.old.parts self.old.entered.counts }
         requires few { Few self.old.parts }
         requires row { map kind_of servants.old.items ≡ row }
         ensures few { Few self.new.parts }
-        ensures sound { SoundUnless self.new.broken self.new.parts self.new.entered }
+        ensures sound { Sound self.new.parts self.new.entered.counts }
         ensures lane { IfOk result (λ entry. entry.lane ≡ lane) }
         ensures entries { OnOk result (self.new.parts.entries ≡ self.old.parts.entries + 1) }
         ensures clock { IfOk result (λ entry. self.new.clock ≡ ticked entry.deed self.old.clock) }
-        ensures next { IfOk result (λ entry. IsCore scenario.now (state_read scenario.now self.old.parts
-            (books_held self.old.ledger) self.old.fallen self.old.clock) self.old.parts
-            (books_held self.old.ledger)
-            self.old.entered self.old.fallen self.old.clock → 1 ≤ lane → lane ≤ lanes scenario.now
-            → MakesNext scenario.now (state_read scenario.now self.old.parts
-            (books_held self.old.ledger) self.old.fallen
-            self.old.clock) self.old.parts self.new.parts self.old.ledger self.new.ledger self.old.entered
-            self.new.entered self.old.fallen self.new.fallen self.old.clock lane entry.deed) }
+        ensures next { IfOk result (λ entry. TurnsTo scenario.now lane self.old self.new entry) }
         ensures unbroken { OnOk result (self.new.broken ≡ false) }
-        ensures err { OnErr result (self.new.broken ≡ false → self.new ≡ self.old) }
+        ensures err { OnErr result (self.new.broken ≡ false → IsAsBefore self.old self.new) }
         ensures was { OnOk result (self.old.broken ≡ false) }
         ensures row { map kind_of servants.new.items ≡ row }
         ensures served { OnOk result (map stepped servants.new.items
             ≡ one_served (kind_seen (seen_by scenario.now
-            self.old.parts self.old.fallen self.old.clock) lane) (map stepped servants.old.items)) }
+            self.old.parts self.old.fallen.objects self.old.clock) lane) (map stepped servants.old.items)) }
     {
         if self.broken {
             return Err(Memory);
@@ -429,27 +494,20 @@ impl Running {
     }
 
     /// Makes the clock's entry. The only error is want of memory.
-    #[tactic(auto, using(crate::proofs::Turned::tick_made))]
+    #[tactic(auto, using(crate::proofs::Turned::tick_made, crate::proofs::Shown::as_before))]
     pub fn tick(&mut self, scenario: &Scenario) -> Result<Entry, Memory>
-        requires sound { SoundUnless self.old.broken self.old.parts self.old.entered }
+        requires sound { Sound self.old.parts self.old.entered.counts }
         requires few { Few self.old.parts }
         ensures few { Few self.new.parts }
-        ensures sound { SoundUnless self.new.broken self.new.parts self.new.entered }
+        ensures sound { Sound self.new.parts self.new.entered.counts }
         ensures lane { IfOk result (λ entry. entry.lane ≡ 0) }
         ensures entries { OnOk result (self.new.parts.entries ≡ self.old.parts.entries + 1) }
         ensures clock { IfOk result (λ entry. self.new.clock ≡ ticked entry.deed self.old.clock) }
-        ensures next { IfOk result (λ entry. IsCore scenario.now (state_read scenario.now self.old.parts
-            (books_held self.old.ledger) self.old.fallen self.old.clock) self.old.parts
-            (books_held self.old.ledger)
-            self.old.entered self.old.fallen self.old.clock
-            → standing_of scenario.now (state_read scenario.now
-            self.old.parts (books_held self.old.ledger) self.old.fallen self.old.clock) ≡ standing.Ticks
-            → MakesNext scenario.now (state_read scenario.now self.old.parts
-            (books_held self.old.ledger) self.old.fallen
-            self.old.clock) self.old.parts self.new.parts self.old.ledger self.new.ledger self.old.entered
-            self.new.entered self.old.fallen self.new.fallen self.old.clock 0 entry.deed) }
+        ensures next { IfOk result (λ entry. IsWholeCore (kept_of scenario.now self.old)
+            → standing_of scenario.now (core_state (kept_of scenario.now self.old)) ≡ standing.Ticks
+            → Steps 0 (kept_of scenario.now self.old) (kept_of scenario.now self.new) entry) }
         ensures unbroken { OnOk result (self.new.broken ≡ false) }
-        ensures err { OnErr result (self.new.broken ≡ false → self.new ≡ self.old) }
+        ensures err { OnErr result (self.new.broken ≡ false → IsAsBefore self.old self.new) }
         ensures was { OnOk result (self.old.broken ≡ false) }
     {
         if self.broken {

@@ -4,21 +4,25 @@ ghost use Rattle.std.specs.Prelude.{◌≡◌, ◌∷◌, [], false, IfOk, None,
 ghost use Rattle.com_calls.specs.Kept.{IsNamed};
 ghost use Rattle.com_core.specs.Beginning.{BeginsParts};
 ghost use Rattle.com_core.specs.Sound.{Few, Sound};
+ghost use Rattle.com_ledger.specs.Books.{books_held};
 ghost use Rattle.com_ledger.specs.Ties.{IsNew};
+ghost use Rattle.com_model.specs.Ends.{state_of};
+ghost use Rattle.com_model.specs.Lists.{is_member};
 
 use com_base::Memory;
 use com_body::Outcome;
 use com_ledger::Ledger;
-use com_model::Scenario;
+use com_model::{ObjectState, Scenario};
 use com_moves::Moves;
 use com_objects::{Entered, Fallen};
 use com_parts::Parts;
-use com_view::View;
+use com_view::{References, View};
 use std::alloc::Global;
 
 /// What a core keeps of a history: the parts, who holds references, how many bodies of each object run, the
-/// dying objects, and the clock in milliseconds. `moves` and `fresh` are used again from entry to entry.
-/// `broken` says that a change was left half done for want of memory.
+/// dying objects, and the clock in milliseconds. `moves` and `fresh` are used again from entry to entry: what
+/// they hold between two entries means nothing. `broken` says that the books had changed by an entry when the
+/// scene found no memory for it.
 #[derive(Drop)]
 pub struct Running {
     pub parts: Parts,
@@ -39,10 +43,11 @@ pub fn unproved() -> Memory {
 
 /// The counts of running bodies before the first entry: object 0 is none, and has a row.
 fn no_bodies(alloc: Global) -> Result<Entered, Memory>
-    ensures { IfOk result (λ entered. entered ≡ 0 ∷ []) }
+    ensures { IfOk result (λ entered. entered.counts ≡ 0 ∷ []) }
 {
     let mut entered = Entered::new(alloc);
-    entered.make()?;
+    entered.reserve()?;
+    entered.make();
     Ok(entered)
 }
 
@@ -59,11 +64,12 @@ impl Running {
     /// All before the first entry. The only error is want of memory.
     #[tactic(auto, using(crate::proofs::Whole::new_whole, crate::proofs::Runs::none_run, crate::proofs::Runs::none_made))]
     pub fn new(alloc: Global, scenario: &Scenario) -> Result<Running, Memory>
-        ensures sound { IfOk result (λ running. Sound running.parts running.entered) }
-        ensures stands { IfOk result (λ running. BeginsParts scenario.now running.parts running.fallen) }
+        ensures sound { IfOk result (λ running. Sound running.parts running.entered.counts) }
+        ensures stands { IfOk result (λ running.
+            BeginsParts scenario.now running.parts running.fallen.objects) }
         ensures held { IfOk result (λ running. IsNew running.ledger) }
         ensures whole { IfOk result (λ running. running.broken ≡ false) }
-        ensures entered { IfOk result (λ running. running.entered ≡ 0 ∷ []) }
+        ensures entered { IfOk result (λ running. running.entered.counts ≡ 0 ∷ []) }
         ensures few { IfOk result (λ running. Few running.parts) }
         ensures entries { IfOk result (λ running. running.parts.entries ≡ 0) }
         ensures clock { IfOk result (λ running. running.clock ≡ 0) }
@@ -90,7 +96,7 @@ impl Running {
           objects = self.now.parts.objects;
           calls = self.now.parts.calls;
           scene = self.now.parts.scene;
-          fallen = self.now.fallen;
+          fallen = self.now.fallen.objects;
           clock = self.now.clock;
         } }
         ensures named { IsNamed self.now.parts.objects self.now.parts.calls }
@@ -103,6 +109,21 @@ impl Running {
             scene: self.parts.scene(),
             fallen: &self.fallen,
             clock: self.clock,
+        }
+    }
+
+    /// Whether an object is connected, or else whether it was released.
+    pub fn state(&self, object: u32) -> ObjectState
+        ensures { result ≡ state_of (is_member object self.now.parts.objects.finaled)
+            ((books_held self.now.ledger).live object) }
+    {
+        if self.parts.objects().is_released(object) {
+            return ObjectState::Released;
+        }
+        if self.ledger.is_connected(object) {
+            ObjectState::Live
+        } else {
+            ObjectState::Disconnected
         }
     }
 }

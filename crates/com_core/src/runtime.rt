@@ -16,8 +16,6 @@ ghost use Rattle.com_jobs.specs.declared.jobs.Next.TheVariants as next;
 ghost use Rattle.com_jobs.specs.Jobs.{Fits, HasShape, IsGivenBack, IsRefused, job_of, kept_in, next_in};
 ghost use Rattle.com_ledger.specs.Books.{books_held};
 ghost use Rattle.com_ledger.specs.Ties.{IsNew};
-ghost use Rattle.com_model.specs.Ends.{state_of};
-ghost use Rattle.com_model.specs.Lists.{is_member};
 ghost use Rattle.com_model.specs.Formed.{Formed};
 ghost use Rattle.com_model.specs.State.{objects_in};
 ghost use Rattle.com_model.specs.Tables.{lanes};
@@ -29,10 +27,10 @@ use com_base::Memory;
 use com_body::{Job, Outcome};
 use com_drive::{Runtime, Standing};
 use com_jobs::{CommitError, Jobs, Next};
-use com_model::{Counts, Entry, ObjectState, Scenario};
+use com_model::{Counts, Entry, Scenario};
 use com_servant::Servant;
 use com_standing::standing_of;
-use com_view::{Next as ViewNext, References};
+use com_view::Next as ViewNext;
 use std::alloc::Global;
 use std::marker::Model;
 use std::sync::Arc;
@@ -55,14 +53,14 @@ impl Model for Core {
     ghost use Rattle.std.specs.Prelude.{◌≡◌, ◌<◌, ◌^◌, length};
     ghost use Rattle.std.specs.Arc.{arc_value};
     ghost use Rattle.com_core.specs.Seen.{CoreView, KeptUnless, core_of};
-    ghost use Rattle.com_core.specs.Sound.{Few, SoundUnless};
+    ghost use Rattle.com_core.specs.Sound.{Few, Sound};
     ghost use Rattle.com_model.specs.Tables.{lanes};
 
     ghost Value = { CoreView };
 
     ghost view = { λ c. core_of (arc_value c.scenario) c.running };
 
-    ghost invariant = { λ c. SoundUnless c.running.broken c.running.parts c.running.entered
+    ghost invariant = { λ c. Sound c.running.parts c.running.entered.counts
         × Few c.running.parts
         × (c.count ≡ lanes (arc_value c.scenario)) × (length (arc_value c.scenario).threads < 2 ^ 32)
         × KeptUnless (core_of (arc_value c.scenario) c.running) };
@@ -164,21 +162,6 @@ impl Core {
         self.running.parts.objects().len()
     }
 
-    // Whether an object is connected, or else whether it was released.
-    fn state(&self, object: u32) -> ObjectState
-        ensures { result ≡ state_of (is_member object self.now.parts.objects.finaled)
-            ((books_held self.now.held).live object) }
-    {
-        if self.running.parts.objects().is_released(object) {
-            return ObjectState::Released;
-        }
-        if self.running.ledger.is_connected(object) {
-            ObjectState::Live
-        } else {
-            ObjectState::Disconnected
-        }
-    }
-
     /// What a report counts of an object, from 1 to `objects`.
     pub fn counts(&self, object: u32) -> Counts
         ensures { IsReached self.now.scenario (core_state self.now) → self.now.broken ≡ false
@@ -188,7 +171,7 @@ impl Core {
         Counts {
             class: self.running.parts.objects().class(object),
             owner: self.running.parts.objects().owner(object),
-            state: self.state(object),
+            state: self.running.state(object),
             direct: numbers.direct,
             proxies: numbers.proxies,
             packets: numbers.packets,
@@ -200,9 +183,9 @@ impl Core {
     /// Makes the next entry of a lane that can step. Where a body runs in the lane, the servant of its
     /// class's kind computes the step. The row has one servant of each kind, in the order of the kinds.
     ///
-    /// The only error is want of memory. Where it came while the entry was being made, the runtime makes no
-    /// more entries: each later step answers want of memory. A servant may have counted a step whose entry
-    /// was not made.
+    /// The only error is want of memory. Nothing has changed then, but where the scene wanted it when the
+    /// books had changed: then the runtime makes no more entries, and each later step answers want of memory.
+    /// A servant may have counted a step whose entry was not made.
     pub fn step(
         &mut self,
         alloc: Global,
@@ -232,8 +215,7 @@ impl Core {
     }
 
     /// Makes the clock's entry, where the clock goes on: to the least time that a call waits for. The only
-    /// error is want of memory; where it came while the entry was being made, the runtime makes no more
-    /// entries.
+    /// error is want of memory, as for `step`.
     pub fn tick(&mut self) -> Result<Entry, Memory>
         ensures entry { IfOk result (λ entry. Makes 0 self.old self.new entry) }
         ensures follows { IfOk result (λ entry. Formed self.old.scenario
@@ -287,8 +269,7 @@ impl Core {
     }
 
     /// The step of the body that acts in a lane, as a job for a servant of its kind: on copies of the body's
-    /// frame and of its object's cells. The only error is want of memory; a runtime that makes no more
-    /// entries answers it too.
+    /// frame and of its object's cells. The only error is want of memory.
     pub fn job(&self, alloc: Global, lane: u32) -> Result<Job, Memory>
         ensures job { IfOk result (λ job.
             job_of self.now.scenario (core_state self.now) lane ≡ Some job) }
@@ -309,9 +290,9 @@ impl Core {
 
     /// Makes the next entry of a lane in which a body acts, by the outcome of a job that fits it.
     ///
-    /// `Stale` comes exactly where the object's cells differ from the job's, which is tested first; then
-    /// nothing has changed. `Memory` is want of memory. Where it came while the entry was being made, the
-    /// outcome does not come back, and the runtime makes no more entries.
+    /// `Stale` comes exactly where the object's cells differ from the job's, which is tested first. `Memory`
+    /// is want of memory, as for `step`. The job comes back after either, and after the latter the outcome
+    /// too.
     pub fn commit(
         &mut self,
         alloc: Global,
@@ -330,7 +311,7 @@ impl Core {
         ensures fresh { OnOk result (job.cells ≡ kept_in (core_state self.old) lane) }
         ensures refused { IfErr result (λ error. IsRefused (kept_in (core_state self.old) lane) job
             self.old.broken self.new.broken error) }
-        ensures back { IfErr result (λ error. IsGivenBack job outcome self.new.broken error) }
+        ensures back { IfErr result (IsGivenBack job outcome) }
         ensures whole { OnOk result (self.new.broken ≡ false) }
         ensures err { OnErr result (self.new.broken ≡ false → self.new ≡ self.old) }
         ensures scenario { self.new.scenario ≡ self.old.scenario }
@@ -357,8 +338,7 @@ impl Core {
     }
 
     /// Makes the next entry of a lane that needs no servant, or of lane 0 the clock's entry, where the clock
-    /// goes on. The only error is want of memory; where it came while the entry was being made, the runtime
-    /// makes no more entries.
+    /// goes on. The only error is want of memory, as for `step`.
     pub fn advance(&mut self, alloc: Global, lane: u32) -> Result<Entry, Memory>
         requires below { lane ≤ lanes self.old.scenario }
         requires clock { lane ≡ 0 → standing_of self.old.scenario (core_state self.old) ≡ standing.Ticks }

@@ -1,10 +1,11 @@
 //! The steps of bodies as jobs, and the entries that need no servant.
 
-ghost use Rattle.std.specs.Prelude.{◌≡◌, ℕ, ◌+◌, ◌↔◌, IfErr, IfOk, IsTrue, OnErr, OnOk, Some, false};
+ghost use Rattle.std.specs.Prelude.{◌≡◌, ℕ, ◌+◌, ◌↔◌, IfErr, IfOk, IfSome, IsSome, IsTrue, OnErr, OnOk};
+ghost use Rattle.std.specs.Prelude.{Some, false};
 ghost use Rattle.com_calls.specs.Kept.{IsNamed};
 ghost use Rattle.com_core.specs.Nexts.{FitsTop, kept_top};
-ghost use Rattle.com_core.specs.Seen.{TurnsTo, core_of, core_state};
-ghost use Rattle.com_core.specs.Sound.{Few, Sound, SoundUnless};
+ghost use Rattle.com_core.specs.Seen.{IsAsBefore, TurnsTo, core_state, kept_of};
+ghost use Rattle.com_core.specs.Sound.{Few, Sound};
 ghost use Rattle.com_core.specs.Stands.{seen_by};
 ghost use Rattle.com_jobs.specs.Jobs.{Fits, HasShape, IsGivenBack, IsRefused, job_of, kept_in};
 ghost use Rattle.com_ledger.specs.Books.{books_held};
@@ -28,13 +29,23 @@ use com_turns::{Turn, given_turn, own_turn};
 use com_work::{fits_work, same_cells, work_of};
 use std::alloc::Global;
 
+// The step of an entry that found no memory. It has a function of its own, since it is wide.
+#[inline(never)]
+fn given_back(step: Option<Outcome>) -> Outcome
+    requires { IsSome step }
+    ensures { IfSome step (λ outcome. result ≡ outcome) }
+{
+    let Some(outcome) = step else { unreachable!() };
+    outcome
+}
+
 impl Running {
     /// The step of the body that acts in a lane, as a job. The only error is want of memory.
     #[tactic(auto, using(crate::proofs::Whole::bodies_whole, crate::proofs::Worked::job_read))]
     pub fn job(&self, scenario: &Scenario, alloc: Global, lane: u32) -> Result<Job, Memory>
-        requires sound { SoundUnless self.now.broken self.now.parts self.now.entered }
+        requires sound { Sound self.now.parts self.now.entered.counts }
         ensures job { IfOk result (λ job.
-            job_of scenario.now (core_state (core_of scenario.now self.now)) lane ≡ Some job) }
+            job_of scenario.now (core_state (kept_of scenario.now self.now)) lane ≡ Some job) }
         ensures class { IfOk result (λ job. IsOfItsClass scenario.now.classes job) }
     {
         if self.broken {
@@ -51,7 +62,8 @@ impl Running {
     /// 8 slots.
     pub fn fits(&self, scenario: &Scenario, lane: u32, job: &Job) -> bool
         ensures { ((c : ℕ) → HasShape (body_at self.now.parts.scene c)) → HasShape job.now.frame
-            → (IsTrue result ↔ FitsTop (seen_by scenario.now self.now.parts self.now.fallen self.now.clock)
+            → (IsTrue result ↔ FitsTop
+            (seen_by scenario.now self.now.parts self.now.fallen.objects self.now.clock)
             (first (openers_at self.now.parts.lanes lane)) job.now) }
     {
         let view = self.view(scenario);
@@ -84,10 +96,10 @@ impl Running {
         requires few { Few self.now.parts }
         requires step { (c o a : ℕ) → first (openers_at self.now.parts.lanes lane) ≡ Some (Enters c o a)
             → outcome.now
-            ≡ body_seen (seen_by scenario.now self.now.parts self.now.fallen self.now.clock) c o }
+            ≡ body_seen (seen_by scenario.now self.now.parts self.now.fallen.objects self.now.clock) c o }
         ensures named { IsNamed self.now.parts.objects self.now.parts.calls }
         ensures turn { IfOk result (λ made. IsTurn
-            (seen_by scenario.now self.now.parts self.now.fallen self.now.clock)
+            (seen_by scenario.now self.now.parts self.now.fallen.objects self.now.clock)
             (books_held self.now.ledger) lane (Some outcome.now) made) }
     {
         let view = self.view(scenario);
@@ -95,48 +107,51 @@ impl Running {
     }
 
     // The entry of a lane in which a body acts, by a step that was computed before. Where memory is wanting
-    // the step comes back, unless the entry was half made.
+    // the step comes back.
+    #[tactic(auto, using(crate::proofs::Shown::as_before))]
     fn take(
         &mut self,
         scenario: &Scenario,
         alloc: Global,
         lane: u32,
         outcome: Outcome,
-    ) -> Result<Entry, Option<Outcome>>
-        requires sound { SoundUnless self.old.broken self.old.parts self.old.entered }
+    ) -> Result<Entry, Outcome>
+        requires sound { Sound self.old.parts self.old.entered.counts }
         requires few { Few self.old.parts }
-        requires whole { self.old.broken ≡ false → HasSlots outcome.frame }
+        requires whole { HasSlots outcome.frame }
         requires step { (c o a : ℕ) → first (openers_at self.old.parts.lanes lane) ≡ Some (Enters c o a)
-            → outcome ≡ body_seen (seen_by scenario.now self.old.parts self.old.fallen self.old.clock) c o }
+            → outcome ≡ body_seen
+            (seen_by scenario.now self.old.parts self.old.fallen.objects self.old.clock) c o }
         ensures few { Few self.new.parts }
-        ensures sound { SoundUnless self.new.broken self.new.parts self.new.entered }
+        ensures sound { Sound self.new.parts self.new.entered.counts }
         ensures lane { IfOk result (λ entry. entry.lane ≡ lane) }
         ensures entries { OnOk result (self.new.parts.entries ≡ self.old.parts.entries + 1) }
         ensures clock { IfOk result (λ entry. self.new.clock ≡ ticked entry.deed self.old.clock) }
         ensures next { IfOk result (λ entry. TurnsTo scenario.now lane self.old self.new entry) }
         ensures unbroken { OnOk result (self.new.broken ≡ false) }
-        ensures err { OnErr result (self.new.broken ≡ false → self.new ≡ self.old) }
+        ensures err { OnErr result (self.new.broken ≡ false → IsAsBefore self.old self.new) }
         ensures was { OnOk result (self.old.broken ≡ false) }
-        ensures back { IfErr result (λ step. self.new.broken ≡ false → step ≡ Some outcome) }
+        ensures back { IfErr result (λ step. step ≡ outcome) }
     {
         if self.broken {
-            return Err(Some(outcome));
+            return Err(outcome);
         }
         let Ok(made) = self.given_turn_of(scenario, alloc, lane, &outcome) else {
-            return Err(Some(outcome));
+            return Err(outcome);
         };
         if !self.can_make(&made.doing.deed) {
-            return Err(Some(outcome));
+            return Err(outcome);
         }
         let mut step = Some(outcome);
         match self.make_turn(scenario, lane, made, &mut step) {
             Ok(entry) => Ok(entry),
-            Err(_) => Err(None),
+            Err(_) => Err(given_back(step)),
         }
     }
 
     /// Makes the next entry of a lane in which a body acts, by the outcome of a job that fits it. `Stale`
     /// comes where the object's cells are others than the job's.
+    #[tactic(auto, using(crate::proofs::Shown::as_before))]
     pub fn commit(
         &mut self,
         scenario: &Scenario,
@@ -145,24 +160,24 @@ impl Running {
         job: Job,
         outcome: Outcome,
     ) -> Result<Entry, CommitError>
-        requires sound { SoundUnless self.old.broken self.old.parts self.old.entered }
+        requires sound { Sound self.old.parts self.old.entered.counts }
         requires few { Few self.old.parts }
-        requires fits { Fits scenario.now (core_state (core_of scenario.now self.old)) lane job }
+        requires fits { Fits scenario.now (core_state (kept_of scenario.now self.old)) lane job }
         requires outcome { outcome ≡ job_step scenario.now.classes job }
         ensures few { Few self.new.parts }
-        ensures sound { SoundUnless self.new.broken self.new.parts self.new.entered }
+        ensures sound { Sound self.new.parts self.new.entered.counts }
         ensures lane { IfOk result (λ entry. entry.lane ≡ lane) }
         ensures entries { OnOk result (self.new.parts.entries ≡ self.old.parts.entries + 1) }
         ensures clock { IfOk result (λ entry. self.new.clock ≡ ticked entry.deed self.old.clock) }
         ensures next { IfOk result (λ entry. TurnsTo scenario.now lane self.old self.new entry) }
         ensures fresh { OnOk result
-            (job.cells ≡ kept_in (core_state (core_of scenario.now self.old)) lane) }
+            (job.cells ≡ kept_in (core_state (kept_of scenario.now self.old)) lane) }
         ensures refused { IfErr result (λ error.
-            IsRefused (kept_in (core_state (core_of scenario.now self.old)) lane) job
+            IsRefused (kept_in (core_state (kept_of scenario.now self.old)) lane) job
             self.old.broken self.new.broken error) }
-        ensures back { IfErr result (λ error. IsGivenBack job outcome self.new.broken error) }
+        ensures back { IfErr result (IsGivenBack job outcome) }
         ensures unbroken { OnOk result (self.new.broken ≡ false) }
-        ensures err { OnErr result (self.new.broken ≡ false → self.new ≡ self.old) }
+        ensures err { OnErr result (self.new.broken ≡ false → IsAsBefore self.old self.new) }
         ensures was { OnOk result (self.old.broken ≡ false) }
     {
         let kept = self.kept(lane);
@@ -190,7 +205,7 @@ impl Running {
         ensures whole { IsWhole step.new }
         ensures named { IsNamed self.now.parts.objects self.now.parts.calls }
         ensures turn { IfOk result (λ made. IsTurn
-            (seen_by scenario.now self.now.parts self.now.fallen self.now.clock)
+            (seen_by scenario.now self.now.parts self.now.fallen.objects self.now.clock)
             (books_held self.now.ledger) lane step.new made) }
     {
         let view = self.view(scenario);
@@ -202,6 +217,7 @@ impl Running {
 
     /// Makes the next entry of a lane in which no body is innermost. The step of the entry before, which lies
     /// in `step`, makes room for that of this one. The only error is want of memory.
+    #[tactic(auto, using(crate::proofs::Shown::as_before))]
     pub fn advance(
         &mut self,
         scenario: &Scenario,
@@ -209,17 +225,17 @@ impl Running {
         lane: u32,
         step: &mut Option<Outcome>,
     ) -> Result<Entry, Memory>
-        requires sound { SoundUnless self.old.broken self.old.parts self.old.entered }
+        requires sound { Sound self.old.parts self.old.entered.counts }
         requires few { Few self.old.parts }
         requires body { is_body (first (openers_at self.old.parts.lanes lane)) ≡ false }
         ensures few { Few self.new.parts }
-        ensures sound { SoundUnless self.new.broken self.new.parts self.new.entered }
+        ensures sound { Sound self.new.parts self.new.entered.counts }
         ensures lane { IfOk result (λ entry. entry.lane ≡ lane) }
         ensures entries { OnOk result (self.new.parts.entries ≡ self.old.parts.entries + 1) }
         ensures clock { IfOk result (λ entry. self.new.clock ≡ ticked entry.deed self.old.clock) }
         ensures next { IfOk result (λ entry. TurnsTo scenario.now lane self.old self.new entry) }
         ensures unbroken { OnOk result (self.new.broken ≡ false) }
-        ensures err { OnErr result (self.new.broken ≡ false → self.new ≡ self.old) }
+        ensures err { OnErr result (self.new.broken ≡ false → IsAsBefore self.old self.new) }
         ensures was { OnOk result (self.old.broken ≡ false) }
     {
         if self.broken {

@@ -1,8 +1,9 @@
 //! Which objects begin to die by an entry: those that nothing holds any more, and none of whose bodies runs.
 #![tactic(auto)]
 
-ghost use Rattle.std.specs.Prelude.{◌≡◌, ℕ, ◌+◌, ◌++◌, ◌∷◌, [], ◌<◌, ◌^◌, List, IfOk, OnOk, filter, is_some};
-ghost use Rattle.std.specs.Prelude.{slice_index_or};
+ghost use Rattle.std.specs.Prelude.{◌≡◌, ℕ, ◌+◌, ◌++◌, ◌∷◌, [], ◌<◌, ◌≤◌, ◌^◌, List, filter, is_some, length};
+ghost use Rattle.std.specs.Prelude.{slice_index_or, vec_capacity, vec_len};
+ghost use Rattle.com_books.specs.Counting.{count_if};
 ghost use Rattle.com_fates.specs.Bodies.{entered_after, left_object, without_body};
 ghost use Rattle.com_fates.specs.Falling.{begins_by, other_object, placed_in};
 ghost use Rattle.com_fates.specs.Most.{Most};
@@ -11,7 +12,6 @@ ghost use Rattle.com_model.specs.Objects.{finals, makes};
 ghost use Rattle.com_refs.specs.Counts.{holders_of};
 ghost use Rattle.com_scene.specs.Actors.{acting_of};
 
-pub use com_base::Memory;
 use com_ledger::Ledger;
 use com_model::Deed;
 use com_objects::{Entered, Fallen, Objects};
@@ -82,20 +82,22 @@ pub fn released_by(deed: &Deed) -> Option<u32>
 // Counts a body that ends, where one does.
 #[tactic(auto, using(crate::proofs::Runs::left_most, crate::proofs::Runs::kept_most))]
 fn count_left(entered: &mut Entered, left: Option<u32>)
-    ensures counts { entered.new ≡ without_body left entered.old }
-    ensures most { (n : ℕ) → Most n entered.old → Most (n + 1) entered.new }
+    ensures counts { entered.new.counts ≡ without_body left entered.old.counts }
+    ensures most { (n : ℕ) → Most n entered.old.counts → Most (n + 1) entered.new.counts }
 {
     if let Some(object) = left {
         entered.leave(object);
     }
 }
 
-/// Counts the bodies that an entry begins and ends. The only error is want of memory.
+/// Counts the bodies that an entry begins and ends. There is room for one more object.
 #[tactic(auto, using(crate::proofs::Runs::entered_most, crate::proofs::Runs::made_most))]
-pub fn count_bodies(entered: &mut Entered, deed: &Deed, acting: Actor) -> Result<(), Memory>
-    requires { (o : ℕ) → slice_index_or entered.old o 0 + 1 < 2 ^ 32 }
-    ensures counts { OnOk result (entered.new ≡ entered_after deed.now (acting_of acting) entered.old) }
-    ensures most { OnOk result ((n : ℕ) → Most n entered.old → Most (n + 1) entered.new) }
+pub fn count_bodies(entered: &mut Entered, deed: &Deed, acting: Actor)
+    requires few { (o : ℕ) → slice_index_or entered.old.counts o 0 + 1 < 2 ^ 32 }
+    requires room { 0 < entered.old.spare }
+    ensures counts { entered.new.counts
+        ≡ entered_after deed.now (acting_of acting) entered.old.counts }
+    ensures most { (n : ℕ) → Most n entered.old.counts → Most (n + 1) entered.new.counts }
 {
     match deed {
         Deed::Made {
@@ -103,14 +105,8 @@ pub fn count_bodies(entered: &mut Entered, deed: &Deed, acting: Actor) -> Result
             apartment: Some(_),
             ..
         } => entered.make(),
-        Deed::Enter { object, .. } => {
-            entered.enter(*object);
-            Ok(())
-        }
-        _ => {
-            count_left(entered, left_by(deed, acting));
-            Ok(())
-        }
+        Deed::Enter { object, .. } => entered.enter(*object),
+        _ => count_left(entered, left_by(deed, acting)),
     }
 }
 
@@ -131,8 +127,9 @@ impl<'a> Fates<'a> {
     // none of its bodies runs.
     #[tactic(auto, using(crate::proofs::Begins::not_zero, crate::proofs::Begins::not_above, crate::proofs::Begins::not_held, crate::proofs::Begins::not_running, crate::proofs::Begins::not_released, crate::proofs::Begins::else_begins))]
     fn begins_to_die(&self, object: u32) -> bool
-        ensures { result ≡ begins_by self.now.objects.now
-            (holders_of self.now.ledger.now.tables) self.now.entered.now self.now.fallen.now object }
+        ensures { result ≡ begins_by self.now.objects.now.tables
+            (holders_of self.now.ledger.now.tables) self.now.entered.now.counts
+            self.now.fallen.now.objects object }
     {
         if object == 0 {
             return false;
@@ -152,64 +149,68 @@ impl<'a> Fates<'a> {
         !is_among(self.fallen.as_slice(), object)
     }
 
-    // Keeps an object where it begins to die.
-    fn keep(&self, fresh: &mut Vec<u32>, object: u32) -> Result<(), Memory>
-        ensures { OnOk result (fresh.new.items ≡ fresh.old.items ++ filter (begins_by self.now.objects.now
-            (holders_of self.now.ledger.now.tables) self.now.entered.now self.now.fallen.now) (object ∷ [])) }
+    // Keeps an object where it begins to die. There is room for it.
+    fn keep(&self, fresh: &mut Vec<u32>, object: u32)
+        requires { vec_len fresh.old + 1 ≤ vec_capacity fresh.old }
+        ensures items { fresh.new.items ≡ fresh.old.items ++ filter (begins_by self.now.objects.now.tables
+            (holders_of self.now.ledger.now.tables) self.now.entered.now.counts
+            self.now.fallen.now.objects) (object ∷ []) }
+        ensures len { vec_len fresh.new ≤ vec_len fresh.old + 1 }
+        ensures capacity { vec_capacity fresh.old ≤ vec_capacity fresh.new }
     {
         if self.begins_to_die(object) {
-            fresh.push(object)?;
+            fresh.push_reserved(object);
         }
-        Ok(())
     }
 
     // Keeps the same of two lists: the one object beside, where its number is the next, and the next that
-    // lost a holder. Answers the one beside where its turn is yet to come.
-    fn keep_next(
-        &self,
-        fresh: &mut Vec<u32>,
-        other: Option<u32>,
-        object: u32,
-    ) -> Result<Option<u32>, Memory>
-        ensures { IfOk result (λ left. (rest : List ℕ)
-            → fresh.new.items ++ filter (begins_by self.now.objects.now
-            (holders_of self.now.ledger.now.tables) self.now.entered.now self.now.fallen.now)
-            (placed_in left rest)
-            ≡ fresh.old.items ++ filter (begins_by self.now.objects.now
-            (holders_of self.now.ledger.now.tables)
-            self.now.entered.now self.now.fallen.now) (placed_in other (object ∷ rest))) }
+    // lost a holder. Answers the one beside where its turn is yet to come. There is room for both.
+    fn keep_next(&self, fresh: &mut Vec<u32>, other: Option<u32>, object: u32) -> Option<u32>
+        requires { vec_len fresh.old + 1 + count_if (is_some other) ≤ vec_capacity fresh.old }
+        ensures items { (rest : List ℕ)
+            → fresh.new.items ++ filter (begins_by self.now.objects.now.tables
+            (holders_of self.now.ledger.now.tables) self.now.entered.now.counts
+            self.now.fallen.now.objects) (placed_in result rest)
+            ≡ fresh.old.items ++ filter (begins_by self.now.objects.now.tables
+            (holders_of self.now.ledger.now.tables) self.now.entered.now.counts
+            self.now.fallen.now.objects) (placed_in other (object ∷ rest)) }
+        ensures len { vec_len fresh.new + count_if (is_some result)
+            ≤ vec_len fresh.old + 1 + count_if (is_some other) }
+        ensures capacity { vec_capacity fresh.old ≤ vec_capacity fresh.new }
     {
         let Some(number) = other else {
-            self.keep(fresh, object)?;
-            return Ok(None);
+            self.keep(fresh, object);
+            return None;
         };
         if number < object {
-            self.keep(fresh, number)?;
-            self.keep(fresh, object)?;
-            return Ok(None);
+            self.keep(fresh, number);
+            self.keep(fresh, object);
+            return None;
         }
-        self.keep(fresh, object)?;
+        self.keep(fresh, object);
         if number == object {
-            return Ok(None);
+            return None;
         }
-        Ok(other)
+        other
     }
 
-    /// Keeps the objects that begin to die, by number: of those that lost a holder, and of one beside. The
-    /// only error is want of memory.
-    pub fn find_dying(&self, fresh: &mut Vec<u32>, other: Option<u32>) -> Result<(), Memory>
-        ensures { OnOk result (fresh.new.items
-            ≡ filter (begins_by self.now.objects.now (holders_of self.now.ledger.now.tables)
-            self.now.entered.now self.now.fallen.now) (placed_in other self.now.ledger.now.touched)) }
+    /// Keeps the objects that begin to die, by number: of those that lost a holder, and of one beside. There
+    /// is room for as many.
+    pub fn find_dying(&self, fresh: &mut Vec<u32>, other: Option<u32>)
+        requires { length self.now.ledger.now.touched + 1 ≤ vec_capacity fresh.old }
+        ensures items { fresh.new.items
+            ≡ filter (begins_by self.now.objects.now.tables (holders_of self.now.ledger.now.tables)
+            self.now.entered.now.counts self.now.fallen.now.objects)
+            (placed_in other self.now.ledger.now.touched) }
+        ensures few { vec_len fresh.new ≤ length self.now.ledger.now.touched + 1 }
     {
         fresh.clear();
         let mut left = other;
         for object in self.ledger.touched() {
-            left = self.keep_next(fresh, left, *object)?;
+            left = self.keep_next(fresh, left, *object);
         }
-        match left {
-            Some(object) => self.keep(fresh, object),
-            None => Ok(()),
+        if let Some(object) = left {
+            self.keep(fresh, object);
         }
     }
 }

@@ -91,7 +91,7 @@ abbrev pub IsRefused : (kept : Cells) → Job → (was is : Bool) → CommitErro
 IsRefused kept job was is (error.Stale j found) = (found ≡ kept) × (¬ (job.cells ≡ kept)) × (is ≡ was)
 IsRefused kept job was is (error.Memory j r) = job.cells ≡ kept
 
--- The job comes back, and with want of memory the outcome too, if the runtime is not broken.
-abbrev pub IsGivenBack : Job → Outcome → (broken : Bool) → CommitError → Type 0
-IsGivenBack job r broken (error.Stale j found) = j ≡ job
-IsGivenBack job r broken (error.Memory j x) = (j ≡ job) × (broken ≡ false → x ≡ Some r)
+-- The job comes back, and with want of memory the outcome too.
+abbrev pub IsGivenBack : Job → Outcome → CommitError → Type 0
+IsGivenBack job r (error.Stale j found) = j ≡ job
+IsGivenBack job r (error.Memory j x) = (j ≡ job) × (x ≡ r)

@@ -8,7 +8,6 @@ pub enum CommitError {
     /// The object's cells are no longer those of the job: another body of the object was committed since the
     /// job was taken, or its links were cut. Nothing has changed. `kept` are the object's cells.
     Stale { job: Job, kept: Cells },
-    /// Memory was wanting. The outcome comes back where nothing has changed. It is `None` where the entry was
-    /// half made; the runtime is broken then, and makes no entry any more.
-    Memory { job: Job, outcome: Option<Outcome> },
+    /// Memory was wanting. The job and the outcome come back.
+    Memory { job: Job, outcome: Outcome },
 }

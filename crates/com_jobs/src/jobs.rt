@@ -86,7 +86,7 @@ pub trait Jobs: Runtime {
         ensures fresh { OnOk result (job.cells ≡ kept_in (Self.state self.old) lane) }
         ensures refused { IfErr result (λ error. IsRefused (kept_in (Self.state self.old) lane) job
             (Self.broken self.old) (Self.broken self.new) error) }
-        ensures back { IfErr result (λ error. IsGivenBack job outcome (Self.broken self.new) error) }
+        ensures back { IfErr result (IsGivenBack job outcome) }
         ensures whole { OnOk result (Self.broken self.new ≡ false) }
         ensures err { OnErr result (Self.broken self.new ≡ false
             → Self.state self.new ≡ Self.state self.old) };

@@ -5,9 +5,9 @@ use Rattle.com_fates.specs.Falling.{begins_by, placed_in}
 use Rattle.com_fates.proofs.Keeping.{keep_both}
 use Rattle.com_fates.proofs.Fates.keep_next.Goals as goal
 
-pub returns-then-number-object : goal.returns-then-number-object
-returns-then-number-object c =
-    let test : ℕ → Bool = begins_by c.args.self.now.objects.now (holders_of c.args.self.now.ledger.now.tables) c.args.self.now.entered.now c.args.self.now.fallen.now in
+pub returns-then-number-object-clause-items : goal.returns-then-number-object-clause-items
+returns-then-number-object-clause-items c =
+    let test : ℕ → Bool = begins_by c.args.self.now.objects.now.tables (holders_of c.args.self.now.ledger.now.tables) c.args.self.now.entered.now.counts c.args.self.now.fallen.now.objects in
     λ rest.
-    keep_both test c.args.fresh.now.items c.keep-then-number-object.new.fresh.items c.keep-then-number-object-2.new.fresh.items c.in-Some.number c.args.object rest c.if-number-object.true c.in_ok-keep-2.ensures c.in_ok-keep-3.ensures
+    keep_both test c.args.fresh.now.items c.keep-then-number-object.new.fresh.items c.keep-then-number-object-2.new.fresh.items c.in-Some.number c.args.object rest c.if-number-object.true c.keep-then-number-object.ensures.items c.keep-then-number-object-2.ensures.items
     ∙ ap (λ (o : Option ℕ). c.args.fresh.now.items ++ filter test (placed_in o (c.args.object ∷ rest))) (sym c.in-Some.is)

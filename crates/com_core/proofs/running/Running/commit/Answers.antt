@@ -2,7 +2,7 @@
 use Rattle.std.proofs.Common.{◌≡◌, refl, sym, ◌∙◌}
 use Rattle.std.specs.Prelude.{true, false}
 use Rattle.com_jobs.specs.Jobs.{kept_in}
-use Rattle.com_core.specs.Seen.{core_of, core_state}
+use Rattle.com_core.specs.Seen.{kept_of, core_state}
 use Rattle.com_core.proofs.Whole.{body_whole}
 use Rattle.com_core.proofs.Worked.{given_step, given_whole, kept_same, unlike}
 use Rattle.com_core.proofs.running.Running.commit.Goals as goal
@@ -11,7 +11,7 @@ pub returns-then-not-same_cells-clause-refused : goal.returns-then-not-same_cell
 returns-then-not-same_cells-clause-refused c =
     let s = c.args.scenario.now in
     let r = c.args.self.now in
-    let k : c.kept-kept.result ≡ kept_in (core_state (core_of s r)) c.args.lane = c.kept-kept.ensures ∙ kept_same s r c.args.lane in
+    let k : c.kept-kept.result ≡ kept_in (core_state (kept_of s r)) c.args.lane = c.kept-kept.ensures ∙ kept_same s r c.args.lane in
     let n : c.same_cells.result ≡ false = cc (c.if-not-same_cells.true) in
     (k, (λ e. unlike c.same_cells.result c.same_cells.ensures n (e ∙ sym k)), refl)
 
@@ -31,14 +31,14 @@ take-requires-clause-step c =
     let r = c.args.self.now in
     let l = c.args.lane in
     let y : c.same_cells.result ≡ true = cc (c.if-not-same_cells.false) in
-    let fresh : c.args.job.cells ≡ kept_in (core_state (core_of s r)) l = c.same_cells.ensures.0 y ∙ c.kept-kept.ensures ∙ kept_same s r l in
+    let fresh : c.args.job.cells ≡ kept_in (core_state (kept_of s r)) l = c.same_cells.ensures.0 y ∙ c.kept-kept.ensures ∙ kept_same s r l in
     given_step s r l c.args.job c.args.outcome c.requires.fits fresh c.requires.outcome
 
 pub take-requires-clause-whole : goal.take-requires-clause-whole
-take-requires-clause-whole c = λ b.
+take-requires-clause-whole c =
     let s = c.args.scenario.now in
     let r = c.args.self.now in
     let l = c.args.lane in
     let y : c.same_cells.result ≡ true = cc (c.if-not-same_cells.false) in
-    let fresh : c.args.job.cells ≡ kept_in (core_state (core_of s r)) l = c.same_cells.ensures.0 y ∙ c.kept-kept.ensures ∙ kept_same s r l in
-    given_whole s r l c.args.job c.args.outcome (body_whole r.parts.scene (c.requires.sound b).bodies) c.requires.fits fresh c.requires.outcome
+    let fresh : c.args.job.cells ≡ kept_in (core_state (kept_of s r)) l = c.same_cells.ensures.0 y ∙ c.kept-kept.ensures ∙ kept_same s r l in
+    given_whole s r l c.args.job c.args.outcome (body_whole r.parts.scene c.requires.sound.bodies) c.requires.fits fresh c.requires.outcome

@@ -10,5 +10,5 @@ use Rattle.com_core.proofs.running.Running.given_turn_of.Goals as goal
 pub given_turn-requires-clause-step : goal.given_turn-requires-clause-step
 given_turn-requires-clause-step c =
     let r = c.args.self.now in
-    let w : c.view-view.result ≡ seen_by c.args.scenario.now r.parts r.fallen r.clock = c.view-view.ensures.value in
+    let w : c.view-view.result ≡ seen_by c.args.scenario.now r.parts r.fallen.objects r.clock = c.view-view.ensures.value in
     λ k o a e. c.requires.step k o a (sym (ap (λ (v : Seen). first (openers_at v.lanes c.args.lane)) w) ∙ e) ∙ sym (ap (λ (v : Seen). body_seen v k o) w)

@@ -1,22 +1,28 @@
 -- All that an entry changes, with what its change rests on.
+use Rattle.std.proofs.Common.{Result, Ok, Err, OnOk}
 use Rattle.com_scene.specs.Actors.{acting_of}
+use Rattle.com_core.proofs.Runs.{entries_made, few_made, sound_made}
+use Rattle.com_core.proofs.Made.{changed_made}
 use Rattle.com_core.proofs.running.Running.make.Goals as goal
+
+pub returns-clause-few : goal.returns-clause-few
+returns-clause-few c =
+    let m = c.change.ensures in
+    few_made c.change.result c.args.self.now.parts c.change.new.self.parts _ _ _ _ _ _ _ m.becomes m.same c.requires.room c.requires.few
+
+pub returns-clause-sound : goal.returns-clause-sound
+returns-clause-sound c =
+    let m = c.change.ensures in
+    sound_made c.change.result c.args.self.now.parts c.change.new.self.parts c.args.self.now.entered.counts c.change.new.self.entered.counts _ _ _ _ _ _ _
+    m.becomes m.bodies m.runs m.same m.kept c.requires.sound
+
+pub returns-clause-entries : goal.returns-clause-entries
+returns-clause-entries c = entries_made c.change.result c.args.self.now.parts c.change.new.self.parts _ _ _ _ _ _ _ c.change.ensures.becomes
 
 pub returns-clause-changed : goal.returns-clause-changed
 returns-clause-changed c =
     let before = c.glance-glance in
-    let made = c.in_ok-change.ensures in
-    record {
-      follows = acting_of before.result.after;
-      filtered = before.result.filtered;
-      home = before.result.home;
-      running = before.result.running;
-      acts_after = before.ensures.after;
-      filter_is = before.ensures.filtered;
-      home_is = before.ensures.home;
-      running_is = before.ensures.running;
-      becomes = made.becomes;
-      counts = made.entered;
-      settles = made.fallen;
-      booked = made.booked;
-    }
+    let m = c.change.ensures in
+    changed_made c.change.result c.args.scenario.now c.args.self.now c.change.new.self c.args.entry.now (acting_of c.args.acting) _ (acting_of before.result.after)
+    before.result.filtered before.result.home before.result.running c.args.carried.now _ before.ensures.after before.ensures.filtered before.ensures.home before.ensures.running
+    m.becomes m.entered m.fallen m.booked

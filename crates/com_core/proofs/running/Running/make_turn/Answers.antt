@@ -16,9 +16,9 @@ returns-clause-next c =
     let u = c.make.new.self in
     let t = c.args.made in
     let b = books_held v.ledger in
-    let changed : Changed s v.parts u.parts v.ledger u.ledger v.entered u.entered v.fallen u.fallen v.clock (record { lane = c.args.lane; deed = t.doing.deed }) (acting_of t.acting) c.args.outcome.now t.doing.carried (sent_by t.doing.issued) =
-    subst (λ (rs : List RefValue). Changed s v.parts u.parts v.ledger u.ledger v.entered u.entered v.fallen u.fallen v.clock (record { lane = c.args.lane; deed = t.doing.deed }) (acting_of t.acting) c.args.outcome.now rs (sent_by t.doing.issued))
+    let changed : Changed s v.parts u.parts v.ledger u.ledger v.entered.counts u.entered.counts v.fallen.objects u.fallen.objects v.clock (record { lane = c.args.lane; deed = t.doing.deed }) (acting_of t.acting) c.args.outcome.now t.doing.carried (sent_by t.doing.issued) =
+    subst (λ (rs : List RefValue). Changed s v.parts u.parts v.ledger u.ledger v.entered.counts u.entered.counts v.fallen.objects u.fallen.objects v.clock (record { lane = c.args.lane; deed = t.doing.deed }) (acting_of t.acting) c.args.outcome.now rs (sent_by t.doing.issued))
     c.as_slice.ensures c.in_ok-make.ensures.changed in
     λ k low high.
-    next_made s (state_read s v.parts b v.fallen v.clock) v.parts u.parts b v.ledger u.ledger v.entered u.entered v.fallen u.fallen v.clock c.args.lane c.args.outcome.now t
+    next_made s (state_read s v.parts b v.fallen.objects v.clock) v.parts u.parts b v.ledger u.ledger v.entered.counts u.entered.counts v.fallen.objects u.fallen.objects v.clock c.args.lane c.args.outcome.now t
     c.requires.turn c.requires.named c.requires.few.entries changed k low high

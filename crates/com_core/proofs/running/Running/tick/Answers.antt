@@ -14,5 +14,5 @@ returns-clause-next c =
     let b = books_held v.ledger in
     let time : next_wait v.parts.calls v.clock ≡ Some c.in-Some.clock = ap (λ (k : Kept). next_wait k v.clock) (sym c.calls.ensures.value) ∙ sym c.next_time.ensures ∙ c.in-Some.is in
     λ k e.
-    tick_made c.args.scenario.now (state_read c.args.scenario.now v.parts b v.fallen v.clock) v.parts u.parts b v.ledger u.ledger v.entered u.entered v.fallen u.fallen v.clock c.in-Some.clock
+    tick_made c.args.scenario.now (state_read c.args.scenario.now v.parts b v.fallen.objects v.clock) v.parts u.parts b v.ledger u.ledger v.entered.counts u.entered.counts v.fallen.objects u.fallen.objects v.clock c.in-Some.clock
     c.calls.ensures.named c.requires.few.entries time c.in_ok-make.ensures.changed k e

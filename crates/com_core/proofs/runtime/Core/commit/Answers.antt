@@ -1,6 +1,6 @@
 -- A commit of a core is that of what it keeps.
 use Rattle.std.proofs.Common.{◌≡◌, ◌≤◌, IfOk, refl, subst, sym}
-use Rattle.std.specs.Prelude.{IfErr, OnOk}
+use Rattle.std.specs.Prelude.{IfErr, OnErr, OnOk, false}
 use Rattle.std.specs.Arc.{arc_value}
 use Rattle.com_model.specs.declared.deeds.Entry.{Entry}
 use Rattle.com_model.specs.declared.scenario.Scenario.{Scenario}
@@ -10,15 +10,18 @@ use Rattle.com_servant.specs.Steps.{job_step}
 use Rattle.com_drive.specs.Turns.{IsNext}
 use Rattle.com_jobs.specs.declared.errors.CommitError.{CommitError}
 use Rattle.com_jobs.specs.Jobs.{Fits, IsRefused, kept_in}
-use Rattle.com_core.specs.Seen.{CoreView, IsWhole, Steps, core_of, core_state}
+use Rattle.com_core.specs.Seen.{CoreView, IsWhole, Steps, core_of, core_state, kept_of}
 use Rattle.com_core.proofs.Kept.{kept_stepped, next_stepped, same_core, step_taken}
+use Rattle.com_model.specs.State.{State}
+use Rattle.com_core.proofs.Shown.{as_kept, as_shown, state_shown}
 use Rattle.com_core.proofs.runtime.Core.commit.Goals as goal
 
 pub commit-requires-clause-fits : goal.commit-requires-clause-fits
 commit-requires-clause-fits c =
     let r = c.self.inside.running in
-    subst (λ (s : Scenario). Fits s (core_state (core_of s r)) c.args.lane c.args.job) (sym c.deref.ensures)
-    (subst (λ (w : CoreView). Fits w.scenario (core_state w) c.args.lane c.args.job) (sym c.self.view_is) c.requires.fits)
+    let l = c.args.lane in
+    subst (λ (s : Scenario). Fits s (core_state (kept_of s r)) l c.args.job) (sym c.deref.ensures)
+    (as_kept (λ s st. Fits s st l c.args.job) (arc_value c.self.inside.scenario) r _ c.self.view_is c.requires.fits)
 
 pub commit-requires-clause-outcome : goal.commit-requires-clause-outcome
 commit-requires-clause-outcome c =
@@ -52,16 +55,26 @@ pub returns-clause-fresh : goal.returns-clause-fresh
 returns-clause-fresh c =
     let r = c.self.inside.running in
     let l = c.args.lane in
-    subst (λ (w : CoreView). OnOk c.commit.result (c.args.job.cells ≡ kept_in (core_state w) l)) c.self.view_is
-    (subst (λ (s : Scenario). OnOk c.commit.result (c.args.job.cells ≡ kept_in (core_state (core_of s r)) l)) c.deref.ensures c.commit.ensures.fresh)
+    as_shown (λ s st. OnOk c.commit.result (c.args.job.cells ≡ kept_in st l)) (arc_value c.self.inside.scenario) r _ c.self.view_is
+    (subst (λ (s : Scenario). OnOk c.commit.result (c.args.job.cells ≡ kept_in (core_state (kept_of s r)) l)) c.deref.ensures c.commit.ensures.fresh)
 
 pub returns-clause-refused : goal.returns-clause-refused
 returns-clause-refused c =
     let r = c.self.inside.running in
-    let u = c.commit.new.self in
     let l = c.args.lane in
+    let u = c.commit.new.self in
+    let s = arc_value c.self.inside.scenario in
+    let refused : IfErr c.commit.result (λ (e : CommitError). IsRefused (kept_in (core_state (kept_of s r)) l) c.args.job r.broken u.broken e) =
+    subst (λ (s : Scenario). IfErr c.commit.result (λ (e : CommitError). IsRefused (kept_in (core_state (kept_of s r)) l) c.args.job r.broken u.broken e)) c.deref.ensures c.commit.ensures.refused in
     subst (λ (w : CoreView). IfErr c.commit.result (λ (e : CommitError). IsRefused (kept_in (core_state w) l) c.args.job w.broken u.broken e)) c.self.view_is
-    (subst (λ (s : Scenario). IfErr c.commit.result (λ (e : CommitError). IsRefused (kept_in (core_state (core_of s r)) l) c.args.job r.broken u.broken e)) c.deref.ensures c.commit.ensures.refused)
+    (subst (λ (st : State). IfErr c.commit.result (λ (e : CommitError). IsRefused (kept_in st l) c.args.job r.broken u.broken e)) (sym (state_shown (kept_of s r))) refused)
+
+pub returns-clause-err : goal.returns-clause-err
+returns-clause-err c =
+    let s = arc_value c.self.inside.scenario in
+    let r = c.self.inside.running in
+    let u = c.commit.new.self in
+    subst (λ (w : CoreView). OnErr c.commit.result (u.broken ≡ false → core_of s u ≡ w)) c.self.view_is (same_core c.commit.result s r u c.commit.ensures.err)
 
 pub invariant_of-self : goal.invariant_of-self
 invariant_of-self c =

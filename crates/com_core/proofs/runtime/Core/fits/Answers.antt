@@ -1,6 +1,6 @@
 -- A job fits by the parts where it fits by the core's state, since frames have their shape in each state that
 -- a legal history comes to.
-use Rattle.std.proofs.Common.{ℕ, subst, sym}
+use Rattle.std.proofs.Common.{ℕ, subst}
 use Rattle.std.specs.Prelude.{◌↔◌, IsTrue}
 use Rattle.std.specs.Arc.{arc_value}
 use Rattle.com_model.specs.declared.scenario.Scenario.{Scenario}
@@ -11,21 +11,22 @@ use Rattle.com_drive.proofs.Resting.{reached_by}
 use Rattle.com_jobs.specs.Jobs.{Fits, HasShape}
 use Rattle.com_shapes.proofs.Shapes.{reached-shape}
 use Rattle.com_core.specs.Nexts.{FitsTop}
-use Rattle.com_core.specs.Seen.{CoreView, core_state}
-use Rattle.com_core.specs.Stands.{seen_by}
+use Rattle.com_core.specs.Seen.{core_state, kept_of}
+use Rattle.com_core.specs.Stands.{IsReached, seen_by}
+use Rattle.com_core.proofs.Shown.{as_shown}
 use Rattle.com_core.proofs.Worked.{fits_tops}
 use Rattle.com_core.proofs.runtime.Core.fits.Goals as goal
 
 pub returns : goal.returns
-returns c = λ h k.
-    let v = c.args.self.now in
+returns c =
     let s = arc_value c.self.inside.scenario in
     let r = c.self.inside.running in
     let l = c.args.lane in
     let job = c.args.job.now in
+    as_shown (λ s st. IsReached s st → HasShape job.frame → (IsTrue c.fits.result ↔ Fits s st l job)) s r _ c.self.view_is
+    (λ h k.
     let shapes : (n : ℕ) → HasShape (body_at r.parts.scene n) =
-    subst (λ (w : CoreView). (n : ℕ) → HasShape (body_at w.parts.scene n)) (sym c.self.view_is)
-    (λ n. reached-shape v.scenario (core_state v) n (reached_by v.scenario (core_state v) h.history h.formed h.stands)) in
-    let tops : IsTrue c.fits.result ↔ FitsTop (seen_by s r.parts r.fallen r.clock) (first (openers_at r.parts.lanes l)) job =
-    subst (λ (x : Scenario). IsTrue c.fits.result ↔ FitsTop (seen_by x r.parts r.fallen r.clock) (first (openers_at r.parts.lanes l)) job) c.deref.ensures (c.fits.ensures shapes k) in
-    subst (λ (w : CoreView). IsTrue c.fits.result ↔ Fits w.scenario (core_state w) l job) c.self.view_is (fits_tops s r l job c.fits.result tops)
+    λ n. reached-shape s (core_state (kept_of s r)) n (reached_by s (core_state (kept_of s r)) h.history h.formed h.stands) in
+    let tops : IsTrue c.fits.result ↔ FitsTop (seen_by s r.parts r.fallen.objects r.clock) (first (openers_at r.parts.lanes l)) job =
+    subst (λ (x : Scenario). IsTrue c.fits.result ↔ FitsTop (seen_by x r.parts r.fallen.objects r.clock) (first (openers_at r.parts.lanes l)) job) c.deref.ensures (c.fits.ensures shapes k) in
+    fits_tops s r l job c.fits.result tops)

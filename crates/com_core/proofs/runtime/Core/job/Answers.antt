@@ -5,18 +5,19 @@ use Rattle.com_body.specs.declared.frame.Job.{Job}
 use Rattle.com_model.specs.declared.scenario.Scenario.{Scenario}
 use Rattle.com_servant.specs.Steps.{IsOfItsClass}
 use Rattle.com_jobs.specs.Jobs.{job_of}
-use Rattle.com_core.specs.Seen.{CoreView, core_of, core_state}
+use Rattle.std.specs.Arc.{arc_value}
+use Rattle.com_core.specs.Seen.{CoreView, core_state, kept_of}
+use Rattle.com_core.proofs.Shown.{as_shown}
 use Rattle.com_core.proofs.runtime.Core.job.Goals as goal
 
 pub returns-clause-job : goal.returns-clause-job
 returns-clause-job c =
     let r = c.self.inside.running in
     let l = c.args.lane in
-    subst (λ (w : CoreView). IfOk c.job.result (λ (x : Job). job_of w.scenario (core_state w) l ≡ Some x)) c.self.view_is
-    (subst (λ (s : Scenario). IfOk c.job.result (λ (x : Job). job_of s (core_state (core_of s r)) l ≡ Some x)) c.deref.ensures c.job.ensures.job)
+    as_shown (λ s st. IfOk c.job.result (λ (x : Job). job_of s st l ≡ Some x)) (arc_value c.self.inside.scenario) r _ c.self.view_is
+    (subst (λ (s : Scenario). IfOk c.job.result (λ (x : Job). job_of s (core_state (kept_of s r)) l ≡ Some x)) c.deref.ensures c.job.ensures.job)
 
 pub returns-clause-class : goal.returns-clause-class
 returns-clause-class c =
-    let r = c.self.inside.running in
     subst (λ (w : CoreView). IfOk c.job.result (λ (x : Job). IsOfItsClass w.scenario.classes x)) c.self.view_is
-    (subst (λ (s : Scenario). IfOk c.job.result (λ (x : Job). IsOfItsClass (core_of s r).scenario.classes x)) c.deref.ensures c.job.ensures.class)
+    (subst (λ (s : Scenario). IfOk c.job.result (λ (x : Job). IsOfItsClass s.classes x)) c.deref.ensures c.job.ensures.class)

@@ -1,14 +1,16 @@
 -- The clock's entry of a core is that of what it keeps.
-use Rattle.std.proofs.Common.{◌≡◌, IfOk, refl, subst, sym}
+use Rattle.std.proofs.Common.{◌≡◌, IfOk, OnErr, refl, subst, sym}
+use Rattle.std.specs.Prelude.{false}
 use Rattle.std.specs.Arc.{arc_value}
 use Rattle.com_model.specs.declared.deeds.Entry.{Entry}
 use Rattle.com_model.specs.Formed.{Formed}
 use Rattle.com_drive.specs.declared.runtime.Standing.TheVariants as standing
 use Rattle.com_drive.specs.Standings.{standing_of}
 use Rattle.com_drive.specs.Turns.{IsNext}
-use Rattle.com_core.specs.Seen.{CoreView, IsWhole, Steps, core_of, core_state}
+use Rattle.com_core.specs.Seen.{CoreView, IsWhole, Steps, core_of, core_state, kept_of}
 use Rattle.com_core.specs.Stands.{IsReached}
 use Rattle.com_core.proofs.Kept.{kept_stepped, next_stepped, same_core, tick_taken}
+use Rattle.com_core.proofs.Shown.{as_kept}
 use Rattle.com_core.proofs.runtime.Core.make_tick.Goals as goal
 
 pub returns-clause-follows : goal.returns-clause-follows
@@ -17,8 +19,8 @@ returns-clause-follows c =
     let r = c.self.inside.running in
     let u = c.tick.new.self in
     let e = c.tick.ensures in
-    let due : IsReached s (core_state (core_of s r)) → standing_of s (core_state (core_of s r)) ≡ standing.Ticks =
-    subst (λ (w : CoreView). IsReached w.scenario (core_state w) → standing_of w.scenario (core_state w) ≡ standing.Ticks) (sym c.self.view_is) c.requires.due in
+    let due : IsReached s (core_state (kept_of s r)) → standing_of s (core_state (kept_of s r)) ≡ standing.Ticks =
+    as_kept (λ s st. IsReached s st → standing_of s st ≡ standing.Ticks) s r _ c.self.view_is c.requires.due in
     let steps : IfOk c.tick.result (λ (n : Entry). IsWhole (core_of s r) → Steps 0 (core_of s r) (core_of s u) n) =
     tick_taken c.tick.result c.deref.result.now s r u c.deref.ensures due e.next in
     subst (λ (w : CoreView). IfOk c.tick.result (λ (n : Entry). Formed w.scenario → IsNext w.scenario (core_state w) 0 n (core_state (core_of s u)))) c.self.view_is
@@ -29,10 +31,17 @@ returns-clause-next c =
     let s = arc_value c.self.inside.scenario in
     let r = c.self.inside.running in
     let u = c.tick.new.self in
-    let due : IsReached s (core_state (core_of s r)) → standing_of s (core_state (core_of s r)) ≡ standing.Ticks =
-    subst (λ (w : CoreView). IsReached w.scenario (core_state w) → standing_of w.scenario (core_state w) ≡ standing.Ticks) (sym c.self.view_is) c.requires.due in
+    let due : IsReached s (core_state (kept_of s r)) → standing_of s (core_state (kept_of s r)) ≡ standing.Ticks =
+    as_kept (λ s st. IsReached s st → standing_of s st ≡ standing.Ticks) s r _ c.self.view_is c.requires.due in
     subst (λ (w : CoreView). IfOk c.tick.result (λ (n : Entry). IsWhole w → Steps 0 w (core_of s u) n)) c.self.view_is
     (tick_taken c.tick.result c.deref.result.now s r u c.deref.ensures due c.tick.ensures.next)
+
+pub returns-clause-err : goal.returns-clause-err
+returns-clause-err c =
+    let s = arc_value c.self.inside.scenario in
+    let r = c.self.inside.running in
+    let u = c.tick.new.self in
+    subst (λ (w : CoreView). OnErr c.tick.result (u.broken ≡ false → core_of s u ≡ w)) c.self.view_is (same_core c.tick.result s r u c.tick.ensures.err)
 
 pub invariant_of-self : goal.invariant_of-self
 invariant_of-self c =
@@ -40,8 +49,8 @@ invariant_of-self c =
     let r = c.self.inside.running in
     let u = c.tick.new.self in
     let e = c.tick.ensures in
-    let due : IsReached s (core_state (core_of s r)) → standing_of s (core_state (core_of s r)) ≡ standing.Ticks =
-    subst (λ (w : CoreView). IsReached w.scenario (core_state w) → standing_of w.scenario (core_state w) ≡ standing.Ticks) (sym c.self.view_is) c.requires.due in
+    let due : IsReached s (core_state (kept_of s r)) → standing_of s (core_state (kept_of s r)) ≡ standing.Ticks =
+    as_kept (λ s st. IsReached s st → standing_of s st ≡ standing.Ticks) s r _ c.self.view_is c.requires.due in
     let steps : IfOk c.tick.result (λ (n : Entry). IsWhole (core_of s r) → Steps 0 (core_of s r) (core_of s u) n) =
     tick_taken c.tick.result c.deref.result.now s r u c.deref.ensures due e.next in
     (e.sound, e.few, c.self.invariant.2, c.self.invariant.3, kept_stepped c.tick.result 0 (core_of s r) (core_of s u) c.self.invariant.4 refl e.was steps e.clock (same_core c.tick.result s r u e.err))

@@ -1,5 +1,6 @@
 -- A step of a core is that of what it keeps.
-use Rattle.std.proofs.Common.{◌≤◌, IfOk, refl, subst, arith}
+use Rattle.std.proofs.Common.{◌≡◌, ◌≤◌, IfOk, OnErr, refl, subst, arith}
+use Rattle.std.specs.Prelude.{false}
 use Rattle.std.specs.Arc.{arc_value}
 use Rattle.com_model.specs.declared.deeds.Entry.{Entry}
 use Rattle.com_model.specs.Formed.{Formed}
@@ -34,6 +35,13 @@ returns-clause-next g c =
     let high : l ≤ lanes s = omega (arith, c.self.invariant.2) in
     subst (λ (w : CoreView). IfOk c.step.result (λ (n : Entry). IsWhole w → Steps l w (core_of s u) n)) c.self.view_is
     (step_taken c.step.result l c.deref.result.now s r u c.deref.ensures low high c.step.ensures.next)
+
+pub returns-clause-err : goal.returns-clause-err
+returns-clause-err g c =
+    let s = arc_value c.self.inside.scenario in
+    let r = c.self.inside.running in
+    let u = c.step.new.self in
+    subst (λ (w : CoreView). OnErr c.step.result (u.broken ≡ false → core_of s u ≡ w)) c.self.view_is (same_core c.step.result s r u c.step.ensures.err)
 
 pub invariant_of-self : goal.invariant_of-self
 invariant_of-self g c =

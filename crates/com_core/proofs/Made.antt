@@ -1,0 +1,66 @@
+-- What an entry makes of a core, from what it makes of the parts one after another.
+use Rattle.std.proofs.Common.{◌≡◌, ℕ, ◌+◌, ◌<◌, ◌^◌, Bool, List, Option, Result, Ok, Err, OnOk, ap, ◌∙◌}
+use Rattle.std.specs.Prelude.{is_some, length}
+use Rattle.com_base.specs.declared.value.RefValue.{RefValue}
+use Rattle.com_body.specs.declared.frame.Outcome.{Outcome}
+use Rattle.com_fates.specs.Bodies.{entered_after}
+use Rattle.com_model.specs.declared.deeds.Entry.{Entry}
+use Rattle.com_model.specs.declared.scenario.Scenario.{Scenario}
+use Rattle.com_model.specs.Calls.{lane_of}
+use Rattle.com_model.specs.Frames.{Actor}
+use Rattle.com_parts.specs.declared.change.Begun.{Begun}
+use Rattle.com_parts.specs.declared.change.Sent.{Sent}
+use Rattle.com_parts.specs.Changes.{IsSame, issuing_of, moment_at}
+use Rattle.com_parts.specs.Tables.{PartTables}
+use Rattle.com_refs.specs.Counts.{holders_of}
+use Rattle.com_state.specs.After.{filtered_by}
+use Rattle.com_state.specs.Parts.{calls_after, issue_at, lanes_after, named_at, objects_after, openers_at}
+use Rattle.com_state.specs.SceneParts.{rows_after}
+use Rattle.com_turns.specs.Turns.{actor_later}
+use Rattle.com_view.specs.Seen.{filter_seen, home_seen, running_seen}
+use Rattle.com_core.specs.declared.running.Running.{Running}
+use Rattle.com_core.specs.Changes.{Becomes, Settles}
+use Rattle.com_core.specs.Making.{BookedBy, Changed}
+use Rattle.com_core.specs.Stands.{seen_by}
+
+-- The parts after a change that was begun and finished.
+pub becomes_begun : (p q t : PartTables) (e : Entry) (acting : Actor) (r : Option Outcome) (follows : Actor) (filtered : Bool) (x : Option Sent) (clock : ℕ) (b : Begun)
+    → IsSame p q → q.scene ≡ rows_after (named_at p.objects) acting r follows e p.scene → b.issued ≡ x → b.filtered ≡ filtered → b.clock ≡ clock
+    → t.lanes ≡ lanes_after q.lanes e → t.objects ≡ objects_after q.objects e
+    → t.calls.tables ≡ calls_after q.objects (moment_at q.lanes e.lane b.filtered b.clock) (issuing_of b.issued) q.calls.tables e
+    → t.scene ≡ q.scene → t.entries ≡ q.entries + 1 → Becomes p t e acting r follows filtered x clock
+becomes_begun p q t e acting r follows filtered x clock b same scene issued filter time lanes objects calls scenes entries = record {
+  lanes = lanes ∙ (λ i. lanes_after (same.lanes i) e);
+  objects = objects ∙ (λ i. objects_after (same.objects i) e);
+  calls = calls ∙ (λ i. calls_after (same.objects i) (moment_at (same.lanes i) e.lane (filter i) (time i)) (issuing_of (issued i)) (same.calls i) e);
+  scene = scenes ∙ scene;
+  entries = entries ∙ (λ i. same.entries i + 1);
+}
+
+-- All that an entry changes, with what its change rests on.
+pub changed_made : {E F : Type 0} (x : Result E F) (s : Scenario) (v u : Running) (e : Entry) (acting : Actor) (r : Option Outcome) (follows : Actor)
+    (filtered : Bool) (home running : Option ℕ) (carried : List RefValue) (y : Option Sent)
+    → (length (openers_at v.parts.lanes e.lane) < 2 ^ 32 → e.lane < length v.parts.lanes.openers
+    → follows ≡ actor_later (seen_by s v.parts v.fallen.objects v.clock) e.lane e.deed)
+    → filtered ≡ filtered_by (λ c. is_some (filter_seen (seen_by s v.parts v.fallen.objects v.clock) (lane_of (issue_at v.parts.calls.tables c)))) e.deed
+    → home ≡ home_seen (seen_by s v.parts v.fallen.objects v.clock) e.lane → running ≡ running_seen (seen_by s v.parts v.fallen.objects v.clock) e.lane
+    → OnOk x (Becomes v.parts u.parts e acting r follows filtered y v.clock)
+    → OnOk x (u.entered.counts ≡ entered_after e.deed acting v.entered.counts)
+    → OnOk x (Settles u.parts.objects (holders_of u.ledger.tables) u.entered.counts v.fallen.objects u.ledger.touched e.deed acting u.fallen.objects)
+    → OnOk x (BookedBy s v.parts home running carried e acting r follows v.ledger u.ledger)
+    → OnOk x (Changed s v.parts u.parts v.ledger u.ledger v.entered.counts u.entered.counts v.fallen.objects u.fallen.objects v.clock e acting r carried y)
+changed_made (Ok z) s v u e acting r follows filtered home running carried y after filter home_is running_is becomes counts settles booked = record {
+  follows = follows;
+  filtered = filtered;
+  home = home;
+  running = running;
+  acts_after = after;
+  filter_is = filter;
+  home_is = home_is;
+  running_is = running_is;
+  becomes = becomes;
+  counts = counts;
+  settles = settles;
+  booked = booked;
+}
+changed_made (Err z) s v u e acting r follows filtered home running carried y after filter home_is running_is becomes counts settles booked = tt
