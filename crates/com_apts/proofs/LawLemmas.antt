@@ -134,10 +134,10 @@ is_after t p (step ∷ steps) =
       counted = λ lane h le. omega (arith, before.counted lane h le, (moves-step (after_steps t steps) step lane h (omega (arith, before.long)) before.paired).counted);
     }
 
-get_or-free : (n place : ℕ) → get_or (replicate n free_seat) place free_seat ≡ free_seat
-get_or-free zero place = refl
+get_or-free : (n index : ℕ) → get_or (replicate n free_seat) index free_seat ≡ free_seat
+get_or-free zero index = refl
 get_or-free (suc n) zero = refl
-get_or-free (suc n) (suc place) = get_or-free n place
+get_or-free (suc n) (suc index) = get_or-free n index
 
 seat_at-free : (n lane : ℕ) → seat_at (replicate n free_seat) lane ≡ free_seat
 seat_at-free n lane = grind (arith, nat_tests, get_or-free n (lane - 1))

@@ -7,6 +7,6 @@ use Rattle.com_apts.specs.Lanes.{free_seat, ended_first}
 -- few that the next has a number
 pub record IsKept (seats : List Seat) (ended : List Bool) (oldest : ℕ) : Type 0 where
   pub oldest_is : oldest ≡ ended_first ended
-  pub made : (place home : ℕ)
-      → (slice_index_or seats place free_seat).home ≡ Some home → home < length ended + 3
+  pub made : (index home : ℕ)
+      → (slice_index_or seats index free_seat).home ≡ Some home → home < length ended + 3
   pub numbered : length ended + 3 ≤ 2 ^ 32

@@ -47,7 +47,7 @@ pub struct Apartments {
     seats: Vec<Seat>,
     pool: u32,
     ended: Vec<bool>,
-    // The place in `ended` of the oldest apartment that has not ended, or the length.
+    // The index in `ended` of the oldest apartment that has not ended, or the length.
     oldest: usize,
 }
 
@@ -95,11 +95,11 @@ impl Apartments {
         ensures lanes { OnOk result (self.new ≡ after_init self.old lane mode) }
         ensures err { OnErr result (self.new ≡ self.old) }
     {
-        let place = lane as usize - 1;
-        let seat = self.seats[place];
+        let index = lane as usize - 1;
+        let seat = self.seats[index];
         let Some(home) = seat.home else {
             let home = new_home(&mut self.ended, mode)?;
-            self.seats[place] = Seat {
+            self.seats[index] = Seat {
                 home: Some(home),
                 count: seat.count + 1,
             };
@@ -108,7 +108,7 @@ impl Apartments {
         if !is_home_of(mode, home) {
             return Ok(HResult::RPC_E_CHANGED_MODE);
         }
-        self.seats[place] = Seat {
+        self.seats[index] = Seat {
             home: seat.home,
             count: seat.count + 1,
         };
@@ -122,19 +122,19 @@ impl Apartments {
         ensures sta { result ≡ ended_by_uninit self.old lane }
         ensures lanes { self.new ≡ after_uninit self.old lane }
     {
-        let place = lane as usize - 1;
-        let seat = self.seats[place];
+        let index = lane as usize - 1;
+        let seat = self.seats[index];
         if seat.count == 0 {
             return None;
         }
         if seat.count > 1 {
-            self.seats[place] = Seat {
+            self.seats[index] = Seat {
                 home: seat.home,
                 count: seat.count - 1,
             };
             return None;
         }
-        self.seats[place] = Seat::FREE;
+        self.seats[index] = Seat::FREE;
         let sta = made_by_thread(seat.home)?;
         self.ended[(sta - FIRST_STA) as usize] = true;
         self.oldest = oldest_from(&self.ended, self.oldest);
@@ -191,8 +191,8 @@ impl Apartments {
         if apartment < FIRST_STA {
             return false;
         }
-        let place = (apartment - FIRST_STA) as usize;
-        place < self.ended.len() && self.ended[place]
+        let index = (apartment - FIRST_STA) as usize;
+        index < self.ended.len() && self.ended[index]
     }
 }
 
@@ -235,16 +235,16 @@ fn made_by_thread(home: Option<u32>) -> Option<u32>
 }
 
 #[tactic(auto, using(crate::proofs::LaneLemmas::ended_first_le, crate::proofs::LaneLemmas::ended_first_more, crate::proofs::LaneLemmas::ended_first_here))]
-/// The first place from this one on that holds `false`, or the length. All before it hold `true`.
+/// The first index from this one on that holds `false`, or the length. All before it hold `true`.
 fn oldest_from(ended: &[bool], from: usize) -> usize
     requires { from ≤ ended_first ended.now }
     ensures { result ≡ ended_first ended.now }
 {
-    let mut place = from;
-    while place < ended.len() && ended[place] {
-        place += 1;
+    let mut index = from;
+    while index < ended.len() && ended[index] {
+        index += 1;
     }
-    place
+    index
 }
 
 #[cfg(test)]

@@ -48,10 +48,12 @@ pub enum Sort {
     Slot,
 }
 
-/// A method of an interface by its number, from 0, and the arguments, each of its parameter's kind.
+/// A method of an interface and the arguments that it is called with.
 #[derive(Debug, Drop)]
 pub struct Bound {
+    /// The method's number, from 0.
     pub method: u16,
+    /// The arguments in the order of the parameters, each of its parameter's kind.
     pub args: Rows<DispArg>,
 }
 

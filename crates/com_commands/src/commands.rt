@@ -162,7 +162,7 @@ pub trait PlayingCommand: InputReader {
 /// Does a command that replays by a row of servants: reads the input within its limit, makes of it what the
 /// reader says, and answers as the command does. The answer is the exit status: each has its cause
 /// (`answers`). Where it is 0, 5 or 6, each servant's steps rose by those of its bodies in the history
-/// (`served`). Every place of the row keeps its kind (`row`).
+/// (`served`). The kind at each index of the row stays (`row`).
 pub fn perform<C: PlayingCommand, S: Source, K: Sink>(
     alloc: Global,
     servants: &mut Vec<Box<dyn Servant + Send>>,

@@ -24,7 +24,7 @@ pub enum Status {
     /// The whole text was written, and its history has as many entries as it may have, and is neither
     /// finished nor stuck.
     Budget,
-    /// The trace differs from the only legal line in some place.
+    /// A line of the trace differs from the only legal one.
     Differs,
     /// Want of memory.
     Memory,

@@ -7,12 +7,14 @@ use crate::cookies::Cookies;
 use com_base::Memory;
 use std::alloc::Global;
 
-/// An object: the number of its interface, if it is of a source, the cookies of its sinks in the order of
-/// their advising, and how many were advised.
+/// An object, which is a source or is none.
 #[derive(Debug, Drop)]
 pub(crate) struct Source {
+    /// The number of its interface, if it is a source.
     pub iface: Option<u16>,
+    /// The cookies of its sinks, in the order of their advising.
     pub cookies: Cookies,
+    /// How many sinks were advised.
     pub advised: u64,
 }
 

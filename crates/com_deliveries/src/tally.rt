@@ -21,18 +21,24 @@ use com_sources::{ADVISE, FIRE, UNADVISE};
 use std::alloc::Global;
 use std::marker::Model;
 
-/// A call: the number of its target, 0 for null, its method, and the first of the values with which it was
-/// entered, as a number. Of an event it has the last cookie of the beginning, the cookies of the sinks that
-/// got it, and of every call whether its body left.
+/// A call, and what became of it.
 #[derive(Debug, Drop)]
 pub(crate) struct Call {
+    /// Its number, from 1.
     pub call: u32,
+    /// The number of its target, from 1, and 0 for null.
     pub object: u32,
+    /// The number of its interface, from 0.
     pub iface: u16,
+    /// The number of its method, from 0.
     pub method: u16,
+    /// The first of the values with which it was entered, as a number.
     pub number: i64,
+    /// Of an event, the last cookie when it began.
     pub last: u64,
+    /// Of an event, the cookies of the sinks that got it.
     pub cookies: Cookies,
+    /// Whether its body left.
     pub left: bool,
 }
 

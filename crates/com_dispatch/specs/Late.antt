@@ -111,7 +111,7 @@ has_invoke (w ∷ ws) = is_invoke w
 
 -- ---- a call by name and its table call
 
--- Two lines make the same of what was read, but for the places at which the faults of skips would stand,
+-- Two lines make the same of what was read, but for the positions at which the faults of skips would stand,
 -- and for the bindings; or both are at fault in the same way.
 abbrev pub IsSame : Result Reading Fault → Result Reading Fault → Type 0
 IsSame (Ok a) (Ok b) =

@@ -160,8 +160,8 @@ fn late_scenario(alloc: Global, text: &[u8]) -> Result<Late, ScenarioError>
 }
 
 /// The scenario that a text spells, in which each `invoke` stands as the statement that it stands for, with
-/// what each is bound to; or the first fault by place, and of two at one place the one with the lower
-/// number.
+/// what each is bound to; or the first fault by position, and of two at one position the one
+/// with the lower number.
 ///
 /// A bound `invoke` stands as the one statement `call` of the method with the coerced arguments and the
 /// destination. A refused one stands as `set r15` of the refusal's 32 bits without sign:

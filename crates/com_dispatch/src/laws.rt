@@ -17,7 +17,7 @@ pub fn other_texts_stay()
 {}
 
 /// In a script or a body an `invoke` makes the same of what was read as the line of the table call that it
-/// is bound to: the same statements, and all else, but for the places of faults; or neither may stand
+/// is bound to: the same statements, and all else, but for the positions of faults; or neither may stand
 /// there, since the statements are as many as they may be.
 pub fn calls_by_name_are_calls()
     ensures { CallsAreSame }

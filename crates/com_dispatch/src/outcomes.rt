@@ -13,10 +13,11 @@ pub struct Binding {
     pub outcome: BindOutcome,
 }
 
-/// A scenario in which each `invoke` stands as the statement that it stands for, and what each is bound to,
-/// in the text's order.
+/// A scenario with calls by name, as it was read.
 #[derive(Drop)]
 pub struct Late {
+    /// The scenario, in which each `invoke` stands as the statement that it stands for.
     pub scenario: Scenario,
+    /// What each `invoke` is bound to, in the text's order.
     pub bindings: Rows<Binding>,
 }

@@ -24,7 +24,7 @@ use std::sync::Arc;
 /// it has and its time (`answer`).
 ///
 /// The row has one servant of each kind, in the order of the kinds. Each entry that a body made is a step of
-/// the servant of its class's kind (`served`), and every place keeps its kind (`row`).
+/// the servant of its class's kind (`served`), and the kind at each index stays (`row`).
 ///
 /// `WriteFault` comes only where the sink's count of faults rose in this call, and `Memory` is want of
 /// memory. Whatever is answered, what was written is a prefix of that text (`prefix`); after either, servants

@@ -16,8 +16,8 @@ use com_scenario::parse;
 use com_source_text::{placed, written};
 use std::alloc::Global;
 
-/// The scenario that a text spells, or its first fault by place, and of two at one place the one with the
-/// lower number.
+/// The scenario that a text spells, or its first fault by position, and of two at one position the one
+/// with the lower number.
 ///
 /// A line `source <name> <guid> <model>` declares an event source after IConnectionPoint: a class whose one
 /// interface is `IPoint` {5C0B0030-0000-4000-8000-000000000001}, and whose methods `advise`, `unadvise` and

@@ -54,7 +54,7 @@ free_name_new names line k = bind (name_at line k) _ (name_formed line k) (λ w 
     (λ _. fails _)
     (λ e. done w (record { good = name_good w.bytes is; free = e })))
 
--- two readings of one place give one word
+-- two readings at one index give one word
 pub same_word : (line : List WordAt) (k : ℕ) (P : WordAt → Type 0) (w : WordAt) → word_at line k ≡ Ok w → Holds P (word_at line k) → P w
 same_word line k P w e h = h.of w e
 
@@ -63,7 +63,7 @@ pub record IsNewInterface (names : List (List ℕ)) (w : WordAt) : Type 0 where
   pub new : IsNew names w
   pub untyped : is_some (type_word_of w.bytes) ≡ false
 
--- a name's reading gives the word of its place
+-- a name's reading gives the word at its index
 named_word : (line : List WordAt) (k : ℕ) (w : WordAt) → name_at line k ≡ Ok w → word_at line k ≡ Ok w
 unfolding name_at
 named_word line k w e = by (word_at line k) refl e
@@ -232,7 +232,7 @@ list_on (v ∷ vs) names front line k h few = bind (listed_item names (length fr
     (list_on vs names (front ++ i ∷ []) line (k + 1) (All-push (λ j. j < length names) front i h is.declared) (omega arith))
     (λ all a. record { declared = a.declared; least = (let l = a.least in omega arith); few = a.few }))
 
--- a word that stands at a place is one of those from there on
+-- a word that stands at an index is one of those from there on
 word_within : (line : List WordAt) (k : ℕ) (w : WordAt) → word_at line k ≡ Ok w → 1 ≤ length (drop k line)
 unfolding word_at
 word_within line k w e = by line k (slice_get line k) refl e

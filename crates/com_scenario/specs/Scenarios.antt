@@ -27,6 +27,6 @@ scenario_of o = record {
 }
 
 -- The scenario that a text spells, or its first fault: the lines are read one after another, and a line's
--- words from left to right, so the first fault that is met is the first by place.
+-- words from left to right, so the first fault that is met is the first by position.
 unfoldable pub reading : List ℕ → Result Scenario Fault
 reading text = read (begun built_in_interfaces) (lines_of text) >>= λ o. Ok (scenario_of o)

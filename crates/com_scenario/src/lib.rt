@@ -1,4 +1,4 @@
-//! Scenario text: reading it, with every fault at its place, and writing it.
+//! Scenario text: reading it, with every fault at its position, and writing it.
 #![tactic(auto)]
 
 mod built_in;

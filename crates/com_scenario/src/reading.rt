@@ -73,7 +73,7 @@ pub fn scenario(alloc: Global, outline: Outline) -> Result<Scenario, Memory>
     })
 }
 
-/// The scenario that a text spells, or the first fault by place, and of two at one place the one
+/// The scenario that a text spells, or the first fault by position, and of two at one position the one
 /// with the lower number. `Memory` comes where memory is short, and for a text of nearly 2^32 bytes
 /// or more. The scenario keeps the limits, the forms and the ranges of the language, repeats no name
 /// or GUID, and names only what is declared.

@@ -2,8 +2,8 @@ use Rattle.std.proofs.Common.{length, ◌-◌, ◌≤◌}
 use Rattle.com_apts.specs.Lanes.{ended_first}
 use Rattle.com_apts.proofs.oldest_from.Given as goal
 
-abbrev pub invariant-loop-place : goal.invariant-loop-place
-invariant-loop-place l = l.place ≤ ended_first l.ended
+abbrev pub invariant-loop-index : goal.invariant-loop-index
+invariant-loop-index l = l.index ≤ ended_first l.ended
 
-abbrev pub decreases-loop-place : goal.decreases-loop-place
-decreases-loop-place l = length l.ended - l.place
+abbrev pub decreases-loop-index : goal.decreases-loop-index
+decreases-loop-index l = length l.ended - l.index
