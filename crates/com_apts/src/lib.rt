@@ -11,19 +11,12 @@ ghost use Rattle.com_apts.specs.Lanes.{Step, IsBalanced, IsThread, after_init, a
 ghost use Rattle.com_apts.specs.Lanes.{ended_by_uninit, ended_first, free_seat, home_of, init_answer};
 ghost use Rattle.com_apts.specs.Lanes.{is_ended, is_in_mode, main_sta_of, sta_of, home_in, ended_in};
 
-use com_base::{HResult, Mode};
+use com_base::{FIRST_STA, HOST_STA, HResult, MTA, Mode};
 use std::alloc::Global;
 use std::marker::Model;
 
 /// Want of memory.
 pub use com_base::Memory;
-
-/// The multithreaded apartment.
-const MTA: u32 = 1;
-/// The single-threaded apartment of the host.
-const HOST_STA: u32 = 2;
-/// The first single-threaded apartment that a thread makes.
-const FIRST_STA: u32 = 3;
 
 /// What a thread's lane has: its home, and how often it is initialised.
 #[derive(Debug, Clone, Copy)]

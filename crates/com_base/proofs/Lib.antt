@@ -1,4 +1,4 @@
-pub mod ByPlaces
+pub mod Lengths
 pub mod Texts
 pub mod Names
 pub mod RoundTrips

@@ -1,5 +1,7 @@
 -- HRESULTs: their parts and their names.
-use Rattle.std.specs.Prelude.{ℕ, ◌/◌, ◌%◌, ◌==◌, List, Option, Some, None, if◌then◌else◌, codes, ◌^◌}
+use Rattle.std.specs.Prelude.{ℕ, ◌/◌, ◌%◌, ◌==◌, List, Option, Some, None, if◌then◌else◌, codes, ◌^◌, [], ◌∷◌}
+use Rattle.std.specs.Prelude.{slice_index}
+use Rattle.hex.specs.Hex.{upper_digits}
 use Rattle.std.specs.Str.{bytes_eq}
 use Rattle.com_base.specs.declared.hresult.HResult.{HResult}
 
@@ -9,6 +11,14 @@ facility_of n = n / 2 ^ 16 % 2 ^ 11
 
 abbrev pub code_of : ℕ → ℕ
 code_of n = n % 2 ^ 16
+
+-- Eight upper-case hexadecimal digits, the highest first.
+abbrev pub eight_digits : ℕ → List ℕ
+eight_digits n =
+    slice_index upper_digits (n / 2 ^ 28 % 16) ∷ slice_index upper_digits (n / 2 ^ 24 % 16)
+    ∷ slice_index upper_digits (n / 2 ^ 20 % 16) ∷ slice_index upper_digits (n / 2 ^ 16 % 16)
+    ∷ slice_index upper_digits (n / 2 ^ 12 % 16) ∷ slice_index upper_digits (n / 2 ^ 8 % 16)
+    ∷ slice_index upper_digits (n / 2 ^ 4 % 16) ∷ slice_index upper_digits (n % 16) ∷ []
 
 -- The name that the table has for a value.
 abbrev pub name_of : ℕ → Option (List ℕ)

@@ -1,7 +1,6 @@
 //! GUIDs, their wire form and their text.
 ghost use Rattle.std.specs.Prelude.{◌≡◌, IsTrue, ◌↔◌};
 ghost use Rattle.com_base.specs.Guids.{wire_of, guid_of_wire, text_of, guid_of_text, reading_order_of};
-ghost use Rattle.com_base.specs.Guids.{guid_of_reading_order};
 
 use uuid::Uuid;
 
@@ -9,9 +8,13 @@ use uuid::Uuid;
 /// Source: the GUID structure of the documentation, and MS-DTYP, "GUID".
 #[derive(Debug, Clone, Copy, PartialEq, Eq)]
 pub struct Guid {
+    /// The first eight hexadecimal digits of the text.
     pub data1: u32,
+    /// The next four digits.
     pub data2: u16,
+    /// The four digits behind those.
     pub data3: u16,
+    /// The last sixteen digits, by bytes as they stand in the text.
     pub data4: [u8; 8],
 }
 
@@ -42,30 +45,7 @@ impl Guid {
     pub fn from_wire(bytes: &[u8; 16]) -> Guid
         ensures { result ≡ guid_of_wire bytes.now }
     {
-        let [
-            a0,
-            a1,
-            a2,
-            a3,
-            b0,
-            b1,
-            c0,
-            c1,
-            d0,
-            d1,
-            d2,
-            d3,
-            d4,
-            d5,
-            d6,
-            d7,
-        ] = *bytes;
-        Guid {
-            data1: u32::from_le_bytes([a0, a1, a2, a3]),
-            data2: u16::from_le_bytes([b0, b1]),
-            data3: u16::from_le_bytes([c0, c1]),
-            data4: [d0, d1, d2, d3, d4, d5, d6, d7],
-        }
+        Guid::of_fields(Uuid::from_bytes(*bytes).to_fields_le())
     }
 
     /// The text in braces, in upper case: `{5C0B0001-0000-4000-8000-000000000001}`.
@@ -73,7 +53,7 @@ impl Guid {
     pub fn text(&self) -> [u8; 38]
         ensures { result ≡ text_of self.now }
     {
-        let uuid = Uuid::from_bytes(self.reading_order());
+        let uuid = self.uuid();
         let mut buffer = [0u8; 38];
         let written = uuid.braced().encode_upper(&mut buffer).as_bytes();
         let mut text = [0u8; 38];
@@ -90,50 +70,30 @@ impl Guid {
             return None;
         }
         match Uuid::parse_str(text) {
-            Ok(uuid) => Some(Guid::from_reading_order(uuid.as_bytes())),
+            Ok(uuid) => Some(Guid::of_fields(uuid.as_fields())),
             Err(_) => None,
         }
     }
 
-    // The sixteen bytes in the order in which the text shows them: each field from its high byte down.
-    fn reading_order(&self) -> [u8; 16]
+    // The same as the kit's type, whose sixteen bytes are in the order in which the text shows them: each
+    // field from its high byte down.
+    #[tactic(auto, using(crate::proofs::Lengths::turned))]
+    fn uuid(&self) -> Uuid
         ensures { result ≡ reading_order_of self.now }
     {
-        let [a0, a1, a2, a3] = self.data1.to_be_bytes();
-        let [b0, b1] = self.data2.to_be_bytes();
-        let [c0, c1] = self.data3.to_be_bytes();
-        let [d0, d1, d2, d3, d4, d5, d6, d7] = self.data4;
-        [
-            a0, a1, a2, a3, b0, b1, c0, c1, d0, d1, d2, d3, d4, d5, d6, d7,
-        ]
+        Uuid::from_bytes_le(self.to_wire())
     }
 
-    fn from_reading_order(bytes: &[u8; 16]) -> Guid
-        ensures { result ≡ guid_of_reading_order bytes.now }
+    // The GUID with these four fields, in their order.
+    fn of_fields(fields: (u32, u16, u16, [u8; 8])) -> Guid
+        ensures { result ≡ record { data1 = fields.0; data2 = fields.1; data3 = fields.2; data4 = fields.3 } }
     {
-        let [
-            a0,
-            a1,
-            a2,
-            a3,
-            b0,
-            b1,
-            c0,
-            c1,
-            d0,
-            d1,
-            d2,
-            d3,
-            d4,
-            d5,
-            d6,
-            d7,
-        ] = *bytes;
+        let (data1, data2, data3, data4) = fields;
         Guid {
-            data1: u32::from_be_bytes([a0, a1, a2, a3]),
-            data2: u16::from_be_bytes([b0, b1]),
-            data3: u16::from_be_bytes([c0, c1]),
-            data4: [d0, d1, d2, d3, d4, d5, d6, d7],
+            data1,
+            data2,
+            data3,
+            data4,
         }
     }
 }

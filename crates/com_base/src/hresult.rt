@@ -1,12 +1,21 @@
 //! HRESULTs: their parts and the names that a text may use.
-ghost use Rattle.std.specs.Prelude.{◌≡◌, ◌/◌, ◌%◌, ◌^◌, ◌≤◌, IsTrue, ◌↔◌};
+ghost use Rattle.std.specs.Prelude.{◌≡◌, ◌/◌, ◌%◌, ◌^◌, ◌<◌, ◌≤◌, IsTrue, ◌↔◌, slice_index};
 ghost use Rattle.std.specs.Option.{option_copied};
-ghost use Rattle.com_base.specs.HResults.{name_of, facility_of, code_of, hresult_named};
+ghost use Rattle.hex.specs.Hex.{upper_digits};
+ghost use Rattle.com_base.specs.HResults.{name_of, facility_of, code_of, eight_digits, hresult_named};
 
 /// An HRESULT by its 32 bits. Bit 31 tells a failure, bits 16 to 26 are the facility and bits 0 to 15
 /// the code. Source: MS-ERREF, "HRESULT".
 #[derive(Debug, Clone, Copy, PartialEq, Eq)]
 pub struct HResult(pub u32);
+
+/// The upper-case hexadecimal digit of a number below 16.
+fn upper_digit(number: u32) -> u8
+    requires { number < 16 }
+    ensures { result ≡ slice_index upper_digits number }
+{
+    b"0123456789ABCDEF"[number as usize]
+}
 
 impl HResult {
     /// Success.
@@ -79,6 +88,24 @@ impl HResult {
         ensures { result ≡ code_of self.0 }
     {
         (self.0 % 0x1_0000) as u16
+    }
+
+    /// Its value in eight upper-case hexadecimal digits, the highest first, as the documentation's tables
+    /// write it behind `0x`.
+    pub fn digits(self) -> [u8; 8]
+        ensures { result ≡ eight_digits self.0 }
+    {
+        let HResult(number) = self;
+        [
+            upper_digit(number / 0x1000_0000 % 16),
+            upper_digit(number / 0x100_0000 % 16),
+            upper_digit(number / 0x10_0000 % 16),
+            upper_digit(number / 0x1_0000 % 16),
+            upper_digit(number / 0x1000 % 16),
+            upper_digit(number / 0x100 % 16),
+            upper_digit(number / 0x10 % 16),
+            upper_digit(number % 16),
+        ]
     }
 
     /// The name in the table of HRESULTs that a scenario and a history may use. None exactly where the

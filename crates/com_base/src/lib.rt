@@ -1,19 +1,30 @@
 //! The plain values that every other crate speaks of: GUIDs, HRESULTs, the values that calls carry,
-//! and two small list types whose contracts see the list alone.
+//! and two small list types whose contracts see the list alone. Beside them the numbers that are written
+//! once: apartments, built-in interfaces and the language's limits.
 #![tactic(auto)]
 
+mod apartments;
+mod built_ins;
 mod bytes;
 mod guid;
 mod hresult;
 mod laws;
+mod limits;
 mod rows;
 mod standard;
 mod value;
 
+pub use apartments::{FIRST_STA, HOST_STA, MTA, NEUTRAL};
+pub use built_ins::{BUILT_IN_COUNT, ICOUNTER, ILATCH, IRELAY, IUNKNOWN};
 pub use bytes::ByteList;
 pub use guid::Guid;
 pub use hresult::HResult;
 pub use laws::{forms_are_inverse, names_are_inverse};
+pub use limits::{
+    BODY_LIMIT, CLASS_LIMIT, FILTER_LIMIT, INTERFACE_LIMIT, LISTED_LIMIT, LITERAL_LIMIT,
+    METHOD_LIMIT, OPENER_LIMIT, PARAMETER_LIMIT, POOL_LIMIT, RAW_LIMIT, RULE_LIMIT, SCRIPT_LIMIT,
+    TEXT_1_LIMIT, TEXT_2_LIMIT, THREAD_LIMIT,
+};
 pub use rows::Rows;
 pub use standard::{
     IID_ICLASS_FACTORY, IID_IGLOBAL_INTERFACE_TABLE, IID_IMESSAGE_FILTER, IID_IUNKNOWN, StdFields,

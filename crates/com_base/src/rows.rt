@@ -80,4 +80,17 @@ impl<T: Copy> Rows<T> {
     {
         Ok(self.rows.extend_from_slice(rows)?)
     }
+
+    /// Appends a list of rows. Where there are none yet, the list becomes that one, which takes no memory.
+    /// The only error is want of memory: then the list is as before, and the rows are dropped.
+    pub fn append(&mut self, rows: Vec<T>) -> Result<(), AllocError>
+        ensures ok { OnOk result (self.new ≡ self.old ++ rows.items) }
+        ensures err { OnErr result (self.new ≡ self.old) }
+    {
+        if self.rows.is_empty() {
+            self.rows = rows;
+            return Ok(());
+        }
+        self.push_all(&rows)
+    }
 }

@@ -13,7 +13,7 @@ use Rattle.com_binding.specs.declared.members.DispArg.TheVariants as given
 use Rattle.com_binding.specs.declared.members.Member.{Member}
 use Rattle.com_binding.specs.declared.members.Sort.{Sort}
 use Rattle.com_binding.specs.Coercing.{coerced_value, coerced, coerced_on}
-use Rattle.com_binding.specs.Binding.{place_of, absent, is_for, matched, signed, found, bound_among, bad_parameter_count}
+use Rattle.com_binding.specs.Binding.{index_of, absent, is_for, matched, signed, found, bound_among, bad_parameter_count}
 use Rattle.com_binding.specs.Ranges.{IsDispArg}
 
 literal_stays : (o : Option Value) (c : DispArg) → option_map (λ v. given.Literal v) o ≡ Some c → IsDispArg c
@@ -65,18 +65,18 @@ signed_args p m as' d b e = by (length as' == length m.params) e
 
 -- what is bound is a method of the table with its coerced arguments
 pub record IsBoundTo (ms : List Method) (as' : List DispArg) (d : Option Sort) (b : Bound) : Type 0 where
-  pub place : ℕ
+  pub index : ℕ
   pub method : Method
-  pub there : slice_get ms place ≡ Some method
-  pub signature : signed place method as' d ≡ Ok b
+  pub there : slice_get ms index ≡ Some method
+  pub signature : signed index method as' d ≡ Ok b
 
 pub bound_to : (ms : List Method) (m : Member) (as' : List DispArg) (d : Option Sort) (b : Bound) → bound_among ms m as' d ≡ Ok b → IsBoundTo ms as' d b
 unfolding bound_among
-bound_to ms m as' d b e = by (place_of ms m) e
+bound_to ms m as' d b e = by (index_of ms m) e
   where
     at : (p : ℕ) (o : Option Method) → slice_get ms p ≡ o → elim o as (λ _. Result Bound HResult) [ None ↦ Err (absent m) | Some x ↦ signed p x as' d ] ≡ Ok b → IsBoundTo ms as' d b
     at p None g f = absurd cc
-    at p (Some x) g f = record { place = p; method = x; there = g; signature = f }
+    at p (Some x) g f = record { index = p; method = x; there = g; signature = f }
 
     by : (o : Option ℕ) → found ms m as' d o ≡ Ok b → IsBoundTo ms as' d b
     by None f = absurd cc
@@ -85,4 +85,4 @@ bound_to ms m as' d b e = by (place_of ms m) e
 pub bound_stays : (ms : List Method) (m : Member) (as' : List DispArg) (d : Option Sort) (b : Bound) → bound_among ms m as' d ≡ Ok b → All IsDispArg as' → All IsDispArg b.args
 bound_stays ms m as' d b e h =
     let t = bound_to ms m as' d b e in
-    coerced_all_stay [] t.method.params as' b.args (signed_args t.place t.method as' d b t.signature) (All-nil IsDispArg) h
+    coerced_all_stay [] t.method.params as' b.args (signed_args t.index t.method as' d b t.signature) (All-nil IsDispArg) h

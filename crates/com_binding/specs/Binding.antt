@@ -40,19 +40,19 @@ abbrev pub same_name : List ℕ → List ℕ → Bool
 same_name a b = bytes_eq (str_to_ascii_lowercase a) (str_to_ascii_lowercase b)
 
 -- the first method, in the order of the table, of such a name
-abbrev pub place_of_name : List Method → List ℕ → Option ℕ
-place_of_name [] name = None
-place_of_name (m ∷ ms) name =
-    if same_name m.name name then Some 0 else option_map (λ k. k + 1) (place_of_name ms name)
+abbrev pub index_of_name : List Method → List ℕ → Option ℕ
+index_of_name [] name = None
+index_of_name (m ∷ ms) name =
+    if same_name m.name name then Some 0 else option_map (λ k. k + 1) (index_of_name ms name)
 
 -- the number n names method n - 1
-abbrev pub place_of_number : List Method → ℕ → Option ℕ
-place_of_number methods n =
+abbrev pub index_of_number : List Method → ℕ → Option ℕ
+index_of_number methods n =
     if n == 0 then None else (if nat_lt (n - 1) (length methods) then Some (n - 1) else None)
 
-abbrev pub place_of : List Method → Member → Option ℕ
-place_of methods (members.Name name) = place_of_name methods name
-place_of methods (members.Number n) = place_of_number methods n
+abbrev pub index_of : List Method → Member → Option ℕ
+index_of methods (members.Name name) = index_of_name methods name
+index_of methods (members.Number n) = index_of_number methods n
 
 -- why a member names no method
 abbrev pub absent : Member → HResult
@@ -74,27 +74,27 @@ is_for (Some kind) (Some sorts.Register) = true
 -- ---- the whole
 
 abbrev pub matched : ℕ → Option (List DispArg) → Bool → Result Bound HResult
-matched place None fits = Err type_mismatch
-matched place (Some args) false = Err type_mismatch
-matched place (Some args) true = Ok (record { method = place; args = args })
+matched index None fits = Err type_mismatch
+matched index (Some args) false = Err type_mismatch
+matched index (Some args) true = Ok (record { method = index; args = args })
 
 -- the arguments are as many as the parameters; each is coerced to its parameter's kind, and the destination
 -- is of the result's sort
 abbrev pub signed : ℕ → Method → List DispArg → Option Sort → Result Bound HResult
-signed place m args destination =
+signed index m args destination =
     if length args == length m.params
-    then matched place (coerced_on [] m.params args) (is_for m.result destination)
+    then matched index (coerced_on [] m.params args) (is_for m.result destination)
     else Err bad_parameter_count
 
 abbrev pub found : List Method → Member → List DispArg → Option Sort → Option ℕ → Result Bound HResult
 found methods member args destination None = Err (absent member)
-found methods member args destination (Some place) =
-    elim (slice_get methods place) [ None ↦ Err (absent member) | Some m ↦ signed place m args destination ]
+found methods member args destination (Some index) =
+    elim (slice_get methods index) [ None ↦ Err (absent member) | Some m ↦ signed index m args destination ]
 
 -- What a member, arguments and a destination are bound to among the methods of an interface: the first
 -- refusal that applies, or else the method with the coerced arguments.
 unfoldable pub bound_among : List Method → Member → List DispArg → Option Sort → Result Bound HResult
-bound_among methods member args destination = found methods member args destination (place_of methods member)
+bound_among methods member args destination = found methods member args destination (index_of methods member)
 
 abbrev pub methods_of : Option Interface → List Method
 methods_of None = []

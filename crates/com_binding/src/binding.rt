@@ -1,7 +1,7 @@
 //! The method that a member stands for, with its arguments.
 
 ghost use Rattle.std.specs.Prelude.{◌≡◌, ◌<◌, IfSome, length};
-ghost use Rattle.com_binding.specs.Binding.{same_name, place_of_name, place_of_number, place_of, absent};
+ghost use Rattle.com_binding.specs.Binding.{same_name, index_of_name, index_of_number, index_of, absent};
 ghost use Rattle.com_binding.specs.Binding.{is_for, signed, bound_among, bound, Binds};
 
 use crate::coercing::coerce_all;
@@ -17,9 +17,9 @@ fn same_name(a: &[u8], b: &[u8]) -> bool
     a.eq_ignore_ascii_case(b)
 }
 
-fn place_of_name(methods: &[Method], name: &[u8]) -> Option<usize>
-    ensures value { result ≡ place_of_name methods.now name.now }
-    ensures within { IfSome result (λ place. place < length methods.now) }
+fn index_of_name(methods: &[Method], name: &[u8]) -> Option<usize>
+    ensures value { result ≡ index_of_name methods.now name.now }
+    ensures within { IfSome result (λ index. index < length methods.now) }
 {
     for (i, method) in methods.iter().enumerate() {
         if same_name(method.name.as_slice(), name) {
@@ -29,28 +29,28 @@ fn place_of_name(methods: &[Method], name: &[u8]) -> Option<usize>
     None
 }
 
-fn place_of_number(methods: &[Method], number: u32) -> Option<usize>
-    ensures value { result ≡ place_of_number methods.now number }
-    ensures within { IfSome result (λ place. place < length methods.now) }
+fn index_of_number(methods: &[Method], number: u32) -> Option<usize>
+    ensures value { result ≡ index_of_number methods.now number }
+    ensures within { IfSome result (λ index. index < length methods.now) }
 {
     if number == 0 {
         return None;
     }
-    let place = (number - 1) as usize;
-    if place < methods.len() {
-        Some(place)
+    let index = (number - 1) as usize;
+    if index < methods.len() {
+        Some(index)
     } else {
         None
     }
 }
 
-fn place_of(methods: &[Method], member: &Member) -> Option<usize>
-    ensures value { result ≡ place_of methods.now member.now }
-    ensures within { IfSome result (λ place. place < length methods.now) }
+fn index_of(methods: &[Method], member: &Member) -> Option<usize>
+    ensures value { result ≡ index_of methods.now member.now }
+    ensures within { IfSome result (λ index. index < length methods.now) }
 {
     match member {
-        Member::Name(name) => place_of_name(methods, name.as_slice()),
-        Member::Number(number) => place_of_number(methods, *number),
+        Member::Name(name) => index_of_name(methods, name.as_slice()),
+        Member::Number(number) => index_of_number(methods, *number),
     }
 }
 
@@ -81,12 +81,12 @@ fn is_for(result_kind: Option<Kind>, destination: Option<Sort>) -> bool
 /// A method with its arguments.
 fn signed(
     alloc: Global,
-    place: usize,
+    index: usize,
     method: &Method,
     args: &[DispArg],
     destination: Option<Sort>,
 ) -> Result<Bound, BindError>
-    ensures { Binds result (signed place method.now args.now destination) }
+    ensures { Binds result (signed index method.now args.now destination) }
 {
     let params = method.params.as_slice();
     if args.len() != params.len() {
@@ -98,7 +98,7 @@ fn signed(
     if !is_for(method.result, destination) {
         return Err(BindError::Disp(HResult::DISP_E_TYPEMISMATCH));
     }
-    match u16::try_from(place) {
+    match u16::try_from(index) {
         Ok(method) => Ok(Bound { method, args }),
         Err(_) => Err(BindError::Memory),
     }
@@ -122,9 +122,9 @@ pub fn bind_among(
 ) -> Result<Bound, BindError>
     ensures binds { Binds result (bound_among methods.now member.now args.now destination) }
 {
-    match place_of(methods, member) {
+    match index_of(methods, member) {
         None => Err(BindError::Disp(absent(member))),
-        Some(place) => signed(alloc, place, &methods[place], args, destination),
+        Some(index) => signed(alloc, index, &methods[index], args, destination),
     }
 }
 

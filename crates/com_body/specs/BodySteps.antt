@@ -1,4 +1,4 @@
--- The body step: local statements one by one, until an action stands at the place.
+-- The body step: local statements one by one, until an action stands at the program counter.
 use Rattle.std.specs.Prelude.{ℕ, zero, suc, ◌+◌, pos, List, [], ◌∷◌, if◌then◌else◌, int_lt, drop}
 use Rattle.std.specs.Prelude.{slice_index_or, slice_set}
 use Rattle.std.specs.Int.{w64, int_wrapping_add, int_wrapping_sub}
@@ -43,8 +43,8 @@ effect_of f c (stmt.SkipZero register count) =
     Goes f c (if int_eq (number_in (register_of f register)) (pos 0) then count else 0)
 effect_of f c other = Acts (action_of f c other)
 
--- The step on the statements that remain, of which the first n are to be passed over. The frame's place is
--- that of the first statement behind those. At the end the place stays.
+-- The step on the statements that remain, of which the first n are to be passed over. The frame's program
+-- counter is that of the first statement behind those. At the end it stays.
 abbrev pub walk : List Stmt → ℕ → FrameView → Cells → Outcome
 walk [] n f c = record { frame = f; cells = c; action = leave_ok }
 walk (s ∷ rest) (suc n) f c = walk rest n f c
@@ -54,7 +54,7 @@ walk (s ∷ rest) zero f c =
       | Acts a ↦ record { frame = moved f 1; cells = c; action = a }
     ]
 
--- The body step from the frame's place. A place past the end counts as the end.
+-- The body step from the frame's program counter. One past the end counts as the end.
 abbrev pub body_step : List Stmt → FrameView → Cells → Outcome
 body_step statements frame cells = walk (drop frame.place statements) 0 frame cells
 

@@ -48,6 +48,6 @@ with_register frame number value = record frame { registers = slice_set frame.re
 abbrev pub with_slot : FrameView → ℕ → Option RefValue → FrameView
 with_slot frame number held = record frame { slots = slice_set frame.slots number held }
 
--- A frame whose place is n statements further on.
+-- A frame whose program counter is n statements further on.
 abbrev pub moved : FrameView → ℕ → FrameView
 moved frame n = record frame { place = frame.place + n }

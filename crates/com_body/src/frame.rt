@@ -11,11 +11,11 @@ use com_base::{Memory, RefValue, Value};
 use std::alloc::Global;
 use std::marker::Model;
 
-/// Where a body or a script stands: its place, which is the number of the next statement from 0, 16 registers
-/// and 8 slots.
+/// Where a body or a script stands: its program counter, which is the index of the next statement, 16
+/// registers and 8 slots.
 ///
-/// Contracts see a frame as the record of these three: the place, the list of values and the list of
-/// references.
+/// Contracts see a frame as the record of these three: the program counter, which is called `place` here, the
+/// list of values and the list of references.
 #[derive(Debug, Drop)]
 pub struct Frame {
     place: u32,
@@ -39,10 +39,10 @@ impl Model for Frame {
 }
 
 impl Frame {
-    /// The frame with which a body or a script begins. The place is 0. The values that are no references
-    /// stand in the registers from the first on, in their order, and the references in the slots from the
-    /// first on. All other registers are the Int 0, and all other slots are null. The only error is want of
-    /// memory.
+    /// The frame with which a body or a script begins. The program counter is 0. The values that are no
+    /// references stand in the registers from the first on, in their order, and the references in the slots
+    /// from the first on. All other registers are the Int 0, and all other slots are null. The only error is
+    /// want of memory.
     pub fn enter(alloc: Global, values: &[Value]) -> Result<Frame, Memory>
         requires { length values.now ≤ 4 }
         ensures { IfOk result (λ frame. frame ≡ entered values.now) }
@@ -55,7 +55,8 @@ impl Frame {
         })
     }
 
-    /// The number of the next statement.
+    /// The program counter: the index of the next statement, from 0. At the end of a body it is the number of
+    /// its statements.
     #[inline]
     pub fn place(&self) -> u32
         ensures { result ≡ self.now.place }
@@ -63,7 +64,7 @@ impl Frame {
         self.place
     }
 
-    /// Makes another statement the next one, and leaves all else.
+    /// Sets the program counter, which makes another statement the next one, and leaves all else.
     #[inline]
     pub fn set_place(&mut self, place: u32)
         ensures { self.new ≡ record self.old { place = place } }
@@ -236,7 +237,9 @@ fn put_reference(slots: &mut [Option<RefValue>; 8], taken: usize, value: &Value)
 /// What an object keeps between calls: 8 numbers and 4 links, which are references to other objects.
 #[derive(Debug, Clone, Copy, PartialEq, Eq)]
 pub struct Cells {
+    /// The cells c0 to c7.
     pub numbers: [i64; 8],
+    /// The links k0 to k3, each None for null.
     pub links: [Option<RefValue>; 4],
 }
 
@@ -268,18 +271,27 @@ pub enum Native {
 /// The work of one step: which body runs, by its class, interface and method, and on which frame and cells.
 #[derive(Debug, Drop)]
 pub struct Job {
+    /// Which code steps the body: the class's statements, or a built-in body.
     pub kind: Native,
+    /// The class's number, from 1.
     pub class: u32,
+    /// The number of the interface that was called, from 0.
     pub iface: u16,
+    /// The number of its method, from 0.
     pub method: u16,
+    /// The frame of the body as it stands.
     pub frame: Frame,
+    /// What the object keeps, as the body finds it.
     pub cells: Cells,
 }
 
 /// What a step gives: the frame and cells afterwards, and one action.
 #[derive(Debug, Drop)]
 pub struct Outcome {
+    /// The frame after the step. Its next statement is the one behind the action, if there is one.
     pub frame: Frame,
+    /// What the object keeps after the step.
     pub cells: Cells,
+    /// What the body does next, with the values of its operands.
     pub action: Action,
 }

@@ -2,7 +2,7 @@
 //!
 //! A body is the program of one method, and a script is that of one thread. Both are lists of statements. A
 //! frame holds where such a program stands, with its registers and slots. One step does local statements
-//! until an action stands at the place, and gives that action with its operands' values.
+//! until an action stands at the program counter, and gives that action with its operands' values.
 #![tactic(auto)]
 
 mod actions;

@@ -25,11 +25,11 @@ enum Done {
     Acted(Action),
 }
 
-/// The body step: local statements one by one, until an action stands at the frame's place.
+/// The body step: local statements one by one, until an action stands at the program counter.
 ///
-/// The action has its operands' values, and the place moves past it. At the end of the body the action is
-/// `leave S_OK` with no value, and the place stays. The only error is want of memory for a value that is
-/// copied.
+/// The action has its operands' values, and the program counter moves past it. At the end of the body the
+/// action is `leave S_OK` with no value, and the program counter stays. The only error is want of memory for
+/// a value that is copied.
 pub fn step(alloc: Global, body: &Body, frame: Frame, cells: Cells) -> Result<Outcome, Memory>
     ensures { IfOk result (λ outcome. outcome ≡ body_step body.now frame cells) }
 {

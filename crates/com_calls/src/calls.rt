@@ -25,15 +25,12 @@ ghost use Rattle.com_calls.specs.Steps.{taken_at, grown_at, out_entry, is_known,
 
 use crate::rows::{CallRow, Cut, Issued};
 use crate::{later, rows, waits};
-use com_base::{HResult, Memory, Rows, Value};
+use com_base::{HOST_STA, HResult, Memory, Rows, Value};
 use com_filter::Verdict;
 use com_inbox::Inbox;
 use com_model::{Admission, Deed, Ending, Issue, Leaving, Phase, Route};
 use std::alloc::Global;
 use std::marker::Model;
-
-/// The host's STA, the first number of an STA.
-const HOST_STA: u32 = 2;
 
 /// All calls by their numbers, from 1, and the inboxes of apartments, seen as the tables of calls, the
 /// apartment of each call's target, the number of calls with room and the number of apartments with an inbox.
@@ -47,7 +44,7 @@ pub struct Calls {
     // The calls that wait for a time, and some that did: what waits no more is taken out where a call comes
     // in.
     delayed: Vec<u32>,
-    // The Leaves that came after the answers, at the places of their calls. Few calls have one.
+    // The Leaves that came after the answers, at the indices of their calls. Few calls have one.
     later: Vec<Option<Leaving>>,
     room: u32,
     causes: u32,
@@ -257,8 +254,8 @@ impl Calls {
             → self.new ≡ with_tables self.old (cut_at o self.old.tables (effect_of cut)) }
     {
         let calls = self.len();
-        for place in 0..calls {
-            self.cut_one(place + 1, cut);
+        for index in 0..calls {
+            self.cut_one(index + 1, cut);
         }
     }
 

@@ -1,4 +1,4 @@
-//! The Leaves that came after the answers of their calls, each at the place of its call.
+//! The Leaves that came after the answers of their calls, each at the index of its call.
 
 ghost use Rattle.std.specs.Prelude.{◌≡◌, ◌-◌, ◌≤◌, ◌++◌, ℕ, None, replicate, vec_len, vec_capacity};
 ghost use Rattle.std.specs.Option.{ForSome, option_copied};
@@ -29,19 +29,19 @@ pub fn keep(later: &mut Vec<Option<Leaving>>, call: u32, leaving: Option<Leaving
     if call == 0 {
         return;
     }
-    let place = call as usize - 1;
-    if place < later.len() {
-        later[place] = leaving;
+    let index = call as usize - 1;
+    if index < later.len() {
+        later[index] = leaving;
         return;
     }
     let Some(leaving) = leaving else {
         return;
     };
-    fill(later, place);
+    fill(later, index);
     later.push_reserved(Some(leaving));
 }
 
-/// Adds places without a Leave until there are so many. There is room for them.
+/// Adds rows without a Leave until there are so many. There is room for them.
 fn fill(later: &mut Vec<Option<Leaving>>, count: usize)
     requires more { vec_len later.old ≤ count }
     requires room { count ≤ vec_capacity later.old }
@@ -49,7 +49,7 @@ fn fill(later: &mut Vec<Option<Leaving>>, count: usize)
     ensures len { vec_len later.new ≡ count }
     ensures capacity { vec_capacity later.old ≤ vec_capacity later.new }
 {
-    for place in later.len()..count {
+    for index in later.len()..count {
         later.push_reserved(None);
     }
 }

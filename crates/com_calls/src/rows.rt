@@ -14,7 +14,7 @@ use std::alloc::Global;
 use std::marker::Model;
 use std::mem;
 
-/// What has become of a call. What it sends is let go before its body can leave, so both share one place. A
+/// What has become of a call. What it sends is let go before its body can leave, so both lie in one field. A
 /// Leave that comes after the answer stands apart.
 #[derive(Debug, Drop)]
 enum Fate {
@@ -337,8 +337,8 @@ impl CallRow {
 pub fn row_of(rows: &[CallRow], call: u32) -> Option<&CallRow>
     ensures { option_copied result ≡ row_at rows.now call }
 {
-    let place = call.checked_sub(1)?;
-    rows.get(place as usize)
+    let index = call.checked_sub(1)?;
+    rows.get(index as usize)
 }
 
 /// A body is entered.

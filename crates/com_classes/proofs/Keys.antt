@@ -1,4 +1,4 @@
--- A GUID's place in a table is the place of its key in the index.
+-- A GUID's index in a table is that of its key in the map.
 use Rattle.std.proofs.Common.{◌≡◌, ℕ, ◌+◌, is_some, true, false, true≢false, sym, ◌<◌, List, [], ◌∷◌, ◌++◌, Bool, not, cond, map, length, Option, Some, None, position, refl, ap, ◌∙◌, arith, nat_lt, nat_le, if◌then◌else◌}
 use Rattle.std.specs.List.{prefix_len}
 use Rattle.std.specs.Option.{option_map}
@@ -65,7 +65,7 @@ unrefused_interface t i e = unrefused (find_interface t i.iid) (length t.interfa
 pub unrefused_class : (t : Tables) (c : Class) → class_refusal t c ≡ None → (find_class t c.clsid ≡ None) × (length t.classes < 64)
 unrefused_class t c e = unrefused (find_class t c.clsid) (length t.classes) e
 
--- a number of a place, where there is no place
+-- the number of an index, where there is no index
 pub unmapped : (o : Option ℕ) → option_map (λ before. before + 1) o ≡ None → o ≡ None
 unmapped None e = refl
 unmapped (Some x) e = absurd (none-some (x + 1) (sym e))

@@ -2,8 +2,8 @@
 
 ghost use Rattle.std.specs.Prelude.{◌≡◌, [], ◌∷◌, None, All, IfOk};
 ghost use Rattle.com_body.specs.Bodies.{IsInRange, fault_of};
-ghost use Rattle.com_classes.specs.BuiltIns.{iunknown, icounter, irelay, ilatch, counter_bodies};
-ghost use Rattle.com_classes.specs.BuiltIns.{relay_bodies, latch_bodies};
+ghost use Rattle.com_classes.specs.BuiltIns.{iunknown, icounter, irelay, ilatch, built_in_interfaces};
+ghost use Rattle.com_classes.specs.BuiltIns.{counter_bodies, relay_bodies, latch_bodies};
 
 use crate::interfaces::{Interface, Method};
 use com_base::{ByteList, Guid, HResult, IID_IUNKNOWN, Kind, Memory, Rows, Value};
@@ -13,8 +13,8 @@ use std::alloc::Global;
 // S_OK as a code.
 const WITH_OK: Code = Code::Literal(HResult::S_OK);
 
-// The IID of a built-in interface, by its first field.
-fn built_in_iid(data1: u32) -> Guid
+/// The IID of ICounter, IRelay or ILatch, by its first field.
+pub fn built_in_iid(data1: u32) -> Guid
     ensures { result ≡ record {
       data1 = data1;
       data2 = 0;
@@ -107,6 +107,18 @@ pub fn ilatch(alloc: Global) -> Result<Interface, Memory>
         iid: built_in_iid(0x5C0B_0003),
         methods: Rows::from_vec(vec![in alloc; set, test]?),
     })
+}
+
+/// The interfaces that are declared from the start, in the order of their numbers: IUnknown, ICounter, IRelay
+/// and ILatch. The only error is want of memory.
+pub fn built_in_interfaces(alloc: Global) -> Result<Rows<Interface>, Memory>
+    ensures { IfOk result (λ interfaces. interfaces ≡ built_in_interfaces) }
+{
+    let unknown = iunknown(alloc)?;
+    let counter = icounter(alloc)?;
+    let relay = irelay(alloc)?;
+    let latch = ilatch(alloc)?;
+    Ok(Rows::from_vec(vec![in alloc; unknown, counter, relay, latch]?))
 }
 
 // The body of statements that are known to be one.

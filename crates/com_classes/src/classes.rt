@@ -85,7 +85,7 @@ pub enum ClassError {
 /// The interfaces and the classes, each in the order of declaration.
 ///
 /// Contracts see the list of interfaces, the built-in ones first, and the list of classes. An interface's
-/// number is its place from 0, and a class's number is its place from 1.
+/// number is its index in its list, and a class's number is one more than its index.
 #[derive(Drop)]
 pub struct Classes {
     interfaces: IndexMap<Key, Interface>,
@@ -126,8 +126,8 @@ impl Classes {
         if class == 0 {
             return None;
         }
-        let place = class - 1;
-        match self.classes.get_index(place as usize) {
+        let index = class - 1;
+        match self.classes.get_index(index as usize) {
             Some((_, class)) => Some(class),
             None => None,
         }
@@ -138,7 +138,7 @@ impl Classes {
         ensures { result ≡ find_interface self.now iid.now }
     {
         match self.interfaces.get_index_of(&key_of(iid)) {
-            Some(place) => Some(place as u16),
+            Some(index) => Some(index as u16),
             None => None,
         }
     }
@@ -148,7 +148,7 @@ impl Classes {
         ensures { result ≡ find_class self.now clsid.now }
     {
         match self.classes.get_index_of(&key_of(clsid)) {
-            Some(place) => Some(place as u32 + 1),
+            Some(index) => Some(index as u32 + 1),
             None => None,
         }
     }

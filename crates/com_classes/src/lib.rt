@@ -6,6 +6,7 @@ mod classes;
 mod factory;
 mod interfaces;
 
+pub use built_ins::{built_in_iid, built_in_interfaces};
 pub use classes::{Class, ClassError, Classes, MethodBody, ThreadingModel};
 pub use com_base::Memory;
 pub use factory::{Creator, Factory, Placed};

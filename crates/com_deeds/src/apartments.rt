@@ -4,14 +4,8 @@ ghost use Rattle.std.specs.Prelude.{◌≡◌, ℕ};
 ghost use Rattle.com_model.specs.Sight.{Sight};
 ghost use Rattle.com_model.specs.Deeds.{initialised, new_home, has_mode, uninitialised, filter_set, in_sta};
 
-use com_base::{HResult, Mode};
+use com_base::{HOST_STA, HResult, MTA, Mode};
 use com_model::Deed;
-
-/// The number of the multithreaded apartment.
-pub const MTA: u32 = 1;
-
-/// The number of the host's STA, the first of all STAs.
-pub const HOST_STA: u32 = 2;
 
 /// The entry of `init` in a lane with this home, where the next STA has the number `next_sta`: S_OK where the
 /// lane has no home, S_FALSE where its home has the same mode, else RPC_E_CHANGED_MODE (CoInitializeEx).

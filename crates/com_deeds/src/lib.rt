@@ -15,7 +15,7 @@ pub use activation::{
     class_number, created, interface_number, number_or_zero, object_in, queried, shown_interface,
 };
 pub use answers::{answered, incoming, is_handled, is_leave, is_post, pending, retried};
-pub use apartments::{HOST_STA, MTA, filter_set, in_sta, initialised, uninitialised};
+pub use apartments::{filter_set, in_sta, initialised, uninitialised};
 pub use calls::{call_refusal, out, refusal_or_ok, route_to};
 pub use com_base::Memory;
 pub use holders::{

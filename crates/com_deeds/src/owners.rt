@@ -3,10 +3,8 @@
 ghost use Rattle.std.specs.Prelude.{◌≡◌};
 ghost use Rattle.com_classes.specs.Activation.{apartment_of, owner_for, is_agile};
 
-use crate::apartments::{HOST_STA, MTA};
+use com_base::{HOST_STA, MTA, NEUTRAL};
 use com_classes::{Creator, ThreadingModel};
-
-const NEUTRAL: u32 = 0;
 
 /// The owner of a new object: the main STA for no model; for `Apartment` the creator's apartment if it is an
 /// STA, else the host's STA; the multithreaded apartment for `Free`; the running apartment for `Both`; the

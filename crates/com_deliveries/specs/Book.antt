@@ -7,7 +7,8 @@ use Rattle.com_body.specs.declared.operands.Asked.{Asked}
 use Rattle.com_deliveries.specs.declared.Delivery.{Delivery}
 use Rattle.com_deliveries.specs.declared.sources.Source.{Source}
 use Rattle.com_deliveries.specs.declared.tally.Call.{Call}
-use Rattle.com_deliveries.specs.Rows.{row_at, with_row, removed, next_in, last_in, top_in, stack_in, opened_in, closed_in}
+use Rattle.com_deliveries.specs.Rows.{row_at, with_row, removed, next_in, last_in}
+use Rattle.com_deliveries.specs.Rows.{top_in, stack_in, opened_in, closed_in}
 use Rattle.com_model.specs.declared.deeds.Deed.{Deed}
 use Rattle.com_model.specs.declared.deeds.Deed.TheVariants as deed
 use Rattle.com_model.specs.declared.deeds.Entry.{Entry}

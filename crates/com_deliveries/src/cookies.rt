@@ -2,7 +2,7 @@
 ghost use Rattle.std.specs.Prelude.{◌≡◌, ◌+◌, ◌<◌, ◌++◌, ◌∷◌, [], IfOk, OnOk, drop, length, take};
 ghost use Rattle.com_points.specs.Sinks.{is_cookie};
 ghost use Rattle.com_deliveries.specs.Rows.{last_in, next_in, removed};
-ghost use Rattle.com_deliveries.specs.Places.{place_in};
+ghost use Rattle.com_deliveries.specs.Indices.{index_in};
 
 use com_base::{Memory, Rows};
 use std::alloc::Global;
@@ -59,17 +59,17 @@ impl Cookies {
     pub fn remove(&mut self, number: i64)
         ensures { self.new ≡ removed number self.old }
     {
-        let place = self.place(number);
-        if place < self.len() {
-            self.take_out(place);
+        let index = self.index(number);
+        if index < self.len() {
+            self.take_out(index);
         }
     }
 
-    /// The first place of a number, or how many there are.
-    fn place(&self, number: i64) -> usize
-        ensures { result ≡ place_in number self.now }
+    /// The first index of a number, or how many there are.
+    fn index(&self, number: i64) -> usize
+        ensures { result ≡ index_in number self.now }
     {
-        place_of(self.items.as_slice(), number)
+        index_of(self.items.as_slice(), number)
     }
 
     /// How many there are.
@@ -79,12 +79,12 @@ impl Cookies {
         self.items.len()
     }
 
-    /// The one at a place goes.
-    fn take_out(&mut self, place: usize)
-        requires { place < length self.old }
-        ensures { self.new ≡ take place self.old ++ drop (place + 1) self.old }
+    /// The one at an index goes.
+    fn take_out(&mut self, index: usize)
+        requires { index < length self.old }
+        ensures { self.new ≡ take index self.old ++ drop (index + 1) self.old }
     {
-        self.items.remove(place);
+        self.items.remove(index);
     }
 
     /// The same cookies.
@@ -123,16 +123,16 @@ fn is_cookie(number: i64, cookie: u64) -> bool
     number.wrapping_sub_unsigned(cookie) == 0
 }
 
-/// The first place of a cookie, or how many there are.
-fn place_of(cookies: &[u64], number: i64) -> usize
-    ensures { result ≡ place_in number cookies.now }
+/// The first index of a cookie, or how many there are.
+fn index_of(cookies: &[u64], number: i64) -> usize
+    ensures { result ≡ index_in number cookies.now }
 {
-    let mut place = 0;
+    let mut index = 0;
     for cookie in cookies {
         if is_cookie(number, *cookie) {
-            return place;
+            return index;
         }
-        place += 1;
+        index += 1;
     }
-    place
+    index
 }

@@ -17,7 +17,7 @@ mod stacks;
 mod tally;
 
 pub use com_base::Memory;
-use com_base::Rows;
+use com_base::{CLASS_LIMIT, Rows};
 use com_model::{Entry, Scenario};
 use com_sources::source_interface;
 use std::alloc::Global;
@@ -33,9 +33,6 @@ pub struct Delivery {
     /// The cookies of the sinks to which the call's Outs went, in their order.
     pub cookies: Rows<u64>,
 }
-
-/// How many classes a scenario may have.
-const CLASS_LIMIT: usize = 64;
 
 /// For each class of a formed scenario, by its number from 1 on, the number of its interface if it is a
 /// source. The only error is want of memory.

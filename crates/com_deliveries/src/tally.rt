@@ -2,7 +2,8 @@
 ghost use Rattle.std.specs.Prelude.{◌≡◌, ◌++◌, ◌∷◌, ℤ, pos, [], IfOk, OnOk, MatchOption, None, Some};
 ghost use Rattle.com_base.specs.declared.value.Value.{Value};
 ghost use Rattle.com_deliveries.specs.Book.{after, begun, called, changed_by, closes_in, delivery, empty};
-ghost use Rattle.com_deliveries.specs.Book.{ended, enters_in, events, deliveries_in, got, is_event, issues_in};
+ghost use Rattle.com_deliveries.specs.Book.{ended, enters_in, events, deliveries_in};
+ghost use Rattle.com_deliveries.specs.Book.{got, is_event, issues_in};
 ghost use Rattle.com_deliveries.specs.Book.{leaves_in, makes_in, next_of, no_call, on_source, opens_in};
 ghost use Rattle.com_deliveries.specs.Book.{reached_by, source_at};
 ghost use Rattle.com_deliveries.specs.Rows.{row_at, with_row};

@@ -12,11 +12,11 @@ ghost use Rattle.com_scenario.specs.Sizes.{is_too_long};
 ghost use Rattle.com_servant.specs.Rows.{row};
 
 use crate::playing::play;
-use com_base::{ByteList, Memory};
+use com_base::{ByteList, Memory, TEXT_2_LIMIT};
 use com_commands::{Input, InputReader, PlayingCommand, Status, first_fault, perform, read_as};
 use com_dispatch::{Late, elaborate};
 use com_io::{Sink, Source};
-use com_scenario::{LONGEST, is_too_long};
+use com_scenario::is_too_long;
 use com_servant::Servant;
 use std::alloc::Global;
 
@@ -26,7 +26,7 @@ struct Dispatch;
 impl InputReader for Dispatch {
     type Read = Late;
 
-    const LIMIT: usize = LONGEST;
+    const LIMIT: usize = TEXT_2_LIMIT;
 
     ghost LIMIT = { 16777216 };
 

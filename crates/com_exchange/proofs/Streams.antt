@@ -57,11 +57,11 @@ pub record SoFar (old out : List ℕ) (referent taken i : ℕ) (vs : List Value)
 pub so_far_none : (old : List ℕ) (vs : List Value) (fs : List StdFields) → SoFar old old 0x20000 0 0 vs fs
 so_far_none old vs fs = record { appended = appended_none old (wires vs fs); few = omega arith }
 
-pub so_far_more : (old out new : List ℕ) (referent next place taken i : ℕ) (v : Value) (vs : List Value) (fs : List StdFields)
-    → i < length vs → v ≡ get_or vs i v → SoFar old out referent taken i vs fs → place ≡ length out - length old
-    → new ≡ out ++ (zeros (gap place (align_of_value (wire_of v (slice_get fs taken)))) ++ written_arg referent (wire_of v (slice_get fs taken)))
+pub so_far_more : (old out new : List ℕ) (referent next position taken i : ℕ) (v : Value) (vs : List Value) (fs : List StdFields)
+    → i < length vs → v ≡ get_or vs i v → SoFar old out referent taken i vs fs → position ≡ length out - length old
+    → new ≡ out ++ (zeros (gap position (align_of_value (wire_of v (slice_get fs taken)))) ++ written_arg referent (wire_of v (slice_get fs taken)))
     → next ≡ next_referent referent (wire_of v (slice_get fs taken)) → packets_of v ≤ 1 → SoFar old new next (taken + packets_of v) (i + 1) vs fs
-so_far_more old out new referent next place taken i v vs fs within is so_far place_is new_is next_is few =
+so_far_more old out new referent next position taken i v vs fs within is so_far place_is new_is next_is few =
     let w : Wire = wire_of v (slice_get fs taken) in
     let total : List ℕ = written_args (wires vs fs) in
     let rest : List Wire = wires (drop (suc i) vs) (drop (taken + packets_of v) fs) in
@@ -69,7 +69,7 @@ so_far_more old out new referent next place taken i v vs fs within is so_far pla
     let here : wires (drop i vs) (drop taken fs) ≡ w ∷ rest = ap (λ (l : List Value). wires l (drop taken fs)) split ∙ wires_next v (drop (suc i) vs) fs taken in
     let before : Appended old out referent (w ∷ rest) total = subst (λ (l : List Wire). Appended old out referent l total) here so_far.appended in
     let some : 0 < length (w ∷ rest) = omega arith in
-    let after : Appended old new next rest total = appended_at old out new referent next place w (w ∷ rest) 0 total some refl before place_is new_is next_is in
+    let after : Appended old new next rest total = appended_at old out new referent next position w (w ∷ rest) 0 total some refl before place_is new_is next_is in
     let more : suc i ≡ i + 1 = omega arith in
     record {
       appended = subst (λ (n : ℕ). Appended old new next (wires (drop n vs) (drop (taken + packets_of v) fs)) total) more after;
@@ -88,17 +88,17 @@ pub so_far_longer : (old out : List ℕ) (referent taken i : ℕ) (vs : List Val
     → SoFar old out referent taken i vs fs → length old ≤ length out
 so_far_longer old out referent taken i vs fs so_far = sub_ok old out referent (wires (drop i vs) (drop taken fs)) (written_args (wires vs fs)) so_far.appended
 
-pub so_far_step : (old out new : List ℕ) (referent next place taken count i : ℕ) (v : Value) (packet : Option StdFields) (vs : List Value)
-    (fs : List StdFields) → i < length vs → v ≡ get_or vs i v → SoFar old out referent taken i vs fs → place ≡ length out - length old
-    → new ≡ out ++ (zeros (gap place (align_of_value (wire_of v packet))) ++ written_arg referent (wire_of v packet))
+pub so_far_step : (old out new : List ℕ) (referent next position taken count i : ℕ) (v : Value) (packet : Option StdFields) (vs : List Value)
+    (fs : List StdFields) → i < length vs → v ≡ get_or vs i v → SoFar old out referent taken i vs fs → position ≡ length out - length old
+    → new ≡ out ++ (zeros (gap position (align_of_value (wire_of v packet))) ++ written_arg referent (wire_of v packet))
     → next ≡ next_referent referent (wire_of v packet) → packet ≡ slice_get fs taken → count ≡ packets_of v → count ≤ 1
     → SoFar old new next (taken + count) (i + 1) vs fs
-so_far_step old out new referent next place taken count i v packet vs fs within is so_far place_is new_is next_is packet_is count_is few =
+so_far_step old out new referent next position taken count i v packet vs fs within is so_far place_is new_is next_is packet_is count_is few =
     let Writes : Option StdFields → Type 0 =
-    λ p. new ≡ out ++ (zeros (gap place (align_of_value (wire_of v p))) ++ written_arg referent (wire_of v p)) in
+    λ p. new ≡ out ++ (zeros (gap position (align_of_value (wire_of v p))) ++ written_arg referent (wire_of v p)) in
     let Follows : Option StdFields → Type 0 = λ p. next ≡ next_referent referent (wire_of v p) in
     let Takes : ℕ → Type 0 = λ n. SoFar old new next (taken + n) (i + 1) vs fs in
     let one : packets_of v ≤ 1 = omega (arith, count_is) in
     subst Takes (sym count_is)
-    (so_far_more old out new referent next place taken i v vs fs within is so_far place_is
+    (so_far_more old out new referent next position taken i v vs fs within is so_far place_is
     (subst Writes packet_is new_is) (subst Follows packet_is next_is) one)

@@ -26,7 +26,7 @@ pub struct Request {
 pub enum RequestError {
     /// The header is none.
     Header(OrpcFault),
-    /// What stands behind the header are no arguments of these kinds. The place counts from there.
+    /// What stands behind the header are no arguments of these kinds. The position counts from there.
     Arguments(ArgFault),
     /// Want of memory.
     Memory,

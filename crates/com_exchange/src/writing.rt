@@ -26,13 +26,13 @@ const OBJREF: u32 = 72;
 // How many bytes the header of a reply has.
 const REPLY: usize = 8;
 
-// How many bytes lie between a place and the next multiple of the alignment.
-fn gap(place: usize, align: usize) -> usize
+// How many bytes lie between a position and the next multiple of the alignment.
+fn gap(position: usize, align: usize) -> usize
     requires { 0 < align }
-    ensures value { result ≡ gap place align }
+    ensures value { result ≡ gap position align }
     ensures below { result < align }
 {
-    (align - place % align) % align
+    (align - position % align) % align
 }
 
 // Appends so many zeros.
@@ -120,21 +120,21 @@ fn next_referent(referent: u32, value: &Value, packet: Option<&StdFields>) -> Re
     }
 }
 
-// Appends a value with the padding before it, at a place in the stream, and gives the next referent.
+// Appends a value with the padding before it, at a position in the stream, and gives the next referent.
 fn put_value(
     value: &Value,
     packet: Option<&StdFields>,
-    place: usize,
+    position: usize,
     referent: u32,
     out: &mut ByteList,
 ) -> Result<u32, Memory>
     ensures next { IfOk result (λ next. next
         ≡ next_referent referent (wire_of value.now (option_copied packet.entry))) }
     ensures ok { OnOk result (out.new
-        ≡ out.old ++ (zeros (gap place (align_of_value (wire_of value.now (option_copied packet.entry))))
+        ≡ out.old ++ (zeros (gap position (align_of_value (wire_of value.now (option_copied packet.entry))))
         ++ written_arg referent (wire_of value.now (option_copied packet.entry)))) }
 {
-    put_zeros(gap(place, align_of_value(value)), out)?;
+    put_zeros(gap(position, align_of_value(value)), out)?;
     put_arg(value, packet, referent, out)?;
     next_referent(referent, value, packet)
 }
@@ -165,8 +165,8 @@ fn put_values(values: &[Value], packets: &[StdFields], out: &mut ByteList) -> Re
     let mut referent = FIRST_REFERENT;
     let mut taken = 0;
     for value in values {
-        let place = out.len() - start;
-        referent = put_value(value, packet_at(packets, taken), place, referent, out)?;
+        let position = out.len() - start;
+        referent = put_value(value, packet_at(packets, taken), position, referent, out)?;
         taken += packets_of(value);
     }
     Ok(())

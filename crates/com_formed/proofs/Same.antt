@@ -47,7 +47,7 @@ four_at (w ∷ x ∷ []) a b c d e0 e1 e2 e3 = absurd cc
 four_at (w ∷ x ∷ y ∷ []) a b c d e0 e1 e2 e3 = absurd cc
 four_at (w ∷ x ∷ y ∷ z ∷ zs) a b c d e0 e1 e2 e3 = cc
 
--- what stands at the places of a list that begins with four
+-- what stands at the indices of a list that begins with four
 pub record Four {X : Type 0} (xs : List X) (a b c d : X) : Type 0 where
   pub first : slice_get xs 0 ≡ Some a
   pub second : slice_get xs 1 ≡ Some b

@@ -1,25 +1,12 @@
 //! The interfaces that each scenario has.
 
-ghost use Rattle.std.specs.Prelude.{◌≡◌, ◌∷◌, [], ◌↔◌, IsTrue, take};
+ghost use Rattle.std.specs.Prelude.{◌≡◌, ◌↔◌, IsTrue, take};
 ghost use Rattle.com_classes.specs.BuiltIns.{iunknown, icounter, irelay, ilatch, built_in_interfaces};
 ghost use Rattle.com_formed.specs.Methods.{method_of};
 
 use crate::tables::same_guid;
-use com_base::{Guid, IID_IUNKNOWN, Kind};
-use com_classes::{Classes, Interface, Method};
-
-// The IID of a built-in interface, by its first field.
-fn own_iid(data1: u32) -> Guid
-    ensures { result
-        ≡ record { data1 = data1; data2 = 0; data3 = 0x4000; data4 = 0x80 ∷ 0 ∷ 0 ∷ 0 ∷ 0 ∷ 0 ∷ 0 ∷ 1 ∷ [] } }
-{
-    Guid {
-        data1,
-        data2: 0x0000,
-        data3: 0x4000,
-        data4: [0x80, 0, 0, 0, 0, 0, 0, 1],
-    }
-}
+use com_base::{Guid, ICOUNTER, IID_IUNKNOWN, ILATCH, IRELAY, IUNKNOWN, Kind};
+use com_classes::{Classes, Interface, Method, built_in_iid};
 
 // Whether an IID is this one.
 #[tactic(auto, using(crate::proofs::Same::guids_same))]
@@ -87,7 +74,7 @@ fn is_icounter(interface: &Interface) -> bool
     let [add, get] = interface.methods.as_slice() else {
         return false;
     };
-    is_named(interface, b"ICounter", &own_iid(0x5C0B_0001))
+    is_named(interface, b"ICounter", &built_in_iid(0x5C0B_0001))
         && is_method(add, b"add", &[Kind::Int], Some(Kind::Int))
         && is_method(get, b"get", &[], Some(Kind::Int))
 }
@@ -98,8 +85,8 @@ fn is_irelay(interface: &Interface) -> bool
     let [set, forward] = interface.methods.as_slice() else {
         return false;
     };
-    is_named(interface, b"IRelay", &own_iid(0x5C0B_0002))
-        && is_method(set, b"set", &[Kind::Ref(1)], None)
+    is_named(interface, b"IRelay", &built_in_iid(0x5C0B_0002))
+        && is_method(set, b"set", &[Kind::Ref(ICOUNTER)], None)
         && is_method(forward, b"forward", &[Kind::Int], Some(Kind::Int))
 }
 
@@ -109,7 +96,7 @@ fn is_ilatch(interface: &Interface) -> bool
     let [set, test] = interface.methods.as_slice() else {
         return false;
     };
-    is_named(interface, b"ILatch", &own_iid(0x5C0B_0003))
+    is_named(interface, b"ILatch", &built_in_iid(0x5C0B_0003))
         && is_method(set, b"set", &[], None)
         && is_method(test, b"test", &[], Some(Kind::Bool))
 }
@@ -119,16 +106,16 @@ fn is_ilatch(interface: &Interface) -> bool
 pub(crate) fn begins_built_in(classes: &Classes) -> bool
     ensures { IsTrue result ↔ (take 4 classes.now.interfaces ≡ built_in_interfaces) }
 {
-    let Some(unknown) = classes.interface(0) else {
+    let Some(unknown) = classes.interface(IUNKNOWN) else {
         return false;
     };
-    let Some(counter) = classes.interface(1) else {
+    let Some(counter) = classes.interface(ICOUNTER) else {
         return false;
     };
-    let Some(relay) = classes.interface(2) else {
+    let Some(relay) = classes.interface(IRELAY) else {
         return false;
     };
-    let Some(latch) = classes.interface(3) else {
+    let Some(latch) = classes.interface(ILATCH) else {
         return false;
     };
     is_iunknown(unknown) && is_icounter(counter) && is_irelay(relay) && is_ilatch(latch)

@@ -9,6 +9,7 @@ ghost use Rattle.com_model.specs.Formed.{same_class, EachFrom, Distinct, FormedC
 use crate::statements::{Standing, is_body};
 use crate::tables::{class_at, is_declared, same_guid};
 use crate::words::is_name;
+use com_base::{BODY_LIMIT, CLASS_LIMIT, ICOUNTER, ILATCH, IRELAY, LISTED_LIMIT};
 use com_body::Native;
 use com_classes::{Class, Classes, MethodBody, ThreadingModel};
 use com_model::Scenario;
@@ -46,7 +47,8 @@ fn is_method_body(scenario: &Scenario, at: &Standing, body: &MethodBody) -> bool
     requires { length scenario.now.classes.interfaces ≤ 64 }
     ensures { IsTrue result ↔ IsBody scenario.now at.now body.now }
 {
-    is_body(scenario, at, 200, &body.body) && has_method(&scenario.classes, body.iface, body.method)
+    is_body(scenario, at, BODY_LIMIT, &body.body)
+        && has_method(&scenario.classes, body.iface, body.method)
 }
 
 fn same_body(left: &MethodBody, right: &MethodBody) -> bool
@@ -86,10 +88,10 @@ fn is_native(class: &Class) -> bool
     ensures { IsTrue result ↔ IsNative class.now.native class.now }
 {
     match class.native {
-        Native::Bodies => 1 <= class.interfaces.len() && class.interfaces.len() <= 16,
-        Native::Counter => lists_alone(class, 1),
-        Native::Relay => lists_alone(class, 2) && !is_agile(class.model),
-        Native::Latch => lists_alone(class, 3),
+        Native::Bodies => 1 <= class.interfaces.len() && class.interfaces.len() <= LISTED_LIMIT,
+        Native::Counter => lists_alone(class, ICOUNTER),
+        Native::Relay => lists_alone(class, IRELAY) && !is_agile(class.model),
+        Native::Latch => lists_alone(class, ILATCH),
     }
 }
 
@@ -114,19 +116,19 @@ fn is_class(scenario: &Scenario, number: u32, class: &Class) -> bool
         && are_bodies_distinct(class.bodies.as_slice())
 }
 
-// Whether the classes from a place on are such.
+// Whether the classes from an index on are such.
 #[tactic(auto, using(crate::proofs::Walks::there, crate::proofs::Walks::each_past))]
-fn are_classes(scenario: &Scenario, place: u32) -> bool
+fn are_classes(scenario: &Scenario, index: u32) -> bool
     requires few { length scenario.now.classes.classes ≤ 64 }
-    requires inside { place ≤ 64 }
+    requires inside { index ≤ 64 }
     requires named { length scenario.now.classes.interfaces ≤ 64 }
     ensures { IsTrue result
-        ↔ EachFrom (IsClass scenario.now) (place + 1) (drop place scenario.now.classes.classes) }
+        ↔ EachFrom (IsClass scenario.now) (index + 1) (drop index scenario.now.classes.classes) }
 {
-    let Some(class) = class_at(&scenario.classes, place) else {
+    let Some(class) = class_at(&scenario.classes, index) else {
         return true;
     };
-    is_class(scenario, place + 1, class) && are_classes(scenario, place + 1)
+    is_class(scenario, index + 1, class) && are_classes(scenario, index + 1)
 }
 
 fn same_class(left: &Class, right: &Class) -> bool
@@ -142,31 +144,31 @@ fn are_apart(left: &Class, right: &Class) -> bool
     !same_class(left, right)
 }
 
-// Whether no class from a place on has the name or the CLSID of this one.
+// Whether no class from an index on has the name or the CLSID of this one.
 #[tactic(auto, using(crate::proofs::Walks::there, crate::proofs::Walks::all_past))]
-fn is_class_new(class: &Class, classes: &Classes, place: u32) -> bool
+fn is_class_new(class: &Class, classes: &Classes, index: u32) -> bool
     requires few { length classes.now.classes ≤ 64 }
-    requires inside { place ≤ 64 }
+    requires inside { index ≤ 64 }
     ensures { IsTrue result
-        ↔ All (λ other. same_class class.now other ≡ false) (drop place classes.now.classes) }
+        ↔ All (λ other. same_class class.now other ≡ false) (drop index classes.now.classes) }
 {
-    let Some(other) = class_at(classes, place) else {
+    let Some(other) = class_at(classes, index) else {
         return true;
     };
-    are_apart(class, other) && is_class_new(class, classes, place + 1)
+    are_apart(class, other) && is_class_new(class, classes, index + 1)
 }
 
-// Whether no two classes from a place on have one name or one CLSID.
+// Whether no two classes from an index on have one name or one CLSID.
 #[tactic(auto, using(crate::proofs::Walks::there, crate::proofs::Walks::distinct_past))]
-fn are_classes_distinct(classes: &Classes, place: u32) -> bool
+fn are_classes_distinct(classes: &Classes, index: u32) -> bool
     requires few { length classes.now.classes ≤ 64 }
-    requires inside { place ≤ 64 }
-    ensures { IsTrue result ↔ Distinct same_class (drop place classes.now.classes) }
+    requires inside { index ≤ 64 }
+    ensures { IsTrue result ↔ Distinct same_class (drop index classes.now.classes) }
 {
-    let Some(class) = class_at(classes, place) else {
+    let Some(class) = class_at(classes, index) else {
         return true;
     };
-    is_class_new(class, classes, place + 1) && are_classes_distinct(classes, place + 1)
+    is_class_new(class, classes, index + 1) && are_classes_distinct(classes, index + 1)
 }
 
 // Whether there are at most 64 classes.
@@ -174,7 +176,7 @@ fn are_classes_distinct(classes: &Classes, place: u32) -> bool
 fn are_classes_few(classes: &Classes) -> bool
     ensures { IsTrue result ↔ (length classes.now.classes ≤ 64) }
 {
-    class_at(classes, 64).is_none()
+    class_at(classes, CLASS_LIMIT as u32).is_none()
 }
 
 /// Whether the classes are at most 64, keep their forms, name only what is declared, and repeat no name or

@@ -3,7 +3,7 @@
 ghost use Rattle.std.specs.Prelude.{◌≡◌, ◌≤◌, ◌↔◌, IsTrue, All, length};
 ghost use Rattle.com_model.specs.Formed.{IsType, IsAsked, IsRetryAnswer, IsRule, IsFilter, last_ms};
 
-use com_base::Rows;
+use com_base::{FILTER_LIMIT, RULE_LIMIT, Rows};
 use com_filter::{Filter, Rule, Verdict};
 
 /// The greatest time of a rule, in milliseconds.
@@ -58,12 +58,12 @@ fn is_rule(rule: &Rule) -> bool
 fn is_filter(filter: &Filter) -> bool
     ensures { IsTrue result ↔ IsFilter filter.now }
 {
-    filter.rules().iter().all(|rule| is_rule(rule)) && filter.rules().len() <= 32
+    filter.rules().iter().all(|rule| is_rule(rule)) && filter.rules().len() <= RULE_LIMIT
 }
 
 /// Whether there are at most 16 filters, each of at most 32 rules that keep their ranges.
 pub(crate) fn are_filters(filters: &Rows<Filter>) -> bool
     ensures { IsTrue result ↔ (All IsFilter filters.now × (length filters.now ≤ 16)) }
 {
-    filters.as_slice().iter().all(|filter| is_filter(filter)) && filters.len() <= 16
+    filters.as_slice().iter().all(|filter| is_filter(filter)) && filters.len() <= FILTER_LIMIT
 }

@@ -8,7 +8,10 @@ ghost use Rattle.com_model.specs.Formed.{Distinct, FormedInterfaces};
 use crate::built_ins::begins_built_in;
 use crate::tables::same_guid;
 use crate::words::is_name;
-use com_base::{Guid, IID_ICLASS_FACTORY, IID_IGLOBAL_INTERFACE_TABLE, IID_IMESSAGE_FILTER, Kind};
+use com_base::{
+    Guid, IID_ICLASS_FACTORY, IID_IGLOBAL_INTERFACE_TABLE, IID_IMESSAGE_FILTER, INTERFACE_LIMIT,
+    Kind, METHOD_LIMIT, PARAMETER_LIMIT,
+};
 use com_classes::{Classes, Interface, Method};
 
 // Whether a kind names no interface behind the one with this number.
@@ -41,7 +44,7 @@ fn is_method(number: u16, method: &Method) -> bool
             .as_slice()
             .iter()
             .all(|kind| is_kind_by(number, *kind))
-        && method.params.len() <= 4
+        && method.params.len() <= PARAMETER_LIMIT
         && is_result_by(number, method.result)
 }
 
@@ -74,7 +77,7 @@ fn is_interface(number: u16, interface: &Interface) -> bool
     let methods = interface.methods.as_slice();
     is_name(interface.name.as_slice())
         && methods.iter().all(|method| is_method(number, method))
-        && methods.len() <= 32
+        && methods.len() <= METHOD_LIMIT
         && are_methods_distinct(methods)
 }
 
@@ -176,7 +179,7 @@ fn are_interfaces_distinct(classes: &Classes, number: u16) -> bool
 fn are_interfaces_few(classes: &Classes) -> bool
     ensures { IsTrue result ↔ (length classes.now.interfaces ≤ 64) }
 {
-    classes.interface(64).is_none()
+    classes.interface(INTERFACE_LIMIT as u16).is_none()
 }
 
 /// Whether the interfaces begin with the four built-in ones, are at most 64, keep their forms, and repeat no

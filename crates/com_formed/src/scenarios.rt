@@ -8,7 +8,7 @@ use crate::filters::are_filters;
 use crate::interfaces::are_interfaces_formed;
 use crate::statements::{Standing, is_body};
 use crate::tables::count_classes;
-use com_base::Rows;
+use com_base::{POOL_LIMIT, Rows, SCRIPT_LIMIT, THREAD_LIMIT};
 use com_body::Body;
 use com_model::Scenario;
 
@@ -37,8 +37,8 @@ fn are_threads(scenario: &Scenario) -> bool
         .threads
         .as_slice()
         .iter()
-        .all(|script| is_body(scenario, &at, 2000, script))
-        && scenario.threads.len() <= 16
+        .all(|script| is_body(scenario, &at, SCRIPT_LIMIT, script))
+        && scenario.threads.len() <= THREAD_LIMIT
 }
 
 // Lanes that are tried first have any number of 32 bits, so it is true of each list of them.
@@ -58,7 +58,7 @@ pub fn is_formed(scenario: &Scenario) -> bool
     1 <= scenario.version
         && scenario.version <= 2
         && 1 <= scenario.pool
-        && scenario.pool <= 8
+        && scenario.pool <= POOL_LIMIT
         && are_interfaces_formed(&scenario.classes)
         && are_classes_formed(scenario)
         && are_filters(&scenario.filters)

@@ -9,7 +9,7 @@ ghost use Rattle.com_model.specs.Formed.{IsStatement, FormedBody};
 
 use crate::tables::is_declared;
 use crate::words::is_operand;
-use com_base::Kind;
+use com_base::{Kind, RAW_LIMIT, SCRIPT_LIMIT};
 use com_body::{Arg, Asked, Body, Destination, Given, Place, Stmt};
 use com_classes::Method;
 use com_model::Scenario;
@@ -144,7 +144,7 @@ fn is_filter_named(scenario: &Scenario, filter: Option<u32>) -> bool
 fn is_skip(count: u32) -> bool
     ensures { IsTrue result ↔ ((1 ≤ count) × (count ≤ 2000)) }
 {
-    1 <= count && count <= 2000
+    1 <= count && count as usize <= SCRIPT_LIMIT
 }
 
 // Whether a statement may stand here.
@@ -174,7 +174,7 @@ fn is_statement(scenario: &Scenario, at: &Standing, statement: &Stmt) -> bool
             destination,
             ..
         } => is_call(scenario, *iface, *method, args.as_slice(), *destination),
-        Stmt::Raw { bytes, .. } => 1 <= bytes.len() && bytes.len() <= 4096,
+        Stmt::Raw { bytes, .. } => 1 <= bytes.len() && bytes.len() <= RAW_LIMIT,
         Stmt::Get { cookie, .. } => is_operand(cookie),
         Stmt::Revoke { cookie } => is_operand(cookie),
         Stmt::Post { lane, word } => is_operand(lane) && is_operand(word),
@@ -190,12 +190,12 @@ fn is_statement(scenario: &Scenario, at: &Standing, statement: &Stmt) -> bool
 
 /// Whether a body or a script has at most so many statements, and each of them may stand there.
 #[tactic(auto, using(crate::proofs::Whole::formed_body, crate::proofs::Whole::short_body))]
-pub(crate) fn is_body(scenario: &Scenario, at: &Standing, limit: u32, body: &Body) -> bool
+pub(crate) fn is_body(scenario: &Scenario, at: &Standing, limit: usize, body: &Body) -> bool
     requires { length scenario.now.classes.interfaces ≤ 64 }
     ensures { IsTrue result ↔ FormedBody scenario.now at.now limit body.now }
 {
     let statements = body.statements();
-    statements.len() <= limit as usize
+    statements.len() <= limit
         && statements
             .iter()
             .all(|statement| is_statement(scenario, at, statement))

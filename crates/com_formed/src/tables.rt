@@ -1,10 +1,10 @@
-//! What the tables of interfaces and classes hold, by place.
+//! What the tables of interfaces and classes hold, by index.
 
 ghost use Rattle.std.specs.Prelude.{◌≡◌, ◌<◌, ◌≤◌, ◌^◌, ◌↔◌, IsTrue, length, slice_get};
 ghost use Rattle.std.specs.Option.{option_copied};
 ghost use Rattle.com_classes.specs.Lookups.{same_guid};
 
-use com_base::Guid;
+use com_base::{CLASS_LIMIT, Guid};
 use com_classes::{Class, Classes};
 
 /// Whether two GUIDs are the same.
@@ -24,13 +24,13 @@ pub(crate) fn is_declared(classes: &Classes, iface: u16) -> bool
     classes.interface(iface).is_some()
 }
 
-/// The class at a place of the table, from 0.
+/// The class at an index of the table, from 0.
 #[tactic(auto, using(crate::proofs::Walks::class_place))]
-pub(crate) fn class_at(classes: &Classes, place: u32) -> Option<&Class>
-    requires { place < 2 ^ 16 }
-    ensures { option_copied result ≡ slice_get classes.now.classes place }
+pub(crate) fn class_at(classes: &Classes, index: u32) -> Option<&Class>
+    requires { index < 2 ^ 16 }
+    ensures { option_copied result ≡ slice_get classes.now.classes index }
 {
-    classes.class(place + 1)
+    classes.class(index + 1)
 }
 
 /// How many classes there are.
@@ -39,10 +39,10 @@ pub(crate) fn count_classes(classes: &Classes) -> u32
     requires { length classes.now.classes ≤ 64 }
     ensures { result ≡ length classes.now.classes }
 {
-    for place in 0..64 {
-        let Some(_) = class_at(classes, place) else {
-            return place;
+    for index in 0..CLASS_LIMIT as u32 {
+        let Some(_) = class_at(classes, index) else {
+            return index;
         };
     }
-    64
+    CLASS_LIMIT as u32
 }

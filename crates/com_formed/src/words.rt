@@ -3,11 +3,8 @@
 ghost use Rattle.std.specs.Prelude.{◌≡◌, ◌≤◌, ◌↔◌, IsTrue, All, length, true};
 ghost use Rattle.com_model.specs.Formed.{is_letter, is_name_byte, is_text_byte, IsName, IsLiteral, IsOperand};
 
-use com_base::Value;
+use com_base::{LITERAL_LIMIT, Value};
 use com_body::Op;
-
-/// The longest literal, in bytes.
-const LONGEST_LITERAL: usize = 256;
 
 // Whether a byte is a letter of ASCII.
 fn is_letter(byte: u8) -> bool
@@ -46,7 +43,7 @@ fn is_text_byte(byte: u8) -> bool
 fn is_text(bytes: &[u8]) -> bool
     ensures { IsTrue result ↔ (All (λ c. is_text_byte c ≡ true) bytes.now × (length bytes.now ≤ 256)) }
 {
-    bytes.iter().all(|byte| is_text_byte(*byte)) && bytes.len() <= LONGEST_LITERAL
+    bytes.iter().all(|byte| is_text_byte(*byte)) && bytes.len() <= LITERAL_LIMIT
 }
 
 /// Whether a text can spell a value as a literal. A reference has no literal.
@@ -55,7 +52,7 @@ pub(crate) fn is_literal(value: &Value) -> bool
 {
     match value {
         Value::Text(text) => is_text(text.as_slice()),
-        Value::Bytes(bytes) => bytes.len() <= LONGEST_LITERAL,
+        Value::Bytes(bytes) => bytes.len() <= LITERAL_LIMIT,
         Value::Ref(_) => false,
         _ => true,
     }

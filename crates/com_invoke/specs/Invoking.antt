@@ -53,29 +53,29 @@ as_given w (operands.Slot n) = Ok (given.Slot n)
 as_given w operands.Null = Ok given.Null
 as_given w o = literal_of w o >>= λ op. as_literal w op
 
--- the arguments, and the place behind them
+-- the arguments, and the index behind them
 pub record Arguments : Type 0 where
   pub args : List DispArg
-  pub place : ℕ
+  pub index : ℕ
 
 -- an argument, or `->`, which is none
 abbrev pub as_item : WordAt → Result (Option DispArg) Fault
 as_item w =
     if bytes_eq w.bytes (codes "->") then Ok None else (as_given w (operand_of w) >>= λ a. Ok (Some a))
 
--- what stands at a place where the line may end too
+-- what stands at an index where the line may end too
 unfoldable pub item_at : List WordAt → ℕ → Result (Option DispArg) Fault
 item_at line k = do
   there ← stands_at line k
   w ← word_at line k
   as_item w
 
--- The arguments so far, and what is left of the line, from a place on: they end at `->` or with the line.
+-- The arguments so far, and what is left of the line, from an index on: they end at `->` or with the line.
 abbrev pub arguments_on : List DispArg → List WordAt → ℕ → List WordAt → Result Arguments Fault
-arguments_on done line k [] = Ok (record { args = done; place = k })
+arguments_on done line k [] = Ok (record { args = done; index = k })
 arguments_on done line k (v ∷ vs) =
     item_at line k >>= λ o. elim o [
-      | None ↦ Ok (record { args = done; place = k })
+      | None ↦ Ok (record { args = done; index = k })
       | Some a ↦ arguments_on (done ++ a ∷ []) line (k + 1) vs
     ]
 
@@ -105,7 +105,7 @@ invocation_at interfaces line = do
   iface ← declared_at interfaces line 2
   member ← member_at line 3
   rest ← arguments_on [] line 4 (drop 4 line)
-  d ← destination_at line rest.place
+  d ← destination_at line rest.index
   Ok (record { slot = slot; iface = iface; member = member; args = rest.args; destination = d })
 
 -- its numbers of slots and registers are in their ranges

@@ -27,10 +27,10 @@ const MEMBER_LIMIT: u64 = 0x7fff_ffff;
 /// A member: a text literal, or a decimal number from 0 to 2,147,483,647. A number that is out of range or
 /// has a sign is fault 6, and another operand is fault 10.
 #[tactic(auto, unfolding(crate::specs::Invoking::member_at))]
-fn member(alloc: Global, line: &[Word], place: usize) -> Result<Member, ScenarioError>
-    ensures { Gives (λ m. m) result (member_at line.now place) }
+fn member(alloc: Global, line: &[Word], index: usize) -> Result<Member, ScenarioError>
+    ensures { Gives (λ m. m) result (member_at line.now index) }
 {
-    let word = word(line, place)?;
+    let word = word(line, index)?;
     match operand_of(word) {
         Operand::Text => name(alloc, word),
         Operand::Number(_) => match number_of(word.bytes) {
@@ -67,32 +67,32 @@ fn argument(alloc: Global, word: &Word, operand: Operand) -> Result<DispArg, Sce
     }
 }
 
-/// What stands at a place where the line may end: an argument, or none at `->`.
+/// What stands at an index where the line may end: an argument, or none at `->`.
 #[tactic(auto, unfolding(crate::specs::Invoking::item_at))]
-fn item(alloc: Global, line: &[Word], place: usize) -> Result<Option<DispArg>, ScenarioError>
-    ensures value { Gives (λ o. o) result (item_at line.now place) }
+fn item(alloc: Global, line: &[Word], index: usize) -> Result<Option<DispArg>, ScenarioError>
+    ensures value { Gives (λ o. o) result (item_at line.now index) }
     ensures range { IfOk result (λ o. IfSome o IsDispArg) }
 {
-    stands(line, place)?;
-    let word = word(line, place)?;
+    stands(line, index)?;
+    let word = word(line, index)?;
     if word.bytes == b"->".as_slice() {
         return Ok(None);
     }
     Ok(Some(argument(alloc, word, operand_of(word))?))
 }
 
-/// The arguments from the fifth word on, and the place behind them: that of `->`, or of the line's end.
+/// The arguments from the fifth word on, and the index behind them: that of `->`, or of the line's end.
 #[tactic(auto, using(crate::proofs::Lines::arguments_more))]
 fn arguments(alloc: Global, line: &[Word]) -> Result<(Rows<DispArg>, usize), ScenarioError>
-    ensures value { Gives (λ r. record { args = r.0; place = r.1 }) result
+    ensures value { Gives (λ r. record { args = r.0; index = r.1 }) result
         (arguments_on [] line.now 4 (drop 4 line.now)) }
     ensures range { IfOk result (λ r. All IsDispArg r.0) }
-    ensures place { IfOk result (λ r. r.1 < 2 ^ 63) }
+    ensures index { IfOk result (λ r. r.1 < 2 ^ 63) }
 {
     let mut arguments = Vec::new(alloc);
-    for place in 4..line.len() {
-        let Some(arg) = item(alloc, line, place)? else {
-            return Ok((Rows::from_vec(arguments), place));
+    for index in 4..line.len() {
+        let Some(arg) = item(alloc, line, index)? else {
+            return Ok((Rows::from_vec(arguments), index));
         };
         arguments.push(arg)?;
     }
@@ -113,19 +113,19 @@ fn landing(word: &Word, operand: Operand) -> Result<Destination, ScenarioError>
 }
 
 /// Where the result goes: nowhere where the line ends, else to the register or the slot behind the word at
-/// the place.
+/// the index.
 #[tactic(auto, unfolding(crate::specs::Invoking::destination_at))]
-fn destination(line: &[Word], place: usize) -> Result<Destination, ScenarioError>
-    requires { place < 2 ^ 63 }
-    ensures value { Gives (λ d. d) result (destination_at line.now place) }
+fn destination(line: &[Word], index: usize) -> Result<Destination, ScenarioError>
+    requires { index < 2 ^ 63 }
+    ensures value { Gives (λ d. d) result (destination_at line.now index) }
     ensures range { IfOk result IsDestination }
 {
-    if !stands(line, place)? {
+    if !stands(line, index)? {
         return Ok(Destination::Nowhere);
     }
-    let word = word(line, place + 1)?;
+    let word = word(line, index + 1)?;
     let destination = landing(word, operand_of(word))?;
-    end(line, place + 2)?;
+    end(line, index + 2)?;
     Ok(destination)
 }
 
@@ -143,8 +143,8 @@ pub fn read_invoke(
     let slot = slot(line, 1)?;
     let iface = declared(interfaces, line, 2)?;
     let member = member(alloc, line, 3)?;
-    let (args, place) = arguments(alloc, line)?;
-    let destination = destination(line, place)?;
+    let (args, index) = arguments(alloc, line)?;
+    let destination = destination(line, index)?;
     Ok(Invocation {
         slot,
         iface,

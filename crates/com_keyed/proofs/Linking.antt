@@ -1,34 +1,34 @@
--- One more place is linked.
+-- One more index is linked.
 use Rattle.std.proofs.Common.{◌≡◌, ◌≢◌, ℕ, ◌+◌, ◌-◌, ◌%◌, ◌<◌, ◌≤◌, List, [], ◌∷◌, ◌++◌, length, sym, subst, arith, get_or-set_same, get_or-set_other, length-set, ap, ◌∙◌}
 use Rattle.std.specs.Prelude.{slice_index, slice_set, Option}
 use Rattle.std.proofs.lemmas.List.{get_or_append_left}
 use Rattle.com_keyed.specs.Places.{IsLatest, reach}
 use Rattle.com_keyed.specs.Linked.{IsLinked, LeadsOn, bucket_at}
 
-module _ (keys links heads : List ℕ) (buckets place : ℕ) where
+module _ (keys links heads : List ℕ) (buckets index : ℕ) where
   abbrev bucket : ℕ
-  bucket = bucket_at keys buckets place
+  bucket = bucket_at keys buckets index
 
   abbrev links' : List ℕ
-  links' = slice_set links place (slice_index heads bucket)
+  links' = slice_set links index (slice_index heads bucket)
 
   abbrev heads' : List ℕ
-  heads' = slice_set heads bucket (place + 1)
+  heads' = slice_set heads bucket (index + 1)
 
-  module _ (room : place < length links) (inside : bucket < length heads) (l : IsLinked keys links heads buckets place) where
-    head_at : slice_index heads' bucket ≡ place + 1
-    head_at = get_or-set_same heads bucket (place + 1) 0 inside
+  module _ (room : index < length links) (inside : bucket < length heads) (l : IsLinked keys links heads buckets index) where
+    head_at : slice_index heads' bucket ≡ index + 1
+    head_at = get_or-set_same heads bucket (index + 1) 0 inside
 
     head_past : (b : ℕ) → b ≢ bucket → slice_index heads' b ≡ slice_index heads b
-    head_past b apart = get_or-set_other heads bucket b (place + 1) 0 apart
+    head_past b apart = get_or-set_other heads bucket b (index + 1) 0 apart
 
-    link_at : slice_index links' place ≡ slice_index heads bucket
-    link_at = get_or-set_same links place (slice_index heads bucket) 0 room
+    link_at : slice_index links' index ≡ slice_index heads bucket
+    link_at = get_or-set_same links index (slice_index heads bucket) 0 room
 
-    link_past : (p : ℕ) → p ≢ place → slice_index links' p ≡ slice_index links p
-    link_past p apart = get_or-set_other links place p (slice_index heads bucket) 0 apart
+    link_past : (p : ℕ) → p ≢ index → slice_index links' p ≡ slice_index links p
+    link_past p apart = get_or-set_other links index p (slice_index heads bucket) 0 apart
 
-    pub linked_more : IsLinked keys links' heads' buckets (place + 1)
+    pub linked_more : IsLinked keys links' heads' buckets (index + 1)
     linked_more = record {
       head_covers = λ p h. grind (arith, head_at, head_past (bucket_at keys buckets p), l.head_covers p, h);
       head_within = λ b. grind (arith, head_at, head_past b, l.head_within b);
@@ -39,13 +39,13 @@ module _ (keys links heads : List ℕ) (buckets place : ℕ) where
     }
 
 -- where there is a bucket for each key
-pub linked_place : (keys links heads : List ℕ) (place : ℕ) → place < length links → 0 < length heads → IsLinked keys links heads (length heads) place
-    → IsLinked keys (slice_set links place (slice_index heads (slice_index keys place % length heads)))
-    (slice_set heads (slice_index keys place % length heads) (place + 1))
-    (length (slice_set heads (slice_index keys place % length heads) (place + 1))) (place + 1)
-linked_place keys links heads place room some l =
-    let inside : slice_index keys place % length heads < length heads = omega arith in
-    rw (length-set heads (slice_index keys place % length heads) (place + 1)) (linked_more keys links heads (length heads) place room inside l)
+pub linked_index : (keys links heads : List ℕ) (index : ℕ) → index < length links → 0 < length heads → IsLinked keys links heads (length heads) index
+    → IsLinked keys (slice_set links index (slice_index heads (slice_index keys index % length heads)))
+    (slice_set heads (slice_index keys index % length heads) (index + 1))
+    (length (slice_set heads (slice_index keys index % length heads) (index + 1))) (index + 1)
+linked_index keys links heads index room some l =
+    let inside : slice_index keys index % length heads < length heads = omega arith in
+    rw (length-set heads (slice_index keys index % length heads) (index + 1)) (linked_more keys links heads (length heads) index room inside l)
 
 pub linked_none : (keys links heads : List ℕ) (buckets : ℕ) → ((bucket : ℕ) → slice_index heads bucket ≡ 0) → IsLinked keys links heads buckets 0
 linked_none keys links heads buckets empty = record {
@@ -57,9 +57,9 @@ linked_none keys links heads buckets empty = record {
   link_keyed = λ p h k. absurd (omega arith);
 }
 
--- the link of a place, and the head of a bucket
-pub leads_from_place : (keys links heads : List ℕ) (buckets key end : ℕ) → IsLinked keys links heads buckets (length keys) → end < length keys → slice_index keys end ≡ key → LeadsOn keys buckets key end (slice_index links end)
-leads_from_place keys links heads buckets key end l h e = record {
+-- the link of an index, and the head of a bucket
+pub leads_from_index : (keys links heads : List ℕ) (buckets key end : ℕ) → IsLinked keys links heads buckets (length keys) → end < length keys → slice_index keys end ≡ key → LeadsOn keys buckets key end (slice_index links end)
+leads_from_index keys links heads buckets key end l h e = record {
   within = l.link_within end h;
   keyed = λ k. grind (arith, l.link_keyed end h k, e);
   covers = λ p k b. grind (arith, l.link_covers p end h k, b, e);
@@ -72,7 +72,7 @@ leads_from_head keys links heads buckets key l = record {
   covers = λ p k b. grind (arith, l.head_covers p k, b);
 }
 
--- one link on, past a place that has another key
+-- one link on, past an index that has another key
 pub leads_on : (keys links heads : List ℕ) (buckets key end link : ℕ) → IsLinked keys links heads buckets (length keys) → LeadsOn keys buckets key end link → end ≤ length keys → 0 < link
     → LeadsOn keys buckets key (link - 1) (slice_index links (link - 1))
 leads_on keys links heads buckets key end link l on e h = record {
@@ -81,11 +81,11 @@ leads_on keys links heads buckets key end link l on e h = record {
   covers = λ p k b. grind (arith, l.link_covers p (link - 1) (omega (arith, on.within)) k, b, on.keyed h);
 }
 
--- all places of the key below `end` are before the link, which leads into their bucket
+-- all indices of the key below `end` are before the link, which leads into their bucket
 pub record Follows (keys : List ℕ) (buckets key end link : ℕ) : Type 0 where
   pub within : link ≤ end
   pub keyed : 0 < link → bucket_at keys buckets (link - 1) ≡ key % buckets
-  pub covers : (place : ℕ) → place < end → slice_index keys place ≡ key → place < link
+  pub covers : (index : ℕ) → index < end → slice_index keys index ≡ key → index < link
 
 pub follows_on : (keys links heads : List ℕ) (buckets key end link : ℕ) → IsLinked keys links heads buckets (length keys) → end ≤ length keys → Follows keys buckets key end link → 0 < link
     → slice_index keys (link - 1) ≢ key → Follows keys buckets key end (slice_index links (link - 1))
@@ -100,7 +100,7 @@ follows_on keys links heads buckets key end link l e f h apart =
           l.link_covers p (link - 1) inside (omega arith) (ap (λ x. x % buckets) b ∙ sym (f.keyed h));
     }
 
--- a place more, which is not linked yet
+-- an index more, which is not linked yet
 pub linked_push : (keys links heads : List ℕ) (buckets key link : ℕ) → IsLinked keys links heads buckets (length keys) → length links ≡ length keys → IsLinked (keys ++ key ∷ []) (links ++ link ∷ []) heads buckets (length keys)
 linked_push keys links heads buckets key link l e =
     let key_at : (p : ℕ) → p < length keys → slice_index (keys ++ key ∷ []) p ≡ slice_index keys p = λ p h. get_or_append_left keys (key ∷ []) 0 p h in
@@ -115,7 +115,7 @@ linked_push keys links heads buckets key link l e =
     }
 
 pub latest_at : (keys : List ℕ) (key end link : ℕ) (found : Option ℕ) → reach found ≡ link → link ≤ end → (0 < link → slice_index keys (link - 1) ≡ key)
-    → ((place : ℕ) → place < end → slice_index keys place ≡ key → place < link) → IsLatest keys key end found
+    → ((index : ℕ) → index < end → slice_index keys index ≡ key → index < link) → IsLatest keys key end found
 latest_at keys key end link found is within keyed covers = record {
   within = rw is within;
   keyed = rw is keyed;

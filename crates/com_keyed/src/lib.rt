@@ -1,4 +1,4 @@
-//! Places in order, each under a key, and the places of one key from the latest to the earliest.
+//! Indices in order, each under a key, and the indices of one key from the latest to the earliest.
 //!
 //! A table of rows keeps a `Chains` beside it, with the rows' keys: then the rows of one key are found
 //! without a walk over the others.
@@ -15,10 +15,10 @@ use std::marker::Model;
 /// Want of memory.
 pub use std::alloc::AllocError as Memory;
 
-/// Places 0, 1, 2 and on, each under a key that it keeps, seen as the list of their keys and the number
-/// of places that are sure to find memory.
+/// The indices 0, 1, 2 and on, each under a key that it keeps, seen as the list of their keys and the number
+/// of indices that are sure to find memory.
 ///
-/// The places are linked by index in buckets of their keys, of which there is one for each place that
+/// The indices are linked by index in buckets of their keys, of which there is one for each index that
 /// the table has room for.
 #[derive(Debug, Drop)]
 pub struct Chains {
@@ -43,32 +43,32 @@ impl Model for Chains {
         (vec_capacity c.links) };
 }
 
-// Links one place, which is the next after those that are linked.
-fn link(keys: &[u32], links: &mut [usize], heads: &mut [usize], place: usize)
-    requires known { place < length keys.now }
-    requires room { place < length links.old }
+// Links one index, which is the next after those that are linked.
+fn link(keys: &[u32], links: &mut [usize], heads: &mut [usize], index: usize)
+    requires known { index < length keys.now }
+    requires room { index < length links.old }
     requires buckets { 0 < length heads.old }
-    requires linked { IsLinked keys.now links.old heads.old (length heads.old) place }
-    ensures linked { IsLinked keys.now links.new heads.new (length heads.new) (place + 1) }
+    requires linked { IsLinked keys.now links.old heads.old (length heads.old) index }
+    ensures linked { IsLinked keys.now links.new heads.new (length heads.new) (index + 1) }
 {
-    let bucket = keys[place] as usize % heads.len();
-    links[place] = heads[bucket];
-    heads[bucket] = place + 1;
+    let bucket = keys[index] as usize % heads.len();
+    links[index] = heads[bucket];
+    heads[bucket] = index + 1;
 }
 
-// Links all places afresh.
+// Links all indices afresh.
 fn link_all(keys: &[u32], links: &mut [usize], heads: &mut [usize])
     requires room { length keys.now ≤ length links.old }
     requires buckets { 0 < length heads.old }
     requires empty { (bucket : ℕ) → slice_index heads.old bucket ≡ 0 }
     ensures linked { IsLinked keys.now links.new heads.new (length heads.new) (length keys.now) }
 {
-    for place in 0..keys.len() {
-        link(keys, links, heads, place);
+    for index in 0..keys.len() {
+        link(keys, links, heads, index);
     }
 }
 
-// The link that leads to the latest place below `end` in the bucket of the key, where `end` is a place of
+// The link that leads to the latest index below `end` in the bucket of the key, where `end` is an index of
 // that key, or the end of the table.
 fn first_link(keys: &[u32], links: &[usize], heads: &[usize], key: u32, end: usize) -> usize
     requires linked { IsLinked keys.now links.now heads.now (length heads.now) (length keys.now) }
@@ -87,7 +87,7 @@ fn first_link(keys: &[u32], links: &[usize], heads: &[usize], key: u32, end: usi
     heads[key as usize % heads.len()]
 }
 
-// One more than the latest place below `end` that has the key, or 0, where `end` is a place of that key,
+// One more than the latest index below `end` that has the key, or 0, where `end` is an index of that key,
 // or the end of the table.
 fn latest(keys: &[u32], links: &[usize], heads: &[usize], key: u32, end: usize) -> usize
     requires linked { IsLinked keys.now links.now heads.now (length heads.now) (length keys.now) }
@@ -97,28 +97,28 @@ fn latest(keys: &[u32], links: &[usize], heads: &[usize], key: u32, end: usize) 
     requires keyed { end < length keys.now → slice_index keys.now end ≡ key }
     ensures within { result ≤ end }
     ensures keyed { 0 < result → slice_index keys.now (result - 1) ≡ key }
-    ensures covers { (place : ℕ) → place < end → slice_index keys.now place ≡ key → place < result }
+    ensures covers { (index : ℕ) → index < end → slice_index keys.now index ≡ key → index < result }
 {
     let mut link = first_link(keys, links, heads, key, end);
     while link > 0 {
-        let place = link - 1;
-        if keys[place] == key {
+        let index = link - 1;
+        if keys[index] == key {
             return link;
         }
-        link = links[place];
+        link = links[index];
     }
     0
 }
 
-// The place that a link leads to.
-fn place_of(link: usize) -> Option<usize>
+// The index that a link leads to.
+fn index_of(link: usize) -> Option<usize>
     ensures { reach result ≡ link }
 {
     link.checked_sub(1)
 }
 
 impl Chains {
-    /// No places. It takes no memory.
+    /// No indices. It takes no memory.
     pub fn new(alloc: Global) -> Self
         ensures { result.keys ≡ [] }
     {
@@ -129,37 +129,37 @@ impl Chains {
         }
     }
 
-    /// How many places were given.
+    /// How many indices were given.
     pub fn len(&self) -> usize
         ensures { result ≡ length self.now.keys }
     {
         self.keys.len()
     }
 
-    /// True exactly where no place was given.
+    /// True exactly where no index was given.
     pub fn is_empty(&self) -> bool
         ensures { IsTrue result ↔ (self.now.keys ≡ []) }
     {
         self.keys.is_empty()
     }
 
-    /// The latest place of a key. `None` exactly where no place has it.
+    /// The latest index of a key. `None` exactly where no index has it.
     pub fn last(&self, key: u32) -> Option<usize>
         ensures { IsLatest self.now.keys key (length self.now.keys) result }
     {
-        place_of(latest(&self.keys, &self.links, &self.heads, key, self.keys.len()))
+        index_of(latest(&self.keys, &self.links, &self.heads, key, self.keys.len()))
     }
 
-    /// The latest place before this one that has the same key. `None` exactly where there is none.
-    pub fn earlier(&self, place: usize) -> Option<usize>
-        requires { place < length self.now.keys }
-        ensures { IsLatest self.now.keys (slice_index self.now.keys place) place result }
+    /// The latest index before this one that has the same key. `None` exactly where there is none.
+    pub fn earlier(&self, index: usize) -> Option<usize>
+        requires { index < length self.now.keys }
+        ensures { IsLatest self.now.keys (slice_index self.now.keys index) index result }
     {
         let keys = self.keys.as_slice();
-        place_of(latest(keys, &self.links, &self.heads, keys[place], place))
+        index_of(latest(keys, &self.links, &self.heads, keys[index], index))
     }
 
-    /// Makes room for `n` more places.
+    /// Makes room for `n` more indices.
     pub fn reserve(&mut self, n: u32) -> Result<(), Memory>
         ensures room { OnOk result (n ≤ self.new.spare) }
         ensures keys { self.new.keys ≡ self.old.keys }
@@ -179,7 +179,7 @@ impl Chains {
         self.grow(buckets)
     }
 
-    // Makes a table of more buckets, and room for as many places.
+    // Makes a table of more buckets, and room for as many indices.
     fn grow(&mut self, buckets: usize) -> Result<(), Memory>
         requires more { length self.old.keys + self.old.spare < buckets }
         ensures ok { OnOk result (length self.old.keys + self.new.spare ≡ buckets) }
@@ -195,16 +195,16 @@ impl Chains {
         Ok(())
     }
 
-    /// Gives the next place, which is the number of places so far, and puts it under the key.
+    /// Gives the next index, which is the number of indices so far, and puts it under the key.
     pub fn append(&mut self, key: u32)
         requires { 0 < self.old.spare }
         ensures keys { self.new.keys ≡ self.old.keys ++ key ∷ [] }
         ensures spare { self.new.spare + 1 ≡ self.old.spare }
     {
-        let place = self.keys.len();
+        let index = self.keys.len();
         self.keys.push_reserved(key);
         self.links.push_reserved(0);
-        link(&self.keys, &mut self.links, &mut self.heads, place);
+        link(&self.keys, &mut self.links, &mut self.heads, index);
     }
 }
 
@@ -214,7 +214,7 @@ mod tests {
     use std::test::Fail;
 
     #[test]
-    fn the_places_of_a_key_come_from_the_latest_to_the_earliest(
+    fn the_indices_of_a_key_come_from_the_latest_to_the_earliest(
         rt: HostRuntime,
     ) -> Result<(), Fail> {
         let mut chains = Chains::new(rt.alloc());

@@ -7,14 +7,9 @@ ghost use Rattle.com_lanes.specs.Rooms.{HasRow, no_number, numbers_in};
 ghost use Rattle.com_lanes.specs.StasKept.{gone_first};
 
 use crate::numbers::Numbers;
-use com_base::Memory;
+use com_base::{FIRST_STA, HOST_STA, Memory};
 use std::alloc::Global;
 use std::marker::Model;
-
-/// The single-threaded apartment of the host.
-pub(crate) const HOST_STA: u32 = 2;
-/// The first single-threaded apartment that a thread makes.
-const FIRST_STA: u32 = 3;
 
 /// An apartment that a thread made: the thread's lane, and whether the apartment has ended.
 #[derive(Debug, Clone, Copy)]
@@ -30,7 +25,7 @@ pub struct Stas {
     made: Vec<Numbers>,
     rows: Vec<Sta>,
     ended: Vec<u32>,
-    // The place in `rows` of the oldest that has not ended, or the length.
+    // The index in `rows` of the oldest that has not ended, or the length.
     oldest: usize,
 }
 
@@ -193,14 +188,14 @@ fn push_at(lists: &mut Vec<Numbers>, lane: u32, number: u32)
 }
 
 #[tactic(auto, using(crate::proofs::StasKept::gone_first_le, crate::proofs::StasKept::gone_first_more, crate::proofs::StasKept::gone_first_here))]
-/// The first place from this one on whose apartment has not ended, or the length. All before it have ended.
+/// The first index from this one on whose apartment has not ended, or the length. All before it have ended.
 fn oldest_from(rows: &[Sta], from: usize) -> usize
     requires { from ≤ gone_first rows.now }
     ensures { result ≡ gone_first rows.now }
 {
-    let mut place = from;
-    while place < rows.len() && rows[place].gone {
-        place += 1;
+    let mut index = from;
+    while index < rows.len() && rows[index].gone {
+        index += 1;
     }
-    place
+    index
 }

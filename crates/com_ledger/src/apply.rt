@@ -9,10 +9,13 @@ ghost use Rattle.com_moves.specs.Steps.{movings_of};
 ghost use Rattle.com_ledger.specs.Books.{Exchanged};
 ghost use Rattle.com_objects.specs.Settled.{Rise};
 ghost use Rattle.com_refs.specs.Counts.{holders_of};
-ghost use Rattle.com_ledger.specs.Entries.{AllGiven, Gives, Closes, Applies, KeepsHeldBy, Loses, around, tally};
-ghost use Rattle.com_ledger.specs.Entries.{asked_packets, ended_objects, is_made, is_made_by, is_of_reference};
+ghost use Rattle.com_ledger.specs.Entries.{AllGiven, Gives, Closes, Applies, KeepsHeldBy, Loses};
+ghost use Rattle.com_ledger.specs.Entries.{around, tally};
+ghost use Rattle.com_ledger.specs.Entries.{asked_packets, ended_objects, is_made, is_made_by};
+ghost use Rattle.com_ledger.specs.Entries.{is_of_reference};
 ghost use Rattle.com_ledger.specs.Entries.{most_left, row_steps};
-ghost use Rattle.com_ledger.specs.Moving.{plus, AllBelow, AllOffered, Climbs, HoldsMore, Touches, TouchesCounted};
+ghost use Rattle.com_ledger.specs.Moving.{plus, AllBelow, AllOffered, Climbs, HoldsMore, Touches};
+ghost use Rattle.com_ledger.specs.Moving.{TouchesCounted};
 
 use crate::context::Context;
 use crate::ends::{end_connection, end_cookie, end_home, end_packet, give_up};

@@ -1,5 +1,6 @@
 //! What comes to places and leaves them, beside what the row of the entry brings.
-ghost use Rattle.std.specs.Prelude.{◌≡◌, ◌+◌, ◌<◌, ◌≤◌, ◌^◌, ℕ, ◌∷◌, [], length, false, true, vec_len, vec_capacity};
+ghost use Rattle.std.specs.Prelude.{◌≡◌, ◌+◌, ◌<◌, ◌≤◌, ◌^◌, ℕ, ◌∷◌, [], false, true};
+ghost use Rattle.std.specs.Prelude.{length, vec_capacity, vec_len};
 ghost use Rattle.com_holders.specs.Places.{Counts};
 ghost use Rattle.com_holders.specs.Tables.{books_of, object_in, offers, owns_of};
 ghost use Rattle.com_proxy.specs.Rows.{local_of};

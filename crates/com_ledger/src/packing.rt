@@ -1,5 +1,6 @@
 //! The packets of calls: requests and replies that carry references.
-ghost use Rattle.std.specs.Prelude.{◌≡◌, ◌+◌, ◌-◌, ◌<◌, ◌≤◌, ◌^◌, ℕ, [], map, length, None, IsTrue, OnErr, OnOk};
+ghost use Rattle.std.specs.Prelude.{◌≡◌, ◌+◌, ◌-◌, ◌<◌, ◌≤◌, ◌^◌, ℕ, [], None, IsTrue, OnErr, OnOk};
+ghost use Rattle.std.specs.Prelude.{length, map};
 ghost use Rattle.std.specs.Prelude.{vec_len, vec_capacity};
 ghost use Rattle.com_books.specs.Changes.{Unmarshals, marshal_all, entered_rows, made_since, first_of};
 ghost use Rattle.com_holders.specs.Tables.{books_of, offers, owns_of};

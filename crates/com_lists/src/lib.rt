@@ -98,12 +98,12 @@ impl Nodes {
         requires { node < length self.old }
         ensures { self.new ≡ slice_set self.old node kept }
     {
-        let place = node as usize;
-        if place < self.written.len() {
-            self.written[place] = kept;
+        let index = node as usize;
+        if index < self.written.len() {
+            self.written[index] = kept;
             return;
         }
-        fill(&mut self.written, place);
+        fill(&mut self.written, index);
         self.written.push_reserved(kept);
     }
 }

@@ -9,11 +9,11 @@ ghost use Rattle.com_moved.specs.Inputs.{moving_of};
 ghost use Rattle.com_migrate_main.specs.Migrating.{IsMigrated, IsReady, migrated_concludes};
 ghost use Rattle.com_migrate_main.specs.Migrating.{migrating, status_of};
 
-use com_base::{ByteList, Memory};
+use com_base::{ByteList, Memory, TEXT_2_LIMIT};
 use com_commands::{Input, InputReader, Reply, ReplyingCommand, Status, respond};
 use com_io::{Sink, Source};
 use com_moved::{Moving, move_input, read_moving};
-use com_scenario::{LONGEST, is_too_long};
+use com_scenario::is_too_long;
 use std::alloc::Global;
 
 /// The command `migrate`.
@@ -22,7 +22,7 @@ struct Migrate;
 impl InputReader for Migrate {
     type Read = Moving;
 
-    const LIMIT: usize = LONGEST;
+    const LIMIT: usize = TEXT_2_LIMIT;
 
     ghost LIMIT = { 16777216 };
 

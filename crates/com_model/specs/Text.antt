@@ -1,11 +1,11 @@
 -- The text of a history, one line for each entry, and the text of the report behind it.
-use Rattle.std.specs.Prelude.{ℕ, ◌+◌, ◌/◌, ◌%◌, ◌^◌, ◌==◌, List, [], ◌∷◌, ◌++◌, length, true, false, Option}
-use Rattle.std.specs.Prelude.{Some, None, unwrap_or, if◌then◌else◌, codes, decimal, slice_index}
+use Rattle.std.specs.Prelude.{ℕ, ◌+◌, ◌==◌, List, [], ◌∷◌, ◌++◌, length, true, false, Option}
+use Rattle.std.specs.Prelude.{Some, None, unwrap_or, if◌then◌else◌, codes, decimal}
 use Rattle.std.specs.Fmt.{signed_decimal}
 use Rattle.std.specs.List.{flat_map}
-use Rattle.hex.specs.Hex.{encode_lower, upper_digits}
+use Rattle.hex.specs.Hex.{encode_lower}
 use Rattle.com_base.specs.Guids.{text_of}
-use Rattle.com_base.specs.HResults.{name_of}
+use Rattle.com_base.specs.HResults.{eight_digits, name_of}
 use Rattle.com_base.specs.declared.hresult.HResult.{HResult}
 use Rattle.com_base.specs.declared.value.Value.{Value}
 use Rattle.com_base.specs.declared.value.Value.TheVariants as value
@@ -28,14 +28,6 @@ use Rattle.com_model.specs.declared.counts.ObjectState.{ObjectState}
 use Rattle.com_model.specs.declared.counts.ObjectState.TheVariants as object_state
 use Rattle.com_model.specs.declared.counts.Ended.{Ended}
 use Rattle.com_model.specs.declared.counts.Ended.TheVariants as ended
-
--- eight upper-case hexadecimal digits
-abbrev pub eight_digits : ℕ → List ℕ
-eight_digits n =
-    slice_index upper_digits (n / 2 ^ 28 % 16) ∷ slice_index upper_digits (n / 2 ^ 24 % 16)
-    ∷ slice_index upper_digits (n / 2 ^ 20 % 16) ∷ slice_index upper_digits (n / 2 ^ 16 % 16)
-    ∷ slice_index upper_digits (n / 2 ^ 12 % 16) ∷ slice_index upper_digits (n / 2 ^ 8 % 16)
-    ∷ slice_index upper_digits (n / 2 ^ 4 % 16) ∷ slice_index upper_digits (n % 16) ∷ []
 
 -- an HRESULT: in version 2 its digits, otherwise its name, or its digits where it has none
 abbrev pub hresult_text : ℕ → HResult → List ℕ

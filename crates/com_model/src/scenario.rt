@@ -1,7 +1,8 @@
 //! What a scenario's text says.
 
-ghost use Rattle.std.specs.Prelude.{◌≡◌};
+ghost use Rattle.std.specs.Prelude.{◌≡◌, ◌+◌, ◌<◌, ◌^◌, IfSome, length};
 ghost use Rattle.com_model.specs.Ends.{limit};
+ghost use Rattle.com_model.specs.Tables.{lanes};
 
 use com_base::Rows;
 use com_body::Body;
@@ -37,5 +38,23 @@ impl Scenario {
         } else {
             200_000
         }
+    }
+
+    /// How many lanes the scenario has beside the clock's: one for each thread, the host's, and the pool's.
+    /// `None` only where it has 268,435,456 threads or more, or where 32 bits do not hold the number; a text
+    /// declares at most 16 threads.
+    pub fn lanes(&self) -> Option<u32>
+        ensures lanes { IfSome result (λ count. count ≡ lanes self.now) }
+        ensures threads { IfSome result (λ count. length self.now.threads + 2 < 2 ^ 32) }
+    {
+        let threads = self.threads.len();
+        if threads >= 0x1000_0000 {
+            return None;
+        }
+        let lanes = threads as u64 + 1 + self.pool as u64;
+        if lanes > 0xFFFF_FFFF {
+            return None;
+        }
+        Some(lanes as u32)
     }
 }

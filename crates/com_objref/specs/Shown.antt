@@ -58,13 +58,13 @@ abbrev pub without_newline : List ℕ → List ℕ
 without_newline text = if slice_index text (length text - 1) == 10 then take (length text - 1) text else text
 
 -- Where the text stops being pairs of digits: the first character that is no digit, or the end.
-abbrev pub wrong_place : List ℕ → ℕ
-wrong_place digits = unwrap_or (position (λ b. not (is_ascii_hexdigit b)) digits) (length digits)
+abbrev pub wrong_position : List ℕ → ℕ
+wrong_position digits = unwrap_or (position (λ b. not (is_ascii_hexdigit b)) digits) (length digits)
 
 -- What digits say: bytes, which are read, or a fault of the text.
 abbrev pub read_bytes : List ℕ → Option (List ℕ) → Result Reference RefFault
 read_bytes digits (Some bytes) = objref_of bytes
-read_bytes digits None = Err (fault 0 (wrong_place digits))
+read_bytes digits None = Err (fault 0 (wrong_position digits))
 
 abbrev pub read_digits : List ℕ → Result Reference RefFault
 read_digits digits = read_bytes digits (unhexed digits)

@@ -7,7 +7,7 @@ ghost use Rattle.std.specs.Char.{is_ascii_hexdigit};
 ghost use Rattle.objref.specs.Grammar.{reference_of};
 ghost use Rattle.objref.specs.Reading.{objref_of};
 ghost use Rattle.com_objref.specs.Shown.{hex32, hex64, fields_text, strings_text, custom_text, described};
-ghost use Rattle.com_objref.specs.Shown.{fault_text, without_newline, wrong_place, shown_as, shown_of};
+ghost use Rattle.com_objref.specs.Shown.{fault_text, without_newline, wrong_position, shown_as, shown_of};
 
 pub use com_base::Memory;
 use com_base::{ByteList, Guid, StdFields};
@@ -27,8 +27,8 @@ pub struct Shown {
 
 /// Reads hexadecimal digits of either case, behind which one line end may stand, as an OBJREF, and shows its
 /// fields, a line each; or the line `fault <number> <byte>` of the first fault. Where the text is no pairs of
-/// digits the number is 0, with the place of the first character that is wrong, or the length if the digits
-/// are odd. The only error is want of memory. Source: MS-DCOM 2.2.18, "OBJREF".
+/// digits the number is 0, with the position of the first character that is wrong, or the length if the
+/// number of digits is odd. The only error is want of memory. Source: MS-DCOM 2.2.18, "OBJREF".
 #[tactic(auto, unfolding(crate::specs::Shown::shown_of))]
 pub fn show(alloc: Global, text: &[u8]) -> Result<Shown, Memory>
     ensures { IfOk result (λ shown. shown ≡ shown_of text.now) }
@@ -40,7 +40,7 @@ pub fn show(alloc: Global, text: &[u8]) -> Result<Shown, Memory>
             alloc,
             RefFault {
                 number: 0,
-                at: wrong_place(digits),
+                at: wrong_position(digits),
             },
         ),
     }
@@ -207,11 +207,11 @@ fn without_newline(text: &[u8]) -> &[u8]
     }
 }
 
-fn wrong_place(digits: &[u8]) -> usize
-    ensures { result ≡ wrong_place digits.now }
+fn wrong_position(digits: &[u8]) -> usize
+    ensures { result ≡ wrong_position digits.now }
 {
     match first_wrong(digits) {
-        Some(place) => place,
+        Some(position) => position,
         None => digits.len(),
     }
 }

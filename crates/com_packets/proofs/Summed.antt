@@ -18,8 +18,8 @@ not_added None o k h other = refl
 not_added (Some p) o k h other = grind (arith, h, other)
 
 module _ (es : List (Option Packet)) (keys : List ℕ) (o : ℕ) where
-  pub adds : (p : ℕ) → ((place : ℕ) → IfSome (entry_at es place) (λ packet. packet.object ≡ slice_index keys place)) → slice_index keys p ≡ o → normal_for o (entry_at es p) ≡ normal_of (entry_at es p)
+  pub adds : (p : ℕ) → ((index : ℕ) → IfSome (entry_at es index) (λ packet. packet.object ≡ slice_index keys index)) → slice_index keys p ≡ o → normal_for o (entry_at es p) ≡ normal_of (entry_at es p)
   adds p keyed same = added (entry_at es p) o (slice_index keys p) (keyed p) same
 
-  pub nothing_added : ((place : ℕ) → IfSome (entry_at es place) (λ packet. packet.object ≡ slice_index keys place)) → (p : ℕ) → p < length es → (slice_index keys p ≡ o → ⊥) → normal_for o (entry_at es p) ≡ 0
+  pub nothing_added : ((index : ℕ) → IfSome (entry_at es index) (λ packet. packet.object ≡ slice_index keys index)) → (p : ℕ) → p < length es → (slice_index keys p ≡ o → ⊥) → normal_for o (entry_at es p) ≡ 0
   nothing_added keyed p h other = not_added (entry_at es p) o (slice_index keys p) (keyed p) other

@@ -8,13 +8,13 @@ pub record Table : Type 0 where
   pub entries : List (Option Packet)
   pub spare : ℕ
 
--- the entry at a place, which is one less than its number
+-- the entry at an index, which is one less than its number
 abbrev pub entry_at : List (Option Packet) → ℕ → Option Packet
-entry_at entries place = slice_index_or entries place None
+entry_at entries index = slice_index_or entries index None
 
--- each place is under the object of its packet
+-- each index is under the object of its packet
 pub record IsTable (entries : List (Option Packet)) (keys : List ℕ) (limit : ℕ) : Type 0 where
   pub as_many : length keys ≡ length entries
-  pub keyed : (place : ℕ) → IfSome (entry_at entries place) (λ packet. packet.object ≡ slice_index keys place)
+  pub keyed : (index : ℕ) → IfSome (entry_at entries index) (λ packet. packet.object ≡ slice_index keys index)
   pub fits : length entries ≤ 4294967295
   pub limited : limit ≡ 4294967295

@@ -111,18 +111,18 @@ impl Model for Packets {
 // Ends all packets of the object.
 fn end_all(slots: &mut Slots<Packet>, chains: &Chains, object: u32)
     requires as_many { length chains.now.keys ≡ length slots.old.entries }
-    requires keyed { (place : ℕ)
-        → IfSome (entry_at slots.old.entries place) (λ packet. packet.object
-        ≡ slice_index chains.now.keys place) }
+    requires keyed { (index : ℕ)
+        → IfSome (entry_at slots.old.entries index) (λ packet. packet.object
+        ≡ slice_index chains.now.keys index) }
     requires fits { length slots.old.entries ≤ 4294967295 }
     ensures entries { slots.new.entries ≡ cut_entries object slots.old.entries }
     ensures limit { slots.new.limit ≡ slots.old.limit }
     ensures spare { slots.new.spare ≡ slots.old.spare }
 {
     let mut at = chains.last(object);
-    while let Some(place) = at {
-        slots.remove((place + 1) as u32);
-        at = chains.earlier(place);
+    while let Some(index) = at {
+        slots.remove((index + 1) as u32);
+        at = chains.earlier(index);
     }
 }
 
@@ -143,17 +143,17 @@ fn normal_at(slots: &Slots<Packet>, number: u32) -> u32
 // The public references of the outstanding normal packets of the object.
 fn sum_normal(slots: &Slots<Packet>, chains: &Chains, object: u32) -> u64
     requires as_many { length chains.now.keys ≡ length slots.now.entries }
-    requires keyed { (place : ℕ)
-        → IfSome (entry_at slots.now.entries place) (λ packet. packet.object
-        ≡ slice_index chains.now.keys place) }
+    requires keyed { (index : ℕ)
+        → IfSome (entry_at slots.now.entries index) (λ packet. packet.object
+        ≡ slice_index chains.now.keys index) }
     requires fits { length slots.now.entries ≤ 4294967295 }
     ensures { result ≡ normal_sum object slots.now.entries }
 {
     let mut sum = 0;
     let mut latest = chains.last(object);
-    while let Some(place) = latest {
-        sum += u64::from(normal_at(slots, (place + 1) as u32));
-        latest = chains.earlier(place);
+    while let Some(index) = latest {
+        sum += u64::from(normal_at(slots, (index + 1) as u32));
+        latest = chains.earlier(index);
     }
     sum
 }

@@ -13,12 +13,12 @@ ghost use Rattle.com_scenario.specs.Sizes.{is_too_long};
 ghost use Rattle.com_servant.specs.Rows.{row};
 
 use crate::playing::play;
-use com_base::{ByteList, Memory};
+use com_base::{ByteList, Memory, TEXT_2_LIMIT};
 use com_commands::{Input, InputReader, PlayingCommand, Status, first_fault, perform, read_as};
 use com_io::{Sink, Source};
 use com_model::Scenario;
 use com_read_points::read_points;
-use com_scenario::{LONGEST, is_too_long};
+use com_scenario::is_too_long;
 use com_servant::Servant;
 use std::alloc::Global;
 
@@ -28,7 +28,7 @@ struct Points;
 impl InputReader for Points {
     type Read = Scenario;
 
-    const LIMIT: usize = LONGEST;
+    const LIMIT: usize = TEXT_2_LIMIT;
 
     ghost LIMIT = { 16777216 };
 
@@ -76,7 +76,8 @@ impl PlayingCommand for Points {
 /// fault. The answer is the exit status: each has its cause (`answers`).
 ///
 /// The row has one servant of each kind, in the order of the kinds. Where the status is 0, 5 or 6, each
-/// servant's steps rose by those of its bodies in the history (`served`). Every place keeps its kind (`row`).
+/// servant's steps rose by those of its bodies in the history (`served`). The kind at each index of the row
+/// stays (`row`).
 pub fn points_main<S: Source, K: Sink>(
     alloc: Global,
     servants: &mut Vec<Box<dyn Servant + Send>>,

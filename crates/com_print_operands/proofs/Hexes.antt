@@ -17,7 +17,7 @@ use Rattle.com_base.specs.Guids.{text_of, guid_of_text, guid_of_reading_order, r
 use Rattle.com_base.proofs.Texts.{braced_length, parsed_at_38}
 use Rattle.com_read_operands.specs.Literals.{ascii_of, guid_of, are_pairs, unhexed, decoded}
 use Rattle.com_read_operands.specs.Operands.{hex_on, hex_more, word32, hex_word_of}
-use Rattle.com_print_operands.specs.Words.{eight_digits}
+use Rattle.com_base.specs.HResults.{eight_digits}
 use Rattle.com_print_operands.specs.Ranges.{AreBytes, IsGuid}
 
 -- ---- lists of bytes

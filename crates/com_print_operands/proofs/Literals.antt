@@ -10,7 +10,7 @@ use Rattle.com_base.specs.declared.guid.Guid.{Guid}
 use Rattle.com_base.specs.declared.value.Value.{Value}
 use Rattle.com_base.specs.declared.value.Value.TheVariants as values
 use Rattle.com_base.specs.Guids.{text_of}
-use Rattle.com_base.specs.HResults.{hresult_named}
+use Rattle.com_base.specs.HResults.{eight_digits, hresult_named}
 use Rattle.com_body.specs.declared.operands.Op.{Op}
 use Rattle.com_body.specs.declared.operands.Op.TheVariants as ops
 use Rattle.com_body.specs.declared.operands.Code.{Code}
@@ -28,7 +28,7 @@ use Rattle.com_read_operands.specs.Literals.{guid_of, are_pairs, unhexed}
 use Rattle.com_read_operands.specs.Reading.{◌>>=◌, word_at, fault_at}
 use Rattle.com_read_operands.specs.Operands.{plain_of, begins_number, numeric_of, numbered, braced, inner, operand_by, operand_of, text_literal, bytes_literal, as_bytes, written, literal_of, op_at, hex_word_of, or_named, hresult_of, begins_hex, as_code, as_code_register, code_at, as_given, given_at}
 use Rattle.com_print_words.specs.Spelled.{Spelled}
-use Rattle.com_print_operands.specs.Words.{register_word, slot_word, value_word, op_word, code_word, eight_digits}
+use Rattle.com_print_operands.specs.Words.{register_word, slot_word, value_word, op_word, code_word}
 use Rattle.com_print_operands.specs.Ranges.{IsLiteral, TakesOp, TakesGiven, FitsValue, FitsOp, FitsCode, FitsGiven, AreBytes, IsWhole, IsGuid}
 use Rattle.com_print_operands.proofs.Decimals.{decimal_digits, signed_again}
 use Rattle.com_print_operands.proofs.Hexes.{eight_again, guid_again, pairs_again, unhexed_again, long_hex}
@@ -193,7 +193,7 @@ given_by w (ops.Literal (values.Bytes b)) takes fits e = ap (λ (r : Result Op F
 given_by w (ops.Literal (values.Guid g)) takes fits e = refl
 given_by w (ops.Literal (values.Ref r)) takes fits e = absurd takes
 
--- a result that is given, at a place where the line ends behind it
+-- a result that is given, where the line ends behind it
 abbrev pub GivenAt : List WordAt → ℕ → Given → Type 0
 GivenAt line k gifts.Nothing = at line k ≡ None
 GivenAt line k (gifts.Op o) = at line k ≡ Some (op_word o)

@@ -1,4 +1,4 @@
--- Declared names, and GUIDs in their place, are read again.
+-- Declared names, and GUIDs that stand for them, are read again.
 use Rattle.std.proofs.Common.{◌≡◌, ℕ, zero, suc, ◌+◌, ◌-◌, ◌&&◌, ◌<◌, List, [], ◌∷◌, Some, Bool, true, false, nat_lt, if◌then◌else◌, refl, ap, ◌∙◌, arith, length, get_or, Result, Ok, Err, bytes_eq}
 use Rattle.std.proofs.lemmas.Bool.Decides.{nat_tests}
 use Rattle.std.proofs.lemmas.Slice.Eq.{bytes_eq-Decides}

@@ -22,13 +22,13 @@ use Rattle.com_print_operands.specs.Words.{register_word, slot_word, cell_word, 
 use Rattle.com_print_operands.specs.Ranges.{TakesPlace}
 use Rattle.com_print_operands.proofs.Decimals.{number_again, small_again}
 
--- ---- the word at a place
+-- ---- the word at an index
 
--- the word that a line has at a place, as it is written
+-- the word that a line has at an index, as it is written
 abbrev pub at : List WordAt → ℕ → Option Spelled
 at line k = slice_get (map spelled_of line) k
 
--- a word that was read at a place, and what it is as it is written
+-- a word that was read at an index, and what it is as it is written
 pub record StandsAt (line : List WordAt) (k : ℕ) (s : Spelled) : Type 0 where
   pub word : WordAt
   pub there : slice_get line k ≡ Some word
@@ -150,9 +150,9 @@ buffer_operand n lt =
     let t : nat_lt n 64 ≡ true = grind (arith, nat_tests) in
     buffer_plain (decimal n) ∙ ap (lettered 112) (small_again n (omega arith)) ∙ rw t refl
 
--- ---- places that take one
+-- ---- readers that take one operand
 
--- what a place reads, from its word and the operand
+-- what is read at an index, from its word and the operand
 pub read_by : {A : Type 0} (f : WordAt → Operand → Result A Fault) (line : List WordAt) (k : ℕ) (s : Spelled) (o : Operand) (h : StandsAt line k s)
     → IsGood s.sort → operand_by s.bytes s.sort ≡ o
     → (word_at line k >>= λ w. f w (operand_of w)) ≡ f h.word o

@@ -6,6 +6,7 @@ use Rattle.std.specs.Fmt.{signed_decimal}
 use Rattle.std.proofs.lemmas.Bool.Decides.{nat_tests}
 use Rattle.std.proofs.lemmas.List.Folds.{list_all-append}
 use Rattle.hex.specs.Hex.{encode_lower, upper_digits}
+use Rattle.com_base.specs.HResults.{eight_digits}
 use Rattle.uuid.specs.Text.{by_index, hex_digit, upper, nibble, hyphenated_text, is_hyphen_place, digit_place}
 use Rattle.uuid.proofs.TextLemmas.{nibble_small}
 use Rattle.com_base.specs.declared.guid.Guid.{Guid}
@@ -32,7 +33,7 @@ use Rattle.com_body.specs.Bodies.{IsOp, IsPlace, IsCode, IsGiven, IsDestination}
 use Rattle.com_read_operands.specs.Numbers.{is_digit}
 use Rattle.com_read_operands.specs.Naming.{is_name, is_tail, are_tail}
 use Rattle.com_print_words.specs.Spelled.{plain, IsSpelled, AreSpelled, IsPlainWord, is_word_byte, is_text_byte}
-use Rattle.com_print_operands.specs.Words.{register_word, slot_word, cell_word, buffer_word, place_word, value_word, op_word, code_word, given_words, destination_words, mode_word, marshal_mode_word, eight_digits, name_at, asked_word}
+use Rattle.com_print_operands.specs.Words.{register_word, slot_word, cell_word, buffer_word, place_word, value_word, op_word, code_word, given_words, destination_words, mode_word, marshal_mode_word, name_at, asked_word}
 use Rattle.com_print_operands.specs.Ranges.{IsLiteral, TakesOp, TakesGiven, FitsValue, FitsOp, FitsGiven, AreBytes, IsWhole, AreNames, IsNamed}
 use Rattle.com_print_operands.proofs.Decimals.{decimal_digits}
 use Rattle.com_print_operands.proofs.Hexes.{all_below, both, tried, all_hex, all_true, long_hex}

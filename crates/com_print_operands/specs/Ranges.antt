@@ -112,7 +112,7 @@ abbrev pub Distinct : List (List ℕ) → Type 0
 Distinct [] = Unit {0}
 Distinct (n ∷ ns) = All (λ m. bytes_eq n m ≡ false) ns × Distinct ns
 
--- names that are read as their own places
+-- names that are read as their own indices
 pub record AreNames (names : List (List ℕ)) : Type 0 where
   pub each : All (λ n. is_name n ≡ true) names
   pub distinct : Distinct names

@@ -1,9 +1,10 @@
 -- Operands as words.
-use Rattle.std.specs.Prelude.{ℕ, ◌-◌, ◌/◌, ◌%◌, ◌^◌, List, [], ◌∷◌, true, false, codes, decimal, slice_index}
+use Rattle.std.specs.Prelude.{ℕ, ◌-◌, List, [], ◌∷◌, true, false, codes, decimal}
 use Rattle.std.specs.Prelude.{slice_index_or}
 use Rattle.std.specs.Fmt.{signed_decimal}
-use Rattle.hex.specs.Hex.{encode_lower, upper_digits}
+use Rattle.hex.specs.Hex.{encode_lower}
 use Rattle.com_base.specs.Guids.{text_of}
+use Rattle.com_base.specs.HResults.{eight_digits}
 use Rattle.com_base.specs.declared.value.Value.{Value}
 use Rattle.com_base.specs.declared.value.Value.TheVariants as values
 use Rattle.com_base.specs.declared.value.Mode.{Mode}
@@ -63,14 +64,6 @@ abbrev pub arg_word : Arg → Spelled
 arg_word (args.Op op) = op_word op
 arg_word (args.Slot n) = slot_word n
 arg_word args.Null = plain (codes "null")
-
--- eight upper-case hexadecimal digits
-abbrev pub eight_digits : ℕ → List ℕ
-eight_digits n =
-    slice_index upper_digits (n / 2 ^ 28 % 16) ∷ slice_index upper_digits (n / 2 ^ 24 % 16)
-    ∷ slice_index upper_digits (n / 2 ^ 20 % 16) ∷ slice_index upper_digits (n / 2 ^ 16 % 16)
-    ∷ slice_index upper_digits (n / 2 ^ 12 % 16) ∷ slice_index upper_digits (n / 2 ^ 8 % 16)
-    ∷ slice_index upper_digits (n / 2 ^ 4 % 16) ∷ slice_index upper_digits (n % 16) ∷ []
 
 -- an HRESULT in digits, or a register
 abbrev pub code_word : Code → Spelled

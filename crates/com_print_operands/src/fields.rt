@@ -1,4 +1,4 @@
-//! What stands at the places of a statement.
+//! What stands behind the keyword of a statement.
 
 ghost use Rattle.std.specs.Prelude.{◌≡◌, ◌++◌, ◌∷◌, [], OnOk};
 ghost use Rattle.com_print_words.specs.Spelled.{plain, more_text};

@@ -1,10 +1,11 @@
 //! Literals, with digits in hexadecimal.
 
-ghost use Rattle.std.specs.Prelude.{◌≡◌, ◌++◌, ◌∷◌, ◌/◌, ◌%◌, ◌^◌, ◌<◌, ◌≤◌, [], OnOk, length, slice_index};
-ghost use Rattle.hex.specs.Hex.{encode_lower, upper_digits};
+ghost use Rattle.std.specs.Prelude.{◌≡◌, ◌++◌, ◌∷◌, ◌≤◌, [], OnOk, length};
+ghost use Rattle.hex.specs.Hex.{encode_lower};
 ghost use Rattle.com_base.specs.Guids.{text_of};
+ghost use Rattle.com_base.specs.HResults.{eight_digits};
 ghost use Rattle.com_print_words.specs.Spelled.{plain, more_text, text_word, bytes_word};
-ghost use Rattle.com_print_operands.specs.Words.{value_word, eight_digits};
+ghost use Rattle.com_print_operands.specs.Words.{value_word};
 ghost use Rattle.com_print_operands.specs.Ranges.{AreBytes, FitsValue, IsGuid};
 
 use crate::numbers::{push_signed, push_word};
@@ -75,33 +76,12 @@ pub fn push_guid(out: &mut ByteList, guid: Guid) -> Result<(), Memory>
     push_word(out, &guid.text())
 }
 
-fn upper_digit(place: u32) -> u8
-    requires { place < 16 }
-    ensures { result ≡ slice_index upper_digits place }
-{
-    b"0123456789ABCDEF"[place as usize]
-}
-
 /// Appends an HRESULT: `0x` and eight upper-case hexadecimal digits.
 pub fn push_hresult(out: &mut ByteList, answer: HResult) -> Result<(), Memory>
     ensures { OnOk result (out.new ≡ out.old ++ more_text (plain (48 ∷ 120 ∷ eight_digits answer.0) ∷ [])) }
 {
-    let HResult(number) = answer;
-    push_word(
-        out,
-        &[
-            b'0',
-            b'x',
-            upper_digit(number / 0x1000_0000 % 16),
-            upper_digit(number / 0x100_0000 % 16),
-            upper_digit(number / 0x10_0000 % 16),
-            upper_digit(number / 0x1_0000 % 16),
-            upper_digit(number / 0x1000 % 16),
-            upper_digit(number / 0x100 % 16),
-            upper_digit(number / 0x10 % 16),
-            upper_digit(number % 16),
-        ],
-    )
+    let [a, b, c, d, e, f, g, h] = answer.digits();
+    push_word(out, &[b'0', b'x', a, b, c, d, e, f, g, h])
 }
 
 /// Appends a literal: a number, `true` or `false`, a text or bytes in quotation marks, or a GUID. No literal

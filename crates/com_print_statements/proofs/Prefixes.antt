@@ -35,7 +35,7 @@ same_filter few all (Some n) e is =
     let b = is.1 in
     ap plain (same_name few.filters all.filters (n - 1) e.filters (omega arith))
 
--- what stands at a place of a list's front
+-- what stands at an index of a list's front
 at_front : {X : Type 0} (n : ℕ) (xs : List X) (k : ℕ) (x : X) → slice_get (take n xs) k ≡ Some x → slice_get xs k ≡ Some x
 at_front zero xs k x h = absurd cc
 at_front (suc n) [] k x h = absurd cc

@@ -41,29 +41,29 @@ both false b h = absurd cc
 
 -- ---- the scanner in a line without bytes outside the characters
 
-record Places : Type 0 where
+record Positions : Type 0 where
   line : ℕ
   column : ℕ
   at : ℕ
   first : ℕ
   start : ℕ
 
-abbrev scanning : Places → Within → List ℕ → Scanning
+abbrev scanning : Positions → Within → List ℕ → Scanning
 scanning p w bytes = record { line = p.line; column = p.column; at = p.at; first = p.first; start = p.start; stands = w; stray = None; bytes = bytes }
 
 -- behind a byte within a word, and behind one that ends a word or follows none
-abbrev further : Places → Places
+abbrev further : Positions → Positions
 further p = record { line = p.line; column = p.column + 1; at = p.at + 1; first = p.first; start = p.start }
 
-abbrev fresh : Places → Places
+abbrev fresh : Positions → Positions
 fresh p = record { line = p.line; column = p.column + 1; at = p.at + 1; first = p.column + 1; start = p.at + 1 }
 
-abbrev begun : ℕ → ℕ → Places
+abbrev begun : ℕ → ℕ → Positions
 begun line at = record { line = line; column = 1; at = at; first = 1; start = at }
 
--- From every place, behind words that were given, the rest of the text is read as these lines.
+-- From every position, behind words that were given, the rest of the text is read as these lines.
 abbrev Reads : Within → List ℕ → List Spelled → List ℕ → List (List Spelled) → Type 0
-Reads w front given text lines = (p : Places) (done : List WordAt) → map spelled_of done ≡ given → Shown lines (lines_from (scanning p w front) done text)
+Reads w front given text lines = (p : Positions) (done : List WordAt) → map spelled_of done ≡ given → Shown lines (lines_from (scanning p w front) done text)
 
 abbrev stepped : Scanning → List WordAt → ℕ → List ℕ → Class → List LineAt
 stepped s done b bs c = if ends_line c then ended s done false ∷ lines_from (at_line (s.line + 1) (s.at + 1)) [] bs
@@ -101,7 +101,7 @@ bytes_on (b ∷ bs) front given rest lines h r =
     λ p done d. by_class lines (scanning p within.Bytes front) done b (bs ++ rest) classes.Other (hex_other b (slice_index (bs ++ rest) 0) t.0)
     (more (further p) (done ++ []) (none_given done given d))
 
-text_step : (p : Places) (front : List ℕ) (done : List WordAt) (b : ℕ) (bs : List ℕ) (lines : List (List Spelled)) (c : Class) → is_kept c ≡ true
+text_step : (p : Positions) (front : List ℕ) (done : List WordAt) (b : ℕ) (bs : List ℕ) (lines : List (List Spelled)) (c : Class) → is_kept c ≡ true
     → Shown lines (lines_from (scanning (further p) within.Text (front ++ b ∷ [])) (done ++ []) bs) → Shown lines (stepped (scanning p within.Text front) done b bs c)
 text_step p front done b bs lines classes.LineEnd h r = absurd cc
 text_step p front done b bs lines classes.Blank h r = r

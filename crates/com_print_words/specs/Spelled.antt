@@ -15,7 +15,7 @@ pub record Spelled : Type 0 where
 abbrev pub plain : List ℕ → Spelled
 plain bytes = record { sort = sorts.Plain; bytes = bytes }
 
--- a word that was read, without its place
+-- a word that was read, without its position
 abbrev pub spelled_of : WordAt → Spelled
 spelled_of w = record { sort = w.sort; bytes = w.bytes }
 
@@ -89,7 +89,7 @@ text_of (l ∷ ls) = line_text l ++ text_of ls
 
 -- ---- what the scanner reads
 
--- a line that was read, without its places
+-- a line that was read, without the positions of its words
 abbrev pub shown : LineAt → List Spelled
 shown l = map spelled_of l.words
 

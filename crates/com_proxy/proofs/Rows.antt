@@ -5,39 +5,39 @@ use Rattle.std.proofs.lemmas.List.{length-map, length-set, length-append, map-ap
 use Rattle.std.proofs.lemmas.Grind.{common_steps}
 use Rattle.std.specs.Prelude.{map, slice_set, slice_index_or, slice_index}
 use Rattle.com_proxy.specs.declared.ProxyRow.{ProxyRow}
-use Rattle.com_proxy.specs.Rows.{is_for, no_row, row_of, row_at, local_of, public_of, place_of, changed_row, proxy_key_of, key_of, proxies_of, objects_of, EachFirst, IsFree, IsLowest, no_public, cut_row, cut_rows}
+use Rattle.com_proxy.specs.Rows.{is_for, no_row, row_of, row_at, local_of, public_of, index_of, changed_row, proxy_key_of, key_of, proxies_of, objects_of, EachFirst, IsFree, IsLowest, no_public, cut_row, cut_rows}
 use Rattle.com_keyed.specs.Places.{Places}
 use Rattle.com_proxy.specs.Table.{IsTable}
 
 -- a row that is there
-pub place_row : (rs : List ProxyRow) (a o i : ℕ) (d : ProxyRow) → place_of rs a o i < length rs → slice_index_or rs (place_of rs a o i) d ≡ row_of rs a o i
-place_row [] a o i d h = absurd (omega arith)
-place_row (r ∷ rs) a o i d h =
-    elim (is_for a o i r) as (λ b. cond b 0 (place_of rs a o i + 1) < length (r ∷ rs) → slice_index_or (r ∷ rs) (cond b 0 (place_of rs a o i + 1)) d ≡ cond b r (row_of rs a o i)) [
+pub index_row : (rs : List ProxyRow) (a o i : ℕ) (d : ProxyRow) → index_of rs a o i < length rs → slice_index_or rs (index_of rs a o i) d ≡ row_of rs a o i
+index_row [] a o i d h = absurd (omega arith)
+index_row (r ∷ rs) a o i d h =
+    elim (is_for a o i r) as (λ b. cond b 0 (index_of rs a o i + 1) < length (r ∷ rs) → slice_index_or (r ∷ rs) (cond b 0 (index_of rs a o i + 1)) d ≡ cond b r (row_of rs a o i)) [
       | true ↦ λ h. refl
-      | false ↦ λ h. grind (arith, common_steps, place_row rs a o i d (grind (arith, common_steps, h)))
+      | false ↦ λ h. grind (arith, common_steps, index_row rs a o i d (grind (arith, common_steps, h)))
     ] h
 
 -- a row that is not there
-pub no_place : (rs : List ProxyRow) (a o i : ℕ) → length rs ≤ place_of rs a o i → row_of rs a o i ≡ no_row a o i
-no_place [] a o i h = refl
-no_place (r ∷ rs) a o i h =
-    elim (is_for a o i r) as (λ b. length (r ∷ rs) ≤ cond b 0 (place_of rs a o i + 1) → cond b r (row_of rs a o i) ≡ no_row a o i) [
+pub no_index : (rs : List ProxyRow) (a o i : ℕ) → length rs ≤ index_of rs a o i → row_of rs a o i ≡ no_row a o i
+no_index [] a o i h = refl
+no_index (r ∷ rs) a o i h =
+    elim (is_for a o i r) as (λ b. length (r ∷ rs) ≤ cond b 0 (index_of rs a o i + 1) → cond b r (row_of rs a o i) ≡ no_row a o i) [
       | true ↦ λ h. absurd (grind (arith, common_steps, h))
-      | false ↦ λ h. no_place rs a o i (grind (arith, common_steps, h))
+      | false ↦ λ h. no_index rs a o i (grind (arith, common_steps, h))
     ] h
 
-pub held_place : (rs : List ProxyRow) (a o i : ℕ) → 0 < local_of rs a o i → place_of rs a o i < length rs
-held_place rs a o i h = grind (arith, common_steps, no_place rs a o i, h)
+pub held_index : (rs : List ProxyRow) (a o i : ℕ) → 0 < local_of rs a o i → index_of rs a o i < length rs
+held_index rs a o i h = grind (arith, common_steps, no_index rs a o i, h)
 
-pub public_place : (rs : List ProxyRow) (a o i : ℕ) → 0 < public_of rs a o i → place_of rs a o i < length rs
-public_place rs a o i h = grind (arith, common_steps, no_place rs a o i, h)
+pub public_index : (rs : List ProxyRow) (a o i : ℕ) → 0 < public_of rs a o i → index_of rs a o i < length rs
+public_index rs a o i h = grind (arith, common_steps, no_index rs a o i, h)
 
-pub changed_at : (rs : List ProxyRow) (f : ProxyRow → ProxyRow) (a o i : ℕ) → place_of rs a o i < length rs → changed_row f a o i rs ≡ slice_set rs (place_of rs a o i) (f (row_of rs a o i))
+pub changed_at : (rs : List ProxyRow) (f : ProxyRow → ProxyRow) (a o i : ℕ) → index_of rs a o i < length rs → changed_row f a o i rs ≡ slice_set rs (index_of rs a o i) (f (row_of rs a o i))
 changed_at [] f a o i h = absurd (omega arith)
 changed_at (r ∷ rs) f a o i h = grind (arith, common_steps, changed_at rs f a o i, h)
 
-pub changed_new : (rs : List ProxyRow) (f : ProxyRow → ProxyRow) (a o i : ℕ) → length rs ≤ place_of rs a o i → changed_row f a o i rs ≡ rs ++ f (no_row a o i) ∷ []
+pub changed_new : (rs : List ProxyRow) (f : ProxyRow → ProxyRow) (a o i : ℕ) → length rs ≤ index_of rs a o i → changed_row f a o i rs ≡ rs ++ f (no_row a o i) ∷ []
 changed_new [] f a o i h = refl
 changed_new (r ∷ rs) f a o i h = grind (arith, common_steps, changed_new rs f a o i, h)
 
@@ -52,13 +52,13 @@ pub row_cut : (rs : List ProxyRow) (o b p j : ℕ) → row_of (cut_rows o rs) b 
 row_cut [] o b p j = grind (arith, common_steps)
 row_cut (r ∷ rs) o b p j = grind (arith, common_steps, row_cut rs o b p j)
 
--- the keys of rows, place by place
+-- the keys of rows, index by index
 pub key_at : (key : ProxyRow → ℕ) (rs : List ProxyRow) (p : ℕ) → p < length rs → slice_index (map key rs) p ≡ key (row_at rs p)
 key_at key [] p h = absurd (omega arith)
 key_at key (r ∷ rs) zero h = refl
 key_at key (r ∷ rs) (suc p) h = key_at key rs p (omega arith)
 
--- where places are under the rows' keys, what holds of each place of a key holds of each row that has it
+-- where indices are under the rows' keys, what holds of each index of a key holds of each row that has it
 module _ (key : ProxyRow → ℕ) (rs : List ProxyRow) (keys : List ℕ) (k : ℕ) (e : keys ≡ map key rs) where
   pub row_inside : (p : ℕ) → p < length keys → p < length rs
   row_inside p h = rw (← length-map rs key, ← e) h
@@ -73,20 +73,20 @@ pub proxy_passed : (rs : List ProxyRow) (keys : List ℕ) (a o : ℕ) (P : ℕ �
     → (p : ℕ) → p < length rs → (row_at rs p).object ≡ o → (row_at rs p).apartment ≡ a → P p
 proxy_passed rs keys a o P e passed p h eo ea = row_passed key_of rs keys (proxy_key_of a o) e P passed p h (ap (λ b. proxy_key_of b (row_at rs p).object) ea ∙ ap (λ b. proxy_key_of a b) eo)
 
--- a row that no place has is not there
-pub place_none : (rs : List ProxyRow) (a o i : ℕ) → ((p : ℕ) → p < length rs → is_for a o i (row_at rs p) ≡ false) → place_of rs a o i ≡ length rs
-place_none [] a o i none = refl
-place_none (r ∷ rs) a o i none =
-    let rest : place_of rs a o i ≡ length rs = place_none rs a o i (λ p h. none (suc p) (omega arith)) in
+-- a row that no index has is not there
+pub index_none : (rs : List ProxyRow) (a o i : ℕ) → ((p : ℕ) → p < length rs → is_for a o i (row_at rs p) ≡ false) → index_of rs a o i ≡ length rs
+index_none [] a o i none = refl
+index_none (r ∷ rs) a o i none =
+    let rest : index_of rs a o i ≡ length rs = index_none rs a o i (λ p h. none (suc p) (omega arith)) in
     grind (arith, none 0 (omega arith), rest)
 
-pub place_first : (rs : List ProxyRow) (a o i p : ℕ) → EachFirst rs → p < length rs → (row_at rs p).object ≡ o → (row_at rs p).apartment ≡ a → (row_at rs p).iface ≡ i → place_of rs a o i ≡ p
-place_first rs a o i p each h eo ea ei = rw (← eo, ← ea, ← ei) (each p h)
+pub index_first : (rs : List ProxyRow) (a o i p : ℕ) → EachFirst rs → p < length rs → (row_at rs p).object ≡ o → (row_at rs p).apartment ≡ a → (row_at rs p).iface ≡ i → index_of rs a o i ≡ p
+index_first rs a o i p each h eo ea ei = rw (← eo, ← ea, ← ei) (each p h)
 
--- where a walk over the proxy's places found none
-pub place_past : (rs : List ProxyRow) (keys : List ℕ) (a o i : ℕ) → keys ≡ proxies_of rs → ((p : ℕ) → p < length keys → slice_index keys p ≡ proxy_key_of a o → is_for a o i (row_at rs p) ≡ false)
-    → length rs ≡ place_of rs a o i
-place_past rs keys a o i e none = sym (place_none rs a o i one) where
+-- where a walk over the proxy's indices found none
+pub index_past : (rs : List ProxyRow) (keys : List ℕ) (a o i : ℕ) → keys ≡ proxies_of rs → ((p : ℕ) → p < length keys → slice_index keys p ≡ proxy_key_of a o → is_for a o i (row_at rs p) ≡ false)
+    → length rs ≡ index_of rs a o i
+index_past rs keys a o i e none = sym (index_none rs a o i one) where
   one : (p : ℕ) → p < length rs → is_for a o i (row_at rs p) ≡ false
   one p h = elim (cases_eq (row_at rs p).object o) [
     | inl eo ↦ elim (cases_eq (row_at rs p).apartment a) [
@@ -104,18 +104,18 @@ row_keys (r ∷ rs) a o i = (grind (arith, (row_keys rs a o i).0), grind (arith,
 -- a row is that of its own apartment, object and interface
 pub row_first : (rs : List ProxyRow) (a o i p : ℕ) → EachFirst rs → p < length rs → (row_at rs p).object ≡ o → (row_at rs p).apartment ≡ a → (row_at rs p).iface ≡ i → row_of rs a o i ≡ row_at rs p
 row_first rs a o i p each h eo ea ei =
-    let at : place_of rs a o i ≡ p = place_first rs a o i p each h eo ea ei in
-    sym (place_row rs a o i (no_row 0 0 0) (rw at h)) ∙ ap (λ n. row_at rs n) at
+    let at : index_of rs a o i ≡ p = index_first rs a o i p each h eo ea ei in
+    sym (index_row rs a o i (no_row 0 0 0) (rw at h)) ∙ ap (λ n. row_at rs n) at
 
 -- a number that no row of an apartment and an object has, and that a row which is not there has not
 pub none_held : (field : ProxyRow → ℕ) → ((a o i : ℕ) → field (no_row a o i) ≡ 0) → (rs : List ProxyRow) (a o : ℕ)
     → ((p : ℕ) → p < length rs → (row_at rs p).object ≡ o → (row_at rs p).apartment ≡ a → field (row_at rs p) ≡ 0) → (i : ℕ) → field (row_of rs a o i) ≡ 0
-none_held field empty rs a o none i = elim (cases_lt (place_of rs a o i) (length rs)) [
+none_held field empty rs a o none i = elim (cases_lt (index_of rs a o i) (length rs)) [
   | inl there ↦
-      let at : row_at rs (place_of rs a o i) ≡ row_of rs a o i = place_row rs a o i (no_row 0 0 0) there in
+      let at : row_at rs (index_of rs a o i) ≡ row_of rs a o i = index_row rs a o i (no_row 0 0 0) there in
       let keys = row_keys rs a o i in
-      ap field (sym at) ∙ none (place_of rs a o i) there (ap (λ r. r.object) at ∙ keys.1) (ap (λ r. r.apartment) at ∙ keys.0)
-  | inr past ↦ ap field (no_place rs a o i past) ∙ empty a o i
+      ap field (sym at) ∙ none (index_of rs a o i) there (ap (λ r. r.object) at ∙ keys.1) (ap (λ r. r.apartment) at ∙ keys.0)
+  | inr past ↦ ap field (no_index rs a o i past) ∙ empty a o i
 ]
 
 -- the same of the rows that a walk passes
@@ -144,22 +144,22 @@ held_row rs keys a o p e each h eo ea some =
     omega (arith, same, some)
 
 -- the lowest interface of which an apartment has public references
-pub lowest_place : (rs : List ProxyRow) (a o p : ℕ) → EachFirst rs → IsLowest a o rs p → place_of rs a o (row_at rs p).iface ≡ p
-lowest_place rs a o p each l = place_first rs a o (row_at rs p).iface p each l.inside l.of_object l.of_apartment refl
+pub lowest_index : (rs : List ProxyRow) (a o p : ℕ) → EachFirst rs → IsLowest a o rs p → index_of rs a o (row_at rs p).iface ≡ p
+lowest_index rs a o p each l = index_first rs a o (row_at rs p).iface p each l.inside l.of_object l.of_apartment refl
 
 pub lowest_row : (rs : List ProxyRow) (a o p : ℕ) → EachFirst rs → IsLowest a o rs p → row_of rs a o (row_at rs p).iface ≡ row_at rs p
 lowest_row rs a o p each l = row_first rs a o (row_at rs p).iface p each l.inside l.of_object l.of_apartment refl
 
 pub lowest_least : (rs : List ProxyRow) (a o p i : ℕ) → IsLowest a o rs p → 0 < public_of rs a o i → (row_at rs p).iface ≤ i
 lowest_least rs a o p i l some =
-    let there : place_of rs a o i < length rs = public_place rs a o i some in
-    let at : row_at rs (place_of rs a o i) ≡ row_of rs a o i = place_row rs a o i (no_row 0 0 0) there in
+    let there : index_of rs a o i < length rs = public_index rs a o i some in
+    let at : row_at rs (index_of rs a o i) ≡ row_of rs a o i = index_row rs a o i (no_row 0 0 0) there in
     let keys = row_keys rs a o i in
-    let least : (row_at rs p).iface ≤ (row_at rs (place_of rs a o i)).iface =
-    l.lowest (place_of rs a o i) there (ap (λ r. r.object) at ∙ keys.1) (ap (λ r. r.apartment) at ∙ keys.0) (rw at some) in
+    let least : (row_at rs p).iface ≤ (row_at rs (index_of rs a o i)).iface =
+    l.lowest (index_of rs a o i) there (ap (λ r. r.object) at ∙ keys.1) (ap (λ r. r.apartment) at ∙ keys.0) (rw at some) in
     rw (← keys.2, ← at) least
 
--- the rows of an object that was cut, place by place
+-- the rows of an object that was cut, index by index
 pub cut_at : (rs : List ProxyRow) (o p : ℕ) → row_at (cut_rows o rs) p ≡ cut_row o (row_at rs p)
 cut_at [] o p = grind arith
 cut_at (r ∷ rs) o zero = refl
@@ -180,11 +180,11 @@ cut_is rows rs keys o len e passed others = ext_get_or (no_row 0 0 0) rows (cut_
       ]
 
 -- rows after a write that keeps the row's apartment, object and interface
-pub place_set : (rs : List ProxyRow) (p : ℕ) (x : ProxyRow) (a o i : ℕ) → x.apartment ≡ (row_at rs p).apartment → x.object ≡ (row_at rs p).object → x.iface ≡ (row_at rs p).iface
-    → place_of (slice_set rs p x) a o i ≡ place_of rs a o i
-place_set [] p x a o i ea eo ei = refl
-place_set (r ∷ rs) zero x a o i ea eo ei = grind (arith, ea, eo, ei)
-place_set (r ∷ rs) (suc p) x a o i ea eo ei = grind (arith, place_set rs p x a o i ea eo ei)
+pub index_set : (rs : List ProxyRow) (p : ℕ) (x : ProxyRow) (a o i : ℕ) → x.apartment ≡ (row_at rs p).apartment → x.object ≡ (row_at rs p).object → x.iface ≡ (row_at rs p).iface
+    → index_of (slice_set rs p x) a o i ≡ index_of rs a o i
+index_set [] p x a o i ea eo ei = refl
+index_set (r ∷ rs) zero x a o i ea eo ei = grind (arith, ea, eo, ei)
+index_set (r ∷ rs) (suc p) x a o i ea eo ei = grind (arith, index_set rs p x a o i ea eo ei)
 
 pub keys_set : (key : ProxyRow → ℕ) (rs : List ProxyRow) (p : ℕ) (x : ProxyRow) → key x ≡ key (row_at rs p) → map key (slice_set rs p x) ≡ map key rs
 keys_set key [] p x e = refl
@@ -201,28 +201,28 @@ table_set rs proxies objects p x t inside ea eo ei = record {
       elim (cases_eq q p) [
         | inl same ↦
             let at : row_at (slice_set rs p x) q ≡ x = rw same (get_or-set_same rs p x (no_row 0 0 0) inside) in
-            let first : place_of rs (row_at rs p).apartment (row_at rs p).object (row_at rs p).iface ≡ p = t.first p inside in
-            rw (at, place_set rs p x x.apartment x.object x.iface ea eo ei, ea, eo, ei, same) first
+            let first : index_of rs (row_at rs p).apartment (row_at rs p).object (row_at rs p).iface ≡ p = t.first p inside in
+            rw (at, index_set rs p x x.apartment x.object x.iface ea eo ei, ea, eo, ei, same) first
         | inr other ↦
             let at : row_at (slice_set rs p x) q ≡ row_at rs q = get_or-set_other rs p q x (no_row 0 0 0) other in
-            rw (at, place_set rs p x (row_at rs q).apartment (row_at rs q).object (row_at rs q).iface ea eo ei) (t.first q there)
+            rw (at, index_set rs p x (row_at rs q).apartment (row_at rs q).object (row_at rs q).iface ea eo ei) (t.first q there)
       ];
 }
 
 -- rows after one more
-pub place_append : (rs xs : List ProxyRow) (a o i : ℕ) → place_of rs a o i < length rs → place_of (rs ++ xs) a o i ≡ place_of rs a o i
-place_append [] xs a o i h = absurd (omega arith)
-place_append (r ∷ rs) xs a o i h = grind (arith, common_steps, place_append rs xs a o i, h)
+pub index_append : (rs xs : List ProxyRow) (a o i : ℕ) → index_of rs a o i < length rs → index_of (rs ++ xs) a o i ≡ index_of rs a o i
+index_append [] xs a o i h = absurd (omega arith)
+index_append (r ∷ rs) xs a o i h = grind (arith, common_steps, index_append rs xs a o i, h)
 
-pub place_push : (rs : List ProxyRow) (x : ProxyRow) (a o i : ℕ) → length rs ≤ place_of rs a o i → is_for a o i x ≡ true → place_of (rs ++ x ∷ []) a o i ≡ length rs
-place_push [] x a o i h e = grind (arith, e)
-place_push (r ∷ rs) x a o i h e = grind (arith, common_steps, place_push rs x a o i, h, e)
+pub index_push : (rs : List ProxyRow) (x : ProxyRow) (a o i : ℕ) → length rs ≤ index_of rs a o i → is_for a o i x ≡ true → index_of (rs ++ x ∷ []) a o i ≡ length rs
+index_push [] x a o i h e = grind (arith, e)
+index_push (r ∷ rs) x a o i h e = grind (arith, common_steps, index_push rs x a o i, h, e)
 
 pub keys_push : (key : ProxyRow → ℕ) (rs : List ProxyRow) (x : ProxyRow) (keys more : List ℕ) → keys ≡ map key rs → more ≡ keys ++ key x ∷ [] → more ≡ map key (rs ++ x ∷ [])
 keys_push key rs x keys more e is = is ∙ ap (λ ks. ks ++ key x ∷ []) e ∙ sym (map-append key rs (x ∷ []))
 
 pub table_push : (rs : List ProxyRow) (proxies objects more_proxies more_objects : Places) (x : ProxyRow) → IsTable rs proxies objects → more_proxies.keys ≡ proxies.keys ++ key_of x ∷ []
-    → more_objects.keys ≡ objects.keys ++ x.object ∷ [] → length rs ≤ place_of rs x.apartment x.object x.iface → IsTable (rs ++ x ∷ []) more_proxies more_objects
+    → more_objects.keys ≡ objects.keys ++ x.object ∷ [] → length rs ≤ index_of rs x.apartment x.object x.iface → IsTable (rs ++ x ∷ []) more_proxies more_objects
 table_push rs proxies objects more_proxies more_objects x t by_proxy by_object new = record {
   by_proxy = keys_push key_of rs x proxies.keys more_proxies.keys t.by_proxy by_proxy;
   by_object = keys_push (λ r. r.object) rs x objects.keys more_objects.keys t.by_object by_object;
@@ -230,13 +230,13 @@ table_push rs proxies objects more_proxies more_objects x t by_proxy by_object n
       elim (cases_lt q (length rs)) [
         | inl there ↦
             let at : row_at (rs ++ x ∷ []) q ≡ row_at rs q = get_or_append_left rs (x ∷ []) (no_row 0 0 0) q there in
-            let first : place_of rs (row_at rs q).apartment (row_at rs q).object (row_at rs q).iface ≡ q = t.first q there in
-            let place = place_append rs (x ∷ []) (row_at rs q).apartment (row_at rs q).object (row_at rs q).iface (rw first there) in
-            rw (at, place) first
+            let first : index_of rs (row_at rs q).apartment (row_at rs q).object (row_at rs q).iface ≡ q = t.first q there in
+            let index = index_append rs (x ∷ []) (row_at rs q).apartment (row_at rs q).object (row_at rs q).iface (rw first there) in
+            rw (at, index) first
         | inr past ↦
             let last : length rs ≡ q = omega (arith, length-append rs (x ∷ [])) in
             let at : row_at (rs ++ x ∷ []) q ≡ x = get_or_at rs x [] (no_row 0 0 0) q last in
-            rw (at, place_push rs x x.apartment x.object x.iface new (grind arith)) last
+            rw (at, index_push rs x x.apartment x.object x.iface new (grind arith)) last
       ];
 }
 
@@ -254,7 +254,7 @@ table_cut rs proxies objects o t = record {
   first = λ q h.
       let there : q < length rs = rw (← length-map rs (cut_row o)) h in
       let row : row_at (cut_rows o rs) q ≡ cut_row o (row_at rs q) = cut_at rs o q in
-      rw (row, place_cut rs, apartment_cut (row_at rs q), object_cut (row_at rs q), iface_cut (row_at rs q)) (t.first q there);
+      rw (row, index_cut rs, apartment_cut (row_at rs q), object_cut (row_at rs q), iface_cut (row_at rs q)) (t.first q there);
 } where
   apartment_cut : (r : ProxyRow) → (cut_row o r).apartment ≡ r.apartment
   apartment_cut r = grind arith
@@ -269,9 +269,9 @@ table_cut rs proxies objects o t = record {
   keys_cut key kept [] = refl
   keys_cut key kept (r ∷ rs) = ap (λ k. k ∷ map key (cut_rows o rs)) (kept r) ∙ ap (λ ks. key r ∷ ks) (keys_cut key kept rs)
 
-  place_cut : (rs : List ProxyRow) (a p i : ℕ) → place_of (cut_rows o rs) a p i ≡ place_of rs a p i
-  place_cut [] a p i = refl
-  place_cut (r ∷ rs) a p i = grind (arith, place_cut rs a p i)
+  index_cut : (rs : List ProxyRow) (a p i : ℕ) → index_of (cut_rows o rs) a p i ≡ index_of rs a p i
+  index_cut [] a p i = refl
+  index_cut (r ∷ rs) a p i = grind (arith, index_cut rs a p i)
 
 -- what is known where the public references of the lowest interface are taken
 pub record Taking (rs : List ProxyRow) (proxies objects : Places) (a o p : ℕ) (old : ProxyRow) : Type 0 where
@@ -285,11 +285,11 @@ pub taking : (rs : List ProxyRow) (proxies objects : Places) (a o p : ℕ) (old 
 taking rs proxies objects a o p old t l is =
     let at : old ≡ row_at rs p = get_or_read rs p old l.inside is (no_row 0 0 0) in
     let row : row_of rs a o old.iface ≡ old = rw at (lowest_row rs a o p t.first l) in
-    let place : place_of rs a o old.iface ≡ p = rw at (lowest_place rs a o p t.first l) in
-    let inside : place_of rs a o old.iface < length rs = rw place l.inside in
+    let index : index_of rs a o old.iface ≡ p = rw at (lowest_index rs a o p t.first l) in
+    let inside : index_of rs a o old.iface < length rs = rw index l.inside in
     record {
       table = table_write rs proxies objects p old (no_public old) t l.inside is refl refl refl;
       held = ap (λ r. r.public) (sym row);
       least = λ i h. rw at (lowest_least rs a o p i l h);
-      changes = sym (changed_at rs no_public a o old.iface inside ∙ ap (λ n. slice_set rs n (no_public (row_of rs a o old.iface))) place ∙ ap (λ r. slice_set rs p (no_public r)) row);
+      changes = sym (changed_at rs no_public a o old.iface inside ∙ ap (λ n. slice_set rs n (no_public (row_of rs a o old.iface))) index ∙ ap (λ r. slice_set rs p (no_public r)) row);
     }

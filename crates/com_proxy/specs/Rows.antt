@@ -34,10 +34,10 @@ pub record IsFree (rows : List ProxyRow) (apartment object : ℕ) : Type 0 where
   pub none_held : (iface : ℕ) → local_of rows apartment object iface ≡ 0
 
 -- where that row stands, or the number of rows
-abbrev pub place_of : List ProxyRow → ℕ → ℕ → ℕ → ℕ
-place_of [] apartment object iface = 0
-place_of (row ∷ rows) apartment object iface =
-    if is_for apartment object iface row then 0 else place_of rows apartment object iface + 1
+abbrev pub index_of : List ProxyRow → ℕ → ℕ → ℕ → ℕ
+index_of [] apartment object iface = 0
+index_of (row ∷ rows) apartment object iface =
+    if is_for apartment object iface row then 0 else index_of rows apartment object iface + 1
 
 -- that row changed; one that was not there begins with nothing, at the end
 abbrev pub changed_row : (ProxyRow → ProxyRow) → ℕ → ℕ → ℕ → List ProxyRow → List ProxyRow
@@ -104,28 +104,28 @@ proxies_of rows = map key_of rows
 abbrev pub objects_of : List ProxyRow → List ℕ
 objects_of rows = map (λ row. row.object) rows
 
--- the row at a place
+-- the row at an index
 abbrev pub row_at : List ProxyRow → ℕ → ProxyRow
-row_at rows place = slice_index_or rows place (no_row 0 0 0)
+row_at rows index = slice_index_or rows index (no_row 0 0 0)
 
 -- no two rows are of the same apartment, object and interface: each is the first of its own
 abbrev pub EachFirst : List ProxyRow → Type 0
 EachFirst rows =
-    (place : ℕ) → place < length rows
-    → place_of rows (row_at rows place).apartment (row_at rows place).object (row_at rows place).iface ≡ place
+    (index : ℕ) → index < length rows
+    → index_of rows (row_at rows index).apartment (row_at rows index).object (row_at rows index).iface ≡ index
 
 -- a row of an apartment and an object has no public references
 abbrev pub HasNoPublic : ℕ → ℕ → List ProxyRow → ℕ → Type 0
-HasNoPublic apartment object rows place =
-    (row_at rows place).object ≡ object → (row_at rows place).apartment ≡ apartment
-    → (row_at rows place).public ≡ 0
+HasNoPublic apartment object rows index =
+    (row_at rows index).object ≡ object → (row_at rows index).apartment ≡ apartment
+    → (row_at rows index).public ≡ 0
 
 -- the row has public references of the apartment and the object, and no row of a lower interface has
-pub record IsLowest (apartment object : ℕ) (rows : List ProxyRow) (place : ℕ) : Type 0 where
-  pub inside : place < length rows
-  pub of_object : (row_at rows place).object ≡ object
-  pub of_apartment : (row_at rows place).apartment ≡ apartment
-  pub some : 0 < (row_at rows place).public
+pub record IsLowest (apartment object : ℕ) (rows : List ProxyRow) (index : ℕ) : Type 0 where
+  pub inside : index < length rows
+  pub of_object : (row_at rows index).object ≡ object
+  pub of_apartment : (row_at rows index).apartment ≡ apartment
+  pub some : 0 < (row_at rows index).public
   pub lowest : (other : ℕ) → other < length rows → (row_at rows other).object ≡ object
       → (row_at rows other).apartment ≡ apartment → 0 < (row_at rows other).public
-      → (row_at rows place).iface ≤ (row_at rows other).iface
+      → (row_at rows index).iface ≤ (row_at rows other).iface

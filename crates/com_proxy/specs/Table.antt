@@ -9,7 +9,7 @@ pub record Table : Type 0 where
   pub rows : List ProxyRow
   pub spare : ℕ
 
--- the places are under the keys of the rows' proxies and under the rows' objects, and there is one row
+-- the indices are under the keys of the rows' proxies and under the rows' objects, and there is one row
 -- of each apartment, object and interface
 pub record IsTable (rows : List ProxyRow) (proxies objects : Places) : Type 0 where
   pub by_proxy : proxies.keys ≡ proxies_of rows

@@ -10,7 +10,7 @@ ghost use Rattle.std.specs.Prelude.{◌≡◌, ◌+◌, ◌<◌, ◌≤◌, ◌^
 ghost use Rattle.std.specs.Prelude.{IfSome, length};
 ghost use Rattle.com_proxy.specs.Rows.{local_of, public_of, changed_row, gaining, one_local_more};
 ghost use Rattle.com_proxy.specs.Rows.{one_local_less, no_public, split_of, split_rows, cut_rows, public_sum};
-ghost use Rattle.com_proxy.specs.Rows.{place_of, row_at, proxy_key_of, proxies_of, objects_of, EachFirst};
+ghost use Rattle.com_proxy.specs.Rows.{index_of, row_at, proxy_key_of, proxies_of, objects_of, EachFirst};
 ghost use Rattle.com_proxy.specs.Rows.{HasNoPublic, IsFree, IsLowest};
 
 use com_keyed::Chains;
@@ -49,9 +49,9 @@ pub enum Split {
 #[derive(Debug, Drop)]
 pub struct Proxies {
     rows: Vec<ProxyRow>,
-    // The places of the rows under the keys of their proxies.
+    // The indices of the rows under the keys of their proxies.
     proxies: Chains,
-    // The places of the rows under their objects.
+    // The indices of the rows under their objects.
     objects: Chains,
 }
 
@@ -82,54 +82,54 @@ fn proxy_key(apartment: u32, object: u32) -> u32
     apartment.wrapping_mul(MIX).wrapping_add(object)
 }
 
-// The place of a row, or the number of rows.
+// The index of a row, or the number of rows.
 fn find(rows: &[ProxyRow], proxies: &Chains, apartment: u32, object: u32, iface: u16) -> usize
     requires keyed { proxies.now.keys ≡ proxies_of rows.now }
     requires first { EachFirst rows.now }
-    ensures { result ≡ place_of rows.now apartment object iface }
+    ensures { result ≡ index_of rows.now apartment object iface }
 {
     let mut at = proxies.last(proxy_key(apartment, object));
-    while let Some(place) = at {
-        let row = &rows[place];
+    while let Some(index) = at {
+        let row = &rows[index];
         if row.object == object && row.apartment == apartment && row.iface == iface {
-            return place;
+            return index;
         }
-        at = proxies.earlier(place);
+        at = proxies.earlier(index);
     }
     rows.len()
 }
 
-// The place of the row of the lowest interface of which the apartment has public references.
+// The index of the row of the lowest interface of which the apartment has public references.
 fn lowest(rows: &[ProxyRow], proxies: &Chains, apartment: u32, object: u32) -> Option<usize>
     requires keyed { proxies.now.keys ≡ proxies_of rows.now }
-    ensures none { IfNone result ((place : ℕ) → place < length rows.now
-        → HasNoPublic apartment object rows.now place) }
+    ensures none { IfNone result ((index : ℕ) → index < length rows.now
+        → HasNoPublic apartment object rows.now index) }
     ensures lowest { IfSome result (IsLowest apartment object rows.now) }
 {
     let mut lowest: Option<usize> = None;
     let mut at = proxies.last(proxy_key(apartment, object));
-    while let Some(place) = at {
-        let row = &rows[place];
+    while let Some(index) = at {
+        let row = &rows[index];
         if row.object == object
             && row.apartment == apartment
             && row.public > 0
             && is_lower(rows, row.iface, lowest)
         {
-            lowest = Some(place);
+            lowest = Some(index);
         }
-        at = proxies.earlier(place);
+        at = proxies.earlier(index);
     }
     lowest
 }
 
-// The interface is below that of the place, if there is one.
-fn is_lower(rows: &[ProxyRow], iface: u16, place: Option<usize>) -> bool
-    requires inside { IfSome place (λ place. place < length rows.now) }
-    ensures { IsTrue result ↔ IfSome place (λ place. iface < (row_at rows.now place).iface) }
+// The interface is below that of the index, if there is one.
+fn is_lower(rows: &[ProxyRow], iface: u16, index: Option<usize>) -> bool
+    requires inside { IfSome index (λ index. index < length rows.now) }
+    ensures { IsTrue result ↔ IfSome index (λ index. iface < (row_at rows.now index).iface) }
 {
-    match place {
+    match index {
         None => true,
-        Some(place) => iface < rows[place].iface,
+        Some(index) => iface < rows[index].iface,
     }
 }
 
@@ -141,12 +141,12 @@ fn any_held(rows: &[ProxyRow], proxies: &Chains, apartment: u32, object: u32) ->
     ensures none { IfNone result (IsFree rows.now apartment object) }
 {
     let mut at = proxies.last(proxy_key(apartment, object));
-    while let Some(place) = at {
-        let row = &rows[place];
+    while let Some(index) = at {
+        let row = &rows[index];
         if row.object == object && row.apartment == apartment && row.local > 0 {
             return Some(row.iface);
         }
-        at = proxies.earlier(place);
+        at = proxies.earlier(index);
     }
     None
 }
@@ -170,9 +170,9 @@ fn sum_public(rows: &[ProxyRow], objects: &Chains, object: u32) -> u64
 {
     let mut sum: u64 = 0;
     let mut latest = objects.last(object);
-    while let Some(place) = latest {
-        sum = sum.saturating_add(rows[place].public);
-        latest = objects.earlier(place);
+    while let Some(index) = latest {
+        sum = sum.saturating_add(rows[index].public);
+        latest = objects.earlier(index);
     }
     sum
 }
@@ -183,9 +183,9 @@ fn cut_all(rows: &mut [ProxyRow], objects: &Chains, object: u32)
     ensures { rows.new ≡ cut_rows object rows.old }
 {
     let mut at = objects.last(object);
-    while let Some(place) = at {
-        rows[place].public = 0;
-        at = objects.earlier(place);
+    while let Some(index) = at {
+        rows[index].public = 0;
+        at = objects.earlier(index);
     }
 }
 
@@ -215,7 +215,7 @@ impl Proxies {
     /// One local reference and `refs` public ones more.
     ///
     /// The only error is want of memory, and then no number has changed.
-    #[tactic(auto, using(crate::proofs::Rows::no_place, crate::proofs::Rows::place_row, crate::proofs::Rows::changed_at, crate::proofs::Rows::changed_new))]
+    #[tactic(auto, using(crate::proofs::Rows::no_index, crate::proofs::Rows::index_row, crate::proofs::Rows::changed_at, crate::proofs::Rows::changed_new))]
     pub fn gain(&mut self, apartment: u32, object: u32, iface: u16, refs: u32) -> Result<(), Memory>
         requires local_fits { local_of self.old.rows apartment object iface + 1 < 2 ^ 64 }
         requires public_fits { public_of self.old.rows apartment object iface + refs < 2 ^ 64 }
@@ -248,7 +248,7 @@ impl Proxies {
     }
 
     /// One local reference more, where one is held.
-    #[tactic(auto, using(crate::proofs::Rows::held_place, crate::proofs::Rows::place_row, crate::proofs::Rows::changed_at))]
+    #[tactic(auto, using(crate::proofs::Rows::held_index, crate::proofs::Rows::index_row, crate::proofs::Rows::changed_at))]
     pub fn copy(&mut self, apartment: u32, object: u32, iface: u16)
         requires held { 0 < local_of self.old.rows apartment object iface }
         requires fits { local_of self.old.rows apartment object iface + 1 < 2 ^ 64 }
@@ -262,7 +262,7 @@ impl Proxies {
 
     /// One local reference less, where one is held. True exactly where that proxy now has no local
     /// reference of any interface left.
-    #[tactic(auto, using(crate::proofs::Rows::held_place, crate::proofs::Rows::place_row, crate::proofs::Rows::changed_at))]
+    #[tactic(auto, using(crate::proofs::Rows::held_index, crate::proofs::Rows::index_row, crate::proofs::Rows::changed_at))]
     pub fn release(&mut self, apartment: u32, object: u32, iface: u16) -> bool
         requires held { 0 < local_of self.old.rows apartment object iface }
         ensures rows { self.new.rows ≡ changed_row one_local_less apartment object iface self.old.rows }
@@ -276,7 +276,7 @@ impl Proxies {
     }
 
     /// The local references of the interface that the apartment holds.
-    #[tactic(auto, using(crate::proofs::Rows::no_place, crate::proofs::Rows::place_row))]
+    #[tactic(auto, using(crate::proofs::Rows::no_index, crate::proofs::Rows::index_row))]
     pub fn local(&self, apartment: u32, object: u32, iface: u16) -> u64
         ensures { result ≡ local_of self.now.rows apartment object iface }
     {
@@ -297,7 +297,7 @@ impl Proxies {
     }
 
     /// The public references of the interface that the proxy holds.
-    #[tactic(auto, using(crate::proofs::Rows::no_place, crate::proofs::Rows::place_row))]
+    #[tactic(auto, using(crate::proofs::Rows::no_index, crate::proofs::Rows::index_row))]
     pub fn public(&self, apartment: u32, object: u32, iface: u16) -> u64
         ensures { result ≡ public_of self.now.rows apartment object iface }
     {
@@ -339,7 +339,7 @@ impl Proxies {
 
     /// Takes half of the public references of the interface, rounded down, where the proxy holds two or
     /// more; else nothing.
-    #[tactic(auto, using(crate::proofs::Rows::no_place, crate::proofs::Rows::place_row, crate::proofs::Rows::changed_at))]
+    #[tactic(auto, using(crate::proofs::Rows::no_index, crate::proofs::Rows::index_row, crate::proofs::Rows::changed_at))]
     pub fn split(&mut self, apartment: u32, object: u32, iface: u16) -> Split
         ensures answer { result ≡ split_of (public_of self.old.rows apartment object iface) }
         ensures rows { self.new.rows ≡ split_rows apartment object iface self.old.rows }

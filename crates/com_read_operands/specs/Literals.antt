@@ -23,7 +23,7 @@ abbrev pub as_guid : WordAt → Option Guid → Result Guid Fault
 as_guid w None = Err (fault_at 7 w)
 as_guid w (Some g) = Ok g
 
--- a place for a GUID: every other word is fault 7
+-- where a GUID stands: every other word is fault 7
 unfoldable pub guid_at : List WordAt → ℕ → Result Guid Fault
 guid_at line k = do
   w ← word_at line k

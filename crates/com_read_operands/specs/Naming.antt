@@ -24,7 +24,7 @@ abbrev pub is_name : List ℕ → Bool
 is_name [] = false
 is_name (b ∷ bs) = is_ascii_alphabetic b && nat_le (length bs) 31 && are_tail bs
 
--- the first place of a name in a list
+-- the first index of a name in a list
 abbrev pub position_of : List (List ℕ) → List ℕ → Option ℕ
 position_of [] name = None
 position_of (n ∷ ns) name = if bytes_eq n name then Some 0 else option_map (λ k. k + 1) (position_of ns name)
@@ -61,7 +61,7 @@ abbrev pub as_asked : WordAt → Option Guid → Result Asked Fault
 as_asked w None = Err (fault_at 7 w)
 as_asked w (Some g) = Ok (askeds.Guid g)
 
--- a class or interface as it is asked for: a declared name, as its place counted from a number, or a GUID
+-- a class or interface as it is asked for: a declared name, as its index counted from a number, or a GUID
 unfoldable pub asked_at : List (List ℕ) → ℕ → List WordAt → ℕ → Result Asked Fault
 asked_at names low line k = do
   w ← word_at line k

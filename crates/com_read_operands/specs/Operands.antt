@@ -1,4 +1,4 @@
--- Operands: what a word says by its form alone, and what a place takes.
+-- Operands: what a word says by its form alone, and what may stand where.
 use Rattle.std.specs.Prelude.{ℕ, ◌+◌, ◌-◌, ◌*◌, ◌<◌, List, [], ◌∷◌, length, Option, Some, None, Result, Ok}
 use Rattle.std.specs.Prelude.{Err, Bool, true, false, not, ◌&&◌, ◌||◌, nat_lt, ◌==◌, if◌then◌else◌}
 use Rattle.std.specs.Prelude.{option_and_then, slice_range, codes, ℤ}
@@ -107,7 +107,7 @@ IsOperand (operands.Link n) = n < 4
 IsOperand (operands.Buffer n) = n < 64
 IsOperand o = Unit {0}
 
--- the fault of an operand that a place does not take
+-- the fault of an operand that may not stand where it does
 abbrev pub unfit : Operand → ℕ
 unfit (operands.Wrong n) = n
 unfit operands.Null = 3

@@ -52,7 +52,7 @@ abbrev pub needed : List WordAt → ℕ → Option WordAt → Result WordAt Faul
 needed line k None = Err (missing_at (slice_get line (k - 1)))
 needed line k (Some w) = judged line k w w.sort
 
--- the word at a place of the line
+-- the word at an index of the line
 unfoldable pub word_at : List WordAt → ℕ → Result WordAt Fault
 word_at line k = needed line k (slice_get line k)
 
@@ -64,7 +64,7 @@ abbrev pub is_there : Option WordAt → Result Bool Fault
 is_there None = Ok false
 is_there (Some w) = is_word w w.sort
 
--- whether a word stands at a place where the line may end
+-- whether a word stands at an index where the line may end
 unfoldable pub stands_at : List WordAt → ℕ → Result Bool Fault
 stands_at line k = is_there (slice_get line k)
 
@@ -78,7 +78,7 @@ abbrev pub nothing : Option WordAt → Result (Unit {0}) Fault
 nothing None = Ok tt
 nothing (Some w) = left_over w w.sort
 
--- no word stands from this place on
+-- no word stands from this index on
 unfoldable pub end_at : List WordAt → ℕ → Result (Unit {0}) Fault
 end_at line k = nothing (slice_get line k)
 
@@ -100,7 +100,7 @@ abbrev pub within : ℕ → ℕ → WordAt → Option ℕ → Result ℕ Fault
 within low high w None = Err (fault_at 6 w)
 within low high w (Some n) = if nat_le low n && nat_le n high then Ok n else Err (fault_at 6 w)
 
--- a place for a number: every other word is fault 6
+-- where a number stands: every other word is fault 6
 unfoldable pub number_at : ℕ → ℕ → List WordAt → ℕ → Result ℕ Fault
 number_at low high line k = do
   w ← word_at line k

@@ -30,7 +30,7 @@ impl Fault {
     pub const MISSING: u8 = 4;
     /// A word where no further word can stand.
     pub const EXTRA: u8 = 5;
-    /// A word that is no number, or none of the place's range.
+    /// A word that is no number, or none of the range that is allowed there.
     pub const NUMBER: u8 = 6;
     /// A word that is no GUID.
     pub const GUID: u8 = 7;
@@ -38,7 +38,7 @@ impl Fault {
     pub const UNDECLARED: u8 = 8;
     /// A declaration that repeats one above.
     pub const REPEATED: u8 = 9;
-    /// An operand of another sort than the place takes.
+    /// An operand of another sort than may stand there.
     pub const UNFIT: u8 = 10;
     /// A section that is open at the text's end, or a skip past the end of its body or script.
     pub const UNENDED: u8 = 11;
@@ -60,7 +60,7 @@ impl Fault {
 /// Why a text gives no scenario.
 #[derive(Clone, Copy, Debug, PartialEq, Eq)]
 pub enum ScenarioError {
-    /// The first fault of the text by place, and the lowest number of those at one place.
+    /// The first fault of the text by position, and the lowest number of those at one position.
     Fault {
         /// What is wrong: 1 to 12, as the constants of `Fault` name them.
         number: u8,

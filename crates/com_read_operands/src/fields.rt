@@ -1,4 +1,4 @@
-//! The words of a line by their places.
+//! The words of a line by index.
 
 ghost use Rattle.std.specs.Prelude.{◌≡◌, ◌-◌, ◌≤◌, slice_get, IfOk};
 ghost use Rattle.com_read_operands.specs.Reading.{Gives, error_of, fault_at, missing_at, word_at, end_at};
@@ -31,10 +31,10 @@ fn character(word: &Word, column: u32) -> ScenarioError
 }
 
 /// The line ends where a word is needed: behind the word before.
-fn missing(line: &[Word], place: usize) -> ScenarioError
-    ensures { result ≡ error_of (missing_at (slice_get line.now (place - 1))) }
+fn missing(line: &[Word], index: usize) -> ScenarioError
+    ensures { result ≡ error_of (missing_at (slice_get line.now (index - 1))) }
 {
-    match line.get(place.saturating_sub(1)) {
+    match line.get(index.saturating_sub(1)) {
         None => ScenarioError::Fault {
             number: Fault::MISSING,
             line: 1,
@@ -48,30 +48,30 @@ fn missing(line: &[Word], place: usize) -> ScenarioError
     }
 }
 
-/// The word at a place of the line. A word with a byte outside the characters is fault 2 at that
+/// The word at an index of the line. A word with a byte outside the characters is fault 2 at that
 /// byte, and a literal that is not closed is fault 3; neither is judged otherwise. Where the line
 /// ends, fault 4 stands behind its last word.
 #[tactic(auto, unfolding(crate::specs::Reading::word_at))]
-pub fn word<'l, 'a>(line: &'l [Word<'a>], place: usize) -> Result<&'l Word<'a>, ScenarioError>
-    ensures { Gives (λ w. w.now) result (word_at line.now place) }
+pub fn word<'l, 'a>(line: &'l [Word<'a>], index: usize) -> Result<&'l Word<'a>, ScenarioError>
+    ensures { Gives (λ w. w.now) result (word_at line.now index) }
 {
-    match line.get(place) {
-        None => Err(missing(line, place)),
+    match line.get(index) {
+        None => Err(missing(line, index)),
         Some(word) => match word.sort() {
             Sort::Stray(column) => Err(character(word, column)),
-            Sort::Remark(_) => Err(missing(line, place)),
+            Sort::Remark(_) => Err(missing(line, index)),
             Sort::Unclosed => Err(fault(Fault::UNEXPECTED, word)),
             _ => Ok(word),
         },
     }
 }
 
-/// Whether a word stands at a place. A comment is none.
+/// Whether a word stands at an index. A comment is none.
 #[tactic(auto, unfolding(crate::specs::Reading::stands_at))]
-pub fn stands(line: &[Word], place: usize) -> Result<bool, ScenarioError>
-    ensures { Gives (λ b. b) result (stands_at line.now place) }
+pub fn stands(line: &[Word], index: usize) -> Result<bool, ScenarioError>
+    ensures { Gives (λ b. b) result (stands_at line.now index) }
 {
-    match line.get(place) {
+    match line.get(index) {
         None => Ok(false),
         Some(word) => match word.sort() {
             Sort::Remark(column) => Err(character(word, column)),
@@ -80,12 +80,12 @@ pub fn stands(line: &[Word], place: usize) -> Result<bool, ScenarioError>
     }
 }
 
-/// No word stands from this place on: one that does is fault 5.
+/// No word stands from this index on: one that does is fault 5.
 #[tactic(auto, unfolding(crate::specs::Reading::end_at))]
-pub fn end(line: &[Word], place: usize) -> Result<(), ScenarioError>
-    ensures { Gives (λ u. u) result (end_at line.now place) }
+pub fn end(line: &[Word], index: usize) -> Result<(), ScenarioError>
+    ensures { Gives (λ u. u) result (end_at line.now index) }
 {
-    match line.get(place) {
+    match line.get(index) {
         None => Ok(()),
         Some(word) => match word.sort() {
             Sort::Stray(column) | Sort::Remark(column) => Err(character(word, column)),
@@ -112,12 +112,12 @@ pub fn first<'l, 'a>(line: &'l [Word<'a>]) -> Result<&'l Word<'a>, ScenarioError
 
 /// A number in a range. Every other word is fault 6.
 #[tactic(auto, unfolding(crate::specs::Reading::number_at))]
-pub fn number(line: &[Word], place: usize, low: u64, high: u64) -> Result<u64, ScenarioError>
-    ensures value { Gives (λ n. n) result (number_at low high line.now place) }
+pub fn number(line: &[Word], index: usize, low: u64, high: u64) -> Result<u64, ScenarioError>
+    ensures value { Gives (λ n. n) result (number_at low high line.now index) }
     ensures within { IfOk result (λ n. n ≤ high) }
     ensures above { IfOk result (λ n. low ≤ n) }
 {
-    let word = word(line, place)?;
+    let word = word(line, index)?;
     match number_of(word.bytes) {
         Some(number) if low <= number && number <= high => Ok(number),
         _ => Err(fault(Fault::NUMBER, word)),

@@ -1,8 +1,8 @@
-//! What may stand at a place of a line of scenario text: numbers, operands, names and fixed words.
+//! What may stand in a line of scenario text: numbers, operands, names and fixed words.
 //!
-//! Each reader takes a line's words and a place among them, and answers what stands there or the
+//! Each reader takes a line's words and an index among them, and answers what stands there or the
 //! fault. Readers are called from left to right, so the first fault that is met is the first by
-//! place; a fault stands at the word that it speaks of, or behind the line's last word.
+//! position; a fault stands at the word that it speaks of, or behind the line's last word.
 #![tactic(auto)]
 
 mod faults;

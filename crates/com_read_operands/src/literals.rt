@@ -44,10 +44,10 @@ pub fn guid_of(bytes: &[u8]) -> Option<Guid>
 
 /// A GUID. Every other word is fault 7.
 #[tactic(auto, unfolding(crate::specs::Literals::guid_at))]
-pub fn guid(line: &[Word], place: usize) -> Result<Guid, ScenarioError>
-    ensures { Gives (λ g. g) result (guid_at line.now place) }
+pub fn guid(line: &[Word], index: usize) -> Result<Guid, ScenarioError>
+    ensures { Gives (λ g. g) result (guid_at line.now index) }
 {
-    let word = word(line, place)?;
+    let word = word(line, index)?;
     match guid_of(word.bytes) {
         Some(guid) => Ok(guid),
         None => Err(fault(Fault::GUID, word)),

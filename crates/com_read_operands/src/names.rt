@@ -40,7 +40,7 @@ pub fn is_name(bytes: &[u8]) -> bool
     }
 }
 
-/// The place of a name among those that were declared. A table of names has at most 64, so the
+/// The index of a name among those that were declared. A table of names has at most 64, so the
 /// search has a bound.
 pub fn position_of(names: &[ByteList], name: &[u8]) -> Option<usize>
     ensures value { result ≡ position_of names.now name.now }
@@ -54,24 +54,24 @@ pub fn position_of(names: &[ByteList], name: &[u8]) -> Option<usize>
     None
 }
 
-/// The number of a declared name: its place, where that is a number of 16 bits.
+/// The number of a declared name: its index, where that is a number of 16 bits.
 #[tactic(auto, unfolding(crate::specs::Naming::number_of_name))]
 pub fn number_of_name(names: &[ByteList], name: &[u8]) -> Option<u16>
     ensures value { result ≡ number_of_name names.now name.now }
     ensures within { IfSome result (λ n. n < length names.now) }
 {
     match position_of(names, name) {
-        Some(place) if place < 0x1_0000 => Some(place as u16),
+        Some(index) if index < 0x1_0000 => Some(index as u16),
         _ => None,
     }
 }
 
 /// A word of a name's form. Every other word is fault 3.
 #[tactic(auto, unfolding(crate::specs::Naming::name_at))]
-pub fn name<'l, 'a>(line: &'l [Word<'a>], place: usize) -> Result<&'l Word<'a>, ScenarioError>
-    ensures { Gives (λ w. w.now) result (name_at line.now place) }
+pub fn name<'l, 'a>(line: &'l [Word<'a>], index: usize) -> Result<&'l Word<'a>, ScenarioError>
+    ensures { Gives (λ w. w.now) result (name_at line.now index) }
 {
-    let word = word(line, place)?;
+    let word = word(line, index)?;
     if is_name(word.bytes) {
         Ok(word)
     } else {
@@ -79,39 +79,39 @@ pub fn name<'l, 'a>(line: &'l [Word<'a>], place: usize) -> Result<&'l Word<'a>, 
     }
 }
 
-/// A name that was declared above, as its place: fault 3 for a word that is no name, 8 for a name
+/// A name that was declared above, as its index: fault 3 for a word that is no name, 8 for a name
 /// that was not declared.
 #[tactic(auto, unfolding(crate::specs::Naming::declared_at))]
-pub fn declared(names: &[ByteList], line: &[Word], place: usize) -> Result<u16, ScenarioError>
-    ensures value { Gives (λ n. n) result (declared_at names.now line.now place) }
+pub fn declared(names: &[ByteList], line: &[Word], index: usize) -> Result<u16, ScenarioError>
+    ensures value { Gives (λ n. n) result (declared_at names.now line.now index) }
     ensures within { IfOk result (λ n. n < length names.now) }
 {
-    let word = name(line, place)?;
+    let word = name(line, index)?;
     match number_of_name(names, word.bytes) {
         Some(number) => Ok(number),
         None => Err(fault(Fault::UNDECLARED, word)),
     }
 }
 
-/// A class or interface as it is asked for: a declared name, as its place counted from `first`, or
+/// A class or interface as it is asked for: a declared name, as its index counted from `first`, or
 /// a GUID. A word that begins with `{` and is no GUID is fault 7.
 #[tactic(auto, unfolding(crate::specs::Naming::asked_at))]
 pub fn asked(
     names: &[ByteList],
     first: u32,
     line: &[Word],
-    place: usize,
+    index: usize,
 ) -> Result<Asked, ScenarioError>
     requires { first < 2 ^ 16 }
-    ensures { Gives (λ a. a) result (asked_at names.now first line.now place) }
+    ensures { Gives (λ a. a) result (asked_at names.now first line.now index) }
 {
-    let found = word(line, place)?;
+    let found = word(line, index)?;
     if found.bytes.first() == Some(&b'{') {
         return match guid_of(found.bytes) {
             Some(guid) => Ok(Asked::Guid(guid)),
             None => Err(fault(Fault::GUID, found)),
         };
     }
-    let number = declared(names, line, place)?;
+    let number = declared(names, line, index)?;
     Ok(Asked::Number(u32::from(number) + first))
 }

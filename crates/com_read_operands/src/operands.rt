@@ -14,7 +14,7 @@ use crate::faults::{Fault, ScenarioError};
 use crate::fields::{fault, stands, word};
 use crate::literals::{are_pairs, guid_of, text_of, unhex};
 use crate::numbers::signed_of;
-use com_base::{ByteList, Guid, HResult, MarshalMode, Mode, Value};
+use com_base::{ByteList, Guid, HResult, LITERAL_LIMIT, MarshalMode, Mode, Value};
 use com_body::{Code, Given, Op, Place};
 use com_text::{Sort, Word};
 use std::alloc::Global;
@@ -163,7 +163,7 @@ pub fn operand_of(word: &Word) -> Operand
     }
 }
 
-/// The fault of an operand that a place does not take.
+/// The fault of an operand that may not stand where it does.
 pub fn unfit(operand: Operand) -> u8
     ensures { result ≡ unfit operand }
 {
@@ -177,11 +177,11 @@ pub fn unfit(operand: Operand) -> u8
 /// A register's number, 0 to 15. An operand of another sort is fault 10, `null` fault 3, a word that is no
 /// operand the fault of its form (3, 6 or 7), and what `word` refuses has the fault that it has there.
 #[tactic(auto, unfolding(crate::specs::Operands::register_at))]
-pub fn register(line: &[Word], place: usize) -> Result<u8, ScenarioError>
-    ensures value { Gives (λ n. n) result (register_at line.now place) }
+pub fn register(line: &[Word], index: usize) -> Result<u8, ScenarioError>
+    ensures value { Gives (λ n. n) result (register_at line.now index) }
     ensures range { IfOk result (λ n. n < 16) }
 {
-    let word = word(line, place)?;
+    let word = word(line, index)?;
     match operand_of(word) {
         Operand::Register(number) => Ok(number),
         other => Err(fault(unfit(other), word)),
@@ -190,11 +190,11 @@ pub fn register(line: &[Word], place: usize) -> Result<u8, ScenarioError>
 
 /// A slot's number, 0 to 7. Faults are as at a register.
 #[tactic(auto, unfolding(crate::specs::Operands::slot_at))]
-pub fn slot(line: &[Word], place: usize) -> Result<u8, ScenarioError>
-    ensures value { Gives (λ n. n) result (slot_at line.now place) }
+pub fn slot(line: &[Word], index: usize) -> Result<u8, ScenarioError>
+    ensures value { Gives (λ n. n) result (slot_at line.now index) }
     ensures range { IfOk result (λ n. n < 8) }
 {
-    let word = word(line, place)?;
+    let word = word(line, index)?;
     match operand_of(word) {
         Operand::Slot(number) => Ok(number),
         other => Err(fault(unfit(other), word)),
@@ -204,11 +204,11 @@ pub fn slot(line: &[Word], place: usize) -> Result<u8, ScenarioError>
 /// A cell's number, 0 to 7, where `cells` allows one. Where it does not, a cell is fault 10, and faults are
 /// else as at a register.
 #[tactic(auto, unfolding(crate::specs::Operands::cell_at))]
-pub fn cell(cells: bool, line: &[Word], place: usize) -> Result<u8, ScenarioError>
-    ensures value { Gives (λ n. n) result (cell_at cells line.now place) }
+pub fn cell(cells: bool, line: &[Word], index: usize) -> Result<u8, ScenarioError>
+    ensures value { Gives (λ n. n) result (cell_at cells line.now index) }
     ensures range { IfOk result (λ n. n < 8) }
 {
-    let word = word(line, place)?;
+    let word = word(line, index)?;
     match operand_of(word) {
         Operand::Cell(number) if cells => Ok(number),
         other => Err(fault(unfit(other), word)),
@@ -217,11 +217,11 @@ pub fn cell(cells: bool, line: &[Word], place: usize) -> Result<u8, ScenarioErro
 
 /// A packet buffer's number, 0 to 63. Faults are as at a register.
 #[tactic(auto, unfolding(crate::specs::Operands::buffer_at))]
-pub fn buffer(line: &[Word], place: usize) -> Result<u8, ScenarioError>
-    ensures value { Gives (λ n. n) result (buffer_at line.now place) }
+pub fn buffer(line: &[Word], index: usize) -> Result<u8, ScenarioError>
+    ensures value { Gives (λ n. n) result (buffer_at line.now index) }
     ensures range { IfOk result (λ n. n < 64) }
 {
-    let word = word(line, place)?;
+    let word = word(line, index)?;
     match operand_of(word) {
         Operand::Buffer(number) => Ok(number),
         other => Err(fault(unfit(other), word)),
@@ -242,9 +242,6 @@ pub fn place(links: bool, line: &[Word], at: usize) -> Result<Place, ScenarioErr
         other => Err(fault(unfit(other), word)),
     }
 }
-
-/// A literal in quotation marks has at most this many bytes between them.
-const LITERAL_LIMIT: usize = 256;
 
 /// A text literal's value: at most 256 bytes, or fault 12.
 #[tactic(auto, unfolding(crate::specs::Operands::text_literal))]
@@ -295,11 +292,11 @@ pub fn literal(alloc: Global, word: &Word, operand: Operand) -> Result<Op, Scena
 
 /// A register or a literal, with the faults of `literal` and of `word`.
 #[tactic(auto, unfolding(crate::specs::Operands::op_at))]
-pub fn op(alloc: Global, line: &[Word], place: usize) -> Result<Op, ScenarioError>
-    ensures value { Gives (λ o. o) result (op_at line.now place) }
+pub fn op(alloc: Global, line: &[Word], index: usize) -> Result<Op, ScenarioError>
+    ensures value { Gives (λ o. o) result (op_at line.now index) }
     ensures range { IfOk result IsOp }
 {
-    let word = word(line, place)?;
+    let word = word(line, index)?;
     literal(alloc, word, operand_of(word))
 }
 
@@ -358,13 +355,13 @@ fn begins_hex(bytes: &[u8]) -> bool
 }
 
 /// The HRESULT of `leave`: `0x` and eight digits, a name, or a register. Another word that begins with `0x`
-/// is fault 3, though it would be a bad number, 6, in a place for an operand.
+/// is fault 3, though it would be a bad number, 6, where an operand stands.
 #[tactic(auto, unfolding(crate::specs::Operands::code_at))]
-pub fn code(line: &[Word], place: usize) -> Result<Code, ScenarioError>
-    ensures value { Gives (λ c. c) result (code_at line.now place) }
+pub fn code(line: &[Word], index: usize) -> Result<Code, ScenarioError>
+    ensures value { Gives (λ c. c) result (code_at line.now index) }
     ensures range { IfOk result IsCode }
 {
-    let word = word(line, place)?;
+    let word = word(line, index)?;
     if let Some(answer) = hresult_of(word.bytes) {
         return Ok(Code::Literal(answer));
     }
@@ -379,14 +376,14 @@ pub fn code(line: &[Word], place: usize) -> Result<Code, ScenarioError>
 
 /// The result of `leave`: none, a register, a literal or a slot, with the faults of `literal`.
 #[tactic(auto, unfolding(crate::specs::Operands::given_at))]
-pub fn given(alloc: Global, line: &[Word], place: usize) -> Result<Given, ScenarioError>
-    ensures value { Gives (λ g. g) result (given_at line.now place) }
+pub fn given(alloc: Global, line: &[Word], index: usize) -> Result<Given, ScenarioError>
+    ensures value { Gives (λ g. g) result (given_at line.now index) }
     ensures range { IfOk result IsGiven }
 {
-    if !stands(line, place)? {
+    if !stands(line, index)? {
         return Ok(Given::Nothing);
     }
-    let word = word(line, place)?;
+    let word = word(line, index)?;
     match operand_of(word) {
         Operand::Slot(number) => Ok(Given::Slot(number)),
         other => Ok(Given::Op(literal(alloc, word, other)?)),
@@ -395,10 +392,10 @@ pub fn given(alloc: Global, line: &[Word], place: usize) -> Result<Given, Scenar
 
 /// `sta` or `mta`. Every other word is fault 3.
 #[tactic(auto, unfolding(crate::specs::Operands::mode_at))]
-pub fn mode(line: &[Word], place: usize) -> Result<Mode, ScenarioError>
-    ensures { Gives (λ m. m) result (mode_at line.now place) }
+pub fn mode(line: &[Word], index: usize) -> Result<Mode, ScenarioError>
+    ensures { Gives (λ m. m) result (mode_at line.now index) }
 {
-    let word = word(line, place)?;
+    let word = word(line, index)?;
     if word.bytes == b"sta".as_slice() {
         Ok(Mode::Sta)
     } else if word.bytes == b"mta".as_slice() {
@@ -410,10 +407,10 @@ pub fn mode(line: &[Word], place: usize) -> Result<Mode, ScenarioError>
 
 /// `normal`, `strong` or `weak`. Every other word is fault 3.
 #[tactic(auto, unfolding(crate::specs::Operands::marshal_mode_at))]
-pub fn marshal_mode(line: &[Word], place: usize) -> Result<MarshalMode, ScenarioError>
-    ensures { Gives (λ m. m) result (marshal_mode_at line.now place) }
+pub fn marshal_mode(line: &[Word], index: usize) -> Result<MarshalMode, ScenarioError>
+    ensures { Gives (λ m. m) result (marshal_mode_at line.now index) }
 {
-    let word = word(line, place)?;
+    let word = word(line, index)?;
     if word.bytes == b"normal".as_slice() {
         Ok(MarshalMode::Normal)
     } else if word.bytes == b"strong".as_slice() {

@@ -25,7 +25,7 @@ use Rattle.com_read_statements.specs.declared.calls.Target.{Target}
 use Rattle.com_read_statements.specs.declared.calls.Target.TheVariants as targets
 use Rattle.com_read_statements.specs.declared.names.Names.{Names}
 
--- the place of the first dot
+-- the index of the first dot
 abbrev pub dot_of : List ℕ → Option ℕ
 dot_of [] = None
 dot_of (b ∷ bs) = if b == 46 then Some 0 else option_map (λ k. k + 1) (dot_of bs)
@@ -127,7 +127,7 @@ argument_at kind line k = do
   w ← word_at line k
   as_argument kind w (operand_of w)
 
--- the arguments so far, and those for the parameters that are left, from a place on
+-- the arguments so far, and those for the parameters that are left, from an index on
 abbrev pub arguments_on : List Arg → List Kind → List WordAt → ℕ → Result (List Arg) Fault
 arguments_on done [] line k = Ok done
 arguments_on done (p ∷ ps) line k =

@@ -8,7 +8,7 @@ ghost use Rattle.com_read_statements.specs.Statements.{object_of, raw_at};
 use crate::calls::call;
 use crate::keywords::{ObjectWord, Program};
 use crate::names::Names;
-use com_base::ByteList;
+use com_base::{ByteList, RAW_LIMIT};
 use com_body::Stmt;
 use com_read_operands::{
     Fault, ScenarioError, are_pairs, asked, buffer, end, fault, marshal_mode, place, slot, unhex,
@@ -17,16 +17,13 @@ use com_read_operands::{
 use com_text::Word;
 use std::alloc::Global;
 
-/// The bytes of `raw` are at most this many.
-const RAW_LIMIT: usize = 4096;
-
 /// The bytes of `raw`, in pairs of hexadecimal digits: other words are fault 3, and more than 4,096
 /// bytes are fault 12.
 #[tactic(auto, unfolding(crate::specs::Statements::raw_at))]
-fn raw_bytes(alloc: Global, line: &[Word], place: usize) -> Result<ByteList, ScenarioError>
-    ensures { Gives (λ b. b) result (raw_at line.now place) }
+fn raw_bytes(alloc: Global, line: &[Word], index: usize) -> Result<ByteList, ScenarioError>
+    ensures { Gives (λ b. b) result (raw_at line.now index) }
 {
-    let word = word(line, place)?;
+    let word = word(line, index)?;
     if !are_pairs(word.bytes) {
         return Err(fault(Fault::UNEXPECTED, word));
     }

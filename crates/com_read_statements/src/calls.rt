@@ -38,7 +38,7 @@ pub enum Target {
     Numbered(MethodNumber),
 }
 
-/// The place of the first dot.
+/// The index of the first dot.
 fn dot_of(bytes: &[u8]) -> Option<usize>
     ensures value { result ≡ dot_of bytes.now }
     ensures within { IfSome result (λ n. n < length bytes.now) }
@@ -63,10 +63,10 @@ fn method_number(tables: &[Interface], iface: u16, name: &[u8]) -> Option<u16>
 /// The method of a call: an interface's name, a dot, and a method's name or `#` and a number of 16
 /// bits. A word of another form is fault 3, a wrong number 6, and a name that is not declared 8.
 #[tactic(auto, unfolding(crate::specs::Calls::target_at))]
-pub fn target_at(names: &Names, line: &[Word], place: usize) -> Result<Target, ScenarioError>
-    ensures { Gives (λ t. t) result (target_at names.now line.now place) }
+pub fn target_at(names: &Names, line: &[Word], index: usize) -> Result<Target, ScenarioError>
+    ensures { Gives (λ t. t) result (target_at names.now line.now index) }
 {
-    let word = word(line, place)?;
+    let word = word(line, index)?;
     let Some(dot) = dot_of(word.bytes) else {
         return Err(fault(Fault::UNEXPECTED, word));
     };
@@ -106,10 +106,10 @@ fn named(
 /// The method that a body is for: an interface's name, a dot and a method's name. A word of another
 /// form is fault 3, and a name that is not declared is fault 8.
 #[tactic(auto, unfolding(crate::specs::Calls::method_at))]
-pub fn method_at(names: &Names, line: &[Word], place: usize) -> Result<MethodNumber, ScenarioError>
-    ensures { Gives (λ m. m) result (method_at names.now line.now place) }
+pub fn method_at(names: &Names, line: &[Word], index: usize) -> Result<MethodNumber, ScenarioError>
+    ensures { Gives (λ m. m) result (method_at names.now line.now index) }
 {
-    let word = word(line, place)?;
+    let word = word(line, index)?;
     let Some(dot) = dot_of(word.bytes) else {
         return Err(fault(Fault::UNEXPECTED, word));
     };
@@ -146,12 +146,12 @@ pub fn argument(
     alloc: Global,
     kind: Kind,
     line: &[Word],
-    place: usize,
+    index: usize,
 ) -> Result<Arg, ScenarioError>
-    ensures value { Gives (λ a. a) result (argument_at kind line.now place) }
+    ensures value { Gives (λ a. a) result (argument_at kind line.now index) }
     ensures range { IfOk result IsArg }
 {
-    let word = word(line, place)?;
+    let word = word(line, index)?;
     let operand = operand_of(word);
     match kind {
         Kind::Ref(_) => match operand {
@@ -167,7 +167,7 @@ pub fn argument(
     }
 }
 
-/// The arguments for a method's parameters, from a place on.
+/// The arguments for a method's parameters, from the fourth word of the line on.
 pub fn arguments(alloc: Global, params: &[Kind], line: &[Word]) -> Result<Rows<Arg>, ScenarioError>
     ensures value { Gives (λ a. a) result (arguments_on [] params.now line.now 3) }
     ensures range { IfOk result (λ r. All IsArg r) }
@@ -205,22 +205,22 @@ fn landing(kind: Option<Kind>, word: &Word, operand: Operand) -> Result<Destinat
 pub fn destination(
     kind: Option<Kind>,
     line: &[Word],
-    place: usize,
+    index: usize,
 ) -> Result<Destination, ScenarioError>
-    requires { place < 2 ^ 63 }
-    ensures value { Gives (λ d. d) result (destination_at kind line.now place) }
+    requires { index < 2 ^ 63 }
+    ensures value { Gives (λ d. d) result (destination_at kind line.now index) }
     ensures range { IfOk result IsDestination }
 {
-    if !stands(line, place)? {
+    if !stands(line, index)? {
         return Ok(Destination::Nowhere);
     }
-    let arrow = word(line, place)?;
+    let arrow = word(line, index)?;
     if arrow.bytes != b"->".as_slice() {
         return Err(fault(Fault::UNEXPECTED, arrow));
     }
-    let word = word(line, place + 1)?;
+    let word = word(line, index + 1)?;
     let destination = landing(kind, word, operand_of(word))?;
-    end(line, place + 2)?;
+    end(line, index + 2)?;
     Ok(destination)
 }
 

@@ -17,14 +17,14 @@ use std::alloc::Global;
 
 /// A filter's number from 1, or `none`.
 #[tactic(auto, unfolding(crate::specs::Statements::filter_at))]
-fn filter(filters: &[ByteList], line: &[Word], place: usize) -> Result<Option<u32>, ScenarioError>
-    ensures { Gives (λ f. f) result (filter_at filters.now line.now place) }
+fn filter(filters: &[ByteList], line: &[Word], index: usize) -> Result<Option<u32>, ScenarioError>
+    ensures { Gives (λ f. f) result (filter_at filters.now line.now index) }
 {
-    let word = name(line, place)?;
+    let word = name(line, index)?;
     if word.bytes == b"none".as_slice() {
         return Ok(None);
     }
-    let number = declared(filters, line, place)?;
+    let number = declared(filters, line, index)?;
     Ok(Some(u32::from(number) + 1))
 }
 

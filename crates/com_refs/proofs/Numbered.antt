@@ -179,17 +179,17 @@ cookies_sum live o m (x ∷ gs) h =
 
 first-tail : (c : CounterRow) (cs : List CounterRow) → counters.EachFirst (c ∷ cs) → counters.EachFirst cs
 first-tail c cs f p h =
-    let later : counters.place_of (c ∷ cs) (counters.row_at cs p).object (counters.row_at cs p).iface ≡ suc p = f (suc p) (omega (arith, h)) in
+    let later : counters.index_of (c ∷ cs) (counters.row_at cs p).object (counters.row_at cs p).iface ≡ suc p = f (suc p) (omega (arith, h)) in
     grind (arith, common_steps, later)
 
 first-alone : (c : CounterRow) (cs : List CounterRow) (o i : ℕ) → counters.EachFirst (c ∷ cs) → counters.is_for o i c ≡ true → counters.has_counter cs o i ≡ false
 first-alone c cs o i f y = false_from_ne_true _ (λ e.
-    let inside : counters.place_of cs o i < length cs = place_has cs o i e in
-    let at : counters.row_at cs (counters.place_of cs o i) ≡ counters.counter_of cs o i = place_row cs o i (counters.no_counter 0 0) inside in
+    let inside : counters.index_of cs o i < length cs = place_has cs o i e in
+    let at : counters.row_at cs (counters.index_of cs o i) ≡ counters.counter_of cs o i = place_row cs o i (counters.no_counter 0 0) inside in
     let keys = counter_keys cs o i in
-    let later : counters.place_of (c ∷ cs) (counters.row_at cs (counters.place_of cs o i)).object (counters.row_at cs (counters.place_of cs o i)).iface ≡ suc (counters.place_of cs o i) = f (suc (counters.place_of cs o i)) (omega (arith, inside)) in
-    let here : counters.place_of (c ∷ cs) o i ≡ suc (counters.place_of cs o i) = rw (at, keys.0, keys.1) at later in
-    let first : counters.place_of (c ∷ cs) o i ≡ 0 = grind (arith, common_steps, y) in
+    let later : counters.index_of (c ∷ cs) (counters.row_at cs (counters.index_of cs o i)).object (counters.row_at cs (counters.index_of cs o i)).iface ≡ suc (counters.index_of cs o i) = f (suc (counters.index_of cs o i)) (omega (arith, inside)) in
+    let here : counters.index_of (c ∷ cs) o i ≡ suc (counters.index_of cs o i) = rw (at, keys.0, keys.1) at later in
+    let first : counters.index_of (c ∷ cs) o i ≡ 0 = grind (arith, common_steps, y) in
     omega (arith, here, first))
 
 no-counter : (cs : List CounterRow) (o i : ℕ) → counters.has_counter cs o i ≡ false → (counters.counter_of cs o i).count ≡ 0

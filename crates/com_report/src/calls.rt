@@ -20,7 +20,6 @@ pub fn set_filter(
 {
     text.push(b" setfilter ")?;
     push_filter(text, filter)?;
-    text.push(b" ")?;
     text.hresult(version, hr)
 }
 
@@ -41,7 +40,6 @@ pub fn post(text: &mut Text, version: u8, lane: i64, word: i64, hr: HResult) -> 
 {
     text.signed_after(b" post ", lane)?;
     text.signed_after(b" ", word)?;
-    text.push(b" ")?;
     text.hresult(version, hr)
 }
 
@@ -51,7 +49,6 @@ pub fn quit(text: &mut Text, version: u8, lane: i64, hr: HResult) -> Result<(), 
     ensures ok { OnOk result (text.new.text ≡ deed_line version text.old.text (Deed.Quit lane hr)) }
 {
     text.signed_after(b" quit ", lane)?;
-    text.push(b" ")?;
     text.hresult(version, hr)
 }
 
@@ -130,7 +127,6 @@ pub fn refuse(text: &mut Text, version: u8, call: u32, hr: HResult) -> Result<()
     ensures ok { OnOk result (text.new.text ≡ deed_line version text.old.text (Deed.Refuse call hr)) }
 {
     text.numbered(b" refuse c", call as u64)?;
-    text.push(b" ")?;
     text.hresult(version, hr)
 }
 
@@ -182,7 +178,6 @@ pub fn leave(
         deed_line version text.old.text (Deed.Leave call hr value.now bytes.now)) }
 {
     text.numbered(b" leave c", call as u64)?;
-    text.push(b" ")?;
     text.hresult(version, hr)?;
     text.push(b" (")?;
     one_value(text, value)?;
@@ -211,7 +206,6 @@ pub fn back(
     ensures ok { OnOk result (text.new.text ≡ deed_line version text.old.text (Deed.Back call hr value.now)) }
 {
     text.numbered(b" back c", call as u64)?;
-    text.push(b" ")?;
     text.hresult(version, hr)?;
     text.push(b" (")?;
     one_value(text, value)?;

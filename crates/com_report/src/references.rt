@@ -15,7 +15,6 @@ pub fn init(text: &mut Text, version: u8, mode: Mode, home: u32, hr: HResult) ->
     text.push(b" init ")?;
     push_mode(text, mode)?;
     text.numbered(b" a", home as u64)?;
-    text.push(b" ")?;
     text.hresult(version, hr)
 }
 
@@ -61,7 +60,6 @@ pub fn made(
     text.asked(b"C", class)?;
     text.push(b" ")?;
     text.asked(b"I", iface)?;
-    text.push(b" ")?;
     text.hresult(version, hr)
 }
 
@@ -81,7 +79,6 @@ pub fn query(
     text.named(b"o", object)?;
     text.push(b" ")?;
     text.asked(b"I", iface)?;
-    text.push(b" ")?;
     text.hresult(version, hr)
 }
 
@@ -92,7 +89,6 @@ pub fn copy(text: &mut Text, version: u8, held: Option<RefValue>) -> Result<(), 
 {
     text.push(b" copy ")?;
     text.held(held)?;
-    text.push(b" ")?;
     text.hresult(version, HResult::S_OK)
 }
 
@@ -127,7 +123,6 @@ pub fn marshal(
     text.push(b" ")?;
     text.held(held)?;
     text.numbered(b" ", refs as u64)?;
-    text.push(b" ")?;
     text.hresult(version, hr)?;
     text.push(b" ")?;
     text.bytes(bytes)
@@ -162,7 +157,6 @@ pub fn unmarshal(
     text.push(b" ")?;
     text.held(held)?;
     text.numbered(b" ", refs as u64)?;
-    text.push(b" ")?;
     text.hresult(version, hr)
 }
 
@@ -178,7 +172,6 @@ pub fn drop_packet(
 {
     text.push(b" drop ")?;
     text.named(b"pk", packet)?;
-    text.push(b" ")?;
     text.hresult(version, hr)
 }
 
@@ -207,7 +200,6 @@ pub fn register(
     text.named(b"g", cookie)?;
     text.push(b" ")?;
     text.held(held)?;
-    text.push(b" ")?;
     text.hresult(version, hr)
 }
 
@@ -228,7 +220,6 @@ pub fn get(
     text.push(b" ")?;
     text.held(held)?;
     text.numbered(b" ", refs as u64)?;
-    text.push(b" ")?;
     text.hresult(version, hr)
 }
 
@@ -238,7 +229,6 @@ pub fn revoke(text: &mut Text, version: u8, cookie: i64, hr: HResult) -> Result<
     ensures ok { OnOk result (text.new.text ≡ deed_line version text.old.text (Deed.Revoke cookie hr)) }
 {
     text.signed_after(b" revoke ", cookie)?;
-    text.push(b" ")?;
     text.hresult(version, hr)
 }
 
@@ -254,6 +244,5 @@ pub fn disconnect(
 {
     text.push(b" disconnect ")?;
     text.named(b"o", object)?;
-    text.push(b" ")?;
     text.hresult(version, hr)
 }

@@ -1,9 +1,9 @@
 //! What a line is written with: the text that grows, and the words that stand in many lines.
 ghost use Rattle.std.specs.Prelude.{◌≡◌, ◌++◌, ◌+◌, ℕ, [], ◌∷◌, ◌<◌, ◌≤◌, ◌/◌, ◌%◌, OnOk, decimal, codes};
-ghost use Rattle.std.specs.Prelude.{length, drop, slice_index};
+ghost use Rattle.std.specs.Prelude.{length, drop};
 ghost use Rattle.std.specs.Fmt.{signed_decimal};
-ghost use Rattle.hex.specs.Hex.{encode_lower, upper_digits};
-ghost use Rattle.com_model.specs.Text.{eight_digits, hresult_text, named, held_text, asked_text, bytes_text};
+ghost use Rattle.hex.specs.Hex.{encode_lower};
+ghost use Rattle.com_model.specs.Text.{hresult_text, named, held_text, asked_text, bytes_text};
 
 use com_base::{ByteList, HResult, Memory, RefValue};
 use com_body::Asked;
@@ -144,34 +144,19 @@ impl Text {
         }
     }
 
-    /// Appends eight upper-case hexadecimal digits.
-    fn eight_digits(&mut self, number: u32) -> Result<(), Memory>
-        ensures front { self.new.front ≡ self.old.front }
-        ensures ok { OnOk result (self.new.text ≡ self.old.text ++ eight_digits number) }
-    {
-        self.push(&[
-            upper_digit(number / 0x1000_0000 % 16),
-            upper_digit(number / 0x100_0000 % 16),
-            upper_digit(number / 0x10_0000 % 16),
-            upper_digit(number / 0x1_0000 % 16),
-            upper_digit(number / 0x1000 % 16),
-            upper_digit(number / 0x100 % 16),
-            upper_digit(number / 0x10 % 16),
-            upper_digit(number % 16),
-        ])
-    }
-
-    /// Appends an HRESULT: in version 2 its digits, otherwise its name, or its digits where it has none.
+    /// Appends an HRESULT behind a space: in version 2 its digits, otherwise its name, or its digits where it
+    /// has none.
     pub fn hresult(&mut self, version: u8, hr: HResult) -> Result<(), Memory>
         ensures front { self.new.front ≡ self.old.front }
-        ensures ok { OnOk result (self.new.text ≡ self.old.text ++ hresult_text version hr) }
+        ensures ok { OnOk result (self.new.text ≡ self.old.text ++ codes " " ++ hresult_text version hr) }
     {
+        self.push(b" ")?;
         if version == 2 {
-            return self.eight_digits(hr.0);
+            return self.push(&hr.digits());
         }
         match hr.name() {
             Some(name) => self.push(name.as_bytes()),
-            None => self.eight_digits(hr.0),
+            None => self.push(&hr.digits()),
         }
     }
 
@@ -240,12 +225,4 @@ fn lane_word(bytes: &mut [u8], at: usize)
 {
     bytes[at] = b' ';
     bytes[at + 1] = b'L';
-}
-
-/// The upper-case hexadecimal digit of a number below 16.
-fn upper_digit(number: u32) -> u8
-    requires { number < 16 }
-    ensures { result ≡ slice_index upper_digits number }
-{
-    b"0123456789ABCDEF"[number as usize]
 }

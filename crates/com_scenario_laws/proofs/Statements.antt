@@ -1,4 +1,4 @@
--- Every statement that is read fits its place.
+-- Every statement that is read fits its context.
 use Rattle.std.proofs.Common.{◌≡◌, ℕ, ◌+◌, ◌≤◌, true, not, nat_lt, List, length, Option, Some, None, All, refl, ◌∙◌, arith}
 use Rattle.std.specs.Prelude.{bytes_eq, codes}
 use Rattle.std.proofs.lemmas.Bool.{ltb-false, not-true}

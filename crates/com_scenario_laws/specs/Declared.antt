@@ -8,7 +8,7 @@ use Rattle.com_read_statements.specs.declared.keywords.Program.{Program}
 use Rattle.com_read_statements.specs.declared.names.Names.{Names}
 use Rattle.com_read_statements.specs.Keywords.{has_cells, has_links}
 
--- The names are those of a scenario's interfaces, classes and filters, and the place is that of a body or
+-- The names are those of a scenario's interfaces, classes and filters, and the context is that of a body or
 -- script.
 pub record Declares (s : Scenario) (x : Context) (p : Program) (names : Names) : Type 0 where
   pub tables : names.tables ≡ s.classes.interfaces
@@ -18,7 +18,7 @@ pub record Declares (s : Scenario) (x : Context) (p : Program) (names : Names) :
   pub body : x.body ≡ has_cells p
   pub links : x.links ≡ has_links p
 
--- A statement of the scenario at a place, each number of it in its range.
+-- A statement of the scenario in a context, each number of it in its range.
 pub record Fits (s : Scenario) (x : Context) (st : Stmt) : Type 0 where
   pub in_range : IsInRange st
   pub stated : IsStatement s x st

@@ -19,7 +19,7 @@ pub fn words_are_formed()
     ensures { (text : List ℕ) → All IsLine (lines_of text) }
 {}
 
-/// A statement that is read from a line of such words is in its ranges and fits its place: it names
+/// A statement that is read from a line of such words is in its ranges and fits its context: it names
 /// only classes, interfaces, methods and filters that the names above the line declare, a call has
 /// the arguments and the destination of its method, and cells, links and the statements of bodies
 /// and scripts stand only where they may.

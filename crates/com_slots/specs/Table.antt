@@ -23,7 +23,7 @@ module _ {T : Type 0} where
   -- the value that these entries hold under a number
   abbrev pub held_in : List (Option T) → ℕ → Option T
   held_in entries zero = None
-  held_in entries (suc place) = slice_index_or entries place None
+  held_in entries (suc index) = slice_index_or entries index None
 
   -- the value that a number holds
   abbrev pub held : Table T → ℕ → Option T
@@ -32,7 +32,7 @@ module _ {T : Type 0} where
   -- the entries once the number has this, or nothing; a number that was never given changes nothing
   abbrev pub with_entry : List (Option T) → ℕ → Option T → List (Option T)
   with_entry entries zero entry = entries
-  with_entry entries (suc place) entry = slice_set entries place entry
+  with_entry entries (suc index) entry = slice_set entries index entry
 
   -- the table after a write through `get_mut(number)`, at a number from 1 on
   abbrev pub with_value : Table T → ℕ → T → Table T

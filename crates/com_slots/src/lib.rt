@@ -111,8 +111,8 @@ impl<T> Slots<T> {
     pub fn get(&self, number: u32) -> Option<&T>
         ensures { option_copied result ≡ held self.now number }
     {
-        let place = number.checked_sub(1)?;
-        self.entries.get(place as usize)?.as_ref()
+        let index = number.checked_sub(1)?;
+        self.entries.get(index as usize)?.as_ref()
     }
 
     /// The value under a number, to be changed. `None` exactly where the number holds none.
@@ -120,8 +120,8 @@ impl<T> Slots<T> {
         ensures* writes_back { sem 𝓛 (lends_value T.row self.entry number result) }
         ensures value { option_copied_mut result ≡ held self.old number }
     {
-        let place = number.checked_sub(1)?;
-        self.entries.get_mut(place as usize)?.as_mut()
+        let index = number.checked_sub(1)?;
+        self.entries.get_mut(index as usize)?.as_mut()
     }
 
     /// Takes the value from under a number, which is not used again. `None` exactly where the number
@@ -132,8 +132,8 @@ impl<T> Slots<T> {
         ensures limit { self.new.limit ≡ self.old.limit }
         ensures spare { self.new.spare ≡ self.old.spare }
     {
-        let place = number.checked_sub(1)?;
-        self.entries.get_mut(place as usize)?.take()
+        let index = number.checked_sub(1)?;
+        self.entries.get_mut(index as usize)?.take()
     }
 }
 

@@ -13,7 +13,7 @@ use Rattle.com_read_operands.specs.Literals.{guid_at, guid_of}
 use Rattle.com_source_text.specs.declared.heads.Cut.{Cut}
 use Rattle.com_source_text.specs.declared.heads.Seen.{Seen}
 
--- The word at this place is the text.
+-- The word at this index is the text.
 abbrev pub is_text : Option WordAt → List ℕ → Bool
 is_text None text = false
 is_text (Some w) text = bytes_eq w.bytes text

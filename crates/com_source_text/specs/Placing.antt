@@ -30,8 +30,8 @@ word_under column = if nat_lt column 7 then 0 else if column == 7 then 1 else 2
 abbrev pub is_opening : Seen → (line : ℕ) → Bool
 is_opening seen line = if is_taken seen then false else if seen.source then false else nat_le line 4
 
-abbrev pub place_in : Seen → List WordAt → Fault → Fault
-place_in seen line f =
+abbrev pub position_in : Seen → List WordAt → Fault → Fault
+position_in seen line f =
     fault_in f.number (slice_get line (if is_opening seen f.line then 0 else word_under f.column))
 
 -- The fault of a source line itself: 9 where the name or the IID of its interface is declared already.
@@ -42,18 +42,18 @@ cut_fault (Some cut) = Some cut.fault
 abbrev pub own_fault : Seen → List WordAt → Option Fault
 own_fault seen line = if is_taken seen then Some (fault_in 9 (slice_get line 0)) else cut_fault (cut_of line)
 
-abbrev pub is_same_place : Fault → Fault → Bool
-is_same_place f g = (f.line == g.line) && (f.column == g.column)
+abbrev pub is_same_position : Fault → Fault → Bool
+is_same_position f g = (f.line == g.line) && (f.column == g.column)
 
--- A class whose words end too early is at fault where the source line is, and of two faults at one place the
--- lower number is reported.
+-- A class whose words end too early is at fault where the source line is, and of two faults at one position
+-- the lower number is reported.
 abbrev pub first_of : Option Fault → Fault → Fault
 first_of None f = f
 first_of (Some own) f =
-    if f.number == 4 then own else if is_same_place own f && nat_lt own.number f.number then own else f
+    if f.number == 4 then own else if is_same_position own f && nat_lt own.number f.number then own else f
 
 abbrev pub source_fault : Seen → List WordAt → Fault → Fault
-source_fault seen line f = first_of (own_fault seen line) (place_in seen line f)
+source_fault seen line f = first_of (own_fault seen line) (position_in seen line f)
 
 -- A fault in a line, counted from this one on, or in a later line, counted from the next one on.
 abbrev pub within : (size : ℕ) → Fault → Fault → Found

@@ -30,11 +30,11 @@ pub struct Seen {
     pub point: bool,
 }
 
-/// Whether the word at a place is a text.
-pub(crate) fn is_text(line: &[Word], place: usize, text: &[u8]) -> bool
-    ensures { result ≡ is_text (slice_get line.now place) text.now }
+/// Whether the word at an index is a text.
+pub(crate) fn is_text(line: &[Word], index: usize, text: &[u8]) -> bool
+    ensures { result ≡ is_text (slice_get line.now index) text.now }
 {
-    match line.get(place) {
+    match line.get(index) {
         None => false,
         Some(word) => word.bytes == text,
     }
@@ -49,10 +49,10 @@ pub(crate) fn is_source_line(line: &[Word]) -> bool
 
 /// The model of a source: `none` or `Apartment`.
 #[tactic(auto, unfolding(crate::specs::Heads::model_at))]
-fn model(line: &[Word], place: usize) -> Result<bool, ScenarioError>
-    ensures { Gives (λ b. b) result (model_at line.now place) }
+fn model(line: &[Word], index: usize) -> Result<bool, ScenarioError>
+    ensures { Gives (λ b. b) result (model_at line.now index) }
 {
-    let word = word(line, place)?;
+    let word = word(line, index)?;
     if word.bytes == b"none".as_slice() || word.bytes == b"Apartment".as_slice() {
         return Ok(true);
     }
@@ -127,11 +127,11 @@ fn declares_point(line: &[Word]) -> bool
     is_text(line, 0, b"interface") && (is_text(line, 1, b"IPoint") || is_point_guid(line, 2))
 }
 
-/// Whether the word at a place is the IID of a source's interface.
-fn is_point_guid(line: &[Word], place: usize) -> bool
-    ensures { result ≡ is_point_guid (slice_get line.now place) }
+/// Whether the word at an index is the IID of a source's interface.
+fn is_point_guid(line: &[Word], index: usize) -> bool
+    ensures { result ≡ is_point_guid (slice_get line.now index) }
 {
-    match line.get(place) {
+    match line.get(index) {
         None => false,
         Some(word) => is_point_iid(guid_of(word.bytes)),
     }

@@ -2,9 +2,9 @@
 
 ghost use Rattle.std.specs.Prelude.{◌≡◌, IfOk};
 ghost use Rattle.com_source_text.specs.Heads.{cut_of as cut_in};
-ghost use Rattle.com_source_text.specs.Placing.{lines_in, fault_in, word_under, is_opening, place_in};
-ghost use Rattle.com_source_text.specs.Placing.{cut_fault, own_fault, is_same_place, first_of, source_fault};
-ghost use Rattle.com_source_text.specs.Placing.{within, found_in, placed};
+ghost use Rattle.com_source_text.specs.Placing.{lines_in, fault_in, word_under, is_opening, position_in};
+ghost use Rattle.com_source_text.specs.Placing.{cut_fault, own_fault, is_same_position, first_of};
+ghost use Rattle.com_source_text.specs.Placing.{source_fault, within, found_in, placed};
 ghost use Rattle.std.specs.Prelude.{slice_get};
 
 use crate::heads::{Seen, cut_of, is_source_line};
@@ -17,7 +17,7 @@ use std::alloc::{AllocError, Global};
 /// Where a fault is found, line by line.
 #[derive(Clone, Copy, Debug, PartialEq, Eq)]
 pub enum Found {
-    /// In this line, with its place in the text.
+    /// In this line, with its position in the text.
     Here(Fault),
     /// In a later one, with its line counted from the next one on.
     Later(Fault),
@@ -30,11 +30,11 @@ fn lines_in(text: &[u8]) -> usize
     text.iter().filter(|b| **b == 10).count()
 }
 
-/// A fault at the word at a place.
-fn fault_in(number: u8, line: &[Word], place: usize) -> Fault
-    ensures { result ≡ fault_in number (slice_get line.now place) }
+/// A fault at the word at an index.
+fn fault_in(number: u8, line: &[Word], index: usize) -> Fault
+    ensures { result ≡ fault_in number (slice_get line.now index) }
 {
-    match line.get(place) {
+    match line.get(index) {
         None => Fault {
             number,
             line: 1,
@@ -69,15 +69,15 @@ fn is_opening(seen: Seen, line: u32) -> bool
 }
 
 /// A fault of what a source line stands for, at a word of the line.
-fn place_in(seen: Seen, line: &[Word], fault: Fault) -> Fault
-    ensures { result ≡ place_in seen line.now fault }
+fn position_in(seen: Seen, line: &[Word], fault: Fault) -> Fault
+    ensures { result ≡ position_in seen line.now fault }
 {
-    let place = if is_opening(seen, fault.line) {
+    let index = if is_opening(seen, fault.line) {
         0
     } else {
         word_under(fault.column)
     };
-    fault_in(fault.number, line, place)
+    fault_in(fault.number, line, index)
 }
 
 /// The fault of a source line itself.
@@ -119,7 +119,7 @@ fn source_fault(seen: Seen, line: &[Word], fault: Fault) -> Result<Fault, Memory
     ensures { IfOk result (λ f. f ≡ source_fault seen line.now fault) }
 {
     let own = own_fault(seen, line)?;
-    Ok(first_of(own, place_in(seen, line, fault)))
+    Ok(first_of(own, position_in(seen, line, fault)))
 }
 
 /// A fault in a line of so many written ones, or in a later one.
@@ -160,9 +160,9 @@ fn found_in(
     Ok(within(1, here, fault))
 }
 
-/// Where a fault of the written text stands in the text itself: the first by place, and of two at one place
-/// the one with the lower number. Memory comes where memory is short, and for a text of nearly 2^32 bytes or
-/// more.
+/// Where a fault of the written text stands in the text itself: the first by position, and of two at one
+/// position the one with the lower number. Memory comes where memory is short, and for a text of nearly 2^32
+/// bytes or more.
 #[tactic(auto, unfolding(crate::specs::Placing::placed, com_text::specs::Scanning::lines_of))]
 pub fn placed(alloc: Global, text: &[u8], fault: Fault) -> Result<Fault, Memory>
     ensures { IfOk result (λ f. f ≡ placed text.now fault) }

@@ -21,9 +21,9 @@ counter_of [] object iface = no_counter object iface
 counter_of (row ∷ rows) object iface = if is_for object iface row then row else counter_of rows object iface
 
 -- where that row stands, or the number of rows
-abbrev pub place_of : List CounterRow → ℕ → ℕ → ℕ
-place_of [] object iface = 0
-place_of (row ∷ rows) object iface = if is_for object iface row then 0 else place_of rows object iface + 1
+abbrev pub index_of : List CounterRow → ℕ → ℕ → ℕ
+index_of [] object iface = 0
+index_of (row ∷ rows) object iface = if is_for object iface row then 0 else index_of rows object iface + 1
 
 -- that row changed, if it is there
 abbrev pub changed_counter : (CounterRow → CounterRow) → ℕ → ℕ → List CounterRow → List CounterRow
@@ -59,12 +59,12 @@ sum_of rows object = sum_by (count_for object) rows
 abbrev pub objects_of : List CounterRow → List ℕ
 objects_of rows = map (λ row. row.object) rows
 
--- the row at a place
+-- the row at an index
 abbrev pub row_at : List CounterRow → ℕ → CounterRow
-row_at rows place = slice_index_or rows place (no_counter 0 0)
+row_at rows index = slice_index_or rows index (no_counter 0 0)
 
 -- no two rows are of the same object and interface: each is the first of its own
 abbrev pub EachFirst : List CounterRow → Type 0
 EachFirst rows =
-    (place : ℕ) → place < length rows → place_of rows (row_at rows place).object (row_at rows place).iface
-    ≡ place
+    (index : ℕ) → index < length rows → index_of rows (row_at rows index).object (row_at rows index).iface
+    ≡ index

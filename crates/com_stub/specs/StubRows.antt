@@ -19,9 +19,9 @@ abbrev pub is_connected : List StubRow → ℕ → Bool
 is_connected rows object = (stub_of rows object).connected
 
 -- where that row stands, or the number of rows
-abbrev pub stub_place : List StubRow → ℕ → ℕ
-stub_place [] object = 0
-stub_place (row ∷ rows) object = if row.object == object then 0 else stub_place rows object + 1
+abbrev pub stub_index : List StubRow → ℕ → ℕ
+stub_index [] object = 0
+stub_index (row ∷ rows) object = if row.object == object then 0 else stub_index rows object + 1
 
 -- the row is no longer connected, if it is of the object
 abbrev pub ended_row : ℕ → StubRow → StubRow
@@ -34,8 +34,8 @@ abbrev pub stub_objects : List StubRow → List ℕ
 stub_objects rows = map (λ row. row.object) rows
 
 abbrev pub stub_at : List StubRow → ℕ → StubRow
-stub_at rows place = slice_index_or rows place (no_stub 0)
+stub_at rows index = slice_index_or rows index (no_stub 0)
 
 -- no two rows are of one object: each is the first of its own
 abbrev pub EachStubFirst : List StubRow → Type 0
-EachStubFirst rows = (place : ℕ) → place < length rows → stub_place rows (stub_at rows place).object ≡ place
+EachStubFirst rows = (index : ℕ) → index < length rows → stub_index rows (stub_at rows index).object ≡ index

@@ -11,10 +11,10 @@ pub record CounterTable : Type 0 where
   pub rows : List CounterRow
   pub spare : ℕ
 
--- the places are under the objects of the counters, there is one counter of each interface of an object,
--- and the sum of an object's counters has a number
-pub record IsCounterTable (rows : List CounterRow) (places : Places) : Type 0 where
-  pub keyed : places.keys ≡ objects_of rows
+-- the rows are chained under the objects of the counters, there is one counter of each interface of an
+-- object, and the sum of an object's counters has a number
+pub record IsCounterTable (rows : List CounterRow) (chains : Places) : Type 0 where
+  pub keyed : chains.keys ≡ objects_of rows
   pub first : EachFirst rows
   pub sums : (object : ℕ) → sum_of rows object < 2 ^ 64
 
@@ -25,9 +25,9 @@ pub record StubTable : Type 0 where
   pub counters : List CounterRow
   pub spare : ℕ
 
--- the places are under the objects of the stubs, and there is one stub of each
-pub record IsStubTable (rows : List StubRow) (places : Places) : Type 0 where
-  pub keyed : places.keys ≡ stub_objects rows
+-- the rows are chained under the objects of the stubs, and there is one stub of each
+pub record IsStubTable (rows : List StubRow) (chains : Places) : Type 0 where
+  pub keyed : chains.keys ≡ stub_objects rows
   pub first : EachStubFirst rows
 
 -- the public references that the object's stub counts for an interface; a stub that is not connected

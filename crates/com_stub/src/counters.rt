@@ -1,7 +1,7 @@
 //! The counters of the stubs: a number for each object and interface.
 
 ghost use Rattle.std.specs.Prelude.{◌≡◌, ◌+◌, ◌<◌, ◌≤◌, ◌^◌, ◌↔◌, true, [], length, OnOk, IsOk, IsTrue};
-ghost use Rattle.com_stub.specs.CounterRows.{has_counter, counter_of, place_of, changed_counter, more, less};
+ghost use Rattle.com_stub.specs.CounterRows.{has_counter, counter_of, index_of, changed_counter, more, less};
 ghost use Rattle.com_stub.specs.CounterRows.{opened, opened_all, sum_of, objects_of, EachFirst};
 
 use com_keyed::Chains;
@@ -24,7 +24,7 @@ pub struct CounterRow {
 #[derive(Debug, Drop)]
 pub struct Counters {
     rows: Vec<CounterRow>,
-    places: Chains,
+    chains: Chains,
 }
 
 impl Model for Counters {
@@ -35,39 +35,39 @@ impl Model for Counters {
 
     ghost view = { λ c. record {
       rows = c.rows.items;
-      spare = min c.places.spare (vec_capacity c.rows - vec_len c.rows);
+      spare = min c.chains.spare (vec_capacity c.rows - vec_len c.rows);
     } };
 
-    ghost invariant = { λ c. IsCounterTable c.rows.items c.places };
+    ghost invariant = { λ c. IsCounterTable c.rows.items c.chains };
 }
 
-// The place of a counter, or the number of counters.
-fn find(rows: &[CounterRow], places: &Chains, object: u32, iface: u16) -> usize
-    requires keyed { places.now.keys ≡ objects_of rows.now }
+// The index of a counter, or the number of counters.
+fn find(rows: &[CounterRow], chains: &Chains, object: u32, iface: u16) -> usize
+    requires keyed { chains.now.keys ≡ objects_of rows.now }
     requires first { EachFirst rows.now }
-    ensures { result ≡ place_of rows.now object iface }
+    ensures { result ≡ index_of rows.now object iface }
 {
-    let mut at = places.last(object);
-    while let Some(place) = at {
-        if rows[place].iface == iface {
-            return place;
+    let mut at = chains.last(object);
+    while let Some(index) = at {
+        if rows[index].iface == iface {
+            return index;
         }
-        at = places.earlier(place);
+        at = chains.earlier(index);
     }
     rows.len()
 }
 
 // The sum of the object's counters.
-fn sum(rows: &[CounterRow], places: &Chains, object: u32) -> u64
-    requires keyed { places.now.keys ≡ objects_of rows.now }
+fn sum(rows: &[CounterRow], chains: &Chains, object: u32) -> u64
+    requires keyed { chains.now.keys ≡ objects_of rows.now }
     requires fits { sum_of rows.now object < 2 ^ 64 }
     ensures { result ≡ sum_of rows.now object }
 {
     let mut sum = 0;
-    let mut at = places.last(object);
-    while let Some(place) = at {
-        sum += rows[place].count;
-        at = places.earlier(place);
+    let mut at = chains.last(object);
+    while let Some(index) = at {
+        sum += rows[index].count;
+        at = chains.earlier(index);
     }
     sum
 }
@@ -79,7 +79,7 @@ impl Counters {
     {
         Counters {
             rows: Vec::new(alloc),
-            places: Chains::new(alloc),
+            chains: Chains::new(alloc),
         }
     }
 
@@ -91,22 +91,22 @@ impl Counters {
         ensures spare { self.old.spare ≤ self.new.spare }
         ensures succeeds { n ≤ self.old.spare → IsOk result }
     {
-        self.places.reserve(n)?;
+        self.chains.reserve(n)?;
         self.rows.reserve(n as usize)
     }
 
     /// A counter of the object's interface, at 0, where there is none yet. Room for one was made before.
-    #[tactic(auto, using(crate::proofs::CounterLemmas::has_place, crate::proofs::CounterLemmas::has_not))]
+    #[tactic(auto, using(crate::proofs::CounterLemmas::has_index, crate::proofs::CounterLemmas::has_not))]
     pub fn open(&mut self, object: u32, iface: u16)
         requires { 0 < self.old.spare }
         ensures rows { self.new.rows ≡ opened object iface self.old.rows }
         ensures spare { self.old.spare ≤ self.new.spare + 1 }
     {
-        let at = find(&self.rows, &self.places, object, iface);
+        let at = find(&self.rows, &self.chains, object, iface);
         if at < self.rows.len() {
             return;
         }
-        self.places.append(object);
+        self.chains.append(object);
         self.rows.push_reserved(CounterRow {
             object,
             iface,
@@ -127,11 +127,11 @@ impl Counters {
     }
 
     /// True exactly where there is a counter of the interface.
-    #[tactic(auto, using(crate::proofs::CounterLemmas::has_place, crate::proofs::CounterLemmas::has_not))]
+    #[tactic(auto, using(crate::proofs::CounterLemmas::has_index, crate::proofs::CounterLemmas::has_not))]
     pub fn has(&self, object: u32, iface: u16) -> bool
         ensures { result ≡ has_counter self.now.rows object iface }
     {
-        find(&self.rows, &self.places, object, iface) < self.rows.len()
+        find(&self.rows, &self.chains, object, iface) < self.rows.len()
     }
 
     /// `n` references more.
@@ -142,19 +142,19 @@ impl Counters {
         ensures rows { self.new.rows ≡ changed_counter (more n) object iface self.old.rows }
         ensures spare { self.new.spare ≡ self.old.spare }
     {
-        let at = find(&self.rows, &self.places, object, iface);
+        let at = find(&self.rows, &self.chains, object, iface);
         let row = &mut self.rows[at];
         row.count += u64::from(n);
     }
 
     /// `n` references less, where there is a counter.
-    #[tactic(auto, using(crate::proofs::CounterLemmas::no_place, crate::proofs::CounterLemmas::place_row, crate::proofs::CounterLemmas::changed_at, crate::proofs::CounterLemmas::changed_none))]
+    #[tactic(auto, using(crate::proofs::CounterLemmas::no_index, crate::proofs::CounterLemmas::place_row, crate::proofs::CounterLemmas::changed_at, crate::proofs::CounterLemmas::changed_none))]
     pub fn take(&mut self, object: u32, iface: u16, n: u64)
         requires { n ≤ (counter_of self.old.rows object iface).count }
         ensures rows { self.new.rows ≡ changed_counter (less n) object iface self.old.rows }
         ensures spare { self.new.spare ≡ self.old.spare }
     {
-        let at = find(&self.rows, &self.places, object, iface);
+        let at = find(&self.rows, &self.chains, object, iface);
         if at >= self.rows.len() {
             return;
         }
@@ -163,11 +163,11 @@ impl Counters {
     }
 
     /// The count of the interface.
-    #[tactic(auto, using(crate::proofs::CounterLemmas::no_place, crate::proofs::CounterLemmas::place_row))]
+    #[tactic(auto, using(crate::proofs::CounterLemmas::no_index, crate::proofs::CounterLemmas::place_row))]
     pub fn get(&self, object: u32, iface: u16) -> u64
         ensures { result ≡ (counter_of self.now.rows object iface).count }
     {
-        let at = find(&self.rows, &self.places, object, iface);
+        let at = find(&self.rows, &self.chains, object, iface);
         if at < self.rows.len() {
             return self.rows[at].count;
         }
@@ -185,6 +185,6 @@ impl Counters {
     pub fn sum(&self, object: u32) -> u64
         ensures { result ≡ sum_of self.now.rows object }
     {
-        sum(&self.rows, &self.places, object)
+        sum(&self.rows, &self.chains, object)
     }
 }

@@ -43,7 +43,7 @@ pub enum StubError {
 #[derive(Debug, Drop)]
 pub struct Stubs {
     stubs: Vec<StubRow>,
-    places: Chains,
+    chains: Chains,
     counters: Counters,
 }
 
@@ -56,35 +56,35 @@ impl Model for Stubs {
     ghost view = { λ s. record {
       stubs = s.stubs.items;
       counters = s.counters.rows;
-      spare = min (s.counters.spare / 17) (min s.places.spare (vec_capacity s.stubs - vec_len s.stubs));
+      spare = min (s.counters.spare / 17) (min s.chains.spare (vec_capacity s.stubs - vec_len s.stubs));
     } };
 
-    ghost invariant = { λ s. IsStubTable s.stubs.items s.places };
+    ghost invariant = { λ s. IsStubTable s.stubs.items s.chains };
 }
 
 // The most interfaces that an object's set has.
 const MOST_INTERFACES: u32 = 17;
 
 // True exactly where the object has a stub that is connected.
-fn is_live(stubs: &[StubRow], places: &Chains, object: u32) -> bool
-    requires keyed { places.now.keys ≡ stub_objects stubs.now }
+fn is_live(stubs: &[StubRow], chains: &Chains, object: u32) -> bool
+    requires keyed { chains.now.keys ≡ stub_objects stubs.now }
     requires first { EachStubFirst stubs.now }
     ensures { result ≡ is_connected stubs.now object }
 {
-    match places.last(object) {
+    match chains.last(object) {
         None => false,
-        Some(place) => stubs[place].connected,
+        Some(index) => stubs[index].connected,
     }
 }
 
 // The stub of the object, if it has one, is no longer connected.
-fn end(stubs: &mut [StubRow], places: &Chains, object: u32)
-    requires keyed { places.now.keys ≡ stub_objects stubs.old }
+fn end(stubs: &mut [StubRow], chains: &Chains, object: u32)
+    requires keyed { chains.now.keys ≡ stub_objects stubs.old }
     requires first { EachStubFirst stubs.old }
     ensures { stubs.new ≡ ended_rows object stubs.old }
 {
-    if let Some(place) = places.last(object) {
-        stubs[place].connected = false;
+    if let Some(index) = chains.last(object) {
+        stubs[index].connected = false;
     }
 }
 
@@ -96,7 +96,7 @@ impl Stubs {
     {
         Stubs {
             stubs: Vec::new(alloc),
-            places: Chains::new(alloc),
+            chains: Chains::new(alloc),
             counters: Counters::new(alloc),
         }
     }
@@ -110,7 +110,7 @@ impl Stubs {
     {
         let counters = n.checked_mul(MOST_INTERFACES).ok_or(Memory)?;
         self.counters.reserve(counters)?;
-        self.places.reserve(n)?;
+        self.chains.reserve(n)?;
         self.stubs.reserve(n as usize)
     }
 
@@ -129,10 +129,10 @@ impl Stubs {
         ensures spare { self.old.spare ≤ self.new.spare + 1 }
     {
         self.counters.reserve(MOST_INTERFACES)?;
-        self.places.reserve(1)?;
+        self.chains.reserve(1)?;
         self.stubs.reserve(1)?;
         self.counters.open_all(object, set);
-        self.places.append(object);
+        self.chains.append(object);
         self.stubs.push_reserved(StubRow {
             object,
             connected: true,
@@ -156,7 +156,7 @@ impl Stubs {
         ensures err { OnErr result (self.new ≡ self.old) }
         ensures spare { self.new.spare ≡ self.old.spare }
     {
-        if !is_live(&self.stubs, &self.places, object) {
+        if !is_live(&self.stubs, &self.chains, object) {
             return Err(StubError::NotConnected);
         }
         if !self.counters.has(object, iface) {
@@ -180,7 +180,7 @@ impl Stubs {
     pub fn count(&self, object: u32) -> u64
         ensures { result ≡ total_of self.now object }
     {
-        if is_live(&self.stubs, &self.places, object) {
+        if is_live(&self.stubs, &self.chains, object) {
             return self.counters.sum(object);
         }
         0
@@ -197,7 +197,7 @@ impl Stubs {
     pub fn count_of(&self, object: u32, iface: u16) -> u64
         ensures { result ≡ count_of self.now object iface }
     {
-        if is_live(&self.stubs, &self.places, object) {
+        if is_live(&self.stubs, &self.chains, object) {
             return self.counters.get(object, iface);
         }
         0
@@ -207,7 +207,7 @@ impl Stubs {
     pub fn is_connected(&self, object: u32) -> bool
         ensures { result ≡ is_connected self.now.stubs object }
     {
-        is_live(&self.stubs, &self.places, object)
+        is_live(&self.stubs, &self.chains, object)
     }
 
     /// True exactly where the interface is in the set of the object, which has a stub, connected or not.
@@ -225,7 +225,7 @@ impl Stubs {
         ensures ended { is_connected self.new.stubs object ≡ false }
         ensures spare { self.new.spare ≡ self.old.spare }
     {
-        end(&mut self.stubs, &self.places, object);
+        end(&mut self.stubs, &self.chains, object);
     }
 }
 

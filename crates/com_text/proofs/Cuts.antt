@@ -46,7 +46,7 @@ not_end b next h e = true≢false (sym (ap (λ (x : ℕ). ends_line (class_of x 
 
 -- ---- the rest of a text
 
--- the first byte of the rest stands at its place, and the rest behind it too
+-- the first byte of the rest stands at its position, and the rest behind it too
 pub record StandsAt (text : List ℕ) (at b : ℕ) (bs : List ℕ) : Type 0 where
   pub byte : slice_index text at ≡ b
   pub within : at < length text
@@ -110,7 +110,7 @@ IsBegun text within.Text start at = start < at
 IsBegun text within.Bytes start at = start < at
 IsBegun text within.Remark start at = Remarked text start at
 
--- a gap from a place up to the word that stands so far
+-- a gap from a position up to the word that stands so far
 pub record Cut (text : List ℕ) (from start at : ℕ) (w : Within) : Type 0 where
   pub low : from ≤ start
   pub high : at ≤ length text
@@ -170,7 +170,7 @@ words_first (b ∷ bs) s words =
 
 -- ---- a byte that ends no line
 
--- what is known of the byte at the place where the scanner stands
+-- what is known of the byte at the position where the scanner stands
 pub record Byte (text : List ℕ) (at b next : ℕ) : Type 0 where
   pub here : slice_index text at ≡ b
   pub behind : slice_index text (at + 1) ≡ next

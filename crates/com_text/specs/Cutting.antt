@@ -8,7 +8,7 @@ IsBlank text k =
     (slice_index text k ≡ 32)
     ⊎ ((slice_index text k ≡ 9) ⊎ ((slice_index text k ≡ 13) × (slice_index text (k + 1) ≡ 10)))
 
--- behind a `;` that stands at a place or after it, in the same line, or that `;` itself
+-- behind a `;` that stands at a position or after it, in the same line, or that `;` itself
 pub record InComment (text : List ℕ) (from k : ℕ) : Type 0 where
   pub mark : ℕ
   pub behind : from ≤ mark
@@ -20,8 +20,8 @@ pub record InComment (text : List ℕ) (from k : ℕ) : Type 0 where
 abbrev pub IsGap : List ℕ → ℕ → ℕ → Type 0
 IsGap text from to = (k : ℕ) → from ≤ k → k < to → IsBlank text k ⊎ InComment text from k
 
--- From a place on the tokens are pieces of the text, none of them empty, each behind the one before, and what
--- stands between them and behind the last is spaces and comments.
+-- From a position on the tokens are pieces of the text, none of them empty, each behind the one before, and
+-- what stands between them and behind the last is spaces and comments.
 abbrev pub IsCut : List ℕ → ℕ → List Token → Type 0
 IsCut text from [] = IsGap text from (length text)
 IsCut text from (t ∷ ts) =

@@ -26,7 +26,7 @@ abbrev pub ends_line : Class → Bool
 ends_line classes.LineEnd = true
 ends_line _ = false
 
--- the place of the next byte, and the word so far
+-- the position of the next byte, and the word so far
 pub record Scanning : Type 0 where
   pub line : ℕ
   pub column : ℕ

@@ -1,4 +1,4 @@
-//! The words of scenario text, each with its place.
+//! The words of scenario text, each with its position.
 //!
 //! A text is lines of words. Characters are the bytes 32 to 126, byte 9, which counts as a space,
 //! and byte 10, which ends a line; a byte 13 directly before a line end is passed over. A word that
@@ -15,7 +15,7 @@ mod word;
 pub use scan::{Class, LineEnd, Scanner, Within, line_at};
 pub use std::alloc::AllocError as Memory;
 pub use token::{TEXT_LIMIT, TextError, Token, TokenSort, tokens};
-pub use word::{Kind, Sort, Word};
+pub use word::{Kind, Sort, Word, is_over};
 
 #[cfg(test)]
 mod tests;

@@ -1,6 +1,7 @@
-//! A word and its place.
+//! A word and its position.
 
 ghost use Rattle.std.specs.Prelude.{◌≡◌};
+ghost use Rattle.com_text.specs.Words.{is_over, is_remark};
 
 use crate::stray::stray_column;
 use std::marker::Model;
@@ -95,5 +96,22 @@ impl<'a> Word<'a> {
             Kind::Stray => Sort::Stray(stray_column(self.column, self.bytes)),
             Kind::Remark => Sort::Remark(stray_column(self.column, self.bytes)),
         }
+    }
+
+    /// Whether it is a comment, which is no word and ends its line.
+    pub fn is_remark(&self) -> bool
+        ensures { result ≡ is_remark self.now.sort }
+    {
+        matches!(self.kind, Kind::Remark)
+    }
+}
+
+/// Whether no word is left in what is left of a line. A comment is no word.
+pub fn is_over(line: &[Word<'_>]) -> bool
+    ensures { result ≡ is_over line.now }
+{
+    match line {
+        [] => true,
+        [word, ..] => word.is_remark(),
     }
 }

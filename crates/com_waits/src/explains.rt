@@ -11,7 +11,7 @@ ghost use Rattle.com_waits.specs.Walks.{seen_waits, told};
 
 use crate::chains::explained;
 use crate::reasons::{Wait, Waits, Why};
-use crate::walks::{lanes_of, wait_rows};
+use crate::walks::wait_rows;
 use com_base::Memory;
 use com_model::{Ended, Entry, Scenario};
 use std::alloc::{AllocError, Global};
@@ -31,7 +31,7 @@ pub fn lane_numbers(scenario: &Scenario) -> Result<LaneNumbers, Memory>
     ensures lanes { IfOk result (λ numbers. numbers.lanes ≡ lanes scenario.now) }
     ensures pool { IfOk result (λ numbers. numbers.pool ≡ pool_lane scenario.now) }
 {
-    let Some(lanes) = lanes_of(scenario) else {
+    let Some(lanes) = scenario.lanes() else {
         return Err(AllocError);
     };
     Ok(LaneNumbers {

@@ -1,7 +1,6 @@
 //! Why each lane waits, by the entries of a history alone. They are read from the newest on.
-ghost use Rattle.std.specs.Prelude.{◌≡◌, ◌+◌, ◌<◌, ◌^◌, ◌++◌, IfOk, IfSome, OnOk, length};
+ghost use Rattle.std.specs.Prelude.{◌≡◌, ◌+◌, ◌<◌, ◌^◌, ◌++◌, IfOk, OnOk};
 ghost use Rattle.com_model.specs.Lists.{first, number_or_zero};
-ghost use Rattle.com_model.specs.Tables.{lanes};
 ghost use Rattle.com_model.specs.Openers.{openers, effect};
 ghost use Rattle.com_model.specs.Objects.{made_or, makes, making};
 ghost use Rattle.com_model.specs.Calls.{admitted, admits, admission_or, issue, issues, issue_or};
@@ -10,7 +9,7 @@ ghost use Rattle.com_waits.specs.Walks.{passed_by, row_of, seen, seen_at_call, s
 
 use crate::reasons::{Wait, Why};
 use com_base::Memory;
-use com_model::{Deed, Entry, Opener, Scenario};
+use com_model::{Deed, Entry, Opener};
 use std::alloc::Global;
 
 // What an entry does to what is open in a lane.
@@ -264,21 +263,4 @@ pub(crate) fn wait_rows(
         push_row(&mut rows, history, before + 1, pool)?;
     }
     Ok(rows)
-}
-
-// How many lanes a scenario has: one for each thread, the host's, and the pool's. `None` only where a number
-// of 32 bits does not hold that.
-pub(crate) fn lanes_of(scenario: &Scenario) -> Option<u32>
-    ensures lanes { IfSome result (λ count. count ≡ lanes scenario.now) }
-    ensures threads { IfSome result (λ count. length scenario.now.threads + 2 < 2 ^ 32) }
-{
-    let threads = scenario.threads.len();
-    if threads >= 0x1000_0000 {
-        return None;
-    }
-    let lanes = threads as u64 + 1 + scenario.pool as u64;
-    if lanes > 0xFFFF_FFFF {
-        return None;
-    }
-    Some(lanes as u32)
 }

@@ -21,7 +21,7 @@ fn fields_are_read_low_byte_first(rt: HostRuntime) {
 }
 
 #[test]
-fn a_field_is_put_at_its_place(rt: HostRuntime) {
+fn a_field_is_put_at_its_position(rt: HostRuntime) {
     let mut bytes = [9; 5];
     put(&mut bytes, 2, &[1, 2]);
     assert_eq!(rt; bytes, [9, 9, 1, 2, 9]);

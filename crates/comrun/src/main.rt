@@ -4,8 +4,8 @@
 use com_base::Memory;
 use com_crew::{ROWS, is_manned};
 use com_io::{Sink, Source, StdSink, StdSource};
-use com_retrace::{boxed, row_of};
-use com_servant::{Counter, Interpreter, Latch, Relay, Servant};
+use com_retrace::fresh_row;
+use com_servant::Servant;
 use com_threads::OpenGate;
 use com_top::com_main;
 use std::alloc::{AllocError, Global};
@@ -42,13 +42,7 @@ fn served<R: Threads + Wait + Sync, S: Source, K: Sink>(
 ) -> Result<u8, Memory> {
     let mut crew: Vec<Vec<Box<dyn Servant + Send>>> = Vec::new(alloc);
     for _ in 0..ROWS {
-        crew.push(row_of(
-            alloc,
-            boxed(alloc, Interpreter::new())?,
-            boxed(alloc, Counter::new())?,
-            boxed(alloc, Relay::new())?,
-            boxed(alloc, Latch::new())?,
-        )?)?;
+        crew.push(fresh_row!(alloc))?;
     }
     // The loop has no invariant that names the kinds of boxes, so they are looked at once.
     if !is_manned(&crew) {

@@ -15,12 +15,12 @@ pub record Appended (old out : List ℕ) (referent : ℕ) (rest : List Wire) (to
 pub appended_none : (old : List ℕ) (vs : List Wire) → Appended old old 0x20000 vs (written_args vs)
 appended_none old vs = record { front = []; out_is = sym (append-nil old); total_is = refl }
 
-appended_more : (old out new : List ℕ) (referent next place : ℕ) (v : Wire) (vs : List Wire) (total : List ℕ) → Appended old out referent (v ∷ vs) total → place ≡ length out - length old
-    → new ≡ out ++ (zeros (gap place (align_of_value v)) ++ written_arg referent v) → next ≡ next_referent referent v → Appended old new next vs total
+appended_more : (old out new : List ℕ) (referent next position : ℕ) (v : Wire) (vs : List Wire) (total : List ℕ) → Appended old out referent (v ∷ vs) total → position ≡ length out - length old
+    → new ≡ out ++ (zeros (gap position (align_of_value v)) ++ written_arg referent v) → next ≡ next_referent referent v → Appended old new next vs total
 unfolding written_from
-appended_more old out new referent next place v vs total so_far place_is new_is next_is =
+appended_more old out new referent next position v vs total so_far position_is new_is next_is =
     let front = so_far.front in
-    let here : place ≡ length front = omega (arith, place_is, ap length so_far.out_is, length-append old front) in
+    let here : position ≡ length front = omega (arith, position_is, ap length so_far.out_is, length-append old front) in
     let pad = gap (length front) (align_of_value v) in
     let w = written_arg referent v in
     let piece = zeros pad ++ w in
@@ -36,13 +36,13 @@ appended_more old out new referent next place v vs total so_far place_is new_is 
           ∙ so_far.total_is;
     }
 
-pub appended_at : (old out new : List ℕ) (referent next place : ℕ) (v : Wire) (vs : List Wire) (i : ℕ) (total : List ℕ) → i < length vs → v ≡ get_or vs i v → Appended old out referent (drop i vs) total → place ≡ length out - length old
-    → new ≡ out ++ (zeros (gap place (align_of_value v)) ++ written_arg referent v) → next ≡ next_referent referent v → Appended old new next (drop (i + 1) vs) total
-appended_at old out new referent next place v vs i total lt is so_far place_is new_is next_is =
+pub appended_at : (old out new : List ℕ) (referent next position : ℕ) (v : Wire) (vs : List Wire) (i : ℕ) (total : List ℕ) → i < length vs → v ≡ get_or vs i v → Appended old out referent (drop i vs) total → position ≡ length out - length old
+    → new ≡ out ++ (zeros (gap position (align_of_value v)) ++ written_arg referent v) → next ≡ next_referent referent v → Appended old new next (drop (i + 1) vs) total
+appended_at old out new referent next position v vs i total lt is so_far position_is new_is next_is =
     let split : drop i vs ≡ v ∷ drop (suc i) vs = drop-cons vs i v lt ∙ ap (λ (x : Wire). x ∷ drop (suc i) vs) (sym is) in
     let more : suc i ≡ i + 1 = omega arith in
     subst (λ (n : ℕ). Appended old new next (drop n vs) total) more
-    (appended_more old out new referent next place v (drop (suc i) vs) total (subst (λ (l : List Wire). Appended old out referent l total) split so_far) place_is new_is next_is)
+    (appended_more old out new referent next position v (drop (suc i) vs) total (subst (λ (l : List Wire). Appended old out referent l total) split so_far) position_is new_is next_is)
 
 pub appended_all : (old out : List ℕ) (referent : ℕ) (vs : List Wire) (i : ℕ) (total : List ℕ) → length vs ≤ i → Appended old out referent (drop i vs) total → out ≡ old ++ total
 unfolding written_from

@@ -32,34 +32,34 @@ utf8_is P Q bytes (Err e) h = not_utf8 bytes (is_utf8 bytes) refl h.0
 -- ---- padding
 
 -- one byte more that is 0
-pub zeros_go_on : (bytes : List ℕ) (left place : ℕ) (total : Result ℕ ArgFault) → 0 < left → place < length bytes → get_or bytes place 0 ≡ 0 → zeros_at bytes left place ≡ total → zeros_at bytes (left - 1) (place + 1) ≡ total
+pub zeros_go_on : (bytes : List ℕ) (left position : ℕ) (total : Result ℕ ArgFault) → 0 < left → position < length bytes → get_or bytes position 0 ≡ 0 → zeros_at bytes left position ≡ total → zeros_at bytes (left - 1) (position + 1) ≡ total
 unfolding zeros_at
-zeros_go_on bytes zero place total some lt is e = absurd (omega arith)
-zeros_go_on bytes (suc left) place total some lt is e =
-    let t1 : ltb place (length bytes) ≡ true = lt-ltb _ _ lt in
-    let t2 : eqb (get_or bytes place 0) 0 ≡ true = rw is refl in
+zeros_go_on bytes zero position total some lt is e = absurd (omega arith)
+zeros_go_on bytes (suc left) position total some lt is e =
+    let t1 : ltb position (length bytes) ≡ true = lt-ltb _ _ lt in
+    let t2 : eqb (get_or bytes position 0) 0 ≡ true = rw is refl in
     let k : suc left - 1 ≡ left = omega arith in
     rw k (sym (rw (t1, t2) refl) ∙ e)
 
-pub zeros_end_short : (bytes : List ℕ) (left place : ℕ) (total : Result ℕ ArgFault) → 0 < left → length bytes ≤ place → zeros_at bytes left place ≡ total → total ≡ Err (short bytes)
+pub zeros_end_short : (bytes : List ℕ) (left position : ℕ) (total : Result ℕ ArgFault) → 0 < left → length bytes ≤ position → zeros_at bytes left position ≡ total → total ≡ Err (short bytes)
 unfolding zeros_at
-zeros_end_short bytes zero place total some le e = absurd (omega arith)
-zeros_end_short bytes (suc left) place total some le e =
-    let t1 : ltb place (length bytes) ≡ false = le-ltb _ _ le in
+zeros_end_short bytes zero position total some le e = absurd (omega arith)
+zeros_end_short bytes (suc left) position total some le e =
+    let t1 : ltb position (length bytes) ≡ false = le-ltb _ _ le in
     sym e ∙ rw t1 refl
 
-pub zeros_end_other : (bytes : List ℕ) (left place : ℕ) (total : Result ℕ ArgFault) → 0 < left → place < length bytes → (get_or bytes place 0 ≡ 0 → ⊥) → zeros_at bytes left place ≡ total → total ≡ Err (fault 2 place)
+pub zeros_end_other : (bytes : List ℕ) (left position : ℕ) (total : Result ℕ ArgFault) → 0 < left → position < length bytes → (get_or bytes position 0 ≡ 0 → ⊥) → zeros_at bytes left position ≡ total → total ≡ Err (fault 2 position)
 unfolding zeros_at
-zeros_end_other bytes zero place total some lt ne e = absurd (omega arith)
-zeros_end_other bytes (suc left) place total some lt ne e =
-    let t1 : ltb place (length bytes) ≡ true = lt-ltb _ _ lt in
-    let t2 : eqb (get_or bytes place 0) 0 ≡ false = ne_eqb _ _ ne in
+zeros_end_other bytes zero position total some lt ne e = absurd (omega arith)
+zeros_end_other bytes (suc left) position total some lt ne e =
+    let t1 : ltb position (length bytes) ≡ true = lt-ltb _ _ lt in
+    let t2 : eqb (get_or bytes position 0) 0 ≡ false = ne_eqb _ _ ne in
     sym e ∙ rw (t1, t2) refl
 
-pub zeros_done : (bytes : List ℕ) (left place : ℕ) (total : Result ℕ ArgFault) → left ≡ 0 → zeros_at bytes left place ≡ total → total ≡ Ok place
+pub zeros_done : (bytes : List ℕ) (left position : ℕ) (total : Result ℕ ArgFault) → left ≡ 0 → zeros_at bytes left position ≡ total → total ≡ Ok position
 unfolding zeros_at
-zeros_done bytes zero place total none e = sym e
-zeros_done bytes (suc left) place total none e = absurd (omega arith)
+zeros_done bytes zero position total none e = sym e
+zeros_done bytes (suc left) position total none e = absurd (omega arith)
 
 -- ---- the arguments
 
@@ -71,37 +71,37 @@ regroup : (front : List Wire) (v : Wire) (read : Result (List Wire × ℕ) ArgFa
 regroup front v (Ok x) = ap (λ (vs : List Wire). Ok (vs, x.1)) (simp append_assoc)
 regroup front v (Err f) = refl
 
-pub args_go_on : (front : List Wire) (k : Kind) (ks : List Kind) (bytes : List ℕ) (place : ℕ) (v : Wire) (end : ℕ) (total : Result (List Wire × ℕ) ArgFault) → arg_at k bytes place ≡ Ok (v, end)
-    → with_front front (args_at (k ∷ ks) bytes place) ≡ total → with_front (front ++ v ∷ []) (args_at ks bytes end) ≡ total
+pub args_go_on : (front : List Wire) (k : Kind) (ks : List Kind) (bytes : List ℕ) (position : ℕ) (v : Wire) (end : ℕ) (total : Result (List Wire × ℕ) ArgFault) → arg_at k bytes position ≡ Ok (v, end)
+    → with_front front (args_at (k ∷ ks) bytes position) ≡ total → with_front (front ++ v ∷ []) (args_at ks bytes end) ≡ total
 unfolding args_at
-args_go_on front k ks bytes place v end total h so_far =
-    let one : with_front front (args_at (k ∷ ks) bytes place) ≡ with_front (front ++ v ∷ []) (args_at ks bytes end) = rw h (regroup front v (args_at ks bytes end)) in
+args_go_on front k ks bytes position v end total h so_far =
+    let one : with_front front (args_at (k ∷ ks) bytes position) ≡ with_front (front ++ v ∷ []) (args_at ks bytes end) = rw h (regroup front v (args_at ks bytes end)) in
     sym one ∙ so_far
 
-pub args_go_on_at : (front : List Wire) (ks : List Kind) (i : ℕ) (d : Kind) (bytes : List ℕ) (place : ℕ) (v : Wire) (end : ℕ) (total : Result (List Wire × ℕ) ArgFault) → i < length ks → arg_at (get_or ks i d) bytes place ≡ Ok (v, end)
-    → with_front front (args_at (drop i ks) bytes place) ≡ total → with_front (front ++ v ∷ []) (args_at (drop (i + 1) ks) bytes end) ≡ total
-args_go_on_at front ks i d bytes place v end total lt h so_far =
+pub args_go_on_at : (front : List Wire) (ks : List Kind) (i : ℕ) (d : Kind) (bytes : List ℕ) (position : ℕ) (v : Wire) (end : ℕ) (total : Result (List Wire × ℕ) ArgFault) → i < length ks → arg_at (get_or ks i d) bytes position ≡ Ok (v, end)
+    → with_front front (args_at (drop i ks) bytes position) ≡ total → with_front (front ++ v ∷ []) (args_at (drop (i + 1) ks) bytes end) ≡ total
+args_go_on_at front ks i d bytes position v end total lt h so_far =
     let next : suc i ≡ i + 1 = omega arith in
-    let split : with_front front (args_at (get_or ks i d ∷ drop (suc i) ks) bytes place) ≡ total = ap (λ (l : List Kind). with_front front (args_at l bytes place)) (sym (drop-cons ks i d lt)) ∙ so_far in
-    rw (← next) (args_go_on front (get_or ks i d) (drop (suc i) ks) bytes place v end total h split)
+    let split : with_front front (args_at (get_or ks i d ∷ drop (suc i) ks) bytes position) ≡ total = ap (λ (l : List Kind). with_front front (args_at l bytes position)) (sym (drop-cons ks i d lt)) ∙ so_far in
+    rw (← next) (args_go_on front (get_or ks i d) (drop (suc i) ks) bytes position v end total h split)
 
-pub args_end : (e : ArgError) (front : List Wire) (k : Kind) (ks : List Kind) (bytes : List ℕ) (place : ℕ) (total : Result (List Wire × ℕ) ArgFault) → Fails e (arg_at k bytes place)
-    → with_front front (args_at (k ∷ ks) bytes place) ≡ total → Fails e total
+pub args_end : (e : ArgError) (front : List Wire) (k : Kind) (ks : List Kind) (bytes : List ℕ) (position : ℕ) (total : Result (List Wire × ℕ) ArgFault) → Fails e (arg_at k bytes position)
+    → with_front front (args_at (k ∷ ks) bytes position) ≡ total → Fails e total
 unfolding args_at
-args_end errors.Memory front k ks bytes place total h so_far = tt
-args_end (errors.Fault f) front k ks bytes place total h so_far =
-    let one : with_front front (args_at (k ∷ ks) bytes place) ≡ Err f = rw h refl in
+args_end errors.Memory front k ks bytes position total h so_far = tt
+args_end (errors.Fault f) front k ks bytes position total h so_far =
+    let one : with_front front (args_at (k ∷ ks) bytes position) ≡ Err f = rw h refl in
     sym so_far ∙ one
 
-pub args_end_at : (e : ArgError) (front : List Wire) (ks : List Kind) (i : ℕ) (d : Kind) (bytes : List ℕ) (place : ℕ) (total : Result (List Wire × ℕ) ArgFault) → i < length ks → Fails e (arg_at (get_or ks i d) bytes place)
-    → with_front front (args_at (drop i ks) bytes place) ≡ total → Fails e total
-args_end_at e front ks i d bytes place total lt h so_far =
-    args_end e front (get_or ks i d) (drop (suc i) ks) bytes place total h (ap (λ (l : List Kind). with_front front (args_at l bytes place)) (sym (drop-cons ks i d lt)) ∙ so_far)
+pub args_end_at : (e : ArgError) (front : List Wire) (ks : List Kind) (i : ℕ) (d : Kind) (bytes : List ℕ) (position : ℕ) (total : Result (List Wire × ℕ) ArgFault) → i < length ks → Fails e (arg_at (get_or ks i d) bytes position)
+    → with_front front (args_at (drop i ks) bytes position) ≡ total → Fails e total
+args_end_at e front ks i d bytes position total lt h so_far =
+    args_end e front (get_or ks i d) (drop (suc i) ks) bytes position total h (ap (λ (l : List Kind). with_front front (args_at l bytes position)) (sym (drop-cons ks i d lt)) ∙ so_far)
 
-pub args_done : (front : List Wire) (bytes : List ℕ) (place : ℕ) (total : Result (List Wire × ℕ) ArgFault) → with_front front (args_at [] bytes place) ≡ total → total ≡ Ok (front, place)
+pub args_done : (front : List Wire) (bytes : List ℕ) (position : ℕ) (total : Result (List Wire × ℕ) ArgFault) → with_front front (args_at [] bytes position) ≡ total → total ≡ Ok (front, position)
 unfolding args_at
-args_done front bytes place total so_far = sym so_far ∙ ap (λ (vs : List Wire). Ok (vs, place)) (append-nil front)
+args_done front bytes position total so_far = sym so_far ∙ ap (λ (vs : List Wire). Ok (vs, position)) (append-nil front)
 
-pub args_done_at : (front : List Wire) (ks : List Kind) (i : ℕ) (bytes : List ℕ) (place : ℕ) (total : Result (List Wire × ℕ) ArgFault) → length ks ≤ i → with_front front (args_at (drop i ks) bytes place) ≡ total → total ≡ Ok (front, place)
-args_done_at front ks i bytes place total le so_far =
-    args_done front bytes place total (ap (λ (l : List Kind). with_front front (args_at l bytes place)) (sym (drop_of_length-le ks le)) ∙ so_far)
+pub args_done_at : (front : List Wire) (ks : List Kind) (i : ℕ) (bytes : List ℕ) (position : ℕ) (total : Result (List Wire × ℕ) ArgFault) → length ks ≤ i → with_front front (args_at (drop i ks) bytes position) ≡ total → total ≡ Ok (front, position)
+args_done_at front ks i bytes position total le so_far =
+    args_done front bytes position total (ap (λ (l : List Kind). with_front front (args_at l bytes position)) (sym (drop_of_length-le ks le)) ∙ so_far)

@@ -28,48 +28,48 @@ use Rattle.ndr_args.proofs.Spelled.{stands_end, zeros_take, zeros_again}
 use Rattle.ndr_args.proofs.Values.{value_take, value_again}
 
 -- behind the padding lies a multiple of the alignment
-aligned : (k : Kind) (place : ℕ) → (place + gap place (align_of k)) % align_of k ≡ 0
-aligned kind.Int place = omega arith
-aligned kind.Bool place = omega arith
-aligned kind.Text place = omega arith
-aligned kind.Bytes place = omega arith
-aligned kind.Guid place = omega arith
-aligned (kind.Ref i) place = omega arith
+aligned : (k : Kind) (position : ℕ) → (position + gap position (align_of k)) % align_of k ≡ 0
+aligned kind.Int position = omega arith
+aligned kind.Bool position = omega arith
+aligned kind.Text position = omega arith
+aligned kind.Bytes position = omega arith
+aligned kind.Guid position = omega arith
+aligned (kind.Ref i) position = omega arith
 
-pub args_take : (ks : List Kind) (bytes : List ℕ) (place : ℕ) (x : List Wire × ℕ) → IsBytes bytes → place ≤ length bytes → args_at ks bytes place ≡ Ok x → (text : List ℕ) × IsArgs ks place x.0 text × Stands bytes place text x.1
+pub args_take : (ks : List Kind) (bytes : List ℕ) (position : ℕ) (x : List Wire × ℕ) → IsBytes bytes → position ≤ length bytes → args_at ks bytes position ≡ Ok x → (text : List ℕ) × IsArgs ks position x.0 text × Stands bytes position text x.1
 unfolding args_at arg_at
-args_take [] bytes place x fits le e =
-    subst (λ (y : List Wire × ℕ). (text : List ℕ) × IsArgs [] place y.0 text × Stands bytes place text y.1) (ok_is {F = ArgFault} ([], place) x e) ([], refl, record { parts = refl; within = le })
-args_take (k ∷ ks) bytes place x fits le e =
-    let pad = gap place (align_of k) in
-    let a = bind_ok (arg_at k bytes place) (λ first. args_at ks bytes first.1 >>= λ others. Ok (first.0 ∷ others.0, others.1)) x e in
+args_take [] bytes position x fits le e =
+    subst (λ (y : List Wire × ℕ). (text : List ℕ) × IsArgs [] position y.0 text × Stands bytes position text y.1) (ok_is {F = ArgFault} ([], position) x e) ([], refl, record { parts = refl; within = le })
+args_take (k ∷ ks) bytes position x fits le e =
+    let pad = gap position (align_of k) in
+    let a = bind_ok (arg_at k bytes position) (λ first. args_at ks bytes first.1 >>= λ others. Ok (first.0 ∷ others.0, others.1)) x e in
     let b = bind_ok (args_at ks bytes a.0.1) (λ others. Ok (a.0.0 ∷ others.0, others.1)) x a.2 in
-    let z = bind_ok (zeros_at bytes pad place) (λ start. value_at k bytes start) a.0 a.1 in
-    let tz = zeros_take bytes pad place z.0 le z.1 in
-    let even : z.0 % align_of k ≡ 0 = ap (λ (n : ℕ). n % align_of k) tz.1 ∙ aligned k place in
+    let z = bind_ok (zeros_at bytes pad position) (λ start. value_at k bytes start) a.0 a.1 in
+    let tz = zeros_take bytes pad position z.0 le z.1 in
+    let even : z.0 % align_of k ≡ 0 = ap (λ (n : ℕ). n % align_of k) tz.1 ∙ aligned k position in
     let v = value_take k bytes z.0 a.0 fits even z.2 in
     let others = args_take ks bytes a.0.1 b.0 fits v.2.within b.1 in
-    let end : a.0.1 ≡ place + pad + length v.0 = stands_end bytes v.0 z.0 a.0.1 v.2 tz.0.within ∙ ap (λ (n : ℕ). n + length v.0) tz.1 in
-    let all = Stands-then bytes place z.0 b.0.1 (zeros pad) (v.0 ++ others.0) tz.0 (Stands-then bytes z.0 a.0.1 b.0.1 v.0 others.0 v.2 others.2) in
-    let is : IsArgs (k ∷ ks) place (a.0.0 ∷ b.0.0) (zeros pad ++ (v.0 ++ others.0)) = (v.0, others.0, v.1, refl, subst (λ (n : ℕ). IsArgs ks n b.0.0 others.0) end others.1) in
-    subst (λ (y : List Wire × ℕ). (text : List ℕ) × IsArgs (k ∷ ks) place y.0 text × Stands bytes place text y.1) (ok_is {F = ArgFault} (a.0.0 ∷ b.0.0, b.0.1) x b.2) (zeros pad ++ (v.0 ++ others.0), is, all)
+    let end : a.0.1 ≡ position + pad + length v.0 = stands_end bytes v.0 z.0 a.0.1 v.2 tz.0.within ∙ ap (λ (n : ℕ). n + length v.0) tz.1 in
+    let all = Stands-then bytes position z.0 b.0.1 (zeros pad) (v.0 ++ others.0) tz.0 (Stands-then bytes z.0 a.0.1 b.0.1 v.0 others.0 v.2 others.2) in
+    let is : IsArgs (k ∷ ks) position (a.0.0 ∷ b.0.0) (zeros pad ++ (v.0 ++ others.0)) = (v.0, others.0, v.1, refl, subst (λ (n : ℕ). IsArgs ks n b.0.0 others.0) end others.1) in
+    subst (λ (y : List Wire × ℕ). (text : List ℕ) × IsArgs (k ∷ ks) position y.0 text × Stands bytes position text y.1) (ok_is {F = ArgFault} (a.0.0 ∷ b.0.0, b.0.1) x b.2) (zeros pad ++ (v.0 ++ others.0), is, all)
 
-pub args_again : (ks : List Kind) (vs : List Wire) (bytes : List ℕ) (place : ℕ) (text rest : List ℕ) → IsArgs ks place vs text → drop place bytes ≡ text ++ rest → args_at ks bytes place ≡ Ok (vs, place + length text)
+pub args_again : (ks : List Kind) (vs : List Wire) (bytes : List ℕ) (position : ℕ) (text rest : List ℕ) → IsArgs ks position vs text → drop position bytes ≡ text ++ rest → args_at ks bytes position ≡ Ok (vs, position + length text)
 unfolding args_at arg_at
-args_again [] [] bytes place text rest is e = ap (λ (n : ℕ). Ok ([], n)) (omega (arith, ap length is))
-args_again [] (v ∷ vs) bytes place text rest is e = absurd is
-args_again (k ∷ ks) [] bytes place text rest is e = absurd is
-args_again (k ∷ ks) (v ∷ vs) bytes place text rest is e =
-    let pad = gap place (align_of k) in
+args_again [] [] bytes position text rest is e = ap (λ (n : ℕ). Ok ([], n)) (omega (arith, ap length is))
+args_again [] (v ∷ vs) bytes position text rest is e = absurd is
+args_again (k ∷ ks) [] bytes position text rest is e = absurd is
+args_again (k ∷ ks) (v ∷ vs) bytes position text rest is e =
+    let pad = gap position (align_of k) in
     let t = is.0 in
     let r = is.1 in
-    let here : drop place bytes ≡ zeros pad ++ (t ++ (r ++ rest)) = e ∙ ap (λ (x : List ℕ). x ++ rest) is.3 ∙ simp append_assoc in
-    let z = zeros_again bytes pad place (t ++ (r ++ rest)) here in
-    let at_value : drop (place + pad) bytes ≡ t ++ (r ++ rest) = after bytes (zeros pad) (t ++ (r ++ rest)) place pad here (length-replicate {A = ℕ} pad 0) in
-    let value = value_again k v bytes (place + pad) t (r ++ rest) (aligned k place) is.2 at_value in
-    let at_rest : drop (place + pad + length t) bytes ≡ r ++ rest = after bytes t (r ++ rest) (place + pad) (length t) at_value refl in
-    let others = args_again ks vs bytes (place + pad + length t) r rest is.4 at_rest in
-    let len : place + pad + length t + length r ≡ place + length text = omega (arith, ap length is.3, length-append (zeros pad) (t ++ r), length-append t r, length-replicate {A = ℕ} pad 0) in
+    let here : drop position bytes ≡ zeros pad ++ (t ++ (r ++ rest)) = e ∙ ap (λ (x : List ℕ). x ++ rest) is.3 ∙ simp append_assoc in
+    let z = zeros_again bytes pad position (t ++ (r ++ rest)) here in
+    let at_value : drop (position + pad) bytes ≡ t ++ (r ++ rest) = after bytes (zeros pad) (t ++ (r ++ rest)) position pad here (length-replicate {A = ℕ} pad 0) in
+    let value = value_again k v bytes (position + pad) t (r ++ rest) (aligned k position) is.2 at_value in
+    let at_rest : drop (position + pad + length t) bytes ≡ r ++ rest = after bytes t (r ++ rest) (position + pad) (length t) at_value refl in
+    let others = args_again ks vs bytes (position + pad + length t) r rest is.4 at_rest in
+    let len : position + pad + length t + length r ≡ position + length text = omega (arith, ap length is.3, length-append (zeros pad) (t ++ r), length-append t r, length-replicate {A = ℕ} pad 0) in
     rw (z, value, others, len) refl
 
 -- ---- all of the bytes
@@ -152,19 +152,19 @@ next_above referent (wire.Guid g) = (omega arith, omega arith)
 next_above referent (wire.Ref None) = (omega arith, omega arith)
 next_above referent (wire.Ref (Some f)) = (omega arith, omega arith)
 
-pub args_written : (ks : List Kind) (vs : List Wire) (place referent : ℕ) → CanSendAll ks vs → AllByRecursion IsInRange vs → 0 < referent → referent + 4 * length vs ≤ 2 ^ 32 → IsArgs ks place vs (written_from place referent vs)
+pub args_written : (ks : List Kind) (vs : List Wire) (position referent : ℕ) → CanSendAll ks vs → AllByRecursion IsInRange vs → 0 < referent → referent + 4 * length vs ≤ 2 ^ 32 → IsArgs ks position vs (written_from position referent vs)
 unfolding written_from
-args_written [] [] place referent can fits some le = refl
-args_written [] (v ∷ vs) place referent can fits some le = absurd can
-args_written (k ∷ ks) [] place referent can fits some le = absurd can
-args_written (k ∷ ks) (v ∷ vs) place referent can fits some le =
+args_written [] [] position referent can fits some le = refl
+args_written [] (v ∷ vs) position referent can fits some le = absurd can
+args_written (k ∷ ks) [] position referent can fits some le = absurd can
+args_written (k ∷ ks) (v ∷ vs) position referent can fits some le =
     let w = written_arg referent v in
     let next = next_referent referent v in
     let above = next_above referent v in
     let arg = arg_written k v referent can.0 can.1 fits.0 some (omega (arith, le)) in
-    let others = args_written ks vs (place + gap place (align_of k) + length w) next can.2 fits.1 (omega (arith, some, above.0)) (omega (arith, le, above.1)) in
-    subst (λ (a : ℕ). IsArgs (k ∷ ks) place (v ∷ vs) (zeros (gap place a) ++ (w ++ written_from (place + gap place a + length w) next vs))) (sym (align_same k v can.0))
-    (w, written_from (place + gap place (align_of k) + length w) next vs, arg, refl, others)
+    let others = args_written ks vs (position + gap position (align_of k) + length w) next can.2 fits.1 (omega (arith, some, above.0)) (omega (arith, le, above.1)) in
+    subst (λ (a : ℕ). IsArgs (k ∷ ks) position (v ∷ vs) (zeros (gap position a) ++ (w ++ written_from (position + gap position a + length w) next vs))) (sym (align_same k v can.0))
+    (w, written_from (position + gap position (align_of k) + length w) next vs, arg, refl, others)
 
 pub all_can_send : (ks : List Kind) (vs : List Wire) → CanSendAll ks vs → AllByRecursion CanSend vs
 all_can_send [] [] can = tt

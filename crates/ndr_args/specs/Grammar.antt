@@ -12,9 +12,9 @@ use Rattle.objref.specs.Grammar.{Strings, IsReference, standard, spelling}
 use Rattle.ndr_args.specs.declared.wire.Wire.{Wire}
 use Rattle.ndr_args.specs.declared.wire.Wire.TheVariants as wire
 
--- How many bytes lie between a place and the next multiple of the alignment.
+-- How many bytes lie between a position and the next multiple of the alignment.
 abbrev pub gap : ℕ → ℕ → ℕ
-gap place align = (align - place % align) % align
+gap position align = (align - position % align) % align
 
 -- Where a value of a kind may begin: at the multiples of this.
 abbrev pub align_of : Kind → ℕ
@@ -59,11 +59,11 @@ IsArg (kind.Ref i) (wire.Ref None) text = text ≡ number w32 0
 IsArg (kind.Ref i) (wire.Ref (Some fields)) text = IsRef fields text
 IsArg k v text = ⊥
 
--- The grammar: the bytes from a place on are these values of these kinds, one behind the other.
+-- The grammar: the bytes from a position on are these values of these kinds, one behind the other.
 abbrev pub IsArgs : List Kind → ℕ → List Wire → List ℕ → Type 0
-IsArgs [] place [] bytes = bytes ≡ []
-IsArgs (k ∷ ks) place (v ∷ vs) bytes =
+IsArgs [] position [] bytes = bytes ≡ []
+IsArgs (k ∷ ks) position (v ∷ vs) bytes =
     (text : List ℕ) × (rest : List ℕ) × IsArg k v text
-    × (bytes ≡ zeros (gap place (align_of k)) ++ (text ++ rest))
-    × IsArgs ks (place + gap place (align_of k) + length text) vs rest
-IsArgs ks place vs bytes = ⊥
+    × (bytes ≡ zeros (gap position (align_of k)) ++ (text ++ rest))
+    × IsArgs ks (position + gap position (align_of k) + length text) vs rest
+IsArgs ks position vs bytes = ⊥

@@ -34,67 +34,67 @@ fault number at = record { number = number; at = at }
 abbrev pub short : List ℕ → ArgFault
 short bytes = fault 1 (length bytes)
 
--- A field, and the place behind it.
+-- A field, and the position behind it.
 abbrev pub field : {A : Type 0} → List ℕ → Option A → ℕ → Result (A × ℕ) ArgFault
 field bytes None end = Err (short bytes)
 field bytes (Some x) end = Ok (x, end)
 
 abbrev pub u32_field : List ℕ → ℕ → Result (ℕ × ℕ) ArgFault
-u32_field bytes place = field bytes (number_at w32 bytes place) (place + 4)
+u32_field bytes position = field bytes (number_at w32 bytes position) (position + 4)
 
 -- So many bytes that must be 0. Another byte is fault 2, there.
 unfoldable pub zeros_at : List ℕ → ℕ → ℕ → Result ℕ ArgFault
-zeros_at bytes zero place = Ok place
-zeros_at bytes (suc count) place =
-    if nat_lt place (length bytes) then
-    (if slice_index bytes place == 0 then zeros_at bytes count (place + 1) else Err (fault 2 place))
+zeros_at bytes zero position = Ok position
+zeros_at bytes (suc count) position =
+    if nat_lt position (length bytes) then
+    (if slice_index bytes position == 0 then zeros_at bytes count (position + 1) else Err (fault 2 position))
     else Err (short bytes)
 
 -- A count above 65,536 is fault 5, at the count.
 unfoldable pub count_at : List ℕ → ℕ → Result (ℕ × ℕ) ArgFault
-count_at bytes place = do
-  count ← u32_field bytes place
-  if nat_lt 65536 count.0 then Err (fault 5 place) else Ok count
+count_at bytes position = do
+  count ← u32_field bytes position
+  if nat_lt 65536 count.0 then Err (fault 5 position) else Ok count
 
 -- So many bytes.
 abbrev pub part_at : List ℕ → ℕ → ℕ → Result (List ℕ × ℕ) ArgFault
-part_at bytes count place =
-    if nat_lt (length bytes) (place + count) then Err (short bytes)
-    else Ok (take count (drop place bytes), place + count)
+part_at bytes count position =
+    if nat_lt (length bytes) (position + count) then Err (short bytes)
+    else Ok (take count (drop position bytes), position + count)
 
 -- Bytes behind their count, which is tested before they are.
 unfoldable pub counted_at : List ℕ → ℕ → Result (List ℕ × ℕ) ArgFault
-counted_at bytes place = do
-  count ← count_at bytes place
+counted_at bytes position = do
+  count ← count_at bytes position
   part_at bytes count.0 count.1
 
 unfoldable pub int_at : List ℕ → ℕ → Result (Wire × ℕ) ArgFault
-int_at bytes place = do
-  n ← field bytes (number_at w64 bytes place) (place + 8)
+int_at bytes position = do
+  n ← field bytes (number_at w64 bytes position) (position + 8)
   Ok (wire.Int (cast_signed w64 n.0), n.1)
 
 -- A number that is neither 0 nor 1 is fault 3, at the number.
 unfoldable pub bool_at : List ℕ → ℕ → Result (Wire × ℕ) ArgFault
-bool_at bytes place = do
-  n ← u32_field bytes place
+bool_at bytes position = do
+  n ← u32_field bytes position
   if n.0 == 0 then Ok (wire.Bool false, n.1) else
       if n.0 == 1 then Ok (wire.Bool true, n.1) else
-      Err (fault 3 place)
+      Err (fault 3 position)
 
 -- Bytes that are not UTF-8 are fault 4, at their first.
 unfoldable pub text_at : List ℕ → ℕ → Result (Wire × ℕ) ArgFault
-text_at bytes place = do
-  part ← counted_at bytes place
-  if is_utf8 part.0 then Ok (wire.Text part.0, part.1) else Err (fault 4 (place + 4))
+text_at bytes position = do
+  part ← counted_at bytes position
+  if is_utf8 part.0 then Ok (wire.Text part.0, part.1) else Err (fault 4 (position + 4))
 
 unfoldable pub bytes_at : List ℕ → ℕ → Result (Wire × ℕ) ArgFault
-bytes_at bytes place = do
-  part ← counted_at bytes place
+bytes_at bytes position = do
+  part ← counted_at bytes position
   Ok (wire.Bytes part.0, part.1)
 
 unfoldable pub guid_arg_at : List ℕ → ℕ → Result (Wire × ℕ) ArgFault
-guid_arg_at bytes place = do
-  g ← field bytes (guid_at bytes place) (place + 16)
+guid_arg_at bytes position = do
+  g ← field bytes (guid_at bytes position) (position + 16)
   Ok (wire.Guid g.0, g.1)
 
 -- The fields of an OBJREF by standard marshalling.
@@ -105,15 +105,15 @@ std_fields (Ok (custom iid clsid extension unread payload)) = None
 std_fields (Err f) = None
 
 abbrev pub fields_at : Option StdFields → ℕ → Result StdFields ArgFault
-fields_at None place = Err (fault 7 place)
-fields_at (Some fields) place = Ok fields
+fields_at None position = Err (fault 7 position)
+fields_at (Some fields) position = Ok fields
 
 -- What stands behind a referent that is not 0: the maximum count, the length, the OBJREF and padding. Two
 -- counts that differ are fault 5 at the second, bytes that are no standard OBJREF are fault 7 at the
 -- first.
 unfoldable pub held_at : List ℕ → ℕ → Result (StdFields × ℕ) ArgFault
-held_at bytes place = do
-  maximum ← count_at bytes place
+held_at bytes position = do
+  maximum ← count_at bytes position
   count ← u32_field bytes maximum.1
   part ← (if count.0 == maximum.0 then part_at bytes count.0 count.1 else Err (fault 5 maximum.1))
   fields ← fields_at (std_fields (objref_of part.0)) count.1
@@ -121,30 +121,30 @@ held_at bytes place = do
   Ok (fields, end)
 
 unfoldable pub ref_at : List ℕ → ℕ → Result (Wire × ℕ) ArgFault
-ref_at bytes place = do
-  referent ← u32_field bytes place
+ref_at bytes position = do
+  referent ← u32_field bytes position
   if referent.0 == 0 then Ok (wire.Ref None, referent.1) else (do
     held ← held_at bytes referent.1
     Ok (wire.Ref (Some held.0), held.1))
 
--- A value of a kind at a place that is a multiple of its alignment.
+-- A value of a kind at a position that is a multiple of its alignment.
 abbrev pub value_at : Kind → List ℕ → ℕ → Result (Wire × ℕ) ArgFault
-value_at kind.Int bytes place = int_at bytes place
-value_at kind.Bool bytes place = bool_at bytes place
-value_at kind.Text bytes place = text_at bytes place
-value_at kind.Bytes bytes place = bytes_at bytes place
-value_at kind.Guid bytes place = guid_arg_at bytes place
-value_at (kind.Ref i) bytes place = ref_at bytes place
+value_at kind.Int bytes position = int_at bytes position
+value_at kind.Bool bytes position = bool_at bytes position
+value_at kind.Text bytes position = text_at bytes position
+value_at kind.Bytes bytes position = bytes_at bytes position
+value_at kind.Guid bytes position = guid_arg_at bytes position
+value_at (kind.Ref i) bytes position = ref_at bytes position
 
 unfoldable pub arg_at : Kind → List ℕ → ℕ → Result (Wire × ℕ) ArgFault
-arg_at k bytes place = do
-  start ← zeros_at bytes (gap place (align_of k)) place
+arg_at k bytes position = do
+  start ← zeros_at bytes (gap position (align_of k)) position
   value_at k bytes start
 
 unfoldable pub args_at : List Kind → List ℕ → ℕ → Result (List Wire × ℕ) ArgFault
-args_at [] bytes place = Ok ([], place)
-args_at (k ∷ ks) bytes place = do
-  first ← arg_at k bytes place
+args_at [] bytes position = Ok ([], position)
+args_at (k ∷ ks) bytes position = do
+  first ← arg_at k bytes position
   others ← args_at ks bytes first.1
   Ok (first.0 ∷ others.0, others.1)
 

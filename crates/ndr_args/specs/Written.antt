@@ -42,15 +42,15 @@ next_referent referent (wire.Guid g) = referent
 next_referent referent (wire.Ref None) = referent
 next_referent referent (wire.Ref (Some fields)) = referent + 4
 
--- Values from a place on, where the next referent is this one.
+-- Values from a position on, where the next referent is this one.
 unfoldable pub written_from : ℕ → ℕ → List Wire → List ℕ
-written_from place referent [] = []
-written_from place referent (v ∷ vs) =
-    zeros (gap place (align_of_value v)) ++ (written_arg referent v
-    ++ written_from (place + gap place (align_of_value v) + length (written_arg referent v))
+written_from position referent [] = []
+written_from position referent (v ∷ vs) =
+    zeros (gap position (align_of_value v)) ++ (written_arg referent v
+    ++ written_from (position + gap position (align_of_value v) + length (written_arg referent v))
     (next_referent referent v) vs)
 
--- A stream: it begins at place 0, and its first referent is 0x00020000.
+-- A stream: it begins at position 0, and its first referent is 0x00020000.
 abbrev pub written_args : List Wire → List ℕ
 written_args vs = written_from 0 0x20000 vs
 

@@ -25,33 +25,33 @@ fn fault(number: u8, at: usize) -> ArgError
     ArgError::Fault(ArgFault { number, at })
 }
 
-// How many bytes lie between a place and the next multiple of the alignment.
-pub(crate) fn gap(place: usize, align: usize) -> usize
+// How many bytes lie between a position and the next multiple of the alignment.
+pub(crate) fn gap(position: usize, align: usize) -> usize
     requires { 0 < align }
-    ensures value { result ≡ gap place align }
+    ensures value { result ≡ gap position align }
     ensures below { result < align }
 {
-    (align - place % align) % align
+    (align - position % align) % align
 }
 
-fn u32_field(bytes: &[u8], place: usize) -> Result<(u32, usize), ArgError>
-    ensures value { Gives (λ x. x) result (u32_field bytes.now place) }
-    ensures within { IfOk result (λ x. (x.1 ≡ place + 4) × (x.1 ≤ length bytes.now)) }
+fn u32_field(bytes: &[u8], position: usize) -> Result<(u32, usize), ArgError>
+    ensures value { Gives (λ x. x) result (u32_field bytes.now position) }
+    ensures within { IfOk result (λ x. (x.1 ≡ position + 4) × (x.1 ≤ length bytes.now)) }
 {
-    match u32_at(bytes, place) {
-        Some(number) => Ok((number, place + 4)),
+    match u32_at(bytes, position) {
+        Some(number) => Ok((number, position + 4)),
         None => Err(fault(ArgFault::SHORT, bytes.len())),
     }
 }
 
 // Passes over so many bytes that must be 0.
-fn zeros_at(bytes: &[u8], count: usize, place: usize) -> Result<usize, ArgError>
-    requires within { place ≤ length bytes.now }
+fn zeros_at(bytes: &[u8], count: usize, position: usize) -> Result<usize, ArgError>
+    requires within { position ≤ length bytes.now }
     requires few { count < 8 }
-    ensures value { Gives (λ x. x) result (zeros_at bytes.now count place) }
+    ensures value { Gives (λ x. x) result (zeros_at bytes.now count position) }
     ensures within { IfOk result (λ end. end ≤ length bytes.now) }
 {
-    for at in place..place + count {
+    for at in position..position + count {
         if at >= bytes.len() {
             return Err(fault(ArgFault::SHORT, bytes.len()));
         }
@@ -59,65 +59,65 @@ fn zeros_at(bytes: &[u8], count: usize, place: usize) -> Result<usize, ArgError>
             return Err(fault(ArgFault::PADDING, at));
         }
     }
-    Ok(place + count)
+    Ok(position + count)
 }
 
 #[tactic(auto, unfolding(crate::specs::Reading::count_at))]
-fn count_at(bytes: &[u8], place: usize) -> Result<(u32, usize), ArgError>
-    ensures value { Gives (λ x. x) result (count_at bytes.now place) }
-    ensures within { IfOk result (λ x. (x.1 ≡ place + 4) × (x.1 ≤ length bytes.now)) }
+fn count_at(bytes: &[u8], position: usize) -> Result<(u32, usize), ArgError>
+    ensures value { Gives (λ x. x) result (count_at bytes.now position) }
+    ensures within { IfOk result (λ x. (x.1 ≡ position + 4) × (x.1 ≤ length bytes.now)) }
 {
-    let (count, end) = u32_field(bytes, place)?;
+    let (count, end) = u32_field(bytes, position)?;
     if count > LIMIT {
-        return Err(fault(ArgFault::COUNT, place));
+        return Err(fault(ArgFault::COUNT, position));
     }
     Ok((count, end))
 }
 
-fn part_at(bytes: &[u8], count: u32, place: usize) -> Result<(&[u8], usize), ArgError>
-    requires { place ≤ length bytes.now }
-    ensures value { Gives (λ x. (x.0.now, x.1)) result (part_at bytes.now count place) }
+fn part_at(bytes: &[u8], count: u32, position: usize) -> Result<(&[u8], usize), ArgError>
+    requires { position ≤ length bytes.now }
+    ensures value { Gives (λ x. (x.0.now, x.1)) result (part_at bytes.now count position) }
     ensures within { IfOk result (λ x. x.1 ≤ length bytes.now) }
 {
     let count = count as usize;
-    if bytes.len() - place < count {
+    if bytes.len() - position < count {
         return Err(fault(ArgFault::SHORT, bytes.len()));
     }
-    let end = place + count;
-    Ok((&bytes[place..end], end))
+    let end = position + count;
+    Ok((&bytes[position..end], end))
 }
 
 #[tactic(auto, unfolding(crate::specs::Reading::counted_at))]
-fn counted_at(bytes: &[u8], place: usize) -> Result<(&[u8], usize), ArgError>
-    ensures value { Gives (λ x. (x.0.now, x.1)) result (counted_at bytes.now place) }
+fn counted_at(bytes: &[u8], position: usize) -> Result<(&[u8], usize), ArgError>
+    ensures value { Gives (λ x. (x.0.now, x.1)) result (counted_at bytes.now position) }
     ensures within { IfOk result (λ x. x.1 ≤ length bytes.now) }
-    ensures room { IfOk result (λ x. place + 4 ≤ length bytes.now) }
+    ensures room { IfOk result (λ x. position + 4 ≤ length bytes.now) }
 {
-    let (count, start) = count_at(bytes, place)?;
+    let (count, start) = count_at(bytes, position)?;
     part_at(bytes, count, start)
 }
 
 #[tactic(auto, unfolding(crate::specs::Reading::int_at))]
-fn int_at(bytes: &[u8], place: usize) -> Result<(Wire, usize), ArgError>
-    ensures value { Gives (λ x. x) result (int_at bytes.now place) }
+fn int_at(bytes: &[u8], position: usize) -> Result<(Wire, usize), ArgError>
+    ensures value { Gives (λ x. x) result (int_at bytes.now position) }
     ensures within { IfOk result (λ x. x.1 ≤ length bytes.now) }
 {
-    match u64_at(bytes, place) {
-        Some(number) => Ok((Wire::Int(number.cast_signed()), place + 8)),
+    match u64_at(bytes, position) {
+        Some(number) => Ok((Wire::Int(number.cast_signed()), position + 8)),
         None => Err(fault(ArgFault::SHORT, bytes.len())),
     }
 }
 
 #[tactic(auto, unfolding(crate::specs::Reading::bool_at))]
-fn bool_at(bytes: &[u8], place: usize) -> Result<(Wire, usize), ArgError>
-    ensures value { Gives (λ x. x) result (bool_at bytes.now place) }
+fn bool_at(bytes: &[u8], position: usize) -> Result<(Wire, usize), ArgError>
+    ensures value { Gives (λ x. x) result (bool_at bytes.now position) }
     ensures within { IfOk result (λ x. x.1 ≤ length bytes.now) }
 {
-    let (number, end) = u32_field(bytes, place)?;
+    let (number, end) = u32_field(bytes, position)?;
     match number {
         0 => Ok((Wire::Bool(false), end)),
         1 => Ok((Wire::Bool(true), end)),
-        _ => Err(fault(ArgFault::BOOL, place)),
+        _ => Err(fault(ArgFault::BOOL, position)),
     }
 }
 
@@ -128,33 +128,33 @@ fn is_utf8(bytes: &[u8]) -> bool
 }
 
 #[tactic(auto, unfolding(crate::specs::Reading::text_at))]
-fn text_at(alloc: Global, bytes: &[u8], place: usize) -> Result<(Wire, usize), ArgError>
-    ensures value { Gives (λ x. x) result (text_at bytes.now place) }
+fn text_at(alloc: Global, bytes: &[u8], position: usize) -> Result<(Wire, usize), ArgError>
+    ensures value { Gives (λ x. x) result (text_at bytes.now position) }
     ensures within { IfOk result (λ x. x.1 ≤ length bytes.now) }
 {
-    let (text, end) = counted_at(bytes, place)?;
+    let (text, end) = counted_at(bytes, position)?;
     if !is_utf8(text) {
-        return Err(fault(ArgFault::TEXT, place + 4));
+        return Err(fault(ArgFault::TEXT, position + 4));
     }
     Ok((Wire::Text(ByteList::from_slice(alloc, text)?), end))
 }
 
 #[tactic(auto, unfolding(crate::specs::Reading::bytes_at))]
-fn bytes_at(alloc: Global, bytes: &[u8], place: usize) -> Result<(Wire, usize), ArgError>
-    ensures value { Gives (λ x. x) result (bytes_at bytes.now place) }
+fn bytes_at(alloc: Global, bytes: &[u8], position: usize) -> Result<(Wire, usize), ArgError>
+    ensures value { Gives (λ x. x) result (bytes_at bytes.now position) }
     ensures within { IfOk result (λ x. x.1 ≤ length bytes.now) }
 {
-    let (part, end) = counted_at(bytes, place)?;
+    let (part, end) = counted_at(bytes, position)?;
     Ok((Wire::Bytes(ByteList::from_slice(alloc, part)?), end))
 }
 
 #[tactic(auto, unfolding(crate::specs::Reading::guid_arg_at))]
-fn guid_arg_at(bytes: &[u8], place: usize) -> Result<(Wire, usize), ArgError>
-    ensures value { Gives (λ x. x) result (guid_arg_at bytes.now place) }
+fn guid_arg_at(bytes: &[u8], position: usize) -> Result<(Wire, usize), ArgError>
+    ensures value { Gives (λ x. x) result (guid_arg_at bytes.now position) }
     ensures within { IfOk result (λ x. x.1 ≤ length bytes.now) }
 {
-    match guid_at(bytes, place) {
-        Some(guid) => Ok((Wire::Guid(guid), place + 16)),
+    match guid_at(bytes, position) {
+        Some(guid) => Ok((Wire::Guid(guid), position + 16)),
         None => Err(fault(ArgFault::SHORT, bytes.len())),
     }
 }
@@ -170,11 +170,11 @@ fn standard_fields(bytes: &[u8]) -> Option<StdFields>
 }
 
 #[tactic(auto, unfolding(crate::specs::Reading::held_at))]
-fn held_at(bytes: &[u8], place: usize) -> Result<(StdFields, usize), ArgError>
-    ensures value { Gives (λ x. x) result (held_at bytes.now place) }
+fn held_at(bytes: &[u8], position: usize) -> Result<(StdFields, usize), ArgError>
+    ensures value { Gives (λ x. x) result (held_at bytes.now position) }
     ensures within { IfOk result (λ x. x.1 ≤ length bytes.now) }
 {
-    let (maximum, second) = count_at(bytes, place)?;
+    let (maximum, second) = count_at(bytes, position)?;
     let (count, start) = u32_field(bytes, second)?;
     if count != maximum {
         return Err(fault(ArgFault::COUNT, second));
@@ -188,15 +188,15 @@ fn held_at(bytes: &[u8], place: usize) -> Result<(StdFields, usize), ArgError>
 }
 
 #[tactic(auto, unfolding(crate::specs::Reading::ref_at))]
-fn ref_at(bytes: &[u8], place: usize) -> Result<(Wire, usize), ArgError>
-    ensures value { Gives (λ x. x) result (ref_at bytes.now place) }
+fn ref_at(bytes: &[u8], position: usize) -> Result<(Wire, usize), ArgError>
+    ensures value { Gives (λ x. x) result (ref_at bytes.now position) }
     ensures within { IfOk result (λ x. x.1 ≤ length bytes.now) }
 {
-    let (referent, place) = u32_field(bytes, place)?;
+    let (referent, position) = u32_field(bytes, position)?;
     if referent == 0 {
-        return Ok((Wire::Ref(None), place));
+        return Ok((Wire::Ref(None), position));
     }
-    let (fields, end) = held_at(bytes, place)?;
+    let (fields, end) = held_at(bytes, position)?;
     Ok((Wire::Ref(Some(fields)), end))
 }
 
@@ -212,12 +212,17 @@ fn align_of(kind: Kind) -> usize
 }
 
 #[tactic(auto, unfolding(crate::specs::Reading::arg_at))]
-fn arg_at(alloc: Global, kind: Kind, bytes: &[u8], place: usize) -> Result<(Wire, usize), ArgError>
-    requires { place ≤ length bytes.now }
-    ensures value { Gives (λ x. x) result (arg_at kind bytes.now place) }
+fn arg_at(
+    alloc: Global,
+    kind: Kind,
+    bytes: &[u8],
+    position: usize,
+) -> Result<(Wire, usize), ArgError>
+    requires { position ≤ length bytes.now }
+    ensures value { Gives (λ x. x) result (arg_at kind bytes.now position) }
     ensures within { IfOk result (λ x. x.1 ≤ length bytes.now) }
 {
-    let start = zeros_at(bytes, gap(place, align_of(kind)), place)?;
+    let start = zeros_at(bytes, gap(position, align_of(kind)), position)?;
     match kind {
         Kind::Int => int_at(bytes, start),
         Kind::Bool => bool_at(bytes, start),
@@ -232,13 +237,13 @@ fn args_at(alloc: Global, kinds: &[Kind], bytes: &[u8]) -> Result<(Vec<Wire>, us
     ensures { Gives (λ x. (x.0.items, x.1)) result (args_at kinds.now bytes.now 0) }
 {
     let mut values = Vec::with_capacity(alloc, kinds.len())?;
-    let mut place = 0;
+    let mut position = 0;
     for kind in kinds {
-        let (value, end) = arg_at(alloc, *kind, bytes, place)?;
+        let (value, end) = arg_at(alloc, *kind, bytes, position)?;
         values.push(value)?;
-        place = end;
+        position = end;
     }
-    Ok((values, place))
+    Ok((values, position))
 }
 
 #[tactic(auto, unfolding(crate::specs::Reading::args_of))]

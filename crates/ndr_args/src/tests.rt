@@ -88,7 +88,7 @@ fn references_are_written_and_read(rt: HostRuntime) -> Result<(), Fail> {
 }
 
 #[test]
-fn each_fault_has_its_place(rt: HostRuntime) {
+fn each_fault_has_its_position(rt: HostRuntime) {
     let kinds = [Kind::Text, Kind::Int];
     for length in 0..16 {
         assert_eq!(rt;
@@ -116,10 +116,10 @@ fn each_fault_has_its_place(rt: HostRuntime) {
 }
 
 #[test]
-fn each_fault_of_a_reference_has_its_place(rt: HostRuntime) {
-    for (place, number, at) in [(4, 5, 8), (8, 5, 8), (12, 7, 12), (76, 7, 12)] {
+fn each_fault_of_a_reference_has_its_position(rt: HostRuntime) {
+    for (position, number, at) in [(4, 5, 8), (8, 5, 8), (12, 7, 12), (76, 7, 12)] {
         let mut bytes = REFERENCE;
-        bytes[place] = 0x49;
+        bytes[position] = 0x49;
         assert_eq!(rt;
             fault_of(rt.alloc(), &[Kind::Ref(2)], &bytes),
             Some((number, at))

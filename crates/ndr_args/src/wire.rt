@@ -23,7 +23,7 @@ pub enum Wire {
     Ref(Option<StdFields>),
 }
 
-/// Why bytes are no arguments of given kinds: the first fault in the order of reading, and its place in
+/// Why bytes are no arguments of given kinds: the first fault in the order of reading, and its position in
 /// the bytes.
 #[derive(Debug, Clone, Copy, PartialEq, Eq)]
 pub struct ArgFault {

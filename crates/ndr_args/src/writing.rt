@@ -106,17 +106,22 @@ fn next_referent(referent: u32, value: &Wire) -> Result<u32, Memory>
     }
 }
 
-// Appends a value with the padding before it, at a place in the stream, and gives the next referent.
+// Appends a value with the padding before it, at a position in the stream, and gives the next referent.
 #[tactic(auto, using(crate::proofs::Fronts::take_front, crate::proofs::Appending::taken_back))]
-fn put_value(value: &Wire, place: usize, referent: u32, out: &mut ByteList) -> Result<u32, Memory>
+fn put_value(
+    value: &Wire,
+    position: usize,
+    referent: u32,
+    out: &mut ByteList,
+) -> Result<u32, Memory>
     requires { CanSend value.now }
     ensures next { IfOk result (λ next. next ≡ next_referent referent value.now) }
     ensures ok { OnOk result (out.new
-        ≡ out.old ++ (zeros (gap place (align_of_value value.now)) ++ written_arg referent value.now)) }
+        ≡ out.old ++ (zeros (gap position (align_of_value value.now)) ++ written_arg referent value.now)) }
     ensures err { OnErr result (take (length out.old) out.new ≡ out.old) }
 {
     let next = next_referent(referent, value)?;
-    put_zeros(gap(place, align_of_value(value)), out)?;
+    put_zeros(gap(position, align_of_value(value)), out)?;
     put_arg(value, referent, out)?;
     Ok(next)
 }

@@ -19,23 +19,23 @@ whole_is : {A : Type 0} (bytes : List ℕ) (o : Option A) (x : A) → whole byte
 whole_is bytes None x e = absurd cc
 whole_is bytes (Some y) x e = cc
 
-pub long_enough : (bytes : List ℕ) (place n : ℕ) (o : Option ℕ) → o ≡ number_at w32 bytes place → whole bytes o ≡ Ok n → place + 4 ≤ length bytes
+pub long_enough : (bytes : List ℕ) (position n : ℕ) (o : Option ℕ) → o ≡ number_at w32 bytes position → whole bytes o ≡ Ok n → position + 4 ≤ length bytes
 unfolding number_at
-long_enough bytes place n o is e =
-    let read : number_at w32 bytes place ≡ Some n = sym is ∙ whole_is bytes o n e in
-    ltb-false _ _ (some_is (ltb (length bytes) (place + 4)) _ n read).0
+long_enough bytes position n o is e =
+    let read : number_at w32 bytes position ≡ Some n = sym is ∙ whole_is bytes o n e in
+    ltb-false _ _ (some_is (ltb (length bytes) (position + 4)) _ n read).0
 
-field_long : (bytes : List ℕ) (place n : ℕ) → number_at w16 bytes place ≡ Some n → place + 2 ≤ length bytes
+field_long : (bytes : List ℕ) (position n : ℕ) → number_at w16 bytes position ≡ Some n → position + 2 ≤ length bytes
 unfolding number_at
-field_long bytes place n e = ltb-false _ _ (some_is (ltb (length bytes) (place + 2)) _ n e).0
+field_long bytes position n e = ltb-false _ _ (some_is (ltb (length bytes) (position + 2)) _ n e).0
 
 -- ---- fields
 
-field_takes : (w : Width) (limit : ℕ) (wide : IsWide w limit) (bytes : List ℕ) (place n : ℕ) → IsBytes bytes → whole bytes (number_at w bytes place) ≡ Ok n → Stands bytes place (number w n) (place + byte_len w) × (n < limit)
-field_takes w limit wide bytes place n fits e = number_takes w limit wide bytes place n fits (whole_is bytes (number_at w bytes place) n e)
+field_takes : (w : Width) (limit : ℕ) (wide : IsWide w limit) (bytes : List ℕ) (position n : ℕ) → IsBytes bytes → whole bytes (number_at w bytes position) ≡ Ok n → Stands bytes position (number w n) (position + byte_len w) × (n < limit)
+field_takes w limit wide bytes position n fits e = number_takes w limit wide bytes position n fits (whole_is bytes (number_at w bytes position) n e)
 
-guid_field_takes : (bytes : List ℕ) (place : ℕ) (g : Guid) → IsBytes bytes → whole bytes (guid_at bytes place) ≡ Ok g → Stands bytes place (guid g) (place + 16) × IsGuid g
-guid_field_takes bytes place g fits e = guid_takes bytes place g fits (whole_is bytes (guid_at bytes place) g e)
+guid_field_takes : (bytes : List ℕ) (position : ℕ) (g : Guid) → IsBytes bytes → whole bytes (guid_at bytes position) ≡ Ok g → Stands bytes position (guid g) (position + 16) × IsGuid g
+guid_field_takes bytes position g fits e = guid_takes bytes position g fits (whole_is bytes (guid_at bytes position) g e)
 
 -- ---- STDOBJREF
 
@@ -78,48 +78,48 @@ abbrev array : ℕ → ℕ → List ℕ → Strings
 array entries security values = record { entries = entries; security = security; values = values }
 
 abbrev ends_in : List ℕ → ℕ → ℕ → ℕ → Result Strings RefFault
-ends_in bytes place entries security =
-    cond (ltb entries security) (Err (fault 4 (place + 2))) (cond (ltb (length bytes) (place + 4 + 2 * entries)) (Err (fault 1 (length bytes))) (cond (ltb (place + 4 + 2 * entries) (length bytes)) (Err (fault 5 (place + 4 + 2 * entries))) (Ok (array entries security (drop (place + 4) bytes)))))
+ends_in bytes position entries security =
+    cond (ltb entries security) (Err (fault 4 (position + 2))) (cond (ltb (length bytes) (position + 4 + 2 * entries)) (Err (fault 1 (length bytes))) (cond (ltb (position + 4 + 2 * entries) (length bytes)) (Err (fault 5 (position + 4 + 2 * entries))) (Ok (array entries security (drop (position + 4) bytes)))))
 
-strings_take : (bytes : List ℕ) (place : ℕ) (s : Strings) → IsBytes bytes → strings_at bytes place ≡ Ok s → (drop place bytes ≡ strings s) × IsStrings s
+strings_take : (bytes : List ℕ) (position : ℕ) (s : Strings) → IsBytes bytes → strings_at bytes position ≡ Ok s → (drop position bytes ≡ strings s) × IsStrings s
 unfolding strings_at strings
-strings_take bytes place s fits e =
-    let a = bind_ok (whole bytes (number_at w16 bytes place)) (λ entries. whole bytes (number_at w16 bytes (place + 2)) >>= λ security. ends_in bytes place entries security) s e in
-    let b = bind_ok (whole bytes (number_at w16 bytes (place + 2))) (λ security. ends_in bytes place a.0 security) s a.2 in
-    let g1 = guard_ok (ltb a.0 b.0) (fault 4 (place + 2)) _ s b.2 in
-    let g2 = guard_ok (ltb (length bytes) (place + 4 + 2 * a.0)) (fault 1 (length bytes)) _ s g1.1 in
-    let g3 = guard_ok (ltb (place + 4 + 2 * a.0) (length bytes)) (fault 5 (place + 4 + 2 * a.0)) _ s g2.1 in
-    let ta = field_takes w16 (2 ^ 16) wide16 bytes place a.0 fits a.1 in
-    let tb = field_takes w16 (2 ^ 16) wide16 bytes (place + 2) b.0 fits b.1 in
+strings_take bytes position s fits e =
+    let a = bind_ok (whole bytes (number_at w16 bytes position)) (λ entries. whole bytes (number_at w16 bytes (position + 2)) >>= λ security. ends_in bytes position entries security) s e in
+    let b = bind_ok (whole bytes (number_at w16 bytes (position + 2))) (λ security. ends_in bytes position a.0 security) s a.2 in
+    let g1 = guard_ok (ltb a.0 b.0) (fault 4 (position + 2)) _ s b.2 in
+    let g2 = guard_ok (ltb (length bytes) (position + 4 + 2 * a.0)) (fault 1 (length bytes)) _ s g1.1 in
+    let g3 = guard_ok (ltb (position + 4 + 2 * a.0) (length bytes)) (fault 5 (position + 4 + 2 * a.0)) _ s g2.1 in
+    let ta = field_takes w16 (2 ^ 16) wide16 bytes position a.0 fits a.1 in
+    let tb = field_takes w16 (2 ^ 16) wide16 bytes (position + 2) b.0 fits b.1 in
     let le1 : b.0 ≤ a.0 = ltb-false _ _ g1.0 in
-    let le2 : place + 4 + 2 * a.0 ≤ length bytes = ltb-false _ _ g2.0 in
-    let le3 : length bytes ≤ place + 4 + 2 * a.0 = ltb-false _ _ g3.0 in
-    let four : place + 2 + 2 ≡ place + 4 = omega arith in
-    let both : drop place bytes ≡ number w16 a.0 ++ (number w16 b.0 ++ drop (place + 4) bytes) =
+    let le2 : position + 4 + 2 * a.0 ≤ length bytes = ltb-false _ _ g2.0 in
+    let le3 : length bytes ≤ position + 4 + 2 * a.0 = ltb-false _ _ g3.0 in
+    let four : position + 2 + 2 ≡ position + 4 = omega arith in
+    let both : drop position bytes ≡ number w16 a.0 ++ (number w16 b.0 ++ drop (position + 4) bytes) =
     ta.0.parts ∙ ap (λ (t : List ℕ). number w16 a.0 ++ t) (tb.0.parts ∙ ap (λ (k : ℕ). number w16 b.0 ++ drop k bytes) four) in
-    subst (λ (y : Strings). (drop place bytes ≡ strings y) × IsStrings y) (ok_is (array a.0 b.0 (drop (place + 4) bytes)) s g3.1)
-    (both, record { entries = ta.1; security = le1; values = omega (arith, length-drop (place + 4) bytes) })
+    subst (λ (y : Strings). (drop position bytes ≡ strings y) × IsStrings y) (ok_is (array a.0 b.0 (drop (position + 4) bytes)) s g3.1)
+    (both, record { entries = ta.1; security = le1; values = omega (arith, length-drop (position + 4) bytes) })
 
 -- what stands behind the array decides: nothing, or a fault
-strings_read : (bytes : List ℕ) (place : ℕ) (s : Strings) (more : List ℕ) → IsStrings s → drop place bytes ≡ strings s ++ more
-    → (more ≡ [] → strings_at bytes place ≡ Ok s) × (0 < length more → strings_at bytes place ≡ Err (fault 5 (place + 4 + 2 * s.entries)))
+strings_read : (bytes : List ℕ) (position : ℕ) (s : Strings) (more : List ℕ) → IsStrings s → drop position bytes ≡ strings s ++ more
+    → (more ≡ [] → strings_at bytes position ≡ Ok s) × (0 < length more → strings_at bytes position ≡ Err (fault 5 (position + 4 + 2 * s.entries)))
 unfolding strings_at strings
-strings_read bytes place s more fits e =
-    let regrouped : drop place bytes ≡ number w16 s.entries ++ (number w16 s.security ++ (s.values ++ more)) = e ∙ simp append_assoc in
-    let a = field_again w16 (2 ^ 16) wide16 bytes place s.entries (number w16 s.security ++ (s.values ++ more)) (omega arith) fits.entries regrouped in
-    let b = field_again w16 (2 ^ 16) wide16 bytes (place + 2) s.security (s.values ++ more) (omega arith) (omega (arith, fits.security, fits.entries)) a.1 in
-    let four : place + 2 + 2 ≡ place + 4 = omega arith in
-    let behind : drop (place + 4) bytes ≡ s.values ++ more = ap (λ (k : ℕ). drop k bytes) (sym four) ∙ b.1 in
-    let two = field_long bytes (place + 2) s.security b.0 in
-    let long : length bytes ≡ place + 4 + 2 * s.entries + length more = omega (arith, two, length-drop (place + 4) bytes, length-append s.values more, ap length behind, fits.values) in
+strings_read bytes position s more fits e =
+    let regrouped : drop position bytes ≡ number w16 s.entries ++ (number w16 s.security ++ (s.values ++ more)) = e ∙ simp append_assoc in
+    let a = field_again w16 (2 ^ 16) wide16 bytes position s.entries (number w16 s.security ++ (s.values ++ more)) (omega arith) fits.entries regrouped in
+    let b = field_again w16 (2 ^ 16) wide16 bytes (position + 2) s.security (s.values ++ more) (omega arith) (omega (arith, fits.security, fits.entries)) a.1 in
+    let four : position + 2 + 2 ≡ position + 4 = omega arith in
+    let behind : drop (position + 4) bytes ≡ s.values ++ more = ap (λ (k : ℕ). drop k bytes) (sym four) ∙ b.1 in
+    let two = field_long bytes (position + 2) s.security b.0 in
+    let long : length bytes ≡ position + 4 + 2 * s.entries + length more = omega (arith, two, length-drop (position + 4) bytes, length-append s.values more, ap length behind, fits.values) in
     let t1 : ltb s.entries s.security ≡ false = le-ltb _ _ fits.security in
-    let t2 : ltb (length bytes) (place + 4 + 2 * s.entries) ≡ false = le-ltb _ _ (omega (arith, long)) in (
+    let t2 : ltb (length bytes) (position + 4 + 2 * s.entries) ≡ false = le-ltb _ _ (omega (arith, long)) in (
       λ none.
-          let t3 : ltb (place + 4 + 2 * s.entries) (length bytes) ≡ false = le-ltb _ _ (omega (arith, long, ap length none)) in
-          let values : drop (place + 4) bytes ≡ s.values = behind ∙ ap (λ (t : List ℕ). s.values ++ t) none ∙ append-nil s.values in
+          let t3 : ltb (position + 4 + 2 * s.entries) (length bytes) ≡ false = le-ltb _ _ (omega (arith, long, ap length none)) in
+          let values : drop (position + 4) bytes ≡ s.values = behind ∙ ap (λ (t : List ℕ). s.values ++ t) none ∙ append-nil s.values in
           rw (a.0, b.0, t1, t2, t3, values) refl,
       λ some.
-          let t3 : ltb (place + 4 + 2 * s.entries) (length bytes) ≡ true = lt-ltb _ _ (omega (arith, long, some)) in
+          let t3 : ltb (position + 4 + 2 * s.entries) (length bytes) ≡ true = lt-ltb _ _ (omega (arith, long, some)) in
           rw (a.0, b.0, t1, t2, t3) refl,
     )
 

@@ -27,7 +27,7 @@ whole bytes (Some x) = Ok x
 abbrev pub strings_of : Array → Strings
 strings_of a = record { entries = a.entries; security = a.security; values = a.values.now }
 
--- STDOBJREF at place 24, behind the IID.
+-- STDOBJREF at position 24, behind the IID.
 unfoldable pub standard_at : List ℕ → Guid → Result (StdFields × ℕ) RefFault
 standard_at bytes iid = do
   flags ← whole bytes (number_at w32 bytes 24)
@@ -37,16 +37,17 @@ standard_at bytes iid = do
   ipid ← whole bytes (guid_at bytes 48)
   Ok (record { iid = iid; refs = refs; oxid = oxid; oid = oid; ipid = ipid }, flags)
 
--- DUALSTRINGARRAY from a place to the end. An offset above the count is fault 4 at the offset, tested
+-- DUALSTRINGARRAY from a position to the end. An offset above the count is fault 4 at the offset, tested
 -- before the values are read; bytes behind the values are fault 5 at the first of them.
 unfoldable pub strings_at : List ℕ → ℕ → Result Strings RefFault
-strings_at bytes place = do
-  entries ← whole bytes (number_at w16 bytes place)
-  security ← whole bytes (number_at w16 bytes (place + 2))
-  if nat_lt entries security then Err (fault 4 (place + 2)) else
-      if nat_lt (length bytes) (place + 4 + 2 * entries) then Err (fault 1 (length bytes)) else
-      if nat_lt (place + 4 + 2 * entries) (length bytes) then Err (fault 5 (place + 4 + 2 * entries)) else
-      Ok (record { entries = entries; security = security; values = drop (place + 4) bytes })
+strings_at bytes position = do
+  entries ← whole bytes (number_at w16 bytes position)
+  security ← whole bytes (number_at w16 bytes (position + 2))
+  if nat_lt entries security then Err (fault 4 (position + 2)) else
+      if nat_lt (length bytes) (position + 4 + 2 * entries) then Err (fault 1 (length bytes)) else
+      if nat_lt (position + 4 + 2 * entries) (length bytes)
+      then Err (fault 5 (position + 4 + 2 * entries)) else
+      Ok (record { entries = entries; security = security; values = drop (position + 4) bytes })
 
 unfoldable pub standard_ref : List ℕ → Result Reference RefFault
 standard_ref bytes = do
@@ -71,7 +72,7 @@ custom_ref bytes = do
   unread ← whole bytes (number_at w32 bytes 44)
   Ok (custom iid clsid extension unread (drop 48 bytes))
 
--- All of the bytes. Another signature is fault 2 at place 0, flags of no case are fault 3 at place 4.
+-- All of the bytes. Another signature is fault 2 at position 0, flags of no case are fault 3 at position 4.
 unfoldable pub objref_of : List ℕ → Result Reference RefFault
 objref_of bytes = do
   signature ← whole bytes (number_at w32 bytes 0)

@@ -40,14 +40,14 @@ pub enum ObjRef<'a> {
     },
 }
 
-/// Why bytes are no OBJREF: the first fault in the order of reading, and its place in the bytes.
+/// Why bytes are no OBJREF: the first fault in the order of reading, and its position in the bytes.
 #[derive(Debug, Clone, Copy, PartialEq, Eq)]
 pub struct RefFault {
     /// 1 a field is not whole, 2 another signature, 3 flags of none of the three cases, 4 the security
     /// bindings begin behind the end of the values, 5 bytes behind a standard or a handler body.
     pub number: u8,
-    /// For 1 the length of the bytes, for 2 place 0, for 3 place 4, for 4 the offset's place, for 5 the
-    /// place of the first byte behind the body.
+    /// For 1 the length of the bytes, for 2 position 0, for 3 position 4, for 4 the offset's position, for 5
+    /// the position of the first byte behind the body.
     pub at: usize,
 }
 
@@ -104,7 +104,7 @@ fn standard_at(bytes: &[u8], iid: Guid) -> Result<(StdFields, u32), RefFault>
     Ok((fields, flags))
 }
 
-// A DUALSTRINGARRAY from a place to the end of the bytes.
+// A DUALSTRINGARRAY from a position to the end of the bytes.
 struct Strings<'a> {
     entries: u16,
     security: u16,
@@ -112,19 +112,19 @@ struct Strings<'a> {
 }
 
 #[tactic(auto, unfolding(crate::specs::Reading::strings_at))]
-fn strings_at(bytes: &[u8], place: usize) -> Result<Strings<'_>, RefFault>
-    requires { place ≤ 80 }
-    ensures { Gives strings_of result (strings_at bytes.now place) }
+fn strings_at(bytes: &[u8], position: usize) -> Result<Strings<'_>, RefFault>
+    requires { position ≤ 80 }
+    ensures { Gives strings_of result (strings_at bytes.now position) }
 {
-    let entries = whole(bytes, u16_at(bytes, place))?;
-    let security = whole(bytes, u16_at(bytes, place + 2))?;
+    let entries = whole(bytes, u16_at(bytes, position))?;
+    let security = whole(bytes, u16_at(bytes, position + 2))?;
     if security > entries {
         return Err(RefFault {
             number: RefFault::OFFSET,
-            at: place + 2,
+            at: position + 2,
         });
     }
-    let end = place + 4 + 2 * entries as usize;
+    let end = position + 4 + 2 * entries as usize;
     if bytes.len() < end {
         return Err(RefFault {
             number: RefFault::SHORT,
@@ -140,7 +140,7 @@ fn strings_at(bytes: &[u8], place: usize) -> Result<Strings<'_>, RefFault>
     Ok(Strings {
         entries,
         security,
-        values: &bytes[place + 4..],
+        values: &bytes[position + 4..],
     })
 }
 

@@ -87,15 +87,15 @@ fn each_front_is_short(rt: HostRuntime) {
 }
 
 #[test]
-fn each_fault_has_its_place(rt: HostRuntime) {
-    for (place, byte, number, at) in [
+fn each_fault_has_its_position(rt: HostRuntime) {
+    for (position, byte, number, at) in [
         (0, 0x4e, 2, 0),
         (4, 8, 3, 4),
         (66, 3, 4, 66),
         (64, 1, 5, 70),
     ] {
         let mut bytes = WORKED;
-        bytes[place] = byte;
+        bytes[position] = byte;
         assert!(rt; decode(&bytes) == Err(fault(number, at)));
     }
     let mut bytes = HANDLER;

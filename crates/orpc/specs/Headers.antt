@@ -50,8 +50,8 @@ abbrev pub whole : {A : Type 0} → List ℕ → Option A → Result A OrpcFault
 whole bytes None = Err (fault 1 (length bytes))
 whole bytes (Some x) = Ok x
 
--- The causality of a request's header. Another major version than 5 is fault 2 at place 0, extensions
--- are fault 3 at their pointer, at place 28. Nobody looks at what stands behind the header.
+-- The causality of a request's header. Another major version than 5 is fault 2 at position 0, extensions
+-- are fault 3 at their pointer, at position 28. Nobody looks at what stands behind the header.
 unfoldable pub request_of : List ℕ → Result Guid OrpcFault
 request_of bytes = do
   major ← whole bytes (number_at w16 bytes 0)
@@ -64,7 +64,7 @@ request_of bytes = do
     if extensions == 0 then Ok cause else Err (fault 3 28))
       else Err (fault 2 0)
 
--- Whether a reply's header stands there. Extensions are fault 3 at their pointer, at place 4.
+-- Whether a reply's header stands there. Extensions are fault 3 at their pointer, at position 4.
 unfoldable pub reply_of : List ℕ → Result (Unit {0}) OrpcFault
 reply_of bytes = do
   flags ← whole bytes (number_at w32 bytes 0)

@@ -11,12 +11,12 @@ ghost use Rattle.orpc.specs.Headers.{reply_of};
 use com_base::{ByteList, Guid, Memory};
 use com_wire::{guid_at, put, u16_at, u32_at};
 
-/// Why bytes are no header: the first fault in the order of reading, and its place in the bytes.
+/// Why bytes are no header: the first fault in the order of reading, and its position in the bytes.
 #[derive(Debug, Clone, Copy, PartialEq, Eq)]
 pub struct OrpcFault {
     /// 1 a field is not whole, 2 another major version than 5, 3 there are extensions.
     pub number: u8,
-    /// For 1 the length of the bytes, for 2 place 0, for 3 the place of the pointer to the extensions:
+    /// For 1 the length of the bytes, for 2 position 0, for 3 the position of the pointer to the extensions:
     /// 28 in a request, 4 in a reply.
     pub at: usize,
 }

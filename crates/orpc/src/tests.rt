@@ -39,10 +39,10 @@ fn each_front_is_short(rt: HostRuntime) {
 }
 
 #[test]
-fn each_fault_has_its_place(rt: HostRuntime) {
-    for (place, number, at) in [(0, 2, 0), (1, 2, 0), (28, 3, 28), (31, 3, 28)] {
+fn each_fault_has_its_position(rt: HostRuntime) {
+    for (position, number, at) in [(0, 2, 0), (1, 2, 0), (28, 3, 28), (31, 3, 28)] {
         let mut bytes = REQUEST_1;
-        bytes[place] = 6;
+        bytes[position] = 6;
         assert!(rt; read_request(&bytes) == Err(fault(number, at)));
     }
     assert!(rt; read_reply(&[0, 0, 0, 0, 0, 0, 0, 1, 5]) == Err(fault(3, 4)));

@@ -16,20 +16,20 @@ loop-at-preserved c =
     let k = proxy_key_of a o in
     let at = c.loop-at.at in
     let best = c.loop-at.lowest in
-    let place = c.in-Some.place in
+    let index = c.in-Some.index in
     let next = c.earlier-at.result in
     let i = c.loop-at.invariant in
     elim c.if-row-object.branch [
       | then-row-object+then-row-apartment+then-row-gt0+then-is_lower w ↦ rw w.lowest-is (record {
-        walks = walk_goes_on keys k (Bounds a o rs (Some place)) at next place (walk_weaker keys k (Bounds a o rs best) at (Bounds a o rs (Some place)) i.walks (bounds_lower a o rs best place (w.is_lower.ensures.0 w.if-is_lower.true))) c.in-Some.is (λ eo ea some. omega arith) c.earlier-at.ensures;
-        candidate = record { inside = row_inside key_of rs keys k c.requires.keyed place (walk_inside keys k _ at place i.walks c.in-Some.is); of_object = w.if-row-object.true; of_apartment = w.if-row-apartment.true; some = w.if-row-gt0.true };
+        walks = walk_goes_on keys k (Bounds a o rs (Some index)) at next index (walk_weaker keys k (Bounds a o rs best) at (Bounds a o rs (Some index)) i.walks (bounds_lower a o rs best index (w.is_lower.ensures.0 w.if-is_lower.true))) c.in-Some.is (λ eo ea some. omega arith) c.earlier-at.ensures;
+        candidate = record { inside = row_inside key_of rs keys k c.requires.keyed index (walk_inside keys k _ at index i.walks c.in-Some.is); of_object = w.if-row-object.true; of_apartment = w.if-row-apartment.true; some = w.if-row-gt0.true };
       })
       | else-row-object w ↦
-          let here : Bounds a o rs best place = elim w.else-row-object.branch [
-            | else-row-object-via-then-row-object+then-row-apartment+then-row-gt0+else-is_lower v ↦ bounds_here a o rs best place (λ lower. let yes : v.is_lower.result ≡ true = v.is_lower.ensures.1 lower in cc)
+          let here : Bounds a o rs best index = elim w.else-row-object.branch [
+            | else-row-object-via-then-row-object+then-row-apartment+then-row-gt0+else-is_lower v ↦ bounds_here a o rs best index (λ lower. let yes : v.is_lower.result ≡ true = v.is_lower.ensures.1 lower in cc)
             | else-row-object-via-then-row-object+then-row-apartment+else-row-gt0 v ↦ λ eo ea some. absurd (omega arith)
             | else-row-object-via-then-row-object+else-row-apartment v ↦ λ eo ea some. absurd (v.if-row-apartment.false ea)
             | else-row-object-via-else-row-object v ↦ λ eo ea some. absurd (v.if-row-object.false eo)
           ] in
-          rw w.lowest-is (record { walks = walk_goes_on keys k (Bounds a o rs best) at next place i.walks c.in-Some.is here c.earlier-at.ensures; candidate = i.candidate })
+          rw w.lowest-is (record { walks = walk_goes_on keys k (Bounds a o rs best) at next index i.walks c.in-Some.is here c.earlier-at.ensures; candidate = i.candidate })
     ]

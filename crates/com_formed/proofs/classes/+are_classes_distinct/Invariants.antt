@@ -2,4 +2,4 @@ use Rattle.std.proofs.Common.{◌-◌}
 use Rattle.com_formed.proofs.classes.+are_classes_distinct.Given as goal
 
 abbrev pub decreases-are_classes_distinct : goal.decreases-are_classes_distinct
-decreases-are_classes_distinct l = 64 - l.place
+decreases-are_classes_distinct l = 64 - l.index

@@ -2,4 +2,4 @@ use Rattle.std.proofs.Common.{◌-◌}
 use Rattle.com_formed.proofs.classes.+is_class_new.Given as goal
 
 abbrev pub decreases-is_class_new : goal.decreases-is_class_new
-decreases-is_class_new l = 64 - l.place
+decreases-is_class_new l = 64 - l.index

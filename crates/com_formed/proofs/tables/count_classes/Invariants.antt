@@ -1,5 +1,5 @@
 use Rattle.std.proofs.Common.{◌≤◌, length}
 use Rattle.com_formed.proofs.tables.count_classes.Given as goal
 
-abbrev pub invariant-loop-place : goal.invariant-loop-place
-invariant-loop-place l = l.place ≤ length l.classes.classes
+abbrev pub invariant-loop-index : goal.invariant-loop-index
+invariant-loop-index l = l.index ≤ length l.classes.classes

@@ -3,8 +3,8 @@ use Rattle.com_binding.specs.Ranges.{IsDispArg}
 use Rattle.com_invoke.specs.Invoking.{arguments_on}
 use Rattle.com_invoke.proofs.reading.arguments.Given as goal
 
-abbrev pub invariant-loop-place : goal.invariant-loop-place
-invariant-loop-place l = record {
-  value : arguments_on l.arguments.items l.line l.place (drop l.place l.line) ≡ arguments_on [] l.line 4 (drop 4 l.line);
+abbrev pub invariant-loop-index : goal.invariant-loop-index
+invariant-loop-index l = record {
+  value : arguments_on l.arguments.items l.line l.index (drop l.index l.line) ≡ arguments_on [] l.line 4 (drop 4 l.line);
   range : All IsDispArg l.arguments.items;
 }

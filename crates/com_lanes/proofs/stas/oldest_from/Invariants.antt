@@ -2,8 +2,8 @@ use Rattle.std.proofs.Common.{length, ◌-◌, ◌≤◌}
 use Rattle.com_lanes.specs.StasKept.{gone_first}
 use Rattle.com_lanes.proofs.stas.oldest_from.Given as goal
 
-abbrev pub invariant-loop-place : goal.invariant-loop-place
-invariant-loop-place l = l.place ≤ gone_first l.rows
+abbrev pub invariant-loop-index : goal.invariant-loop-index
+invariant-loop-index l = l.index ≤ gone_first l.rows
 
-abbrev pub decreases-loop-place : goal.decreases-loop-place
-decreases-loop-place l = length l.rows - l.place
+abbrev pub decreases-loop-index : goal.decreases-loop-index
+decreases-loop-index l = length l.rows - l.index

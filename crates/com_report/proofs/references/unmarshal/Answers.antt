@@ -8,5 +8,4 @@ returns-clause-ok c =
       ← c.in_ok-push-2.ensures.ok,
       ← c.in_ok-held.ensures.ok,
       ← c.in_ok-numbered.ensures.ok,
-      ← c.in_ok-push-3.ensures.ok,
     ) c.hresult.ensures.ok

@@ -8,7 +8,7 @@ pub invariant_of-self : goal.invariant_of-self
 invariant_of-self c =
     let stubs = c.self.inside.stubs in
     let is : take stubs.len (c.end.new.stubs ++ drop (length c.end.new.stubs) stubs.items) ≡ ended_rows c.args.object stubs.items = grind (arith, common_steps) in
-    rw is (table_ended stubs.items c.self.inside.places c.args.object c.self.invariant)
+    rw is (table_ended stubs.items c.self.inside.chains c.args.object c.self.invariant)
 
 pub returns-clause-ended : goal.returns-clause-ended
 returns-clause-ended c =

@@ -1,7 +1,7 @@
 use Rattle.com_keyed.proofs.Walking.{walk_ends}
-use Rattle.com_stub.proofs.CounterLemmas.{place_past}
+use Rattle.com_stub.proofs.CounterLemmas.{index_past}
 use Rattle.com_stub.proofs.counters.find.Goals as goal
 
 pub returns : goal.returns
 returns c =
-    place_past c.args.rows.now c.args.places.now.keys c.args.object c.args.iface c.requires.keyed (walk_ends c.args.places.now.keys c.args.object _ c.loop-at.at c.loop-at.invariant c.in_default.is)
+    index_past c.args.rows.now c.args.chains.now.keys c.args.object c.args.iface c.requires.keyed (walk_ends c.args.chains.now.keys c.args.object _ c.loop-at.at c.loop-at.invariant c.in_default.is)

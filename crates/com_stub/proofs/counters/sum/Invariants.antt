@@ -6,7 +6,7 @@ use Rattle.com_stub.proofs.counters.sum.Given as goal
 
 abbrev pub invariant-loop-at : goal.invariant-loop-at
 invariant-loop-at l = record {
-  walks : Walks l.places.keys l.object (λ p. Unit {0}) l.at;
+  walks : Walks l.chains.keys l.object (λ p. Unit {0}) l.at;
   summed : l.sum ≡ sum_from l.rows l.object (reach l.at);
 }
 
