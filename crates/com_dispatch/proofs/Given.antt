@@ -196,7 +196,7 @@ AreGiven a = All IsGiven a.args
 item_more : (front : List DispArg) (line : List WordAt) (k : ℕ) (vs : List WordAt) → All IsGiven front
     → ((a : DispArg) → IsGiven a → Holds AreGiven (arguments_on (front ++ a ∷ []) line (k + 1) vs))
     → (o : Option DispArg) → IsItem o
-    → Holds AreGiven (elim o as (λ _. Result Arguments Fault) [ None ↦ Ok (record { args = front; place = k }) | Some a ↦ arguments_on (front ++ a ∷ []) line (k + 1) vs ])
+    → Holds AreGiven (elim o as (λ _. Result Arguments Fault) [ None ↦ Ok (record { args = front; index = k }) | Some a ↦ arguments_on (front ++ a ∷ []) line (k + 1) vs ])
 item_more front line k vs f more None is = done _ f
 item_more front line k vs f more (Some a) is = more a is
 
@@ -244,5 +244,5 @@ invoked interfaces line h =
     bind (declared_at interfaces line 2) _ (declared_formed interfaces line 2) (λ iface known.
     bind (member_at line 3) _ (anything (member_at line 3)) (λ member _.
     bind (arguments_on [] line 4 (drop 4 line)) _ (arguments_given [] line 4 (drop 4 line) h (All-nil IsGiven)) (λ rest are.
-    bind (destination_at line rest.place) _ (destination_given line rest.place h) (λ d lands.
+    bind (destination_at line rest.index) _ (destination_given line rest.index h) (λ d lands.
     done _ (record { slot = low; iface = known; args = are; destination = lands }))))))

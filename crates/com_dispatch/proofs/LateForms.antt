@@ -6,6 +6,7 @@ use Rattle.com_base.specs.declared.hresult.HResult.{HResult}
 use Rattle.com_body.specs.Bodies.{IsArg}
 use Rattle.com_classes.specs.declared.interfaces.Interface.{Interface}
 use Rattle.com_classes.specs.declared.interfaces.Method.{Method}
+use Rattle.com_classes.specs.declared.classes.Class.{Class}
 use Rattle.com_classes.specs.BuiltIns.{built_in_interfaces}
 use Rattle.com_classes.specs.Lookups.{method_at}
 use Rattle.com_binding.specs.declared.members.Bound.{Bound}
@@ -20,11 +21,11 @@ use Rattle.com_invoke.specs.Standing.{sort_of, outcome_by, outcome_of, argument_
 use Rattle.com_text.specs.Words.{WordAt, LineAt}
 use Rattle.com_text.specs.Scanning.{lines_of}
 use Rattle.com_read_operands.specs.declared.faults.ScenarioError.{ScenarioError}
-use Rattle.com_read_operands.specs.Reading.{Gives, fault_at}
+use Rattle.com_read_operands.specs.Reading.{Gives}
+use Rattle.com_read_statements.specs.declared.calls.MethodNumber.{MethodNumber}
 use Rattle.com_read_statements.specs.declared.keywords.Program.{Program}
 use Rattle.com_read_statements.specs.declared.keywords.Program.TheVariants as programs
 use Rattle.com_read_statements.specs.declared.names.Names.{Names}
-use Rattle.com_read_sections.specs.declared.state.State.{State}
 use Rattle.com_read_sections.specs.declared.state.Section.{Section}
 use Rattle.com_read_sections.specs.declared.state.Section.TheVariants as sections
 use Rattle.com_read_sections.specs.Codes.{CodeAt, code_more}
@@ -42,7 +43,7 @@ use Rattle.com_scenario.proofs.Standing.{so_far, AtBody, AtThread, Stands, Stand
 use Rattle.com_scenario.proofs.Steps.{step_stands}
 use Rattle.com_scenario.proofs.Forms.{IsOutline, begun_stands, finish_formed}
 use Rattle.com_dispatch.specs.declared.outcomes.Late.{Late}
-use Rattle.com_dispatch.specs.Late.{Reading, limit_in, bound_more, invoke_line, other_line, in_section, is_invoke, late_step, LateOutline, late_finish, late_read, late_begun, late_of, late}
+use Rattle.com_dispatch.specs.Late.{Reading, Coding, invoke_line, other_line, in_section, is_invoke, late_step, LateOutline, late_finish, late_read, late_begun, late_of, late}
 use Rattle.com_dispatch.proofs.Given.{IsGiven, IsInvoked, invoked}
 use Rattle.com_dispatch.proofs.Passed.{signed_match}
 
@@ -75,9 +76,9 @@ call_fits : (s : Scenario) (x : Context) (tables : List Interface) (i : Invocati
 unfolding statement_of
 call_fits s x tables i b same h e =
     let t = bound_to (methods_of (slice_get tables i.iface)) i.member i.args (sort_of i.destination) b e in
-    let m = signed_match t.place t.method i.args i.destination b t.signature h.args in
-    let at : slice_get (methods_of (slice_get s.classes.interfaces i.iface)) t.place ≡ Some t.method = subst (λ (ts : List Interface). slice_get (methods_of (slice_get ts i.iface)) t.place ≡ Some t.method) same t.there in
-    let declared : method_at s.classes i.iface t.place ≡ Some t.method = method_in (slice_get s.classes.interfaces i.iface) t.place t.method at in
+    let m = signed_match t.index t.method i.args i.destination b t.signature h.args in
+    let at : slice_get (methods_of (slice_get s.classes.interfaces i.iface)) t.index ≡ Some t.method = subst (λ (ts : List Interface). slice_get (methods_of (slice_get ts i.iface)) t.index ≡ Some t.method) same t.there in
+    let declared : method_at s.classes i.iface t.index ≡ Some t.method = method_in (slice_get s.classes.interfaces i.iface) t.index t.method at in
     let named : method_at s.classes i.iface b.method ≡ Some t.method = ap (λ (k : ℕ). method_at s.classes i.iface k) m.method ∙ declared in
     (h.iface, inr (subst (λ (o : Option Method). FitsMethod o (map argument_of b.args) i.destination) (sym named) m.fits))
 
@@ -110,55 +111,58 @@ coded s x p names code w line d h c = weaker (invocation_at names.interfaces lin
     All-push (Fits s x) code.statements (statement_of i (outcome_of names.tables i)) c
     (stands_fits s x names.tables i d.tables (subst (λ (n : ℕ). IsInvoked n i) d.interfaces is)))
 
-stay_at : (st : State) (sec : Section) → st.section ≡ sec → StandsAt st sec → Stands st
-stay_at st sec e h = subst (StandsAt st) (sym e) h
-
-body_stands : (r : Reading) (w : WordAt) (line : List WordAt) → All IsWord line → r.state.section ≡ sections.Body → AtBody r.state → Holds StandsRead (invoke_line 200 r w line)
+-- one statement more of a body or a script
+invoked_fits : (s : Scenario) (x : Context) (p : Program) (limit : ℕ) (names : Names) (coding : Coding) (w : WordAt) (line : List WordAt) → Declares s x p names → All IsWord line
+    → All (Fits s x) coding.code.statements → Holds (λ (more : Coding). All (Fits s x) more.code.statements) (invoke_line limit names coding w line)
 unfolding invoke_line
-body_stands r w line ws e h =
+invoked_fits s x p limit names coding w line d h c = either (nat_le limit (length coding.code.statements)) _ _ (λ _. fails _) (λ _.
+    bind (invocation_at names.interfaces line) _ (coded s x p names coding.code w line d h c) (λ i is. done _ is))
+
+body_stands : (r : Reading) (c : Class) (head : MethodNumber) (code : CodeAt) (w : WordAt) (line : List WordAt) → All IsWord line → AtBody r.state c head code
+    → Holds StandsRead (in_section r w line (sections.Body c head code))
+body_stands r c head code w line ws h =
     (let st = r.state in
+    let coding : Coding = record { code = code; bindings = r.bindings } in
     let s = so_far st.names.tables st.classes st.filters in
-    let x = in_class (suc (length st.classes)) st.class in
+    let x = in_class (suc (length st.classes)) c in
     let o = h.outer in
-    either (nat_le 200 (length st.code.statements)) _ _ (λ _. fails _) (λ _.
-    bind (invocation_at st.names.interfaces line) _ (coded s x (program_of st.class.model) st.names st.code w line (body_declares st o) ws h.code) (λ i is.
-    done _ (stay_at (bound_more r i (outcome_of st.names.tables i) (fault_at 11 w)).state sections.Body e (record {
+    bind (invoke_line 200 st.names coding w line) _ (invoked_fits s x (program_of c.model) 200 st.names coding w line (body_declares st c o) ws h.code) (λ more is.
+    done (record { state = record st { section = sections.Body c head more.code }; bindings = more.bindings }) (record {
       outer = record { version = o.version; closed = o.closed; named = o.named; opened = o.opened };
       head = record { method = h.head.method; new = h.head.new };
       code = is;
-    })))))
+    })))
 
-thread_stands : (r : Reading) (w : WordAt) (line : List WordAt) → All IsWord line → r.state.section ≡ sections.Thread → AtThread r.state → Holds StandsRead (invoke_line 2000 r w line)
-unfolding invoke_line
-thread_stands r w line ws e h =
+thread_stands : (r : Reading) (code : CodeAt) (w : WordAt) (line : List WordAt) → All IsWord line → AtThread r.state code → Holds StandsRead (in_section r w line (sections.Thread code))
+thread_stands r code w line ws h =
     (let st = r.state in
+    let coding : Coding = record { code = code; bindings = r.bindings } in
     let s = so_far st.names.tables st.classes st.filters in
     let o = h.top in
-    either (nat_le 2000 (length st.code.statements)) _ _ (λ _. fails _) (λ _.
-    bind (invocation_at st.names.interfaces line) _ (coded s (in_script s) programs.Script st.names st.code w line (script_declares st o) ws h.code) (λ i is.
-    done _ (stay_at (bound_more r i (outcome_of st.names.tables i) (fault_at 11 w)).state sections.Thread e (record {
+    bind (invoke_line 2000 st.names coding w line) _ (invoked_fits s (in_script s) programs.Script 2000 st.names coding w line (script_declares st o) ws h.code) (λ more is.
+    done (record { state = record st { section = sections.Thread more.code }; bindings = more.bindings }) (record {
       top = record { version = o.version; closed = o.closed; named = o.named };
       room = h.room;
       code = is;
-    })))))
+    })))
 
 other_stands : (r : Reading) (line : List WordAt) → All IsWord line → Stands r.state → Holds StandsRead (other_line r line)
 other_stands r line ws h = bind (step r.state line) _ (step_stands r.state line ws h) (λ next k. done _ k)
 
-invoke_stands : (r : Reading) (w : WordAt) (line : List WordAt) (sec : Section) → All IsWord line → r.state.section ≡ sec → Stands r.state → StandsAt r.state sec → Holds StandsRead (in_section r w line (limit_in sec))
-invoke_stands r w line sections.Header ws e h k = other_stands r line ws h
-invoke_stands r w line sections.Top ws e h k = other_stands r line ws h
-invoke_stands r w line sections.Interface ws e h k = other_stands r line ws h
-invoke_stands r w line sections.Class ws e h k = other_stands r line ws h
-invoke_stands r w line sections.Body ws e h k = body_stands r w line ws e k
-invoke_stands r w line sections.Filter ws e h k = other_stands r line ws h
-invoke_stands r w line sections.Thread ws e h k = thread_stands r w line ws e k
+invoke_stands : (r : Reading) (w : WordAt) (line : List WordAt) (section : Section) → All IsWord line → Stands r.state → StandsAt r.state section → Holds StandsRead (in_section r w line section)
+invoke_stands r w line (sections.Header pending) ws h k = other_stands r line ws h
+invoke_stands r w line sections.Top ws h k = other_stands r line ws h
+invoke_stands r w line (sections.Interface i) ws h k = other_stands r line ws h
+invoke_stands r w line (sections.Class c) ws h k = other_stands r line ws h
+invoke_stands r w line (sections.Body c head code) ws h k = body_stands r c head code w line ws k
+invoke_stands r w line (sections.Filter rules) ws h k = other_stands r line ws h
+invoke_stands r w line (sections.Thread code) ws h k = thread_stands r code w line ws k
 
 late_stands : (r : Reading) (line : List WordAt) → All IsWord line → Stands r.state → Holds StandsRead (late_step r line)
 unfolding late_step
 late_stands r [] ws h = other_stands r [] ws h
 late_stands r (w ∷ vs) ws h = either (is_invoke w) _ _
-    (λ _. invoke_stands r w (w ∷ vs) r.state.section ws refl h h)
+    (λ _. invoke_stands r w (w ∷ vs) r.state.section ws h h)
     (λ _. other_stands r (w ∷ vs) ws h)
 
 -- ---- the text

@@ -12,7 +12,7 @@ use Rattle.com_read_sections.specs.Opened.{step}
 use Rattle.com_read_sections.specs.Outlines.{begun, finish, read}
 use Rattle.com_scenario.specs.Scenarios.{scenario_of, reading}
 use Rattle.com_dispatch.specs.declared.outcomes.Binding.{Binding}
-use Rattle.com_dispatch.specs.Late.{Reading, limit_in, other_line, in_section, late_step, LateOutline, late_finish, late_read, late_of, late, has_invoke}
+use Rattle.com_dispatch.specs.Late.{Reading, other_line, in_section, late_step, LateOutline, late_finish, late_read, late_of, late, has_invoke}
 
 abbrev reading_at : State → List Binding → Reading
 reading_at st bs = record { state = st; bindings = bs }
@@ -23,7 +23,7 @@ with_bindings bs r = r >>= λ o. Ok (record { outline = o; bindings = bs })
 plain_step : (r : Reading) (line : List WordAt) → has_invoke line ≡ false → late_step r line ≡ other_line r line
 unfolding late_step
 plain_step r [] h = refl
-plain_step r (w ∷ ws) h = ap (λ (b : Bool). if b then in_section r w (w ∷ ws) (limit_in r.state.section) else other_line r (w ∷ ws)) h
+plain_step r (w ∷ ws) h = ap (λ (b : Bool). if b then in_section r w (w ∷ ws) r.state.section else other_line r (w ∷ ws)) h
 
 after_line : (o : Result State Fault) (last : Bool) (line column : ℕ) (bs : List Binding) (ls : List LineAt)
     → ((next : State) → late_read (reading_at next bs) ls ≡ with_bindings bs (read next ls))

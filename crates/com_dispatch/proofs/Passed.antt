@@ -161,24 +161,24 @@ result_fits (Some kinds.Guid) (destinations.Slot n) e = absurd cc
 
 -- ---- the whole
 
-pub record IsMatch (place : ℕ) (m : Method) (d : Destination) (b : Bound) : Type 0 where
-  pub method : b.method ≡ place
+pub record IsMatch (index : ℕ) (m : Method) (d : Destination) (b : Bound) : Type 0 where
+  pub method : b.method ≡ index
   pub fits : FitsMethod (Some m) (map argument_of b.args) d
 
-whole : (m : Method) (as' : List DispArg) (d : Destination) (place : ℕ) (o : Option (List DispArg)) (f : Bool) (b : Bound) → coerced_on [] m.params as' ≡ o → is_for m.result (sort_of d) ≡ f → All IsGiven as'
-    → matched place o f ≡ Ok b → IsMatch place m d b
-whole m as' d place None f b g j h e = absurd cc
-whole m as' d place (Some xs) false b g j h e = absurd cc
-whole m as' d place (Some xs) true b g j h e =
-    let r : Bound = record { method = place; args = xs } in
+whole : (m : Method) (as' : List DispArg) (d : Destination) (index : ℕ) (o : Option (List DispArg)) (f : Bool) (b : Bound) → coerced_on [] m.params as' ≡ o → is_for m.result (sort_of d) ≡ f → All IsGiven as'
+    → matched index o f ≡ Ok b → IsMatch index m d b
+whole m as' d index None f b g j h e = absurd cc
+whole m as' d index (Some xs) false b g j h e = absurd cc
+whole m as' d index (Some xs) true b g j h e =
+    let r : Bound = record { method = index; args = xs } in
     let k : r ≡ b = cc in
     let p = all_fit [] m.params as' xs g h in
     let fit : FitKinds m.params (map argument_of xs) = subst (λ (x : List DispArg). FitKinds m.params (map argument_of x)) (sym p.is) p.fits in
-    subst (IsMatch place m d) k (record { method = refl; fits = (fit, result_fits m.result d j) })
+    subst (IsMatch index m d) k (record { method = refl; fits = (fit, result_fits m.result d j) })
 
-pub signed_match : (place : ℕ) (m : Method) (as' : List DispArg) (d : Destination) (b : Bound) → signed place m as' (sort_of d) ≡ Ok b → All IsGiven as' → IsMatch place m d b
-signed_match place m as' d b e h = by (length as' == length m.params) e
+pub signed_match : (index : ℕ) (m : Method) (as' : List DispArg) (d : Destination) (b : Bound) → signed index m as' (sort_of d) ≡ Ok b → All IsGiven as' → IsMatch index m d b
+signed_match index m as' d b e h = by (length as' == length m.params) e
   where
-    by : (t : Bool) → (if t then matched place (coerced_on [] m.params as') (is_for m.result (sort_of d)) else Err bad_parameter_count) ≡ Ok b → IsMatch place m d b
-    by true f = whole m as' d place (coerced_on [] m.params as') (is_for m.result (sort_of d)) b refl refl h f
+    by : (t : Bool) → (if t then matched index (coerced_on [] m.params as') (is_for m.result (sort_of d)) else Err bad_parameter_count) ≡ Ok b → IsMatch index m d b
+    by true f = whole m as' d index (coerced_on [] m.params as') (is_for m.result (sort_of d)) b refl refl h f
     by false f = absurd cc

@@ -1,6 +1,6 @@
 -- The scenario language with the statement `invoke`: each line is read as before, but for one that begins
 -- with `invoke` in a script or a body.
-use Rattle.std.specs.Prelude.{◌≡◌, ℕ, List, [], ◌∷◌, ◌++◌, Option, Some, None, Result, Ok, Err}
+use Rattle.std.specs.Prelude.{◌≡◌, ℕ, List, [], ◌∷◌, ◌++◌, Result, Ok, Err}
 use Rattle.std.specs.Prelude.{Bool, true, false, length, All, nat_le, if◌then◌else◌, codes}
 use Rattle.std.specs.Str.{bytes_eq}
 use Rattle.com_classes.specs.declared.interfaces.Interface.{Interface}
@@ -14,12 +14,13 @@ use Rattle.com_text.specs.Words.{WordAt, LineAt}
 use Rattle.com_text.specs.Scanning.{lines_of}
 use Rattle.com_read_operands.specs.declared.faults.Fault.{Fault}
 use Rattle.com_read_operands.specs.Reading.{◌>>=◌, fault_at}
+use Rattle.com_read_statements.specs.declared.names.Names.{Names}
 use Rattle.com_read_statements.specs.Calls.{call_at}
 use Rattle.com_read_sections.specs.declared.outline.Outline.{Outline}
 use Rattle.com_read_sections.specs.declared.state.State.{State}
 use Rattle.com_read_sections.specs.declared.state.Section.{Section}
 use Rattle.com_read_sections.specs.declared.state.Section.TheVariants as sections
-use Rattle.com_read_sections.specs.Codes.{code_more, first_place}
+use Rattle.com_read_sections.specs.Codes.{CodeAt, code_more, first_position}
 use Rattle.com_read_sections.specs.Opened.{step}
 use Rattle.com_read_sections.specs.Outlines.{begun, finish}
 use Rattle.com_scenario.specs.Scenarios.{scenario_of, reading}
@@ -33,42 +34,50 @@ pub record Reading : Type 0 where
 
 -- ---- a line that begins with `invoke`
 
--- how many statements may stand where `invoke` is one: in a body and in a script
-abbrev pub limit_in : Section → Option ℕ
-limit_in sections.Body = Some 200
-limit_in sections.Thread = Some 2000
-limit_in _ = None
+-- the statements of a body or a script, and what each `invoke` of the text was bound to
+pub record Coding : Type 0 where
+  pub code : CodeAt
+  pub bindings : List Binding
 
 -- the statement that it stands for is one more of the body or the script, and its binding one more of the
 -- text
-abbrev pub bound_more : Reading → Invocation → BindOutcome → Fault → Reading
-bound_more r i o spot = record {
-  state = record (r.state) { code = code_more r.state.code (statement_of i o) spot };
-  bindings = r.bindings ++ record { iface = i.iface; outcome = o } ∷ [];
+abbrev pub bound_more : Coding → Invocation → BindOutcome → Fault → Coding
+bound_more coding i o spot = record {
+  code = code_more coding.code (statement_of i o) spot;
+  bindings = coding.bindings ++ record { iface = i.iface; outcome = o } ∷ [];
 }
 
 -- The interfaces and their tables are those that are declared above the line.
-unfoldable pub invoke_line : ℕ → Reading → WordAt → List WordAt → Result Reading Fault
-invoke_line limit r w line =
-    if nat_le limit (length r.state.code.statements) then Err (fault_at 12 w) else (do
-      i ← invocation_at r.state.names.interfaces line
-      Ok (bound_more r i (outcome_of r.state.names.tables i) (fault_at 11 w)))
+unfoldable pub invoke_line : ℕ → Names → Coding → WordAt → List WordAt → Result Coding Fault
+invoke_line limit names coding w line =
+    if nat_le limit (length coding.code.statements) then Err (fault_at 12 w) else (do
+      i ← invocation_at names.interfaces line
+      Ok (bound_more coding i (outcome_of names.tables i) (fault_at 11 w)))
 
 -- ---- every line
 
 abbrev pub other_line : Reading → List WordAt → Result Reading Fault
 other_line r line = step r.state line >>= λ next. Ok (record { state = next; bindings = r.bindings })
 
-abbrev pub in_section : Reading → WordAt → List WordAt → Option ℕ → Result Reading Fault
-in_section r w line None = other_line r line
-in_section r w line (Some limit) = invoke_line limit r w line
+-- `invoke` is a statement in a body and in a script
+abbrev pub in_section : Reading → WordAt → List WordAt → Section → Result Reading Fault
+in_section r w line (sections.Body c head code) = do
+  more ← invoke_line 200 r.state.names (record { code = code; bindings = r.bindings }) w line
+  Ok (record {
+    state = record (r.state) { section = sections.Body c head more.code };
+    bindings = more.bindings;
+  })
+in_section r w line (sections.Thread code) = do
+  more ← invoke_line 2000 r.state.names (record { code = code; bindings = r.bindings }) w line
+  Ok (record { state = record (r.state) { section = sections.Thread more.code }; bindings = more.bindings })
+in_section r w line _ = other_line r line
 
 abbrev pub is_invoke : WordAt → Bool
 is_invoke w = bytes_eq w.bytes (codes "invoke")
 
 abbrev pub late_line : Reading → WordAt → List WordAt → Result Reading Fault
 late_line r w line =
-    if is_invoke w then in_section r w line (limit_in r.state.section) else other_line r line
+    if is_invoke w then in_section r w line r.state.section else other_line r line
 
 -- What a line makes of what was read so far. Outside of scripts and bodies `invoke` is a word like any other.
 unfoldable pub late_step : Reading → List WordAt → Result Reading Fault
@@ -88,7 +97,7 @@ late_finish r line column =
 
 -- the lines that are left
 unfoldable pub late_read : Reading → List LineAt → Result LateOutline Fault
-late_read r [] = Err first_place
+late_read r [] = Err first_position
 late_read r (l ∷ ls) =
     late_step r l.words >>= λ next. (if l.last then late_finish next l.line l.column else late_read next ls)
 
@@ -111,20 +120,33 @@ has_invoke (w ∷ ws) = is_invoke w
 
 -- ---- a call by name and its table call
 
+-- a section without the positions at which the faults of its skips would stand
+abbrev pub without_spots : Section → Section
+without_spots (sections.Body c head code) = sections.Body c head (record code { spots = [] })
+without_spots (sections.Thread code) = sections.Thread (record code { spots = [] })
+without_spots section = section
+
 -- Two lines make the same of what was read, but for the positions at which the faults of skips would stand,
 -- and for the bindings; or both are at fault in the same way.
 abbrev pub IsSame : Result Reading Fault → Result Reading Fault → Type 0
 IsSame (Ok a) (Ok b) =
-    a.state ≡ record (b.state) { code = record (b.state.code) { spots = a.state.code.spots } }
+    record (a.state) { section = without_spots a.state.section }
+    ≡ record (b.state) { section = without_spots b.state.section }
 IsSame (Err e) (Err f) = e.number ≡ f.number
 IsSame (Ok a) (Err f) = ⊥
 IsSame (Err e) (Ok b) = ⊥
 
+-- whether an `invoke` may stand there
+abbrev pub takes_invoke : Section → Bool
+takes_invoke (sections.Body c head code) = true
+takes_invoke (sections.Thread code) = true
+takes_invoke _ = false
+
 -- Where an `invoke` may stand, it makes the same of what was read as the line of the call that it is bound
 -- to.
 abbrev pub CallsAreSame : Type 0
-CallsAreSame = (r : Reading) (limit : ℕ) (w : WordAt) (ws : List WordAt) (c : WordAt) (cs : List WordAt)
-    (i : Invocation) → limit_in r.state.section ≡ Some limit → is_invoke w ≡ true
+CallsAreSame = (r : Reading) (w : WordAt) (ws : List WordAt) (c : WordAt) (cs : List WordAt)
+    (i : Invocation) → takes_invoke r.state.section ≡ true → is_invoke w ≡ true
     → invocation_at r.state.names.interfaces (w ∷ ws) ≡ Ok i
     → c.sort ≡ sorts.Plain → c.bytes ≡ codes "call"
     → call_at r.state.names (c ∷ cs) ≡ Ok (statement_of i (outcome_of r.state.names.tables i))

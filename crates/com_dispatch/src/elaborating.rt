@@ -5,60 +5,47 @@ ghost use Rattle.com_classes.specs.BuiltIns.{built_in_interfaces};
 ghost use Rattle.com_model.specs.Formed.{Formed};
 ghost use Rattle.com_text.specs.Scanning.{lines_of};
 ghost use Rattle.com_read_operands.specs.Reading.{Gives};
-ghost use Rattle.com_dispatch.specs.Late.{limit_in, invoke_line, is_invoke, late_line, late_step};
+ghost use Rattle.com_dispatch.specs.Late.{invoke_line, is_invoke, late_line, late_step};
 ghost use Rattle.com_dispatch.specs.Late.{late_read, late_begun, late};
 
 use crate::outcomes::{Binding, Late};
-use com_base::Rows;
-use com_classes::Interface;
+use com_base::{BODY_LIMIT, Rows, SCRIPT_LIMIT};
+use com_classes::{Interface, built_in_interfaces};
 use com_invoke::{outcome, read_invoke, statement};
 use com_read_operands::{Fault, ScenarioError, fault};
-use com_read_sections::{Outline, Section, State, begun, finish, step};
-use com_scenario::{built_in_interfaces, scenario};
+use com_read_sections::{Code, Outline, Section, State, begun, finish, step};
+use com_read_statements::Names;
+use com_scenario::scenario;
 use com_text::{TEXT_LIMIT, Word, line_at};
 use std::alloc::Global;
-
-/// A body has at most this many statements.
-const BODY_LIMIT: usize = 200;
-/// A script has at most this many statements.
-const SCRIPT_LIMIT: usize = 2000;
-
-/// How many statements may stand where `invoke` is one.
-fn limit_in(section: Section) -> Option<usize>
-    ensures { result ≡ limit_in section }
-{
-    match section {
-        Section::Body => Some(BODY_LIMIT),
-        Section::Thread => Some(SCRIPT_LIMIT),
-        _ => None,
-    }
-}
 
 /// A line that begins with `invoke` in a body or a script, whose statements are at most `limit`.
 #[tactic(auto, unfolding(crate::specs::Late::invoke_line))]
 fn invoke_line(
     alloc: Global,
     limit: usize,
-    st: &mut State,
+    names: &Names,
+    code: &mut Code,
     bindings: &mut Vec<Binding>,
     word: &Word,
     line: &[Word],
 ) -> Result<(), ScenarioError>
-    ensures { Gives (λ u. record { state = st.new; bindings = bindings.new.items }) result
-        (invoke_line limit (record { state = st.old; bindings = bindings.old.items }) word.now line.now) }
+    ensures { Gives (λ u. record { code = code.new; bindings = bindings.new.items }) result
+        (invoke_line limit names.now (record { code = code.old; bindings = bindings.old.items })
+        word.now line.now) }
 {
-    if st.code.len() >= limit {
+    if code.len() >= limit {
         return Err(fault(Fault::LIMIT, word));
     }
-    let invocation = read_invoke(alloc, st.names.interfaces.as_slice(), line)?;
-    let outcome = outcome(alloc, st.names.tables.as_slice(), &invocation)?;
+    let invocation = read_invoke(alloc, names.interfaces.as_slice(), line)?;
+    let outcome = outcome(alloc, names.tables.as_slice(), &invocation)?;
     let statement = statement(alloc, &invocation, &outcome)?;
     let spot = Fault {
         number: Fault::UNENDED,
         line: word.line,
         column: word.column,
     };
-    st.code.push(statement, spot)?;
+    code.push(statement, spot)?;
     bindings.push(Binding {
         iface: invocation.iface,
         outcome,
@@ -88,12 +75,19 @@ fn late_line(
         step(alloc, st, line)?;
         return Ok(());
     }
-    match limit_in(st.section) {
-        None => {
+    match &mut st.section {
+        Section::Body { code, .. } => {
+            invoke_line(alloc, BODY_LIMIT, &st.names, code, bindings, word, line)?;
+            Ok(())
+        }
+        Section::Thread { code } => {
+            invoke_line(alloc, SCRIPT_LIMIT, &st.names, code, bindings, word, line)?;
+            Ok(())
+        }
+        _ => {
             step(alloc, st, line)?;
             Ok(())
         }
-        Some(limit) => invoke_line(alloc, limit, st, bindings, word, line),
     }
 }
 
@@ -139,7 +133,7 @@ fn late_outline(
         let end = line_at(text, line, at, &mut words)?;
         late_step(alloc, &mut st, &mut bindings, &words)?;
         if end.last {
-            let outline = finish(alloc, st, line, end.column)?;
+            let outline = finish(st, line, end.column)?;
             return Ok((outline, bindings));
         }
         line += 1;

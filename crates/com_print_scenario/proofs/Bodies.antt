@@ -21,8 +21,7 @@ use Rattle.com_read_statements.specs.Calls.{dot_of, method_of, method_at, target
 use Rattle.com_read_sections.specs.declared.outline.Outline.{Outline}
 use Rattle.com_read_sections.specs.declared.state.State.{State}
 use Rattle.com_read_sections.specs.declared.state.Section.TheVariants as sections
-use Rattle.com_read_sections.specs.Codes.{blank_code}
-use Rattle.com_read_sections.specs.Tables.{blank_class}
+use Rattle.com_read_sections.specs.Codes.{no_code}
 use Rattle.com_read_sections.specs.Opened.{step, has_body, body_head, class_ended, inner_class, program_of}
 use Rattle.com_print_words.specs.Spelled.{Spelled, plain, spelled_of}
 use Rattle.com_print_operands.specs.Words.{name_at}
@@ -88,47 +87,47 @@ abbrev pub number_of_body : MethodBody → MethodNumber
 number_of_body b = record { iface = b.iface; method = b.method }
 
 -- a class between its bodies
-abbrev pub in_class : State → Class → MethodNumber → State
-in_class st c head = record st { class = c; head = head; code = blank_code; section = sections.Class }
+abbrev pub in_class : State → Class → State
+in_class st c = record st { section = sections.Class c }
 
-abbrev class_by_word : State → List WordAt → WordAt → List ℕ → Result State Fault
-class_by_word st line w bs = if bytes_eq bs (codes "body") then body_head st line
-    else (if bytes_eq bs (codes "end") then class_ended st line
+abbrev class_by_word : State → Class → List WordAt → WordAt → List ℕ → Result State Fault
+class_by_word st c line w bs = if bytes_eq bs (codes "body") then body_head st c line
+    else (if bytes_eq bs (codes "end") then class_ended st c line
     else Err (fault_at 3 w))
 
-class_word : (st : State) (c : Class) (head : MethodNumber) (line : List WordAt) (bs : List ℕ) (rest : List Spelled) (e : map spelled_of line ≡ plain bs ∷ rest)
-    → step (in_class st c head) line ≡ class_by_word (in_class st c head) line (first_of line bs rest e).word bs
+class_word : (st : State) (c : Class) (line : List WordAt) (bs : List ℕ) (rest : List Spelled) (e : map spelled_of line ≡ plain bs ∷ rest)
+    → step (in_class st c) line ≡ class_by_word (in_class st c) c line (first_of line bs rest e).word bs
 unfolding inner_class
-class_word st c head line bs rest e =
+class_word st c line bs rest e =
     let s = first_of line bs rest e in
-    step_in (in_class st c head) line (plain bs) rest e
-    ∙ ap (λ (r : Result WordAt Fault). r >>= λ w. class_by_word (in_class st c head) line w w.bytes) (first_word line (plain bs) s tt)
-    ∙ ap (class_by_word (in_class st c head) line s.word) s.bytes
+    step_in (in_class st c) line (plain bs) rest e
+    ∙ ap (λ (r : Result WordAt Fault). r >>= λ w. class_by_word (in_class st c) c line w w.bytes) (first_word line (plain bs) s tt)
+    ∙ ap (class_by_word (in_class st c) c line s.word) s.bytes
 
 -- a body's head
-pub head_again : (st : State) (c : Class) (head : MethodNumber) (line : List WordAt) (b : MethodBody) (m : Method) → map spelled_of line ≡ body_words st.names b
+pub head_again : (st : State) (c : Class) (line : List WordAt) (b : MethodBody) (m : Method) → map spelled_of line ≡ body_words st.names b
     → AreDeclared st.names → b.iface < length st.names.interfaces → method_of st.names.tables b.iface b.method ≡ Some m
     → has_body c.bodies (number_of_body b) ≡ false
-    → step (in_class st c head) line ≡ Ok (in_body (in_class st c (number_of_body b)) blank_code)
+    → step (in_class st c) line ≡ Ok (in_body st c (number_of_body b) no_code)
 unfolding body_head
-head_again st c head line b m e are lt has new =
-    let t = in_class st c head in
+head_again st c line b m e are lt has new =
+    let t = in_class st c in
     let there : at line 1 ≡ Some (plain (name_at st.names.interfaces b.iface ++ 46 ∷ m.name)) =
     at_of line _ 1 e ∙ ap (λ (o : Option Method). Some (plain (name_at st.names.interfaces b.iface ++ 46 ∷ name_of o))) has in
     let read = head_as st.names line 1 (number_of_body b) (named_again st.names line 1 b.iface b.method m there are lt has) in
-    class_word st c head line (codes "body") _ e
-    ∙ ap (λ (r : Result MethodNumber Fault). r >>= λ h. if has_body c.bodies h then (word_at line 1 >>= λ w. Err (fault_at 9 w)) else (end_at line 2 >>= λ done. Ok (in_body (in_class st c h) blank_code))) read
-    ∙ ap (λ (x : Bool). if x then (word_at line 1 >>= λ w. Err (fault_at 9 w)) else (end_at line 2 >>= λ done. Ok (in_body (in_class st c (number_of_body b)) blank_code))) new
-    ∙ ap (λ (r : Result (Unit {0}) Fault). r >>= λ done. Ok (in_body (in_class st c (number_of_body b)) blank_code)) (end_again line 2 (at_of line _ 2 e))
+    class_word st c line (codes "body") _ e
+    ∙ ap (λ (r : Result MethodNumber Fault). r >>= λ h. if has_body c.bodies h then (word_at line 1 >>= λ w. Err (fault_at 9 w)) else (end_at line 2 >>= λ done. Ok (in_body st c h no_code))) read
+    ∙ ap (λ (x : Bool). if x then (word_at line 1 >>= λ w. Err (fault_at 9 w)) else (end_at line 2 >>= λ done. Ok (in_body st c (number_of_body b) no_code))) new
+    ∙ ap (λ (r : Result (Unit {0}) Fault). r >>= λ done. Ok (in_body st c (number_of_body b) no_code)) (end_again line 2 (at_of line _ 2 e))
 
 -- a class that is closed
-abbrev pub class_read : State → Class → MethodNumber → State
-class_read st c head = record st { classes = st.classes ++ c ∷ []; class = blank_class; head = head; code = blank_code; section = sections.Top }
+abbrev pub class_read : State → Class → State
+class_read st c = record st { classes = st.classes ++ c ∷ []; section = sections.Top }
 
-class_end : (st : State) (c : Class) (head : MethodNumber) (line : List WordAt) → map spelled_of line ≡ end_words → step (in_class st c head) line ≡ Ok (class_read st c head)
-class_end st c head line e =
-    class_word st c head line (codes "end") [] e
-    ∙ ap (λ (r : Result (Unit {0}) Fault). r >>= λ done. Ok (class_read st c head)) (end_again line 1 (at_of line _ 1 e))
+class_end : (st : State) (c : Class) (line : List WordAt) → map spelled_of line ≡ end_words → step (in_class st c) line ≡ Ok (class_read st c)
+class_end st c line e =
+    class_word st c line (codes "end") [] e
+    ∙ ap (λ (r : Result (Unit {0}) Fault). r >>= λ done. Ok (class_read st c)) (end_again line 1 (at_of line _ 1 e))
 
 -- ---- all bodies
 
@@ -145,29 +144,29 @@ pub record CanGive (p : Program) (names full : Names) (b : MethodBody) : Type 0 
   pub statements : All (CanFollow p names full) b.body
   pub whole : fault_of b.body 200 ≡ None
 
-pub bodies_on : (st : State) (full : Names) (c : Class) (rest done : List MethodBody) (head : MethodNumber) (ls : List (List Spelled)) (o : Outline)
+pub bodies_on : (st : State) (full : Names) (c : Class) (rest done : List MethodBody) (ls : List (List Spelled)) (o : Outline)
     → ((b : MethodBody) → body_words full b ≡ body_words st.names b) → AreDeclared st.names → All (CanGive (program_of c.model) st.names full) rest → Distinct same_body (done ++ rest)
-    → ((h : MethodNumber) → Gets (class_read st (record c { bodies = done ++ rest }) h) ls o)
-    → Gets (in_class st (record c { bodies = done }) head) (bodies_lines full rest ++ ls) o
-bodies_on st full c [] done head ls o words are all apart more =
+    → Gets (class_read st (record c { bodies = done ++ rest })) ls o
+    → Gets (in_class st (record c { bodies = done })) (bodies_lines full rest ++ ls) o
+bodies_on st full c [] done ls o words are all apart more =
     let e : done ++ [] ≡ done = append-nil done in
-    line_then (in_class st (record c { bodies = done }) head) (class_read st (record c { bodies = done }) head) end_words ls o
-    (class_end st (record c { bodies = done }) head)
-    (subst (λ (x : List MethodBody). Gets (class_read st (record c { bodies = x }) head) ls o) e (more head))
-bodies_on st full c (b ∷ bs) done head ls o words are all apart more =
+    line_then (in_class st (record c { bodies = done })) (class_read st (record c { bodies = done })) end_words ls o
+    (class_end st (record c { bodies = done }))
+    (subst (λ (x : List MethodBody). Gets (class_read st (record c { bodies = x })) ls o) e more)
+bodies_on st full c (b ∷ bs) done ls o words are all apart more =
     let can = All-head (CanGive (program_of c.model) st.names full) b bs all in
     let open' = record c { bodies = done } in
-    let t = in_class st open' (number_of_body b) in
+    let head = number_of_body b in
     let new = no_body done b (new_of same_body done b bs apart) in
     let e : done ++ b ∷ bs ≡ (done ++ b ∷ []) ++ bs = sym (append_assoc done (b ∷ []) bs) in
-    let rest_read = bodies_on st full c bs (done ++ b ∷ []) (number_of_body b) ls o words are (All-tail (CanGive (program_of c.model) st.names full) b bs all)
+    let rest_read = bodies_on st full c bs (done ++ b ∷ []) ls o words are (All-tail (CanGive (program_of c.model) st.names full) b bs all)
     (subst (Distinct same_body) e apart)
-    (λ h. subst (λ (x : List MethodBody). Gets (class_read st (record c { bodies = x }) h) ls o) e (more h)) in
-    let body = program_on (in_body t) (body_read t) 200 full (CanFollow (program_of c.model) st.names full)
-    (λ code s line one room h. body_statement t full code s line are one.can room one.same h)
-    (body_end t) b.body blank_code (bodies_lines full bs ++ ls) o can.statements can.whole rest_read in
+    (subst (λ (x : List MethodBody). Gets (class_read st (record c { bodies = x })) ls o) e more) in
+    let body = program_on (in_body st open' head) (body_read st open' head) 200 full (CanFollow (program_of c.model) st.names full)
+    (λ code s line one room h. body_statement st open' head full code s line are one.can room one.same h)
+    (body_end st open' head) b.body no_code (bodies_lines full bs ++ ls) o can.statements can.whole rest_read in
     let split : (program_lines full b.body ++ bodies_lines full bs) ++ ls ≡ program_lines full b.body ++ (bodies_lines full bs ++ ls)
     = append_assoc (program_lines full b.body) (bodies_lines full bs) ls in
-    line_then (in_class st open' head) (in_body t blank_code) (body_words full b) ((program_lines full b.body ++ bodies_lines full bs) ++ ls) o
-    (λ line h. head_again st open' head line b can.method (h ∙ words b) are can.declared can.has new)
-    (subst (λ (x : List (List Spelled)). Gets (in_body t blank_code) x o) (sym split) body)
+    line_then (in_class st open') (in_body st open' head no_code) (body_words full b) ((program_lines full b.body ++ bodies_lines full bs) ++ ls) o
+    (λ line h. head_again st open' line b can.method (h ∙ words b) are can.declared can.has new)
+    (subst (λ (x : List (List Spelled)). Gets (in_body st open' head no_code) x o) (sym split) body)

@@ -12,13 +12,11 @@ use Rattle.com_model.specs.Formed.{Distinct, same_body}
 use Rattle.com_classes.specs.Activation.{is_agile}
 use Rattle.com_text.specs.Words.{WordAt}
 use Rattle.com_read_operands.specs.Naming.{is_name, position_of}
-use Rattle.com_read_statements.specs.declared.calls.MethodNumber.{MethodNumber}
 use Rattle.com_read_statements.specs.declared.names.Names.{Names}
 use Rattle.com_read_sections.specs.declared.outline.Outline.{Outline}
 use Rattle.com_read_sections.specs.declared.state.State.{State}
 use Rattle.com_read_sections.specs.declared.state.Section.TheVariants as sections
-use Rattle.com_read_sections.specs.Codes.{blank_code}
-use Rattle.com_read_sections.specs.Tables.{has_guid, blank_class}
+use Rattle.com_read_sections.specs.Tables.{has_guid}
 use Rattle.com_read_sections.specs.Declaring.{relay_of, native_at, natives_of}
 use Rattle.com_read_sections.specs.Opened.{program_of}
 use Rattle.com_print_words.specs.Spelled.{Spelled, plain}
@@ -32,14 +30,11 @@ use Rattle.com_print_scenario.proofs.Runs.{Gets, line_then, step_in}
 use Rattle.com_print_scenario.proofs.Tops.{CanDeclare, class_by, class_again, native_by, native_again}
 
 -- between classes: the names and CLSIDs that are declared, and the classes that are closed
-abbrev pub at_classes : State → List (List ℕ) → List Guid → List Class → MethodNumber → State
-at_classes st names clsids classes head = record st {
+abbrev pub at_classes : State → List (List ℕ) → List Guid → List Class → State
+at_classes st names clsids classes = record st {
   names = record (st.names) { classes = names };
   clsids = clsids;
   classes = classes;
-  class = blank_class;
-  head = head;
-  code = blank_code;
   section = sections.Top;
 }
 
@@ -92,43 +87,43 @@ is_native c native interfaces e f g =
     ∙ ap (native_of c c.native c.interfaces) (sym g)
 
 -- one native's line
-native_on : (st : State) (before : List (List ℕ)) (clsids : List Guid) (classes : List Class) (head : MethodNumber) (full : Names) (c : Class) (native : Native) (bs : List ℕ)
+native_on : (st : State) (before : List (List ℕ)) (clsids : List Guid) (classes : List Class) (full : Names) (c : Class) (native : Native) (bs : List ℕ)
     (ls : List (List Spelled)) (o : Outline) → CanAdd st before clsids full c → native_of c native (natives_of native) [] ≡ c
     → ((line : List WordAt) → at line 4 ≡ Some (plain bs) → native_at c.model line 4 ≡ Ok native)
-    → Gets (at_classes st (before ++ c.name ∷ []) (clsids ++ c.clsid ∷ []) (classes ++ c ∷ []) head) ls o
-    → Gets (at_classes st before clsids classes head) (class_head (codes "native") c (plain bs ∷ []) ∷ ls) o
-native_on st before clsids classes head full c native bs ls o can is kind more =
-    let t = at_classes st before clsids classes head in
+    → Gets (at_classes st (before ++ c.name ∷ []) (clsids ++ c.clsid ∷ []) (classes ++ c ∷ [])) ls o
+    → Gets (at_classes st before clsids classes) (class_head (codes "native") c (plain bs ∷ []) ∷ ls) o
+native_on st before clsids classes full c native bs ls o can is kind more =
+    let t = at_classes st before clsids classes in
     let declare : CanDeclare t c = record { room = can.room; name = can.name; free = can.free; fits = can.fits; new = can.new } in
     line_then t (native_by t c c.name c.model native) (class_head (codes "native") c (plain bs ∷ [])) ls o
     (λ line e. step_in t line _ _ e ∙ native_again t line c native bs e declare (kind line (at_of line _ 4 e)))
-    (subst (λ (x : Class). Gets (at_classes st (before ++ c.name ∷ []) (clsids ++ c.clsid ∷ []) (classes ++ x ∷ []) head) ls o) (sym is) more)
+    (subst (λ (x : Class). Gets (at_classes st (before ++ c.name ∷ []) (clsids ++ c.clsid ∷ []) (classes ++ x ∷ [])) ls o) (sym is) more)
 
-class_on : (st : State) (before : List (List ℕ)) (clsids : List Guid) (classes : List Class) (head : MethodNumber) (all filters : List (List ℕ)) (c : Class) (native : Native)
+class_on : (st : State) (before : List (List ℕ)) (clsids : List Guid) (classes : List Class) (all filters : List (List ℕ)) (c : Class) (native : Native)
     (ls : List (List Spelled)) (o : Outline) → CanAdd st before clsids (names_of_all st all filters) c → c.native ≡ native
     → CanBe st (names_at st before c) (names_of_all st all filters) c native
-    → ((h : MethodNumber) → Gets (at_classes st (before ++ c.name ∷ []) (clsids ++ c.clsid ∷ []) (classes ++ c ∷ []) h) ls o)
-    → Gets (at_classes st before clsids classes head) (class_lines (names_of_all st all filters) c native ++ ls) o
-class_on st before clsids classes head all filters c natives.Bodies ls o can e kind more =
-    let t = at_classes st before clsids classes head in
-    let next = at_classes st (before ++ c.name ∷ []) (clsids ++ c.clsid ∷ []) classes head in
+    → Gets (at_classes st (before ++ c.name ∷ []) (clsids ++ c.clsid ∷ []) (classes ++ c ∷ [])) ls o
+    → Gets (at_classes st before clsids classes) (class_lines (names_of_all st all filters) c native ++ ls) o
+class_on st before clsids classes all filters c natives.Bodies ls o can e kind more =
+    let t = at_classes st before clsids classes in
+    let next = at_classes st (before ++ c.name ∷ []) (clsids ++ c.clsid ∷ []) classes in
     let full = names_of_all st all filters in
     let declare : CanDeclare t c = record { room = can.room; name = can.name; free = can.free; fits = can.fits; new = can.new } in
     let same : record c { native = natives.Bodies } ≡ c = ap (λ (n : Native). record c { native = n }) (sym e) in
-    let body = bodies_on next full (record c { native = natives.Bodies }) c.bodies [] head ls o (λ b. refl) can.are kind.bodies kind.apart
-    (λ h. subst (λ (x : Class). Gets (class_read next x h) ls o) (sym same) (more h)) in
+    let body = bodies_on next full (record c { native = natives.Bodies }) c.bodies [] ls o (λ b. refl) can.are kind.bodies kind.apart
+    (subst (λ (x : Class). Gets (class_read next x) ls o) (sym same) more) in
     line_then t (class_by t c c.name c.model c.interfaces) (class_head (codes "class") c (map (interface_name full) c.interfaces)) (bodies_lines full c.bodies ++ ls) o
     (λ line h. step_in t line _ _ h ∙ class_again t line c h declare can.are.interfaces kind.listed kind.some kind.few)
     body
-class_on st before clsids classes head all filters c natives.Counter ls o can e kind more =
-    native_on st before clsids classes head (names_of_all st all filters) c natives.Counter (codes "counter") ls o can
-    (is_native c natives.Counter (1 ∷ []) e kind.0 kind.1) (λ line h. counter_again c.model line 4 h) (more head)
-class_on st before clsids classes head all filters c natives.Relay ls o can e kind more =
-    native_on st before clsids classes head (names_of_all st all filters) c natives.Relay (codes "relay") ls o can
-    (is_native c natives.Relay (2 ∷ []) e kind.0 kind.1) (λ line h. relay_again c.model line 4 h (relay_good c.model kind.2)) (more head)
-class_on st before clsids classes head all filters c natives.Latch ls o can e kind more =
-    native_on st before clsids classes head (names_of_all st all filters) c natives.Latch (codes "latch") ls o can
-    (is_native c natives.Latch (3 ∷ []) e kind.0 kind.1) (λ line h. latch_again c.model line 4 h) (more head)
+class_on st before clsids classes all filters c natives.Counter ls o can e kind more =
+    native_on st before clsids classes (names_of_all st all filters) c natives.Counter (codes "counter") ls o can
+    (is_native c natives.Counter (1 ∷ []) e kind.0 kind.1) (λ line h. counter_again c.model line 4 h) more
+class_on st before clsids classes all filters c natives.Relay ls o can e kind more =
+    native_on st before clsids classes (names_of_all st all filters) c natives.Relay (codes "relay") ls o can
+    (is_native c natives.Relay (2 ∷ []) e kind.0 kind.1) (λ line h. relay_again c.model line 4 h (relay_good c.model kind.2)) more
+class_on st before clsids classes all filters c natives.Latch ls o can e kind more =
+    native_on st before clsids classes (names_of_all st all filters) c natives.Latch (codes "latch") ls o can
+    (is_native c natives.Latch (3 ∷ []) e kind.0 kind.1) (λ line h. latch_again c.model line 4 h) more
 
 -- each class of a list can be added behind those before it
 abbrev pub CanAddAll : State → Names → List (List ℕ) → List Guid → List Class → Type 0
@@ -138,21 +133,21 @@ CanAddAll st full before clsids (c ∷ cs) = CanAdd st before clsids full c × C
 abbrev pub name_of_class : Class → List ℕ
 name_of_class c = c.name
 
-pub classes_on : (st : State) (all filters before : List (List ℕ)) (clsids : List Guid) (done rest : List Class) (head : MethodNumber)
+pub classes_on : (st : State) (all filters before : List (List ℕ)) (clsids : List Guid) (done rest : List Class)
     (ls : List (List Spelled)) (o : Outline) → CanAddAll st (names_of_all st all filters) before clsids rest
-    → ((ids : List Guid) (h : MethodNumber) → Gets (at_classes st (before ++ map name_of_class rest) ids (done ++ rest) h) ls o)
-    → Gets (at_classes st before clsids done head) (classes_lines (names_of_all st all filters) rest ++ ls) o
-classes_on st all filters before clsids done [] head ls o can more =
-    subst (λ (x : List (List ℕ)). Gets (at_classes st x clsids done head) ls o) (append-nil before)
-    (subst (λ (x : List Class). Gets (at_classes st (before ++ []) clsids x head) ls o) (append-nil done) (more clsids head))
-classes_on st all filters before clsids done (c ∷ cs) head ls o can more =
+    → ((ids : List Guid) → Gets (at_classes st (before ++ map name_of_class rest) ids (done ++ rest)) ls o)
+    → Gets (at_classes st before clsids done) (classes_lines (names_of_all st all filters) rest ++ ls) o
+classes_on st all filters before clsids done [] ls o can more =
+    subst (λ (x : List (List ℕ)). Gets (at_classes st x clsids done) ls o) (append-nil before)
+    (subst (λ (x : List Class). Gets (at_classes st (before ++ []) clsids x) ls o) (append-nil done) (more clsids))
+classes_on st all filters before clsids done (c ∷ cs) ls o can more =
     let full = names_of_all st all filters in
     let split : (class_lines full c c.native ++ classes_lines full cs) ++ ls ≡ class_lines full c c.native ++ (classes_lines full cs ++ ls)
     = append_assoc (class_lines full c c.native) (classes_lines full cs) ls in
     let e : before ++ c.name ∷ map name_of_class cs ≡ (before ++ c.name ∷ []) ++ map name_of_class cs = sym (append_assoc before (c.name ∷ []) (map name_of_class cs)) in
     let f : done ++ c ∷ cs ≡ (done ++ c ∷ []) ++ cs = sym (append_assoc done (c ∷ []) cs) in
-    let behind = λ (h : MethodNumber). classes_on st all filters (before ++ c.name ∷ []) (clsids ++ c.clsid ∷ []) (done ++ c ∷ []) cs h ls o can.1
-    (λ ids k. subst (λ (x : List (List ℕ)). Gets (at_classes st x ids ((done ++ c ∷ []) ++ cs) k) ls o) e
-    (subst (λ (x : List Class). Gets (at_classes st (before ++ c.name ∷ map name_of_class cs) ids x k) ls o) f (more ids k))) in
-    subst (λ (x : List (List Spelled)). Gets (at_classes st before clsids done head) x o) (sym split)
-    (class_on st before clsids done head all filters c c.native (classes_lines full cs ++ ls) o can.0 refl can.0.kind behind)
+    let behind = classes_on st all filters (before ++ c.name ∷ []) (clsids ++ c.clsid ∷ []) (done ++ c ∷ []) cs ls o can.1
+    (λ ids. subst (λ (x : List (List ℕ)). Gets (at_classes st x ids ((done ++ c ∷ []) ++ cs)) ls o) e
+    (subst (λ (x : List Class). Gets (at_classes st (before ++ c.name ∷ map name_of_class cs) ids x) ls o) f (more ids))) in
+    subst (λ (x : List (List Spelled)). Gets (at_classes st before clsids done) x o) (sym split)
+    (class_on st before clsids done all filters c c.native (classes_lines full cs ++ ls) o can.0 refl can.0.kind behind)

@@ -21,7 +21,7 @@ use Rattle.com_read_statements.specs.declared.names.Names.{Names}
 use Rattle.com_read_sections.specs.declared.outline.Outline.{Outline}
 use Rattle.com_read_sections.specs.declared.state.State.{State}
 use Rattle.com_read_sections.specs.declared.state.Section.TheVariants as sections
-use Rattle.com_read_sections.specs.Codes.{blank_code}
+use Rattle.com_read_sections.specs.Codes.{no_code}
 use Rattle.com_read_sections.specs.Rules.{rule_word_of}
 use Rattle.com_read_sections.specs.Opened.{step, filter_ended, ruled, inner_filter}
 use Rattle.com_print_words.specs.Spelled.{Spelled, plain, spelled_of}
@@ -111,32 +111,34 @@ older_more names n h m ge lt = new_append bytes_eq names (filter_name n ∷ []) 
 -- ---- rules
 
 abbrev pub in_filter : State → List Rule → State
-in_filter st rs = record st { rules = rs; section = sections.Filter }
+in_filter st rs = record st { section = sections.Filter rs }
 
 abbrev pub filter_read : State → List Rule → State
-filter_read st rs = record st { rules = []; filters = st.filters ++ rs ∷ []; section = sections.Top }
+filter_read st rs = record st { filters = st.filters ++ rs ∷ []; section = sections.Top }
 
-abbrev filter_by_word : State → List WordAt → WordAt → List ℕ → Result State Fault
-filter_by_word st line w bs = if bytes_eq bs (codes "end") then filter_ended st line else ruled st w line (rule_word_of bs)
+abbrev ruled_again : State → Result (List Rule) Fault → Result State Fault
+ruled_again st r = r >>= λ more. Ok (in_filter st more)
+
+abbrev filter_by_word : State → List Rule → List WordAt → WordAt → List ℕ → Result State Fault
+filter_by_word st rs line w bs = if bytes_eq bs (codes "end") then filter_ended st rs line else ruled_again st (ruled rs w line (rule_word_of bs))
 
 filter_word : (st : State) (rs : List Rule) (line : List WordAt) (bs : List ℕ) (rest : List Spelled) (e : map spelled_of line ≡ plain bs ∷ rest)
-    → step (in_filter st rs) line ≡ filter_by_word (in_filter st rs) line (first_of line bs rest e).word bs
+    → step (in_filter st rs) line ≡ filter_by_word st rs line (first_of line bs rest e).word bs
 unfolding inner_filter
 filter_word st rs line bs rest e =
     let s = first_of line bs rest e in
     step_in (in_filter st rs) line (plain bs) rest e
-    ∙ ap (λ (r : Result WordAt Fault). r >>= λ w. filter_by_word (in_filter st rs) line w w.bytes) (first_word line (plain bs) s tt)
-    ∙ ap (filter_by_word (in_filter st rs) line s.word) s.bytes
+    ∙ ap (λ (r : Result WordAt Fault). r >>= λ w. filter_by_word st rs line w w.bytes) (first_word line (plain bs) s tt)
+    ∙ ap (filter_by_word st rs line s.word) s.bytes
 
 rule_step : (st : State) (rs : List Rule) (r : Rule) (line : List WordAt) → map spelled_of line ≡ rule_words r → IsRule r → length rs < 32
     → step (in_filter st rs) line ≡ Ok (in_filter st (rs ++ r ∷ []))
 rule_step st rs r line e is room =
     let reads = rule_again line r e is in
-    let t = in_filter st rs in
     let w = (first_of line reads.word reads.rest reads.first).word in
     filter_word st rs line reads.word reads.rest reads.first
-    ∙ ap (λ (b : Bool). if b then filter_ended t line else ruled t w line (rule_word_of reads.word)) reads.no_end
-    ∙ reads.read t w (room_of 32 (length rs) room)
+    ∙ ap (λ (b : Bool). if b then filter_ended st rs line else ruled_again st (ruled rs w line (rule_word_of reads.word))) reads.no_end
+    ∙ ap (ruled_again st) (reads.read rs w (room_of 32 (length rs) room))
 
 filter_end : (st : State) (rs : List Rule) (line : List WordAt) → map spelled_of line ≡ end_words → step (in_filter st rs) line ≡ Ok (filter_read st rs)
 filter_end st rs line e =
@@ -158,7 +160,7 @@ rules_on st (r ∷ rs) done ls o all few more =
 -- ---- filters
 
 abbrev pub at_filters : State → List (List ℕ) → List (List Rule) → State
-at_filters st names filters = record st { names = record (st.names) { filters = names }; filters = filters; rules = []; section = sections.Top }
+at_filters st names filters = record st { names = record (st.names) { filters = names }; filters = filters; section = sections.Top }
 
 pub filters_on : (st : State) (n : ℕ) (names : List (List ℕ)) (rest done : List (List Rule)) (ls : List (List Spelled)) (o : Outline)
     → AreOlder names n → All IsFilter rest → length names + length rest ≤ 16 → n + length rest ≤ 17
@@ -191,7 +193,7 @@ pub record CanRun (names : Names) (b : List Stmt) : Type 0 where
   pub whole : fault_of b 2000 ≡ None
 
 abbrev pub at_threads : State → List (List Stmt) → State
-at_threads st threads = record st { threads = threads; code = blank_code; section = sections.Top }
+at_threads st threads = record st { threads = threads; section = sections.Top }
 
 pub threads_on : (st : State) (rest done : List (List Stmt)) (ls : List (List Spelled)) (o : Outline) → AreDeclared st.names → All (CanRun st.names) rest
     → length done + length rest ≤ 16 → Gets (at_threads st (done ++ rest)) ls o → Gets (at_threads st done) (threads_lines st.names rest ++ ls) o
@@ -206,10 +208,10 @@ threads_on st (b ∷ bs) done ls o are all few more =
     let behind = threads_on st bs (done ++ b ∷ []) ls o are (All-tail (CanRun st.names) b bs all) shorter
     (subst (λ (x : List (List Stmt)). Gets (at_threads st x) ls o) e more) in
     let script = program_on (in_thread t) (thread_read t) 2000 st.names (CanRead programs.Script st.names)
-    (λ code s line one room h. thread_statement t code s line are one room h) (thread_end t) b blank_code (threads_lines st.names bs ++ ls) o can.statements can.whole behind in
-    line_then t (in_thread t blank_code) thread_words ((program_lines st.names b ++ threads_lines st.names bs) ++ ls) o
+    (λ code s line one room h. thread_statement t code s line are one room h) (thread_end t) b no_code (threads_lines st.names bs ++ ls) o can.statements can.whole behind in
+    line_then t (in_thread t no_code) thread_words ((program_lines st.names b ++ threads_lines st.names bs) ++ ls) o
     (λ line h. step_in t line _ _ h ∙ thread_again t line h (omega arith))
-    (subst (λ (x : List (List Spelled)). Gets (in_thread t blank_code) x o) (sym split) script)
+    (subst (λ (x : List (List Spelled)). Gets (in_thread t no_code) x o) (sym split) script)
 
 -- ---- picks
 

@@ -18,7 +18,7 @@ use Rattle.com_read_statements.specs.Calls.{method_position}
 use Rattle.com_read_sections.specs.declared.outline.Outline.{Outline}
 use Rattle.com_read_sections.specs.declared.state.State.{State}
 use Rattle.com_read_sections.specs.declared.state.Section.TheVariants as sections
-use Rattle.com_read_sections.specs.Tables.{has_guid, blank_interface}
+use Rattle.com_read_sections.specs.Tables.{has_guid}
 use Rattle.com_read_sections.specs.Methods.{type_word_of, method_of}
 use Rattle.com_read_sections.specs.Beginning.{top_line}
 use Rattle.com_read_sections.specs.Opened.{step, method_line, inner_interface, interface_closed}
@@ -41,40 +41,40 @@ IsTop ([] ∷ ls) = ⊥
 IsTop ((w ∷ ws) ∷ ls) = (w.sort ≡ sorts.Plain) × (bytes_eq w.bytes (codes "method") ≡ false)
 
 abbrev pub with_open : State → Interface → State
-with_open st i = record st { interface = i; section = sections.Interface }
+with_open st i = record st { section = sections.Interface i }
 
-abbrev inner_by : State → List WordAt → WordAt → Bool → Result State Fault
-inner_by st line w b = if b then method_line st w line else top_line (interface_closed st) line
+abbrev inner_by : State → Interface → List WordAt → WordAt → Bool → Result State Fault
+inner_by st i line w b = if b then (method_line st.names.interfaces i w line >>= λ more. Ok (with_open st more)) else top_line (interface_closed st i) line
 
 interface_word_in : (st : State) (i : Interface) (line : List WordAt) (bs : List ℕ) (rest : List Spelled) (e : map spelled_of line ≡ plain bs ∷ rest)
-    → step (with_open st i) line ≡ inner_by (with_open st i) line (first_of line bs rest e).word (bytes_eq bs (codes "method"))
+    → step (with_open st i) line ≡ inner_by st i line (first_of line bs rest e).word (bytes_eq bs (codes "method"))
 unfolding inner_interface
 interface_word_in st i line bs rest e =
     let s = first_of line bs rest e in
     step_in (with_open st i) line (plain bs) rest e
-    ∙ ap (λ (r : Result WordAt Fault). r >>= λ w. inner_by (with_open st i) line w (bytes_eq w.bytes (codes "method"))) (first_word line (plain bs) s tt)
-    ∙ ap (λ (x : List ℕ). inner_by (with_open st i) line s.word (bytes_eq x (codes "method"))) s.bytes
+    ∙ ap (λ (r : Result WordAt Fault). r >>= λ w. inner_by st i line w (bytes_eq w.bytes (codes "method"))) (first_word line (plain bs) s tt)
+    ∙ ap (λ (x : List ℕ). inner_by st i line s.word (bytes_eq x (codes "method"))) s.bytes
 
 same_step : (st : State) (i : Interface) (line : List WordAt) (bs : List ℕ) (rest : List Spelled) → bytes_eq bs (codes "method") ≡ false → map spelled_of line ≡ plain bs ∷ rest
-    → step (with_open st i) line ≡ step (interface_closed (with_open st i)) line
+    → step (with_open st i) line ≡ step (interface_closed st i) line
 same_step st i line bs rest other e =
     interface_word_in st i line bs rest e
-    ∙ ap (inner_by (with_open st i) line (first_of line bs rest e).word) other
-    ∙ sym (step_in (interface_closed (with_open st i)) line (plain bs) rest e)
+    ∙ ap (inner_by st i line (first_of line bs rest e).word) other
+    ∙ sym (step_in (interface_closed st i) line (plain bs) rest e)
 
 closes_line : (st : State) (i : Interface) (w : Spelled) (ws : List Spelled) (ls : List (List Spelled)) (o : Outline) → w.sort ≡ sorts.Plain → bytes_eq w.bytes (codes "method") ≡ false
-    → Gets (interface_closed (with_open st i)) ((w ∷ ws) ∷ ls) o → Gets (with_open st i) ((w ∷ ws) ∷ ls) o
+    → Gets (interface_closed st i) ((w ∷ ws) ∷ ls) o → Gets (with_open st i) ((w ∷ ws) ∷ ls) o
 unfolding read
 closes_line st i w ws ls o sort other more [] h = absurd h
 closes_line st i w ws ls o sort other more (x ∷ xs) h =
     let e : shown x ≡ plain w.bytes ∷ ws = h.1 ∙ ap (λ s. record { sort = s; bytes = w.bytes } ∷ ws) sort in
     ap (behind x xs) (same_step st i x.words w.bytes ws other e) ∙ more (x ∷ xs) h
 
-closes_end : (st : State) (i : Interface) (o : Outline) → Gets (interface_closed (with_open st i)) [] o → Gets (with_open st i) [] o
+closes_end : (st : State) (i : Interface) (o : Outline) → Gets (interface_closed st i) [] o → Gets (with_open st i) [] o
 unfolding read finish
 closes_end st i o more [] h = absurd h
 closes_end st i o more (x ∷ xs) h =
-    let closed = interface_closed (with_open st i) in
+    let closed = interface_closed st i in
     let good : outlined closed ≡ o =
     ok_same (outlined closed) o (read closed (x ∷ xs)) (ap (behind x xs) (no_words closed x.words h.1) ∙ ap (by_last closed x xs) h.0) (more (x ∷ xs) h) in
     ap (behind x xs) (no_words (with_open st i) x.words h.1) ∙ ap (by_last (with_open st i) x xs) h.0 ∙ ap Ok good
@@ -82,7 +82,7 @@ closes_end st i o more (x ∷ xs) h =
     ok_same : (a b : Outline) (r : Result Outline Fault) → r ≡ Ok a → r ≡ Ok b → a ≡ b
     ok_same a b r e f = cc
 
-pub closes : (st : State) (i : Interface) (ls : List (List Spelled)) (o : Outline) → IsTop ls → Gets (interface_closed (with_open st i)) ls o → Gets (with_open st i) ls o
+pub closes : (st : State) (i : Interface) (ls : List (List Spelled)) (o : Outline) → IsTop ls → Gets (interface_closed st i) ls o → Gets (with_open st i) ls o
 closes st i [] o top more = closes_end st i o more
 closes st i ([] ∷ ls) o top more = absurd top
 closes st i ((w ∷ ws) ∷ ls) o top more = closes_line st i w ws ls o top.0 top.1 more
@@ -120,8 +120,11 @@ method_same front back m h =
     ap (λ (ws : List Spelled). plain (codes "method") ∷ plain m.name ∷ (ws ++ result_words (front ++ back) m.result)) (kinds_same front back m.params h.params)
     ∙ ap (λ (ws : List Spelled). plain (codes "method") ∷ plain m.name ∷ (map (kind_word front) m.params ++ ws)) (result_same front back m.result h.result)
 
-abbrev methods_more : State → Interface → Result Method Fault → Result State Fault
-methods_more st i r = r >>= λ m. Ok (with_open st (record i { methods = i.methods ++ m ∷ [] }))
+abbrev methods_more : Interface → Result Method Fault → Result Interface Fault
+methods_more i r = r >>= λ m. Ok (record i { methods = i.methods ++ m ∷ [] })
+
+abbrev opened_again : State → Result Interface Fault → Result State Fault
+opened_again st r = r >>= λ more. Ok (with_open st more)
 
 method_step : (st : State) (i : Interface) (m : Method) (line : List WordAt) → map spelled_of line ≡ method_words st.names.interfaces m
     → AreTypes st.names.interfaces → IsSigned st.names.interfaces m → is_some (method_position i.methods m.name) ≡ false → length i.methods < 32
@@ -131,8 +134,8 @@ method_step st i m line e are is free room =
     let can : CanRead st.names.interfaces i.methods m = record { types = are; name = is.name; free = free; params = is.params; few = is.few; result = is.result } in
     let s = first_of line _ _ e in
     interface_word_in st i line (codes "method") _ e
-    ∙ ap (λ (b : Bool). if b then Err (fault_at 12 s.word) else methods_more st i (method_of st.names.interfaces i.methods line)) (room_of 32 (length i.methods) room)
-    ∙ ap (methods_more st i) (method_again st.names.interfaces i.methods line m e can)
+    ∙ ap (λ (b : Bool). opened_again st (if b then Err (fault_at 12 s.word) else methods_more i (method_of st.names.interfaces i.methods line))) (room_of 32 (length i.methods) room)
+    ∙ ap (λ (r : Result Method Fault). opened_again st (methods_more i r)) (method_again st.names.interfaces i.methods line m e can)
 
 methods_on : (st : State) (back : List (List ℕ)) (i : Interface) (rest done : List Method) (ls : List (List Spelled)) (o : Outline)
     → AreTypes st.names.interfaces → All (IsSigned st.names.interfaces) rest → Distinct same_method (done ++ rest) → length done + length rest ≤ 32
@@ -159,7 +162,6 @@ abbrev pub at_interfaces : State → List (List ℕ) → List Guid → List Inte
 at_interfaces st names iids tables = record st {
   names = record (st.names) { interfaces = names; tables = tables };
   iids = iids;
-  interface = blank_interface;
   section = sections.Top;
 }
 

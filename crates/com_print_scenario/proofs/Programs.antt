@@ -3,9 +3,11 @@ use Rattle.std.proofs.Common.{◌≡◌, ℕ, ◌<◌, List, [], ◌∷◌, ◌+
 use Rattle.com_body.specs.declared.statements.Stmt.{Stmt}
 use Rattle.com_body.specs.declared.statements.Stmt.TheVariants as stmts
 use Rattle.com_body.specs.Bodies.{IsInRange}
+use Rattle.com_classes.specs.declared.classes.Class.{Class}
 use Rattle.com_text.specs.Words.{WordAt}
 use Rattle.com_read_operands.specs.declared.faults.Fault.{Fault}
 use Rattle.com_read_operands.specs.Reading.{◌>>=◌, fault_at, first_at, end_at}
+use Rattle.com_read_statements.specs.declared.calls.MethodNumber.{MethodNumber}
 use Rattle.com_read_statements.specs.declared.keywords.Program.{Program}
 use Rattle.com_read_statements.specs.declared.keywords.Program.TheVariants as programs
 use Rattle.com_read_statements.specs.declared.keywords.Keyword.{Keyword}
@@ -14,9 +16,9 @@ use Rattle.com_read_statements.specs.Keywords.{keyword_of}
 use Rattle.com_read_statements.specs.Statements.{stmt_of}
 use Rattle.com_read_sections.specs.declared.state.State.{State}
 use Rattle.com_read_sections.specs.declared.state.Section.TheVariants as sections
-use Rattle.com_read_sections.specs.Codes.{CodeAt, code_more, blank_code, checked}
+use Rattle.com_read_sections.specs.Codes.{CodeAt, code_more, checked}
 use Rattle.com_read_sections.specs.Programs.{spot_at, allowed, stated, program_line}
-use Rattle.com_read_sections.specs.Opened.{step, program_of, inner_body, body_ended, inner_thread, thread_ended}
+use Rattle.com_read_sections.specs.Opened.{step, program_of, with_body, inner_body, body_ended, inner_thread, thread_ended}
 use Rattle.com_print_words.specs.Spelled.{Spelled, plain, spelled_of}
 use Rattle.com_print_operands.specs.Ranges.{Fits}
 use Rattle.com_print_operands.proofs.Places.{end_again}
@@ -108,60 +110,56 @@ statement_again p limit names code s w ws r room =
 
 -- ---- bodies
 
-abbrev pub in_body : State → CodeAt → State
-in_body st code = record st { code = code; section = sections.Body }
+abbrev pub in_body : State → Class → MethodNumber → CodeAt → State
+in_body st c head code = record st { section = sections.Body c head code }
 
-abbrev pub body_read : State → List Stmt → State
-body_read st body = record st {
-  code = blank_code;
-  class = record (st.class) { bodies = st.class.bodies ++ record { iface = st.head.iface; method = st.head.method; body = body } ∷ [] };
-  section = sections.Class;
-}
+abbrev pub body_read : State → Class → MethodNumber → List Stmt → State
+body_read st c head body = record st { section = sections.Class (with_body c head body) }
 
 abbrev by_end : State → CodeAt → Program → ℕ → List WordAt → WordAt → Bool → (List WordAt → Result State Fault) → (CodeAt → State) → Result State Fault
 by_end st code p limit line w b ended next = if b then ended line else (program_line p limit st.names code w line >>= λ c. Ok (next c))
 
-pub body_statement : (st : State) (names : Names) (code : CodeAt) (s : Stmt) (line : List WordAt) → AreDeclared st.names → CanRead (program_of st.class.model) st.names s
+pub body_statement : (st : State) (c : Class) (head : MethodNumber) (names : Names) (code : CodeAt) (s : Stmt) (line : List WordAt) → AreDeclared st.names → CanRead (program_of c.model) st.names s
     → length code.statements < 200 → statement_words names s ≡ statement_words st.names s → map spelled_of line ≡ statement_words names s
-    → (f : Fault) × (step (in_body st code) line ≡ Ok (in_body st (code_more code s f)))
+    → (f : Fault) × (step (in_body st c head code) line ≡ Ok (in_body st c head (code_more code s f)))
 unfolding inner_body
-body_statement st names code s line are can room same e =
+body_statement st c head names code s line are can room same e =
     let b = begins st.names s in
     let words : map spelled_of line ≡ plain b.word ∷ b.rest = e ∙ same ∙ b.is in
     let l = opens line b.word b.rest words in
-    let written : Written (program_of st.class.model) st.names s l.word l.rest =
+    let written : Written (program_of c.model) st.names s l.word l.rest =
     record { words = ap (map spelled_of) (sym l.is) ∙ e ∙ same; range = can.range; stands = can.stands; fits = can.fits } in
-    let reads = statement_reads (program_of st.class.model) st.names s l.word l.rest are written in
-    let r = statement_again (program_of st.class.model) 200 st.names code s l.word l.rest reads room in
-    let p = program_of st.class.model in
-    let t = in_body st code in (
+    let reads = statement_reads (program_of c.model) st.names s l.word l.rest are written in
+    let r = statement_again (program_of c.model) 200 st.names code s l.word l.rest reads room in
+    let p = program_of c.model in
+    let t = in_body st c head code in (
       r.0,
       step_in t line (plain b.word) b.rest words
-          ∙ ap (λ (x : Result WordAt Fault). x >>= λ w. by_end st code p 200 line w (bytes_eq w.bytes (codes "end")) (body_ended t) (in_body st)) l.first
-          ∙ ap (λ (x : Bool). by_end st code p 200 line l.word x (body_ended t) (in_body st)) (no_end l.word.bytes reads.keyword reads.begins)
-          ∙ ap (λ (x : List WordAt). program_line p 200 st.names code l.word x >>= λ c. Ok (in_body st c)) l.is
-          ∙ ap (λ (x : Result CodeAt Fault). x >>= λ c. Ok (in_body st c)) r.1,
+          ∙ ap (λ (x : Result WordAt Fault). x >>= λ w. by_end st code p 200 line w (bytes_eq w.bytes (codes "end")) (body_ended t c head code) (in_body st c head)) l.first
+          ∙ ap (λ (x : Bool). by_end st code p 200 line l.word x (body_ended t c head code) (in_body st c head)) (no_end l.word.bytes reads.keyword reads.begins)
+          ∙ ap (λ (x : List WordAt). program_line p 200 st.names code l.word x >>= λ more. Ok (in_body st c head more)) l.is
+          ∙ ap (λ (x : Result CodeAt Fault). x >>= λ more. Ok (in_body st c head more)) r.1,
     )
 
-pub body_end : (st : State) (code : CodeAt) (line : List WordAt) → checked code 200 ≡ Ok code.statements → map spelled_of line ≡ end_words
-    → step (in_body st code) line ≡ Ok (body_read st code.statements)
+pub body_end : (st : State) (c : Class) (head : MethodNumber) (code : CodeAt) (line : List WordAt) → checked code 200 ≡ Ok code.statements → map spelled_of line ≡ end_words
+    → step (in_body st c head code) line ≡ Ok (body_read st c head code.statements)
 unfolding inner_body
-body_end st code line good e =
+body_end st c head code line good e =
     let s = first_of line (codes "end") [] e in
-    let t = in_body st code in
+    let t = in_body st c head code in
     step_in t line (plain (codes "end")) [] e
-    ∙ ap (λ (x : Result WordAt Fault). x >>= λ w. by_end st code (program_of st.class.model) 200 line w (bytes_eq w.bytes (codes "end")) (body_ended t) (in_body st)) (first_word line (plain (codes "end")) s tt)
-    ∙ ap (λ (x : List ℕ). by_end st code (program_of st.class.model) 200 line s.word (bytes_eq x (codes "end")) (body_ended t) (in_body st)) s.bytes
-    ∙ ap (λ (x : Result (List Stmt) Fault). x >>= λ body. end_at line 1 >>= λ done. Ok (body_read st body)) good
-    ∙ ap (λ (x : Result (Unit {0}) Fault). x >>= λ done. Ok (body_read st code.statements)) (end_again line 1 (at_of line _ 1 e))
+    ∙ ap (λ (x : Result WordAt Fault). x >>= λ w. by_end st code (program_of c.model) 200 line w (bytes_eq w.bytes (codes "end")) (body_ended t c head code) (in_body st c head)) (first_word line (plain (codes "end")) s tt)
+    ∙ ap (λ (x : List ℕ). by_end st code (program_of c.model) 200 line s.word (bytes_eq x (codes "end")) (body_ended t c head code) (in_body st c head)) s.bytes
+    ∙ ap (λ (x : Result (List Stmt) Fault). x >>= λ body. end_at line 1 >>= λ done. Ok (body_read st c head body)) good
+    ∙ ap (λ (x : Result (Unit {0}) Fault). x >>= λ done. Ok (body_read st c head code.statements)) (end_again line 1 (at_of line _ 1 e))
 
 -- ---- scripts
 
 abbrev pub in_thread : State → CodeAt → State
-in_thread st code = record st { code = code; section = sections.Thread }
+in_thread st code = record st { section = sections.Thread code }
 
 abbrev pub thread_read : State → List Stmt → State
-thread_read st body = record st { code = blank_code; threads = st.threads ++ body ∷ []; section = sections.Top }
+thread_read st body = record st { threads = st.threads ++ body ∷ []; section = sections.Top }
 
 pub thread_statement : (st : State) (code : CodeAt) (s : Stmt) (line : List WordAt) → AreDeclared st.names → CanRead programs.Script st.names s
     → length code.statements < 2000 → map spelled_of line ≡ statement_words st.names s
@@ -178,8 +176,8 @@ thread_statement st code s line are can room e =
     let t = in_thread st code in (
       r.0,
       step_in t line (plain b.word) b.rest words
-          ∙ ap (λ (x : Result WordAt Fault). x >>= λ w. by_end st code programs.Script 2000 line w (bytes_eq w.bytes (codes "end")) (thread_ended t) (in_thread st)) l.first
-          ∙ ap (λ (x : Bool). by_end st code programs.Script 2000 line l.word x (thread_ended t) (in_thread st)) (no_end l.word.bytes reads.keyword reads.begins)
+          ∙ ap (λ (x : Result WordAt Fault). x >>= λ w. by_end st code programs.Script 2000 line w (bytes_eq w.bytes (codes "end")) (thread_ended t code) (in_thread st)) l.first
+          ∙ ap (λ (x : Bool). by_end st code programs.Script 2000 line l.word x (thread_ended t code) (in_thread st)) (no_end l.word.bytes reads.keyword reads.begins)
           ∙ ap (λ (x : List WordAt). program_line programs.Script 2000 st.names code l.word x >>= λ c. Ok (in_thread st c)) l.is
           ∙ ap (λ (x : Result CodeAt Fault). x >>= λ c. Ok (in_thread st c)) r.1,
     )
@@ -191,7 +189,7 @@ thread_end st code line good e =
     let s = first_of line (codes "end") [] e in
     let t = in_thread st code in
     step_in t line (plain (codes "end")) [] e
-    ∙ ap (λ (x : Result WordAt Fault). x >>= λ w. by_end st code programs.Script 2000 line w (bytes_eq w.bytes (codes "end")) (thread_ended t) (in_thread st)) (first_word line (plain (codes "end")) s tt)
-    ∙ ap (λ (x : List ℕ). by_end st code programs.Script 2000 line s.word (bytes_eq x (codes "end")) (thread_ended t) (in_thread st)) s.bytes
+    ∙ ap (λ (x : Result WordAt Fault). x >>= λ w. by_end st code programs.Script 2000 line w (bytes_eq w.bytes (codes "end")) (thread_ended t code) (in_thread st)) (first_word line (plain (codes "end")) s tt)
+    ∙ ap (λ (x : List ℕ). by_end st code programs.Script 2000 line s.word (bytes_eq x (codes "end")) (thread_ended t code) (in_thread st)) s.bytes
     ∙ ap (λ (x : Result (List Stmt) Fault). x >>= λ body. end_at line 1 >>= λ done. Ok (thread_read st body)) good
     ∙ ap (λ (x : Result (Unit {0}) Fault). x >>= λ done. Ok (thread_read st code.statements)) (end_again line 1 (at_of line _ 1 e))

@@ -12,7 +12,6 @@ use Rattle.com_text.specs.Words.{WordAt}
 use Rattle.com_read_operands.specs.declared.faults.Fault.{Fault}
 use Rattle.com_read_operands.specs.Numbers.{signed_of}
 use Rattle.com_read_operands.specs.Reading.{◌>>=◌, fault_at}
-use Rattle.com_read_sections.specs.declared.state.State.{State}
 use Rattle.com_read_sections.specs.Opened.{ruled}
 use Rattle.com_read_sections.specs.Rules.{rule_word_of, call_type_at, verdict_at, refusal_at, in_answers, as_answer, answer_at, kept_at, rule_of}
 use Rattle.com_print_words.specs.Spelled.{Spelled, plain, spelled_of}
@@ -115,15 +114,15 @@ pub record RuleReads (line : List WordAt) (r : Rule) : Type 0 where
   pub rest : List Spelled
   pub first : map spelled_of line ≡ plain word ∷ rest
   pub no_end : bytes_eq word (codes "end") ≡ false
-  pub read : (st : State) (w : WordAt) → nat_le 32 (length st.rules) ≡ false → ruled st w line (rule_word_of word) ≡ Ok (record st { rules = st.rules ++ r ∷ [] })
+  pub read : (done : List Rule) (w : WordAt) → nat_le 32 (length done) ≡ false → ruled done w line (rule_word_of word) ≡ Ok (done ++ r ∷ [])
 
 -- a filter with room takes one rule more
-abbrev taken : State → WordAt → Result Rule Fault → Bool → Result State Fault
-taken st w r full = if full then Err (fault_at 12 w) else (r >>= λ x. Ok (record st { rules = st.rules ++ x ∷ [] }))
+abbrev taken : List Rule → WordAt → Result Rule Fault → Bool → Result (List Rule) Fault
+taken done w r full = if full then Err (fault_at 12 w) else (r >>= λ x. Ok (done ++ x ∷ []))
 
-read_by : (st : State) (w : WordAt) (q : Result Rule Fault) (r : Rule) → q ≡ Ok r → nat_le 32 (length st.rules) ≡ false
-    → taken st w q (nat_le 32 (length st.rules)) ≡ Ok (record st { rules = st.rules ++ r ∷ [] })
-read_by st w q r e room = ap (taken st w q) room ∙ ap (λ (x : Result Rule Fault). taken st w x false) e
+read_by : (done : List Rule) (w : WordAt) (q : Result Rule Fault) (r : Rule) → q ≡ Ok r → nat_le 32 (length done) ≡ false
+    → taken done w q (nat_le 32 (length done)) ≡ Ok (done ++ r ∷ [])
+read_by done w q r e room = ap (taken done w q) room ∙ ap (λ (x : Result Rule Fault). taken done w x false) e
 
 pub rule_again : (line : List WordAt) (r : Rule) → map spelled_of line ≡ rule_words r → IsRule r → RuleReads line r
 unfolding rule_of
@@ -132,7 +131,7 @@ rule_again line (rules.Incoming t ms v) e is = record {
   rest = _;
   first = e;
   no_end = refl;
-  read = λ st w room. read_by st w _ (rules.Incoming t ms v)
+  read = λ done w room. read_by done w _ (rules.Incoming t ms v)
       (rw (
         type_again line 1 t (at_of line _ 1 e) is.0,
         number_at_again 0 2147483647 line 2 ms (at_of line _ 2 e) (omega arith) is.1 (omega arith),
@@ -145,7 +144,7 @@ rule_again line (rules.Retry v ms z) e is = record {
   rest = _;
   first = e;
   no_end = refl;
-  read = λ st w room. read_by st w _ (rules.Retry v ms z)
+  read = λ done w room. read_by done w _ (rules.Retry v ms z)
       (rw (
         refusal_again line 1 v (at_of line _ 1 e) is.0,
         number_at_again 0 2147483647 line 2 ms (at_of line _ 2 e) (omega arith) is.1 (omega arith),
@@ -158,7 +157,7 @@ rule_again line (rules.Pending ms n) e is = record {
   rest = _;
   first = e;
   no_end = refl;
-  read = λ st w room. read_by st w _ (rules.Pending ms n)
+  read = λ done w room. read_by done w _ (rules.Pending ms n)
       (rw (
         number_at_again 0 2147483647 line 1 ms (at_of line _ 1 e) (omega arith) is.0 (omega arith),
         kept_again line 2 n (at_of line _ 2 e) is.1,

@@ -13,7 +13,7 @@ use Rattle.com_read_operands.specs.Reading.{◌>>=◌, fault_at, end_at, number_
 use Rattle.com_read_operands.specs.Naming.{is_name, position_of}
 use Rattle.com_read_sections.specs.declared.state.State.{State}
 use Rattle.com_read_sections.specs.declared.state.Section.TheVariants as sections
-use Rattle.com_read_sections.specs.Codes.{blank_code}
+use Rattle.com_read_sections.specs.Codes.{no_code}
 use Rattle.com_read_sections.specs.Tables.{has_guid}
 use Rattle.com_read_sections.specs.Methods.{type_word_of}
 use Rattle.com_read_sections.specs.Declaring.{free_name_at, free_guid_at, interface_name_at, filter_name_at, listed_at, model_at, native_at, natives_of}
@@ -59,8 +59,7 @@ abbrev pub opened_by : State → List ℕ → Guid → State
 opened_by st name iid = record st {
   names = record (st.names) { interfaces = st.names.interfaces ++ name ∷ [] };
   iids = st.iids ++ iid ∷ [];
-  interface = record { name = name; iid = iid; methods = [] };
-  section = sections.Interface;
+  section = sections.Interface (record { name = name; iid = iid; methods = [] });
 }
 
 pub interface_again : (st : State) (line : List WordAt) (i : Interface) → map spelled_of line ≡ interface_words i → length st.names.interfaces < 64
@@ -92,8 +91,7 @@ abbrev pub class_by : State → Class → List ℕ → ThreadingModel → List �
 class_by st c name model interfaces = record st {
   names = record (st.names) { classes = st.names.classes ++ name ∷ [] };
   clsids = st.clsids ++ c.clsid ∷ [];
-  class = record { name = name; clsid = c.clsid; model = model; native = natives.Bodies; interfaces = interfaces; bodies = [] };
-  section = sections.Class;
+  section = sections.Class (record { name = name; clsid = c.clsid; model = model; native = natives.Bodies; interfaces = interfaces; bodies = [] });
 }
 
 pub class_again : (st : State) (line : List WordAt) (c : Class) → map spelled_of line ≡ class_head (codes "class") c (map (interface_word_of st.names.interfaces) c.interfaces)
@@ -153,8 +151,7 @@ native_again st line c native bs e can is =
 abbrev pub filter_by : State → List ℕ → State
 filter_by st name = record st {
   names = record (st.names) { filters = st.names.filters ++ name ∷ [] };
-  rules = [];
-  section = sections.Filter;
+  section = sections.Filter [];
 }
 
 pub filter_again : (st : State) (line : List WordAt) (n : ℕ) → map spelled_of line ≡ filter_words n → length st.names.filters < 16
@@ -172,13 +169,13 @@ filter_again st line n e room is no_none free =
     ∙ ap (λ (x : List ℕ). Ok (filter_by st x)) w.bytes
 
 pub thread_again : (st : State) (line : List WordAt) → map spelled_of line ≡ thread_words → length st.threads < 16
-    → top_line st line ≡ Ok (record st { code = blank_code; section = sections.Thread })
+    → top_line st line ≡ Ok (record st { section = sections.Thread no_code })
 unfolding thread_line
 thread_again st line e room =
     let s = first_of line _ _ e in
     top_word st line (codes "thread") _ e
-    ∙ ap (unless (fault_at 12 s.word) (end_at line 1 >>= λ done. Ok (record st { code = blank_code; section = sections.Thread }))) (room_of 16 (length st.threads) room)
-    ∙ ap (λ (r : Result (Unit {0}) Fault). r >>= λ done. Ok (record st { code = blank_code; section = sections.Thread })) (end_again line 1 (at_of line _ 1 e))
+    ∙ ap (unless (fault_at 12 s.word) (end_at line 1 >>= λ done. Ok (record st { section = sections.Thread no_code }))) (room_of 16 (length st.threads) room)
+    ∙ ap (λ (r : Result (Unit {0}) Fault). r >>= λ done. Ok (record st { section = sections.Thread no_code })) (end_again line 1 (at_of line _ 1 e))
 
 pub picks_again : (st : State) (line : List WordAt) (ns : List ℕ) → map spelled_of line ≡ plain (codes "picks") ∷ map number_word ns → All (λ n. n < 2 ^ 32) ns
     → top_line st line ≡ Ok (record st { picks = st.picks ++ ns })

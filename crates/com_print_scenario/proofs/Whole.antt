@@ -21,7 +21,6 @@ use Rattle.com_text.specs.Words.{WordAt}
 use Rattle.com_read_operands.specs.declared.faults.Fault.{Fault}
 use Rattle.com_read_operands.specs.Reading.{◌>>=◌, fault_at}
 use Rattle.com_read_operands.specs.Naming.{is_name}
-use Rattle.com_read_statements.specs.declared.calls.MethodNumber.{MethodNumber}
 use Rattle.com_read_statements.specs.declared.keywords.Program.TheVariants as programs
 use Rattle.com_read_statements.specs.declared.names.Names.{Names}
 use Rattle.com_read_sections.specs.declared.state.State.{State}
@@ -65,7 +64,7 @@ headed v = record (begun built_in_interfaces) { version = v; section = sections.
 abbrev versioned : Result ℕ Fault → Result State Fault
 versioned r = r >>= λ v. Ok (headed v)
 
-header_again : (line : List WordAt) (v : ℕ) → map spelled_of line ≡ header_words v → 1 ≤ v → v ≤ 2 → header_line (begun built_in_interfaces) line ≡ Ok (headed v)
+header_again : (line : List WordAt) (v : ℕ) → map spelled_of line ≡ header_words v → 1 ≤ v → v ≤ 2 → header_line (begun built_in_interfaces) None line ≡ Ok (headed v)
 unfolding header_line version_at
 header_again [] v e ge le = absurd cc
 header_again (w ∷ []) v e ge le = absurd cc
@@ -241,21 +240,21 @@ pooled s = record (headed s.version) { pool = Some s.pool }
 abbrev pub behind_interfaces : Scenario → List Guid → State
 behind_interfaces s ids = at_interfaces (pooled s) (map name_of_interface s.classes.interfaces) ids s.classes.interfaces
 
-abbrev behind_classes : Scenario → List Guid → List Guid → MethodNumber → State
-behind_classes s ids clsids h = at_classes (behind_interfaces s ids) (map name_of_class s.classes.classes) clsids s.classes.classes h
+abbrev behind_classes : Scenario → List Guid → List Guid → State
+behind_classes s ids clsids = at_classes (behind_interfaces s ids) (map name_of_class s.classes.classes) clsids s.classes.classes
 
-abbrev behind_filters : Scenario → List Guid → List Guid → MethodNumber → State
-behind_filters s ids clsids h = at_filters (behind_classes s ids clsids h) (filter_names 1 s.filters) s.filters
+abbrev behind_filters : Scenario → List Guid → List Guid → State
+behind_filters s ids clsids = at_filters (behind_classes s ids clsids) (filter_names 1 s.filters) s.filters
 
-abbrev behind_threads : Scenario → List Guid → List Guid → MethodNumber → State
-behind_threads s ids clsids h = at_threads (behind_filters s ids clsids h) s.threads
+abbrev behind_threads : Scenario → List Guid → List Guid → State
+behind_threads s ids clsids = at_threads (behind_filters s ids clsids) s.threads
 
-end_read : (s : Scenario) (ids clsids : List Guid) (h : MethodNumber) → Gets (at_picks (behind_threads s ids clsids h) s.picks) [] (outline_of s)
+end_read : (s : Scenario) (ids clsids : List Guid) → Gets (at_picks (behind_threads s ids clsids) s.picks) [] (outline_of s)
 unfolding finish
-end_read s ids clsids h = ends (at_picks (behind_threads s ids clsids h) s.picks) (outline_of s) (λ l c. refl)
+end_read s ids clsids = ends (at_picks (behind_threads s ids clsids) s.picks) (outline_of s) (λ l c. refl)
 
-picks_read : (s : Scenario) → Formed s → (ids clsids : List Guid) (h : MethodNumber) → Gets (behind_threads s ids clsids h) (from_picks s) (outline_of s)
-picks_read s f ids clsids h = picks_on (behind_threads s ids clsids h) s.picks (outline_of s) f.picks (end_read s ids clsids h)
+picks_read : (s : Scenario) → Formed s → (ids clsids : List Guid) → Gets (behind_threads s ids clsids) (from_picks s) (outline_of s)
+picks_read s f ids clsids = picks_on (behind_threads s ids clsids) s.picks (outline_of s) f.picks (end_read s ids clsids)
 
 corresponds : (s : Scenario) → Corresponds s (in_script s) programs.Script (names_in s)
 corresponds s = record {
@@ -273,15 +272,15 @@ scripts_run s f t = λ k d lt. record {
   whole = (f.threads.0 k d lt).whole;
 }
 
-threads_read : (s : Scenario) → Formed s → FitsTypes s → (ids clsids : List Guid) (h : MethodNumber) → Gets (behind_filters s ids clsids h) (from_threads s) (outline_of s)
-threads_read s f t ids clsids h =
+threads_read : (s : Scenario) → Formed s → FitsTypes s → (ids clsids : List Guid) → Gets (behind_filters s ids clsids) (from_threads s) (outline_of s)
+threads_read s f t ids clsids =
     let few = f.threads.1 in
-    threads_on (behind_filters s ids clsids h) s.threads [] (from_picks s) (outline_of s) (all_declared s f) (scripts_run s f t) (omega arith) (picks_read s f ids clsids h)
+    threads_on (behind_filters s ids clsids) s.threads [] (from_picks s) (outline_of s) (all_declared s f) (scripts_run s f t) (omega arith) (picks_read s f ids clsids)
 
-filters_read : (s : Scenario) → Formed s → FitsTypes s → (ids clsids : List Guid) (h : MethodNumber) → Gets (behind_classes s ids clsids h) (from_filters s) (outline_of s)
-filters_read s f t ids clsids h =
+filters_read : (s : Scenario) → Formed s → FitsTypes s → (ids clsids : List Guid) → Gets (behind_classes s ids clsids) (from_filters s) (outline_of s)
+filters_read s f t ids clsids =
     let few = f.filters.1 in
-    filters_on (behind_classes s ids clsids h) 1 [] s.filters [] (from_threads s) (outline_of s) (λ m ge lt. tt) f.filters.0 (omega arith) (omega arith) (threads_read s f t ids clsids h)
+    filters_on (behind_classes s ids clsids) 1 [] s.filters [] (from_threads s) (outline_of s) (λ m ge lt. tt) f.filters.0 (omega arith) (omega arith) (threads_read s f t ids clsids)
 
 pub classes_add : (s : Scenario) → Formed s → FitsTypes s → (ids : List Guid)
     → CanAddAll (behind_interfaces s ids) (names_of_all (behind_interfaces s ids) (map name_of_class s.classes.classes) (filter_names 1 s.filters)) [] [] s.classes.classes
@@ -294,8 +293,8 @@ classes_add s f t ids =
 
 classes_read : (s : Scenario) → Formed s → FitsTypes s → (ids : List Guid) → Gets (behind_interfaces s ids) (from_classes s) (outline_of s)
 classes_read s f t ids =
-    classes_on (behind_interfaces s ids) (map name_of_class s.classes.classes) (filter_names 1 s.filters) [] [] [] s.classes.classes (record { iface = 0; method = 0 })
-    (from_filters s) (outline_of s) (classes_add s f t ids) (λ clsids h. filters_read s f t ids clsids h)
+    classes_on (behind_interfaces s ids) (map name_of_class s.classes.classes) (filter_names 1 s.filters) [] [] [] s.classes.classes
+    (from_filters s) (outline_of s) (classes_add s f t ids) (λ clsids. filters_read s f t ids clsids)
 
 four_on : {X : Type 0} (P : X → Type 0) (a b c d : X) (xs : List X) → All P (a ∷ b ∷ c ∷ d ∷ xs) → All P xs
 four_on P a b c d xs h =

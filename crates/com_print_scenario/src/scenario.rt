@@ -10,22 +10,19 @@ use crate::classes::push_classes;
 use crate::filters::{push_filters, push_picks, push_threads};
 use crate::interfaces::push_interfaces;
 use crate::names::names_of;
-use com_base::{ByteList, Memory};
+use com_base::{BUILT_IN_COUNT, ByteList, Memory};
 use com_classes::Interface;
 use com_model::Scenario;
 use com_print_operands::push_decimal;
 use com_print_words::push_end;
 use std::alloc::Global;
 
-/// How many interfaces are built in.
-const BUILT_IN: usize = 4;
-
 /// The interfaces beside the built-in ones.
 fn own(interfaces: &[Interface]) -> &[Interface]
     requires { 4 ≤ length interfaces.now }
     ensures { result.now ≡ drop 4 interfaces.now }
 {
-    &interfaces[BUILT_IN..]
+    &interfaces[BUILT_IN_COUNT..]
 }
 
 fn push_header(out: &mut ByteList, version: u8) -> Result<(), Memory>

@@ -14,7 +14,7 @@ use Rattle.com_read_sections.specs.Methods.{item_at, signature_on}
 any_word : WordAt
 any_word = record { line = 0; column = 0; after = 0; start = 0; end = 0; sort = sorts.Plain; bytes = [] }
 
--- the words from a place on are the word there and the rest
+-- the words from an index on are the word there and the rest
 pub next : (line : List WordAt) (i : ℕ) → i < length line → (v : WordAt) × (drop i line ≡ v ∷ drop (i + 1) line)
 next line i lt = (get_or line i any_word, drop_more line i any_word lt)
 

@@ -3,7 +3,6 @@ use Rattle.std.specs.Prelude.{ℕ, List, [], ◌∷◌, ◌++◌, length, drop, 
 use Rattle.std.specs.Prelude.{Err, nat_le, if◌then◌else◌, codes}
 use Rattle.std.specs.Str.{bytes_eq}
 use Rattle.com_body.specs.declared.frame.Native.TheVariants as natives
-use Rattle.com_classes.specs.declared.classes.Class.{Class}
 use Rattle.com_text.specs.Words.{WordAt}
 use Rattle.com_read_operands.specs.declared.faults.Fault.{Fault}
 use Rattle.com_read_operands.specs.Reading.{◌>>=◌, fault_at, first_at, end_at, number_at}
@@ -11,7 +10,7 @@ use Rattle.com_read_sections.specs.declared.begin.SectionWord.{SectionWord}
 use Rattle.com_read_sections.specs.declared.begin.SectionWord.TheVariants as words
 use Rattle.com_read_sections.specs.declared.state.State.{State}
 use Rattle.com_read_sections.specs.declared.state.Section.TheVariants as sections
-use Rattle.com_read_sections.specs.Codes.{blank_code}
+use Rattle.com_read_sections.specs.Codes.{no_code}
 use Rattle.com_read_sections.specs.Declaring.{free_guid_at, free_name_at, interface_name_at, filter_name_at}
 use Rattle.com_read_sections.specs.Declaring.{model_at, native_at, natives_of, listed_at, picks_on}
 
@@ -42,8 +41,7 @@ interface_line st w line = if nat_le 64 (length st.names.interfaces) then Err (f
   Ok (record st {
     names = record (st.names) { interfaces = st.names.interfaces ++ name.bytes ∷ [] };
     iids = st.iids ++ iid ∷ [];
-    interface = record { name = name.bytes; iid = iid; methods = [] };
-    section = sections.Interface;
+    section = sections.Interface (record { name = name.bytes; iid = iid; methods = [] });
   }))
 
 -- a class's name, CLSID, model and interfaces: at most 64 with the natives
@@ -56,15 +54,14 @@ class_line st w line = if nat_le 64 (length st.names.classes) then Err (fault_at
   Ok (record st {
     names = record (st.names) { classes = st.names.classes ++ name.bytes ∷ [] };
     clsids = st.clsids ++ clsid ∷ [];
-    class = record {
+    section = sections.Class (record {
       name = name.bytes;
       clsid = clsid;
       model = model;
       native = natives.Bodies;
       interfaces = interfaces;
       bodies = [];
-    };
-    section = sections.Class;
+    });
   }))
 
 -- a class with built-in bodies
@@ -95,15 +92,14 @@ filter_line st w line = if nat_le 16 (length st.names.filters) then Err (fault_a
   done ← end_at line 2
   Ok (record st {
     names = record (st.names) { filters = st.names.filters ++ name.bytes ∷ [] };
-    rules = [];
-    section = sections.Filter;
+    section = sections.Filter [];
   }))
 
 -- at most 16 threads
 unfoldable pub thread_line : State → WordAt → List WordAt → Result State Fault
 thread_line st w line = if nat_le 16 (length st.threads) then Err (fault_at 12 w) else (do
   done ← end_at line 1
-  Ok (record st { code = blank_code; section = sections.Thread }))
+  Ok (record st { section = sections.Thread no_code }))
 
 -- several lines are joined
 unfoldable pub picks_line : State → List WordAt → Result State Fault

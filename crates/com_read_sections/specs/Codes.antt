@@ -11,25 +11,25 @@ pub record CodeAt : Type 0 where
   pub statements : List Stmt
   pub spots : List Fault
 
-abbrev pub blank_code : CodeAt
-blank_code = record { statements = []; spots = [] }
+abbrev pub no_code : CodeAt
+no_code = record { statements = []; spots = [] }
 
 abbrev pub code_more : CodeAt → Stmt → Fault → CodeAt
 code_more code s f = record { statements = code.statements ++ s ∷ []; spots = code.spots ++ f ∷ [] }
 
 -- the fault of a text without words, or with a lone `scenario` for its header
-abbrev pub first_place : Fault
-first_place = record { number = 1; line = 1; column = 1 }
+abbrev pub first_position : Fault
+first_position = record { number = 1; line = 1; column = 1 }
 
 -- each statement has its fault, so there is one for each number
 abbrev pub spotted : Option Fault → Result (List Stmt) Fault
-spotted None = Err first_place
+spotted None = Err first_position
 spotted (Some f) = Err f
 
 abbrev pub checked_by : CodeAt → Option BodyFault → Result (List Stmt) Fault
 checked_by code None = Ok code.statements
 checked_by code (Some (faults.Jump k)) = spotted (slice_get code.spots k)
-checked_by code (Some faults.TooLong) = Err first_place
+checked_by code (Some faults.TooLong) = Err first_position
 
 -- the statements at their end, or the first skip that passes it
 abbrev pub checked : CodeAt → ℕ → Result (List Stmt) Fault

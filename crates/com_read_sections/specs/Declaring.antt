@@ -80,7 +80,7 @@ listed_item names count line k = do
   n ← declared_at names line k
   if nat_le 16 count then (word_at line k >>= λ w. Err (fault_at 12 w)) else Ok n
 
--- the interfaces so far, and what is left of the line, from a place on
+-- the interfaces so far, and what is left of the line, from an index on
 abbrev pub listed_on : List (List ℕ) → List ℕ → List WordAt → ℕ → List WordAt → Result (List ℕ) Fault
 listed_on names done line k [] = Ok done
 listed_on names done line k (v ∷ vs) =
@@ -98,7 +98,7 @@ pick_at line k = do
   there ← stands_at line k
   number_at 0 4294967295 line k
 
--- the numbers so far, and what is left of the line, from a place on
+-- the numbers so far, and what is left of the line, from an index on
 abbrev pub picks_on : List ℕ → List WordAt → ℕ → List WordAt → Result (List ℕ) Fault
 picks_on done line k [] = Ok done
 picks_on done line k (v ∷ vs) = pick_at line k >>= λ n. picks_on (done ++ n ∷ []) line (k + 1) vs

@@ -7,7 +7,7 @@ use Rattle.com_text.specs.declared.word.Sort.TheVariants as sorts
 use Rattle.com_text.specs.Words.{WordAt}
 use Rattle.com_read_operands.specs.declared.faults.Fault.{Fault}
 use Rattle.com_read_operands.specs.Reading.{◌>>=◌, fault_at, character_at, end_at}
-use Rattle.com_read_sections.specs.Codes.{first_place}
+use Rattle.com_read_sections.specs.Codes.{first_position}
 use Rattle.com_read_sections.specs.declared.state.State.{State}
 use Rattle.com_read_sections.specs.declared.state.Section.TheVariants as sections
 
@@ -15,11 +15,11 @@ abbrev pub version_of : List ℕ → Option ℕ
 version_of bytes =
     if bytes_eq bytes (codes "1") then Some 1 else (if bytes_eq bytes (codes "2") then Some 2 else None)
 
--- One word alone: `scenario` lacks its version, which is the fault at the text's first place; another word is
--- at fault itself, and an earlier fault comes first.
+-- One word alone: `scenario` lacks its version, which is the fault at the text's first position; another word
+-- is at fault itself, and an earlier fault comes first.
 abbrev pub lone_fault : Option Fault → WordAt → Fault
 lone_fault pending w =
-    if bytes_eq w.bytes (codes "scenario") then first_place else unwrap_or pending (fault_at 1 w)
+    if bytes_eq w.bytes (codes "scenario") then first_position else unwrap_or pending (fault_at 1 w)
 
 abbrev pub ended : List WordAt → WordAt → Option ℕ → Result ℕ Fault
 ended line two None = Err (fault_at 1 two)
@@ -43,15 +43,16 @@ abbrev pub earlier : Option Fault → Fault → Option Fault
 earlier None f = Some f
 earlier (Some e) f = Some e
 
-abbrev pub lone : State → WordAt → Sort → Result State Fault
-lone st w (sorts.Remark c) = Ok (record st { pending = earlier st.pending (character_at w c) })
-lone st w _ = Err (lone_fault st.pending w)
+abbrev pub lone : State → Option Fault → WordAt → Sort → Result State Fault
+lone st pending w (sorts.Remark c) =
+    Ok (record st { section = sections.Header (earlier pending (character_at w c)) })
+lone st pending w _ = Err (lone_fault pending w)
 
--- A line where the header is awaited. What a comment above it has at fault does not count before a lone
--- `scenario`.
-unfoldable pub header_line : State → List WordAt → Result State Fault
-header_line st [] = Ok st
-header_line st (w ∷ []) = lone st w w.sort
-header_line st (one ∷ two ∷ ws) = do
-  v ← version_at st.pending (one ∷ two ∷ ws) one two
+-- A line where the header is awaited, below comments of which the first that was at fault is kept. It does
+-- not count before a lone `scenario`.
+unfoldable pub header_line : State → Option Fault → List WordAt → Result State Fault
+header_line st pending [] = Ok (record st { section = sections.Header pending })
+header_line st pending (w ∷ []) = lone st pending w w.sort
+header_line st pending (one ∷ two ∷ ws) = do
+  v ← version_at pending (one ∷ two ∷ ws) one two
   Ok (record st { version = v; section = sections.Top })

@@ -7,4 +7,5 @@ pub mod Header
 pub mod Beginning
 pub mod Programs
 pub mod Opened
+pub mod Going
 pub mod Outlines

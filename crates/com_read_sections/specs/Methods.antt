@@ -47,7 +47,7 @@ item_at names count line k = do
       kind ← type_at names line k
       if nat_le 4 count then Err (fault_at 12 w) else Ok (record { kind = kind; last = false }))
 
--- the parameters so far, and what is left of the line, from a place on
+-- the parameters so far, and what is left of the line, from an index on
 abbrev pub signature_on : List (List ℕ) → List Kind → List WordAt → ℕ → List WordAt → Result Signature Fault
 signature_on names done line k [] = Ok (record { params = done; result = None })
 signature_on names done line k (v ∷ vs) = item_at names (length done) line k >>= λ item.

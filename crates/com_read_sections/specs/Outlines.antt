@@ -9,9 +9,7 @@ use Rattle.com_read_sections.specs.declared.state.State.{State}
 use Rattle.com_read_sections.specs.declared.state.Section.{Section}
 use Rattle.com_read_sections.specs.declared.state.Section.TheVariants as sections
 use Rattle.com_read_sections.specs.declared.outline.Outline.{Outline}
-use Rattle.com_read_sections.specs.Tables.{blank_interface, blank_class}
-use Rattle.com_read_sections.specs.Codes.{blank_code}
-use Rattle.com_read_sections.specs.Codes.{first_place}
+use Rattle.com_read_sections.specs.Codes.{first_position}
 use Rattle.com_read_sections.specs.Opened.{interface_closed, step}
 
 -- outside of sections
@@ -27,9 +25,9 @@ outlined st = record {
 }
 
 abbrev pub finished : State → ℕ → ℕ → Section → Result Outline Fault
-finished st line column sections.Header = Err first_place
+finished st line column (sections.Header pending) = Err first_position
 finished st line column sections.Top = Ok (outlined st)
-finished st line column sections.Interface = Ok (outlined (interface_closed st))
+finished st line column (sections.Interface i) = Ok (outlined (interface_closed st i))
 finished st line column _ = Err (record { number = 11; line = line; column = column })
 
 -- the text's end
@@ -63,16 +61,10 @@ begun tables = record {
   filters = [];
   threads = [];
   picks = [];
-  section = sections.Header;
-  pending = None;
-  interface = blank_interface;
-  class = blank_class;
-  head = record { iface = 0; method = 0 };
-  code = blank_code;
-  rules = [];
+  section = sections.Header None;
 }
 
 -- the lines that are left
 unfoldable pub read : State → List LineAt → Result Outline Fault
-read st [] = Err first_place
+read st [] = Err first_position
 read st (l ∷ ls) = step st l.words >>= λ next. (if l.last then finish next l.line l.column else read next ls)

@@ -11,20 +11,20 @@ use Rattle.com_read_statements.specs.declared.keywords.Keyword.TheVariants as ke
 use Rattle.com_read_statements.specs.declared.names.Names.{Names}
 use Rattle.com_read_statements.specs.Keywords.{keyword_of, takes}
 use Rattle.com_read_statements.specs.Statements.{stmt_of}
-use Rattle.com_read_sections.specs.Codes.{CodeAt, code_more, first_place}
+use Rattle.com_read_sections.specs.Codes.{CodeAt, code_more, first_position}
 
-abbrev pub number_place : Keyword → ℕ
-number_place (keywords.Local locals.Skip) = 1
-number_place (keywords.Local locals.SkipZero) = 2
-number_place _ = 0
+abbrev pub number_index : Keyword → ℕ
+number_index (keywords.Local locals.Skip) = 1
+number_index (keywords.Local locals.SkipZero) = 2
+number_index _ = 0
 
 abbrev pub skip_fault : Option WordAt → Fault
-skip_fault None = first_place
+skip_fault None = first_position
 skip_fault (Some w) = fault_at 11 w
 
 -- the fault that a statement is where its skip passes the end
 abbrev pub spot_at : Keyword → List WordAt → Fault
-spot_at k line = skip_fault (slice_get line (number_place k))
+spot_at k line = skip_fault (slice_get line (number_index k))
 
 abbrev pub stated : Program → ℕ → Names → CodeAt → WordAt → List WordAt → Keyword → Result CodeAt Fault
 stated p limit names code w line k =

@@ -1,6 +1,6 @@
 //! Lines outside of sections: declarations, and the lines that open a section.
 
-ghost use Rattle.std.specs.Prelude.{◌≡◌, Ok};
+ghost use Rattle.std.specs.Prelude.{◌≡◌, ◌++◌, ◌∷◌, [], Ok, IfOk, OnOk};
 ghost use Rattle.com_read_operands.specs.Reading.{Gives};
 ghost use Rattle.com_read_sections.specs.Beginning.{section_word_of, pool_line, interface_line, class_line};
 ghost use Rattle.com_read_sections.specs.Beginning.{native_line, filter_line, thread_line, picks_line};
@@ -10,12 +10,14 @@ use crate::declare::{
     filter_name, free_guid, free_name, interface_name, listed, model, native, natives, picks,
 };
 use crate::state::{Code, Section, State};
-use com_base::{ByteList, Rows};
+use com_base::{
+    ByteList, CLASS_LIMIT, FILTER_LIMIT, Guid, INTERFACE_LIMIT, POOL_LIMIT, Rows, THREAD_LIMIT,
+};
 use com_body::Native;
 use com_classes::{Class, Interface};
 use com_read_operands::{Fault, ScenarioError, end, fault, first, number};
 use com_text::Word;
-use std::alloc::Global;
+use std::alloc::{AllocError, Global};
 
 /// The word that begins a line outside of sections.
 #[derive(Clone, Copy, Debug, PartialEq, Eq)]
@@ -58,14 +60,22 @@ fn section_word_of(bytes: &[u8]) -> Option<SectionWord>
     }
 }
 
-/// The interfaces are at most this many, with the four that are built in.
-const INTERFACE_LIMIT: usize = 64;
-/// The classes and natives are at most this many.
-const CLASS_LIMIT: usize = 64;
-/// The filters are at most this many.
-const FILTER_LIMIT: usize = 16;
-/// The threads are at most this many.
-const THREAD_LIMIT: usize = 16;
+/// Declares a name with its GUID, and gives the name once more.
+fn declare(
+    alloc: Global,
+    names: &mut Rows<ByteList>,
+    guids: &mut Rows<Guid>,
+    name: &Word,
+    guid: Guid,
+) -> Result<ByteList, AllocError>
+    ensures value { IfOk result (λ n. n ≡ name.now.bytes) }
+    ensures named { OnOk result (names.new ≡ names.old ++ name.now.bytes ∷ []) }
+    ensures identified { OnOk result (guids.new ≡ guids.old ++ guid ∷ []) }
+{
+    names.push(ByteList::from_slice(alloc, name.bytes)?)?;
+    guids.push(guid)?;
+    ByteList::from_slice(alloc, name.bytes)
+}
 
 #[tactic(auto, unfolding(crate::specs::Beginning::pool_line))]
 fn pool_line(st: &mut State, word: &Word, line: &[Word]) -> Result<(), ScenarioError>
@@ -74,7 +84,7 @@ fn pool_line(st: &mut State, word: &Word, line: &[Word]) -> Result<(), ScenarioE
     if st.pool.is_some() {
         return Err(fault(Fault::REPEATED, word));
     }
-    let lanes = number(line, 1, 1, 8)? as u32;
+    let lanes = number(line, 1, 1, POOL_LIMIT as u64)? as u32;
     end(line, 2)?;
     st.pool = Some(lanes);
     Ok(())
@@ -95,15 +105,12 @@ fn interface_line(
     let name = interface_name(st.names.interfaces.as_slice(), line)?;
     let iid = free_guid(st.iids.as_slice(), line, 2)?;
     end(line, 3)?;
-    let own = ByteList::from_slice(alloc, name.bytes)?;
-    st.names.interfaces.push(own)?;
-    st.iids.push(iid)?;
-    st.interface = Interface {
-        name: ByteList::from_slice(alloc, name.bytes)?,
+    let interface = Interface {
+        name: declare(alloc, &mut st.names.interfaces, &mut st.iids, name, iid)?,
         iid,
         methods: Rows::new(alloc),
     };
-    st.section = Section::Interface;
+    st.section = Section::Interface { interface };
     Ok(())
 }
 
@@ -123,18 +130,15 @@ fn class_line(
     let clsid = free_guid(st.clsids.as_slice(), line, 2)?;
     let model = model(line, 3)?;
     let interfaces = listed(alloc, st.names.interfaces.as_slice(), line)?;
-    let own = ByteList::from_slice(alloc, name.bytes)?;
-    st.names.classes.push(own)?;
-    st.clsids.push(clsid)?;
-    st.class = Class {
-        name: ByteList::from_slice(alloc, name.bytes)?,
+    let class = Class {
+        name: declare(alloc, &mut st.names.classes, &mut st.clsids, name, clsid)?,
         clsid,
         model,
         native: Native::Bodies,
         interfaces,
         bodies: Rows::new(alloc),
     };
-    st.section = Section::Class;
+    st.section = Section::Class { class };
     Ok(())
 }
 
@@ -155,11 +159,8 @@ fn native_line(
     let model = model(line, 3)?;
     let native = native(model, line, 4)?;
     end(line, 5)?;
-    let own = ByteList::from_slice(alloc, name.bytes)?;
-    st.names.classes.push(own)?;
-    st.clsids.push(clsid)?;
     let class = Class {
-        name: ByteList::from_slice(alloc, name.bytes)?,
+        name: declare(alloc, &mut st.names.classes, &mut st.clsids, name, clsid)?,
         clsid,
         model,
         native,
@@ -186,8 +187,9 @@ fn filter_line(
     end(line, 2)?;
     let own = ByteList::from_slice(alloc, name.bytes)?;
     st.names.filters.push(own)?;
-    st.rules = Rows::new(alloc);
-    st.section = Section::Filter;
+    st.section = Section::Filter {
+        rules: Rows::new(alloc),
+    };
     Ok(())
 }
 
@@ -204,8 +206,9 @@ fn thread_line(
         return Err(fault(Fault::LIMIT, word));
     }
     end(line, 1)?;
-    st.code = Code::new(alloc);
-    st.section = Section::Thread;
+    st.section = Section::Thread {
+        code: Code::new(alloc),
+    };
     Ok(())
 }
 
@@ -214,7 +217,7 @@ fn picks_line(alloc: Global, st: &mut State, line: &[Word]) -> Result<(), Scenar
     ensures { Gives (λ u. st.new) result (picks_line st.old line.now) }
 {
     let more = picks(alloc, line)?;
-    st.picks.push_all(&more)?;
+    st.picks.append(more)?;
     Ok(())
 }
 

@@ -9,7 +9,7 @@ ghost use Rattle.com_read_sections.specs.Declaring.{native_interface, natives_of
 
 use crate::methods::type_word_of;
 use crate::tables::has_guid;
-use com_base::{ByteList, Guid, Rows};
+use com_base::{ByteList, Guid, ICOUNTER, ILATCH, IRELAY, IUNKNOWN, LISTED_LIMIT, Rows};
 use com_body::Native;
 use com_classes::ThreadingModel;
 use com_read_operands::{
@@ -18,17 +18,14 @@ use com_read_operands::{
 use com_text::Word;
 use std::alloc::{AllocError, Global};
 
-/// A class has at most this many interfaces.
-const LISTED_LIMIT: usize = 16;
-
 /// A GUID that is not declared above: one that is, is fault 9.
 #[tactic(auto, unfolding(crate::specs::Declaring::free_guid_at))]
-pub(crate) fn free_guid(guids: &[Guid], line: &[Word], place: usize) -> Result<Guid, ScenarioError>
-    ensures { Gives (λ g. g) result (free_guid_at guids.now line.now place) }
+pub(crate) fn free_guid(guids: &[Guid], line: &[Word], index: usize) -> Result<Guid, ScenarioError>
+    ensures { Gives (λ g. g) result (free_guid_at guids.now line.now index) }
 {
-    let guid = guid(line, place)?;
+    let guid = guid(line, index)?;
     if has_guid(guids, &guid) {
-        return Err(fault(Fault::REPEATED, word(line, place)?));
+        return Err(fault(Fault::REPEATED, word(line, index)?));
     }
     Ok(guid)
 }
@@ -38,11 +35,11 @@ pub(crate) fn free_guid(guids: &[Guid], line: &[Word], place: usize) -> Result<G
 pub(crate) fn free_name<'l, 'a>(
     names: &[ByteList],
     line: &'l [Word<'a>],
-    place: usize,
+    index: usize,
 ) -> Result<&'l Word<'a>, ScenarioError>
-    ensures { Gives (λ w. w.now) result (free_name_at names.now line.now place) }
+    ensures { Gives (λ w. w.now) result (free_name_at names.now line.now index) }
 {
-    let word = name(line, place)?;
+    let word = name(line, index)?;
     if position_of(names, word.bytes).is_some() {
         return Err(fault(Fault::REPEATED, word));
     }
@@ -81,10 +78,10 @@ pub(crate) fn filter_name<'l, 'a>(
 
 /// A threading model.
 #[tactic(auto, unfolding(crate::specs::Declaring::model_at))]
-pub(crate) fn model(line: &[Word], place: usize) -> Result<ThreadingModel, ScenarioError>
-    ensures { Gives (λ m. m) result (model_at line.now place) }
+pub(crate) fn model(line: &[Word], index: usize) -> Result<ThreadingModel, ScenarioError>
+    ensures { Gives (λ m. m) result (model_at line.now index) }
 {
-    let word = word(line, place)?;
+    let word = word(line, index)?;
     if word.bytes == b"none".as_slice() {
         Ok(ThreadingModel::Nothing)
     } else if word.bytes == b"Apartment".as_slice() {
@@ -107,11 +104,11 @@ pub(crate) fn model(line: &[Word], place: usize) -> Result<ThreadingModel, Scena
 pub(crate) fn native(
     model: ThreadingModel,
     line: &[Word],
-    place: usize,
+    index: usize,
 ) -> Result<Native, ScenarioError>
-    ensures { Gives (λ n. n) result (native_at model line.now place) }
+    ensures { Gives (λ n. n) result (native_at model line.now index) }
 {
-    let word = word(line, place)?;
+    let word = word(line, index)?;
     if word.bytes == b"counter".as_slice() {
         Ok(Native::Counter)
     } else if word.bytes == b"relay".as_slice() {
@@ -131,10 +128,10 @@ fn native_interface(native: Native) -> u16
     ensures { result ≡ native_interface native }
 {
     match native {
-        Native::Bodies => 0,
-        Native::Counter => 1,
-        Native::Relay => 2,
-        Native::Latch => 3,
+        Native::Bodies => IUNKNOWN,
+        Native::Counter => ICOUNTER,
+        Native::Relay => IRELAY,
+        Native::Latch => ILATCH,
     }
 }
 
@@ -166,14 +163,14 @@ fn listed_item(
     names: &[ByteList],
     count: usize,
     line: &[Word],
-    place: usize,
+    index: usize,
 ) -> Result<u16, ScenarioError>
-    ensures { Gives (λ n. n) result (listed_item names.now count line.now place) }
+    ensures { Gives (λ n. n) result (listed_item names.now count line.now index) }
 {
-    stands(line, place)?;
-    let number = declared(names, line, place)?;
+    stands(line, index)?;
+    let number = declared(names, line, index)?;
     if count >= LISTED_LIMIT {
-        return Err(fault(Fault::LIMIT, word(line, place)?));
+        return Err(fault(Fault::LIMIT, word(line, index)?));
     }
     Ok(number)
 }
@@ -195,11 +192,11 @@ fn listed_words(
 
 /// One number of a line of picks.
 #[tactic(auto, unfolding(crate::specs::Declaring::pick_at))]
-fn pick(line: &[Word], place: usize) -> Result<u32, ScenarioError>
-    ensures { Gives (λ n. n) result (pick_at line.now place) }
+fn pick(line: &[Word], index: usize) -> Result<u32, ScenarioError>
+    ensures { Gives (λ n. n) result (pick_at line.now index) }
 {
-    stands(line, place)?;
-    Ok(number(line, place, 0, 4294967295)? as u32)
+    stands(line, index)?;
+    Ok(number(line, index, 0, 4294967295)? as u32)
 }
 
 /// The numbers of a line of picks.

@@ -2,7 +2,7 @@
 
 ghost use Rattle.std.specs.Prelude.{◌≡◌, Ok};
 ghost use Rattle.com_read_operands.specs.Reading.{Gives, error_of};
-ghost use Rattle.com_read_sections.specs.Header.{lone_fault, version_of, version_at, header_line};
+ghost use Rattle.com_read_sections.specs.Header.{lone_fault, version_of, version_at, earlier, header_line};
 
 use crate::state::{Section, State};
 use com_read_operands::{Fault, ScenarioError, end, fault};
@@ -28,7 +28,7 @@ fn version_of(bytes: &[u8]) -> Option<u8>
     }
 }
 
-/// The fault of a header's line of one word: at the text's first place where the version alone is missing,
+/// The fault of a header's line of one word: at the text's first position where the version alone is missing,
 /// and else at that word. An earlier fault, in a comment above, comes before the latter.
 fn lone(pending: Option<Fault>, word: &Word) -> ScenarioError
     ensures { result ≡ error_of (lone_fault pending word.now) }
@@ -71,29 +71,47 @@ fn version(
     }
 }
 
-/// A line above the header or the header itself. What a comment above the header has at fault is not reported
-/// where the header's line is `scenario` alone or missing, since that is fault 1 at the text's first place.
+/// The fault that is kept above the header: the earlier one of two.
+fn earlier(pending: Option<Fault>, fault: Fault) -> Option<Fault>
+    ensures { result ≡ earlier pending fault }
+{
+    match pending {
+        Some(first) => Some(first),
+        None => Some(fault),
+    }
+}
+
+/// A line above the header or the header itself. What a comment above the header has at fault does not count
+/// where the header's line is `scenario` alone or missing: that is fault 1 at the text's first position.
 #[tactic(auto, unfolding(crate::specs::Header::header_line))]
-pub(crate) fn header_line(st: &mut State, line: &[Word]) -> Result<(), ScenarioError>
-    ensures { Gives (λ u. st.new) result (header_line st.old line.now) }
+pub(crate) fn header_line(
+    st: &mut State,
+    pending: Option<Fault>,
+    line: &[Word],
+) -> Result<(), ScenarioError>
+    ensures { Gives (λ u. st.new) result (header_line st.old pending line.now) }
 {
     match line {
-        [] => Ok(()),
+        [] => {
+            st.section = Section::Header { pending };
+            Ok(())
+        }
         [only] => match only.sort() {
             Sort::Remark(column) => {
-                if st.pending.is_none() {
-                    st.pending = Some(Fault {
-                        number: Fault::CHARACTER,
-                        line: only.line,
-                        column,
-                    });
-                }
+                let character = Fault {
+                    number: Fault::CHARACTER,
+                    line: only.line,
+                    column,
+                };
+                st.section = Section::Header {
+                    pending: earlier(pending, character),
+                };
                 Ok(())
             }
-            _ => Err(lone(st.pending, only)),
+            _ => Err(lone(pending, only)),
         },
         [one, two, ..] => {
-            st.version = version(st.pending, line, one, two)?;
+            st.version = version(pending, line, one, two)?;
             st.section = Section::Top;
             Ok(())
         }

@@ -4,6 +4,7 @@
 
 mod begin;
 mod declare;
+mod going;
 mod header;
 mod methods;
 mod open;

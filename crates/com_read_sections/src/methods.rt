@@ -4,15 +4,12 @@ ghost use Rattle.std.specs.Prelude.{◌≡◌, ◌<◌, ◌^◌, [], drop, Ok};
 ghost use Rattle.com_read_operands.specs.Reading.{Gives};
 ghost use Rattle.com_read_sections.specs.Methods.{type_word_of, type_at, item_at, signature_on, method_of};
 
-use com_base::{ByteList, Kind, Rows};
+use com_base::{ByteList, Kind, PARAMETER_LIMIT, Rows};
 use com_classes::Method;
 use com_read_operands::{Fault, ScenarioError, declared, end, fault, name, stands, word};
 use com_read_statements::method_position;
 use com_text::Word;
 use std::alloc::Global;
-
-/// A method has at most this many parameters.
-const PARAMETER_LIMIT: usize = 4;
 
 /// The kinds of a method's parameters and of its result.
 #[derive(Drop)]
@@ -53,13 +50,13 @@ pub(crate) fn type_word_of(bytes: &[u8]) -> Option<Kind>
 
 /// A type: a word of the language, or an interface's name.
 #[tactic(auto, unfolding(crate::specs::Methods::type_at))]
-fn kind(interfaces: &[ByteList], line: &[Word], place: usize) -> Result<Kind, ScenarioError>
-    ensures { Gives (λ k. k) result (type_at interfaces.now line.now place) }
+fn kind(interfaces: &[ByteList], line: &[Word], index: usize) -> Result<Kind, ScenarioError>
+    ensures { Gives (λ k. k) result (type_at interfaces.now line.now index) }
 {
-    let word = word(line, place)?;
+    let word = word(line, index)?;
     match type_word_of(word.bytes) {
         Some(kind) => Ok(kind),
-        None => Ok(Kind::Ref(declared(interfaces, line, place)?)),
+        None => Ok(Kind::Ref(declared(interfaces, line, index)?)),
     }
 }
 
@@ -69,19 +66,19 @@ fn item(
     interfaces: &[ByteList],
     count: usize,
     line: &[Word],
-    place: usize,
+    index: usize,
 ) -> Result<TypeWord, ScenarioError>
-    requires { place < 2 ^ 63 }
-    ensures { Gives (λ t. t) result (item_at interfaces.now count line.now place) }
+    requires { index < 2 ^ 63 }
+    ensures { Gives (λ t. t) result (item_at interfaces.now count line.now index) }
 {
-    stands(line, place)?;
-    let word = word(line, place)?;
+    stands(line, index)?;
+    let word = word(line, index)?;
     if word.bytes == b"->".as_slice() {
-        let kind = kind(interfaces, line, place + 1)?;
-        end(line, place + 2)?;
+        let kind = kind(interfaces, line, index + 1)?;
+        end(line, index + 2)?;
         return Ok(TypeWord { kind, last: true });
     }
-    let kind = kind(interfaces, line, place)?;
+    let kind = kind(interfaces, line, index)?;
     if count >= PARAMETER_LIMIT {
         return Err(fault(Fault::LIMIT, word));
     }

@@ -8,8 +8,7 @@ ghost use Rattle.com_read_sections.specs.Outlines.{read};
 
 use crate::header::FIRST;
 use crate::open::{close_interface, step};
-use crate::state::{Code, Section, State};
-use crate::tables::{blank_class, blank_interface};
+use crate::state::{Section, State};
 use com_base::{
     ByteList, Guid, IID_ICLASS_FACTORY, IID_IGLOBAL_INTERFACE_TABLE, IID_IMESSAGE_FILTER, Rows,
 };
@@ -17,9 +16,10 @@ use com_body::Body;
 use com_classes::{Class, Interface};
 use com_filter::Filter;
 use com_read_operands::{Fault, ScenarioError};
-use com_read_statements::{MethodNumber, Names};
+use com_read_statements::Names;
 use com_text::{TEXT_LIMIT, line_at};
 use std::alloc::{AllocError, Global};
+use std::mem;
 
 /// All that a text's lines declare, each list in order of declaration.
 #[derive(Drop)]
@@ -41,21 +41,16 @@ pub struct Outline {
 }
 
 /// What was read at the text's end, which stands in a line at a column. Above a header it is fault 1 at the
-/// text's first place, and inside of a section other than an interface fault 11 at the end.
+/// text's first position, and inside of a section other than an interface fault 11 at the end.
 #[tactic(auto, unfolding(crate::specs::Outlines::finish))]
-pub fn finish(
-    alloc: Global,
-    mut st: State,
-    line: u32,
-    column: u32,
-) -> Result<Outline, ScenarioError>
+pub fn finish(mut st: State, line: u32, column: u32) -> Result<Outline, ScenarioError>
     ensures { Gives (λ o. o) result (finish st line column) }
 {
-    match st.section {
-        Section::Header => Err(FIRST.error()),
+    match mem::replace(&mut st.section, Section::Top) {
+        Section::Header { .. } => Err(FIRST.error()),
         Section::Top => Ok(outlined(st)),
-        Section::Interface => {
-            close_interface(alloc, &mut st)?;
+        Section::Interface { interface } => {
+            close_interface(&mut st, interface)?;
             Ok(outlined(st))
         }
         _ => Err(ScenarioError::Fault {
@@ -81,12 +76,6 @@ fn outlined(st: State) -> Outline
         threads,
         picks,
         section: _,
-        pending: _,
-        interface: _,
-        class: _,
-        head: _,
-        code: _,
-        rules: _,
     } = st;
     let Names {
         classes: _,
@@ -160,21 +149,12 @@ pub fn begun(alloc: Global, built_in: Rows<Interface>) -> Result<State, AllocErr
         filters: Rows::new(alloc),
         threads: Rows::new(alloc),
         picks: Rows::new(alloc),
-        section: Section::Header,
-        pending: None,
-        interface: blank_interface(alloc),
-        class: blank_class(alloc),
-        head: MethodNumber {
-            iface: 0,
-            method: 0,
-        },
-        code: Code::new(alloc),
-        rules: Rows::new(alloc),
+        section: Section::Header { pending: None },
     })
 }
 
 /// What a text's lines declare, beside the interfaces that are declared from the start, or the
-/// text's first fault by place. A text of nearly 2^32 bytes or more finds no memory.
+/// text's first fault by position. A text of nearly 2^32 bytes or more finds no memory.
 #[tactic(auto, unfolding(crate::specs::Outlines::read, com_text::specs::Scanning::lines_of))]
 pub fn outline_of(
     alloc: Global,
@@ -194,7 +174,7 @@ pub fn outline_of(
         let end = line_at(text, line, at, &mut words)?;
         step(alloc, &mut st, &words)?;
         if end.last {
-            return finish(alloc, st, line, end.column);
+            return finish(st, line, end.column);
         }
         line += 1;
         at = end.at + 1;

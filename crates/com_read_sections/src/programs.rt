@@ -2,7 +2,7 @@
 
 ghost use Rattle.std.specs.Prelude.{◌≡◌, Ok};
 ghost use Rattle.com_read_operands.specs.Reading.{Gives};
-ghost use Rattle.com_read_sections.specs.Programs.{number_place, spot_at, program_line};
+ghost use Rattle.com_read_sections.specs.Programs.{number_index, spot_at, program_line};
 
 use crate::header::FIRST;
 use crate::state::Code;
@@ -11,9 +11,9 @@ use com_read_statements::{Keyword, LocalWord, Names, Program, keyword_of, statem
 use com_text::Word;
 use std::alloc::Global;
 
-/// The place of a skip's number in its line.
-fn number_place(keyword: Keyword) -> usize
-    ensures { result ≡ number_place keyword }
+/// The index of a skip's number in its line.
+fn number_index(keyword: Keyword) -> usize
+    ensures { result ≡ number_index keyword }
 {
     match keyword {
         Keyword::Local(LocalWord::Skip) => 1,
@@ -26,7 +26,7 @@ fn number_place(keyword: Keyword) -> usize
 fn spot(keyword: Keyword, line: &[Word]) -> Fault
     ensures { result ≡ spot_at keyword line.now }
 {
-    match line.get(number_place(keyword)) {
+    match line.get(number_index(keyword)) {
         None => FIRST,
         Some(word) => Fault {
             number: Fault::UNENDED,

@@ -37,10 +37,10 @@ pub(crate) fn rule_word_of(bytes: &[u8]) -> Option<RuleWord>
 
 /// A call type: `1`, `2`, `4`, or `*` for any.
 #[tactic(auto, unfolding(crate::specs::Rules::call_type_at))]
-fn call_type(line: &[Word], place: usize) -> Result<Option<u8>, ScenarioError>
-    ensures { Gives (λ t. t) result (call_type_at line.now place) }
+fn call_type(line: &[Word], index: usize) -> Result<Option<u8>, ScenarioError>
+    ensures { Gives (λ t. t) result (call_type_at line.now index) }
 {
-    let word = word(line, place)?;
+    let word = word(line, index)?;
     if word.bytes == b"1".as_slice() {
         Ok(Some(1))
     } else if word.bytes == b"2".as_slice() {
@@ -56,10 +56,10 @@ fn call_type(line: &[Word], place: usize) -> Result<Option<u8>, ScenarioError>
 
 /// The answer to an incoming call.
 #[tactic(auto, unfolding(crate::specs::Rules::verdict_at))]
-fn verdict(line: &[Word], place: usize) -> Result<Verdict, ScenarioError>
-    ensures { Gives (λ v. v) result (verdict_at line.now place) }
+fn verdict(line: &[Word], index: usize) -> Result<Verdict, ScenarioError>
+    ensures { Gives (λ v. v) result (verdict_at line.now index) }
 {
-    let word = word(line, place)?;
+    let word = word(line, index)?;
     if word.bytes == b"handled".as_slice() {
         Ok(Verdict::Handled)
     } else if word.bytes == b"rejected".as_slice() {
@@ -73,10 +73,10 @@ fn verdict(line: &[Word], place: usize) -> Result<Verdict, ScenarioError>
 
 /// The verdict that a caller got, or `*` for either.
 #[tactic(auto, unfolding(crate::specs::Rules::refusal_at))]
-fn refusal(line: &[Word], place: usize) -> Result<Option<Verdict>, ScenarioError>
-    ensures { Gives (λ v. v) result (refusal_at line.now place) }
+fn refusal(line: &[Word], index: usize) -> Result<Option<Verdict>, ScenarioError>
+    ensures { Gives (λ v. v) result (refusal_at line.now index) }
 {
-    let word = word(line, place)?;
+    let word = word(line, index)?;
     if word.bytes == b"rejected".as_slice() {
         Ok(Some(Verdict::Rejected))
     } else if word.bytes == b"later".as_slice() {
@@ -90,10 +90,10 @@ fn refusal(line: &[Word], place: usize) -> Result<Option<Verdict>, ScenarioError
 
 /// The answer to a retry: -1 to 2,147,483,647.
 #[tactic(auto, unfolding(crate::specs::Rules::answer_at))]
-fn answer(line: &[Word], place: usize) -> Result<i64, ScenarioError>
-    ensures { Gives (λ n. n) result (answer_at line.now place) }
+fn answer(line: &[Word], index: usize) -> Result<i64, ScenarioError>
+    ensures { Gives (λ n. n) result (answer_at line.now index) }
 {
-    let word = word(line, place)?;
+    let word = word(line, index)?;
     match signed_of(word.bytes) {
         Some(number) if -1 <= number && number <= 2147483647 => Ok(number),
         _ => Err(fault(Fault::NUMBER, word)),
@@ -102,10 +102,10 @@ fn answer(line: &[Word], place: usize) -> Result<i64, ScenarioError>
 
 /// The answer to a waiting caller: `cancel` 0, `wait` 1, `discard` 2.
 #[tactic(auto, unfolding(crate::specs::Rules::kept_at))]
-fn kept(line: &[Word], place: usize) -> Result<u8, ScenarioError>
-    ensures { Gives (λ n. n) result (kept_at line.now place) }
+fn kept(line: &[Word], index: usize) -> Result<u8, ScenarioError>
+    ensures { Gives (λ n. n) result (kept_at line.now index) }
 {
-    let word = word(line, place)?;
+    let word = word(line, index)?;
     if word.bytes == b"cancel".as_slice() {
         Ok(0)
     } else if word.bytes == b"wait".as_slice() {

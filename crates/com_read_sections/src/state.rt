@@ -3,7 +3,7 @@
 ghost use Rattle.std.specs.Prelude.{◌≡◌, OnOk, length};
 ghost use Rattle.com_body.specs.Bodies.{IsInRange};
 ghost use Rattle.com_read_operands.specs.Reading.{Gives};
-ghost use Rattle.com_read_sections.specs.Codes.{blank_code, code_more, checked};
+ghost use Rattle.com_read_sections.specs.Codes.{no_code, code_more, checked};
 
 use crate::header::FIRST;
 use com_base::{Guid, Rows};
@@ -15,23 +15,45 @@ use com_read_statements::{MethodNumber, Names};
 use std::alloc::{AllocError, Global};
 use std::marker::Model;
 
-/// What a line stands in.
-#[derive(Clone, Copy, Debug, PartialEq, Eq)]
+/// What the next line stands in, with what is open there.
+#[derive(Drop)]
 pub enum Section {
     /// Above the header.
-    Header,
+    Header {
+        /// The first byte outside the characters in a comment, if there is one.
+        pending: Option<Fault>,
+    },
     /// Outside of sections.
     Top,
     /// An interface, whose `method` lines follow directly.
-    Interface,
+    Interface {
+        /// The interface with its methods so far.
+        interface: Interface,
+    },
     /// A class.
-    Class,
+    Class {
+        /// The class with its bodies so far.
+        class: Class,
+    },
     /// A body in a class.
-    Body,
+    Body {
+        /// The class with the bodies above this one.
+        class: Class,
+        /// The method whose body it is.
+        head: MethodNumber,
+        /// The body's statements so far.
+        code: Code,
+    },
     /// A filter.
-    Filter,
+    Filter {
+        /// The filter's rules so far.
+        rules: Rows<Rule>,
+    },
     /// A thread's script.
-    Thread,
+    Thread {
+        /// The script's statements so far.
+        code: Code,
+    },
 }
 
 /// The statements of a body or a script so far, and for each its fault if it skips beyond the end.
@@ -58,7 +80,7 @@ impl Model for Code {
 impl Code {
     /// No statements.
     pub fn new(alloc: Global) -> Code
-        ensures { result ≡ blank_code }
+        ensures { result ≡ no_code }
     {
         Code {
             statements: Vec::new(alloc),
@@ -99,7 +121,7 @@ impl Code {
     }
 }
 
-/// What was read so far. The last six fields are parts of what is open, and blank elsewhere.
+/// What was read so far.
 #[derive(Drop)]
 pub struct State {
     /// The version that the header names, 0 above it.
@@ -122,16 +144,4 @@ pub struct State {
     pub picks: Rows<u32>,
     /// What the next line stands in.
     pub section: Section,
-    /// Above the header, the first byte outside the characters in a comment.
-    pub pending: Option<Fault>,
-    /// The interface that is open.
-    pub interface: Interface,
-    /// The class that is open.
-    pub class: Class,
-    /// The method whose body is open.
-    pub head: MethodNumber,
-    /// The body or script that is open.
-    pub code: Code,
-    /// The rules of the filter that is open.
-    pub rules: Rows<Rule>,
 }

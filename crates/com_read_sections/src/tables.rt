@@ -1,12 +1,9 @@
-//! Small lists and blank values.
+//! Small lists.
 
 ghost use Rattle.std.specs.Prelude.{◌≡◌};
-ghost use Rattle.com_read_sections.specs.Tables.{guid_eq, has_guid, blank_interface, blank_class};
+ghost use Rattle.com_read_sections.specs.Tables.{guid_eq, has_guid};
 
-use com_base::{ByteList, Guid, Rows};
-use com_body::Native;
-use com_classes::{Class, Interface, ThreadingModel};
-use std::alloc::Global;
+use com_base::Guid;
 
 fn same_guid(left: &Guid, right: &Guid) -> bool
     ensures { result ≡ guid_eq left.now right.now }
@@ -27,29 +24,4 @@ pub(crate) fn has_guid(guids: &[Guid], guid: &Guid) -> bool
         }
     }
     false
-}
-
-/// No interface.
-pub(crate) fn blank_interface(alloc: Global) -> Interface
-    ensures { result ≡ blank_interface }
-{
-    Interface {
-        name: ByteList::new(alloc),
-        iid: Guid::ZERO,
-        methods: Rows::new(alloc),
-    }
-}
-
-/// No class.
-pub(crate) fn blank_class(alloc: Global) -> Class
-    ensures { result ≡ blank_class }
-{
-    Class {
-        name: ByteList::new(alloc),
-        clsid: Guid::ZERO,
-        model: ThreadingModel::Nothing,
-        native: Native::Bodies,
-        interfaces: Rows::new(alloc),
-        bodies: Rows::new(alloc),
-    }
 }

@@ -70,13 +70,13 @@ IsOutline o = Formed (scenario_of o)
 
 finished_formed : (st : State) (line column : ℕ) (sec : Section) → StandsAt st sec → Holds IsOutline (finished st line column sec)
 unfolding IsOutline
-finished_formed st line column sections.Header h = fails _
+finished_formed st line column (sections.Header pending) h = fails _
 finished_formed st line column sections.Top h = done (outlined st) (top_formed st h)
-finished_formed st line column sections.Interface h = done (outlined (interface_closed st)) (top_formed (interface_closed st) (closed_stands st h))
-finished_formed st line column sections.Class h = fails _
-finished_formed st line column sections.Body h = fails _
-finished_formed st line column sections.Filter h = fails _
-finished_formed st line column sections.Thread h = fails _
+finished_formed st line column (sections.Interface i) h = done (outlined (interface_closed st i)) (top_formed (interface_closed st i) (closed_stands st i h))
+finished_formed st line column (sections.Class c) h = fails _
+finished_formed st line column (sections.Body c head code) h = fails _
+finished_formed st line column (sections.Filter rules) h = fails _
+finished_formed st line column (sections.Thread code) h = fails _
 
 pub finish_formed : (st : State) (line column : ℕ) → Stands st → Holds IsOutline (finish st line column)
 unfolding finish

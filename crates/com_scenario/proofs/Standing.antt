@@ -100,7 +100,7 @@ pub record OpenBody (interfaces : List Interface) (bodies : List MethodBody) (he
   pub method : head.method < length (methods_of (slice_get interfaces head.iface))
   pub new : has_body bodies head ≡ false
 
--- the class whose body is open: as yet without this body
+-- each statement of an open body or script may stand there
 abbrev pub Scripted : Scenario → Context → CodeAt → Type 0
 Scripted s x code = All (Fits s x) code.statements
 
@@ -115,42 +115,42 @@ pub record AtTop (st : State) : Type 0 where
   pub closed : ClosedIn st
   pub named : NamedIn st st.names.tables st.classes (length st.filters)
 
-pub record AtInterface (st : State) : Type 0 where
+pub record AtInterface (st : State) (i : Interface) : Type 0 where
   pub version : IsVersion st.version
   pub closed : ClosedIn st
-  pub named : NamedIn st (st.names.tables ++ st.interface ∷ []) st.classes (length st.filters)
-  pub opened : OpenInterface st.names.tables st.interface
+  pub named : NamedIn st (st.names.tables ++ i ∷ []) st.classes (length st.filters)
+  pub opened : OpenInterface st.names.tables i
 
-pub record AtClass (st : State) : Type 0 where
+pub record AtClass (st : State) (c : Class) : Type 0 where
   pub version : IsVersion st.version
   pub closed : ClosedIn st
-  pub named : NamedIn st st.names.tables (st.classes ++ st.class ∷ []) (length st.filters)
-  pub opened : OpenClass (so_far st.names.tables st.classes st.filters) st.classes st.class
+  pub named : NamedIn st st.names.tables (st.classes ++ c ∷ []) (length st.filters)
+  pub opened : OpenClass (so_far st.names.tables st.classes st.filters) st.classes c
 
-pub record AtBody (st : State) : Type 0 where
-  pub outer : AtClass st
-  pub head : OpenBody st.names.tables st.class.bodies st.head
-  pub code : Scripted (so_far st.names.tables st.classes st.filters) (in_class (suc (length st.classes)) st.class) st.code
+pub record AtBody (st : State) (c : Class) (number : MethodNumber) (statements : CodeAt) : Type 0 where
+  pub outer : AtClass st c
+  pub head : OpenBody st.names.tables c.bodies number
+  pub code : Scripted (so_far st.names.tables st.classes st.filters) (in_class (suc (length st.classes)) c) statements
 
-pub record AtFilter (st : State) : Type 0 where
+pub record AtFilter (st : State) (above : List Rule) : Type 0 where
   pub version : IsVersion st.version
   pub closed : ClosedIn st
   pub named : NamedIn st st.names.tables st.classes (suc (length st.filters))
-  pub rules : IsFilter st.rules
+  pub rules : IsFilter above
 
-pub record AtThread (st : State) : Type 0 where
+pub record AtThread (st : State) (statements : CodeAt) : Type 0 where
   pub top : AtTop st
   pub room : length st.threads < 16
-  pub code : Scripted (so_far st.names.tables st.classes st.filters) (in_script (so_far st.names.tables st.classes st.filters)) st.code
+  pub code : Scripted (so_far st.names.tables st.classes st.filters) (in_script (so_far st.names.tables st.classes st.filters)) statements
 
 abbrev pub StandsAt : State → Section → Type 0
-StandsAt st sections.Header = AtHeader st
+StandsAt st (sections.Header pending) = AtHeader st
 StandsAt st sections.Top = AtTop st
-StandsAt st sections.Interface = AtInterface st
-StandsAt st sections.Class = AtClass st
-StandsAt st sections.Body = AtBody st
-StandsAt st sections.Filter = AtFilter st
-StandsAt st sections.Thread = AtThread st
+StandsAt st (sections.Interface i) = AtInterface st i
+StandsAt st (sections.Class c) = AtClass st c
+StandsAt st (sections.Body c head code) = AtBody st c head code
+StandsAt st (sections.Filter rules) = AtFilter st rules
+StandsAt st (sections.Thread code) = AtThread st code
 
 abbrev pub Stands : State → Type 0
 Stands st = StandsAt st st.section
@@ -305,14 +305,14 @@ unfolding program_line
 program_fits s x p limit names code w line d h c = allowed_fits s x p limit names code w line (keyword_of w.bytes) d h c
 
 -- the names where a body stands
-pub body_declares : (st : State) → AtClass st → Declares (so_far st.names.tables st.classes st.filters) (in_class (suc (length st.classes)) st.class) (program_of st.class.model) st.names
-body_declares st h = record {
+pub body_declares : (st : State) (c : Class) → AtClass st c → Declares (so_far st.names.tables st.classes st.filters) (in_class (suc (length st.classes)) c) (program_of c.model) st.names
+body_declares st c h = record {
   tables = refl;
   interfaces = ap length h.named.of_interfaces ∙ length-map st.names.tables (λ (i : Interface). i.name);
-  classes = ap length h.named.of_classes ∙ length-map (st.classes ++ st.class ∷ []) (λ (c : Class). c.name) ∙ length-append st.classes (st.class ∷ []) ∙ (let e : length st.classes + 1 ≡ suc (length st.classes) = omega arith in e);
+  classes = ap length h.named.of_classes ∙ length-map (st.classes ++ c ∷ []) (λ (k : Class). k.name) ∙ length-append st.classes (c ∷ []) ∙ (let e : length st.classes + 1 ≡ suc (length st.classes) = omega arith in e);
   filters = h.named.of_filters;
-  body = cells st.class.model;
-  links = bonds st.class.model;
+  body = cells c.model;
+  links = bonds c.model;
 }
   where
     cells : (m : ThreadingModel) → true ≡ has_cells (program_of m)

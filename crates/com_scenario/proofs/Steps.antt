@@ -12,6 +12,7 @@ use Rattle.com_classes.specs.declared.interfaces.Interface.{Interface}
 use Rattle.com_classes.specs.declared.classes.Class.{Class}
 use Rattle.com_classes.specs.declared.classes.MethodBody.{MethodBody}
 use Rattle.com_classes.specs.BuiltIns.{built_in_interfaces}
+use Rattle.com_filter.specs.declared.Rule.{Rule}
 use Rattle.com_text.specs.declared.word.Sort.{Sort}
 use Rattle.com_text.specs.declared.word.Sort.TheVariants as sorts
 use Rattle.com_text.specs.Words.{WordAt}
@@ -28,7 +29,7 @@ use Rattle.com_read_sections.specs.declared.state.State.{State}
 use Rattle.com_read_sections.specs.declared.state.Section.{Section}
 use Rattle.com_read_sections.specs.declared.state.Section.TheVariants as sections
 use Rattle.com_read_sections.specs.Tables.{has_guid, guid_eq}
-use Rattle.com_read_sections.specs.Codes.{checked}
+use Rattle.com_read_sections.specs.Codes.{CodeAt, checked}
 use Rattle.com_read_sections.specs.Header.{version_of, ended, compared, version_by, version_at, earlier, lone, header_line}
 use Rattle.com_read_sections.specs.Declaring.{free_guid_at, free_name_at, interface_name_at, filter_name_at, model_at, native_at, natives_of, native_interface, listed_at, picks_on}
 use Rattle.com_read_sections.specs.Beginning.{section_word_of, pool_line, interface_line, class_line, native_line, filter_line, thread_line, picks_line, top_by, top_line}
@@ -38,7 +39,7 @@ use Rattle.com_read_sections.specs.Programs.{program_line}
 use Rattle.com_read_sections.specs.Opened.{interface_closed, method_line, inner_interface, has_body, body_head, class_ended, inner_class, program_of, body_ended, inner_body, thread_ended, inner_thread, filter_ended, ruled, inner_filter, by_section, step}
 use Rattle.com_read_sections.specs.Outlines.{taken_iids, microsoft}
 use Rattle.com_model.specs.declared.scenario.Scenario.{Scenario}
-use Rattle.com_model.specs.Formed.{Distinct, IsName, IsMethod, same_interface, same_method, same_class, same_body, IsNative, IsBody, IsClass, IsRule, in_class, in_script}
+use Rattle.com_model.specs.Formed.{Distinct, IsName, IsMethod, same_interface, same_method, same_class, same_body, IsNative, IsBody, IsClass, IsRule, IsFilter, in_class, in_script}
 use Rattle.com_scenario_laws.specs.Words.{IsWord}
 use Rattle.com_scenario_laws.specs.Holds.{Holds}
 use Rattle.com_scenario_laws.specs.Declared.{Fits}
@@ -245,19 +246,19 @@ version_at_good : (pending : Option Fault) (line : List WordAt) (one two : WordA
 unfolding version_at
 version_at_good pending line one two = version_by_good pending line one two two.sort
 
-lone_stands : (st : State) (w : WordAt) (sort : Sort) → st.section ≡ sections.Header → AtHeader st → Holds Stands (lone st w sort)
-lone_stands st w (sorts.Remark c) e h = done _ (stay (record st { pending = earlier st.pending (character_at w c) }) sections.Header e (record { closed = h.closed; named = h.named }))
-lone_stands st w sorts.Plain e h = fails _
-lone_stands st w sorts.Text e h = fails _
-lone_stands st w sorts.Bytes e h = fails _
-lone_stands st w sorts.Unclosed e h = fails _
-lone_stands st w (sorts.Stray c) e h = fails _
+lone_stands : (st : State) (pending : Option Fault) (w : WordAt) (sort : Sort) → AtHeader st → Holds Stands (lone st pending w sort)
+lone_stands st pending w (sorts.Remark c) h = done (record st { section = sections.Header (earlier pending (character_at w c)) }) (record { closed = h.closed; named = h.named })
+lone_stands st pending w sorts.Plain h = fails _
+lone_stands st pending w sorts.Text h = fails _
+lone_stands st pending w sorts.Bytes h = fails _
+lone_stands st pending w sorts.Unclosed h = fails _
+lone_stands st pending w (sorts.Stray c) h = fails _
 
-header_stands : (st : State) (line : List WordAt) → st.section ≡ sections.Header → AtHeader st → Holds Stands (header_line st line)
+header_stands : (st : State) (pending : Option Fault) (line : List WordAt) → AtHeader st → Holds Stands (header_line st pending line)
 unfolding header_line
-header_stands st [] e h = done st (stay st sections.Header e h)
-header_stands st (w ∷ []) e h = lone_stands st w w.sort e h
-header_stands st (one ∷ two ∷ ws) e h = bind (version_at st.pending (one ∷ two ∷ ws) one two) _ (version_at_good st.pending (one ∷ two ∷ ws) one two) (λ v is.
+header_stands st pending [] h = done (record st { section = sections.Header pending }) (record { closed = h.closed; named = h.named })
+header_stands st pending (w ∷ []) h = lone_stands st pending w w.sort h
+header_stands st pending (one ∷ two ∷ ws) h = bind (version_at pending (one ∷ two ∷ ws) one two) _ (version_at_good pending (one ∷ two ∷ ws) one two) (λ v is.
     done (record st { version = v; section = sections.Top }) (record { version = is; closed = h.closed; named = h.named }))
 
 -- ---- lines outside of sections
@@ -414,65 +415,66 @@ top_stands st line e h = bind (first_at line) _ (anything (first_at line)) (λ w
 
 -- ---- lines of an interface
 
-pub closed_stands : (st : State) → AtInterface st → AtTop (interface_closed st)
-closed_stands st h = record {
+pub closed_stands : (st : State) (i : Interface) → AtInterface st i → AtTop (interface_closed st i)
+closed_stands st i h = record {
   version = h.version;
-  closed = interface_closed_all st.pool st.names.tables st.classes st.filters st.threads st.picks st.interface h.closed h.opened h.named.few_interfaces;
+  closed = interface_closed_all st.pool st.names.tables st.classes st.filters st.threads st.picks i h.closed h.opened h.named.few_interfaces;
   named = h.named;
 }
 
-method_stands : (st : State) (w : WordAt) (line : List WordAt) → st.section ≡ sections.Interface → AtInterface st → Holds Stands (method_line st w line)
+method_stands : (st : State) (i : Interface) (w : WordAt) (line : List WordAt) → AtInterface st i → Holds (AtInterface st) (method_line st.names.interfaces i w line)
 unfolding method_line
-method_stands st w line e h = either (nat_le 32 (length st.interface.methods)) _ _ (λ _. fails _) (λ f.
+method_stands st i w line h = either (nat_le 32 (length i.methods)) _ _ (λ _. fails _) (λ f.
     (let n = length st.names.tables in
-    let count : length st.names.interfaces ≡ n + 1 = ap length h.named.of_interfaces ∙ length-map (st.names.tables ++ st.interface ∷ []) (λ (k : Interface). k.name) ∙ length-append st.names.tables (st.interface ∷ []) in
-    bind (method_of st.names.interfaces st.interface.methods line) _ (method_new n st.names.interfaces st.interface.methods line count) (λ m is.
-    (let i : Interface = record (st.interface) { methods = st.interface.methods ++ m ∷ [] } in
+    let count : length st.names.interfaces ≡ n + 1 = ap length h.named.of_interfaces ∙ length-map (st.names.tables ++ i ∷ []) (λ (k : Interface). k.name) ∙ length-append st.names.tables (i ∷ []) in
+    bind (method_of st.names.interfaces i.methods line) _ (method_new n st.names.interfaces i.methods line count) (λ m is.
+    (let more : Interface = record i { methods = i.methods ++ m ∷ [] } in
     let o = h.opened in
-    let room : length st.interface.methods < 32 = leb-false 32 (length st.interface.methods) f in
-    done _ (stay (record st { interface = i }) sections.Interface e (record {
+    let room : length i.methods < 32 = leb-false 32 (length i.methods) f in
+    done more (record {
       version = h.version;
       closed = h.closed;
-      named = interface_renamed _ _ _ _ _ st.names.tables st.classes (length st.filters) st.interface i refl refl h.named;
+      named = interface_renamed _ _ _ _ _ st.names.tables st.classes (length st.filters) i more refl refl h.named;
       opened = record {
-        formed = (o.formed.0, All-push (IsMethod n) st.interface.methods m o.formed.1 is.method, omega (arith, length-append st.interface.methods (m ∷ [])), distinct_push same_method st.interface.methods m o.formed.3 is.new);
+        formed = (o.formed.0, All-push (IsMethod n) i.methods m o.formed.1 is.method, omega (arith, length-append i.methods (m ∷ [])), distinct_push same_method i.methods m o.formed.3 is.new);
         allowed = o.allowed;
         new = o.new;
       };
-    }))))))
+    })))))
 
-in_interface : (st : State) (line : List WordAt) → st.section ≡ sections.Interface → AtInterface st → Holds Stands (inner_interface st line)
+in_interface : (st : State) (i : Interface) (line : List WordAt) → AtInterface st i → Holds Stands (inner_interface st i line)
 unfolding inner_interface
-in_interface st line e h = bind (first_at line) _ (anything (first_at line)) (λ w _. either (bytes_eq w.bytes (codes "method")) _ _
-    (λ _. method_stands st w line e h)
-    (λ _. top_stands (interface_closed st) line refl (closed_stands st h)))
+in_interface st i line h = bind (first_at line) _ (anything (first_at line)) (λ w _. either (bytes_eq w.bytes (codes "method")) _ _
+    (λ _. bind (method_line st.names.interfaces i w line) _ (method_stands st i w line h) (λ more k.
+    done (record st { section = sections.Interface more }) (record { version = k.version; closed = k.closed; named = k.named; opened = k.opened })))
+    (λ _. top_stands (interface_closed st i) line refl (closed_stands st i h)))
 
 -- ---- lines of a class
 
-head_stands : (st : State) (line : List WordAt) → AtClass st → Holds Stands (body_head st line)
+head_stands : (st : State) (c : Class) (line : List WordAt) → AtClass st c → Holds Stands (body_head st c line)
 unfolding body_head
-head_stands st line h = bind (method_at st.names line 1) _ (head_formed st.names line 1) (λ head is. either (has_body st.class.bodies head) _ _
+head_stands st c line h = bind (method_at st.names line 1) _ (head_formed st.names line 1) (λ head is. either (has_body c.bodies head) _ _
     (λ _. bind (word_at line 1) _ (anything (word_at line 1)) (λ w _. fails _))
     (λ f. bind (end_at line 2) _ (anything (end_at line 2)) (λ _ _.
     (let s = so_far st.names.tables st.classes st.filters in
     done _ (record {
       outer = record { version = h.version; closed = h.closed; named = h.named; opened = h.opened };
       head = record { method = is.method; new = f };
-      code = All-nil (Fits s (in_class (suc (length st.classes)) st.class));
+      code = All-nil (Fits s (in_class (suc (length st.classes)) c));
     })))))
 
-class_end_stands : (st : State) (line : List WordAt) → AtClass st → Holds Stands (class_ended st line)
-class_end_stands st line h = bind (end_at line 1) _ (anything (end_at line 1)) (λ _ _. done _ (record {
+class_end_stands : (st : State) (c : Class) (line : List WordAt) → AtClass st c → Holds Stands (class_ended st c line)
+class_end_stands st c line h = bind (end_at line 1) _ (anything (end_at line 1)) (λ _ _. done _ (record {
   version = h.version;
-  closed = class_closed st.pool st.names.tables st.classes st.filters st.threads st.picks st.class h.closed h.opened.formed h.opened.new;
+  closed = class_closed st.pool st.names.tables st.classes st.filters st.threads st.picks c h.closed h.opened.formed h.opened.new;
   named = h.named;
 }))
 
-in_class_stands : (st : State) (line : List WordAt) → AtClass st → Holds Stands (inner_class st line)
+in_class_stands : (st : State) (c : Class) (line : List WordAt) → AtClass st c → Holds Stands (inner_class st c line)
 unfolding inner_class
-in_class_stands st line h = bind (first_at line) _ (anything (first_at line)) (λ w _. either (bytes_eq w.bytes (codes "body")) _ _
-    (λ _. head_stands st line h)
-    (λ _. either (bytes_eq w.bytes (codes "end")) _ _ (λ _. class_end_stands st line h) (λ _. fails _)))
+in_class_stands st c line h = bind (first_at line) _ (anything (first_at line)) (λ w _. either (bytes_eq w.bytes (codes "body")) _ _
+    (λ _. head_stands st c line h)
+    (λ _. either (bytes_eq w.bytes (codes "end")) _ _ (λ _. class_end_stands st c line h) (λ _. fails _)))
 
 -- ---- lines of a body
 
@@ -496,103 +498,99 @@ more_body s classes c b h is new = record {
   plain = h.plain;
 }
 
-body_end_stands : (st : State) (line : List WordAt) → AtBody st → Holds Stands (body_ended st line)
-body_end_stands st line h =
+body_end_stands : (st : State) (c : Class) (head : MethodNumber) (code : CodeAt) (line : List WordAt) → AtBody st c head code → Holds Stands (body_ended st c head code line)
+body_end_stands st c head code line h =
     (let s = so_far st.names.tables st.classes st.filters in
-    let x = in_class (suc (length st.classes)) st.class in
+    let x = in_class (suc (length st.classes)) c in
     let o = h.outer in
-    bind (checked st.code 200) _ (checked_formed s x 200 st.code h.code) (λ body is.
+    bind (checked code 200) _ (checked_formed s x 200 code h.code) (λ body is.
     bind (end_at line 1) _ (anything (end_at line 1)) (λ _ _.
-    (let b : MethodBody = record { iface = st.head.iface; method = st.head.method; body = body } in
-    let c : Class = record (st.class) { bodies = st.class.bodies ++ b ∷ [] } in
+    (let b : MethodBody = record { iface = head.iface; method = head.method; body = body } in
+    let more : Class = record c { bodies = c.bodies ++ b ∷ [] } in
     done _ (record {
       version = o.version;
       closed = o.closed;
-      named = class_renamed _ _ _ _ _ st.names.tables st.classes (length st.filters) st.class c refl refl o.named;
-      opened = more_body s st.classes st.class b o.opened (is, h.head.method) (free_body st.class.bodies st.head body h.head.new);
+      named = class_renamed _ _ _ _ _ st.names.tables st.classes (length st.filters) c more refl refl o.named;
+      opened = more_body s st.classes c b o.opened (is, h.head.method) (free_body c.bodies head body h.head.new);
     })))))
 
-in_body_stands : (st : State) (line : List WordAt) → All IsWord line → st.section ≡ sections.Body → AtBody st → Holds Stands (inner_body st line)
+in_body_stands : (st : State) (c : Class) (head : MethodNumber) (code : CodeAt) (line : List WordAt) → All IsWord line → AtBody st c head code → Holds Stands (inner_body st c head code line)
 unfolding inner_body
-in_body_stands st line ws e h =
+in_body_stands st c head code line ws h =
     (let s = so_far st.names.tables st.classes st.filters in
-    let x = in_class (suc (length st.classes)) st.class in
+    let x = in_class (suc (length st.classes)) c in
     let o = h.outer in
     bind (first_at line) _ (anything (first_at line)) (λ w _. either (bytes_eq w.bytes (codes "end")) _ _
-    (λ _. body_end_stands st line h)
-    (λ _. bind (program_line (program_of st.class.model) 200 st.names st.code w line) _ (program_fits s x (program_of st.class.model) 200 st.names st.code w line (body_declares st o) ws h.code) (λ code is.
-    done _ (stay (record st { code = code }) sections.Body e (record {
+    (λ _. body_end_stands st c head code line h)
+    (λ _. bind (program_line (program_of c.model) 200 st.names code w line) _ (program_fits s x (program_of c.model) 200 st.names code w line (body_declares st c o) ws h.code) (λ more is.
+    done (record st { section = sections.Body c head more }) (record {
       outer = record { version = o.version; closed = o.closed; named = o.named; opened = o.opened };
       head = h.head;
       code = is;
-    }))))))
+    })))))
 
 -- ---- lines of a script
 
-thread_end_stands : (st : State) (line : List WordAt) → AtThread st → Holds Stands (thread_ended st line)
-thread_end_stands st line h =
+thread_end_stands : (st : State) (code : CodeAt) (line : List WordAt) → AtThread st code → Holds Stands (thread_ended st code line)
+thread_end_stands st code line h =
     (let s = so_far st.names.tables st.classes st.filters in
     let o = h.top in
-    bind (checked st.code 2000) _ (checked_formed s (in_script s) 2000 st.code h.code) (λ body is.
+    bind (checked code 2000) _ (checked_formed s (in_script s) 2000 code h.code) (λ body is.
     bind (end_at line 1) _ (anything (end_at line 1)) (λ _ _. done _ (record {
       version = o.version;
       closed = script_closed st.pool st.names.tables st.classes st.filters st.threads st.picks body o.closed is h.room;
       named = o.named;
     }))))
 
-in_thread_stands : (st : State) (line : List WordAt) → All IsWord line → st.section ≡ sections.Thread → AtThread st → Holds Stands (inner_thread st line)
+in_thread_stands : (st : State) (code : CodeAt) (line : List WordAt) → All IsWord line → AtThread st code → Holds Stands (inner_thread st code line)
 unfolding inner_thread
-in_thread_stands st line ws e h =
+in_thread_stands st code line ws h =
     (let s = so_far st.names.tables st.classes st.filters in
     let o = h.top in
     bind (first_at line) _ (anything (first_at line)) (λ w _. either (bytes_eq w.bytes (codes "end")) _ _
-    (λ _. thread_end_stands st line h)
-    (λ _. bind (program_line programs.Script 2000 st.names st.code w line) _ (program_fits s (in_script s) programs.Script 2000 st.names st.code w line (script_declares st o) ws h.code) (λ code is.
-    done _ (stay (record st { code = code }) sections.Thread e (record {
+    (λ _. thread_end_stands st code line h)
+    (λ _. bind (program_line programs.Script 2000 st.names code w line) _ (program_fits s (in_script s) programs.Script 2000 st.names code w line (script_declares st o) ws h.code) (λ more is.
+    done (record st { section = sections.Thread more }) (record {
       top = record { version = o.version; closed = o.closed; named = o.named };
       room = h.room;
       code = is;
-    }))))))
+    })))))
 
 -- ---- lines of a filter
 
-filter_end_stands : (st : State) (line : List WordAt) → AtFilter st → Holds Stands (filter_ended st line)
-filter_end_stands st line h = bind (end_at line 1) _ (anything (end_at line 1)) (λ _ _.
-    (let e : suc (length st.filters) ≡ length (st.filters ++ st.rules ∷ []) = omega (arith, length-append st.filters (st.rules ∷ [])) in
+filter_end_stands : (st : State) (rules : List Rule) (line : List WordAt) → AtFilter st rules → Holds Stands (filter_ended st rules line)
+filter_end_stands st rules line h = bind (end_at line 1) _ (anything (end_at line 1)) (λ _ _.
+    (let e : suc (length st.filters) ≡ length (st.filters ++ rules ∷ []) = omega (arith, length-append st.filters (rules ∷ [])) in
     done _ (record {
       version = h.version;
-      closed = filter_closed st.pool st.names.tables st.classes st.filters st.threads st.picks st.rules h.closed h.rules;
-      named = filter_renamed _ _ _ _ _ st.names.tables st.classes (suc (length st.filters)) (length (st.filters ++ st.rules ∷ [])) e h.named;
+      closed = filter_closed st.pool st.names.tables st.classes st.filters st.threads st.picks rules h.closed h.rules;
+      named = filter_renamed _ _ _ _ _ st.names.tables st.classes (suc (length st.filters)) (length (st.filters ++ rules ∷ [])) e h.named;
     })))
 
-rule_stands : (st : State) (w : WordAt) (line : List WordAt) (o : Option RuleWord) → st.section ≡ sections.Filter → AtFilter st → Holds Stands (ruled st w line o)
-rule_stands st w line None e h = fails _
-rule_stands st w line (Some k) e h = either (nat_le 32 (length st.rules)) _ _ (λ _. fails _) (λ f.
+rule_stands : (rules : List Rule) (w : WordAt) (line : List WordAt) (o : Option RuleWord) → IsFilter rules → Holds IsFilter (ruled rules w line o)
+rule_stands rules w line None h = fails _
+rule_stands rules w line (Some k) h = either (nat_le 32 (length rules)) _ _ (λ _. fails _) (λ f.
     bind (rule_of k line) _ (rule_new k line) (λ r is.
-    (let room : length st.rules < 32 = leb-false 32 (length st.rules) f in
-    done _ (stay (record st { rules = st.rules ++ r ∷ [] }) sections.Filter e (record {
-      version = h.version;
-      closed = h.closed;
-      named = h.named;
-      rules = (All-push IsRule st.rules r h.rules.0 is, omega (arith, length-append st.rules (r ∷ [])));
-    })))))
+    (let room : length rules < 32 = leb-false 32 (length rules) f in
+    done (rules ++ r ∷ []) (All-push IsRule rules r h.0 is, omega (arith, length-append rules (r ∷ []))))))
 
-in_filter_stands : (st : State) (line : List WordAt) → st.section ≡ sections.Filter → AtFilter st → Holds Stands (inner_filter st line)
+in_filter_stands : (st : State) (rules : List Rule) (line : List WordAt) → AtFilter st rules → Holds Stands (inner_filter st rules line)
 unfolding inner_filter
-in_filter_stands st line e h = bind (first_at line) _ (anything (first_at line)) (λ w _. either (bytes_eq w.bytes (codes "end")) _ _
-    (λ _. filter_end_stands st line h)
-    (λ _. rule_stands st w line (rule_word_of w.bytes) e h))
+in_filter_stands st rules line h = bind (first_at line) _ (anything (first_at line)) (λ w _. either (bytes_eq w.bytes (codes "end")) _ _
+    (λ _. filter_end_stands st rules line h)
+    (λ _. bind (ruled rules w line (rule_word_of w.bytes)) _ (rule_stands rules w line (rule_word_of w.bytes) h.rules) (λ more is.
+    done (record st { section = sections.Filter more }) (record { version = h.version; closed = h.closed; named = h.named; rules = is }))))
 
 -- ---- every line
 
 by_section_stands : (st : State) (line : List WordAt) (sec : Section) → All IsWord line → st.section ≡ sec → StandsAt st sec → Holds Stands (by_section st line sec)
-by_section_stands st line sections.Header ws e h = header_stands st line e h
+by_section_stands st line (sections.Header pending) ws e h = header_stands st pending line h
 by_section_stands st line sections.Top ws e h = top_stands st line e h
-by_section_stands st line sections.Interface ws e h = in_interface st line e h
-by_section_stands st line sections.Class ws e h = in_class_stands st line h
-by_section_stands st line sections.Body ws e h = in_body_stands st line ws e h
-by_section_stands st line sections.Filter ws e h = in_filter_stands st line e h
-by_section_stands st line sections.Thread ws e h = in_thread_stands st line ws e h
+by_section_stands st line (sections.Interface i) ws e h = in_interface st i line h
+by_section_stands st line (sections.Class c) ws e h = in_class_stands st c line h
+by_section_stands st line (sections.Body c head code) ws e h = in_body_stands st c head code line ws h
+by_section_stands st line (sections.Filter rules) ws e h = in_filter_stands st rules line h
+by_section_stands st line (sections.Thread code) ws e h = in_thread_stands st code line ws h
 
 pub step_stands : (st : State) (line : List WordAt) → All IsWord line → Stands st → Holds Stands (step st line)
 unfolding step

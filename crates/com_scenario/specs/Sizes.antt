@@ -2,20 +2,9 @@
 use Rattle.std.specs.Prelude.{ℕ, List, [], ◌∷◌, Bool, true, false, Option, Some, None, nat_lt}
 use Rattle.std.specs.Prelude.{if◌then◌else◌, length, codes}
 use Rattle.std.specs.Str.{bytes_eq}
-use Rattle.com_text.specs.declared.word.Sort.{Sort}
-use Rattle.com_text.specs.declared.word.Sort.TheVariants as sorts
-use Rattle.com_text.specs.Words.{WordAt, LineAt}
+use Rattle.com_text.specs.Words.{WordAt, LineAt, is_over, is_remark}
 use Rattle.com_text.specs.Scanning.{lines_of}
 use Rattle.com_scenario.specs.declared.sizes.SecondVersion.{SecondVersion}
-
--- A comment is no word, and it ends its line.
-abbrev pub is_remark : Sort → Bool
-is_remark (sorts.Remark column) = true
-is_remark other = false
-
-abbrev pub is_over : List WordAt → Bool
-is_over [] = true
-is_over (w ∷ ws) = is_remark w.sort
 
 -- Where the first word is `2`, and whether it is the last one.
 abbrev pub second_word : List WordAt → Option SecondVersion

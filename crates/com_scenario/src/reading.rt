@@ -5,22 +5,18 @@ ghost use Rattle.com_read_operands.specs.Reading.{Gives};
 ghost use Rattle.com_model.specs.Formed.{Formed};
 ghost use Rattle.com_scenario.specs.Scenarios.{tables_of, scenario_of, reading};
 
-use crate::built_in::built_in_interfaces;
-use com_base::{Memory, Rows};
-use com_classes::{Class, Classes, Interface};
+use com_base::{BUILT_IN_COUNT, Memory, Rows};
+use com_classes::{Class, Classes, Interface, built_in_interfaces};
 use com_model::Scenario;
 use com_read_operands::ScenarioError;
 use com_read_sections::{Outline, outline_of};
 use std::alloc::{AllocError, Global};
 
-/// How many interfaces are built in.
-const BUILT_IN: usize = 4;
-
 /// The interfaces that a text declares itself.
 fn declared(mut interfaces: Vec<Interface>) -> Result<Vec<Interface>, Memory>
     ensures { IfOk result (λ v. v.items ≡ drop 4 interfaces.items) }
 {
-    let from = interfaces.len().min(BUILT_IN);
+    let from = interfaces.len().min(BUILT_IN_COUNT);
     interfaces.split_off(from)
 }
 

@@ -2,19 +2,13 @@
 
 ghost use Rattle.std.specs.Prelude.{◌≡◌, ◌<◌, ◌-◌, ◌^◌, IfOk, length};
 ghost use Rattle.com_text.specs.Scanning.{lines_of};
-ghost use Rattle.com_scenario.specs.Sizes.{is_remark, is_over, says_version_2, begins_version_2};
+ghost use Rattle.com_scenario.specs.Sizes.{says_version_2, begins_version_2};
 ghost use Rattle.com_scenario.specs.Sizes.{second_version, second_word};
 ghost use Rattle.com_scenario.specs.Sizes.{is_too_long};
 
-use com_base::Memory;
-use com_text::{Sort, Word, line_at};
+use com_base::{Memory, TEXT_1_LIMIT, TEXT_2_LIMIT};
+use com_text::{Word, is_over, line_at};
 use std::alloc::Global;
-
-/// The longest text whose first line with words is `scenario 2`, in bytes.
-pub const LONGEST: usize = 16_777_216;
-
-/// The longest text with another first line, in bytes.
-const LONGEST_OF_VERSION_1: usize = 1_048_576;
 
 /// Whether a text is longer than its version allows: than 16,777,216 bytes where the words of its first line
 /// with words are `scenario 2`, and else than 1,048,576 bytes. The only error is want of memory.
@@ -22,10 +16,10 @@ const LONGEST_OF_VERSION_1: usize = 1_048_576;
 pub fn is_too_long(alloc: Global, text: &[u8]) -> Result<bool, Memory>
     ensures { IfOk result (λ long. long ≡ is_too_long text.now) }
 {
-    if text.len() <= LONGEST_OF_VERSION_1 {
+    if text.len() <= TEXT_1_LIMIT {
         return Ok(false);
     }
-    if text.len() > LONGEST {
+    if text.len() > TEXT_2_LIMIT {
         return Ok(true);
     }
     Ok(!begins_version_2(alloc, text)?)
@@ -83,7 +77,7 @@ fn says_version_2(line: &[Word]) -> Option<Option<SecondVersion>>
     match line {
         [] => None,
         [word, rest @ ..] => {
-            if is_remark(word.sort()) {
+            if word.is_remark() {
                 return None;
             }
             if word.bytes != b"scenario".as_slice() {
@@ -101,7 +95,7 @@ fn second_word(line: &[Word]) -> Option<SecondVersion>
     match line {
         [] => None,
         [word, rest @ ..] => {
-            if is_remark(word.sort()) || word.bytes != b"2".as_slice() {
+            if word.is_remark() || word.bytes != b"2".as_slice() {
                 return None;
             }
             Some(SecondVersion {
@@ -111,19 +105,4 @@ fn second_word(line: &[Word]) -> Option<SecondVersion>
             })
         }
     }
-}
-
-fn is_over(line: &[Word]) -> bool
-    ensures { result ≡ is_over line.now }
-{
-    match line {
-        [] => true,
-        [first, ..] => is_remark(first.sort()),
-    }
-}
-
-fn is_remark(sort: Sort) -> bool
-    ensures { result ≡ is_remark sort }
-{
-    matches!(sort, Sort::Remark(_))
 }
