@@ -17,7 +17,7 @@ use std::alloc::Global;
 
 // A copy of the frame of whoever acts.
 fn own_frame(alloc: Global, scene: &Scene, actor: Actor) -> Result<Frame, Memory>
-    ensures frame { IfOk result (λ frame. frame ≡ frame_of scene.now (acting_of actor)) }
+    ensures frame { IfOk result (λ frame. frame ≡ frame_of scene.now.tables (acting_of actor)) }
     ensures slots { IfOk result (λ frame. FitsActor (acting_of actor) frame) }
 {
     match scene.frame(actor) {
@@ -28,7 +28,7 @@ fn own_frame(alloc: Global, scene: &Scene, actor: Actor) -> Result<Frame, Memory
 
 // The cells of whoever acts.
 fn own_cells(scene: &Scene, actor: Actor) -> Cells
-    ensures { result ≡ cells_for scene.now (acting_of actor) }
+    ensures { result ≡ cells_for scene.now.tables (acting_of actor) }
 {
     match actor {
         Actor::Body { object, .. } => scene.cells(object),
@@ -60,7 +60,7 @@ pub fn step_of(
     actor: Actor,
     body: &Body,
 ) -> Result<Option<Outcome>, Memory>
-    ensures outcome { IfOk result (λ outcome. outcome ≡ step_of body.now scene.now (acting_of actor)) }
+    ensures outcome { IfOk result (λ outcome. outcome ≡ step_of body.now scene.now.tables (acting_of actor)) }
     ensures in_range { IfOk result (λ outcome. IsStep (acting_of actor) outcome) }
 {
     if let Actor::Nobody = actor {

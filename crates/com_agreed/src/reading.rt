@@ -1,6 +1,6 @@
 //! The history that an agreed trace is, made again line by line.
 ghost use Rattle.std.specs.Arc.{arc_value};
-ghost use Rattle.std.specs.Prelude.{◌≡◌, ◌<◌, false, IfOk, OnOk, map};
+ghost use Rattle.std.specs.Prelude.{◌≡◌, ◌<◌, IfOk, map};
 ghost use Rattle.com_model.specs.Ends.{limit};
 ghost use Rattle.com_model.specs.Formed.{Formed};
 ghost use Rattle.com_model.specs.State.{first_tables};
@@ -17,8 +17,8 @@ use com_check::{named, split_line};
 use com_core::Core;
 use com_drive::{Runtime, all_counts, ended};
 use com_model::{Ended, Entry, Scenario};
-use com_retrace::{boxed, make_next, row_of};
-use com_servant::{Counter, Interpreter, Latch, Relay, Servant};
+use com_retrace::{fresh_row, make_next};
+use com_servant::Servant;
 use std::alloc::Global;
 use std::sync::Arc;
 
@@ -33,10 +33,8 @@ fn make_named<C: Runtime>(
     requires names { NamesNext (C.scenario runtime.old) (C.state runtime.old) line.now }
     requires room { (C.state runtime.old).entries < limit (C.scenario runtime.old) }
     requires reached { Reached (C.scenario runtime.old) (C.state runtime.old) }
-    requires whole { C.broken runtime.old ≡ false }
     requires row { map kind_of servants.old.items ≡ row }
     ensures scenario { C.scenario runtime.new ≡ C.scenario runtime.old }
-    ensures whole { OnOk result (C.broken runtime.new ≡ false) }
     ensures row { map kind_of servants.new.items ≡ row }
     ensures made { IfOk result (λ entry. IsMadeFor (C.scenario runtime.old)
         (C.state runtime.old) line.now entry (C.state runtime.new)) }
@@ -58,7 +56,6 @@ fn found<C: Runtime>(
 ) -> Result<Agreed, Memory>
     requires scenario { C.scenario runtime.now ≡ scenario.now }
     requires reached { Reached scenario.now (C.state runtime.now) }
-    requires whole { C.broken runtime.now ≡ false }
     ensures { IfOk result (λ agreed. agreed
         ≡ record {
           history = entries.items;
@@ -92,7 +89,6 @@ fn read_by<C: Runtime>(
     requires text { IsText scenario.now trace.now }
     requires scenario { C.scenario runtime.old ≡ scenario.now }
     requires first { C.state runtime.old ≡ first_tables scenario.now }
-    requires whole { C.broken runtime.old ≡ false }
     requires row { map kind_of servants.old.items ≡ row }
     ensures { IfOk result (λ agreed. IsAgreed scenario.now trace.now agreed) }
 {
@@ -121,16 +117,9 @@ fn read_on<C: Runtime>(
     requires text { IsText scenario.now trace.now }
     requires scenario { C.scenario runtime.old ≡ scenario.now }
     requires first { C.state runtime.old ≡ first_tables scenario.now }
-    requires whole { C.broken runtime.old ≡ false }
     ensures { IfOk result (λ agreed. IsAgreed scenario.now trace.now agreed) }
 {
-    let mut servants = row_of(
-        alloc,
-        boxed(alloc, Interpreter::new())?,
-        boxed(alloc, Counter::new())?,
-        boxed(alloc, Relay::new())?,
-        boxed(alloc, Latch::new())?,
-    )?;
+    let mut servants = fresh_row!(alloc);
     read_by(alloc, scenario, runtime, &mut servants, trace)
 }
 

@@ -1,20 +1,9 @@
 -- How an input of a scenario's text, the line `trace` and a trace is cut.
 use Rattle.std.specs.Prelude.{◌≤◌, ℕ, ◌+◌, List, [], ◌∷◌, Bool, true, false, ◌&&◌, if◌then◌else◌, codes, ⊤}
 use Rattle.std.specs.Str.{bytes_eq}
-use Rattle.com_text.specs.declared.word.Sort.{Sort}
-use Rattle.com_text.specs.declared.word.Sort.TheVariants as sorts
-use Rattle.com_text.specs.Words.{WordAt, LineAt}
+use Rattle.com_text.specs.Words.{WordAt, LineAt, is_over}
 use Rattle.com_check.specs.declared.cut.Cut.{Cut}
 use Rattle.com_check.specs.declared.cut.Cut.TheVariants as cuts
-
--- A comment is no word, and it ends its line.
-abbrev pub is_remark : Sort → Bool
-is_remark (sorts.Remark column) = true
-is_remark other = false
-
-abbrev pub is_over : List WordAt → Bool
-is_over [] = true
-is_over (w ∷ ws) = is_remark w.sort
 
 -- Whether the only word of a line is `trace`.
 abbrev pub says_trace : List WordAt → Bool

@@ -1,10 +1,10 @@
 //! An input of a scenario's text, the line `trace`, and a trace.
 ghost use Rattle.std.specs.Prelude.{◌≡◌, ◌<◌, ◌-◌, ◌^◌, IfOk, length};
 ghost use Rattle.com_text.specs.Scanning.{lines_of};
-ghost use Rattle.com_check.specs.Cuts.{is_over, is_remark, says_trace, cut_of, IsWithin};
+ghost use Rattle.com_check.specs.Cuts.{says_trace, cut_of, IsWithin};
 
 use com_base::Memory;
-use com_text::{Sort, Word, line_at};
+use com_text::{Word, is_over, line_at};
 use std::alloc::Global;
 
 /// How an input is cut.
@@ -54,20 +54,4 @@ fn says_trace(line: &[Word]) -> bool
         [] => false,
         [word, rest @ ..] => word.bytes == b"trace".as_slice() && is_over(rest),
     }
-}
-
-/// Whether no word is left. A comment is none.
-fn is_over(line: &[Word]) -> bool
-    ensures { result ≡ is_over line.now }
-{
-    match line {
-        [] => true,
-        [word, ..] => is_remark(word.sort()),
-    }
-}
-
-fn is_remark(sort: Sort) -> bool
-    ensures { result ≡ is_remark sort }
-{
-    matches!(sort, Sort::Remark(_))
 }

@@ -1,5 +1,5 @@
 //! Judging a trace line by line, on any runtime that keeps the rules.
-ghost use Rattle.std.specs.Prelude.{◌≡◌, ◌<◌, ◌≤◌, ◌+◌, false, None, Some, IfOk, OnOk, codes, map};
+ghost use Rattle.std.specs.Prelude.{◌≡◌, ◌<◌, ◌≤◌, ◌+◌, None, Some, IfOk, OnOk, codes, map};
 ghost use Rattle.com_model.specs.Ends.{last_after, limit};
 ghost use Rattle.com_model.specs.Formed.{Formed};
 ghost use Rattle.com_model.specs.State.{first_tables};
@@ -36,9 +36,7 @@ fn clock_entry<C: Runtime>(runtime: &mut C, standing: Standing) -> Result<Option
     requires goes_on { ended_now (C.scenario runtime.old) (C.state runtime.old) ≡ None }
     requires room { (C.state runtime.old).entries < limit (C.scenario runtime.old) }
     requires reached { Reached (C.scenario runtime.old) (C.state runtime.old) }
-    requires whole { C.broken runtime.old ≡ false }
     ensures scenario { C.scenario runtime.new ≡ C.scenario runtime.old }
-    ensures whole { OnOk result (C.broken runtime.new ≡ false) }
     ensures made { IfOk result (λ made. IsNextOf (C.scenario runtime.old) (C.state runtime.old) 0 made
         (C.state runtime.new)) }
 {
@@ -67,10 +65,8 @@ fn next_of<C: Runtime>(
     requires goes_on { ended_now (C.scenario runtime.old) (C.state runtime.old) ≡ None }
     requires room { (C.state runtime.old).entries < limit (C.scenario runtime.old) }
     requires reached { Reached (C.scenario runtime.old) (C.state runtime.old) }
-    requires whole { C.broken runtime.old ≡ false }
     requires row { map kind_of servants.old.items ≡ row }
     ensures scenario { C.scenario runtime.new ≡ C.scenario runtime.old }
-    ensures whole { OnOk result (C.broken runtime.new ≡ false) }
     ensures row { map kind_of servants.new.items ≡ row }
     ensures made { IfOk result (λ made. IsNextOf (C.scenario runtime.old) (C.state runtime.old) lane made
         (C.state runtime.new)) }
@@ -102,7 +98,6 @@ fn scheduled<C: Runtime>(
     requires goes_on { ended_now (C.scenario runtime.old) (C.state runtime.old) ≡ None }
     requires room { (C.state runtime.old).entries < limit (C.scenario runtime.old) }
     requires reached { Reached (C.scenario runtime.old) (C.state runtime.old) }
-    requires whole { C.broken runtime.old ≡ false }
     requires last { last ≤ lanes (C.scenario runtime.old) }
     requires row { map kind_of servants.old.items ≡ row }
     ensures { IfOk result (λ e. IsScheduled (C.scenario runtime.old) (C.state runtime.old) last e
@@ -146,7 +141,6 @@ fn told<C: Runtime>(
 ) -> Result<Judged, Memory>
     requires scenario { C.scenario runtime.now ≡ scenario.now }
     requires reached { Reached scenario.now (C.state runtime.now) }
-    requires whole { C.broken runtime.now ≡ false }
     requires few { (C.state runtime.now).entries ≤ 1_000_000 }
     ensures { IfOk result (λ j. IsTold scenario.now (C.state runtime.now) ended rest.now j) }
 {
@@ -225,10 +219,8 @@ impl Judge {
         requires goes_on { ended_now (C.scenario runtime.old) (C.state runtime.old) ≡ None }
         requires room { (C.state runtime.old).entries < limit (C.scenario runtime.old) }
         requires reached { Reached (C.scenario runtime.old) (C.state runtime.old) }
-        requires whole { C.broken runtime.old ≡ false }
         requires row { map kind_of servants.old.items ≡ row }
         ensures scenario { C.scenario runtime.new ≡ C.scenario runtime.old }
-        ensures whole { OnOk result (C.broken runtime.new ≡ false) }
         ensures row { map kind_of servants.new.items ≡ row }
         ensures turn { IfOk result (λ turn. IsTurn (C.scenario runtime.old)
             (C.state runtime.old) self.old.last found.now turn
@@ -260,7 +252,6 @@ impl Judge {
         requires goes_on { ended_now (C.scenario runtime.old) (C.state runtime.old) ≡ None }
         requires room { (C.state runtime.old).entries < limit (C.scenario runtime.old) }
         requires reached { Reached (C.scenario runtime.old) (C.state runtime.old) }
-        requires whole { C.broken runtime.old ≡ false }
         requires last { self.old.last ≤ lanes (C.scenario runtime.old) }
         requires row { map kind_of servants.old.items ≡ row }
         ensures { IfOk result (λ j. IsOther (C.scenario runtime.old)
@@ -285,7 +276,6 @@ pub fn judge_trace<C: Runtime>(
     requires formed { Formed scenario.now }
     requires scenario { C.scenario runtime.old ≡ scenario.now }
     requires first { C.state runtime.old ≡ first_tables scenario.now }
-    requires whole { C.broken runtime.old ≡ false }
     requires row { map kind_of servants.old.items ≡ row }
     ensures { IfOk result (λ j. IsJudged scenario.now trace.now j) }
 {

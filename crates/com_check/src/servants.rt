@@ -1,5 +1,5 @@
 //! The row of servants by which a trace is judged.
-ghost use Rattle.std.specs.Prelude.{◌≡◌, false, IfOk};
+ghost use Rattle.std.specs.Prelude.{◌≡◌, IfOk};
 ghost use Rattle.com_model.specs.Formed.{Formed};
 ghost use Rattle.com_model.specs.State.{first_tables};
 ghost use Rattle.com_check.specs.Judging.{IsJudged};
@@ -9,8 +9,7 @@ use crate::judged::Judged;
 use com_base::Memory;
 use com_drive::Runtime;
 use com_model::Scenario;
-use com_retrace::{boxed, row_of};
-use com_servant::{Counter, Interpreter, Latch, Relay};
+use com_retrace::fresh_row;
 use std::alloc::Global;
 
 /// Judges a trace of a formed scenario, on a runtime that has made no entry, by servants that have made no
@@ -24,15 +23,8 @@ pub fn judge_on<C: Runtime>(
     requires formed { Formed scenario.now }
     requires scenario { C.scenario runtime.old ≡ scenario.now }
     requires first { C.state runtime.old ≡ first_tables scenario.now }
-    requires whole { C.broken runtime.old ≡ false }
     ensures { IfOk result (λ j. IsJudged scenario.now trace.now j) }
 {
-    let mut servants = row_of(
-        alloc,
-        boxed(alloc, Interpreter::new())?,
-        boxed(alloc, Counter::new())?,
-        boxed(alloc, Relay::new())?,
-        boxed(alloc, Latch::new())?,
-    )?;
+    let mut servants = fresh_row!(alloc);
     judge_trace(alloc, scenario, runtime, &mut servants, trace)
 }

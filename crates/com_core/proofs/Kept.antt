@@ -1,6 +1,6 @@
 -- A core that is whole, and whose ledger is tied to its state, stays so by each entry.
-use Rattle.std.proofs.Common.{◌≡◌, ℕ, ◌≤◌, sym, ap, ◌∙◌, subst}
-use Rattle.std.specs.Prelude.{false, Result, Ok, Err, IfOk, OnOk, OnErr}
+use Rattle.std.proofs.Common.{◌≡◌, ℕ, ◌≤◌, sym, ap, subst}
+use Rattle.std.specs.Prelude.{Result, Ok, Err, IfOk, OnErr}
 use Rattle.com_model.specs.declared.deeds.Entry.{Entry}
 use Rattle.com_model.specs.declared.scenario.Scenario.{Scenario}
 use Rattle.com_model.specs.Clock.{ticked}
@@ -13,7 +13,7 @@ use Rattle.com_drive.specs.Standings.{Reached, standing_of}
 use Rattle.com_drive.specs.Turns.{IsNext}
 use Rattle.com_core.specs.declared.running.Running.{Running}
 use Rattle.com_core.specs.Making.{TiesLater}
-use Rattle.com_core.specs.Seen.{CoreView, IsAsBefore, IsFirst, IsKept, KeptUnless, IsWhole, Steps, core_of, core_state, kept_of}
+use Rattle.com_core.specs.Seen.{CoreView, IsAsBefore, IsFirst, IsKept, IsKeptIfFormed, IsWhole, Steps, core_of, core_state, kept_of}
 use Rattle.com_core.specs.Stands.{IsReached}
 use Rattle.com_core.proofs.Entries.{steps_stand}
 use Rattle.com_core.proofs.Shown.{core_alike, steps_shown, whole_kept}
@@ -36,11 +36,11 @@ first_kept s c e f = record {
   ties = subst (λ (x : Scenario). Ties x (core_state c) c.held) (sym e) (subst (λ (st : State). Ties s st c.held) (sym f.state) f.ties);
 }
 
-pub new_kept : (s : Scenario) (c : CoreView) → c.scenario ≡ s → (Formed s → IsFirst s c) → KeptUnless c
-new_kept s c e h = λ b f. first_kept s c e (h (subst Formed e f))
+pub new_kept : (s : Scenario) (c : CoreView) → c.scenario ≡ s → (Formed s → IsFirst s c) → IsKeptIfFormed c
+new_kept s c e h = λ f. first_kept s c e (h (subst Formed e f))
 
-pub same_state : (old new : CoreView) → (new.broken ≡ false → new ≡ old) → new.broken ≡ false → core_state new ≡ core_state old
-same_state old new h b = ap core_state (h b)
+pub same_state : (old new : CoreView) → new ≡ old → core_state new ≡ core_state old
+same_state old new e = ap core_state e
 
 -- What a core comes to is what a legal history comes to.
 pub is_reached : (s : Scenario) (st : State) → Reached s st → IsReached s st
@@ -53,23 +53,22 @@ is_formed s st r = r.0
 
 -- ---- after a step
 
-pub kept_stepped : {E : Type 0} (r : Result Entry E) (lane : ℕ) (old new : CoreView) → KeptUnless old → new.scenario ≡ old.scenario → OnOk r (old.broken ≡ false)
-    → IfOk r (λ e. IsWhole old → Steps lane old new e) → IfOk r (λ e. new.clock ≡ ticked e.deed old.clock) → OnErr r (new.broken ≡ false → new ≡ old) → KeptUnless new
-kept_stepped (Ok e) lane old new k same was steps tells err =
-    λ b f. let kept : IsKept old = k was (subst Formed same f) in (steps_kept lane old new e kept (steps kept.whole) same tells).1
-kept_stepped (Err x) lane old new k same was steps tells err =
-    λ b f. let e : new ≡ old = err b in subst IsKept (sym e) (k (ap (λ (c : CoreView). c.broken) (sym e) ∙ b) (subst Formed same f))
+pub kept_stepped : {E : Type 0} (r : Result Entry E) (lane : ℕ) (old new : CoreView) → IsKeptIfFormed old → new.scenario ≡ old.scenario
+    → IfOk r (λ e. IsWhole old → Steps lane old new e) → IfOk r (λ e. new.clock ≡ ticked e.deed old.clock) → OnErr r (new ≡ old) → IsKeptIfFormed new
+kept_stepped (Ok e) lane old new k same steps tells err =
+    λ f. let kept : IsKept old = k (subst Formed same f) in (steps_kept lane old new e kept (steps kept.whole) same tells).1
+kept_stepped (Err x) lane old new k same steps tells err = subst IsKeptIfFormed (sym err) k
 
-pub next_stepped : {E : Type 0} (r : Result Entry E) (lane : ℕ) (old new : CoreView) → KeptUnless old → new.scenario ≡ old.scenario → OnOk r (old.broken ≡ false)
+pub next_stepped : {E : Type 0} (r : Result Entry E) (lane : ℕ) (old new : CoreView) → IsKeptIfFormed old → new.scenario ≡ old.scenario
     → IfOk r (λ e. IsWhole old → Steps lane old new e) → IfOk r (λ e. e.lane ≡ lane) → IfOk r (λ e. new.clock ≡ ticked e.deed old.clock)
     → IfOk r (λ e. Formed old.scenario → IsNext old.scenario (core_state old) lane e (core_state new))
-next_stepped (Ok e) lane old new k same was steps own tells =
-    λ f. let kept : IsKept old = k was f in record {
+next_stepped (Ok e) lane old new k same steps own tells =
+    λ f. let kept : IsKept old = k f in record {
       by = own;
       deed = (steps kept.whole).next;
       becomes = (steps_kept lane old new e kept (steps kept.whole) same tells).0;
     }
-next_stepped (Err x) lane old new k same was steps own tells = tt
+next_stepped (Err x) lane old new k same steps own tells = tt
 
 -- ---- a core by what it keeps
 
@@ -94,6 +93,6 @@ tick_taken (Ok e) w s r u same due steps =
 tick_taken (Err x) w s r u same due steps = tt
 
 -- Where what a core keeps is as it was but for room, the core is as it was.
-pub same_core : {E F : Type 0} (x : Result E F) (s : Scenario) (r u : Running) → OnErr x (u.broken ≡ false → IsAsBefore r u) → OnErr x (u.broken ≡ false → core_of s u ≡ core_of s r)
+pub same_core : {E F : Type 0} (x : Result E F) (s : Scenario) (r u : Running) → OnErr x (IsAsBefore r u) → OnErr x (core_of s u ≡ core_of s r)
 same_core (Ok e) s r u a = tt
-same_core (Err e) s r u a = λ b. core_alike s r u (a b)
+same_core (Err e) s r u a = core_alike s r u a

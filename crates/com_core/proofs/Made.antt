@@ -1,5 +1,5 @@
 -- What an entry makes of a core, from what it makes of the parts one after another.
-use Rattle.std.proofs.Common.{◌≡◌, ℕ, ◌+◌, ◌<◌, ◌^◌, Bool, List, Option, Result, Ok, Err, OnOk, ap, ◌∙◌}
+use Rattle.std.proofs.Common.{◌≡◌, ℕ, ◌+◌, ◌<◌, ◌^◌, Bool, List, Option, Result, Ok, Err, OnOk, ◌∙◌}
 use Rattle.std.specs.Prelude.{is_some, length}
 use Rattle.com_base.specs.declared.value.RefValue.{RefValue}
 use Rattle.com_body.specs.declared.frame.Outcome.{Outcome}
@@ -8,9 +8,8 @@ use Rattle.com_model.specs.declared.deeds.Entry.{Entry}
 use Rattle.com_model.specs.declared.scenario.Scenario.{Scenario}
 use Rattle.com_model.specs.Calls.{lane_of}
 use Rattle.com_model.specs.Frames.{Actor}
-use Rattle.com_parts.specs.declared.change.Begun.{Begun}
 use Rattle.com_parts.specs.declared.change.Sent.{Sent}
-use Rattle.com_parts.specs.Changes.{IsSame, issuing_of, moment_at}
+use Rattle.com_parts.specs.Changes.{issuing_of, moment_at}
 use Rattle.com_parts.specs.Tables.{PartTables}
 use Rattle.com_refs.specs.Counts.{holders_of}
 use Rattle.com_state.specs.After.{filtered_by}
@@ -21,20 +20,19 @@ use Rattle.com_view.specs.Seen.{filter_seen, home_seen, running_seen}
 use Rattle.com_core.specs.declared.running.Running.{Running}
 use Rattle.com_core.specs.Changes.{Becomes, Settles}
 use Rattle.com_core.specs.Making.{BookedBy, Changed}
+use Rattle.com_core.specs.Shown.{parts_shown}
 use Rattle.com_core.specs.Stands.{seen_by}
 
--- The parts after a change that was begun and finished.
-pub becomes_begun : (p q t : PartTables) (e : Entry) (acting : Actor) (r : Option Outcome) (follows : Actor) (filtered : Bool) (x : Option Sent) (clock : ℕ) (b : Begun)
-    → IsSame p q → q.scene ≡ rows_after (named_at p.objects) acting r follows e p.scene → b.issued ≡ x → b.filtered ≡ filtered → b.clock ≡ clock
-    → t.lanes ≡ lanes_after q.lanes e → t.objects ≡ objects_after q.objects e
-    → t.calls.tables ≡ calls_after q.objects (moment_at q.lanes e.lane b.filtered b.clock) (issuing_of b.issued) q.calls.tables e
-    → t.scene ≡ q.scene → t.entries ≡ q.entries + 1 → Becomes p t e acting r follows filtered x clock
-becomes_begun p q t e acting r follows filtered x clock b same scene issued filter time lanes objects calls scenes entries = record {
-  lanes = lanes ∙ (λ i. lanes_after (same.lanes i) e);
-  objects = objects ∙ (λ i. objects_after (same.objects i) e);
-  calls = calls ∙ (λ i. calls_after (same.objects i) (moment_at (same.lanes i) e.lane (filter i) (time i)) (issuing_of (issued i)) (same.calls i) e);
-  scene = scenes ∙ scene;
-  entries = entries ∙ (λ i. same.entries i + 1);
+-- The parts after a change that was finished, beside those before it was begun, which are the same but for room.
+pub becomes_finished : (p q t : PartTables) (e : Entry) (acting : Actor) (r : Option Outcome) (follows : Actor) (filtered given : Bool) (x y : Option Sent) (clock time : ℕ)
+    → parts_shown q ≡ parts_shown p → given ≡ filtered → y ≡ x → time ≡ clock
+    → Becomes q t e acting r follows given y time → Becomes p t e acting r follows filtered x clock
+becomes_finished p q t e acting r follows filtered given x y clock time same filter issued times b = record {
+  lanes = b.lanes ∙ (λ i. lanes_after (same i).lanes e);
+  objects = b.objects ∙ (λ i. objects_after (same i).objects e);
+  calls = b.calls ∙ (λ i. calls_after (same i).objects (moment_at (same i).lanes e.lane (filter i) (times i)) (issuing_of (issued i)) (same i).calls.tables e);
+  scene = b.scene ∙ (λ i. rows_after (named_at (same i).objects) acting r follows e (same i).scene);
+  entries = b.entries ∙ (λ i. (same i).entries + 1);
 }
 
 -- All that an entry changes, with what its change rests on.

@@ -11,8 +11,9 @@ use Rattle.com_scene.specs.Kept.{HasSlots}
 use Rattle.com_parts.specs.declared.change.Sent.{Sent}
 use Rattle.com_parts.specs.Tables.{PartTables}
 use Rattle.com_fates.specs.Most.{Most}
+use Rattle.com_core.specs.declared.running.Running.{Running}
 use Rattle.com_core.specs.Changes.{Becomes}
-use Rattle.com_core.specs.Shown.{parts_shown}
+use Rattle.com_core.specs.Seen.{IsAsBefore}
 use Rattle.com_core.specs.Sound.{Sound, Few}
 use Rattle.com_core.proofs.Shown.{few_alike, sound_alike}
 
@@ -51,16 +52,17 @@ sound_later p q xs ws s a e h =
 
 -- ---- an entry that was made, or found no memory
 
-pub few_made : {E F : Type 0} (x : Result E F) (p q : PartTables) (e : Entry) (a : Actor) (o : Option Outcome) (b : Actor) (f : Bool) (y : Option Sent) (clock : ℕ)
-    → OnOk x (Becomes p q e a o b f y clock) → OnErr x (parts_shown q ≡ parts_shown p) → p.entries < 1_000_000 → Few p → Few q
-few_made (Ok z) p q e a o b f y clock m h room few = few_later p q e m.lanes m.entries room few
-few_made (Err z) p q e a o b f y clock m h room few = few_alike p q h few
+pub few_made : {E F : Type 0} (x : Result E F) (r u : Running) (e : Entry) (a : Actor) (o : Option Outcome) (b : Actor) (f : Bool) (y : Option Sent)
+    → OnOk x (Becomes r.parts u.parts e a o b f y r.clock) → OnErr x (IsAsBefore r u) → r.parts.entries < 1_000_000 → Few r.parts → Few u.parts
+few_made (Ok z) r u e a o b f y m h room few = few_later r.parts u.parts e m.lanes m.entries room few
+few_made (Err z) r u e a o b f y m h room few = few_alike r.parts u.parts h.parts few
 
-pub sound_made : {E F : Type 0} (x : Result E F) (p q : PartTables) (xs ys : List ℕ) (e : Entry) (a : Actor) (o : Option Outcome) (b : Actor) (f : Bool) (y : Option Sent) (clock : ℕ)
-    → OnOk x (Becomes p q e a o b f y clock) → OnOk x (All HasSlots q.scene.bodies) → OnOk x ((n : ℕ) → Most n xs → Most (n + 1) ys)
-    → OnErr x (parts_shown q ≡ parts_shown p) → OnErr x (ys ≡ xs) → Sound p xs → Sound q ys
-sound_made (Ok z) p q xs ys e a o b f y clock m k n h g s = sound_later p q xs ys s k m.entries n
-sound_made (Err z) p q xs ys e a o b f y clock m k n h g s = sound_alike p q xs ys h g s
+pub sound_made : {E F : Type 0} (x : Result E F) (r u : Running) (e : Entry) (a : Actor) (o : Option Outcome) (b : Actor) (f : Bool) (y : Option Sent)
+    → OnOk x (Becomes r.parts u.parts e a o b f y r.clock) → OnOk x (All HasSlots u.parts.scene.bodies)
+    → OnOk x ((n : ℕ) → Most n r.entered.counts → Most (n + 1) u.entered.counts) → OnErr x (IsAsBefore r u)
+    → Sound r.parts r.entered.counts → Sound u.parts u.entered.counts
+sound_made (Ok z) r u e a o b f y m k n h s = sound_later r.parts u.parts r.entered.counts u.entered.counts s k m.entries n
+sound_made (Err z) r u e a o b f y m k n h s = sound_alike r.parts u.parts r.entered.counts u.entered.counts h.parts h.entered s
 
 pub entries_made : {E F : Type 0} (x : Result E F) (p q : PartTables) (e : Entry) (a : Actor) (o : Option Outcome) (b : Actor) (f : Bool) (y : Option Sent) (clock : ℕ)
     → OnOk x (Becomes p q e a o b f y clock) → OnOk x (q.entries ≡ p.entries + 1)

@@ -1,5 +1,5 @@
 -- What is seen of a core is what it keeps, but for room: its state is the same, and so is all that an entry makes of it.
-use Rattle.std.proofs.Common.{◌≡◌, ℕ, ◌+◌, ◌≤◌, List, All, length, refl, sym, ap, ◌∙◌, subst}
+use Rattle.std.proofs.Common.{◌≡◌, ℕ, ◌≤◌, List, All, length, refl, sym, subst}
 use Rattle.com_body.specs.declared.frame.Outcome.{Outcome}
 use Rattle.std.specs.Prelude.{Bool, Option}
 use Rattle.com_holders.specs.Tables.{books_of}
@@ -151,23 +151,22 @@ pub held_alike : (w u : Held) → u.tables ≡ record w.tables { spare = u.table
 held_alike w u e c t = λ i. record { tables = record (e i) { spare = 0 }; calls = c i; touched = t i }
 
 pub as_before : (r : Running) → IsAsBefore r r
-as_before r = record { parts = refl; held = refl; entered = refl; fallen = refl; clock = refl; broken = refl }
+as_before r = record { parts = refl; held = refl; entered = refl; fallen = refl; clock = refl }
 
--- Where the lists of the running and the dying have the same numbers.
-pub as_moved : (r u : Running) → u.parts ≡ r.parts → held_shown u.ledger ≡ held_shown r.ledger → u.entered.counts ≡ r.entered.counts
-    → u.fallen.objects ≡ r.fallen.objects → u.clock ≡ r.clock → u.broken ≡ r.broken → IsAsBefore r u
-as_moved r u p w e f c b = record {
-  parts = ap parts_shown p;
+-- Where the parts and the books are the same but for room, and the lists of the running and the dying have the same numbers.
+pub as_moved : (r u : Running) → parts_shown u.parts ≡ parts_shown r.parts → held_shown u.ledger ≡ held_shown r.ledger → u.entered.counts ≡ r.entered.counts
+    → u.fallen.objects ≡ r.fallen.objects → u.clock ≡ r.clock → IsAsBefore r u
+as_moved r u p w e f c = record {
+  parts = p;
   held = w;
   entered = e;
   fallen = f;
   clock = c;
-  broken = b;
 }
 
 pub core_alike : (s : Scenario) (r u : Running) → IsAsBefore r u → core_of s u ≡ core_of s r
 core_alike s r u a =
-    λ i. record { scenario = s; parts = a.parts i; held = a.held i; entered = a.entered i; fallen = a.fallen i; clock = a.clock i; broken = a.broken i }
+    λ i. record { scenario = s; parts = a.parts i; held = a.held i; entered = a.entered i; fallen = a.fallen i; clock = a.clock i }
 
 pub sound_alike : (p q : PartTables) (xs ys : List ℕ) → parts_shown q ≡ parts_shown p → ys ≡ xs → Sound p xs → Sound q ys
 sound_alike p q xs ys e f s = record {

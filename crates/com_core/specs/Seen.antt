@@ -1,5 +1,5 @@
 -- What a contract sees of a core.
-use Rattle.std.specs.Prelude.{◌≡◌, ℕ, ◌+◌, ◌≤◌, Bool, false, List}
+use Rattle.std.specs.Prelude.{◌≡◌, ℕ, ◌+◌, ◌≤◌, List}
 use Rattle.com_ledger.specs.Books.{Held, books_held}
 use Rattle.com_model.specs.declared.deeds.Entry.{Entry}
 use Rattle.com_model.specs.declared.scenario.Scenario.{Scenario}
@@ -15,7 +15,7 @@ use Rattle.com_core.specs.Shown.{held_shown, parts_shown}
 use Rattle.com_core.specs.Stands.{state_read}
 
 -- The scenario; the parts, who holds references, how many bodies of each object run, the dying objects and
--- the clock in milliseconds; and whether a change was left half done for want of memory.
+-- the clock in milliseconds.
 pub record CoreView : Type 0 where
   pub scenario : Scenario
   pub parts : PartTables
@@ -23,7 +23,6 @@ pub record CoreView : Type 0 where
   pub entered : List ℕ
   pub fallen : List ℕ
   pub clock : ℕ
-  pub broken : Bool
 
 -- All that is kept of a history in a core of a scenario, with the room that calls and references have.
 abbrev pub kept_of : Scenario → Running → CoreView
@@ -34,7 +33,6 @@ kept_of s r = record {
   entered = r.entered.counts;
   fallen = r.fallen.objects;
   clock = r.clock;
-  broken = r.broken;
 }
 
 -- A core without what is said of room.
@@ -53,7 +51,6 @@ pub record IsAsBefore (r u : Running) : Type 0 where
   pub entered : u.entered.counts ≡ r.entered.counts
   pub fallen : u.fallen.objects ≡ r.fallen.objects
   pub clock : u.clock ≡ r.clock
-  pub broken : u.broken ≡ r.broken
 
 -- The state of the rules that a core is.
 abbrev pub core_state : CoreView → State
@@ -87,9 +84,9 @@ pub record IsKept (c : CoreView) : Type 0 where
   pub whole : IsWhole c
   pub ties : Ties c.scenario (core_state c) c.held
 
--- Each core of a formed scenario is so, where no change was left half done.
-abbrev pub KeptUnless : CoreView → Type 0
-KeptUnless c = c.broken ≡ false → Formed c.scenario → IsKept c
+-- Each core of a formed scenario is so.
+abbrev pub IsKeptIfFormed : CoreView → Type 0
+IsKeptIfFormed c = Formed c.scenario → IsKept c
 
 -- A core before its first entry: its state is the first one of the scenario, its parts are those of it, and
 -- so are its books.

@@ -15,6 +15,7 @@ no_rooms = record {
     stas = record { tables = record { made = []; stas = []; ended = [] }; makers = []; made = 0; over = 0 };
   };
   objects = record { tables = record { makings = []; finaled = [] }; made = 0; gone = 0 };
+  scene = record { seats = []; calls = 0; objects = 0 };
 }
 
 -- The parts without what is said of room.

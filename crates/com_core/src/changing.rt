@@ -1,11 +1,12 @@
 //! The change of a core by an entry.
 
-ghost use Rattle.std.specs.Prelude.{◌≡◌, ℕ, ◌+◌, ◌<◌, ◌≤◌, ◌^◌, All, IfOk, IsTrue, OnErr, OnOk, false, is_some};
-ghost use Rattle.std.specs.Prelude.{length, map, slice_index_or, vec_capacity};
+ghost use Rattle.std.specs.Prelude.{◌≡◌, ℕ, ◌+◌, ◌<◌, ◌≤◌, ◌^◌, All, IfOk, IsTrue, OnErr, OnOk};
+ghost use Rattle.std.specs.Prelude.{is_some, length, map, slice_index_or, vec_capacity};
 ghost use Rattle.com_calls.specs.Kept.{IsNamed};
 ghost use Rattle.com_core.specs.Changes.{Becomes, Settles, sent_by};
 ghost use Rattle.com_core.specs.Making.{Booked, BookedBy, Changed};
-ghost use Rattle.com_core.specs.Seen.{IsAsBefore, IsWhole as IsWholeCore, Steps, TurnsTo, core_state, kept_of};
+ghost use Rattle.com_core.specs.Seen.{IsAsBefore, IsWhole as IsWholeCore, Steps, TurnsTo};
+ghost use Rattle.com_core.specs.Seen.{core_state, kept_of};
 ghost use Rattle.com_core.specs.Shown.{held_shown, parts_shown};
 ghost use Rattle.com_core.specs.Sound.{Few, Sound};
 ghost use Rattle.com_core.specs.Stands.{seen_by};
@@ -20,6 +21,7 @@ ghost use Rattle.com_model.specs.Clock.{ticked};
 ghost use Rattle.com_model.specs.Lists.{number_or_zero};
 ghost use Rattle.com_moves.specs.Steps.{IsWhole, moves_stepped};
 ghost use Rattle.com_moves.specs.Tables.{ground_at};
+ghost use Rattle.com_parts.specs.Begins.{IsBegun};
 ghost use Rattle.com_refs.specs.Counts.{holders_of};
 ghost use Rattle.com_scene.specs.Actors.{acting_of};
 ghost use Rattle.com_scene.specs.Kept.{HasSlots};
@@ -36,7 +38,7 @@ use com_body::Outcome;
 use com_fates::{Fates, count_bodies, other_by, released_by};
 use com_ledger::Context;
 use com_model::{Deed, Entry, Scenario};
-use com_parts::{Change, Sent};
+use com_parts::{Begun, Change, Sent};
 use com_rules::{Doing, Issued};
 use com_scene::Actor;
 use com_servant::Servant;
@@ -117,7 +119,6 @@ impl Running {
         ensures ledger { self.new.ledger ≡ self.old.ledger }
         ensures moves { self.new.moves ≡ self.old.moves }
         ensures clock { self.new.clock ≡ self.old.clock }
-        ensures broken { self.new.broken ≡ self.old.broken }
     {
         let most = self
             .ledger
@@ -157,7 +158,6 @@ impl Running {
         ensures parts { self.new.parts ≡ self.old.parts }
         ensures ledger { self.new.ledger ≡ self.old.ledger }
         ensures clock { self.new.clock ≡ self.old.clock }
-        ensures broken { self.new.broken ≡ self.old.broken }
     {
         self.moves.fill(
             glance.home,
@@ -193,7 +193,6 @@ impl Running {
         ensures fallen { self.new.fallen ≡ self.old.fallen }
         ensures fresh { self.new.fresh ≡ self.old.fresh }
         ensures clock { self.new.clock ≡ self.old.clock }
-        ensures broken { self.new.broken ≡ self.old.broken }
     {
         let context = Context {
             home: glance.home,
@@ -208,32 +207,30 @@ impl Running {
         Ok(())
     }
 
-    // The parts after an entry. The only error is want of memory, and then they are as before but for room,
-    // and so is the step.
-    #[tactic(auto, using(crate::proofs::Whole::frame_fits))]
-    fn change_parts(
+    // Begins the change of the parts by an entry: takes all memory that they want for it. The step is only
+    // read. The only error is want of memory. Whatever is answered, the parts are as before but for room.
+    #[tactic(auto, using(crate::proofs::Whole::frame_fits, crate::proofs::Shown::parts_alike))]
+    fn begin_parts(
         &mut self,
         glance: Glance,
         acting: Actor,
-        outcome: &mut Option<Outcome>,
+        outcome: &Option<Outcome>,
         issued: Option<Issued>,
         entry: &Entry,
-    ) -> Result<(), Memory>
-        requires sound { Sound self.old.parts self.old.entered.counts }
-        requires deed { FitsDeed entry.now.deed }
-        requires whole { IsWhole outcome.old }
-        ensures becomes { OnOk result (Becomes self.old.parts self.new.parts entry.now
-            (acting_of acting) outcome.old
-            (acting_of glance.after) glance.filtered (sent_by issued) self.old.clock) }
-        ensures bodies { OnOk result (All HasSlots self.new.parts.scene.bodies) }
-        ensures same { OnErr result (parts_shown self.new.parts ≡ parts_shown self.old.parts) }
-        ensures step { OnErr result (outcome.new ≡ outcome.old) }
+    ) -> Result<Begun, Memory>
+        requires whole { IsWhole outcome.now }
+        ensures begun { IfOk result (λ begun. IsBegun self.new.parts (acting_of acting) outcome.now
+            (acting_of glance.after) entry.now.lane entry.now.deed begun) }
+        ensures issued { IfOk result (λ begun. begun.issued ≡ sent_by issued) }
+        ensures filtered { IfOk result (λ begun. begun.filtered ≡ glance.filtered) }
+        ensures time { IfOk result (λ begun. begun.clock ≡ self.old.clock) }
+        ensures same { parts_shown self.new.parts ≡ parts_shown self.old.parts }
         ensures entered { self.new.entered ≡ self.old.entered }
         ensures ledger { self.new.ledger ≡ self.old.ledger }
         ensures fallen { self.new.fallen ≡ self.old.fallen }
+        ensures moves { self.new.moves ≡ self.old.moves }
         ensures fresh { self.new.fresh ≡ self.old.fresh }
         ensures clock { self.new.clock ≡ self.old.clock }
-        ensures broken { self.new.broken ≡ self.old.broken }
     {
         let change = Change {
             lane: entry.lane,
@@ -244,9 +241,41 @@ impl Running {
             clock: self.clock,
             issued: sent_of(issued),
         };
-        let begun = self.parts.begin(change, outcome)?;
-        self.parts.finish(entry.lane, &entry.deed, begun);
-        Ok(())
+        self.parts.begin(change, outcome)
+    }
+
+    // The parts after an entry by which their change was begun. It takes no memory.
+    #[tactic(auto, using(crate::proofs::Whole::frame_fits))]
+    fn finish_parts(
+        &mut self,
+        glance: Glance,
+        acting: Actor,
+        outcome: &mut Option<Outcome>,
+        entry: &Entry,
+        begun: Begun,
+    )
+        requires bodies { All HasSlots self.old.parts.scene.bodies }
+        requires deed { FitsDeed entry.now.deed }
+        requires whole { IsWhole outcome.old }
+        requires begun { IsBegun self.old.parts (acting_of acting) outcome.old (acting_of glance.after)
+            entry.now.lane entry.now.deed begun }
+        ensures becomes { Becomes self.old.parts self.new.parts entry.now (acting_of acting) outcome.old
+            (acting_of glance.after) begun.filtered begun.issued begun.clock }
+        ensures bodies { All HasSlots self.new.parts.scene.bodies }
+        ensures entered { self.new.entered ≡ self.old.entered }
+        ensures ledger { self.new.ledger ≡ self.old.ledger }
+        ensures fallen { self.new.fallen ≡ self.old.fallen }
+        ensures fresh { self.new.fresh ≡ self.old.fresh }
+        ensures clock { self.new.clock ≡ self.old.clock }
+    {
+        self.parts.finish(
+            entry.lane,
+            &entry.deed,
+            acting,
+            glance.after,
+            outcome,
+            begun,
+        );
     }
 
     // The running bodies and the dying objects after the entry, whose parts and books are those after it.
@@ -266,7 +295,6 @@ impl Running {
         ensures parts { self.new.parts ≡ self.old.parts }
         ensures ledger { self.new.ledger ≡ self.old.ledger }
         ensures clock { self.new.clock ≡ self.old.clock }
-        ensures broken { self.new.broken ≡ self.old.broken }
     {
         count_bodies(&mut self.entered, deed, acting);
         let fates = Fates {
@@ -281,9 +309,9 @@ impl Running {
     }
 
     // Makes of all what an entry makes of it, with what it rests on. The only error is want of memory.
-    // Whatever may want it comes first: where the moves, room or the books want it, all is as before but for
-    // room. The scene takes memory as it changes, and comes last of this: where it wants it, the books have
-    // changed, and the core is broken. What comes behind cannot fail. The step is always as it was.
+    // Whatever may want it comes first: the moves, room, the parts' share, and the books, which change whole
+    // or not at all. So where one wants it, all is as before but for room, and so is the step. What comes
+    // behind the books cannot fail.
     #[tactic(auto, using(crate::proofs::Shown::as_moved, crate::proofs::Shown::held_alike))]
     fn change(
         &mut self,
@@ -300,7 +328,6 @@ impl Running {
         requires room { self.old.parts.entries < 1_000_000 }
         requires deed { FitsDeed entry.now.deed }
         requires whole { IsWhole outcome.old }
-        requires unbroken { self.old.broken ≡ false }
         ensures becomes { OnOk result (Becomes self.old.parts self.new.parts entry.now
             (acting_of acting) outcome.old
             (acting_of glance.after) glance.filtered (sent_by issued) self.old.clock) }
@@ -317,19 +344,15 @@ impl Running {
         ensures booked { OnOk result (BookedBy scenario.now self.old.parts glance.home glance.running
             carried.now entry.now (acting_of acting) outcome.old (acting_of glance.after) self.old.ledger
             self.new.ledger) }
-        ensures unbroken { OnOk result (self.new.broken ≡ false) }
-        ensures same { OnErr result (parts_shown self.new.parts ≡ parts_shown self.old.parts) }
-        ensures kept { OnErr result (self.new.entered.counts ≡ self.old.entered.counts) }
-        ensures err { OnErr result (self.new.broken ≡ false → IsAsBefore self.old self.new) }
+        ensures err { OnErr result (IsAsBefore self.old self.new) }
         ensures step { OnErr result (outcome.new ≡ outcome.old) }
     {
         self.prepare(glance, acting, outcome, entry)?;
+        let begun = self.begin_parts(glance, acting, outcome, issued, entry)?;
         self.book(scenario, glance, carried, entry)?;
-        self.broken = true;
-        self.change_parts(glance, acting, outcome, issued, entry)?;
+        self.finish_parts(glance, acting, outcome, entry, begun);
         self.settle(&entry.deed, acting);
         self.clock = ticked(&entry.deed, self.clock);
-        self.broken = false;
         Ok(())
     }
 
@@ -354,7 +377,6 @@ impl Running {
         carried: &[RefValue],
         entry: &Entry,
     ) -> Result<(), Memory>
-        requires unbroken { self.old.broken ≡ false }
         requires sound { Sound self.old.parts self.old.entered.counts }
         requires few { Few self.old.parts }
         requires whole { IsWhole outcome.old }
@@ -369,8 +391,7 @@ impl Running {
             self.old.entered.counts self.new.entered.counts self.old.fallen.objects self.new.fallen.objects
             self.old.clock entry.now (acting_of acting)
             outcome.old carried.now (sent_by issued)) }
-        ensures unbroken { OnOk result (self.new.broken ≡ false) }
-        ensures err { OnErr result (self.new.broken ≡ false → IsAsBefore self.old self.new) }
+        ensures err { OnErr result (IsAsBefore self.old self.new) }
         ensures step { OnErr result (outcome.new ≡ outcome.old) }
     {
         let glance = self.glance(scenario, entry);
@@ -386,7 +407,6 @@ impl Running {
         made: Turn,
         outcome: &mut Option<Outcome>,
     ) -> Result<Entry, Memory>
-        requires unbroken { self.old.broken ≡ false }
         requires sound { Sound self.old.parts self.old.entered.counts }
         requires few { Few self.old.parts }
         requires whole { IsWhole outcome.old }
@@ -401,8 +421,7 @@ impl Running {
         ensures entries { OnOk result (self.new.parts.entries ≡ self.old.parts.entries + 1) }
         ensures clock { IfOk result (λ entry. self.new.clock ≡ ticked entry.deed self.old.clock) }
         ensures next { IfOk result (λ entry. TurnsTo scenario.now lane self.old self.new entry) }
-        ensures unbroken { OnOk result (self.new.broken ≡ false) }
-        ensures err { OnErr result (self.new.broken ≡ false → IsAsBefore self.old self.new) }
+        ensures err { OnErr result (IsAsBefore self.old self.new) }
         ensures step { OnErr result (outcome.new ≡ outcome.old) }
     {
         let Turn { acting, doing } = made;
@@ -474,17 +493,12 @@ impl Running {
         ensures entries { OnOk result (self.new.parts.entries ≡ self.old.parts.entries + 1) }
         ensures clock { IfOk result (λ entry. self.new.clock ≡ ticked entry.deed self.old.clock) }
         ensures next { IfOk result (λ entry. TurnsTo scenario.now lane self.old self.new entry) }
-        ensures unbroken { OnOk result (self.new.broken ≡ false) }
-        ensures err { OnErr result (self.new.broken ≡ false → IsAsBefore self.old self.new) }
-        ensures was { OnOk result (self.old.broken ≡ false) }
+        ensures err { OnErr result (IsAsBefore self.old self.new) }
         ensures row { map kind_of servants.new.items ≡ row }
         ensures served { OnOk result (map stepped servants.new.items
             ≡ one_served (kind_seen (seen_by scenario.now
             self.old.parts self.old.fallen.objects self.old.clock) lane) (map stepped servants.old.items)) }
     {
-        if self.broken {
-            return Err(Memory);
-        }
         forget(step);
         let made = self.turn_of(scenario, alloc, lane, servants, step)?;
         if !self.can_make(&made.doing.deed) {
@@ -506,13 +520,8 @@ impl Running {
         ensures next { IfOk result (λ entry. IsWholeCore (kept_of scenario.now self.old)
             → standing_of scenario.now (core_state (kept_of scenario.now self.old)) ≡ standing.Ticks
             → Steps 0 (kept_of scenario.now self.old) (kept_of scenario.now self.new) entry) }
-        ensures unbroken { OnOk result (self.new.broken ≡ false) }
-        ensures err { OnErr result (self.new.broken ≡ false → IsAsBefore self.old self.new) }
-        ensures was { OnOk result (self.old.broken ≡ false) }
+        ensures err { OnErr result (IsAsBefore self.old self.new) }
     {
-        if self.broken {
-            return Err(Memory);
-        }
         let Some(clock) = self.parts.calls().next_time(self.clock) else {
             return Err(unproved());
         };

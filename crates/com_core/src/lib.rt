@@ -1,8 +1,9 @@
 //! The core of many lanes: the state of a runtime by parts, and the next entry of each lane.
 //!
 //! An entry is made in this order: who acts in the lane, the step of whoever does and the entry that the
-//! rules give; what the entry takes from places and brings to them; then the books, the parts, and the
-//! objects that begin to die.
+//! rules give; what the entry takes from places and brings to them, and all memory that the parts want; then
+//! the books, which change whole or not at all; and then the parts and the objects that begin to die, which
+//! want no memory. So an entry that finds none changes nothing.
 #![tactic(auto)]
 
 mod changing;

@@ -1,6 +1,6 @@
 //! All that a core keeps of a history beside its scenario, and how it is read.
 
-ghost use Rattle.std.specs.Prelude.{◌≡◌, ◌∷◌, [], false, IfOk, None, OnOk};
+ghost use Rattle.std.specs.Prelude.{◌≡◌, ◌∷◌, [], IfOk, None};
 ghost use Rattle.com_calls.specs.Kept.{IsNamed};
 ghost use Rattle.com_core.specs.Beginning.{BeginsParts};
 ghost use Rattle.com_core.specs.Sound.{Few, Sound};
@@ -21,8 +21,7 @@ use std::alloc::Global;
 
 /// What a core keeps of a history: the parts, who holds references, how many bodies of each object run, the
 /// dying objects, and the clock in milliseconds. `moves` and `fresh` are used again from entry to entry: what
-/// they hold between two entries means nothing. `broken` says that the books had changed by an entry when the
-/// scene found no memory for it.
+/// they hold between two entries means nothing.
 #[derive(Drop)]
 pub struct Running {
     pub parts: Parts,
@@ -32,7 +31,6 @@ pub struct Running {
     pub moves: Moves,
     pub fresh: Vec<u32>,
     pub clock: u64,
-    pub broken: bool,
 }
 
 /// The answer where an entry is none that the rules give, or the history is as long as it may be. No schedule
@@ -68,7 +66,6 @@ impl Running {
         ensures stands { IfOk result (λ running.
             BeginsParts scenario.now running.parts running.fallen.objects) }
         ensures held { IfOk result (λ running. IsNew running.ledger) }
-        ensures whole { IfOk result (λ running. running.broken ≡ false) }
         ensures entered { IfOk result (λ running. running.entered.counts ≡ 0 ∷ []) }
         ensures few { IfOk result (λ running. Few running.parts) }
         ensures entries { IfOk result (λ running. running.parts.entries ≡ 0) }
@@ -84,7 +81,6 @@ impl Running {
             moves: Moves::new(alloc),
             fresh: Vec::new(alloc),
             clock: 0,
-            broken: false,
         })
     }
 

@@ -1,9 +1,8 @@
 //! A runtime that makes one entry at a time.
 
-ghost use Rattle.std.specs.Prelude.{◌≡◌, ◌<◌, ◌≤◌, ◌^◌, ◌∷◌, ◌↔◌, [], IfErr, IfOk, IfSome, IsTrue, OnErr, OnOk};
-ghost use Rattle.std.specs.Prelude.{Some, false, length, map};
+ghost use Rattle.std.specs.Prelude.{◌≡◌, ◌<◌, ◌≤◌, ◌^◌, ◌∷◌, ◌↔◌, [], IfErr, IfOk, IsTrue, OnErr, OnOk};
+ghost use Rattle.std.specs.Prelude.{Some, length, map};
 ghost use Rattle.std.specs.Arc.{arc_value};
-ghost use Rattle.com_books.specs.Changes.{Books};
 ghost use Rattle.com_core.specs.Beginning.{BeginsParts};
 ghost use Rattle.com_core.specs.Seen.{IsFirst, IsWhole, Makes, Steps, core_state};
 ghost use Rattle.com_drive.specs.declared.runtime.Standing.TheVariants as standing;
@@ -14,7 +13,6 @@ ghost use Rattle.com_drive.specs.Reports.{counts_in};
 ghost use Rattle.com_drive.specs.Turns.{IsNext, served_in};
 ghost use Rattle.com_jobs.specs.declared.jobs.Next.TheVariants as next;
 ghost use Rattle.com_jobs.specs.Jobs.{Fits, HasShape, IsGivenBack, IsRefused, job_of, kept_in, next_in};
-ghost use Rattle.com_ledger.specs.Books.{books_held};
 ghost use Rattle.com_ledger.specs.Ties.{IsNew};
 ghost use Rattle.com_model.specs.Formed.{Formed};
 ghost use Rattle.com_model.specs.State.{objects_in};
@@ -52,7 +50,7 @@ pub struct Core {
 impl Model for Core {
     ghost use Rattle.std.specs.Prelude.{◌≡◌, ◌<◌, ◌^◌, length};
     ghost use Rattle.std.specs.Arc.{arc_value};
-    ghost use Rattle.com_core.specs.Seen.{CoreView, KeptUnless, core_of};
+    ghost use Rattle.com_core.specs.Seen.{CoreView, IsKeptIfFormed, core_of};
     ghost use Rattle.com_core.specs.Sound.{Few, Sound};
     ghost use Rattle.com_model.specs.Tables.{lanes};
 
@@ -63,24 +61,7 @@ impl Model for Core {
     ghost invariant = { λ c. Sound c.running.parts c.running.entered.counts
         × Few c.running.parts
         × (c.count ≡ lanes (arc_value c.scenario)) × (length (arc_value c.scenario).threads < 2 ^ 32)
-        × KeptUnless (core_of (arc_value c.scenario) c.running) };
-}
-
-// How many lanes a scenario has: one for each thread, the host's, and the pool's. `None` only where a number
-// of 32 bits does not hold that.
-fn lanes_of(scenario: &Scenario) -> Option<u32>
-    ensures count { IfSome result (λ count. count ≡ lanes scenario.now) }
-    ensures threads { IfSome result (λ count. length scenario.now.threads < 2 ^ 32) }
-{
-    let threads = scenario.threads.len();
-    if threads >= 0x1000_0000 {
-        return None;
-    }
-    let lanes = threads as u64 + 1 + scenario.pool as u64;
-    if lanes > 0xFFFF_FFFF {
-        return None;
-    }
-    Some(lanes as u32)
+        × IsKeptIfFormed (core_of (arc_value c.scenario) c.running) };
 }
 
 impl Core {
@@ -88,7 +69,6 @@ impl Core {
     pub fn new(alloc: Global, scenario: Arc<Scenario>) -> Result<Core, Memory>
         ensures scenario { IfOk result (λ core. core.scenario ≡ arc_value scenario) }
         ensures begins { IfOk result (λ core. BeginsParts (arc_value scenario) core.parts core.fallen) }
-        ensures whole { IfOk result (λ core. core.broken ≡ false) }
         ensures entered { IfOk result (λ core. core.entered ≡ 0 ∷ []) }
         ensures held { IfOk result (λ core. IsNew core.held) }
         ensures first { IfOk result (λ core. Formed (arc_value scenario)
@@ -96,7 +76,7 @@ impl Core {
         ensures entries { IfOk result (λ core. core.parts.entries ≡ 0) }
         ensures clock { IfOk result (λ core. core.clock ≡ 0) }
     {
-        let Some(count) = lanes_of(&scenario) else {
+        let Some(count) = scenario.lanes() else {
             return Err(unproved());
         };
         let running = Running::new(alloc, &scenario)?;
@@ -164,7 +144,7 @@ impl Core {
 
     /// What a report counts of an object, from 1 to `objects`.
     pub fn counts(&self, object: u32) -> Counts
-        ensures { IsReached self.now.scenario (core_state self.now) → self.now.broken ≡ false
+        ensures { IsReached self.now.scenario (core_state self.now)
             → result ≡ counts_in self.now.scenario (core_state self.now) object }
     {
         let numbers = self.running.ledger.counts(object);
@@ -183,9 +163,8 @@ impl Core {
     /// Makes the next entry of a lane that can step. Where a body runs in the lane, the servant of its
     /// class's kind computes the step. The row has one servant of each kind, in the order of the kinds.
     ///
-    /// The only error is want of memory. Nothing has changed then, but where the scene wanted it when the
-    /// books had changed: then the runtime makes no more entries, and each later step answers want of memory.
-    /// A servant may have counted a step whose entry was not made.
+    /// The only error is want of memory, and then nothing has changed: where there is memory again, the same
+    /// step makes the entry. A servant may have counted a step whose entry was not made.
     pub fn step(
         &mut self,
         alloc: Global,
@@ -197,8 +176,7 @@ impl Core {
         ensures next { IfOk result (λ entry. IsWhole self.old → Steps lane self.old self.new entry) }
         ensures follows { IfOk result (λ entry. Formed self.old.scenario
             → IsNext self.old.scenario (core_state self.old) lane entry (core_state self.new)) }
-        ensures whole { OnOk result (self.new.broken ≡ false) }
-        ensures err { OnErr result (self.new.broken ≡ false → self.new ≡ self.old) }
+        ensures err { OnErr result (self.new ≡ self.old) }
         ensures scenario { self.new.scenario ≡ self.old.scenario }
         ensures row { map kind_of servants.new.items ≡ row }
         ensures served { OnOk result (map stepped servants.new.items
@@ -215,13 +193,12 @@ impl Core {
     }
 
     /// Makes the clock's entry, where the clock goes on: to the least time that a call waits for. The only
-    /// error is want of memory, as for `step`.
+    /// error is want of memory, and then nothing has changed.
     pub fn tick(&mut self) -> Result<Entry, Memory>
         ensures entry { IfOk result (λ entry. Makes 0 self.old self.new entry) }
         ensures follows { IfOk result (λ entry. Formed self.old.scenario
             → IsNext self.old.scenario (core_state self.old) 0 entry (core_state self.new)) }
-        ensures whole { OnOk result (self.new.broken ≡ false) }
-        ensures err { OnErr result (self.new.broken ≡ false → self.new ≡ self.old) }
+        ensures err { OnErr result (self.new ≡ self.old) }
         ensures scenario { self.new.scenario ≡ self.old.scenario }
     {
         if self.standing() != Standing::Ticks {
@@ -238,8 +215,7 @@ impl Core {
         ensures follows { IfOk result (λ entry. Formed self.old.scenario
             → IsNext self.old.scenario (core_state self.old) 0 entry (core_state self.new)) }
         ensures next { IfOk result (λ entry. IsWhole self.old → Steps 0 self.old self.new entry) }
-        ensures whole { OnOk result (self.new.broken ≡ false) }
-        ensures err { OnErr result (self.new.broken ≡ false → self.new ≡ self.old) }
+        ensures err { OnErr result (self.new ≡ self.old) }
         ensures scenario { self.new.scenario ≡ self.old.scenario }
     {
         self.running.tick(&self.scenario)
@@ -291,8 +267,8 @@ impl Core {
     /// Makes the next entry of a lane in which a body acts, by the outcome of a job that fits it.
     ///
     /// `Stale` comes exactly where the object's cells differ from the job's, which is tested first. `Memory`
-    /// is want of memory, as for `step`. The job comes back after either, and after the latter the outcome
-    /// too.
+    /// is want of memory. After either nothing has changed, and the job comes back; after the latter the
+    /// outcome too.
     pub fn commit(
         &mut self,
         alloc: Global,
@@ -309,11 +285,9 @@ impl Core {
         ensures follows { IfOk result (λ entry. Formed self.old.scenario
             → IsNext self.old.scenario (core_state self.old) lane entry (core_state self.new)) }
         ensures fresh { OnOk result (job.cells ≡ kept_in (core_state self.old) lane) }
-        ensures refused { IfErr result (λ error. IsRefused (kept_in (core_state self.old) lane) job
-            self.old.broken self.new.broken error) }
+        ensures refused { IfErr result (IsRefused (kept_in (core_state self.old) lane) job) }
         ensures back { IfErr result (IsGivenBack job outcome) }
-        ensures whole { OnOk result (self.new.broken ≡ false) }
-        ensures err { OnErr result (self.new.broken ≡ false → self.new ≡ self.old) }
+        ensures err { OnErr result (self.new ≡ self.old) }
         ensures scenario { self.new.scenario ≡ self.old.scenario }
     {
         self.running
@@ -329,8 +303,7 @@ impl Core {
         ensures next { IfOk result (λ entry. IsWhole self.old → Steps lane self.old self.new entry) }
         ensures follows { IfOk result (λ entry. Formed self.old.scenario
             → IsNext self.old.scenario (core_state self.old) lane entry (core_state self.new)) }
-        ensures whole { OnOk result (self.new.broken ≡ false) }
-        ensures err { OnErr result (self.new.broken ≡ false → self.new ≡ self.old) }
+        ensures err { OnErr result (self.new ≡ self.old) }
         ensures scenario { self.new.scenario ≡ self.old.scenario }
     {
         self.running
@@ -338,7 +311,7 @@ impl Core {
     }
 
     /// Makes the next entry of a lane that needs no servant, or of lane 0 the clock's entry, where the clock
-    /// goes on. The only error is want of memory, as for `step`.
+    /// goes on. The only error is want of memory, and then nothing has changed.
     pub fn advance(&mut self, alloc: Global, lane: u32) -> Result<Entry, Memory>
         requires below { lane ≤ lanes self.old.scenario }
         requires clock { lane ≡ 0 → standing_of self.old.scenario (core_state self.old) ≡ standing.Ticks }
@@ -346,8 +319,7 @@ impl Core {
         ensures entry { IfOk result (λ entry. Makes lane self.old self.new entry) }
         ensures follows { IfOk result (λ entry. Formed self.old.scenario
             → IsNext self.old.scenario (core_state self.old) lane entry (core_state self.new)) }
-        ensures whole { OnOk result (self.new.broken ≡ false) }
-        ensures err { OnErr result (self.new.broken ≡ false → self.new ≡ self.old) }
+        ensures err { OnErr result (self.new ≡ self.old) }
         ensures scenario { self.new.scenario ≡ self.old.scenario }
     {
         if lane == 0 {
@@ -361,8 +333,6 @@ impl Runtime for Core {
     ghost scenario = { λ c. c.scenario };
 
     ghost state = { λ c. core_state c };
-
-    ghost broken = { λ c. c.broken };
 
     fn lanes(&self) -> u32 {
         Core::lanes(self)

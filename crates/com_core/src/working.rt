@@ -48,9 +48,6 @@ impl Running {
             job_of scenario.now (core_state (kept_of scenario.now self.now)) lane ≡ Some job) }
         ensures class { IfOk result (λ job. IsOfItsClass scenario.now.classes job) }
     {
-        if self.broken {
-            return Err(Memory);
-        }
         let view = self.view(scenario);
         let Some(Opener::Enters { call, object, .. }) = view.lanes.top(lane) else {
             return Err(unproved());
@@ -128,14 +125,9 @@ impl Running {
         ensures entries { OnOk result (self.new.parts.entries ≡ self.old.parts.entries + 1) }
         ensures clock { IfOk result (λ entry. self.new.clock ≡ ticked entry.deed self.old.clock) }
         ensures next { IfOk result (λ entry. TurnsTo scenario.now lane self.old self.new entry) }
-        ensures unbroken { OnOk result (self.new.broken ≡ false) }
-        ensures err { OnErr result (self.new.broken ≡ false → IsAsBefore self.old self.new) }
-        ensures was { OnOk result (self.old.broken ≡ false) }
+        ensures err { OnErr result (IsAsBefore self.old self.new) }
         ensures back { IfErr result (λ step. step ≡ outcome) }
     {
-        if self.broken {
-            return Err(outcome);
-        }
         let Ok(made) = self.given_turn_of(scenario, alloc, lane, &outcome) else {
             return Err(outcome);
         };
@@ -173,12 +165,9 @@ impl Running {
         ensures fresh { OnOk result
             (job.cells ≡ kept_in (core_state (kept_of scenario.now self.old)) lane) }
         ensures refused { IfErr result (λ error.
-            IsRefused (kept_in (core_state (kept_of scenario.now self.old)) lane) job
-            self.old.broken self.new.broken error) }
+            IsRefused (kept_in (core_state (kept_of scenario.now self.old)) lane) job error) }
         ensures back { IfErr result (IsGivenBack job outcome) }
-        ensures unbroken { OnOk result (self.new.broken ≡ false) }
-        ensures err { OnErr result (self.new.broken ≡ false → IsAsBefore self.old self.new) }
-        ensures was { OnOk result (self.old.broken ≡ false) }
+        ensures err { OnErr result (IsAsBefore self.old self.new) }
     {
         let kept = self.kept(lane);
         if !same_cells(&job.cells, &kept) {
@@ -234,13 +223,8 @@ impl Running {
         ensures entries { OnOk result (self.new.parts.entries ≡ self.old.parts.entries + 1) }
         ensures clock { IfOk result (λ entry. self.new.clock ≡ ticked entry.deed self.old.clock) }
         ensures next { IfOk result (λ entry. TurnsTo scenario.now lane self.old self.new entry) }
-        ensures unbroken { OnOk result (self.new.broken ≡ false) }
-        ensures err { OnErr result (self.new.broken ≡ false → IsAsBefore self.old self.new) }
-        ensures was { OnOk result (self.old.broken ≡ false) }
+        ensures err { OnErr result (IsAsBefore self.old self.new) }
     {
-        if self.broken {
-            return Err(Memory);
-        }
         forget(step);
         let made = self.own_turn_of(scenario, alloc, lane, step)?;
         if !self.can_make(&made.doing.deed) {

@@ -1,5 +1,5 @@
 //! The end of a replay: the report behind the lines, and the answer.
-ghost use Rattle.std.specs.Prelude.{◌≡◌, ℕ, ◌≤◌, ◌++◌, false, IfOk, OnOk, Err};
+ghost use Rattle.std.specs.Prelude.{◌≡◌, ℕ, ◌≤◌, ◌++◌, IfOk, OnOk, Err};
 ghost use Rattle.com_io.specs.Faults.{Rose};
 ghost use Rattle.com_io.specs.Told.{Gains, GainsPrefix};
 ghost use Rattle.com_model.specs.Text.{report_text};
@@ -24,7 +24,6 @@ pub fn all_counts<C: Runtime>(
 ) -> Result<Vec<Counts>, Memory>
     requires scenario { C.scenario runtime.now ≡ scenario.now }
     requires reached { Reached scenario.now (C.state runtime.now) }
-    requires whole { C.broken runtime.now ≡ false }
     ensures { IfOk result (λ all. all.items ≡ all_counts_in scenario.now (C.state runtime.now)) }
 {
     let mut all = Vec::new(alloc);
@@ -48,7 +47,6 @@ pub fn finish<C: Runtime, K: Sink>(
 ) -> Result<Replayed, ReplayError>
     requires scenario { C.scenario runtime.now ≡ scenario.now }
     requires reached { Reached scenario.now (C.state runtime.now) }
-    requires whole { C.broken runtime.now ≡ false }
     ensures ok { OnOk result (Gains (K.held sink.old) (K.held sink.new) (kept.old
         ++ report_text (all_counts_in scenario.now (C.state runtime.now))
         (C.state runtime.now).entries (C.state runtime.now).clock ended)) }

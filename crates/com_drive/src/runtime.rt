@@ -1,5 +1,5 @@
 //! A runtime that keeps the rules, as the schedule sees it.
-ghost use Rattle.std.specs.Prelude.{◌≡◌, ℕ, ◌<◌, ◌≤◌, Bool, true, false, map, IfOk, OnOk, OnErr};
+ghost use Rattle.std.specs.Prelude.{◌≡◌, ℕ, ◌<◌, ◌≤◌, true, map, IfOk, OnOk, OnErr};
 ghost use Rattle.com_model.specs.declared.scenario.Scenario.{Scenario as AnyScenario};
 ghost use Rattle.com_model.specs.Tables.{lanes};
 ghost use Rattle.com_model.specs.Ends.{limit};
@@ -31,17 +31,14 @@ pub enum Standing {
 /// A runtime that keeps the rules, and makes one entry at a time.
 ///
 /// The meaning of a runtime is its scenario, which never changes, and its state: the tables of the rules.
-/// What it answers, it answers of a state that stands for a history. A runtime that ran out of memory in the
-/// middle of an entry is broken, and makes no entry any more.
+/// What it answers, it answers of a state that stands for a history. An entry that finds no memory changes
+/// nothing.
 pub trait Runtime {
     // The scenario that it runs.
     ghost scenario: { Self → AnyScenario };
 
     // The tables as they stand.
     ghost state: { Self → State };
-
-    // Whether it ran out of memory in the middle of an entry.
-    ghost broken: { Self → Bool };
 
     /// How many lanes there are. They are numbered from 1: the threads in order, the host STA's lane, then
     /// the pool's.
@@ -77,14 +74,13 @@ pub trait Runtime {
         requires above { 1 ≤ object }
         requires below { object ≤ objects_in (state self.now) }
         requires reached { Reached (scenario self.now) (state self.now) }
-        requires whole { broken self.now ≡ false }
         ensures { result ≡ counts_in (scenario self.now) (state self.now) object };
 
     /// Makes the next entry of a lane that can step. Where a body runs in the lane, the servant of its
     /// class's kind computes the step. The row has one servant of each kind, in the order of the kinds.
     ///
-    /// The only error is want of memory, and then the state is as before, or the runtime is broken; a servant
-    /// may have counted a step whose entry was not made.
+    /// The only error is want of memory, and then the state is as before; a servant may have counted a step
+    /// whose entry was not made.
     fn step(
         &mut self,
         alloc: Global,
@@ -95,29 +91,25 @@ pub trait Runtime {
         requires below { lane ≤ lanes (scenario self.old) }
         requires can { can_step_in (scenario self.old) (state self.old) lane ≡ true }
         requires reached { Reached (scenario self.old) (state self.old) }
-        requires whole { broken self.old ≡ false }
         requires room { (state self.old).entries < limit (scenario self.old) }
         requires row { map kind_of servants.old.items ≡ row }
         ensures scenario { scenario self.new ≡ scenario self.old }
         ensures entry { IfOk result (λ entry. IsNext (scenario self.old) (state self.old) lane entry
             (state self.new)) }
-        ensures whole { OnOk result (broken self.new ≡ false) }
-        ensures err { OnErr result (broken self.new ≡ false → state self.new ≡ state self.old) }
+        ensures err { OnErr result (state self.new ≡ state self.old) }
         ensures row { map kind_of servants.new.items ≡ row }
         ensures served { OnOk result (map stepped servants.new.items
             ≡ served_in (scenario self.old) (state self.old) lane (map stepped servants.old.items)) };
 
     /// Makes the clock's entry, where the clock goes on: to the least time that a call waits for.
     ///
-    /// The only error is want of memory, and then the state is as before, or the runtime is broken.
+    /// The only error is want of memory, and then the state is as before.
     fn tick(&mut self) -> Result<Entry, Memory>
         requires due { standing_of (scenario self.old) (state self.old) ≡ standing.Ticks }
         requires reached { Reached (scenario self.old) (state self.old) }
-        requires whole { broken self.old ≡ false }
         requires room { (state self.old).entries < limit (scenario self.old) }
         ensures scenario { scenario self.new ≡ scenario self.old }
         ensures entry { IfOk result (λ entry. IsNext (scenario self.old) (state self.old) 0 entry
             (state self.new)) }
-        ensures whole { OnOk result (broken self.new ≡ false) }
-        ensures err { OnErr result (broken self.new ≡ false → state self.new ≡ state self.old) };
+        ensures err { OnErr result (state self.new ≡ state self.old) };
 }

@@ -1,5 +1,5 @@
 //! A history entry by entry: each step is one turn of the schedule and one line.
-ghost use Rattle.std.specs.Prelude.{◌≡◌, ℕ, ◌<◌, ◌≤◌, ◌+◌, ◌++◌, [], true, false, None, IfOk, IfSome, OnOk};
+ghost use Rattle.std.specs.Prelude.{◌≡◌, ℕ, ◌<◌, ◌≤◌, ◌+◌, ◌++◌, [], true, None, IfOk, IfSome, OnOk};
 ghost use Rattle.std.specs.Prelude.{Err, OnErr, map, drop};
 ghost use Rattle.com_io.specs.Faults.{Rose};
 ghost use Rattle.com_io.specs.Told.{Gains, GainsPrefix};
@@ -77,10 +77,8 @@ impl Stream {
         requires entries { (C.state runtime.old).entries ≤ limit scenario.now }
         requires last { self.old.last ≤ lanes scenario.now }
         requires reached { Reached (C.scenario runtime.old) (C.state runtime.old) }
-        requires whole { C.broken runtime.old ≡ false }
         requires row { map kind_of servants.old.items ≡ row }
         ensures scenario { C.scenario runtime.new ≡ scenario.now }
-        ensures whole { OnOk result (C.broken runtime.new ≡ false) }
         ensures turn { IfOk result (λ entry. IsTurn scenario.now (C.state runtime.old)
             (drop self.old.tried scenario.now.picks) self.old.last
             entry (C.state runtime.new) (drop self.new.tried scenario.now.picks) self.new.last) }
@@ -118,10 +116,8 @@ impl Stream {
         requires entries { (C.state runtime.old).entries ≤ limit scenario.now }
         requires last { self.old.last ≤ lanes scenario.now }
         requires reached { Reached (C.scenario runtime.old) (C.state runtime.old) }
-        requires whole { C.broken runtime.old ≡ false }
         requires row { map kind_of servants.old.items ≡ row }
         ensures scenario { C.scenario runtime.new ≡ scenario.now }
-        ensures whole { OnOk result (C.broken runtime.new ≡ false) }
         ensures turn { IfOk result (λ entry. IsTurn scenario.now (C.state runtime.old)
             (drop self.old.tried scenario.now.picks) self.old.last
             entry (C.state runtime.new) (drop self.new.tried scenario.now.picks) self.new.last) }
@@ -164,13 +160,11 @@ impl Stream {
         requires scenario { C.scenario runtime.old ≡ scenario.now }
         requires entries { (C.state runtime.old).entries ≤ limit scenario.now }
         requires reached { Reached scenario.now (C.state runtime.old) }
-        requires whole { C.broken runtime.old ≡ false }
         requires last { self.old.last ≤ lanes scenario.now }
         requires row { map kind_of servants.old.items ≡ row }
         ensures scenario { C.scenario runtime.new ≡ scenario.now }
         ensures entries { OnOk result ((C.state runtime.new).entries ≤ limit scenario.now) }
         ensures reached { OnOk result (Reached scenario.now (C.state runtime.new)) }
-        ensures whole { OnOk result (C.broken runtime.new ≡ false) }
         ensures last { self.new.last ≤ lanes scenario.now }
         ensures row { map kind_of servants.new.items ≡ row }
         ensures step { IfOk result (λ step. StepsTo scenario.now (record {
@@ -232,7 +226,6 @@ impl Stream {
     ) -> Result<Replayed, ReplayError>
         requires scenario { C.scenario runtime.now ≡ scenario.now }
         requires reached { Reached scenario.now (C.state runtime.now) }
-        requires whole { C.broken runtime.now ≡ false }
         ensures ok { OnOk result (Gains (K.held sink.old) (K.held sink.new) (self.old.lines
             ++ report_text (all_counts_in scenario.now (C.state runtime.now))
             (C.state runtime.now).entries (C.state runtime.now).clock ended)) }

@@ -44,7 +44,6 @@ pub fn explained_on<C: Runtime>(
     requires lawful { IsLawful scenario.now history.now }
     requires scenario { C.scenario runtime.old ≡ scenario.now }
     requires first { C.state runtime.old ≡ first_tables scenario.now }
-    requires whole { C.broken runtime.old ≡ false }
     ensures { IfOk result (λ waits. waits ≡ explained_by scenario.now history.now) }
 {
     let is_stuck = is_stuck_on(alloc, scenario, runtime, history)?;
@@ -65,7 +64,6 @@ pub fn explain_on<C: Runtime>(
     requires few { length history.now ≤ limit scenario.now }
     requires scenario { C.scenario runtime.old ≡ scenario.now }
     requires first { C.state runtime.old ≡ first_tables scenario.now }
-    requires whole { C.broken runtime.old ≡ false }
     ensures waits { IfOk result (λ waits. stuck scenario.now (told history.now) ≡ true
         → waits ≡ Some (explanation scenario.now (told history.now))) }
     ensures none { IfOk result (λ waits. waits ≡ None

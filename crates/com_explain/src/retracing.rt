@@ -1,5 +1,5 @@
 //! Making a history again, on any runtime that keeps the rules.
-ghost use Rattle.std.specs.Prelude.{◌≡◌, false, IfOk, map};
+ghost use Rattle.std.specs.Prelude.{◌≡◌, IfOk, map};
 ghost use Rattle.com_model.specs.State.{first_tables};
 ghost use Rattle.com_servant.specs.Rows.{row};
 ghost use Rattle.com_explain.specs.Stuck.{IsLawful, is_stuck, is_stuck_by};
@@ -30,7 +30,6 @@ pub fn stuck_after<C: Runtime>(
     requires lawful { IsLawful scenario.now history.now }
     requires scenario { C.scenario runtime.old ≡ scenario.now }
     requires first { C.state runtime.old ≡ first_tables scenario.now }
-    requires whole { C.broken runtime.old ≡ false }
     requires row { map kind_of servants.old.items ≡ row }
     ensures { IfOk result (λ yes. yes ≡ is_stuck_by scenario.now history.now) }
 {

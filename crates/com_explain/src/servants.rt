@@ -1,5 +1,5 @@
 //! The row of servants by which a history is made again.
-ghost use Rattle.std.specs.Prelude.{◌≡◌, false, IfOk};
+ghost use Rattle.std.specs.Prelude.{◌≡◌, IfOk};
 ghost use Rattle.com_model.specs.State.{first_tables};
 ghost use Rattle.com_explain.specs.Stuck.{IsLawful, is_stuck_by};
 
@@ -7,8 +7,7 @@ use crate::retracing::stuck_after;
 use com_base::Memory;
 use com_drive::Runtime;
 use com_model::{Entry, Scenario};
-use com_retrace::{boxed, row_of};
-use com_servant::{Counter, Interpreter, Latch, Relay};
+use com_retrace::fresh_row;
 use std::alloc::Global;
 
 /// Whether a legal history of a formed scenario is stuck, by its entries in the order of their making, on a
@@ -23,15 +22,8 @@ pub fn is_stuck_on<C: Runtime>(
     requires lawful { IsLawful scenario.now history.now }
     requires scenario { C.scenario runtime.old ≡ scenario.now }
     requires first { C.state runtime.old ≡ first_tables scenario.now }
-    requires whole { C.broken runtime.old ≡ false }
     ensures { IfOk result (λ yes. yes ≡ is_stuck_by scenario.now history.now) }
 {
-    let mut servants = row_of(
-        alloc,
-        boxed(alloc, Interpreter::new())?,
-        boxed(alloc, Counter::new())?,
-        boxed(alloc, Relay::new())?,
-        boxed(alloc, Latch::new())?,
-    )?;
+    let mut servants = fresh_row!(alloc);
     stuck_after(alloc, scenario, runtime, &mut servants, history)
 }

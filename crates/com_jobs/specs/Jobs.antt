@@ -85,11 +85,11 @@ pub record Fits (s : Scenario) (st : State) (l : ℕ) (job : Job) : Type 0 where
   pub body : next_in s st l ≡ next.Body
   pub same : job_of s st l ≡ Some (record job { cells = kept_in st l })
 
--- A job is refused as stale where the object's cells differ from the job's, and then the runtime is as it
--- was. Memory can be wanting only where they are the same.
-abbrev pub IsRefused : (kept : Cells) → Job → (was is : Bool) → CommitError → Type 0
-IsRefused kept job was is (error.Stale j found) = (found ≡ kept) × (¬ (job.cells ≡ kept)) × (is ≡ was)
-IsRefused kept job was is (error.Memory j r) = job.cells ≡ kept
+-- A job is refused as stale where the object's cells differ from the job's. Memory can be wanting only where
+-- they are the same.
+abbrev pub IsRefused : (kept : Cells) → Job → CommitError → Type 0
+IsRefused kept job (error.Stale j found) = (found ≡ kept) × ¬ (job.cells ≡ kept)
+IsRefused kept job (error.Memory j r) = job.cells ≡ kept
 
 -- The job comes back, and with want of memory the outcome too.
 abbrev pub IsGivenBack : Job → Outcome → CommitError → Type 0

@@ -1,6 +1,6 @@
 //! A runtime that hands out the steps of bodies as jobs.
 
-ghost use Rattle.std.specs.Prelude.{◌≡◌, ◌<◌, ◌≤◌, ◌↔◌, false, IfErr, IfOk, IsTrue, OnErr, OnOk, Some};
+ghost use Rattle.std.specs.Prelude.{◌≡◌, ◌<◌, ◌≤◌, ◌↔◌, IfErr, IfOk, IsTrue, OnErr, OnOk, Some};
 ghost use Rattle.com_drive.specs.declared.runtime.Standing.TheVariants as standing;
 ghost use Rattle.com_drive.specs.Standings.{standing_of, Reached};
 ghost use Rattle.com_drive.specs.Turns.{IsNext};
@@ -63,9 +63,8 @@ pub trait Jobs: Runtime {
 
     /// Makes the next entry of a lane in which a body acts, by the outcome of a job that fits it.
     ///
-    /// `Stale` comes exactly where the object's cells differ from the job's, which is tested first, and then
-    /// nothing has changed. `Memory` is want of memory; then the state is as before, or the runtime is
-    /// broken.
+    /// `Stale` comes exactly where the object's cells differ from the job's, which is tested first. `Memory`
+    /// is want of memory. After either the state is as before.
     fn commit(
         &mut self,
         alloc: Global,
@@ -78,23 +77,19 @@ pub trait Jobs: Runtime {
         requires fits { Fits (Self.scenario self.old) (Self.state self.old) lane job }
         requires outcome { outcome ≡ job_step (Self.scenario self.old).classes job }
         requires reached { Reached (Self.scenario self.old) (Self.state self.old) }
-        requires whole { Self.broken self.old ≡ false }
         requires room { (Self.state self.old).entries < limit (Self.scenario self.old) }
         ensures scenario { Self.scenario self.new ≡ Self.scenario self.old }
         ensures entry { IfOk result (λ entry. IsNext (Self.scenario self.old) (Self.state self.old) lane
             entry (Self.state self.new)) }
         ensures fresh { OnOk result (job.cells ≡ kept_in (Self.state self.old) lane) }
-        ensures refused { IfErr result (λ error. IsRefused (kept_in (Self.state self.old) lane) job
-            (Self.broken self.old) (Self.broken self.new) error) }
+        ensures refused { IfErr result (IsRefused (kept_in (Self.state self.old) lane) job) }
         ensures back { IfErr result (IsGivenBack job outcome) }
-        ensures whole { OnOk result (Self.broken self.new ≡ false) }
-        ensures err { OnErr result (Self.broken self.new ≡ false
-            → Self.state self.new ≡ Self.state self.old) };
+        ensures err { OnErr result (Self.state self.new ≡ Self.state self.old) };
 
     /// Makes the next entry of a lane that needs no servant, or of lane 0 the clock's entry, where the clock
     /// goes on.
     ///
-    /// The only error is want of memory, and then the state is as before, or the runtime is broken.
+    /// The only error is want of memory, and then the state is as before.
     fn advance(&mut self, alloc: Global, lane: u32) -> Result<Entry, Memory>
         requires below { lane ≤ lanes (Self.scenario self.old) }
         requires clock { lane ≡ 0
@@ -102,12 +97,9 @@ pub trait Jobs: Runtime {
         requires own { 1 ≤ lane
             → next_in (Self.scenario self.old) (Self.state self.old) lane ≡ next.Own }
         requires reached { Reached (Self.scenario self.old) (Self.state self.old) }
-        requires whole { Self.broken self.old ≡ false }
         requires room { (Self.state self.old).entries < limit (Self.scenario self.old) }
         ensures scenario { Self.scenario self.new ≡ Self.scenario self.old }
         ensures entry { IfOk result (λ entry. IsNext (Self.scenario self.old) (Self.state self.old) lane
             entry (Self.state self.new)) }
-        ensures whole { OnOk result (Self.broken self.new ≡ false) }
-        ensures err { OnErr result (Self.broken self.new ≡ false
-            → Self.state self.new ≡ Self.state self.old) };
+        ensures err { OnErr result (Self.state self.new ≡ Self.state self.old) };
 }

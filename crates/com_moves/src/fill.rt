@@ -227,10 +227,10 @@ impl Moves {
     ) -> Result<(), Memory>
         requires deed { FitsDeed deed.now }
         requires outcome { IsWhole outcome.now }
-        requires bodies { BodiesWhole scene.now }
+        requires bodies { BodiesWhole scene.now.tables }
         ensures { OnOk result (self.new ≡ together self.old (record {
           lost = all_moved (entered_where (admission_at calls.now.tables call))
-              (slots_stepped scene.now (acting_of acting) outcome.now deed.now (Body call 0));
+              (slots_stepped scene.now.tables (acting_of acting) outcome.now deed.now (Body call 0));
           gained = result_at calls.now.tables call value.now;
         })) }
     {
@@ -261,7 +261,7 @@ impl Moves {
     ) -> Result<(), Memory>
         requires deed { FitsDeed deed.now }
         requires outcome { IsWhole outcome.now }
-        requires after { FrameWhole scene.now (acting_of after) }
+        requires after { FrameWhole scene.now.tables (acting_of after) }
         ensures { OnOk result (self.new ≡ together self.old (together
             (record {
               lost = result_at calls.now.tables call
@@ -269,8 +269,8 @@ impl Moves {
               gained = [];
             })
             (given_moves apartment
-            (slots_stepped scene.now (acting_of acting) outcome.now deed.now (acting_of after))
-            (destination_at scene.now call) value.now))) }
+            (slots_stepped scene.now.tables (acting_of acting) outcome.now deed.now (acting_of after))
+            (destination_at scene.now.tables call) value.now))) }
     {
         self.lose_result(calls, call)?;
         let slots = slots_after(scene, acting, outcome, deed, after);
@@ -292,7 +292,7 @@ impl Moves {
         ensures { OnOk result (self.new ≡ record self.old {
           lost = self.old.lost
               ++ (if named_at objects.now.tables object == apartment
-              then all_moved (Some apartment) (links_stepped scene.now (acting_of acting)
+              then all_moved (Some apartment) (links_stepped scene.now.tables (acting_of acting)
               outcome.now deed.now object)
               else []);
         }) }
@@ -332,7 +332,7 @@ impl Moves {
         requires outcome { IsWhole outcome.now }
         ensures { OnOk result (self.new ≡ together self.old (record {
           lost = all_moved home
-              (slots_stepped scene.now (acting_of acting) outcome.now deed.now (Script lane));
+              (slots_stepped scene.now.tables (acting_of acting) outcome.now deed.now (Script lane));
           gained = [];
         })) }
     {
@@ -353,7 +353,7 @@ impl Moves {
         requires { FitsDeed deed.now }
         ensures { OnOk result (self.new ≡ together self.old (record {
           lost = all_moved (Some (named_at objects.now.tables object))
-              (links_stepped scene.now (acting_of acting) outcome.now deed.now object);
+              (links_stepped scene.now.tables (acting_of acting) outcome.now deed.now object);
           gained = [];
         })) }
     {
@@ -378,11 +378,11 @@ impl Moves {
     ) -> Result<(), Memory>
         requires deed { FitsDeed deed.now }
         requires outcome { IsWhole outcome.now }
-        requires bodies { BodiesWhole scene.now }
-        requires after { FrameWhole scene.now (acting_of after) }
+        requires bodies { BodiesWhole scene.now.tables }
+        requires after { FrameWhole scene.now.tables (acting_of after) }
         ensures { OnOk result (self.new
             ≡ together self.old (arrived_stepped (ground_at home objects.now.tables calls.now.tables)
-            scene.now (acting_of acting) outcome.now (acting_of after) lane deed.now)) }
+            scene.now.tables (acting_of acting) outcome.now (acting_of after) lane deed.now)) }
     {
         match deed {
             Deed::Leave { call, value, .. } => self.leave(
@@ -420,7 +420,7 @@ impl Moves {
         requires { FitsDeed deed.now }
         ensures { OnOk result (self.new ≡ record self.old {
           lost = self.old.lost
-              ++ links_of_step (named_at objects.now.tables) scene.now (acting_of acting)
+              ++ links_of_step (named_at objects.now.tables) scene.now.tables (acting_of acting)
               outcome.now deed.now apartment
               (one_to (length objects.now.tables.makings));
         }) }
@@ -446,7 +446,7 @@ impl Moves {
         requires { FitsDeed deed.now }
         ensures { OnOk result (self.new
             ≡ together self.old (ended_stepped (ground_at home objects.now.tables calls.now.tables)
-            scene.now (acting_of acting) outcome.now deed.now (ends_sta deed.now))) }
+            scene.now.tables (acting_of acting) outcome.now deed.now (ends_sta deed.now))) }
     {
         let Some(apartment) = ended_sta(deed) else {
             return Ok(());
@@ -469,11 +469,11 @@ impl Moves {
     ) -> Result<(), Memory>
         requires deed { FitsDeed entry.now.deed }
         requires outcome { IsWhole outcome.now }
-        requires bodies { BodiesWhole scene.now }
-        requires after { FrameWhole scene.now (acting_of after) }
+        requires bodies { BodiesWhole scene.now.tables }
+        requires after { FrameWhole scene.now.tables (acting_of after) }
         ensures { OnOk result (self.new
             ≡ together self.old (moves_stepped (ground_at home objects.now.tables calls.now.tables)
-            scene.now (acting_of acting) outcome.now (acting_of after) entry.now)) }
+            scene.now.tables (acting_of acting) outcome.now (acting_of after) entry.now)) }
     {
         self.act(home, objects, calls, acting, outcome, &entry.deed)?;
         self.arrive(
@@ -506,11 +506,11 @@ impl Moves {
     ) -> Result<(), Memory>
         requires deed { FitsDeed entry.now.deed }
         requires outcome { IsWhole outcome.now }
-        requires bodies { BodiesWhole scene.now }
-        requires after { FrameWhole scene.now (acting_of after) }
+        requires bodies { BodiesWhole scene.now.tables }
+        requires after { FrameWhole scene.now.tables (acting_of after) }
         ensures moves { OnOk result (self.new
             ≡ moves_stepped (ground_at home objects.now.tables calls.now.tables)
-            scene.now (acting_of acting) outcome.now (acting_of after) entry.now) }
+            scene.now.tables (acting_of acting) outcome.now (acting_of after) entry.now) }
         ensures err { OnErr result (self.new ≡ no_moves) }
     {
         self.clear();

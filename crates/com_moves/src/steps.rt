@@ -35,8 +35,8 @@ pub fn slots_of(frame: &Frame) -> [Option<RefValue>; 8]
 
 // The slots of a body's frame as the scene has it.
 fn body_slots(scene: &Scene, call: u32) -> [Option<RefValue>; 8]
-    requires { HasSlots (body_at scene.now call) }
-    ensures { result ≡ (body_at scene.now call).slots }
+    requires { HasSlots (body_at scene.now.tables call) }
+    ensures { result ≡ (body_at scene.now.tables call).slots }
 {
     match scene.frame(Actor::Body { call, object: 0 }) {
         None => [None; 8],
@@ -46,7 +46,7 @@ fn body_slots(scene: &Scene, call: u32) -> [Option<RefValue>; 8]
 
 // The slots of a script as the scene has it.
 fn script_slots(scene: &Scene, lane: u32) -> [Option<RefValue>; 8]
-    ensures { result ≡ (script_at scene.now lane).slots }
+    ensures { result ≡ (script_at scene.now.tables lane).slots }
 {
     match scene.frame(Actor::Script { lane }) {
         None => [None; 8],
@@ -56,8 +56,8 @@ fn script_slots(scene: &Scene, lane: u32) -> [Option<RefValue>; 8]
 
 // The slots of an actor's frame as the scene has it.
 fn slots_before(scene: &Scene, who: Actor) -> [Option<RefValue>; 8]
-    requires { FrameWhole scene.now (acting_of who) }
-    ensures { result ≡ (frame_of scene.now (acting_of who)).slots }
+    requires { FrameWhole scene.now.tables (acting_of who) }
+    ensures { result ≡ (frame_of scene.now.tables (acting_of who)).slots }
 {
     match who {
         Actor::Body { call, .. } => body_slots(scene, call),
@@ -129,8 +129,9 @@ pub fn slots_after(
 ) -> [Option<RefValue>; 8]
     requires deed { FitsDeed deed.now }
     requires outcome { IsWhole outcome.now }
-    requires frame { FrameWhole scene.now (acting_of who) }
-    ensures { result ≡ slots_stepped scene.now (acting_of acting) outcome.now deed.now (acting_of who) }
+    requires frame { FrameWhole scene.now.tables (acting_of who) }
+    ensures { result
+        ≡ slots_stepped scene.now.tables (acting_of acting) outcome.now deed.now (acting_of who) }
 {
     let Some(outcome) = outcome else {
         return slots_before(scene, who);
@@ -152,7 +153,7 @@ pub fn links_after(
     object: u32,
 ) -> [Option<RefValue>; 4]
     requires deed { FitsDeed deed.now }
-    ensures { result ≡ links_stepped scene.now (acting_of acting) outcome.now deed.now object }
+    ensures { result ≡ links_stepped scene.now.tables (acting_of acting) outcome.now deed.now object }
 {
     let Some(outcome) = outcome else {
         return scene.cells(object).links;

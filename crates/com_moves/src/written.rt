@@ -1,17 +1,19 @@
 //! The reference that an action's entry writes for whoever acts.
-ghost use Rattle.std.specs.Prelude.{◌≡◌, ◌<◌, ◌^◌, Some};
-ghost use Rattle.com_model.specs.Frames.{taken_in, reference};
+ghost use Rattle.std.specs.Prelude.{◌≡◌};
 ghost use Rattle.com_scene.specs.Ranges.{FitsDeed};
 ghost use Rattle.com_moves.specs.Steps.{place_write, at_slot};
 
-use com_base::{HResult, RefValue};
-use com_body::{Action, Asked, Place};
+use com_base::RefValue;
+use com_body::{Action, Place};
 use com_model::Deed;
+use com_scene::taken;
 
 /// A reference, or null, that comes to a slot or a link.
 #[derive(Debug, Clone, Copy)]
 pub struct Written {
+    /// The slot or link.
     pub place: Place,
+    /// The reference, or None for null.
     pub held: Option<RefValue>,
 }
 
@@ -44,41 +46,4 @@ fn at_slot(number: u8, held: Option<RefValue>) -> Option<Written>
         place: Place::Slot(number),
         held,
     })
-}
-
-// The reference that an entry gives to whoever acts.
-fn taken(deed: &Deed) -> Option<RefValue>
-    requires { FitsDeed deed.now }
-    ensures { result ≡ taken_in deed.now }
-{
-    match deed {
-        Deed::Made {
-            object: Some(object),
-            iface: Asked::Number(iface),
-            ..
-        } => reference(*object, *iface),
-        Deed::Query {
-            object: Some(object),
-            iface: Asked::Number(iface),
-            hr,
-        } => {
-            if *hr == HResult::S_OK {
-                reference(*object, *iface)
-            } else {
-                None
-            }
-        }
-        Deed::Unmarshal { held, .. } => *held,
-        Deed::Get { held, .. } => *held,
-        _ => None,
-    }
-}
-
-// A reference to an object, by an interface that is numbered in 16 bits.
-fn reference(object: u32, iface: u32) -> Option<RefValue>
-    requires { iface < 2 ^ 16 }
-    ensures { result ≡ Some (reference object iface) }
-{
-    let iface = iface as u16;
-    Some(RefValue { object, iface })
 }

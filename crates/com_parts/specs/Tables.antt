@@ -4,15 +4,17 @@ use Rattle.com_calls.specs.Kept.{Kept}
 use Rattle.com_lanes.specs.Rooms.{LaneRows}
 use Rattle.com_model.specs.State.{SceneTables}
 use Rattle.com_objects.specs.Rooms.{ObjectRows}
+use Rattle.com_scene.specs.Rooms.{SceneRoom, SceneRows}
 use Rattle.com_state.specs.Parts.{LaneTables, ObjectTables}
 
--- What the lanes and the objects have room for.
+-- What the lanes, the objects and the scene have room for.
 pub record PartRooms : Type 0 where
   pub lanes : LaneRows
   pub objects : ObjectRows
+  pub scene : SceneRoom
 
-abbrev pub rooms_of : LaneRows → ObjectRows → PartRooms
-rooms_of lanes objects = record { lanes = lanes; objects = objects }
+abbrev pub rooms_of : LaneRows → ObjectRows → SceneRows → PartRooms
+rooms_of lanes objects scene = record { lanes = lanes; objects = objects; scene = scene.room }
 
 -- The tables of lanes, of objects, of calls with their inboxes and of the scene; how many entries have
 -- changed them; and what has room.

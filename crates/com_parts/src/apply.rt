@@ -14,7 +14,7 @@ ghost use Rattle.com_parts.specs.Begins.{IsBegun};
 ghost use Rattle.com_parts.specs.Changes.{FitsFrame, IsSame, issuing_of, moment_at};
 ghost use Rattle.com_parts.specs.Fits.{Fits, HasIssued, HasPlace, IsWriting};
 
-use crate::change::{Begun, Change};
+use crate::change::{Begun, Calling, Change};
 use crate::fits::{fits, is_writing};
 use crate::issue::{change_calls, has_issued, left_value, make_room, target_of};
 use crate::owners::owners_for;
@@ -25,6 +25,7 @@ use com_calls::Calls;
 use com_lanes::Lanes;
 use com_model::Deed;
 use com_objects::Objects;
+use com_scene::Actor;
 
 /// The most entries that change the parts, far above the limit of entries of a scenario.
 const MOST_ENTRIES: u32 = 0x1000_0000;
@@ -113,27 +114,18 @@ impl Parts {
         )
     }
 
-    /// Begins a change by an entry: takes all memory that the entry needs, and changes the scene, which is
-    /// the last that can fail. `outcome` has the step of whoever makes the entry by one; what is left of it
-    /// has no use any more. The only error is want of memory; then nothing has changed, and the step is as it
-    /// was.
-    pub fn begin(
-        &mut self,
-        change: Change<'_>,
-        outcome: &mut Option<Outcome>,
-    ) -> Result<Begun, Memory>
-        requires frame { FitsFrame (acting_of change.acting) outcome.old }
-        ensures scene { OnOk result (self.new.scene ≡ rows_after (named_at self.old.objects)
-            (acting_of change.entry.acting) outcome.old (acting_of change.entry.after)
-            (record { lane = change.entry.lane; deed = change.entry.deed.now }) self.old.scene) }
+    /// Begins a change by an entry: takes all memory that the entry needs. `outcome` has the step of whoever
+    /// makes the entry by one; it is only read. The only error is want of memory. Whatever is answered, the
+    /// parts stay as they are, but for room.
+    pub fn begin(&mut self, change: Change<'_>, outcome: &Option<Outcome>) -> Result<Begun, Memory>
+        requires frame { FitsFrame (acting_of change.acting) outcome.now }
         ensures same { IsSame self.old self.new }
-        ensures begun { IfOk result (λ begun.
-            IsBegun self.new change.entry.lane change.entry.deed.now begun) }
+        ensures scene { self.new.scene ≡ self.old.scene }
+        ensures begun { IfOk result (λ begun. IsBegun self.new (acting_of change.entry.acting) outcome.now
+            (acting_of change.entry.after) change.entry.lane change.entry.deed.now begun) }
         ensures issued { IfOk result (λ begun. begun.issued ≡ change.entry.issued) }
         ensures filtered { IfOk result (λ begun. begun.filtered ≡ change.entry.filtered) }
         ensures clock { IfOk result (λ begun. begun.clock ≡ change.entry.clock) }
-        ensures err { OnErr result (self.new.scene ≡ self.old.scene) }
-        ensures whole { OnErr result (outcome.new ≡ outcome.old) }
     {
         if !self.takes(&change, outcome) {
             return Err(unproved());
@@ -149,31 +141,42 @@ impl Parts {
         } = change;
         let owners = owners_for(self.alloc, &self.objects, deed)?;
         let value = left_value(deed)?;
-        let begun = Begun {
-            issued,
-            apartment: target_of(&self.objects, deed),
-            value,
-            outermost: is_outermost(&self.lanes, lane),
-            filtered,
-            clock,
-        };
+        let apartment = target_of(&self.objects, deed);
         reserve(
             &mut self.lanes,
             &mut self.objects,
             &mut self.calls,
             lane,
             deed,
-            begun.apartment,
+            apartment,
         )?;
-        self.scene
-            .apply(acting, outcome, after, lane, deed, owners.as_slice())?;
-        Ok(begun)
+        Ok(Begun {
+            issued,
+            apartment,
+            value,
+            outermost: is_outermost(&self.lanes, lane),
+            filtered,
+            clock,
+            prepared: self.scene.prepare(acting, after, deed)?,
+            owners,
+        })
     }
 
-    /// Finishes a change that was begun by the entry: the lanes, the objects and the calls after it. It takes
-    /// no memory, and cannot fail.
-    pub fn finish(&mut self, lane: u32, deed: &Deed, begun: Begun)
-        requires { IsBegun self.old lane deed.now begun }
+    /// Finishes a change that was begun by the entry: the lanes, the objects, the calls and the scene after
+    /// it. It takes no memory, and cannot fail. `acting`, `after` and `outcome` are those with which it was
+    /// begun; what is left of the step has no use any more.
+    pub fn finish(
+        &mut self,
+        lane: u32,
+        deed: &Deed,
+        acting: Actor,
+        after: Actor,
+        outcome: &mut Option<Outcome>,
+        begun: Begun,
+    )
+        requires frame { FitsFrame (acting_of acting) outcome.old }
+        requires begun { IsBegun self.old (acting_of acting) outcome.old (acting_of after) lane deed.now
+            begun }
         ensures lanes { self.new.lanes
             ≡ lanes_after self.old.lanes (record { lane = lane; deed = deed.now }) }
         ensures objects { self.new.objects
@@ -181,11 +184,39 @@ impl Parts {
         ensures calls { self.new.calls.tables ≡ calls_after self.old.objects
             (moment_at self.old.lanes lane begun.filtered begun.clock) (issuing_of begun.issued)
             self.old.calls.tables (record { lane = lane; deed = deed.now }) }
-        ensures scene { self.new.scene ≡ self.old.scene }
+        ensures scene { self.new.scene ≡ rows_after (named_at self.old.objects) (acting_of acting) outcome.old
+            (acting_of after) (record { lane = lane; deed = deed.now }) self.old.scene }
         ensures entries { self.new.entries ≡ self.old.entries + 1 }
     {
+        let Begun {
+            issued,
+            apartment,
+            value,
+            outermost,
+            filtered,
+            clock,
+            prepared,
+            owners,
+        } = begun;
+        let calling = Calling {
+            issued,
+            apartment,
+            value,
+            outermost,
+            filtered,
+            clock,
+        };
+        self.scene.apply(
+            prepared,
+            acting,
+            outcome,
+            after,
+            lane,
+            deed,
+            owners.as_slice(),
+        );
         change_rows(&mut self.lanes, &mut self.objects, lane, deed);
-        change_calls(&mut self.calls, lane, deed, begun);
+        change_calls(&mut self.calls, lane, deed, calling);
         self.entries += 1;
     }
 
@@ -212,8 +243,10 @@ impl Parts {
     {
         let lane = change.lane;
         let deed = change.deed;
+        let acting = change.acting;
+        let after = change.after;
         let begun = self.begin(change, outcome)?;
-        self.finish(lane, deed, begun);
+        self.finish(lane, deed, acting, after, outcome, begun);
         Ok(())
     }
 }

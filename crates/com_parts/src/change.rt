@@ -2,7 +2,7 @@
 
 use com_base::{HResult, Rows, Value};
 use com_model::Deed;
-use com_scene::Actor;
+use com_scene::{Actor, Prepared};
 
 /// What a call has at its Out entry: the refusal, or S_OK, and the values that it sends.
 #[derive(Debug, Drop)]
@@ -34,7 +34,7 @@ pub struct Change<'a> {
 }
 
 /// What a change that was begun has for its end, beside the entry.
-#[derive(Debug, Drop)]
+#[derive(Drop)]
 pub struct Begun {
     /// What the call has that the entry issues, where it is an Out.
     pub issued: Option<Sent>,
@@ -47,5 +47,20 @@ pub struct Begun {
     /// Whether the caller's lane has a message filter, as the change says.
     pub filtered: bool,
     /// The clock before the entry, in milliseconds.
+    pub clock: u64,
+    /// What was taken for the scene.
+    pub prepared: Prepared,
+    /// The apartment of each object, from 0, where the entry ends a single-threaded apartment; else none.
+    pub owners: Vec<u32>,
+}
+
+/// The part of a change that was begun which is the calls'.
+#[derive(Drop)]
+pub(crate) struct Calling {
+    pub issued: Option<Sent>,
+    pub apartment: u32,
+    pub value: Option<Value>,
+    pub outermost: bool,
+    pub filtered: bool,
     pub clock: u64,
 }

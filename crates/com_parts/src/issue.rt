@@ -1,6 +1,6 @@
 //! What the calls make of an entry.
-ghost use Rattle.std.specs.Prelude.{◌≡◌, ◌+◌, ◌<◌, ◌^◌, ℕ, Bool, List, Option, IsTrue, IsSome, is_some, length};
-ghost use Rattle.std.specs.Prelude.{IfOk, OnOk};
+ghost use Rattle.std.specs.Prelude.{◌≡◌, ◌+◌, ◌<◌, ◌^◌, ℕ, Bool, List, Option, IsTrue, IsSome, is_some};
+ghost use Rattle.std.specs.Prelude.{IfOk, OnOk, length};
 ghost use Rattle.com_calls.specs.Kept.{IsNamed, with_call, with_room, with_tables};
 ghost use Rattle.com_calls.specs.Steps.{delay_of, out_entry};
 ghost use Rattle.com_model.specs.Calls.{issues, object_of};
@@ -9,7 +9,7 @@ ghost use Rattle.com_state.specs.Parts.{Issuing, ObjectTables, calls_after, name
 ghost use Rattle.com_parts.specs.Changes.{issuing_of};
 ghost use Rattle.com_parts.specs.Fits.{HasIssued, HasPlace, IsCalled, IsOther, left_in};
 
-use crate::change::{Begun, Sent};
+use crate::change::{Calling, Sent};
 use com_base::{Memory, Value};
 use com_calls::{Calls, Issued};
 use com_model::{Deed, Issue};
@@ -74,17 +74,17 @@ pub(crate) fn left_value(deed: &Deed) -> Result<Option<Value>, Memory>
 }
 
 /// The calls after an entry.
-pub(crate) fn change_calls(calls: &mut Calls, lane: u32, deed: &Deed, begun: Begun)
-    requires place { HasPlace deed.now begun.apartment calls.old }
-    requires has { HasIssued deed.now begun.issued }
-    requires value { begun.value ≡ left_in deed.now }
+pub(crate) fn change_calls(calls: &mut Calls, lane: u32, deed: &Deed, calling: Calling)
+    requires place { HasPlace deed.now calling.apartment calls.old }
+    requires has { HasIssued deed.now calling.issued }
+    requires value { calling.value ≡ left_in deed.now }
     requires called { IsCalled calls.old.tables deed.now }
-    requires time { begun.clock + delay_of deed.now < 2 ^ 64 }
+    requires time { calling.clock + delay_of deed.now < 2 ^ 64 }
     ensures tables { (o : ObjectTables) → IsNamed o calls.old → calls.new.tables ≡ calls_after o
-        (record { outermost = begun.outermost; filtered = begun.filtered; clock = begun.clock })
-        (issuing_of begun.issued) calls.old.tables (record { lane = lane; deed = deed.now }) }
+        (record { outermost = calling.outermost; filtered = calling.filtered; clock = calling.clock })
+        (issuing_of calling.issued) calls.old.tables (record { lane = lane; deed = deed.now }) }
     ensures apartments { (o : ObjectTables) → IsNamed o calls.old → calls.new.apartments
-        ≡ grown (is_some (issues lane deed.now)) begun.apartment calls.old.apartments }
+        ≡ grown (is_some (issues lane deed.now)) calling.apartment calls.old.apartments }
 {
     match deed {
         Deed::Out {
@@ -106,10 +106,10 @@ pub(crate) fn change_calls(calls: &mut Calls, lane: u32, deed: &Deed, begun: Beg
                 route: *route,
                 cause: *cause,
             };
-            add(calls, issue, begun);
+            add(calls, issue, calling);
         }
-        Deed::Leave { call, hr, .. } => calls.leave(*call, *hr, begun.value),
-        _ => change_others(calls, lane, deed, begun.filtered, begun.clock),
+        Deed::Leave { call, hr, .. } => calls.leave(*call, *hr, calling.value),
+        _ => change_others(calls, lane, deed, calling.filtered, calling.clock),
     }
 }
 
@@ -130,23 +130,23 @@ fn change_others(calls: &mut Calls, lane: u32, deed: &Deed, filtered: bool, cloc
 }
 
 // The calls after an Out.
-fn add(calls: &mut Calls, issue: Issue, begun: Begun)
+fn add(calls: &mut Calls, issue: Issue, calling: Calling)
     requires number { issue.call ≡ length calls.old.tables.issues + 1 }
     requires room { length calls.old.tables.issues < calls.old.room }
-    requires inbox { begun.apartment < calls.old.inboxes }
-    requires has { IsSome begun.issued }
+    requires inbox { calling.apartment < calls.old.inboxes }
+    requires has { IsSome calling.issued }
     ensures { (o : ObjectTables) (bytes : Option (List ℕ)) → calls.new
-        ≡ with_call calls.old begun.apartment (calls_after o
-        (record { outermost = begun.outermost; filtered = begun.filtered; clock = begun.clock })
-        (issuing_of begun.issued) calls.old.tables (out_entry issue bytes)) }
+        ≡ with_call calls.old calling.apartment (calls_after o
+        (record { outermost = calling.outermost; filtered = calling.filtered; clock = calling.clock })
+        (issuing_of calling.issued) calls.old.tables (out_entry issue bytes)) }
 {
-    let Begun {
+    let Calling {
         issued,
         apartment,
         outermost,
         clock,
         ..
-    } = begun;
+    } = calling;
     let Some(sent) = issued else {
         return;
     };

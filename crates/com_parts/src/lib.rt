@@ -2,7 +2,7 @@
 //! and what frames, cells and buffers hold.
 //!
 //! Each part becomes what the state by parts says of the entry. A change is begun, which takes all memory and
-//! changes the scene, and then it is finished, which cannot fail.
+//! changes nothing but room, and then it is finished, which cannot fail.
 #![tactic(auto)]
 
 mod apply;

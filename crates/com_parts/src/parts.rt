@@ -1,5 +1,5 @@
 //! The parts and what is read of them.
-ghost use Rattle.std.specs.Prelude.{◌≡◌, IfOk, IfSome, []};
+ghost use Rattle.std.specs.Prelude.{◌≡◌, IfOk, []};
 ghost use Rattle.com_calls.specs.Kept.{IsNamed, no_tables};
 ghost use Rattle.com_lanes.specs.First.{first_lanes};
 ghost use Rattle.com_model.specs.Tables.{lanes, threads};
@@ -35,9 +35,9 @@ impl Model for Parts {
       lanes = p.lanes.tables;
       objects = p.objects.tables;
       calls = p.calls;
-      scene = p.scene;
+      scene = p.scene.tables;
       entries = p.entries;
-      rooms = rooms_of p.lanes p.objects;
+      rooms = rooms_of p.lanes p.objects p.scene;
     } };
 
     ghost invariant = { λ p. IsWhole p.lanes.tables p.objects.tables p.calls p.entries };
@@ -53,7 +53,7 @@ impl Parts {
         ensures scene { IfOk result (λ parts. parts.scene ≡ new_scene (threads scenario.now)) }
         ensures entries { IfOk result (λ parts. parts.entries ≡ 0) }
     {
-        let Some(lanes) = lanes_of(scenario) else {
+        let Some(lanes) = scenario.lanes() else {
             return Err(Memory);
         };
         let threads = scenario.threads.len() as u32;
@@ -91,7 +91,7 @@ impl Parts {
 
     /// What frames, cells and buffers hold.
     pub fn scene(&self) -> &Scene
-        ensures { result.now ≡ self.now.scene }
+        ensures { result.now.tables ≡ self.now.scene }
     {
         &self.scene
     }
@@ -102,18 +102,4 @@ impl Parts {
     {
         self.entries
     }
-}
-
-// How many lanes a scenario has beside the clock's: one for each thread, the host's and the pool's. `None`
-// only where a number of 32 bits does not hold that.
-fn lanes_of(scenario: &Scenario) -> Option<u32>
-    ensures { IfSome result (λ count. count ≡ lanes scenario.now) }
-{
-    let lanes = (scenario.threads.len() as u64)
-        .checked_add(1)?
-        .checked_add(scenario.pool as u64)?;
-    if lanes > u32::MAX as u64 {
-        return None;
-    }
-    Some(lanes as u32)
 }

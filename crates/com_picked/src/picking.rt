@@ -10,8 +10,8 @@ ghost use Rattle.com_picked.specs.Picks.{IsPickOf, makes_in, with_made};
 use com_base::Memory;
 use com_drive::Runtime;
 use com_model::{Entry, Scenario};
-use com_retrace::{boxed, has_next, make_next, row_of};
-use com_servant::{Counter, Interpreter, Latch, Relay, Servant};
+use com_retrace::{fresh_row, has_next, make_next};
+use com_servant::Servant;
 use std::alloc::Global;
 
 // Whether a pick makes an entry: its lane has a next one, and there is room for it.
@@ -38,10 +38,8 @@ fn make<C: Runtime>(
 ) -> Result<Option<Entry>, Memory>
     requires scenario { C.scenario runtime.old ≡ scenario.now }
     requires reached { Reached (C.scenario runtime.old) (C.state runtime.old) }
-    requires whole { C.broken runtime.old ≡ false }
     requires row { map kind_of servants.old.items ≡ row }
     ensures scenario { C.scenario runtime.new ≡ C.scenario runtime.old }
-    ensures whole { OnOk result (C.broken runtime.new ≡ false) }
     ensures row { map kind_of servants.new.items ≡ row }
     ensures made { IfOk result (λ made. IsPickOf (C.scenario runtime.old)
         (C.state runtime.old) lane made (C.state runtime.new)) }
@@ -76,7 +74,6 @@ fn make_all<C: Runtime>(
     requires formed { Formed scenario.now }
     requires scenario { C.scenario runtime.old ≡ scenario.now }
     requires first { C.state runtime.old ≡ first_tables scenario.now }
-    requires whole { C.broken runtime.old ≡ false }
     requires row { map kind_of servants.old.items ≡ row }
     ensures { IfOk result (λ entries. IsPicked scenario.now picks.now entries.items) }
 {
@@ -99,15 +96,8 @@ pub fn picked_on<C: Runtime>(
     requires formed { Formed scenario.now }
     requires scenario { C.scenario runtime.old ≡ scenario.now }
     requires first { C.state runtime.old ≡ first_tables scenario.now }
-    requires whole { C.broken runtime.old ≡ false }
     ensures { IfOk result (λ entries. IsPicked scenario.now picks.now entries.items) }
 {
-    let mut servants = row_of(
-        alloc,
-        boxed(alloc, Interpreter::new())?,
-        boxed(alloc, Counter::new())?,
-        boxed(alloc, Relay::new())?,
-        boxed(alloc, Latch::new())?,
-    )?;
+    let mut servants = fresh_row!(alloc);
     make_all(alloc, scenario, runtime, &mut servants, picks)
 }

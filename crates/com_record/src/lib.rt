@@ -1,7 +1,7 @@
 //! The entries of the one history of a scenario, kept as they are made and written.
 #![tactic(auto)]
 
-ghost use Rattle.std.specs.Prelude.{◌≡◌, ◌≤◌, ◌∷◌, ◌++◌, [], false, Err, IfOk, OnOk, map};
+ghost use Rattle.std.specs.Prelude.{◌≡◌, ◌≤◌, ◌∷◌, ◌++◌, [], Err, IfOk, OnOk, map};
 ghost use Rattle.std.specs.Arc.{arc_value};
 ghost use Rattle.com_io.specs.Faults.{Rose};
 ghost use Rattle.com_io.specs.Told.{Gains, GainsPrefix};
@@ -78,7 +78,6 @@ fn keep_by<C: Runtime, K: Sink>(
     requires formed { Formed scenario.now }
     requires scenario { C.scenario runtime.old ≡ scenario.now }
     requires first { C.state runtime.old ≡ first_tables scenario.now }
-    requires whole { C.broken runtime.old ≡ false }
     requires row { map kind_of servants.old.items ≡ row }
     ensures ok { OnOk result (Gains (K.held sink.old) (K.held sink.new) (whole_text scenario.now)) }
     ensures kept { IfOk result (λ recorded. IsRecorded scenario.now recorded.entries.items recorded.ended) }

@@ -15,6 +15,7 @@ use com_body::Native;
 use com_drive::{Runtime, Standing};
 use com_model::Entry;
 use com_servant::Servant;
+pub use com_servant::{Counter, Interpreter, Latch, Relay};
 use std::alloc::Global;
 
 // Whether the clock goes on, in a runtime that stands so.
@@ -52,10 +53,8 @@ pub fn make_next<C: Runtime>(
     requires next { HasNext (C.scenario runtime.old) (C.state runtime.old) lane }
     requires room { (C.state runtime.old).entries < limit (C.scenario runtime.old) }
     requires reached { Reached (C.scenario runtime.old) (C.state runtime.old) }
-    requires whole { C.broken runtime.old ≡ false }
     requires row { map kind_of servants.old.items ≡ row }
     ensures scenario { C.scenario runtime.new ≡ C.scenario runtime.old }
-    ensures whole { OnOk result (C.broken runtime.new ≡ false) }
     ensures row { map kind_of servants.new.items ≡ row }
     ensures made { IfOk result (λ entry. IsNext (C.scenario runtime.old)
         (C.state runtime.old) lane entry (C.state runtime.new)) }
@@ -106,4 +105,21 @@ pub fn row_of(
     add(&mut servants, relay, Native::Relay)?;
     add(&mut servants, latch, Native::Latch)?;
     Ok(servants)
+}
+
+/// A row of servants that have made no step: one of each kind, in the order of the kinds. Where memory is
+/// wanting, the function that the call stands in ends with that error.
+///
+/// It is a macro, since a library's function may not hand out boxed trait objects that it made.
+#[macro_export]
+macro_rules! fresh_row {
+    ($alloc:expr) => {
+        $crate::row_of(
+            $alloc,
+            $crate::boxed($alloc, $crate::Interpreter::new())?,
+            $crate::boxed($alloc, $crate::Counter::new())?,
+            $crate::boxed($alloc, $crate::Relay::new())?,
+            $crate::boxed($alloc, $crate::Latch::new())?,
+        )?
+    };
 }

@@ -1,12 +1,11 @@
 //! What a replay makes of the servants that it is handed.
 
-use crate::servants::add;
-use com_body::Native;
+use crate::add_each_kind;
 use com_io::MemorySink;
 use com_model::Ended;
 use com_play::replay;
 use com_scenario::parse;
-use com_servant::{Counter, Interpreter, Latch, Relay, Servant};
+use com_servant::Servant;
 use std::sync::Arc;
 use std::test::Fail;
 
@@ -28,26 +27,7 @@ const THREE_ADDS: &[u8] = b"scenario 1\n\
 fn an_entry_of_a_body_is_a_step_of_the_servant_of_its_kind(rt: HostRuntime) -> Result<(), Fail> {
     let scenario = Arc::new(rt.alloc(), parse(rt.alloc(), THREE_ADDS)?)?;
     let mut servants: Vec<Box<dyn Servant + Send>> = Vec::new(rt.alloc());
-    add(
-        &mut servants,
-        Box::new(rt.alloc(), Interpreter::new())?,
-        Native::Bodies,
-    )?;
-    add(
-        &mut servants,
-        Box::new(rt.alloc(), Counter::new())?,
-        Native::Counter,
-    )?;
-    add(
-        &mut servants,
-        Box::new(rt.alloc(), Relay::new())?,
-        Native::Relay,
-    )?;
-    add(
-        &mut servants,
-        Box::new(rt.alloc(), Latch::new())?,
-        Native::Latch,
-    )?;
+    add_each_kind!(rt.alloc(), servants);
     let mut sink = MemorySink::new(rt.alloc(), 10_000, 1000, Vec::new(rt.alloc()))?;
     let replayed = replay(rt.alloc(), scenario, &mut servants, &mut sink)?;
     assert_eq!(rt; replayed.ended, Ended::Ok);

@@ -3,8 +3,8 @@
 use com_base::Memory;
 use com_crew::{ROWS, is_manned};
 use com_io::{MemorySink, MemorySource};
-use com_retrace::{boxed, row_of};
-use com_servant::{Counter, Interpreter, Latch, Relay, Servant};
+use com_retrace::fresh_row;
+use com_servant::Servant;
 use com_threads::OpenGate;
 use com_top::com_main;
 use std::alloc::{AllocError, Global};
@@ -21,13 +21,7 @@ pub fn answer<R: Threads + Wait + Sync>(
 ) -> Result<(u8, u64), Memory> {
     let mut crew: Vec<Vec<Box<dyn Servant + Send>>> = Vec::new(alloc);
     for _ in 0..ROWS {
-        crew.push(row_of(
-            alloc,
-            boxed(alloc, Interpreter::new())?,
-            boxed(alloc, Counter::new())?,
-            boxed(alloc, Relay::new())?,
-            boxed(alloc, Latch::new())?,
-        )?)?;
+        crew.push(fresh_row!(alloc))?;
     }
     // The loop has no invariant that names the kinds of boxes, so they are looked at once.
     if !is_manned(&crew) {

@@ -19,3 +19,30 @@ pub fn add(
     servants.push(servant)?;
     Ok(())
 }
+
+/// Puts servants that have made no step behind an empty row: one of each kind, in the order of the kinds.
+#[macro_export]
+macro_rules! add_each_kind {
+    ($alloc:expr, $servants:ident) => {
+        $crate::servants::add(
+            &mut $servants,
+            Box::new($alloc, com_servant::Interpreter::new())?,
+            com_body::Native::Bodies,
+        )?;
+        $crate::servants::add(
+            &mut $servants,
+            Box::new($alloc, com_servant::Counter::new())?,
+            com_body::Native::Counter,
+        )?;
+        $crate::servants::add(
+            &mut $servants,
+            Box::new($alloc, com_servant::Relay::new())?,
+            com_body::Native::Relay,
+        )?;
+        $crate::servants::add(
+            &mut $servants,
+            Box::new($alloc, com_servant::Latch::new())?,
+            com_body::Native::Latch,
+        )?;
+    };
+}

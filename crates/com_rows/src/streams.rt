@@ -1,19 +1,18 @@
 //! A history that is made step by step: each step of a stream makes the next entry, and its line.
-ghost use Rattle.std.specs.Prelude.{◌≡◌, false, map};
+ghost use Rattle.std.specs.Prelude.{◌≡◌, map};
 ghost use Rattle.com_model.specs.Formed.{Formed};
 ghost use Rattle.com_model.specs.State.{first_tables};
 ghost use Rattle.com_servant.specs.Rows.{row};
 
-use crate::servants::add;
+use crate::add_each_kind;
 use com_base::{ByteList, Memory};
-use com_body::Native;
 use com_core::Core;
 use com_drive::{ReplayError, Runtime, Step, Stream};
 use com_io::MemorySink;
 use com_model::Scenario;
 use com_report::line;
 use com_scenario::parse;
-use com_servant::{Counter, Interpreter, Latch, Relay, Servant};
+use com_servant::Servant;
 use std::alloc::Global;
 use std::sync::Arc;
 use std::test::Fail;
@@ -64,7 +63,6 @@ fn texts_by_steps<C: Runtime>(
     requires formed { Formed scenario.now }
     requires scenario { C.scenario runtime.old ≡ scenario.now }
     requires first { C.state runtime.old ≡ first_tables scenario.now }
-    requires whole { C.broken runtime.old ≡ false }
     requires row { map kind_of servants.old.items ≡ row }
 {
     let mut stream = Stream::new(alloc);
@@ -90,26 +88,7 @@ fn each_step_of_a_stream_makes_one_line_more(rt: HostRuntime) -> Result<(), Fail
     let scenario = Arc::new(rt.alloc(), parse(rt.alloc(), CALL_INTO_THE_HOST)?)?;
     let mut core = Core::new(rt.alloc(), scenario.clone()?)?;
     let mut servants: Vec<Box<dyn Servant + Send>> = Vec::new(rt.alloc());
-    add(
-        &mut servants,
-        Box::new(rt.alloc(), Interpreter::new())?,
-        Native::Bodies,
-    )?;
-    add(
-        &mut servants,
-        Box::new(rt.alloc(), Counter::new())?,
-        Native::Counter,
-    )?;
-    add(
-        &mut servants,
-        Box::new(rt.alloc(), Relay::new())?,
-        Native::Relay,
-    )?;
-    add(
-        &mut servants,
-        Box::new(rt.alloc(), Latch::new())?,
-        Native::Latch,
-    )?;
+    add_each_kind!(rt.alloc(), servants);
     let mut sink = MemorySink::new(rt.alloc(), 10_000, 1000, Vec::new(rt.alloc()))?;
     let texts = texts_by_steps(rt.alloc(), &*scenario, &mut core, &mut servants, &mut sink)?;
     assert_eq!(rt; texts.len(), ENTRIES.len());

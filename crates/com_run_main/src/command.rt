@@ -14,13 +14,13 @@ ghost use Rattle.com_servant.specs.Rows.{row};
 
 use crate::threaded::run;
 use crate::written::written;
-use com_base::{ByteList, Memory};
+use com_base::{ByteList, Memory, TEXT_2_LIMIT};
 use com_commands::{
     Input, InputReader, Reply, Status, first_fault, read_as, receive, say, shared, status_at,
 };
 use com_io::{Sink, Source};
 use com_model::Scenario;
-use com_scenario::{LONGEST, is_too_long, parse};
+use com_scenario::{is_too_long, parse};
 use com_threads::{Gate, Row};
 use std::alloc::Global;
 use std::sync::Wait;
@@ -32,7 +32,7 @@ pub struct RunInput;
 impl InputReader for RunInput {
     type Read = Scenario;
 
-    const LIMIT: usize = LONGEST;
+    const LIMIT: usize = TEXT_2_LIMIT;
 
     ghost LIMIT = { 16777216 };
 

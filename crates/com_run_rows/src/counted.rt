@@ -18,6 +18,7 @@ pub struct Steps {
 }
 
 impl Steps {
+    /// No steps yet.
     pub fn new() -> Steps {
         Steps {
             words: array::from_fn(|_| AtomicU64::new(0)),
@@ -44,6 +45,8 @@ pub struct Counted<S: Servant> {
 }
 
 impl<S: Servant> Counted<S> {
+    /// A servant that counts into its row of `steps`, from 0. Where it `refuses`, each step answers want of
+    /// memory.
     pub fn new(servant: S, row: usize, refuses: bool, steps: Arc<Steps, Global>) -> Counted<S>
         ensures { result.servant ≡ servant }
     {

@@ -21,6 +21,7 @@ pub struct Meeting {
 }
 
 impl Meeting {
+    /// A meeting to which no lane has come yet.
     pub fn new() -> Meeting {
         Meeting {
             here: [AtomicU64::new(0), AtomicU64::new(0)],

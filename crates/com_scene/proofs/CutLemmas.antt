@@ -1,6 +1,5 @@
 -- The rows of a table that are changed one by one.
-use Rattle.std.proofs.Common.{◌≡◌, ℕ, zero, suc, ◌+◌, ◌<◌, ◌≤◌, List, [], ◌∷◌, ◌++◌, arith, refl, sym, ◌∙◌, ap, length, slice_set, slice_index_or, take, drop, add-one, Option, Some, None, Result, Ok, Err, OnOk, ◌==◌, if◌then◌else◌}
-use Rattle.std.specs.declared.alloc.AllocError.{AllocError}
+use Rattle.std.proofs.Common.{◌≡◌, ℕ, zero, suc, ◌+◌, ◌<◌, ◌≤◌, List, [], ◌∷◌, ◌++◌, arith, refl, sym, ◌∙◌, ap, length, slice_set, slice_index_or, take, drop, add-one, Option, Some, None, ◌==◌, if◌then◌else◌}
 use Rattle.com_body.specs.declared.frame.Cells.{Cells}
 use Rattle.com_body.specs.declared.frame.Outcome.{Outcome}
 use Rattle.com_model.specs.declared.deeds.Entry.{Entry}
@@ -80,8 +79,3 @@ after_same named owners a r b e t h = by-end (ends_sta e.deed) h
         ≡ links_cut named x (rows_arrived b e.lane e.deed (rows_acted a r e.deed (with_rows e t)))
     by-end None h = refl
     by-end (Some y) h = cut_same (λ o. slice_index_or owners o 0) named (Some y) _ (λ a q o. sym (h o))
-
-pub after_named : (x : Result (Unit {0}) AllocError) (named : ℕ → ℕ) (owners : List ℕ) (a : Acting) (r : Option Outcome) (b : Acting) (e : Entry) (t u : SceneTables) →
-    NamesOwners named (ends_sta e.deed) owners → OnOk x (u ≡ rows_after (λ o. slice_index_or owners o 0) a r b e t) → OnOk x (u ≡ rows_after named a r b e t)
-after_named (Ok tt) named owners a r b e t u h ok = ok ∙ after_same named owners a r b e t h
-after_named (Err x) named owners a r b e t u h ok = tt

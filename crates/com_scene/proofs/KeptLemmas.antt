@@ -1,8 +1,7 @@
 -- What every entry keeps of the tables.
-use Rattle.std.proofs.Common.{◌≡◌, ℕ, zero, suc, ◌+◌, Bool, true, false, List, [], ◌∷◌, Option, Some, None, All, arith, fold, refl, sym, subst, Result, Ok, Err, OnOk, OnErr, ◌∙◌, replicate, slice_set, slice_index_or}
+use Rattle.std.proofs.Common.{ℕ, zero, suc, ◌+◌, Bool, true, false, List, [], ◌∷◌, Option, Some, None, All, arith, fold, refl, ◌∙◌, replicate, slice_set, slice_index_or}
 use Rattle.std.proofs.lemmas.List.{length-set}
 use Rattle.std.proofs.lemmas.List.Elements.{All-nil, All-set, All-push, All-tail}
-use Rattle.std.specs.declared.alloc.AllocError.{AllocError}
 use Rattle.com_body.specs.declared.actions.Action.{Action}
 use Rattle.com_body.specs.declared.actions.Action.TheVariants as action
 use Rattle.com_body.specs.declared.operands.Destination.{Destination}
@@ -22,7 +21,6 @@ use Rattle.com_state.specs.SceneParts.{script_at, destination_at, with_rows, row
 use Rattle.com_scene.specs.Kept.{HasSlots, FitsActor, IsKept, IsStep}
 use Rattle.com_scene.specs.Ranges.{WritesInRange}
 use Rattle.com_scene.specs.Scenes.{new_scene}
-use Rattle.com_scene.specs.Steps.{with_call, with_object}
 
 All_at : {X : Type 0} (P : X → Type 0) (xs : List X) (i : ℕ) (d : X) → P d → All P xs → P (slice_index_or xs i d)
 All_at P [] i d p a = p
@@ -70,23 +68,11 @@ acted_kept a None d t s k = k
 acted_kept a (Some r) d t s k =
     wanted_kept r.action d _ s.1 (all_written_kept a (rows_framed a r t) (writes r.action d) (framed_kept a r t s.0 k))
 
--- Whether there was memory or not.
-pub acted_or_not_kept : (x : Result (Unit {0}) AllocError) (a : Acting) (r : Option Outcome) (d : Deed) (t u : SceneTables) →
-    OnOk x (u ≡ rows_acted a r d t) → OnErr x (u ≡ t) → IsStep a r → IsKept t → IsKept u
-acted_or_not_kept (Ok tt) a r d t u ok err s k = subst IsKept (sym ok) (acted_kept a r d t s k)
-acted_or_not_kept (Err x) a r d t u ok err s k = subst IsKept (sym err) k
-
-pub call_kept : (t : SceneTables) → IsKept t → IsKept (with_call t)
-call_kept t k = record { slots = k.slots; destinations = All-push IsDestination t.destinations destination.Nowhere k.destinations tt }
-
-pub object_kept : (t : SceneTables) → IsKept t → IsKept (with_object t)
-object_kept t k = record { slots = k.slots; destinations = k.destinations }
-
 grown_kept : (b : Bool) (xs : List Destination) → All IsDestination xs → All IsDestination (grown b destination.Nowhere xs)
 grown_kept true xs a = All-push IsDestination xs destination.Nowhere a tt
 grown_kept false xs a = a
 
-rows_kept : (e : Entry) (t : SceneTables) → IsKept t → IsKept (with_rows e t)
+pub rows_kept : (e : Entry) (t : SceneTables) → IsKept t → IsKept (with_rows e t)
 rows_kept e t k = record { slots = k.slots; destinations = grown_kept (issued_by e) t.destinations k.destinations }
 
 arrived_kept : (b : Acting) (l : ℕ) (d : Deed) (t : SceneTables) → IsKept t → IsKept (rows_arrived b l d t)
@@ -105,11 +91,6 @@ cut_kept named (Some a) t k = record { slots = k.slots; destinations = k.destina
 pub after_kept : (named : ℕ → ℕ) (a : Acting) (r : Option Outcome) (b : Acting) (e : Entry) (t : SceneTables) → IsStep a r → IsKept t → IsKept (rows_after named a r b e t)
 after_kept named a r b e t s k =
     cut_kept named (ends_sta e.deed) _ (arrived_kept b e.lane e.deed _ (acted_kept a r e.deed (with_rows e t) s (rows_kept e t k)))
-
-pub after_or_not_kept : (x : Result (Unit {0}) AllocError) (named : ℕ → ℕ) (a : Acting) (r : Option Outcome) (b : Acting) (e : Entry) (t u : SceneTables) →
-    OnOk x (u ≡ rows_after named a r b e t) → OnErr x (u ≡ t) → IsStep a r → IsKept t → IsKept u
-after_or_not_kept (Ok tt) named a r b e t u ok err s k = subst IsKept (sym ok) (after_kept named a r b e t s k)
-after_or_not_kept (Err x) named a r b e t u ok err s k = subst IsKept (sym err) k
 
 all_tabulated : {X : Type 0} (P : X → Type 0) (n : ℕ) (f : ℕ → X) → ((k : ℕ) → P (f k)) → All P (tabulated n f)
 all_tabulated P zero f h = All-nil P

@@ -1,5 +1,5 @@
 -- Lists where one row is set, and their columns.
-use Rattle.std.proofs.Common.{◌≡◌, ℕ, zero, suc, ◌+◌, ◌<◌, ◌≤◌, List, [], ◌∷◌, ◌++◌, Option, None, IsSome, arith, refl, sym, ◌∙◌, ap, ap₂, length, map, slice_set, slice_index_or, replicate, take, drop, add-one, length-append}
+use Rattle.std.proofs.Common.{◌≡◌, ℕ, zero, suc, ◌+◌, ◌<◌, ◌≤◌, List, [], ◌∷◌, ◌++◌, Option, None, arith, refl, sym, ◌∙◌, ap, ap₂, length, map, slice_set, slice_index_or, replicate, drop, add-one}
 use Rattle.std.proofs.lemmas.List.{map-set}
 use Rattle.com_body.specs.declared.operands.Destination.{Destination}
 use Rattle.com_body.specs.declared.frame.Cells.{Cells}
@@ -8,7 +8,7 @@ use Rattle.com_model.specs.Lists.{tabulated}
 use Rattle.com_model.specs.State.{SceneTables}
 use Rattle.com_state.specs.SceneParts.{with_body, body_at}
 use Rattle.com_scene.specs.declared.tables.CallRow.{CallRow}
-use Rattle.com_scene.specs.Seen.{IsSeated, body_of, destination_of}
+use Rattle.com_scene.specs.Seen.{body_of, destination_of}
 
 pub set_beyond : {A : Type 0} (xs : List A) (i : ℕ) (x : A) → length xs ≤ i → slice_set xs i x ≡ xs
 set_beyond [] i x h = refl
@@ -52,36 +52,6 @@ pub map_length : {A B : Type 0} (f : A → B) (l : List A) → length (map f l) 
 map_length f [] = refl
 map_length f (x ∷ xs) = ap (λ (n : ℕ). suc n) (map_length f xs)
 
--- Frames stay where one more is given.
-pub seated_set : (rows : List CallRow) (i c : ℕ) (r : CallRow) → IsSome r.frame → IsSeated rows c → IsSeated (slice_set rows i r) c
-seated_set [] i c r h s = s
-seated_set (x ∷ xs) zero zero r h s = h
-seated_set (x ∷ xs) zero (suc c) r h s = s
-seated_set (x ∷ xs) (suc i) zero r h s = s
-seated_set (x ∷ xs) (suc i) (suc c) r h s = seated_set xs i c r h s
-
-pub seated_same : (rows : List CallRow) (c : ℕ) (r : CallRow) → IsSome r.frame → IsSeated (slice_set rows c r) c
-seated_same [] c r h = tt
-seated_same (x ∷ xs) zero r h = h
-seated_same (x ∷ xs) (suc c) r h = seated_same xs c r h
-
-pub seated_at : (rows : List CallRow) (c : ℕ) (d : CallRow) → c < length rows → IsSeated rows c → IsSome (slice_index_or rows c d).frame
-seated_at [] c d h s = absurd (omega (arith, h))
-seated_at (x ∷ xs) zero d h s = s
-seated_at (x ∷ xs) (suc c) d h s = seated_at xs c d (omega (arith, h)) s
-
-pub seated_beyond : (rows : List CallRow) (c : ℕ) → length rows ≤ c → IsSeated rows c
-seated_beyond [] c h = tt
-seated_beyond (x ∷ xs) zero h = absurd (omega (arith, h))
-seated_beyond (x ∷ xs) (suc c) h = seated_beyond xs c (omega (arith, h))
-
-pub seated_kept : (rows : List CallRow) (i c : ℕ) (r d : CallRow) → (IsSome (slice_index_or rows i d).frame → IsSome r.frame) → IsSeated rows c → IsSeated (slice_set rows i r) c
-seated_kept [] i c r d h s = s
-seated_kept (x ∷ xs) zero zero r d h s = h s
-seated_kept (x ∷ xs) zero (suc c) r d h s = s
-seated_kept (x ∷ xs) (suc i) zero r d h s = s
-seated_kept (x ∷ xs) (suc i) (suc c) r d h s = seated_kept xs i c r d h s
-
 -- The first rows are null, and one more.
 nulls_next : {A : Type 0} (xs : List (Option A)) (i : ℕ) → i < length xs →
     slice_set (replicate i None ++ drop i xs) i None ≡ replicate (suc i) None ++ drop (suc i) xs
@@ -118,27 +88,6 @@ pub row_changed : (g : FrameView → FrameView) (scripts : List FrameView) (rows
 row_changed g scripts rows cells buffers c r d h e k =
     ap₂ (λ (bodies : List FrameView) (destinations : List Destination). record { scripts = scripts; bodies = bodies; cells = cells; buffers = buffers; destinations = destinations })
     (map_set body_of rows c r ∙ body_changed g rows c r d h e) (map_kept destination_of rows c r d k)
-
--- A list without its last row, and its columns.
-take_snoc : {A : Type 0} (xs : List A) (x : A) (n : ℕ) → n ≡ length xs → take n (xs ++ x ∷ []) ≡ xs
-take_snoc [] x zero h = refl
-take_snoc [] x (suc n) h = absurd (omega (arith, h))
-take_snoc (y ∷ ys) x zero h = absurd (omega (arith, h))
-take_snoc (y ∷ ys) x (suc n) h = ap (λ (zs : List _). y ∷ zs) (take_snoc ys x n (omega (arith, h)))
-
-map_take : {A B : Type 0} (f : A → B) (n : ℕ) (xs : List A) → map f (take n xs) ≡ take n (map f xs)
-map_take f zero xs = refl
-map_take f (suc n) [] = refl
-map_take f (suc n) (x ∷ xs) = ap (λ (ys : List _). f x ∷ ys) (map_take f n xs)
-
-pub popped_row : {A : Type 0} (xs ys zs : List A) (z : A) (n : ℕ) → ys ≡ take n xs → n + 1 ≡ length xs → xs ≡ zs ++ z ∷ [] → ys ≡ zs
-popped_row xs ys zs z n t h e =
-    let same : length xs ≡ length zs + 1 = ap length e ∙ length-append zs (z ∷ []) in
-    t ∙ ap (λ (l : List _). take n l) e ∙ take_snoc zs z n (omega (arith, h, same))
-
-pub popped : {A B : Type 0} (f : A → B) (xs ys : List A) (zs : List B) (z : B) (n : ℕ) → ys ≡ take n xs → n + 1 ≡ length xs → map f xs ≡ zs ++ z ∷ [] → map f ys ≡ zs
-popped f xs ys zs z n t h e =
-    popped_row (map f xs) (map f ys) zs z n (ap (λ (l : List _). map f l) t ∙ map_take f n xs) (h ∙ sym (map_length f xs)) e
 
 pub get_beyond : {A : Type 0} (xs : List A) (i : ℕ) (d : A) → length xs ≤ i → slice_index_or xs i d ≡ d
 get_beyond [] i d h = refl

@@ -1,10 +1,10 @@
--- The tables of the code, seen as the scene's tables.
-use Rattle.std.specs.Prelude.{ℕ, zero, suc, List, [], ◌∷◌, Option, Some, None, IsSome, map}
+-- The tables of the code, seen as the scene's tables, and which calls have a frame of their own.
+use Rattle.std.specs.Prelude.{ℕ, Bool, false, List, [], Option, Some, None, IsTrue, is_some, map}
+use Rattle.std.specs.Prelude.{slice_index_or}
 use Rattle.com_body.specs.declared.operands.Destination.{Destination}
 use Rattle.com_body.specs.Frames.{FrameView, entered}
+use Rattle.com_model.specs.Frames.{Actor as Acting, Body}
 use Rattle.com_model.specs.State.{SceneTables}
-use Rattle.com_scene.specs.declared.actor.Actor.{Actor}
-use Rattle.com_scene.specs.declared.actor.Actor.TheVariants as actor
 use Rattle.com_scene.specs.declared.tables.CallRow.{CallRow}
 use Rattle.com_scene.specs.declared.tables.Tables.{Tables}
 
@@ -34,13 +34,35 @@ seen t = record {
   destinations = destinations_of t.calls.items;
 }
 
--- The call has a frame of its own, where it has a row.
-abbrev pub IsSeated : List CallRow → ℕ → Type 0
-IsSeated [] c = Unit {0}
-IsSeated (r ∷ rows) zero = IsSome r.frame
-IsSeated (r ∷ rows) (suc c) = IsSeated rows c
+-- Whether each call has a frame of its own.
+abbrev pub is_seated : CallRow → Bool
+is_seated r = is_some r.frame
 
--- The body has a frame of its own, where it is a body that acts.
-abbrev pub IsSeatedActor : List CallRow → Actor → Type 0
-IsSeatedActor rows (actor.Body c o) = IsSeated rows c
-IsSeatedActor rows _ = Unit {0}
+abbrev pub seats_of : List CallRow → List Bool
+seats_of rows = map is_seated rows
+
+-- The call has a frame of its own.
+abbrev pub IsSeated : List Bool → (call : ℕ) → Type 0
+IsSeated seats c = IsTrue (slice_index_or seats c false)
+
+-- Each call that had a frame has one.
+abbrev pub KeepsSeats : (before after : List Bool) → Type 0
+KeepsSeats before after = (c : ℕ) → IsSeated before c → IsSeated after c
+
+-- A body's own frame, or else the spare one.
+abbrev pub own_or : Option FrameView → Option FrameView → Option FrameView
+own_or None spare = spare
+own_or (Some f) spare = Some f
+
+-- There is a frame: the body's own, or a spare one.
+abbrev pub HasFrame : (own : Bool) → (spare : Option FrameView) → Type 0
+HasFrame own None = IsTrue own
+HasFrame own (Some f) = Unit {0}
+
+abbrev pub HasSeat : List Bool → (call : ℕ) → (spare : Option FrameView) → Type 0
+HasSeat seats c spare = HasFrame (slice_index_or seats c false) spare
+
+-- The same for whoever acts, where it is a body.
+abbrev pub HasSeatFor : List Bool → Acting → (spare : Option FrameView) → Type 0
+HasSeatFor seats (Body c o) spare = HasSeat seats c spare
+HasSeatFor seats _ spare = Unit {0}

@@ -1,7 +1,7 @@
 //! What an entry changes beside the step of whoever acts.
-ghost use Rattle.std.specs.Prelude.{◌≡◌, ℕ, if◌then◌else◌, OnOk, IfOk, Some, None, ◌∷◌, fold, replicate};
-ghost use Rattle.std.specs.Prelude.{slice_index_or};
+ghost use Rattle.std.specs.Prelude.{◌≡◌, if◌then◌else◌, Some, None, [], ◌∷◌, fold, replicate, slice_index_or};
 ghost use Rattle.com_body.specs.Bodies.{IsDestination};
+ghost use Rattle.com_body.specs.Frames.{entered};
 ghost use Rattle.com_model.specs.Frames.{to_answer, to_destination};
 ghost use Rattle.com_model.specs.Lists.{each_from};
 ghost use Rattle.com_state.specs.SceneParts.{body_at, script_at, cells_at, destination_at, with_body};
@@ -9,23 +9,13 @@ ghost use Rattle.com_state.specs.SceneParts.{with_script};
 ghost use Rattle.com_state.specs.SceneParts.{with_cells, row_written, without_links, links_cut};
 ghost use Rattle.com_scene.specs.Actors.{acting_of};
 ghost use Rattle.com_scene.specs.Kept.{IsKept};
-ghost use Rattle.com_scene.specs.Seen.{seen, IsSeated, IsSeatedActor};
+ghost use Rattle.com_scene.specs.Seen.{seen, seat_of, seats_of, HasSeat, HasSeatFor};
 ghost use Rattle.com_scene.specs.Steps.{cut_by, frame_with};
 
 use crate::actor::Actor;
-use crate::tables::{Tables, clear_slots, receive};
-use com_base::{HResult, Memory, Value};
+use crate::tables::{Seat, Tables, clear_slots, receive};
+use com_base::{HResult, Value};
 use com_body::{Cells, Destination};
-
-/// An equal value, where there is one. The only error is want of memory.
-pub fn copied(value: &Option<Value>) -> Result<Option<Value>, Memory>
-    ensures { IfOk result (λ copy. copy ≡ value.now) }
-{
-    match value {
-        None => Ok(None),
-        Some(value) => Ok(Some(value.copy()?)),
-    }
-}
 
 // Makes the links of an object null, where they are to be cut.
 fn cut_if(cells: &mut Cells, is_cut: bool)
@@ -58,36 +48,27 @@ fn cut(cells: &mut Vec<Cells>, apartment: u32, owners: &[u32])
     }
 }
 
-#[tactic(auto, using(crate::proofs::RowLemmas::set_beyond, crate::proofs::RowLemmas::map_set, crate::proofs::RowLemmas::map_kept, crate::proofs::RowLemmas::map_length, crate::proofs::RowLemmas::seated_same, crate::proofs::RowLemmas::seated_beyond))]
+#[tactic(auto, using(crate::proofs::RowLemmas::set_beyond, crate::proofs::RowLemmas::map_set, crate::proofs::RowLemmas::map_kept, crate::proofs::RowLemmas::map_length))]
 impl Tables {
-    /// Gives whoever acts a frame of its own, where it is a body without one. The only error is want of
-    /// memory.
-    pub fn seat(&mut self, actor: Actor) -> Result<(), Memory>
-        ensures same { seen self.new ≡ seen self.old }
-        ensures seated { OnOk result (IsSeatedActor self.new.calls.items actor) }
-        ensures kept { (c : ℕ) → IsSeated self.old.calls.items c → IsSeated self.new.calls.items c }
-    {
-        let Actor::Body { call, .. } = actor else {
-            return Ok(());
-        };
-        if call as usize >= self.calls.len() {
-            return Ok(());
-        }
-        let alloc = *self.calls.allocator();
-        let row = &mut self.calls[call as usize];
-        row.seat(alloc)
-    }
-
-    // The body of a call is given an HRESULT, and the result of a call of its own.
-    fn give_body(&mut self, call: u32, hr: HResult, to: Destination, value: Option<Value>)
+    // The body of a call is given an HRESULT, and the result of a call of its own, in its own frame, or in
+    // the spare one.
+    fn give_body(
+        &mut self,
+        call: u32,
+        hr: HResult,
+        to: Destination,
+        value: Option<Value>,
+        spare: Option<Seat>,
+    )
         requires to { IsDestination to }
-        requires seated { IsSeated self.old.calls.items call }
+        requires seat { HasSeat (seats_of self.old.calls.items) call spare }
+        requires fresh { seat_of spare ≡ entered [] }
         ensures { seen self.new ≡ with_body (seen self.old) call
             (fold frame_with (body_at (seen self.old) call) (to_answer hr ∷ to_destination to value)) }
     {
         if (call as usize) < self.calls.len() {
             let row = &mut self.calls[call as usize];
-            row.receive(hr, to, value);
+            row.receive(hr, to, value, spare);
         }
     }
 
@@ -102,16 +83,25 @@ impl Tables {
         }
     }
 
-    /// Whoever acts is given an HRESULT, and the result of a call of its own.
+    /// Whoever acts is given an HRESULT, and the result of a call of its own. A body without frame takes the
+    /// spare one.
     #[tactic(auto, using(crate::proofs::GiveLemmas::given_nobody))]
-    pub fn give(&mut self, after: Actor, hr: HResult, to: Destination, value: Option<Value>)
+    pub fn give(
+        &mut self,
+        after: Actor,
+        hr: HResult,
+        to: Destination,
+        value: Option<Value>,
+        spare: Option<Seat>,
+    )
         requires to { IsDestination to }
-        requires seated { IsSeatedActor self.old.calls.items after }
+        requires seat { HasSeatFor (seats_of self.old.calls.items) (acting_of after) spare }
+        requires fresh { seat_of spare ≡ entered [] }
         ensures { seen self.new
             ≡ fold (row_written (acting_of after)) (seen self.old) (to_answer hr ∷ to_destination to value) }
     {
         match after {
-            Actor::Body { call, .. } => self.give_body(call, hr, to, value),
+            Actor::Body { call, .. } => self.give_body(call, hr, to, value, spare),
             Actor::Script { lane } => self.give_script(lane, hr, to, value),
             Actor::Nobody => {}
         }

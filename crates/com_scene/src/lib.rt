@@ -3,17 +3,20 @@
 //!
 //! An entry changes it in the order of the definitions: a row comes for a call or an object; whoever acts
 //! goes on to its step's frame and cells, and is given what the entry writes; then comes what the entry does
-//! beside that. Whatever may want memory is made before anything changes.
+//! beside that. All memory for it is taken first, by a call of its own; the change itself cannot fail.
 #![tactic(auto)]
 
 mod act;
 mod actor;
 mod apply;
 mod arrive;
+mod prepare;
 mod readers;
 mod scene;
 mod tables;
 mod writes;
 
 pub use actor::Actor;
+pub use prepare::Prepared;
 pub use scene::Scene;
+pub use writes::taken;

@@ -1,12 +1,12 @@
 //! The tables of the scene: a row for each lane, call, object and buffer.
-ghost use Rattle.std.specs.Prelude.{◌≡◌, ℕ, IfOk, OnOk, OnErr, Some, None, IsSome, [], ◌∷◌, fold, replicate};
+ghost use Rattle.std.specs.Prelude.{◌≡◌, ◌<◌, IfOk, Some, None, IsSome, [], ◌∷◌, fold, is_some, replicate};
 ghost use Rattle.com_body.specs.Bodies.{IsDestination};
 ghost use Rattle.com_body.specs.Frames.{entered};
-ghost use Rattle.com_model.specs.State.{SceneTables};
 ghost use Rattle.com_model.specs.Frames.{to_answer, to_destination};
 ghost use Rattle.com_state.specs.SceneParts.{with_body, with_script, with_cells};
 ghost use Rattle.com_scene.specs.Kept.{HasSlots};
-ghost use Rattle.com_scene.specs.Seen.{seen, seat_of, IsSeated};
+ghost use Rattle.com_scene.specs.Rooms.{room_of};
+ghost use Rattle.com_scene.specs.Seen.{seen, seat_of, seats_of, own_or, HasSeat, KeepsSeats};
 ghost use Rattle.com_scene.specs.Steps.{frame_with, with_bytes, with_wanted, with_call, with_object};
 
 use crate::writes::{Bytes, Wanted};
@@ -105,13 +105,31 @@ pub struct CallRow {
 }
 
 impl CallRow {
-    /// Gives the body of the call another frame, and takes the one that it had.
-    fn place(&mut self, frame: &mut Frame)
-        requires seated { IsSome self.old.frame }
+    /// Whether the body of the call has a frame of its own.
+    pub fn is_seated(&self) -> bool
+        ensures { result ≡ is_some self.now.frame }
+    {
+        self.frame.is_some()
+    }
+
+    /// Gives the body of the call a spare frame, where it has none of its own.
+    fn sit(&mut self, spare: Option<Seat>)
+        ensures frame { self.new.frame ≡ own_or self.old.frame spare }
+        ensures destination { self.new.destination ≡ self.old.destination }
+    {
+        if self.frame.is_none() {
+            self.frame = spare;
+        }
+    }
+
+    /// Gives the body of the call another frame, and takes the one that it had, or the spare one.
+    fn place(&mut self, frame: &mut Frame, spare: Option<Seat>)
+        requires seat { IsSome (own_or self.old.frame spare) }
         ensures frame { self.new.frame ≡ Some frame.old }
         ensures destination { self.new.destination ≡ self.old.destination }
         ensures seated { IsSome self.new.frame }
     {
+        self.sit(spare);
         let Some(seat) = &mut self.frame else {
             return;
         };
@@ -127,36 +145,31 @@ impl CallRow {
     }
 
     /// The body of the call begins with a frame.
-    fn enter(&mut self, seat: Seat)
-        ensures frame { self.new.frame ≡ Some seat }
+    fn enter(&mut self, seat: Option<Seat>)
+        ensures frame { self.new.frame ≡ seat }
         ensures destination { self.new.destination ≡ self.old.destination }
     {
-        self.frame = Some(seat);
+        self.frame = seat;
     }
 
-    /// Gives the body of the call a frame of its own, where it has none. The only error is want of memory.
-    pub fn seat(&mut self, alloc: Global) -> Result<(), Memory>
-        ensures frame { seat_of self.new.frame ≡ seat_of self.old.frame }
-        ensures destination { self.new.destination ≡ self.old.destination }
-        ensures seated { OnOk result (IsSome self.new.frame) }
-        ensures kept { IsSome self.old.frame → IsSome self.new.frame }
-    {
-        if self.frame.is_some() {
-            return Ok(());
-        }
-        let frame = Frame::enter(alloc, &[])?;
-        self.frame = Some(Seat::new(alloc, frame)?);
-        Ok(())
-    }
-
-    /// The body of the call is given an HRESULT, and the result of a call of its own.
-    pub fn receive(&mut self, hr: HResult, to: Destination, value: Option<Value>)
-        requires seated { IsSome self.old.frame }
+    /// The body of the call is given an HRESULT, and the result of a call of its own, in its own frame, or in
+    /// the spare one.
+    #[tactic(auto, using(crate::proofs::SeatLemmas::own_view))]
+    pub fn receive(
+        &mut self,
+        hr: HResult,
+        to: Destination,
+        value: Option<Value>,
+        spare: Option<Seat>,
+    )
+        requires seat { IsSome (own_or self.old.frame spare) }
+        requires fresh { seat_of spare ≡ entered [] }
         requires to { IsDestination to }
         ensures frame { seat_of self.new.frame
             ≡ fold frame_with (seat_of self.old.frame) (to_answer hr ∷ to_destination to value) }
         ensures destination { self.new.destination ≡ self.old.destination }
     {
+        self.sit(spare);
         let Some(seat) = &mut self.frame else {
             return;
         };
@@ -181,17 +194,17 @@ pub struct Tables {
     pub buffers: Vec<ByteList>,
 }
 
-#[tactic(auto, using(crate::proofs::RowLemmas::set_beyond, crate::proofs::RowLemmas::map_set, crate::proofs::RowLemmas::map_kept, crate::proofs::RowLemmas::map_length, crate::proofs::RowLemmas::seated_set))]
+#[tactic(auto, using(crate::proofs::RowLemmas::set_beyond, crate::proofs::RowLemmas::map_set, crate::proofs::RowLemmas::map_kept, crate::proofs::RowLemmas::map_length))]
 impl Tables {
-    /// Gives the body of a call another frame, and takes the one that it had.
-    pub fn place(&mut self, call: u32, frame: &mut Frame)
-        requires seat { IsSeated self.old.calls.items call }
+    /// Gives the body of a call another frame, and takes the one that it had, or the spare one.
+    pub fn place(&mut self, call: u32, frame: &mut Frame, spare: Option<Seat>)
+        requires seat { HasSeat (seats_of self.old.calls.items) call spare }
         ensures tables { seen self.new ≡ with_body (seen self.old) call frame.old }
-        ensures seated { (c : ℕ) → IsSeated self.old.calls.items c → IsSeated self.new.calls.items c }
+        ensures seats { KeepsSeats (seats_of self.old.calls.items) (seats_of self.new.calls.items) }
     {
         if (call as usize) < self.calls.len() {
             let row = &mut self.calls[call as usize];
-            row.place(frame);
+            row.place(frame, spare);
         }
     }
 
@@ -231,7 +244,7 @@ impl Tables {
     /// Keeps where the result of a call is to go.
     pub fn want(&mut self, wanted: Option<Wanted>)
         ensures tables { seen self.new ≡ with_wanted wanted (seen self.old) }
-        ensures seated { (c : ℕ) → IsSeated self.old.calls.items c → IsSeated self.new.calls.items c }
+        ensures seats { KeepsSeats (seats_of self.old.calls.items) (seats_of self.new.calls.items) }
     {
         let Some(Wanted { call, destination }) = wanted else {
             return;
@@ -253,8 +266,8 @@ impl Tables {
     }
 
     /// The body of a call begins with a frame.
-    pub fn enter(&mut self, call: u32, seat: Seat)
-        ensures { seen self.new ≡ with_body (seen self.old) call seat }
+    pub fn enter(&mut self, call: u32, seat: Option<Seat>)
+        ensures { seen self.new ≡ with_body (seen self.old) call (seat_of seat) }
     {
         if (call as usize) < self.calls.len() {
             let row = &mut self.calls[call as usize];
@@ -262,40 +275,25 @@ impl Tables {
         }
     }
 
-    /// A row for a call that is issued. The only error is want of memory, and then nothing has changed.
+    /// A row for a call that is issued, for which there is room.
     #[tactic(auto, using(crate::proofs::RowLemmas::map_append))]
-    pub fn add_call(&mut self) -> Result<(), Memory>
-        ensures ok { OnOk result (seen self.new ≡ with_call (seen self.old)) }
-        ensures err { OnErr result (seen self.new ≡ seen self.old) }
+    pub fn add_call(&mut self)
+        requires room { 0 < (room_of self.old).calls }
+        ensures tables { seen self.new ≡ with_call (seen self.old) }
+        ensures seats { KeepsSeats (seats_of self.old.calls.items) (seats_of self.new.calls.items) }
     {
-        let row = CallRow {
+        self.calls.push_reserved(CallRow {
             frame: None,
             destination: Destination::Nowhere,
-        };
-        Ok(self.calls.push(row)?)
+        });
     }
 
-    /// Takes the row of the last call away.
-    #[tactic(auto, using(crate::proofs::RowLemmas::popped))]
-    pub fn drop_call(&mut self)
-        ensures { (t : SceneTables) → seen self.old ≡ with_call t → seen self.new ≡ t }
+    /// A row for an object that is made, for which there is room.
+    pub fn add_object(&mut self)
+        requires room { 0 < (room_of self.old).objects }
+        ensures tables { seen self.new ≡ with_object (seen self.old) }
+        ensures calls { self.new.calls ≡ self.old.calls }
     {
-        let _ = self.calls.pop();
-    }
-
-    /// A row for an object that is made. The only error is want of memory, and then nothing has changed.
-    pub fn add_object(&mut self) -> Result<(), Memory>
-        ensures ok { OnOk result (seen self.new ≡ with_object (seen self.old)) }
-        ensures err { OnErr result (seen self.new ≡ seen self.old) }
-    {
-        Ok(self.cells.push(Cells::new())?)
-    }
-
-    /// Takes the row of the last object away.
-    #[tactic(auto, using(crate::proofs::RowLemmas::popped_row))]
-    pub fn drop_object(&mut self)
-        ensures { (t : SceneTables) → seen self.old ≡ with_object t → seen self.new ≡ t }
-    {
-        let _ = self.cells.pop();
+        self.cells.push_reserved(Cells::new());
     }
 }

@@ -1,13 +1,14 @@
 //! What an entry writes for whoever acts.
-ghost use Rattle.std.specs.Prelude.{◌≡◌, ◌<◌, ◌^◌, Some, IfOk, OnErr, fold};
+ghost use Rattle.std.specs.Prelude.{◌≡◌, ◌<◌, ◌^◌, Some, fold};
 ghost use Rattle.com_body.specs.Bodies.{IsPlace};
 ghost use Rattle.com_model.specs.Frames.{taken_in, reference, cookie_in, marshalled_in, writes, to_place};
+ghost use Rattle.com_scene.specs.Prepared.{packet_in};
 ghost use Rattle.com_scene.specs.Ranges.{FitsDeed, WritesInRange, IsInRange};
 ghost use Rattle.com_scene.specs.Steps.{IsMoreInRange, writing_of, listed, more_writes, raw_writes};
 ghost use Rattle.com_scene.specs.Steps.{frame_with, writes_of};
 ghost use Rattle.com_scene.specs.Steps.{cells_with, bytes_of, wanted_of};
 
-use com_base::{ByteList, HResult, Memory, RefValue, Value};
+use com_base::{ByteList, HResult, RefValue, Value};
 use com_body::{Action, Asked, Cells, Destination, Frame, Place};
 use com_model::Deed;
 use std::mem;
@@ -60,8 +61,9 @@ pub fn wanted_by(action: &Action, deed: &Deed) -> Option<Wanted>
     }
 }
 
-// The reference that an entry gives to whoever acts.
-fn taken(deed: &Deed) -> Option<RefValue>
+/// The reference that an entry gives to whoever acts: that of an object that it made, asked for, unmarshalled
+/// or got from the global table; null where it gives none.
+pub fn taken(deed: &Deed) -> Option<RefValue>
     requires { FitsDeed deed.now }
     ensures { result ≡ taken_in deed.now }
 {
@@ -122,17 +124,15 @@ fn at_place(place: Place, held: Option<RefValue>) -> Write
     }
 }
 
-// The packet that an entry puts in a buffer, where it made one. The only error is want of memory.
-fn marshalled(buffer: u8, deed: &Deed) -> Result<Option<Write>, Memory>
-    ensures writes { IfOk result (λ more. listed None more ≡ marshalled_in buffer deed.now) }
-    ensures in_range { IfOk result (λ more. IsMoreInRange more) }
+// The write of a packet that an entry made to a buffer, where it made one.
+fn marshalled(buffer: u8, packet: Option<ByteList>) -> Option<Write>
+    ensures writes { (deed : Deed) → packet ≡ packet_in deed
+        → listed None result ≡ marshalled_in buffer deed }
+    ensures in_range { IsMoreInRange result }
 {
-    match deed {
-        Deed::Marshal {
-            bytes: Some(bytes),
-            ..
-        } => Ok(Some(Write::Buffer(buffer, bytes.copy()?))),
-        _ => Ok(None),
+    match packet {
+        Some(bytes) => Some(Write::Buffer(buffer, bytes)),
+        None => None,
     }
 }
 
@@ -148,48 +148,48 @@ fn raw_write(action: &mut Action) -> Option<Write>
     }
 }
 
-// What the destination of an action takes, by the entry that does the action. The only error is want of
-// memory, and then the action is as it was.
-fn taken_write(action: &mut Action, deed: &Deed) -> Result<Option<Write>, Memory>
+// What the destination of an action takes, by the entry that does the action. The packet is what the entry
+// made.
+fn taken_write(action: &mut Action, deed: &Deed, packet: Option<ByteList>) -> Option<Write>
     requires deed { FitsDeed deed.now }
     requires action { WritesInRange action.old }
-    ensures writes { IfOk result (λ more. listed None more ≡ more_writes action.old deed.now) }
-    ensures in_range { IfOk result (λ more. IsMoreInRange more) }
-    ensures err { OnErr result (action.new ≡ action.old) }
+    requires packet { packet ≡ packet_in deed.now }
+    ensures writes { listed None result ≡ more_writes action.old deed.now }
+    ensures in_range { IsMoreInRange result }
 {
-    Ok(match action {
+    match action {
         Action::Create { slot, .. } => Some(Write::Slot(*slot, taken(deed))),
         Action::Query { to, .. } => Some(Write::Slot(*to, taken(deed))),
         Action::Copy { to, held } => Some(at_place(*to, *held)),
         Action::Release { place, .. } => Some(at_place(*place, None)),
-        Action::Marshal { buffer, .. } => return marshalled(*buffer, deed),
+        Action::Marshal { buffer, .. } => marshalled(*buffer, packet),
         Action::Unmarshal { slot, .. } => Some(Write::Slot(*slot, taken(deed))),
         Action::Raw { .. } => raw_write(action),
         Action::Register { to, .. } => Some(Write::Register(*to, Value::Int(cookie(deed) as i64))),
         Action::Get { slot, .. } => Some(Write::Slot(*slot, taken(deed))),
         _ => None,
-    })
+    }
 }
 
 impl Writes {
-    /// What the entry of an action writes for whoever acts. What is left of the action has no use any more.
-    /// The only error is want of memory, and then the action is as it was.
-    pub fn of(action: &mut Action, deed: &Deed) -> Result<Writes, Memory>
+    /// What the entry of an action writes for whoever acts. The packet is what the entry made. What is left
+    /// of the action has no use any more.
+    pub fn of(action: &mut Action, deed: &Deed, packet: Option<ByteList>) -> Writes
         requires deed { FitsDeed deed.now }
         requires action { WritesInRange action.old }
-        ensures writes { IfOk result (λ made. writes_of made ≡ writes action.old deed.now) }
-        ensures in_range { IfOk result (λ made. IsMoreInRange made.more) }
-        ensures err { OnErr result (action.new ≡ action.old) }
+        requires packet { packet ≡ packet_in deed.now }
+        ensures writes { writes_of result ≡ writes action.old deed.now }
+        ensures in_range { IsMoreInRange result.more }
     {
         match action {
-            Action::Call { .. } | Action::Leave { .. } | Action::Pump { .. } => Ok(Writes {
+            Action::Call { .. } | Action::Leave { .. } | Action::Pump { .. } => Writes {
                 answer: None,
                 more: None,
-            }),
-            _ => Ok(Writes {
+            },
+            _ => Writes {
                 answer: Some(deed.answer()),
-                more: taken_write(action, deed)?,
-            }),
+                more: taken_write(action, deed, packet),
+            },
         }
     }
 

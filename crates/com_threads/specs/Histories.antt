@@ -1,5 +1,5 @@
 -- A history as it is written, and the runtime that made it.
-use Rattle.std.specs.Prelude.{◌≡◌, ℕ, ◌+◌, ◌≤◌, Bool, false, List, ◌++◌, length, reverse}
+use Rattle.std.specs.Prelude.{◌≡◌, ℕ, ◌+◌, ◌≤◌, List, ◌++◌, length, reverse}
 use Rattle.com_model.specs.declared.deeds.Entry.{Entry}
 use Rattle.com_model.specs.declared.scenario.Scenario.{Scenario}
 use Rattle.com_model.specs.Ends.{limit}
@@ -24,10 +24,9 @@ pub record Written : Type 0 where
 
 -- A runtime of this scenario, in this state, has made the entries that were written, no more than there may
 -- be, and can go on.
-pub record UpToDate (s running : Scenario) (st : State) (broken : Bool) (w : Written) : Type 0 where
+pub record UpToDate (s running : Scenario) (st : State) (w : Written) : Type 0 where
   pub formed : Formed s
   pub same : running ≡ s
-  pub whole : broken ≡ false
   pub rows : w.rows ≡ lanes s + 1
   pub stands : StandsFor s st (newest_first w.entries)
   pub within : length w.entries ≤ limit s

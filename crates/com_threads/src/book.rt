@@ -47,13 +47,13 @@ impl<C: Jobs + Drop, J: Plays> Model for Book<C, J> {
     ghost view = { λ b. b.desk.value.pages.entries };
 
     ghost invariant = { λ b. b.failed ≡ false → UpToDate J.scenario (C.scenario b.desk.value.core)
-        (C.state b.desk.value.core) (C.broken b.desk.value.core) b.desk.value.pages };
+        (C.state b.desk.value.core) b.desk.value.pages };
 }
 
 impl<C: Jobs + Drop, J: Plays> Book<C, J> {
     // A book round a runtime that has made no entry.
     pub(crate) fn new(alloc: Global, desk: Desk<C>) -> Result<Book<C, J>, Memory>
-        requires { UpToDate J.scenario (C.scenario desk.core) (C.state desk.core) (C.broken desk.core)
+        requires { UpToDate J.scenario (C.scenario desk.core) (C.state desk.core)
             desk.pages }
         ensures { IfOk result (λ book. book ≡ desk.pages.entries) }
     {
@@ -116,7 +116,7 @@ impl<C: Jobs + Drop, J: Plays> Book<C, J> {
     // What lies in the book, unless memory was wanting.
     pub(crate) fn into_desk(self) -> Result<Desk<C>, Memory>
         ensures { IfOk result (λ desk. UpToDate J.scenario (C.scenario desk.core) (C.state desk.core)
-            (C.broken desk.core) desk.pages) }
+            desk.pages) }
     {
         let Book {
             desk,

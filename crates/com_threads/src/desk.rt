@@ -83,12 +83,12 @@ impl<C: Jobs + Drop> Desk<C> {
         outcome: Outcome,
     ) -> Result<(), Memory>
         requires at { UpToDate scenario.now (C.scenario self.old.core) (C.state self.old.core)
-            (C.broken self.old.core) self.old.pages }
+            self.old.pages }
         requires lane { (1 ≤ lane) × (lane ≤ lanes scenario.now) }
         requires outcome { outcome ≡ job_step scenario.now.classes job }
         requires shape { HasShape job.frame }
         ensures at { OnOk result (UpToDate scenario.now (C.scenario self.new.core) (C.state self.new.core)
-            (C.broken self.new.core) self.new.pages) }
+            self.new.pages) }
         ensures adds { Adds lane self.old.pages.entries self.new.pages.entries }
     {
         if self.is_full(scenario) {
@@ -113,14 +113,14 @@ impl<C: Jobs + Drop> Desk<C> {
         lane: u32,
     ) -> Result<(), Memory>
         requires at { UpToDate scenario.now (C.scenario self.old.core) (C.state self.old.core)
-            (C.broken self.old.core) self.old.pages }
+            self.old.pages }
         requires room { (C.state self.old.core).entries < limit scenario.now }
         requires lane { lane ≤ lanes scenario.now }
         requires clock { lane ≡ 0
             → standing_of scenario.now (C.state self.old.core) ≡ standing.Ticks }
         requires own { 1 ≤ lane → next_in scenario.now (C.state self.old.core) lane ≡ next.Own }
         ensures at { OnOk result (UpToDate scenario.now (C.scenario self.new.core) (C.state self.new.core)
-            (C.broken self.new.core) self.new.pages) }
+            self.new.pages) }
         ensures one { OnOk result (length self.new.pages.entries ≡ length self.old.pages.entries + 1) }
         ensures adds { Adds lane self.old.pages.entries self.new.pages.entries }
     {
@@ -132,10 +132,10 @@ impl<C: Jobs + Drop> Desk<C> {
     #[tactic(auto, using(crate::proofs::Added::reached_at, crate::proofs::Added::adds_none))]
     fn wait(&mut self, alloc: Global, scenario: &Scenario) -> Result<Turn, Memory>
         requires at { UpToDate scenario.now (C.scenario self.old.core) (C.state self.old.core)
-            (C.broken self.old.core) self.old.pages }
+            self.old.pages }
         requires room { (C.state self.old.core).entries < limit scenario.now }
         ensures at { OnOk result (UpToDate scenario.now (C.scenario self.new.core) (C.state self.new.core)
-            (C.broken self.new.core) self.new.pages) }
+            self.new.pages) }
         ensures adds { Adds 0 self.old.pages.entries self.new.pages.entries }
         ensures rests { IfOk result (λ found. ¬ (found ≡ turn.Works) × ¬ (found ≡ turn.Goes)) }
     {
@@ -154,10 +154,10 @@ impl<C: Jobs + Drop> Desk<C> {
     #[tactic(auto, using(crate::proofs::Added::reached_at, crate::proofs::Added::adds_none))]
     fn ask(&mut self, alloc: Global, scenario: &Scenario, lane: u32) -> Result<Turn, Memory>
         requires at { UpToDate scenario.now (C.scenario self.old.core) (C.state self.old.core)
-            (C.broken self.old.core) self.old.pages }
+            self.old.pages }
         requires lane { (1 ≤ lane) × (lane ≤ lanes scenario.now) }
         ensures at { OnOk result (UpToDate scenario.now (C.scenario self.new.core) (C.state self.new.core)
-            (C.broken self.new.core) self.new.pages) }
+            self.new.pages) }
         ensures adds { Adds 0 self.old.pages.entries self.new.pages.entries }
         ensures next { IfOk result (IsNextOf scenario.now (C.state self.new.core) lane) }
     {
@@ -177,10 +177,10 @@ impl<C: Jobs + Drop> Desk<C> {
     #[tactic(auto, using(crate::proofs::Added::adds_none))]
     fn go_on(&mut self, alloc: Global, scenario: &Scenario, lane: u32) -> Result<Turn, Memory>
         requires at { UpToDate scenario.now (C.scenario self.old.core) (C.state self.old.core)
-            (C.broken self.old.core) self.old.pages }
+            self.old.pages }
         requires lane { (1 ≤ lane) × (lane ≤ lanes scenario.now) }
         ensures at { OnOk result (UpToDate scenario.now (C.scenario self.new.core) (C.state self.new.core)
-            (C.broken self.new.core) self.new.pages) }
+            self.new.pages) }
         ensures adds { Adds lane self.old.pages.entries self.new.pages.entries }
         ensures works { IfOk result (λ found. found ≡ turn.Works
             → next_in scenario.now (C.state self.new.core) lane ≡ next.Body) }
@@ -204,11 +204,11 @@ impl<C: Jobs + Drop> Desk<C> {
         work: &mut Work,
     ) -> Result<(), Memory>
         requires at { UpToDate scenario.now (C.scenario self.old.core) (C.state self.old.core)
-            (C.broken self.old.core) self.old.pages }
+            self.old.pages }
         requires lane { (1 ≤ lane) × (lane ≤ lanes scenario.now) }
         requires work { IsWork scenario.now work.old }
         ensures at { OnOk result (UpToDate scenario.now (C.scenario self.new.core) (C.state self.new.core)
-            (C.broken self.new.core) self.new.pages) }
+            self.new.pages) }
         ensures adds { Adds lane self.old.pages.entries self.new.pages.entries }
         ensures none { work.new ≡ record { job = None; step = None } }
     {
@@ -232,11 +232,11 @@ impl<C: Jobs + Drop> Desk<C> {
         work: &mut Work,
     ) -> Result<Turn, Memory>
         requires at { UpToDate scenario.now (C.scenario self.old.core) (C.state self.old.core)
-            (C.broken self.old.core) self.old.pages }
+            self.old.pages }
         requires lane { (1 ≤ lane) × (lane ≤ lanes scenario.now) }
         requires work { IsWork scenario.now work.old }
         ensures at { OnOk result (UpToDate scenario.now (C.scenario self.new.core) (C.state self.new.core)
-            (C.broken self.new.core) self.new.pages) }
+            self.new.pages) }
         ensures adds { Adds lane self.old.pages.entries self.new.pages.entries }
         ensures work { IsWork scenario.now work.new }
     {

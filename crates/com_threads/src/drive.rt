@@ -52,13 +52,13 @@ impl<C: Jobs + Drop> Desk<C> {
         rows: &mut Vec<Row>,
     ) -> Result<(), Memory>
         requires at { UpToDate scenario.now (C.scenario self.old.core) (C.state self.old.core)
-            (C.broken self.old.core) self.old.pages }
+            self.old.pages }
         requires can { CanGo (C.scenario self.old.core) (C.state self.old.core) lane }
         requires room { (C.state self.old.core).entries < limit scenario.now }
         requires rows { All (λ servants. map kind_of servants.items ≡ row) rows.old.items }
         requires each { vec_len rows.old ≡ lanes scenario.now }
         ensures at { OnOk result (UpToDate scenario.now (C.scenario self.new.core) (C.state self.new.core)
-            (C.broken self.new.core) self.new.pages) }
+            self.new.pages) }
         ensures one { OnOk result (length self.new.pages.entries ≡ length self.old.pages.entries + 1) }
         ensures rows { All (λ servants. map kind_of servants.items ≡ row) rows.new.items }
         ensures each { vec_len rows.new ≡ lanes scenario.now }
@@ -78,12 +78,12 @@ impl<C: Jobs + Drop> Desk<C> {
         rows: &mut Vec<Row>,
     ) -> Result<Driven, Memory>
         requires at { UpToDate scenario.now (C.scenario self.old.core) (C.state self.old.core)
-            (C.broken self.old.core) self.old.pages }
+            self.old.pages }
         requires last { last ≤ lanes scenario.now }
         requires rows { All (λ servants. map kind_of servants.items ≡ row) rows.old.items }
         requires each { vec_len rows.old ≡ lanes scenario.now }
         ensures at { OnOk result (UpToDate scenario.now (C.scenario self.new.core) (C.state self.new.core)
-            (C.broken self.new.core) self.new.pages) }
+            self.new.pages) }
         ensures driven { IfOk result (λ driven. IsDriven scenario.now (C.state self.new.core)
             (length self.old.pages.entries) (length self.new.pages.entries) driven) }
         ensures rows { All (λ servants. map kind_of servants.items ≡ row) rows.new.items }
@@ -119,11 +119,11 @@ impl<C: Jobs + Drop> Desk<C> {
         rows: &mut Vec<Row>,
     ) -> Result<Ended, Memory>
         requires at { UpToDate scenario.now (C.scenario self.old.core) (C.state self.old.core)
-            (C.broken self.old.core) self.old.pages }
+            self.old.pages }
         requires rows { All (λ servants. map kind_of servants.items ≡ row) rows.old.items }
         requires each { vec_len rows.old ≡ lanes scenario.now }
         ensures at { OnOk result (UpToDate scenario.now (C.scenario self.new.core) (C.state self.new.core)
-            (C.broken self.new.core) self.new.pages) }
+            self.new.pages) }
         ensures ended { IfOk result (λ ended. ended_now scenario.now (C.state self.new.core) ≡ Some ended) }
     {
         let mut last = 0;

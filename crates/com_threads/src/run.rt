@@ -1,5 +1,5 @@
 //! A run on threads: the workers, and what is left for the calling thread.
-ghost use Rattle.std.specs.Prelude.{◌≡◌, ◌+◌, ◌≤◌, false, All, IfOk, Some, map, vec_len};
+ghost use Rattle.std.specs.Prelude.{◌≡◌, ◌+◌, ◌≤◌, All, IfOk, Some, map, vec_len};
 ghost use Rattle.com_drive.specs.Standings.{ended_now};
 ghost use Rattle.com_model.specs.Clock.{clock};
 ghost use Rattle.com_model.specs.Ends.{all_counts, ended_as};
@@ -53,7 +53,7 @@ fn answer<C: Jobs + Drop>(
     desk: Desk<C>,
     ended: Ended,
 ) -> Result<Ran, Memory>
-    requires at { UpToDate scenario.now (C.scenario desk.core) (C.state desk.core) (C.broken desk.core)
+    requires at { UpToDate scenario.now (C.scenario desk.core) (C.state desk.core)
         desk.pages }
     requires ended { ended_now scenario.now (C.state desk.core) ≡ Some ended }
     ensures lawful { IfOk result (λ ran. legal scenario.now (history_of ran)) }
@@ -102,7 +102,6 @@ fn run_named<
     requires formed { Formed scenario.now }
     requires scenario { C.scenario core ≡ scenario.now }
     requires first { C.state core ≡ first_tables scenario.now }
-    requires whole { C.broken core ≡ false }
     requires rows { lanes scenario.now ≤ vec_len crew }
     requires crew { All (λ servants. map kind_of servants.items ≡ row) crew.items }
     ensures lawful { IfOk result (λ ran. legal scenario.now (history_of ran)) }
@@ -162,7 +161,6 @@ pub fn run_on<C: Jobs + Drop + Send, R: Threads + Wait + Sync, G: Gate + Sync>(
     requires formed { Formed scenario.now }
     requires scenario { C.scenario core ≡ scenario.now }
     requires first { C.state core ≡ first_tables scenario.now }
-    requires whole { C.broken core ≡ false }
     requires rows { lanes scenario.now ≤ vec_len crew }
     requires crew { All (λ servants. map kind_of servants.items ≡ row) crew.items }
     ensures lawful { IfOk result (λ ran. legal scenario.now (history_of ran)) }

@@ -13,12 +13,11 @@ ghost use Rattle.com_commands.specs.Statuses.{IsEnd, sides_of};
 ghost use Rattle.com_top.specs.Scenarios.{scenario_input};
 
 use crate::scenarios::scenario_input;
-use com_base::{ByteList, Memory};
+use com_base::{ByteList, Memory, TEXT_2_LIMIT};
 use com_commands::{Input, InputReader, PlayingCommand, Status, perform, shared, status_at};
 use com_io::{Sink, Source};
 use com_model::Scenario;
 use com_play::{ReplayError, replay};
-use com_scenario::LONGEST;
 use com_servant::Servant;
 use std::alloc::Global;
 
@@ -28,7 +27,7 @@ pub struct ReplayCommand;
 impl InputReader for ReplayCommand {
     type Read = Scenario;
 
-    const LIMIT: usize = LONGEST;
+    const LIMIT: usize = TEXT_2_LIMIT;
 
     ghost LIMIT = { 16777216 };
 

@@ -11,8 +11,9 @@ ghost use Rattle.com_view.specs.Seen.{bare};
 ghost use Rattle.com_view.specs.Opened.{type_among};
 
 use crate::view::View;
+use com_base::HOST_STA;
 use com_cause::{NESTED, TOP_LEVEL, TOP_LEVEL_CALL_PENDING};
-use com_deeds::{HOST_STA, incoming, number_or_zero};
+use com_deeds::{incoming, number_or_zero};
 use com_filter::Verdict;
 
 impl<'a> View<'a> {

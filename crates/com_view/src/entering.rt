@@ -11,13 +11,10 @@ ghost use Rattle.com_model.specs.declared.deeds.Deed.TheVariants as deed;
 ghost use Rattle.com_view.specs.Seen.{bare, sight_by};
 
 use crate::view::View;
-use com_base::{HResult, Memory, Rows, Value};
+use com_base::{HResult, Memory, OPENER_LIMIT, Rows, Value};
 use com_deeds::is_handled;
 use com_model::Deed;
 use std::alloc::Global;
-
-// The most openers that a lane may have.
-const MOST_OPENERS: usize = 256;
 
 // Equal values. The only error is want of memory.
 fn copied(alloc: Global, values: &[Value]) -> Result<Rows<Value>, Memory>
@@ -111,7 +108,7 @@ impl<'a> View<'a> {
         ensures { (b : Books) → arguments_gone (sight_by self.now b) call ≡ gone
             → IfOk result (λ made. made ≡ admission self.now.scenario (sight_by self.now b) lane call) }
     {
-        if self.lanes.depth(lane) >= MOST_OPENERS {
+        if self.lanes.depth(lane) >= OPENER_LIMIT {
             return Ok(Deed::Refuse {
                 call,
                 hr: HResult::RPC_E_OUT_OF_RESOURCES,

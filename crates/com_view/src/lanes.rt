@@ -9,7 +9,8 @@ ghost use Rattle.com_view.specs.Sorts.{sort_as};
 
 use crate::sorts::{Sort, sort_of};
 use crate::view::View;
-use com_deeds::{HOST_STA, MTA, is_post};
+use com_base::{HOST_STA, MTA};
+use com_deeds::is_post;
 use com_model::Opener;
 
 impl<'a> View<'a> {

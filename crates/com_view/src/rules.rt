@@ -14,7 +14,8 @@ ghost use Rattle.com_view.specs.Sorts.{sort_as};
 
 use crate::sorts::Sort;
 use crate::view::View;
-use com_deeds::{HOST_STA, MTA, in_sta, pending, retried};
+use com_base::{HOST_STA, MTA};
+use com_deeds::{in_sta, pending, retried};
 use com_model::{Deed, Opener, Phase};
 
 impl<'a> View<'a> {

@@ -36,7 +36,7 @@ impl<'a> Model for View<'a> {
       lanes = w.lanes.now.tables;
       objects = w.objects.now.tables;
       calls = w.calls.now;
-      scene = w.scene.now;
+      scene = w.scene.now.tables;
       fallen = w.fallen.now.objects;
       clock = w.clock;
     } };

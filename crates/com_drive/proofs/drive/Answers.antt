@@ -11,7 +11,6 @@ turns-init g c = record {
   driving = driving_start_at c.args.scenario.now _ _ _ _ _ _ c.requires.first c.new-stream.ensures.tried c.new-stream.ensures.last c.new-stream.ensures.lines;
   same = c.requires.scenario;
   last = omega (arith, c.new-stream.ensures.last);
-  whole = c.requires.whole;
   kinds = c.requires.row;
   faults = omega arith;
 }
@@ -21,7 +20,6 @@ turns-preserved g c = record {
   driving = driving_on_step c.args.scenario.now _ _ _ _ _ c.requires.formed c.turns.invariant.driving c.in_ok-step.ensures.step (sym c.over.ensures ∙ not-some c.over.result c.in_default.not-Some);
   same = c.in_ok-step.ensures.scenario;
   last = c.in_ok-step.ensures.last;
-  whole = c.in_ok-step.ensures.whole;
   kinds = c.in_ok-step.ensures.row;
   faults = omega arith;
 }

@@ -10,7 +10,6 @@ turns-init g c = record {
   recording = recording_starts c.args.scenario.now _ _ _ _ c.requires.first c.new-stream.ensures.tried c.new-stream.ensures.last c.new-entries.ensures.items;
   same = c.requires.scenario;
   last = omega (arith, c.new-stream.ensures.last);
-  whole = c.requires.whole;
   kinds = c.requires.row;
   faults = omega arith;
 }
@@ -30,7 +29,6 @@ turns-preserved g c = record {
       (made_of c.args.scenario.now _ _ _ c.in-Made.entry c.in-Made.is c.in_ok-entry.ensures.step) c.turns.invariant.recording c.in_ok-add-in-Made.ensures;
   same = c.in_ok-entry.ensures.scenario;
   last = c.in_ok-entry.ensures.last;
-  whole = c.in_ok-entry.ensures.whole;
   kinds = c.in_ok-entry.ensures.row;
   faults = omega arith;
 }

@@ -1,4 +1,4 @@
-use Rattle.std.proofs.Common.{◌≡◌, ◌-◌, ◌≤◌, false, drop}
+use Rattle.std.proofs.Common.{◌≡◌, ◌-◌, ◌≤◌, drop}
 use Rattle.com_model.specs.Tables.{lanes}
 use Rattle.com_model.specs.Ends.{limit}
 use Rattle.com_servant.specs.Rows.{row}
@@ -19,7 +19,6 @@ invariant-turns g l = record {
   recording : Recording l.scenario (g.C.Runtime.state l.runtime) (drop l.stream.tried l.scenario.picks) l.stream.last l.entries.items;
   same : g.C.Runtime.scenario l.runtime ≡ l.scenario;
   last : l.stream.last ≤ lanes l.scenario;
-  whole : g.C.Runtime.broken l.runtime ≡ false;
   kinds : mapped l.servants.items (λ b. (goal.Servant-dyn g (b.vtable, b.value)).kind_of b.value) ≡ row;
   faults : g.K.Sink.faults_of l.initial.sink ≤ g.K.Sink.faults_of l.sink;
 }

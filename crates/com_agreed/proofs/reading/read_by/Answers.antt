@@ -8,7 +8,6 @@ pub lines-init : goal.lines-init
 lines-init g c = record {
   again = starts _ _ _ _ c.requires.text c.requires.first c.new-entries.ensures.items;
   same = c.requires.scenario;
-  whole = c.requires.whole;
   kinds = c.requires.row;
 }
 
@@ -47,6 +46,5 @@ lines-preserved g c = record {
       (sym c.ended.ensures ∙ not-some c.ended.result c.in_default.not-Some) c.split_line.ensures.lines c.in_ok-entry.ensures.made
       c.in_ok-push.ensures.items;
   same = c.in_ok-entry.ensures.scenario ∙ c.lines.invariant.same;
-  whole = c.in_ok-entry.ensures.whole;
   kinds = c.in_ok-entry.ensures.row;
 }

@@ -1,4 +1,4 @@
-use Rattle.std.proofs.Common.{◌≡◌, false, length, map}
+use Rattle.std.proofs.Common.{◌≡◌, length, map}
 use Rattle.com_servant.specs.Rows.{row}
 use Rattle.com_agreed.proofs.Again.{Again}
 use Rattle.com_agreed.proofs.reading.read_by.Given as goal
@@ -7,7 +7,6 @@ abbrev pub invariant-lines : goal.invariant-lines
 invariant-lines g l = record {
   again : Again l.scenario l.trace (g.C.Runtime.state l.runtime) l.entries.items l.rest;
   same : g.C.Runtime.scenario l.runtime ≡ l.scenario;
-  whole : g.C.Runtime.broken l.runtime ≡ false;
   kinds : map (λ b. (goal.Servant-dyn g (b.vtable, b.value)).kind_of b.value) l.servants.items ≡ row;
 }
 

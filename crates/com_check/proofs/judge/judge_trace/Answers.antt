@@ -11,7 +11,6 @@ pub lines-init : goal.lines-init
 lines-init g c = record {
   sofar = first_sofar _ _ _ _ c.requires.first c.new-judge.ensures;
   same = c.requires.scenario;
-  whole = c.requires.whole;
   kinds = c.requires.row;
 }
 
@@ -68,6 +67,5 @@ lines-preserved g c = record {
   sofar = more_sofar _ _ _ _ _ _ _ _ _ c.requires.formed c.lines.invariant.sofar (sym c.ended.ensures ∙ not-some c.ended.result c.in_default.not-Some)
       c.split_line.ensures.lines (when_on _ _ _ _ _ _ _ _ c.lines.invariant.same c.in_default-2.not-Some c.in_ok-judged.ensures.turn);
   same = c.in_ok-judged.ensures.scenario ∙ c.lines.invariant.same;
-  whole = c.in_ok-judged.ensures.whole;
   kinds = c.in_ok-judged.ensures.row;
 }

@@ -1,4 +1,4 @@
-use Rattle.std.proofs.Common.{◌≡◌, ◌-◌, false, map}
+use Rattle.std.proofs.Common.{◌≡◌, ◌-◌, map}
 use Rattle.com_model.specs.Ends.{limit}
 use Rattle.com_servant.specs.Rows.{row}
 use Rattle.com_check.proofs.Judging.{Sofar}
@@ -8,7 +8,6 @@ abbrev pub invariant-lines : goal.invariant-lines
 invariant-lines g l = record {
   sofar : Sofar l.scenario l.trace (g.C.Runtime.state l.runtime) l.judge.last l.rest;
   same : g.C.Runtime.scenario l.runtime ≡ l.scenario;
-  whole : g.C.Runtime.broken l.runtime ≡ false;
   kinds : map (λ b. (goal.Servant-dyn g (b.vtable, b.value)).kind_of b.value) l.servants.items ≡ row;
 }
 

@@ -6,7 +6,6 @@ pub entries-init : goal.entries-init
 entries-init g c = record {
   retraced = starts _ _ _ c.requires.first c.requires.lawful;
   same = c.requires.scenario;
-  whole = c.requires.whole;
   kinds = c.requires.row;
 }
 
@@ -23,7 +22,6 @@ pub entries-preserved : goal.entries-preserved
 entries-preserved g c = record {
   retraced = goes_on _ _ _ _ _ _ _ _ _ c.entries.invariant.same c.requires.lawful c.in-Some.ensures.cases.0 c.in_ok-make_next.ensures.made c.entries.invariant.retraced;
   same = c.in_ok-make_next.ensures.scenario ∙ c.entries.invariant.same;
-  whole = c.in_ok-make_next.ensures.whole;
   kinds = c.in_ok-make_next.ensures.row;
 }
 

@@ -1,4 +1,4 @@
-use Rattle.std.proofs.Common.{◌≡◌, false, length, map}
+use Rattle.std.proofs.Common.{◌≡◌, length, map}
 use Rattle.com_servant.specs.Rows.{row}
 use Rattle.com_explain.proofs.Retraced.{Retraced}
 use Rattle.com_explain.proofs.retracing.stuck_after.Given as goal
@@ -7,7 +7,6 @@ abbrev pub invariant-entries : goal.invariant-entries
 invariant-entries g l = record {
   retraced : Retraced l.scenario l.history (g.C.Runtime.state l.runtime) l.rest;
   same : g.C.Runtime.scenario l.runtime ≡ l.scenario;
-  whole : g.C.Runtime.broken l.runtime ≡ false;
   kinds : map (λ b. (goal.Servant-dyn g (b.vtable, b.value)).kind_of b.value) l.servants.items ≡ row;
 }
 

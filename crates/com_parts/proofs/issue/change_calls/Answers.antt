@@ -15,19 +15,19 @@ add-requires-clause-number c = subst (λ (d : Deed). IsCalled c.args.calls.now.t
 
 pub returns-in-Out-clause-apartments : goal.returns-in-Out-clause-apartments
 returns-in-Out-clause-apartments c = λ o h.
-    subst (λ (d : Deed). c.add.new.calls.apartments ≡ grown (is_some (issues c.args.lane d)) c.args.begun.apartment c.args.calls.now.apartments) (sym c.in-Out.is)
+    subst (λ (d : Deed). c.add.new.calls.apartments ≡ grown (is_some (issues c.args.lane d)) c.args.calling.apartment c.args.calls.now.apartments) (sym c.in-Out.is)
     (ap (λ (b : Kept). b.apartments) (c.add.ensures o c.in-Out.bytes))
 
 pub returns-in-Leave-clause-tables : goal.returns-in-Leave-clause-tables
 returns-in-Leave-clause-tables c = λ o h.
-    let m : Moment = record { outermost = c.args.begun.outermost; filtered = c.args.begun.filtered; clock = c.args.begun.clock } in
-    subst (λ (d : Deed). c.leave.new.self.tables ≡ calls_after o m (issuing_of c.args.begun.issued) c.args.calls.now.tables (record { lane = c.args.lane; deed = d })) (sym c.in-Leave.is)
-    (subst (λ (v : Option Value). c.leave.new.self.tables ≡ calls_after o m (issuing_of c.args.begun.issued) c.args.calls.now.tables (record { lane = c.args.lane; deed = deed.Leave c.in-Leave.call c.in-Leave.hr v c.in-Leave.bytes }))
+    let m : Moment = record { outermost = c.args.calling.outermost; filtered = c.args.calling.filtered; clock = c.args.calling.clock } in
+    subst (λ (d : Deed). c.leave.new.self.tables ≡ calls_after o m (issuing_of c.args.calling.issued) c.args.calls.now.tables (record { lane = c.args.lane; deed = d })) (sym c.in-Leave.is)
+    (subst (λ (v : Option Value). c.leave.new.self.tables ≡ calls_after o m (issuing_of c.args.calling.issued) c.args.calls.now.tables (record { lane = c.args.lane; deed = deed.Leave c.in-Leave.call c.in-Leave.hr v c.in-Leave.bytes }))
     (c.requires.value ∙ ap left_in c.in-Leave.is)
-    (ap (λ (b : Kept). b.tables) (c.leave.ensures o m (issuing_of c.args.begun.issued) c.args.lane c.in-Leave.bytes)))
+    (ap (λ (b : Kept). b.tables) (c.leave.ensures o m (issuing_of c.args.calling.issued) c.args.lane c.in-Leave.bytes)))
 
 pub returns-in-Leave-clause-apartments : goal.returns-in-Leave-clause-apartments
 returns-in-Leave-clause-apartments c = λ o h.
-    subst (λ (d : Deed). c.leave.new.self.apartments ≡ grown (is_some (issues c.args.lane d)) c.args.begun.apartment c.args.calls.now.apartments) (sym c.in-Leave.is)
+    subst (λ (d : Deed). c.leave.new.self.apartments ≡ grown (is_some (issues c.args.lane d)) c.args.calling.apartment c.args.calls.now.apartments) (sym c.in-Leave.is)
     (ap (λ (b : Kept). b.apartments) (c.leave.ensures o
-    (record { outermost = c.args.begun.outermost; filtered = c.args.begun.filtered; clock = c.args.begun.clock }) (issuing_of c.args.begun.issued) c.args.lane c.in-Leave.bytes))
+    (record { outermost = c.args.calling.outermost; filtered = c.args.calling.filtered; clock = c.args.calling.clock }) (issuing_of c.args.calling.issued) c.args.lane c.in-Leave.bytes))

@@ -6,7 +6,6 @@ pub picks-init : goal.picks-init
 picks-init g c = record {
   picking = starts _ _ _ _ c.requires.first c.new-entries.ensures.items;
   same = c.requires.scenario;
-  whole = c.requires.whole;
   kinds = c.requires.row;
 }
 
@@ -19,7 +18,6 @@ picks-preserved g c = record {
   picking = goes_on _ _ _ _ _ _ _ _ _ c.picks.invariant.same c.requires.formed (omega arith)
       c.in_ok-made.ensures.made c.in_ok-keep.ensures c.picks.invariant.picking;
   same = c.in_ok-made.ensures.scenario ∙ c.picks.invariant.same;
-  whole = c.in_ok-made.ensures.whole;
   kinds = c.in_ok-made.ensures.row;
 }
 

@@ -1,4 +1,4 @@
-use Rattle.std.proofs.Common.{◌≡◌, false, drop, map}
+use Rattle.std.proofs.Common.{◌≡◌, drop, map}
 use Rattle.com_servant.specs.Rows.{row}
 use Rattle.com_picked.proofs.Between.{Picking}
 use Rattle.com_picked.proofs.picking.make_all.Given as goal
@@ -8,6 +8,5 @@ invariant-picks g l = record {
   picking :
       Picking l.scenario l.picks (g.C.Runtime.state l.runtime) (drop l.lane-index l.picks) l.entries.items;
   same : g.C.Runtime.scenario l.runtime ≡ l.scenario;
-  whole : g.C.Runtime.broken l.runtime ≡ false;
   kinds : map (λ b. (goal.Servant-dyn g (b.vtable, b.value)).kind_of b.value) l.servants.items ≡ row;
 }

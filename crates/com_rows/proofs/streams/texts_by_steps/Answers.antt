@@ -7,7 +7,6 @@ loop-place-init g c = record {
   same = c.requires.scenario;
   within = within_first c.args.scenario.now _ c.requires.first;
   reached = reached_first c.args.scenario.now _ c.requires.formed c.requires.first;
-  whole = c.requires.whole;
   last = omega (arith, c.new-stream.ensures.last);
   kinds = c.requires.row;
 }

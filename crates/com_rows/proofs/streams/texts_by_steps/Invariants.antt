@@ -1,4 +1,4 @@
-use Rattle.std.proofs.Common.{◌≡◌, ◌≤◌, false, map}
+use Rattle.std.proofs.Common.{◌≡◌, ◌≤◌, map}
 use Rattle.com_model.specs.Ends.{limit}
 use Rattle.com_model.specs.Tables.{lanes}
 use Rattle.com_servant.specs.Rows.{row}
@@ -10,7 +10,6 @@ invariant-loop-place g l = record {
   same : g.C.Runtime.scenario l.runtime ≡ l.scenario;
   within : (g.C.Runtime.state l.runtime).entries ≤ limit l.scenario;
   reached : Reached l.scenario (g.C.Runtime.state l.runtime);
-  whole : g.C.Runtime.broken l.runtime ≡ false;
   last : l.stream.last ≤ lanes l.scenario;
   kinds : map (λ b. (goal.Servant-dyn g (b.vtable, b.value)).kind_of b.value) l.servants.items ≡ row;
 }

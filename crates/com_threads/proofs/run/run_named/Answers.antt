@@ -11,7 +11,7 @@ use Rattle.com_threads.proofs.run.run_named.Goals as goal
 
 pub new-requires-2 : goal.new-requires-2
 new-requires-2 g c =
-    first_told c.args.scenario.now g.J.Plays.scenario _ _ _ _ c.lanes-count.result c.requires.named c.requires.formed c.requires.scenario c.requires.whole c.requires.first c.lanes-count.ensures c.in_ok-pages.ensures
+    first_told c.args.scenario.now g.J.Plays.scenario _ _ _ c.lanes-count.result c.requires.named c.requires.formed c.requires.scenario c.requires.first c.lanes-count.ensures c.in_ok-pages.ensures
 
 pub deal-requires-clause-new : goal.deal-requires-clause-new
 deal-requires-clause-new g c = λ i p at.

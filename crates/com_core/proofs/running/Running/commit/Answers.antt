@@ -1,5 +1,5 @@
 -- A job that fits is stale where the object's cells are others than its own; else its step is that of the body.
-use Rattle.std.proofs.Common.{◌≡◌, refl, sym, ◌∙◌}
+use Rattle.std.proofs.Common.{◌≡◌, sym, ◌∙◌}
 use Rattle.std.specs.Prelude.{true, false}
 use Rattle.com_jobs.specs.Jobs.{kept_in}
 use Rattle.com_core.specs.Seen.{kept_of, core_state}
@@ -13,7 +13,7 @@ returns-then-not-same_cells-clause-refused c =
     let r = c.args.self.now in
     let k : c.kept-kept.result ≡ kept_in (core_state (kept_of s r)) c.args.lane = c.kept-kept.ensures ∙ kept_same s r c.args.lane in
     let n : c.same_cells.result ≡ false = cc (c.if-not-same_cells.true) in
-    (k, (λ e. unlike c.same_cells.result c.same_cells.ensures n (e ∙ sym k)), refl)
+    (k, λ e. unlike c.same_cells.result c.same_cells.ensures n (e ∙ sym k))
 
 pub returns-in-Ok-clause-fresh : goal.returns-in-Ok-clause-fresh
 returns-in-Ok-clause-fresh c =

@@ -1,5 +1,4 @@
 -- All that an entry changes, with what its change rests on.
-use Rattle.std.proofs.Common.{Result, Ok, Err, OnOk}
 use Rattle.com_scene.specs.Actors.{acting_of}
 use Rattle.com_core.proofs.Runs.{entries_made, few_made, sound_made}
 use Rattle.com_core.proofs.Made.{changed_made}
@@ -8,13 +7,12 @@ use Rattle.com_core.proofs.running.Running.make.Goals as goal
 pub returns-clause-few : goal.returns-clause-few
 returns-clause-few c =
     let m = c.change.ensures in
-    few_made c.change.result c.args.self.now.parts c.change.new.self.parts _ _ _ _ _ _ _ m.becomes m.same c.requires.room c.requires.few
+    few_made c.change.result c.args.self.now c.change.new.self _ _ _ _ _ _ m.becomes m.err c.requires.room c.requires.few
 
 pub returns-clause-sound : goal.returns-clause-sound
 returns-clause-sound c =
     let m = c.change.ensures in
-    sound_made c.change.result c.args.self.now.parts c.change.new.self.parts c.args.self.now.entered.counts c.change.new.self.entered.counts _ _ _ _ _ _ _
-    m.becomes m.bodies m.runs m.same m.kept c.requires.sound
+    sound_made c.change.result c.args.self.now c.change.new.self _ _ _ _ _ _ m.becomes m.bodies m.runs m.err c.requires.sound
 
 pub returns-clause-entries : goal.returns-clause-entries
 returns-clause-entries c = entries_made c.change.result c.args.self.now.parts c.change.new.self.parts _ _ _ _ _ _ _ c.change.ensures.becomes

@@ -1,6 +1,5 @@
 -- The entry of a lane in which no body acts is that of what the core keeps.
 use Rattle.std.proofs.Common.{◌≡◌, ◌≤◌, IfOk, OnErr, refl, subst, sym}
-use Rattle.std.specs.Prelude.{false}
 use Rattle.std.specs.Arc.{arc_value}
 use Rattle.com_model.specs.declared.deeds.Entry.{Entry}
 use Rattle.com_model.specs.Formed.{Formed}
@@ -31,7 +30,7 @@ returns-clause-follows c =
     let steps : IfOk c.advance.result (λ (n : Entry). IsWhole (core_of s r) → Steps l (core_of s r) (core_of s u) n) =
     step_taken c.advance.result l c.deref.result.now s r u c.deref.ensures c.requires.above high e.next in
     subst (λ (w : CoreView). IfOk c.advance.result (λ (n : Entry). Formed w.scenario → IsNext w.scenario (core_state w) l n (core_state (core_of s u)))) c.self.view_is
-    (next_stepped c.advance.result l (core_of s r) (core_of s u) c.self.invariant.4 refl e.was steps e.lane e.clock)
+    (next_stepped c.advance.result l (core_of s r) (core_of s u) c.self.invariant.4 refl steps e.lane e.clock)
 
 pub returns-clause-next : goal.returns-clause-next
 returns-clause-next c =
@@ -48,7 +47,7 @@ returns-clause-err c =
     let s = arc_value c.self.inside.scenario in
     let r = c.self.inside.running in
     let u = c.advance.new.self in
-    subst (λ (w : CoreView). OnErr c.advance.result (u.broken ≡ false → core_of s u ≡ w)) c.self.view_is (same_core c.advance.result s r u c.advance.ensures.err)
+    subst (λ (w : CoreView). OnErr c.advance.result (core_of s u ≡ w)) c.self.view_is (same_core c.advance.result s r u c.advance.ensures.err)
 
 pub invariant_of-self : goal.invariant_of-self
 invariant_of-self c =
@@ -60,4 +59,4 @@ invariant_of-self c =
     let high : l ≤ lanes s = subst (λ (w : CoreView). l ≤ lanes w.scenario) (sym c.self.view_is) c.requires.below in
     let steps : IfOk c.advance.result (λ (n : Entry). IsWhole (core_of s r) → Steps l (core_of s r) (core_of s u) n) =
     step_taken c.advance.result l c.deref.result.now s r u c.deref.ensures c.requires.above high e.next in
-    (e.sound, e.few, c.self.invariant.2, c.self.invariant.3, kept_stepped c.advance.result l (core_of s r) (core_of s u) c.self.invariant.4 refl e.was steps e.clock (same_core c.advance.result s r u e.err))
+    (e.sound, e.few, c.self.invariant.2, c.self.invariant.3, kept_stepped c.advance.result l (core_of s r) (core_of s u) c.self.invariant.4 refl steps e.clock (same_core c.advance.result s r u e.err))

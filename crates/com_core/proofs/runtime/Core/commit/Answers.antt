@@ -1,6 +1,6 @@
 -- A commit of a core is that of what it keeps.
 use Rattle.std.proofs.Common.{◌≡◌, ◌≤◌, IfOk, refl, subst, sym}
-use Rattle.std.specs.Prelude.{IfErr, OnErr, OnOk, false}
+use Rattle.std.specs.Prelude.{IfErr, OnErr, OnOk}
 use Rattle.std.specs.Arc.{arc_value}
 use Rattle.com_model.specs.declared.deeds.Entry.{Entry}
 use Rattle.com_model.specs.declared.scenario.Scenario.{Scenario}
@@ -8,7 +8,6 @@ use Rattle.com_model.specs.Formed.{Formed}
 use Rattle.com_model.specs.Tables.{lanes}
 use Rattle.com_servant.specs.Steps.{job_step}
 use Rattle.com_drive.specs.Turns.{IsNext}
-use Rattle.com_jobs.specs.declared.errors.CommitError.{CommitError}
 use Rattle.com_jobs.specs.Jobs.{Fits, IsRefused, kept_in}
 use Rattle.com_core.specs.Seen.{CoreView, IsWhole, Steps, core_of, core_state, kept_of}
 use Rattle.com_core.proofs.Kept.{kept_stepped, next_stepped, same_core, step_taken}
@@ -39,7 +38,7 @@ returns-clause-follows c =
     let steps : IfOk c.commit.result (λ (n : Entry). IsWhole (core_of s r) → Steps l (core_of s r) (core_of s u) n) =
     step_taken c.commit.result l c.deref.result.now s r u c.deref.ensures c.requires.above high e.next in
     subst (λ (w : CoreView). IfOk c.commit.result (λ (n : Entry). Formed w.scenario → IsNext w.scenario (core_state w) l n (core_state (core_of s u)))) c.self.view_is
-    (next_stepped c.commit.result l (core_of s r) (core_of s u) c.self.invariant.4 refl e.was steps e.lane e.clock)
+    (next_stepped c.commit.result l (core_of s r) (core_of s u) c.self.invariant.4 refl steps e.lane e.clock)
 
 pub returns-clause-next : goal.returns-clause-next
 returns-clause-next c =
@@ -64,17 +63,17 @@ returns-clause-refused c =
     let l = c.args.lane in
     let u = c.commit.new.self in
     let s = arc_value c.self.inside.scenario in
-    let refused : IfErr c.commit.result (λ (e : CommitError). IsRefused (kept_in (core_state (kept_of s r)) l) c.args.job r.broken u.broken e) =
-    subst (λ (s : Scenario). IfErr c.commit.result (λ (e : CommitError). IsRefused (kept_in (core_state (kept_of s r)) l) c.args.job r.broken u.broken e)) c.deref.ensures c.commit.ensures.refused in
-    subst (λ (w : CoreView). IfErr c.commit.result (λ (e : CommitError). IsRefused (kept_in (core_state w) l) c.args.job w.broken u.broken e)) c.self.view_is
-    (subst (λ (st : State). IfErr c.commit.result (λ (e : CommitError). IsRefused (kept_in st l) c.args.job r.broken u.broken e)) (sym (state_shown (kept_of s r))) refused)
+    let refused : IfErr c.commit.result (IsRefused (kept_in (core_state (kept_of s r)) l) c.args.job) =
+    subst (λ (s : Scenario). IfErr c.commit.result (IsRefused (kept_in (core_state (kept_of s r)) l) c.args.job)) c.deref.ensures c.commit.ensures.refused in
+    subst (λ (w : CoreView). IfErr c.commit.result (IsRefused (kept_in (core_state w) l) c.args.job)) c.self.view_is
+    (subst (λ (st : State). IfErr c.commit.result (IsRefused (kept_in st l) c.args.job)) (sym (state_shown (kept_of s r))) refused)
 
 pub returns-clause-err : goal.returns-clause-err
 returns-clause-err c =
     let s = arc_value c.self.inside.scenario in
     let r = c.self.inside.running in
     let u = c.commit.new.self in
-    subst (λ (w : CoreView). OnErr c.commit.result (u.broken ≡ false → core_of s u ≡ w)) c.self.view_is (same_core c.commit.result s r u c.commit.ensures.err)
+    subst (λ (w : CoreView). OnErr c.commit.result (core_of s u ≡ w)) c.self.view_is (same_core c.commit.result s r u c.commit.ensures.err)
 
 pub invariant_of-self : goal.invariant_of-self
 invariant_of-self c =
@@ -86,4 +85,4 @@ invariant_of-self c =
     let high : l ≤ lanes s = subst (λ (w : CoreView). l ≤ lanes w.scenario) (sym c.self.view_is) c.requires.below in
     let steps : IfOk c.commit.result (λ (n : Entry). IsWhole (core_of s r) → Steps l (core_of s r) (core_of s u) n) =
     step_taken c.commit.result l c.deref.result.now s r u c.deref.ensures c.requires.above high e.next in
-    (e.sound, e.few, c.self.invariant.2, c.self.invariant.3, kept_stepped c.commit.result l (core_of s r) (core_of s u) c.self.invariant.4 refl e.was steps e.clock (same_core c.commit.result s r u e.err))
+    (e.sound, e.few, c.self.invariant.2, c.self.invariant.3, kept_stepped c.commit.result l (core_of s r) (core_of s u) c.self.invariant.4 refl steps e.clock (same_core c.commit.result s r u e.err))

@@ -1,6 +1,5 @@
 -- The clock's entry of a core is that of what it keeps.
-use Rattle.std.proofs.Common.{◌≡◌, IfOk, OnErr, refl, subst, sym}
-use Rattle.std.specs.Prelude.{false}
+use Rattle.std.proofs.Common.{◌≡◌, IfOk, OnErr, refl, subst}
 use Rattle.std.specs.Arc.{arc_value}
 use Rattle.com_model.specs.declared.deeds.Entry.{Entry}
 use Rattle.com_model.specs.Formed.{Formed}
@@ -24,7 +23,7 @@ returns-clause-follows c =
     let steps : IfOk c.tick.result (λ (n : Entry). IsWhole (core_of s r) → Steps 0 (core_of s r) (core_of s u) n) =
     tick_taken c.tick.result c.deref.result.now s r u c.deref.ensures due e.next in
     subst (λ (w : CoreView). IfOk c.tick.result (λ (n : Entry). Formed w.scenario → IsNext w.scenario (core_state w) 0 n (core_state (core_of s u)))) c.self.view_is
-    (next_stepped c.tick.result 0 (core_of s r) (core_of s u) c.self.invariant.4 refl e.was steps e.lane e.clock)
+    (next_stepped c.tick.result 0 (core_of s r) (core_of s u) c.self.invariant.4 refl steps e.lane e.clock)
 
 pub returns-clause-next : goal.returns-clause-next
 returns-clause-next c =
@@ -41,7 +40,7 @@ returns-clause-err c =
     let s = arc_value c.self.inside.scenario in
     let r = c.self.inside.running in
     let u = c.tick.new.self in
-    subst (λ (w : CoreView). OnErr c.tick.result (u.broken ≡ false → core_of s u ≡ w)) c.self.view_is (same_core c.tick.result s r u c.tick.ensures.err)
+    subst (λ (w : CoreView). OnErr c.tick.result (core_of s u ≡ w)) c.self.view_is (same_core c.tick.result s r u c.tick.ensures.err)
 
 pub invariant_of-self : goal.invariant_of-self
 invariant_of-self c =
@@ -53,4 +52,4 @@ invariant_of-self c =
     as_kept (λ s st. IsReached s st → standing_of s st ≡ standing.Ticks) s r _ c.self.view_is c.requires.due in
     let steps : IfOk c.tick.result (λ (n : Entry). IsWhole (core_of s r) → Steps 0 (core_of s r) (core_of s u) n) =
     tick_taken c.tick.result c.deref.result.now s r u c.deref.ensures due e.next in
-    (e.sound, e.few, c.self.invariant.2, c.self.invariant.3, kept_stepped c.tick.result 0 (core_of s r) (core_of s u) c.self.invariant.4 refl e.was steps e.clock (same_core c.tick.result s r u e.err))
+    (e.sound, e.few, c.self.invariant.2, c.self.invariant.3, kept_stepped c.tick.result 0 (core_of s r) (core_of s u) c.self.invariant.4 refl steps e.clock (same_core c.tick.result s r u e.err))

@@ -1,5 +1,5 @@
 -- A new core is that of the first state.
-use Rattle.std.proofs.Common.{◌≡◌, ◌<◌, ◌^◌, length, refl, subst}
+use Rattle.std.proofs.Common.{◌≡◌, ◌+◌, ◌<◌, ◌^◌, arith, length, refl, subst}
 use Rattle.std.specs.Arc.{arc_value}
 use Rattle.com_model.specs.declared.scenario.Scenario.{Scenario}
 use Rattle.com_model.specs.Tables.{lanes}
@@ -31,8 +31,9 @@ invariant_of-result c =
     let s = arc_value c.args.scenario in
     let r = c.in_ok-running.running in
     let e = c.in_ok-running.ensures in
-    let count : c.in-Some.count ≡ lanes s = subst (λ (x : Scenario). c.in-Some.count ≡ lanes x) c.deref.ensures c.in-Some.ensures.count in
-    let threads : length s.threads < 2 ^ 32 = subst (λ (x : Scenario). length x.threads < 2 ^ 32) c.deref.ensures c.in-Some.ensures.threads in
+    let count : c.in-Some.count ≡ lanes s = subst (λ (x : Scenario). c.in-Some.count ≡ lanes x) c.deref.ensures c.in-Some.ensures.lanes in
+    let more : length s.threads + 2 < 2 ^ 32 = subst (λ (x : Scenario). length x.threads + 2 < 2 ^ 32) c.deref.ensures c.in-Some.ensures.threads in
+    let threads : length s.threads < 2 ^ 32 = omega (arith, more) in
     let begins : BeginsParts s r.parts r.fallen.objects = subst (λ (x : Scenario). BeginsParts x r.parts r.fallen.objects) c.deref-2.ensures e.stands in
     let first = new_core s (core_of s r) refl (begins_shown s r.parts r.fallen.objects begins) e.clock e.entered (new_shown r.ledger e.held) in
     (e.sound, e.few, count, threads, new_kept s (core_of s r) refl first)

@@ -1,6 +1,5 @@
 -- A step of a core is that of what it keeps.
 use Rattle.std.proofs.Common.{◌≡◌, ◌≤◌, IfOk, OnErr, refl, subst, arith}
-use Rattle.std.specs.Prelude.{false}
 use Rattle.std.specs.Arc.{arc_value}
 use Rattle.com_model.specs.declared.deeds.Entry.{Entry}
 use Rattle.com_model.specs.Formed.{Formed}
@@ -23,7 +22,7 @@ returns-clause-follows g c =
     let steps : IfOk c.step.result (λ (n : Entry). IsWhole (core_of s r) → Steps l (core_of s r) (core_of s u) n) =
     step_taken c.step.result l c.deref.result.now s r u c.deref.ensures low high e.next in
     subst (λ (w : CoreView). IfOk c.step.result (λ (n : Entry). Formed w.scenario → IsNext w.scenario (core_state w) l n (core_state (core_of s u)))) c.self.view_is
-    (next_stepped c.step.result l (core_of s r) (core_of s u) c.self.invariant.4 refl e.was steps e.lane e.clock)
+    (next_stepped c.step.result l (core_of s r) (core_of s u) c.self.invariant.4 refl steps e.lane e.clock)
 
 pub returns-clause-next : goal.returns-clause-next
 returns-clause-next g c =
@@ -41,7 +40,7 @@ returns-clause-err g c =
     let s = arc_value c.self.inside.scenario in
     let r = c.self.inside.running in
     let u = c.step.new.self in
-    subst (λ (w : CoreView). OnErr c.step.result (u.broken ≡ false → core_of s u ≡ w)) c.self.view_is (same_core c.step.result s r u c.step.ensures.err)
+    subst (λ (w : CoreView). OnErr c.step.result (core_of s u ≡ w)) c.self.view_is (same_core c.step.result s r u c.step.ensures.err)
 
 pub invariant_of-self : goal.invariant_of-self
 invariant_of-self g c =
@@ -54,7 +53,7 @@ invariant_of-self g c =
     let high : l ≤ lanes s = omega (arith, c.self.invariant.2) in
     let steps : IfOk c.step.result (λ (n : Entry). IsWhole (core_of s r) → Steps l (core_of s r) (core_of s u) n) =
     step_taken c.step.result l c.deref.result.now s r u c.deref.ensures low high e.next in
-    (e.sound, e.few, c.self.invariant.2, c.self.invariant.3, kept_stepped c.step.result l (core_of s r) (core_of s u) c.self.invariant.4 refl e.was steps e.clock (same_core c.step.result s r u e.err))
+    (e.sound, e.few, c.self.invariant.2, c.self.invariant.3, kept_stepped c.step.result l (core_of s r) (core_of s u) c.self.invariant.4 refl steps e.clock (same_core c.step.result s r u e.err))
 
 pub returns-clause-served : goal.returns-clause-served
 returns-clause-served g c =

@@ -4,4 +4,4 @@ use Rattle.com_core.proofs.Kept.{is_reached}
 use Rattle.com_core.proofs.runtime.CoreRuntime.counts.Goals as goal
 
 pub returns : goal.returns
-returns c = c.counts.ensures (is_reached c.args.self.now.scenario (core_state c.args.self.now) c.requires.reached) c.requires.whole
+returns c = c.counts.ensures (is_reached c.args.self.now.scenario (core_state c.args.self.now) c.requires.reached)

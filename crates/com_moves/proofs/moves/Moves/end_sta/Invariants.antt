@@ -6,4 +6,4 @@ use Rattle.com_moves.specs.Steps.{links_of_step}
 use Rattle.com_moves.proofs.moves.Moves.end_sta.Given as goal
 
 abbrev pub invariant-loop-object : goal.invariant-loop-object
-invariant-loop-object l = l.self ≡ record l.fn.self { lost = l.fn.self.lost ++ links_of_step (named_at l.objects.tables) l.scene (acting_of l.acting) l.outcome l.deed l.apartment (one_to l.object) }
+invariant-loop-object l = l.self ≡ record l.fn.self { lost = l.fn.self.lost ++ links_of_step (named_at l.objects.tables) l.scene.tables (acting_of l.acting) l.outcome l.deed l.apartment (one_to l.object) }

@@ -3,16 +3,17 @@ use Rattle.std.proofs.Common.{◌<◌, length, arith, ◌∷◌, sym, ◌∙◌,
 use Rattle.com_body.specs.Frames.{FrameView}
 use Rattle.com_model.specs.Frames.{to_answer, to_destination}
 use Rattle.com_scene.specs.declared.tables.CallRow.{CallRow}
-use Rattle.com_scene.specs.Seen.{body_of, destination_of}
+use Rattle.com_scene.specs.Seen.{body_of, destination_of, own_or}
 use Rattle.com_scene.specs.Steps.{frame_with}
-use Rattle.com_scene.proofs.RowLemmas.{row_changed, seated_at}
+use Rattle.com_scene.proofs.RowLemmas.{row_changed}
+use Rattle.com_scene.proofs.SeatLemmas.{seat_at}
 use Rattle.com_scene.proofs.tables.Tables.give_body.Goals as goal
 
-pub receive-requires-clause-seated : goal.receive-requires-clause-seated
-receive-requires-clause-seated c =
+pub receive-requires-clause-seat : goal.receive-requires-clause-seat
+receive-requires-clause-seat c =
     let h : c.args.call < length c.args.self.now.calls.items = omega arith in
-    subst (λ (row : CallRow). IsSome row.frame) (sym c.index_mut-row.ensures.value)
-    (seated_at c.args.self.now.calls.items c.args.call c.index_mut-row.result.now h c.requires.seated)
+    subst (λ (row : CallRow). IsSome (own_or row.frame c.args.spare)) (sym c.index_mut-row.ensures.value)
+    (seat_at c.args.self.now.calls.items c.args.call c.index_mut-row.result.now c.args.spare h c.requires.seat)
 
 pub returns-then-call-len : goal.returns-then-call-len
 returns-then-call-len c =

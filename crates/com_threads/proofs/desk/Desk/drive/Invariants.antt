@@ -8,7 +8,7 @@ use Rattle.com_threads.proofs.desk.Desk.drive.Given as goal
 
 abbrev pub invariant-turns : goal.invariant-turns
 invariant-turns g l = record {
-  at : UpToDate l.scenario (g.C.Runtime.scenario l.self.core) (g.C.Runtime.state l.self.core) (g.C.Runtime.broken l.self.core) l.self.pages;
+  at : UpToDate l.scenario (g.C.Runtime.scenario l.self.core) (g.C.Runtime.state l.self.core) l.self.pages;
   last : l.last ≤ lanes l.scenario;
   rows : All (λ r. mapped r.items (λ b. (goal.Servant-dyn g (b.vtable, b.value)).kind_of b.value) ≡ row) l.rows.items;
   each : vec_len l.rows ≡ lanes l.scenario;

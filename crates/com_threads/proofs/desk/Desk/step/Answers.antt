@@ -8,7 +8,7 @@ use Rattle.com_threads.proofs.desk.Desk.step.Goals as goal
 
 pub returns-clause-at : goal.returns-clause-at
 returns-clause-at g c =
-    on_ok_weaker c.write.result (λ is. one_later _ _ _ _ _ _ _ _ _ _ _ c.requires.at c.in_ok-entry.ensures.scenario c.in_ok-entry.ensures.whole c.requires.room c.in_ok-entry.ensures.entry is) c.write.ensures.ok
+    on_ok_weaker c.write.result (λ is. one_later _ _ _ _ _ _ _ _ _ c.requires.at c.in_ok-entry.ensures.scenario c.requires.room c.in_ok-entry.ensures.entry is) c.write.ensures.ok
 
 pub returns-clause-rows : goal.returns-clause-rows
 returns-clause-rows g c =

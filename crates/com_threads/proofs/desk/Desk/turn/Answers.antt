@@ -8,7 +8,7 @@ pub returns-then-ne-clause-adds : goal.returns-then-ne-clause-adds
 returns-then-ne-clause-adds g c = adds_both c.args.lane _ _ _ c.in_ok-bring.ensures.adds c.in_ok-turn.ensures.adds
 
 pub job-requires-clause-reached : goal.job-requires-clause-reached
-job-requires-clause-reached g c = reached_at _ _ _ _ _ c.in_ok-turn.ensures.at
+job-requires-clause-reached g c = reached_at _ _ _ _ c.in_ok-turn.ensures.at
 
 pub returns-in_err-job-clause-adds : goal.returns-in_err-job-clause-adds
 returns-in_err-job-clause-adds g c = adds_both c.args.lane _ _ _ c.in_ok-bring.ensures.adds c.in_ok-turn.ensures.adds
