@@ -1,6 +1,2 @@
-pub mod Bodies
-pub mod StasKept
-pub mod Words
-pub mod MarksLeft
 pub mod Rows
 pub mod Bounds

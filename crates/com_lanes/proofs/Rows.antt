@@ -1,5 +1,5 @@
 -- Rows of tables.
-use Rattle.std.proofs.Common.{◌≡◌, ℕ, zero, suc, ◌+◌, Bool, true, false, List, [], ◌∷◌, refl, ◌∙◌, ap, slice_index_or, slice_set, length, map, slice_get, ◌++◌, ◌≤◌, Option, Some, None, sym, ℤ, pos, negsuc}
+use Rattle.std.proofs.Common.{◌≡◌, ℕ, zero, suc, ◌+◌, Bool, true, false, List, [], ◌∷◌, refl, ◌∙◌, ap, slice_index_or, slice_set, length, map, slice_get, ◌++◌, ◌≤◌, Some, None, ℤ, pos, negsuc}
 use Rattle.std.proofs.lemmas.List.{set_past as set-past, map-set, map-append}
 use Rattle.std.proofs.Math.Seq.{map-set_same}
 use Rattle.com_base.specs.declared.hresult.HResult.{HResult}
@@ -12,8 +12,9 @@ use Rattle.com_lanes.specs.Changes.{natural, posted_to, quit_to}
 use Rattle.com_model.specs.declared.keeps.Opener.{Opener}
 use Rattle.com_model.specs.declared.keeps.Opener.TheVariants.{Pumps, Waits, Enters}
 use Rattle.com_model.specs.Openers.{Closes, Leaves, left_on}
-use Rattle.com_lanes.specs.Bodies.{is_one_pump}
-use Rattle.com_lanes.specs.Rooms.{Roomed, OpenerRows, MailRows, openers_in, mail_in, numbers_in, no_opener, no_word, no_number}
+use Rattle.com_lane_lists.specs.Bodies.{is_one_pump}
+use Rattle.com_lane_lists.specs.Rooms.{OpenerRows, MailRows, openers_in, mail_in, no_opener, no_word}
+use Rattle.com_lane_lists.proofs.Rows.{read_map}
 
 pub set_own : {X : Type 0} (xs : List X) (i : ℕ) (d : X) → slice_set xs i (slice_index_or xs i d) ≡ xs
 set_own [] i d = refl
@@ -78,11 +79,6 @@ quit_seen l own (negsuc m) hr t = refl
 
 -- ---- the tables in rows that say what has room
 
-read-map : {X Y : Type 0} (f : X → Y) (xs : List X) (i : ℕ) (d : X) → slice_index_or (map f xs) i (f d) ≡ f (slice_index_or xs i d)
-read-map f [] i d = refl
-read-map f (x ∷ xs) zero d = refl
-read-map f (x ∷ xs) (suc i) d = read-map f xs i d
-
 read-some : {X Y : Type 0} (f : X → Y) (xs : List X) (i : ℕ) (x : X) (e : Y) → slice_get xs i ≡ Some x → slice_index_or (map f xs) i e ≡ f x
 read-some f [] i x e q = absurd cc
 read-some f (y ∷ ys) zero x e q = ap f (let z : y ≡ x = cc in z)
@@ -97,7 +93,7 @@ pub openers_set : (t : List OpenerRows) (i : ℕ) (r : OpenerRows) → openers_i
 openers_set t i r = map-set (λ (r : OpenerRows). r.openers) t i r
 
 pub openers_at : (t : List OpenerRows) (i : ℕ) → slice_index_or (openers_in t) i [] ≡ (slice_index_or t i no_opener).openers
-openers_at t i = read-map (λ (r : OpenerRows). r.openers) t i no_opener
+openers_at t i = read_map (λ (r : OpenerRows). r.openers) t i no_opener
 
 pub openers_same : (t : List OpenerRows) (i : ℕ) (r d : OpenerRows) → r.openers ≡ (slice_index_or t i d).openers → openers_in (slice_set t i r) ≡ openers_in t
 openers_same t i r d e = map-set_same (λ (r : OpenerRows). r.openers) t i r d e
@@ -115,7 +111,7 @@ pub mail_set : (t : List MailRows) (i : ℕ) (r : MailRows) → mail_in (slice_s
 mail_set t i r = map-set (λ (r : MailRows). r.mail) t i r
 
 pub mail_at : (t : List MailRows) (i : ℕ) → slice_index_or (mail_in t) i no_mail ≡ (slice_index_or t i no_word).mail
-mail_at t i = read-map (λ (r : MailRows). r.mail) t i no_word
+mail_at t i = read_map (λ (r : MailRows). r.mail) t i no_word
 
 pub mail_same : (t : List MailRows) (i : ℕ) (r d : MailRows) → r.mail ≡ (slice_index_or t i d).mail → mail_in (slice_set t i r) ≡ mail_in t
 mail_same t i r d e = map-set_same (λ (r : MailRows). r.mail) t i r d e
@@ -128,21 +124,3 @@ mail_none t i q = read-none (λ (r : MailRows). r.mail) t i no_mail q
 
 pub mail_more : (t : List MailRows) (r : MailRows) → mail_in (t ++ r ∷ []) ≡ mail_in t ++ r.mail ∷ []
 mail_more t r = map-append (λ (r : MailRows). r.mail) t (r ∷ [])
-
-pub numbers_set : (t : List (Roomed ℕ)) (i : ℕ) (r : Roomed ℕ) → numbers_in (slice_set t i r) ≡ slice_set (numbers_in t) i r.rows
-numbers_set t i r = map-set (λ (r : Roomed ℕ). r.rows) t i r
-
-pub numbers_at : (t : List (Roomed ℕ)) (i : ℕ) → slice_index_or (numbers_in t) i [] ≡ (slice_index_or t i no_number).rows
-numbers_at t i = read-map (λ (r : Roomed ℕ). r.rows) t i no_number
-
-pub numbers_same : (t : List (Roomed ℕ)) (i : ℕ) (r d : Roomed ℕ) → r.rows ≡ (slice_index_or t i d).rows → numbers_in (slice_set t i r) ≡ numbers_in t
-numbers_same t i r d e = map-set_same (λ (r : Roomed ℕ). r.rows) t i r d e
-
-pub numbers_some : (t : List (Roomed ℕ)) (i : ℕ) (r : Roomed ℕ) → slice_get t i ≡ Some r → slice_index_or (numbers_in t) i [] ≡ r.rows
-numbers_some t i r q = read-some (λ (r : Roomed ℕ). r.rows) t i r [] q
-
-pub numbers_none : (t : List (Roomed ℕ)) (i : ℕ) → slice_get t i ≡ None → slice_index_or (numbers_in t) i [] ≡ []
-numbers_none t i q = read-none (λ (r : Roomed ℕ). r.rows) t i [] q
-
-pub numbers_more : (t : List (Roomed ℕ)) (r : Roomed ℕ) → numbers_in (t ++ r ∷ []) ≡ numbers_in t ++ r.rows ∷ []
-numbers_more t r = map-append (λ (r : Roomed ℕ). r.rows) t (r ∷ [])

@@ -8,7 +8,7 @@ use Rattle.com_model.specs.Lists.{where_true}
 use Rattle.com_model.specs.Apartments.{makes_sta, ends_sta, with_last}
 use Rattle.com_model.specs.Waiting.{Mail, no_mail, mail_after, Brings}
 use Rattle.com_model.specs.State.{changed_at, made_change}
-use Rattle.com_lanes.specs.Apartments.{StaTables}
+use Rattle.com_lane_lists.specs.Apartments.{StaTables}
 use Rattle.com_state.specs.Parts.{LaneTables, served_at}
 
 -- A natural number, where it is one.

@@ -1,7 +1,7 @@
 -- The tables of lanes, by what is kept of them.
 use Rattle.std.specs.Prelude.{ℕ, Bool, List, Option}
-use Rattle.com_lanes.specs.Apartments.{StaTables}
-use Rattle.com_lanes.specs.Rooms.{OpenerRows, MailRows, openers_in, mail_in}
+use Rattle.com_lane_lists.specs.Apartments.{StaTables}
+use Rattle.com_lane_lists.specs.Rooms.{OpenerRows, MailRows, openers_in, mail_in}
 use Rattle.com_state.specs.Parts.{LaneTables}
 
 abbrev pub tables_of : List OpenerRows → (served : List ℕ) → (homes : List (Option ℕ)) → (counts : List ℕ)

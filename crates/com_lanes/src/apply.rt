@@ -11,9 +11,9 @@ ghost use Rattle.com_model.specs.State.{changed_at, filters_change, made_change,
 ghost use Rattle.com_model.specs.State.{quit_change, quit_lane};
 ghost use Rattle.com_model.specs.Waiting.{no_mail, mail_after, bound_reached, Takes, Asks, Forgets};
 ghost use Rattle.com_state.specs.Parts.{openers_at, served_at, lanes_after};
+ghost use Rattle.com_lane_lists.specs.Rooms.{HasMark, HasSlot, no_opener, no_word};
 ghost use Rattle.com_lanes.specs.Changes.{IsNumber, IsBelow, NamesStas, HasRoom, natural};
-ghost use Rattle.com_lanes.specs.Rooms.{HasEnd, HasMark, HasSlot, HasSpace, HasSta, HasWordTo, no_opener};
-ghost use Rattle.com_lanes.specs.Rooms.{no_word};
+ghost use Rattle.com_lanes.specs.Rooms.{HasEnd, HasSpace, HasSta, HasWordTo};
 
 use crate::columns::{
     ask_at, bring_at, count_left, count_success, drop_filter, end_quit, end_sta, forget_at,

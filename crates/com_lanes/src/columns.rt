@@ -9,15 +9,13 @@ ghost use Rattle.com_model.specs.Lists.{where_true, without_first};
 ghost use Rattle.com_model.specs.Openers.{Closes, Leaves, left_on};
 ghost use Rattle.com_model.specs.State.{changed_at, filters_change};
 ghost use Rattle.com_model.specs.Waiting.{no_mail, mail_after, Takes, Asks, Forgets};
-ghost use Rattle.com_lanes.specs.Bodies.{is_one_pump};
+ghost use Rattle.com_lane_lists.specs.Bodies.{is_one_pump};
+ghost use Rattle.com_lane_lists.specs.Rooms.{HasMark, HasSlot, mail_in, no_opener, no_word, openers_in};
 ghost use Rattle.com_lanes.specs.Changes.{IsBelow, IsNumber, natural, posted_to, quit_to, stas_made};
-ghost use Rattle.com_lanes.specs.Rooms.{HasEnd, HasMark, HasSlot, HasSta, HasWordTo, mail_in};
-ghost use Rattle.com_lanes.specs.Rooms.{no_opener, no_word, openers_in};
+ghost use Rattle.com_lanes.specs.Rooms.{HasEnd, HasSta, HasWordTo};
 
-use crate::mail::Mail;
-use crate::openers::Openers;
-use crate::stas::Stas;
 use com_base::{HOST_STA, HResult, Memory, Mode};
+use com_lane_lists::{Mail, Openers, Stas};
 use com_model::{Deed, Opener};
 
 /// Puts a value in a row.

@@ -6,13 +6,11 @@ ghost use Rattle.com_model.specs.Lists.{first, is_member, tabulated};
 ghost use Rattle.com_model.specs.Openers.{running_call, running_object, entered_apartment, open_calls};
 ghost use Rattle.com_model.specs.Waiting.{no_mail, mark_of, not_asked, bound_reached};
 ghost use Rattle.com_state.specs.Parts.{openers_at, served_at};
+ghost use Rattle.com_lane_lists.specs.Rooms.{mail_in, openers_in};
 ghost use Rattle.com_lanes.specs.First.{first_lanes};
-ghost use Rattle.com_lanes.specs.Rooms.{mail_in, openers_in};
 
-use crate::mail::Mail;
-use crate::openers::Openers;
-use crate::stas::Stas;
 use com_base::Memory;
+use com_lane_lists::{Mail, Openers, Stas};
 use com_model::{Opener, Word};
 use std::alloc::Global;
 use std::marker::Model;

@@ -5,14 +5,5 @@
 mod apply;
 mod columns;
 mod lanes;
-mod mail;
-mod marks;
-mod numbers;
-mod openers;
-mod stack;
-mod stas;
 
 pub use lanes::Lanes;
-
-#[cfg(test)]
-mod tests;

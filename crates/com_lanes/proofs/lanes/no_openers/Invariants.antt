@@ -1,5 +1,5 @@
 use Rattle.std.proofs.Common.{◌≡◌, []}
-use Rattle.com_lanes.specs.Rooms.{openers_in}
+use Rattle.com_lane_lists.specs.Rooms.{openers_in}
 use Rattle.com_model.specs.Lists.{tabulated}
 use Rattle.com_lanes.proofs.lanes.no_openers.Given as goal
 

@@ -1,0 +1,5 @@
+pub mod Bodies
+pub mod Apartments
+pub mod Rooms
+pub mod StasKept
+pub mod Words

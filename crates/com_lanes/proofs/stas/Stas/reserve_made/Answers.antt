@@ -1,7 +1,0 @@
-use Rattle.std.proofs.Common.{arith, length, ◌+◌}
-use Rattle.com_lanes.proofs.StasKept.{length_tab}
-use Rattle.com_lanes.proofs.stas.Stas.reserve_made.Goals as goal
-
-pub returns-clause-room : goal.returns-clause-room
-returns-clause-room c =
-    omega (arith, length_tab (length c.reserve.new.self.items) (λ i. i + 3), c.in_ok-reserve.ensures.ok, c.reserve.new.self.ok.0)
