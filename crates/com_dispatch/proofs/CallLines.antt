@@ -20,8 +20,8 @@ use Rattle.com_read_statements.specs.Statements.{stmt_of, object_of}
 use Rattle.com_read_sections.specs.declared.state.State.{State}
 use Rattle.com_read_sections.specs.declared.state.Section.{Section}
 use Rattle.com_read_sections.specs.declared.state.Section.TheVariants as sections
-use Rattle.com_read_sections.specs.Codes.{CodeAt, code_more}
-use Rattle.com_read_sections.specs.Programs.{allowed, program_line}
+use Rattle.com_read_lines.specs.Codes.{CodeAt, code_more}
+use Rattle.com_read_lines.specs.Programs.{allowed, program_line}
 use Rattle.com_read_sections.specs.Opened.{program_of, inner_body, inner_thread, body_ended, thread_ended, by_section, step}
 use Rattle.com_dispatch.specs.Late.{Reading, bound_more, invoke_line, other_line, in_section, is_invoke, late_step, IsSame, takes_invoke}
 

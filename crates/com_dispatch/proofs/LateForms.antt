@@ -28,7 +28,7 @@ use Rattle.com_read_statements.specs.declared.keywords.Program.TheVariants as pr
 use Rattle.com_read_statements.specs.declared.names.Names.{Names}
 use Rattle.com_read_sections.specs.declared.state.Section.{Section}
 use Rattle.com_read_sections.specs.declared.state.Section.TheVariants as sections
-use Rattle.com_read_sections.specs.Codes.{CodeAt, code_more}
+use Rattle.com_read_lines.specs.Codes.{CodeAt, code_more}
 use Rattle.com_read_sections.specs.Opened.{program_of, step}
 use Rattle.com_read_sections.specs.Outlines.{finish}
 use Rattle.com_model.specs.declared.scenario.Scenario.{Scenario}

@@ -20,7 +20,7 @@ use Rattle.com_read_sections.specs.declared.outline.Outline.{Outline}
 use Rattle.com_read_sections.specs.declared.state.State.{State}
 use Rattle.com_read_sections.specs.declared.state.Section.{Section}
 use Rattle.com_read_sections.specs.declared.state.Section.TheVariants as sections
-use Rattle.com_read_sections.specs.Codes.{CodeAt, code_more, first_position}
+use Rattle.com_read_lines.specs.Codes.{CodeAt, code_more, first_position}
 use Rattle.com_read_sections.specs.Opened.{step}
 use Rattle.com_read_sections.specs.Outlines.{begun, finish}
 use Rattle.com_scenario.specs.Scenarios.{scenario_of, reading}

@@ -5,7 +5,8 @@ use Rattle.com_model.specs.declared.scenario.Scenario.{Scenario}
 use Rattle.com_model.specs.Formed.{FormedInterfaces, Formed}
 use Rattle.com_text.specs.Scanning.{lines_of}
 use Rattle.com_read_operands.specs.Reading.{end_at}
-use Rattle.com_read_sections.specs.Header.{version_at, header_line}
+use Rattle.com_read_lines.specs.Header.{version_at}
+use Rattle.com_read_sections.specs.Header.{header_line}
 use Rattle.com_read_sections.specs.Opened.{step}
 use Rattle.com_read_sections.specs.Outlines.{finish, read}
 use Rattle.com_scenario.specs.Scenarios.{reading}

@@ -21,7 +21,7 @@ use Rattle.com_read_statements.specs.declared.names.Names.{Names}
 use Rattle.com_read_statements.specs.Keywords.{has_cells, has_links}
 use Rattle.com_read_statements.specs.Calls.{method_of, in_methods}
 use Rattle.com_read_sections.specs.declared.state.State.{State}
-use Rattle.com_read_sections.specs.Tables.{guid_eq}
+use Rattle.com_read_lines.specs.Tables.{guid_eq}
 use Rattle.com_read_sections.specs.Opened.{program_of}
 use Rattle.com_print_operands.specs.Ranges.{AreNames}
 use Rattle.com_print_statements.specs.Standing.{AreDeclared}

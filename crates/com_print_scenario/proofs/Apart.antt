@@ -8,7 +8,7 @@ use Rattle.com_classes.specs.Lookups.{same_guid}
 use Rattle.com_model.specs.Formed.{Distinct, same_body, same_method}
 use Rattle.com_read_operands.specs.Naming.{position_of}
 use Rattle.com_read_statements.specs.Calls.{method_position}
-use Rattle.com_read_sections.specs.Tables.{guid_eq, has_guid}
+use Rattle.com_read_lines.specs.Tables.{guid_eq, has_guid}
 use Rattle.com_read_sections.specs.Opened.{has_body}
 
 -- ---- one of a list against those before it

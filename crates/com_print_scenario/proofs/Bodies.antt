@@ -21,7 +21,7 @@ use Rattle.com_read_statements.specs.Calls.{dot_of, method_of, method_at, target
 use Rattle.com_read_sections.specs.declared.outline.Outline.{Outline}
 use Rattle.com_read_sections.specs.declared.state.State.{State}
 use Rattle.com_read_sections.specs.declared.state.Section.TheVariants as sections
-use Rattle.com_read_sections.specs.Codes.{no_code}
+use Rattle.com_read_lines.specs.Codes.{no_code}
 use Rattle.com_read_sections.specs.Opened.{step, has_body, body_head, class_ended, inner_class, program_of}
 use Rattle.com_print_words.specs.Spelled.{Spelled, plain, spelled_of}
 use Rattle.com_print_operands.specs.Words.{name_at}

@@ -16,8 +16,8 @@ use Rattle.com_read_statements.specs.declared.names.Names.{Names}
 use Rattle.com_read_sections.specs.declared.outline.Outline.{Outline}
 use Rattle.com_read_sections.specs.declared.state.State.{State}
 use Rattle.com_read_sections.specs.declared.state.Section.TheVariants as sections
-use Rattle.com_read_sections.specs.Tables.{has_guid}
-use Rattle.com_read_sections.specs.Declaring.{relay_of, native_at, natives_of}
+use Rattle.com_read_lines.specs.Tables.{has_guid}
+use Rattle.com_read_lines.specs.Declaring.{relay_of, native_at, natives_of}
 use Rattle.com_read_sections.specs.Opened.{program_of}
 use Rattle.com_print_words.specs.Spelled.{Spelled, plain}
 use Rattle.com_print_operands.specs.Ranges.{IsGuid}

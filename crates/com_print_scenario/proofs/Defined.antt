@@ -9,8 +9,8 @@ use Rattle.com_classes.specs.declared.interfaces.Interface.{Interface}
 use Rattle.com_classes.specs.declared.interfaces.Method.{Method}
 use Rattle.com_classes.specs.Lookups.{same_guid}
 use Rattle.com_model.specs.Formed.{Distinct, EachFrom, IsKindBy, IsResultBy, IsMethod, IsInterface, same_interface, is_type_word, IsAllowed}
-use Rattle.com_read_sections.specs.Tables.{guid_eq}
-use Rattle.com_read_sections.specs.Methods.{type_word_of}
+use Rattle.com_read_lines.specs.Tables.{guid_eq}
+use Rattle.com_read_lines.specs.Methods.{type_word_of}
 use Rattle.com_print_scenario.specs.Ranges.{FitsInterface}
 use Rattle.com_print_scenario.proofs.Apart.{IsNew, new_of, new_map, new_append, same_guids, no_position, no_guid, either_left, either_right}
 use Rattle.com_print_scenario.proofs.Forms.{name_of, all_each, types_front}

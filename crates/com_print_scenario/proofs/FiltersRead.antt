@@ -21,8 +21,8 @@ use Rattle.com_read_statements.specs.declared.names.Names.{Names}
 use Rattle.com_read_sections.specs.declared.outline.Outline.{Outline}
 use Rattle.com_read_sections.specs.declared.state.State.{State}
 use Rattle.com_read_sections.specs.declared.state.Section.TheVariants as sections
-use Rattle.com_read_sections.specs.Codes.{no_code}
-use Rattle.com_read_sections.specs.Rules.{rule_word_of}
+use Rattle.com_read_lines.specs.Codes.{no_code}
+use Rattle.com_read_lines.specs.Rules.{rule_word_of}
 use Rattle.com_read_sections.specs.Opened.{step, filter_ended, ruled, inner_filter}
 use Rattle.com_print_words.specs.Spelled.{Spelled, plain, spelled_of}
 use Rattle.com_print_operands.specs.Ranges.{Distinct as Apart}

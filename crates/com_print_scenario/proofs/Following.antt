@@ -7,7 +7,7 @@ use Rattle.std.proofs.lemmas.List.Elements.{All-head, All-tail}
 use Rattle.com_text.specs.Words.{WordAt}
 use Rattle.com_read_operands.specs.declared.faults.Fault.{Fault}
 use Rattle.com_read_operands.specs.Reading.{◌>>=◌}
-use Rattle.com_read_sections.specs.Declaring.{listed_item, listed_on, listed_at, pick_at, picks_on}
+use Rattle.com_read_lines.specs.Declaring.{listed_item, listed_on, listed_at, pick_at, picks_on}
 use Rattle.com_print_words.specs.Spelled.{Spelled, plain, spelled_of}
 use Rattle.com_print_operands.specs.Words.{name_at}
 use Rattle.com_print_operands.specs.Ranges.{AreNames}

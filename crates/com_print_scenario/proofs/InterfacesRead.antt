@@ -18,8 +18,8 @@ use Rattle.com_read_statements.specs.Calls.{method_position}
 use Rattle.com_read_sections.specs.declared.outline.Outline.{Outline}
 use Rattle.com_read_sections.specs.declared.state.State.{State}
 use Rattle.com_read_sections.specs.declared.state.Section.TheVariants as sections
-use Rattle.com_read_sections.specs.Tables.{has_guid}
-use Rattle.com_read_sections.specs.Methods.{type_word_of, method_of}
+use Rattle.com_read_lines.specs.Tables.{has_guid}
+use Rattle.com_read_lines.specs.Methods.{type_word_of, method_of}
 use Rattle.com_read_sections.specs.Beginning.{top_line}
 use Rattle.com_read_sections.specs.Opened.{step, method_line, inner_interface, interface_closed}
 use Rattle.com_read_sections.specs.Outlines.{finish, read, outlined}

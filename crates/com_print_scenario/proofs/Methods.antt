@@ -11,7 +11,7 @@ use Rattle.com_read_operands.specs.declared.faults.Fault.{Fault}
 use Rattle.com_read_operands.specs.Reading.{◌>>=◌, fault_at, word_at, end_at}
 use Rattle.com_read_operands.specs.Naming.{is_name}
 use Rattle.com_read_statements.specs.Calls.{method_position}
-use Rattle.com_read_sections.specs.Methods.{type_word_of, type_by, type_at, item_at, signature_on, method_of}
+use Rattle.com_read_lines.specs.Methods.{type_word_of, type_by, type_at, item_at, signature_on, method_of}
 use Rattle.com_print_words.specs.Spelled.{Spelled, plain, spelled_of}
 use Rattle.com_print_operands.specs.Words.{name_at}
 use Rattle.com_print_operands.specs.Ranges.{AreNames}

@@ -13,9 +13,9 @@ use Rattle.com_read_operands.specs.declared.faults.Fault.{Fault}
 use Rattle.com_read_operands.specs.Reading.{◌>>=◌, fault_at, word_at, first_at, opened, opening}
 use Rattle.com_read_operands.specs.Literals.{guid_of, guid_at, as_guid}
 use Rattle.com_read_operands.specs.Naming.{is_name, position_of}
-use Rattle.com_read_sections.specs.Tables.{has_guid}
-use Rattle.com_read_sections.specs.Methods.{type_word_of}
-use Rattle.com_read_sections.specs.Declaring.{free_guid_at, free_name_at, interface_name_at, filter_name_at, model_at, native_at, relay_of}
+use Rattle.com_read_lines.specs.Tables.{has_guid}
+use Rattle.com_read_lines.specs.Methods.{type_word_of}
+use Rattle.com_read_lines.specs.Declaring.{free_guid_at, free_name_at, interface_name_at, filter_name_at, model_at, native_at, relay_of}
 use Rattle.com_print_words.specs.Spelled.{Spelled, plain, spelled_of}
 use Rattle.com_print_operands.specs.Ranges.{IsGuid}
 use Rattle.com_print_operands.proofs.Hexes.{guid_again}

@@ -16,8 +16,8 @@ use Rattle.com_read_statements.specs.Keywords.{keyword_of}
 use Rattle.com_read_statements.specs.Statements.{stmt_of}
 use Rattle.com_read_sections.specs.declared.state.State.{State}
 use Rattle.com_read_sections.specs.declared.state.Section.TheVariants as sections
-use Rattle.com_read_sections.specs.Codes.{CodeAt, code_more, checked}
-use Rattle.com_read_sections.specs.Programs.{spot_at, allowed, stated, program_line}
+use Rattle.com_read_lines.specs.Codes.{CodeAt, code_more, checked}
+use Rattle.com_read_lines.specs.Programs.{spot_at, allowed, stated, program_line}
 use Rattle.com_read_sections.specs.Opened.{step, program_of, with_body, inner_body, body_ended, inner_thread, thread_ended}
 use Rattle.com_print_words.specs.Spelled.{Spelled, plain, spelled_of}
 use Rattle.com_print_operands.specs.Ranges.{Fits}

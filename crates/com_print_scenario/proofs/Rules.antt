@@ -13,7 +13,7 @@ use Rattle.com_read_operands.specs.declared.faults.Fault.{Fault}
 use Rattle.com_read_operands.specs.Numbers.{signed_of}
 use Rattle.com_read_operands.specs.Reading.{◌>>=◌, fault_at}
 use Rattle.com_read_sections.specs.Opened.{ruled}
-use Rattle.com_read_sections.specs.Rules.{rule_word_of, call_type_at, verdict_at, refusal_at, in_answers, as_answer, answer_at, kept_at, rule_of}
+use Rattle.com_read_lines.specs.Rules.{rule_word_of, call_type_at, verdict_at, refusal_at, in_answers, as_answer, answer_at, kept_at, rule_of}
 use Rattle.com_print_words.specs.Spelled.{Spelled, plain, spelled_of}
 use Rattle.com_print_operands.specs.Ranges.{IsWhole}
 use Rattle.com_print_operands.proofs.Decimals.{signed_again}

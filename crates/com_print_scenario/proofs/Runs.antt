@@ -11,7 +11,7 @@ use Rattle.com_read_operands.specs.declared.faults.Fault.{Fault}
 use Rattle.com_read_operands.specs.Reading.{◌>>=◌}
 use Rattle.com_read_sections.specs.declared.outline.Outline.{Outline}
 use Rattle.com_read_sections.specs.declared.state.State.{State}
-use Rattle.com_read_sections.specs.Codes.{CodeAt, code_more, checked, checked_by}
+use Rattle.com_read_lines.specs.Codes.{CodeAt, code_more, checked, checked_by}
 use Rattle.com_read_sections.specs.Opened.{by_section, step}
 use Rattle.com_read_sections.specs.Outlines.{finish, read}
 use Rattle.com_read_statements.specs.declared.names.Names.{Names}

@@ -13,10 +13,10 @@ use Rattle.com_read_operands.specs.Reading.{◌>>=◌, fault_at, end_at, number_
 use Rattle.com_read_operands.specs.Naming.{is_name, position_of}
 use Rattle.com_read_sections.specs.declared.state.State.{State}
 use Rattle.com_read_sections.specs.declared.state.Section.TheVariants as sections
-use Rattle.com_read_sections.specs.Codes.{no_code}
-use Rattle.com_read_sections.specs.Tables.{has_guid}
-use Rattle.com_read_sections.specs.Methods.{type_word_of}
-use Rattle.com_read_sections.specs.Declaring.{free_name_at, free_guid_at, interface_name_at, filter_name_at, listed_at, model_at, native_at, natives_of}
+use Rattle.com_read_lines.specs.Codes.{no_code}
+use Rattle.com_read_lines.specs.Tables.{has_guid}
+use Rattle.com_read_lines.specs.Methods.{type_word_of}
+use Rattle.com_read_lines.specs.Declaring.{free_name_at, free_guid_at, interface_name_at, filter_name_at, listed_at, model_at, native_at, natives_of}
 use Rattle.com_read_sections.specs.Beginning.{section_word_of, pool_line, interface_line, class_line, native_line, filter_line, thread_line, picks_line, top_by, top_line}
 use Rattle.com_print_words.specs.Spelled.{Spelled, plain, spelled_of}
 use Rattle.com_print_operands.specs.Ranges.{IsGuid, AreNames}

@@ -25,9 +25,10 @@ use Rattle.com_read_statements.specs.declared.keywords.Program.TheVariants as pr
 use Rattle.com_read_statements.specs.declared.names.Names.{Names}
 use Rattle.com_read_sections.specs.declared.state.State.{State}
 use Rattle.com_read_sections.specs.declared.state.Section.TheVariants as sections
-use Rattle.com_read_sections.specs.Tables.{guid_eq}
-use Rattle.com_read_sections.specs.Methods.{type_word_of}
-use Rattle.com_read_sections.specs.Header.{version_of, ended, version_by, version_at, header_line}
+use Rattle.com_read_lines.specs.Tables.{guid_eq}
+use Rattle.com_read_lines.specs.Methods.{type_word_of}
+use Rattle.com_read_lines.specs.Header.{version_of, ended, version_by, version_at}
+use Rattle.com_read_sections.specs.Header.{header_line}
 use Rattle.com_read_sections.specs.Outlines.{begun, taken_iids, finish}
 use Rattle.com_print_words.specs.Spelled.{Spelled, plain, spelled_of}
 use Rattle.com_print_operands.specs.Ranges.{AreNames}

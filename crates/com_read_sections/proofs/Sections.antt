@@ -9,10 +9,10 @@ use Rattle.com_read_statements.specs.declared.keywords.Program.TheVariants as pr
 use Rattle.com_read_sections.specs.declared.state.State.{State}
 use Rattle.com_read_sections.specs.declared.state.Section.{Section}
 use Rattle.com_read_sections.specs.declared.state.Section.TheVariants as sections
-use Rattle.com_read_sections.specs.Rules.{rule_word_of}
+use Rattle.com_read_lines.specs.Rules.{rule_word_of}
 use Rattle.com_read_sections.specs.Header.{lone, header_line}
 use Rattle.com_read_sections.specs.Beginning.{top_line}
-use Rattle.com_read_sections.specs.Programs.{program_line}
+use Rattle.com_read_lines.specs.Programs.{program_line}
 use Rattle.com_read_sections.specs.Opened.{method_line, inner_interface, inner_class, body_head, program_of, inner_body, inner_thread, ruled, inner_filter, by_section}
 use Rattle.com_read_sections.specs.Going.{more_methods, more_statements, more_rules, goes_on, turns, outside, gone_on, lined}
 

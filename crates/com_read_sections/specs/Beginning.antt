@@ -10,9 +10,9 @@ use Rattle.com_read_sections.specs.declared.begin.SectionWord.{SectionWord}
 use Rattle.com_read_sections.specs.declared.begin.SectionWord.TheVariants as words
 use Rattle.com_read_sections.specs.declared.state.State.{State}
 use Rattle.com_read_sections.specs.declared.state.Section.TheVariants as sections
-use Rattle.com_read_sections.specs.Codes.{no_code}
-use Rattle.com_read_sections.specs.Declaring.{free_guid_at, free_name_at, interface_name_at, filter_name_at}
-use Rattle.com_read_sections.specs.Declaring.{model_at, native_at, natives_of, listed_at, picks_on}
+use Rattle.com_read_lines.specs.Codes.{no_code}
+use Rattle.com_read_lines.specs.Declaring.{free_guid_at, free_name_at, interface_name_at, filter_name_at}
+use Rattle.com_read_lines.specs.Declaring.{model_at, native_at, natives_of, listed_at, picks_on}
 
 abbrev pub section_word_of : List ℕ → Option SectionWord
 section_word_of bytes =

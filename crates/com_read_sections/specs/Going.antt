@@ -13,11 +13,11 @@ use Rattle.com_read_statements.specs.declared.names.Names.{Names}
 use Rattle.com_read_sections.specs.declared.state.State.{State}
 use Rattle.com_read_sections.specs.declared.state.Section.{Section}
 use Rattle.com_read_sections.specs.declared.state.Section.TheVariants as sections
-use Rattle.com_read_sections.specs.Codes.{CodeAt}
-use Rattle.com_read_sections.specs.Rules.{rule_word_of}
+use Rattle.com_read_lines.specs.Codes.{CodeAt}
+use Rattle.com_read_lines.specs.Rules.{rule_word_of}
 use Rattle.com_read_sections.specs.Header.{header_line}
 use Rattle.com_read_sections.specs.Beginning.{top_line}
-use Rattle.com_read_sections.specs.Programs.{program_line}
+use Rattle.com_read_lines.specs.Programs.{program_line}
 use Rattle.com_read_sections.specs.Opened.{interface_closed, method_line, inner_class, program_of, body_ended}
 use Rattle.com_read_sections.specs.Opened.{thread_ended, filter_ended, ruled}
 

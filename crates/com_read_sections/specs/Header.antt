@@ -1,47 +1,13 @@
 -- The header.
-use Rattle.std.specs.Prelude.{ℕ, List, [], ◌∷◌, Option, Some, None, Result, Ok, Err, not, if◌then◌else◌}
-use Rattle.std.specs.Prelude.{codes, unwrap_or}
-use Rattle.std.specs.Str.{bytes_eq}
+use Rattle.std.specs.Prelude.{List, [], ◌∷◌, Option, Result, Ok, Err}
 use Rattle.com_text.specs.declared.word.Sort.{Sort}
 use Rattle.com_text.specs.declared.word.Sort.TheVariants as sorts
 use Rattle.com_text.specs.Words.{WordAt}
 use Rattle.com_read_operands.specs.declared.faults.Fault.{Fault}
-use Rattle.com_read_operands.specs.Reading.{◌>>=◌, fault_at, character_at, end_at}
-use Rattle.com_read_sections.specs.Codes.{first_position}
+use Rattle.com_read_operands.specs.Reading.{◌>>=◌, character_at}
+use Rattle.com_read_lines.specs.Header.{lone_fault, version_at, earlier}
 use Rattle.com_read_sections.specs.declared.state.State.{State}
 use Rattle.com_read_sections.specs.declared.state.Section.TheVariants as sections
-
-abbrev pub version_of : List ℕ → Option ℕ
-version_of bytes =
-    if bytes_eq bytes (codes "1") then Some 1 else (if bytes_eq bytes (codes "2") then Some 2 else None)
-
--- One word alone: `scenario` lacks its version, which is the fault at the text's first position; another word
--- is at fault itself, and an earlier fault comes first.
-abbrev pub lone_fault : Option Fault → WordAt → Fault
-lone_fault pending w =
-    if bytes_eq w.bytes (codes "scenario") then first_position else unwrap_or pending (fault_at 1 w)
-
-abbrev pub ended : List WordAt → WordAt → Option ℕ → Result ℕ Fault
-ended line two None = Err (fault_at 1 two)
-ended line two (Some v) = end_at line 2 >>= λ done. Ok v
-
-abbrev pub compared : List WordAt → WordAt → WordAt → Option Fault → Result ℕ Fault
-compared line one two (Some f) = Err f
-compared line one two None =
-    if not (bytes_eq one.bytes (codes "scenario")) then Err (fault_at 1 one)
-    else ended line two (version_of two.bytes)
-
-abbrev pub version_by : Option Fault → List WordAt → WordAt → WordAt → Sort → Result ℕ Fault
-version_by pending line one two (sorts.Remark c) = Err (lone_fault pending one)
-version_by pending line one two _ = compared line one two pending
-
--- the version that the first two words name; an earlier fault comes first
-unfoldable pub version_at : Option Fault → List WordAt → WordAt → WordAt → Result ℕ Fault
-version_at pending line one two = version_by pending line one two two.sort
-
-abbrev pub earlier : Option Fault → Fault → Option Fault
-earlier None f = Some f
-earlier (Some e) f = Some e
 
 abbrev pub lone : State → Option Fault → WordAt → Sort → Result State Fault
 lone st pending w (sorts.Remark c) =

@@ -1,11 +1,5 @@
-pub mod Codes
-pub mod Tables
-pub mod Rules
-pub mod Methods
-pub mod Declaring
 pub mod Header
 pub mod Beginning
-pub mod Programs
 pub mod Opened
 pub mod Going
 pub mod Outlines

@@ -16,16 +16,16 @@ use Rattle.com_read_statements.specs.declared.calls.MethodNumber.{MethodNumber}
 use Rattle.com_read_statements.specs.declared.keywords.Program.{Program}
 use Rattle.com_read_statements.specs.declared.keywords.Program.TheVariants as programs
 use Rattle.com_read_statements.specs.Calls.{method_at}
-use Rattle.com_read_sections.specs.declared.rules.RuleWord.{RuleWord}
+use Rattle.com_read_lines.specs.declared.rules.RuleWord.{RuleWord}
 use Rattle.com_read_sections.specs.declared.state.State.{State}
 use Rattle.com_read_sections.specs.declared.state.Section.{Section}
 use Rattle.com_read_sections.specs.declared.state.Section.TheVariants as sections
-use Rattle.com_read_sections.specs.Codes.{CodeAt, no_code, checked}
-use Rattle.com_read_sections.specs.Rules.{rule_word_of, rule_of}
-use Rattle.com_read_sections.specs.Methods.{method_of}
+use Rattle.com_read_lines.specs.Codes.{CodeAt, no_code, checked}
+use Rattle.com_read_lines.specs.Rules.{rule_word_of, rule_of}
+use Rattle.com_read_lines.specs.Methods.{method_of}
 use Rattle.com_read_sections.specs.Header.{header_line}
 use Rattle.com_read_sections.specs.Beginning.{top_line}
-use Rattle.com_read_sections.specs.Programs.{program_line}
+use Rattle.com_read_lines.specs.Programs.{program_line}
 
 -- an interface is closed
 abbrev pub interface_closed : State → Interface → State

@@ -9,7 +9,7 @@ use Rattle.com_read_sections.specs.declared.state.State.{State}
 use Rattle.com_read_sections.specs.declared.state.Section.{Section}
 use Rattle.com_read_sections.specs.declared.state.Section.TheVariants as sections
 use Rattle.com_read_sections.specs.declared.outline.Outline.{Outline}
-use Rattle.com_read_sections.specs.Codes.{first_position}
+use Rattle.com_read_lines.specs.Codes.{first_position}
 use Rattle.com_read_sections.specs.Opened.{interface_closed, step}
 
 -- outside of sections

@@ -6,15 +6,15 @@ ghost use Rattle.com_read_sections.specs.Beginning.{section_word_of, pool_line, 
 ghost use Rattle.com_read_sections.specs.Beginning.{native_line, filter_line, thread_line, picks_line};
 ghost use Rattle.com_read_sections.specs.Beginning.{top_line};
 
-use crate::declare::{
-    filter_name, free_guid, free_name, interface_name, listed, model, native, natives, picks,
-};
-use crate::state::{Code, Section, State};
+use crate::state::{Section, State};
 use com_base::{
     ByteList, CLASS_LIMIT, FILTER_LIMIT, Guid, INTERFACE_LIMIT, POOL_LIMIT, Rows, THREAD_LIMIT,
 };
 use com_body::Native;
 use com_classes::{Class, Interface};
+use com_read_lines::{
+    Code, filter_name, free_guid, free_name, interface_name, listed, model, native, natives, picks,
+};
 use com_read_operands::{Fault, ScenarioError, end, fault, first, number};
 use com_text::Word;
 use std::alloc::{AllocError, Global};

@@ -4,15 +4,13 @@ ghost use Rattle.std.specs.Prelude.{◌≡◌, Ok};
 ghost use Rattle.com_read_operands.specs.Reading.{Gives};
 ghost use Rattle.com_read_sections.specs.Opened.{method_line, program_of, ruled};
 ghost use Rattle.com_read_sections.specs.Going.{more_methods, more_statements, more_rules, goes_on};
-ghost use Rattle.com_read_sections.specs.Rules.{rule_word_of};
+ghost use Rattle.com_read_lines.specs.Rules.{rule_word_of};
 
-use crate::methods::method;
-use crate::programs::program_line;
-use crate::rules::{rule, rule_word_of};
-use crate::state::{Code, Section};
+use crate::state::Section;
 use com_base::{BODY_LIMIT, ByteList, METHOD_LIMIT, RULE_LIMIT, Rows, SCRIPT_LIMIT};
 use com_classes::{Interface, ThreadingModel};
 use com_filter::Rule;
+use com_read_lines::{Code, method, program_line, rule, rule_word_of};
 use com_read_operands::{Fault, ScenarioError, fault, first};
 use com_read_statements::{Names, Program};
 use com_text::Word;

@@ -3,21 +3,15 @@
 #![tactic(auto)]
 
 mod begin;
-mod declare;
 mod going;
 mod header;
-mod methods;
 mod open;
 mod outline;
-mod programs;
-mod rules;
 mod state;
-mod tables;
 
 pub use begin::SectionWord;
 pub use com_base::Memory;
-pub use methods::{Signature, TypeWord};
+pub use com_read_lines::{Code, RuleWord, Signature, TypeWord};
 pub use open::step;
 pub use outline::{Outline, begun, finish, outline_of};
-pub use rules::RuleWord;
-pub use state::{Code, Section, State};
+pub use state::{Section, State};

@@ -6,7 +6,6 @@ ghost use Rattle.com_read_operands.specs.Reading.{Gives};
 ghost use Rattle.com_read_sections.specs.Outlines.{finish, outlined, names_of, iids_of, taken_iids, begun};
 ghost use Rattle.com_read_sections.specs.Outlines.{read};
 
-use crate::header::FIRST;
 use crate::open::{close_interface, step};
 use crate::state::{Section, State};
 use com_base::{
@@ -15,6 +14,7 @@ use com_base::{
 use com_body::Body;
 use com_classes::{Class, Interface};
 use com_filter::Filter;
+use com_read_lines::FIRST;
 use com_read_operands::{Fault, ScenarioError};
 use com_read_statements::Names;
 use com_text::{TEXT_LIMIT, line_at};

@@ -8,8 +8,8 @@ use Rattle.com_base.specs.declared.value.Kind.{Kind}
 use Rattle.com_read_operands.specs.Naming.{is_tail, are_tail, is_name, position_of}
 use Rattle.com_classes.specs.declared.interfaces.Method.{Method}
 use Rattle.com_read_statements.specs.Calls.{method_position}
-use Rattle.com_read_sections.specs.Tables.{guid_eq, has_guid}
-use Rattle.com_read_sections.specs.Methods.{type_word_of}
+use Rattle.com_read_lines.specs.Tables.{guid_eq, has_guid}
+use Rattle.com_read_lines.specs.Methods.{type_word_of}
 use Rattle.com_read_sections.specs.Outlines.{microsoft}
 use Rattle.com_classes.specs.Lookups.{same_guid}
 use Rattle.com_model.specs.Formed.{is_letter, is_name_byte, IsName, is_type_word, is_reserved, documented_iid, same_method}

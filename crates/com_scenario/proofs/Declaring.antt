@@ -20,14 +20,14 @@ use Rattle.com_read_operands.specs.Reading.{◌>>=◌, fault_at, word_at, needed
 use Rattle.com_read_operands.specs.Naming.{is_name, position_of, name_at, declared_at}
 use Rattle.com_read_operands.specs.Literals.{guid_at}
 use Rattle.com_read_statements.specs.Calls.{method_position}
-use Rattle.com_read_sections.specs.declared.methods.Signature.{Signature}
-use Rattle.com_read_sections.specs.declared.methods.TypeWord.{TypeWord}
-use Rattle.com_read_sections.specs.declared.rules.RuleWord.{RuleWord}
-use Rattle.com_read_sections.specs.declared.rules.RuleWord.TheVariants as words
-use Rattle.com_read_sections.specs.Tables.{has_guid}
-use Rattle.com_read_sections.specs.Methods.{type_word_of, type_by, type_at, item_at, signature_on, method_of}
-use Rattle.com_read_sections.specs.Declaring.{free_guid_at, free_name_at, interface_name_at, relay_of, native_at, listed_item, listed_on, listed_at, pick_at, picks_on}
-use Rattle.com_read_sections.specs.Rules.{call_type_at, verdict_at, refusal_at, in_answers, as_answer, answer_at, kept_at, rule_of}
+use Rattle.com_read_lines.specs.declared.methods.Signature.{Signature}
+use Rattle.com_read_lines.specs.declared.methods.TypeWord.{TypeWord}
+use Rattle.com_read_lines.specs.declared.rules.RuleWord.{RuleWord}
+use Rattle.com_read_lines.specs.declared.rules.RuleWord.TheVariants as words
+use Rattle.com_read_lines.specs.Tables.{has_guid}
+use Rattle.com_read_lines.specs.Methods.{type_word_of, type_by, type_at, item_at, signature_on, method_of}
+use Rattle.com_read_lines.specs.Declaring.{free_guid_at, free_name_at, interface_name_at, relay_of, native_at, listed_item, listed_on, listed_at, pick_at, picks_on}
+use Rattle.com_read_lines.specs.Rules.{call_type_at, verdict_at, refusal_at, in_answers, as_answer, answer_at, kept_at, rule_of}
 use Rattle.com_classes.specs.Activation.{is_agile}
 use Rattle.com_model.specs.Formed.{IsName, IsKindBy, IsResultBy, IsMethod, same_method, IsType, IsAsked, IsRetryAnswer, IsRule}
 use Rattle.com_scenario_laws.specs.Holds.{Holds}

@@ -28,8 +28,8 @@ use Rattle.com_read_statements.specs.Statements.{stmt_of}
 use Rattle.com_read_sections.specs.declared.state.State.{State}
 use Rattle.com_read_sections.specs.declared.state.Section.{Section}
 use Rattle.com_read_sections.specs.declared.state.Section.TheVariants as sections
-use Rattle.com_read_sections.specs.Codes.{CodeAt, code_more, spotted, checked_by, checked}
-use Rattle.com_read_sections.specs.Programs.{spot_at, stated, allowed, program_line}
+use Rattle.com_read_lines.specs.Codes.{CodeAt, code_more, spotted, checked_by, checked}
+use Rattle.com_read_lines.specs.Programs.{spot_at, stated, allowed, program_line}
 use Rattle.com_read_sections.specs.Opened.{program_of, has_body}
 use Rattle.com_read_sections.specs.Outlines.{taken_iids}
 use Rattle.com_model.specs.declared.scenario.Scenario.{Scenario}

@@ -24,18 +24,19 @@ use Rattle.com_read_statements.specs.declared.keywords.Program.TheVariants as pr
 use Rattle.com_read_statements.specs.Calls.{method_at}
 use Rattle.com_read_sections.specs.declared.begin.SectionWord.{SectionWord}
 use Rattle.com_read_sections.specs.declared.begin.SectionWord.TheVariants as begins
-use Rattle.com_read_sections.specs.declared.rules.RuleWord.{RuleWord}
+use Rattle.com_read_lines.specs.declared.rules.RuleWord.{RuleWord}
 use Rattle.com_read_sections.specs.declared.state.State.{State}
 use Rattle.com_read_sections.specs.declared.state.Section.{Section}
 use Rattle.com_read_sections.specs.declared.state.Section.TheVariants as sections
-use Rattle.com_read_sections.specs.Tables.{has_guid, guid_eq}
-use Rattle.com_read_sections.specs.Codes.{CodeAt, checked}
-use Rattle.com_read_sections.specs.Header.{version_of, ended, compared, version_by, version_at, earlier, lone, header_line}
-use Rattle.com_read_sections.specs.Declaring.{free_guid_at, free_name_at, interface_name_at, filter_name_at, model_at, native_at, natives_of, native_interface, listed_at, picks_on}
+use Rattle.com_read_lines.specs.Tables.{has_guid, guid_eq}
+use Rattle.com_read_lines.specs.Codes.{CodeAt, checked}
+use Rattle.com_read_lines.specs.Header.{version_of, ended, compared, version_by, version_at, earlier}
+use Rattle.com_read_sections.specs.Header.{lone, header_line}
+use Rattle.com_read_lines.specs.Declaring.{free_guid_at, free_name_at, interface_name_at, filter_name_at, model_at, native_at, natives_of, native_interface, listed_at, picks_on}
 use Rattle.com_read_sections.specs.Beginning.{section_word_of, pool_line, interface_line, class_line, native_line, filter_line, thread_line, picks_line, top_by, top_line}
-use Rattle.com_read_sections.specs.Rules.{rule_word_of, rule_of}
-use Rattle.com_read_sections.specs.Methods.{method_of, type_word_of}
-use Rattle.com_read_sections.specs.Programs.{program_line}
+use Rattle.com_read_lines.specs.Rules.{rule_word_of, rule_of}
+use Rattle.com_read_lines.specs.Methods.{method_of, type_word_of}
+use Rattle.com_read_lines.specs.Programs.{program_line}
 use Rattle.com_read_sections.specs.Opened.{interface_closed, method_line, inner_interface, has_body, body_head, class_ended, inner_class, program_of, body_ended, inner_body, thread_ended, inner_thread, filter_ended, ruled, inner_filter, by_section, step}
 use Rattle.com_read_sections.specs.Outlines.{taken_iids, microsoft}
 use Rattle.com_model.specs.declared.scenario.Scenario.{Scenario}

@@ -10,8 +10,8 @@ use Rattle.com_text.specs.Words.{WordAt}
 use Rattle.com_read_operands.specs.declared.faults.Fault.{Fault}
 use Rattle.com_read_operands.specs.Numbers.{signed_of}
 use Rattle.com_read_operands.specs.Reading.{◌>>=◌, fault_at, word_at, end_at, number_at}
-use Rattle.com_read_sections.specs.declared.rules.RuleWord.{RuleWord}
-use Rattle.com_read_sections.specs.declared.rules.RuleWord.TheVariants as words
+use Rattle.com_read_lines.specs.declared.rules.RuleWord.{RuleWord}
+use Rattle.com_read_lines.specs.declared.rules.RuleWord.TheVariants as words
 
 abbrev pub rule_word_of : List ℕ → Option RuleWord
 rule_word_of bytes =

@@ -2,8 +2,8 @@
 
 ghost use Rattle.std.specs.Prelude.{◌≡◌, Ok};
 ghost use Rattle.com_read_operands.specs.Reading.{Gives};
-ghost use Rattle.com_read_sections.specs.Rules.{call_type_at, verdict_at, refusal_at, answer_at, kept_at};
-ghost use Rattle.com_read_sections.specs.Rules.{rule_word_of, rule_of};
+ghost use Rattle.com_read_lines.specs.Rules.{call_type_at, verdict_at, refusal_at, answer_at, kept_at};
+ghost use Rattle.com_read_lines.specs.Rules.{rule_word_of, rule_of};
 
 use com_filter::{Rule, Verdict};
 use com_read_operands::{Fault, ScenarioError, end, fault, number, signed_of, word};
@@ -20,8 +20,8 @@ pub enum RuleWord {
     Pending,
 }
 
-/// The rule that a word begins.
-pub(crate) fn rule_word_of(bytes: &[u8]) -> Option<RuleWord>
+/// The rule that a word begins. `None` for every other word.
+pub fn rule_word_of(bytes: &[u8]) -> Option<RuleWord>
     ensures { result ≡ rule_word_of bytes.now }
 {
     if bytes == b"incoming".as_slice() {
@@ -117,9 +117,11 @@ fn kept(line: &[Word], index: usize) -> Result<u8, ScenarioError>
     }
 }
 
-/// The rule that a line spells behind its first word.
+/// The rule that a line spells behind its first word, `keyword`: a call type, milliseconds and a verdict;
+/// a verdict, milliseconds and an answer; or milliseconds and an answer. A number out of its range is
+/// fault 6, another word that cannot stand where it does fault 3, and behind the last the line ends.
 #[tactic(auto, unfolding(crate::specs::Rules::rule_of))]
-pub(crate) fn rule(keyword: RuleWord, line: &[Word]) -> Result<Rule, ScenarioError>
+pub fn rule(keyword: RuleWord, line: &[Word]) -> Result<Rule, ScenarioError>
     ensures { Gives (λ r. r) result (rule_of keyword line.now) }
 {
     match keyword {

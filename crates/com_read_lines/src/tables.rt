@@ -1,7 +1,7 @@
 //! Small lists.
 
 ghost use Rattle.std.specs.Prelude.{◌≡◌};
-ghost use Rattle.com_read_sections.specs.Tables.{guid_eq, has_guid};
+ghost use Rattle.com_read_lines.specs.Tables.{guid_eq, has_guid};
 
 use com_base::Guid;
 

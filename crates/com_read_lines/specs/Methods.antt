@@ -10,8 +10,8 @@ use Rattle.com_read_operands.specs.declared.faults.Fault.{Fault}
 use Rattle.com_read_operands.specs.Reading.{◌>>=◌, fault_at, word_at, stands_at, end_at}
 use Rattle.com_read_operands.specs.Naming.{name_at, declared_at}
 use Rattle.com_read_statements.specs.Calls.{method_position}
-use Rattle.com_read_sections.specs.declared.methods.Signature.{Signature}
-use Rattle.com_read_sections.specs.declared.methods.TypeWord.{TypeWord}
+use Rattle.com_read_lines.specs.declared.methods.Signature.{Signature}
+use Rattle.com_read_lines.specs.declared.methods.TypeWord.{TypeWord}
 
 -- the kinds that the language has words for
 abbrev pub type_word_of : List ℕ → Option Kind

@@ -2,7 +2,7 @@
 
 ghost use Rattle.std.specs.Prelude.{◌≡◌, ◌<◌, ◌^◌, [], drop, Ok};
 ghost use Rattle.com_read_operands.specs.Reading.{Gives};
-ghost use Rattle.com_read_sections.specs.Methods.{type_word_of, type_at, item_at, signature_on, method_of};
+ghost use Rattle.com_read_lines.specs.Methods.{type_word_of, type_at, item_at, signature_on, method_of};
 
 use com_base::{ByteList, Kind, PARAMETER_LIMIT, Rows};
 use com_classes::Method;
@@ -111,9 +111,11 @@ fn signature_of(
     })
 }
 
-/// The method that a line spells behind its first word, with a name that no method above has.
+/// The method that a line spells behind its first word, with a name that none of `methods` has: one that
+/// has is fault 9. A type is a word of the language or one of `interfaces`; a parameter more than 4 is
+/// fault 12. Faults of names and of the line's end come as the readers of `com_read_operands` say.
 #[tactic(auto, unfolding(crate::specs::Methods::method_of))]
-pub(crate) fn method(
+pub fn method(
     alloc: Global,
     interfaces: &[ByteList],
     methods: &[Method],

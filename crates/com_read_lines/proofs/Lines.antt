@@ -8,8 +8,8 @@ use Rattle.com_read_operands.specs.declared.faults.Fault.{Fault}
 use Rattle.com_read_operands.specs.declared.faults.ScenarioError.{ScenarioError}
 use Rattle.com_read_operands.specs.declared.faults.ScenarioError.TheVariants as errors
 use Rattle.com_read_operands.specs.Reading.{◌>>=◌, Fails}
-use Rattle.com_read_sections.specs.Declaring.{listed_item, listed_on, pick_at, picks_on}
-use Rattle.com_read_sections.specs.Methods.{item_at, signature_on}
+use Rattle.com_read_lines.specs.Declaring.{listed_item, listed_on, pick_at, picks_on}
+use Rattle.com_read_lines.specs.Methods.{item_at, signature_on}
 
 any_word : WordAt
 any_word = record { line = 0; column = 0; after = 0; start = 0; end = 0; sort = sorts.Plain; bytes = [] }

@@ -12,8 +12,8 @@ use Rattle.com_read_operands.specs.declared.faults.Fault.{Fault}
 use Rattle.com_read_operands.specs.Reading.{◌>>=◌, fault_at, word_at, stands_at, number_at}
 use Rattle.com_read_operands.specs.Literals.{guid_at}
 use Rattle.com_read_operands.specs.Naming.{name_at, declared_at, position_of}
-use Rattle.com_read_sections.specs.Tables.{has_guid}
-use Rattle.com_read_sections.specs.Methods.{type_word_of}
+use Rattle.com_read_lines.specs.Tables.{has_guid}
+use Rattle.com_read_lines.specs.Methods.{type_word_of}
 
 -- a GUID that is not declared above
 unfoldable pub free_guid_at : List Guid → List WordAt → ℕ → Result Guid Fault

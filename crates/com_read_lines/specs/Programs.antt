@@ -11,7 +11,7 @@ use Rattle.com_read_statements.specs.declared.keywords.Keyword.TheVariants as ke
 use Rattle.com_read_statements.specs.declared.names.Names.{Names}
 use Rattle.com_read_statements.specs.Keywords.{keyword_of, takes}
 use Rattle.com_read_statements.specs.Statements.{stmt_of}
-use Rattle.com_read_sections.specs.Codes.{CodeAt, code_more, first_position}
+use Rattle.com_read_lines.specs.Codes.{CodeAt, code_more, first_position}
 
 abbrev pub number_index : Keyword → ℕ
 number_index (keywords.Local locals.Skip) = 1

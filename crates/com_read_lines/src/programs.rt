@@ -2,10 +2,10 @@
 
 ghost use Rattle.std.specs.Prelude.{◌≡◌, Ok};
 ghost use Rattle.com_read_operands.specs.Reading.{Gives};
-ghost use Rattle.com_read_sections.specs.Programs.{number_index, spot_at, program_line};
+ghost use Rattle.com_read_lines.specs.Programs.{number_index, spot_at, program_line};
 
+use crate::code::Code;
 use crate::header::FIRST;
-use crate::state::Code;
 use com_read_operands::{Fault, ScenarioError, fault};
 use com_read_statements::{Keyword, LocalWord, Names, Program, keyword_of, statement, takes};
 use com_text::Word;
@@ -36,9 +36,12 @@ fn spot(keyword: Keyword, line: &[Word]) -> Fault
     }
 }
 
-/// The statement of a line that does not end its program. The statements are at most `limit`.
+/// Appends the statement of a line that does not end its program, of which `word` is the first word. A
+/// word that begins no statement of the program is fault 3, and a statement more than `limit` is fault
+/// 12, both at that word; faults of its other words come from `com_read_statements::statement`. After an
+/// error the statements are not to be used.
 #[tactic(auto, unfolding(crate::specs::Programs::program_line))]
-pub(crate) fn program_line(
+pub fn program_line(
     alloc: Global,
     program: Program,
     limit: usize,

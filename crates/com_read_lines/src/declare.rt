@@ -2,10 +2,10 @@
 
 ghost use Rattle.std.specs.Prelude.{◌≡◌, [], drop, Ok, IfOk};
 ghost use Rattle.com_read_operands.specs.Reading.{Gives};
-ghost use Rattle.com_read_sections.specs.Declaring.{free_guid_at, free_name_at, interface_name_at};
-ghost use Rattle.com_read_sections.specs.Declaring.{filter_name_at, model_at, native_at, listed_item};
-ghost use Rattle.com_read_sections.specs.Declaring.{listed_on, listed_at, pick_at, picks_on};
-ghost use Rattle.com_read_sections.specs.Declaring.{native_interface, natives_of};
+ghost use Rattle.com_read_lines.specs.Declaring.{free_guid_at, free_name_at, interface_name_at};
+ghost use Rattle.com_read_lines.specs.Declaring.{filter_name_at, model_at, native_at, listed_item};
+ghost use Rattle.com_read_lines.specs.Declaring.{listed_on, listed_at, pick_at, picks_on};
+ghost use Rattle.com_read_lines.specs.Declaring.{native_interface, natives_of};
 
 use crate::methods::type_word_of;
 use crate::tables::has_guid;
@@ -18,9 +18,10 @@ use com_read_operands::{
 use com_text::Word;
 use std::alloc::{AllocError, Global};
 
-/// A GUID that is not declared above: one that is, is fault 9.
+/// A GUID that is none of `guids`, those that are declared above: one that is, is fault 9. Every word
+/// that is no GUID is fault 7.
 #[tactic(auto, unfolding(crate::specs::Declaring::free_guid_at))]
-pub(crate) fn free_guid(guids: &[Guid], line: &[Word], index: usize) -> Result<Guid, ScenarioError>
+pub fn free_guid(guids: &[Guid], line: &[Word], index: usize) -> Result<Guid, ScenarioError>
     ensures { Gives (λ g. g) result (free_guid_at guids.now line.now index) }
 {
     let guid = guid(line, index)?;
@@ -30,9 +31,10 @@ pub(crate) fn free_guid(guids: &[Guid], line: &[Word], index: usize) -> Result<G
     Ok(guid)
 }
 
-/// A name that is not declared above: one that is, is fault 9.
+/// The word of a name that is none of `names`, those that are declared above: one that is, is fault 9.
+/// Every word that is no name is fault 3.
 #[tactic(auto, unfolding(crate::specs::Declaring::free_name_at))]
-pub(crate) fn free_name<'l, 'a>(
+pub fn free_name<'l, 'a>(
     names: &[ByteList],
     line: &'l [Word<'a>],
     index: usize,
@@ -46,9 +48,10 @@ pub(crate) fn free_name<'l, 'a>(
     Ok(word)
 }
 
-/// An interface's name, which is no type of the language.
+/// The word of an interface's name, the second of its line, which is no type of the language: one that
+/// is, is fault 3. A name that is declared above is fault 9.
 #[tactic(auto, unfolding(crate::specs::Declaring::interface_name_at))]
-pub(crate) fn interface_name<'l, 'a>(
+pub fn interface_name<'l, 'a>(
     names: &[ByteList],
     line: &'l [Word<'a>],
 ) -> Result<&'l Word<'a>, ScenarioError>
@@ -61,9 +64,10 @@ pub(crate) fn interface_name<'l, 'a>(
     free_name(names, line, 1)
 }
 
-/// A filter's name, which is not `none`.
+/// The word of a filter's name, the second of its line, which is not `none`: that is fault 3. A name that
+/// is declared above is fault 9.
 #[tactic(auto, unfolding(crate::specs::Declaring::filter_name_at))]
-pub(crate) fn filter_name<'l, 'a>(
+pub fn filter_name<'l, 'a>(
     names: &[ByteList],
     line: &'l [Word<'a>],
 ) -> Result<&'l Word<'a>, ScenarioError>
@@ -76,9 +80,9 @@ pub(crate) fn filter_name<'l, 'a>(
     free_name(names, line, 1)
 }
 
-/// A threading model.
+/// A threading model. Every other word is fault 3.
 #[tactic(auto, unfolding(crate::specs::Declaring::model_at))]
-pub(crate) fn model(line: &[Word], index: usize) -> Result<ThreadingModel, ScenarioError>
+pub fn model(line: &[Word], index: usize) -> Result<ThreadingModel, ScenarioError>
     ensures { Gives (λ m. m) result (model_at line.now index) }
 {
     let word = word(line, index)?;
@@ -99,13 +103,10 @@ pub(crate) fn model(line: &[Word], index: usize) -> Result<ThreadingModel, Scena
     }
 }
 
-/// The kind of a native class. An agile class has no links, so an agile relay is fault 10.
+/// The kind of a native class of a threading model. An agile class has no links, so an agile relay is
+/// fault 10. Every word that is no kind is fault 3.
 #[tactic(auto, unfolding(crate::specs::Declaring::native_at))]
-pub(crate) fn native(
-    model: ThreadingModel,
-    line: &[Word],
-    index: usize,
-) -> Result<Native, ScenarioError>
+pub fn native(model: ThreadingModel, line: &[Word], index: usize) -> Result<Native, ScenarioError>
     ensures { Gives (λ n. n) result (native_at model line.now index) }
 {
     let word = word(line, index)?;
@@ -135,8 +136,8 @@ fn native_interface(native: Native) -> u16
     }
 }
 
-/// The interfaces of a native class: the one of its kind.
-pub(crate) fn natives(alloc: Global, native: Native) -> Result<Rows<u16>, AllocError>
+/// The interfaces of a native class: the one of its kind. The only error is want of memory.
+pub fn natives(alloc: Global, native: Native) -> Result<Rows<u16>, AllocError>
     ensures { IfOk result (λ r. r ≡ natives_of native) }
 {
     let mut list = Vec::new(alloc);
@@ -144,13 +145,10 @@ pub(crate) fn natives(alloc: Global, native: Native) -> Result<Rows<u16>, AllocE
     Ok(Rows::from_vec(list))
 }
 
-/// The interfaces of a class: one name or more from the fifth word on.
+/// The interfaces of a class by their numbers: one name or more from the fifth word on. Where none stands
+/// there it is fault 4, a name that is none of `names` is fault 8, and a name more than 16 is fault 12.
 #[tactic(auto, unfolding(crate::specs::Declaring::listed_at))]
-pub(crate) fn listed(
-    alloc: Global,
-    names: &[ByteList],
-    line: &[Word],
-) -> Result<Rows<u16>, ScenarioError>
+pub fn listed(alloc: Global, names: &[ByteList], line: &[Word]) -> Result<Rows<u16>, ScenarioError>
     ensures { Gives (λ l. l) result (listed_at names.now line.now) }
 {
     word(line, 4)?;
@@ -199,9 +197,10 @@ fn pick(line: &[Word], index: usize) -> Result<u32, ScenarioError>
     Ok(number(line, index, 0, 4294967295)? as u32)
 }
 
-/// The numbers of a line of picks.
+/// The numbers of a line of picks, from its second word on, each 0 to 4,294,967,295: every other word is
+/// fault 6.
 #[tactic(auto, using(crate::proofs::Lines::picks_more))]
-pub(crate) fn picks(alloc: Global, line: &[Word]) -> Result<Vec<u32>, ScenarioError>
+pub fn picks(alloc: Global, line: &[Word]) -> Result<Vec<u32>, ScenarioError>
     ensures { Gives (λ l. l.items) result (picks_on [] line.now 1 (drop 1 line.now)) }
 {
     let mut picks = Vec::new(alloc);
