@@ -19,9 +19,9 @@ use Rattle.com_moves.specs.Tables.{moves_in}
 use Rattle.com_quiet.specs.Ends.{connected}
 use Rattle.com_refs.specs.Ends.{ends, Totals}
 use Rattle.com_state.specs.Parts.{named_at}
-use Rattle.com_ledger.specs.Books.{Held, books_held}
-use Rattle.com_ledger.specs.Entries.{Applied, Applies, Around, Carries, StandsAround, brings_to, entered, left_by, tally}
-use Rattle.com_ledger.specs.Owners.{Grown, owns_by}
+use Rattle.com_booking.specs.Books.{Held, books_held}
+use Rattle.com_booking.specs.Entries.{Applied, Applies, Around, Carries, StandsAround, brings_to, entered, left_by, tally}
+use Rattle.com_booking.specs.Owners.{Grown, owns_by}
 use Rattle.com_ledger.specs.Ties.{AppliedAs, ObjectsGrow, ObjectsTie, Ties, books_by_rows, places_at}
 use Rattle.com_ledger.proofs.Following.{objects-tie, stands-after, ties-after}
 use Rattle.com_ledger.proofs.Within.{ends-applied, entered-below, running-below}

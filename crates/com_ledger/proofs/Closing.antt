@@ -22,12 +22,12 @@ use Rattle.com_model.specs.Objects.{makes, disconnects}
 use Rattle.com_quiet.specs.Ends.{connected}
 use Rattle.com_refs.specs.Ends.{Totals}
 use Rattle.com_state.specs.Parts.{ObjectTables, named_at}
-use Rattle.com_ledger.specs.declared.calls.CallPackets.{CallPackets}
-use Rattle.com_ledger.specs.Calls.{call_at, number_of}
-use Rattle.com_ledger.specs.Books.{Taken, Cut, books_with}
-use Rattle.com_ledger.specs.Entries.{Around, tally, left_by, entered, ends_holder, Closed, Closes, ClosesTables, GivesUp}
-use Rattle.com_ledger.proofs.Entering.{IsPlain, connected_plain, closed_none, closed_taken, closed_cut}
-use Rattle.com_ledger.proofs.Losing.{withdraw_none}
+use Rattle.com_booking.specs.declared.calls.CallPackets.{CallPackets}
+use Rattle.com_booking.specs.Calls.{call_at, number_of}
+use Rattle.com_booking.specs.Books.{Taken, Cut, books_with}
+use Rattle.com_booking.specs.Entries.{Around, tally, left_by, entered, ends_holder, Closed, Closes, ClosesTables, GivesUp}
+use Rattle.com_booking.proofs.Entering.{IsPlain, connected_plain, closed_none, closed_taken, closed_cut}
+use Rattle.com_booking.proofs.Losing.{withdraw_none}
 
 module _ (s : Scenario) (x : Option Action) (g : Around) (owned : ℕ → ℕ → Bool) (calls : List CallPackets) (t u : Tables) where
   abbrev pub expects : Deed → Books

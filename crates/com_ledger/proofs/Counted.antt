@@ -17,7 +17,7 @@ use Rattle.com_model.proofs.Tabled.{length-tabulated, within-tabulated}
 use Rattle.com_refs.specs.Numbers as numbers
 use Rattle.com_stub.specs.declared.counters.CounterRow.{CounterRow}
 use Rattle.com_stub.specs.CounterRows.{has_counter}
-use Rattle.com_ledger.specs.Books.{Held}
+use Rattle.com_booking.specs.Books.{Held}
 use Rattle.com_ledger.specs.Ties.{Ties, places_at}
 
 -- ---- interfaces

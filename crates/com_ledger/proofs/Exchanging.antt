@@ -6,12 +6,12 @@ use Rattle.com_holders.specs.Tables.{Tables, books_of}
 use Rattle.com_moves.specs.declared.moves.Move.{Move}
 use Rattle.com_refs.specs.Ends.{ends}
 use Rattle.com_refs.proofs.Ends.{ends_again}
-use Rattle.com_ledger.specs.Books.{Exchanged}
-use Rattle.com_ledger.specs.Moving.{moves_at, plus, AllBelow, Ended}
-use Rattle.com_ledger.proofs.Gaining.{moves_append, below_right}
-use Rattle.com_ledger.specs.Owners.{AsOwned}
-use Rattle.com_ledger.proofs.Owning.{owned_then}
-use Rattle.com_ledger.proofs.Placed.{same_counts}
+use Rattle.com_booking.specs.Books.{Exchanged}
+use Rattle.com_booking.specs.Moving.{moves_at, plus, AllBelow, Ended}
+use Rattle.com_booking.proofs.Gaining.{moves_append, below_right}
+use Rattle.com_booking.specs.Owners.{AsOwned}
+use Rattle.com_booking.proofs.Owning.{owned_then}
+use Rattle.com_booking.proofs.Placed.{same_counts}
 
 pub whole_taken : (ms : List Move) (k : ℕ) → length ms ≤ k → take k ms ≡ ms
 whole_taken [] zero h = refl

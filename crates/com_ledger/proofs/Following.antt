@@ -41,8 +41,8 @@ use Rattle.com_quiet.specs.Ends.{books_entered, connected, history_entered}
 use Rattle.com_quiet.proofs.Endings.{history-end}
 use Rattle.com_refs.specs.Ends.{ends}
 use Rattle.com_release.proofs.Lives.{place-low}
-use Rattle.com_ledger.specs.Books.{Held}
-use Rattle.com_ledger.specs.Moving.{moves_at, plus, AllBelow}
+use Rattle.com_booking.specs.Books.{Held}
+use Rattle.com_booking.specs.Moving.{moves_at, plus, AllBelow}
 use Rattle.com_ledger.specs.Ties.{EntryEnds, ObjectsGrow, ObjectsTie, OwnersGrow, OwnersTie, Ties, owner_after, owns_after, places_at}
 use Rattle.com_ledger.proofs.Lowest.{LowMoves, low-state, moves-low}
 

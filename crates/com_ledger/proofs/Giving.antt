@@ -22,15 +22,15 @@ use Rattle.com_model.specs.declared.scenario.Scenario.{Scenario}
 use Rattle.com_model.specs.Calls.{issues}
 use Rattle.com_model.specs.Books.{rows, kept, back_rows}
 use Rattle.com_moves.specs.declared.moves.Move.{Move}
-use Rattle.com_ledger.specs.declared.calls.CallPackets.{CallPackets}
-use Rattle.com_ledger.specs.Calls.{call_at, arguments_of, arguments_in, result_in, number_of}
-use Rattle.com_ledger.specs.Books.{Gained, Made, Marshalled, books_with, moved_to, with_arguments, with_answer}
-use Rattle.com_ledger.specs.Entries.{Around, tally, left_by, ends_holder, brings_to, Carries, Given, Gives, RowsOf, MakesOrNone, is_of_reference}
-use Rattle.com_ledger.specs.Owners.{Grown}
-use Rattle.com_ledger.proofs.Cutting.{same_rows}
-use Rattle.com_ledger.proofs.Gaining.{brought_none}
-use Rattle.com_ledger.proofs.Entering.{IsPlain, clash, expected, given_by, given_gained, given_later}
-use Rattle.com_ledger.proofs.Packed.{with_calls, read_rows}
+use Rattle.com_booking.specs.declared.calls.CallPackets.{CallPackets}
+use Rattle.com_booking.specs.Calls.{call_at, arguments_of, arguments_in, result_in, number_of}
+use Rattle.com_booking.specs.Books.{Gained, Made, Marshalled, books_with, moved_to, with_arguments, with_answer}
+use Rattle.com_booking.specs.Entries.{Around, tally, left_by, ends_holder, brings_to, Carries, Given, Gives, RowsOf, MakesOrNone, is_of_reference}
+use Rattle.com_booking.specs.Owners.{Grown}
+use Rattle.com_booking.proofs.Cutting.{same_rows}
+use Rattle.com_booking.proofs.Gaining.{brought_none}
+use Rattle.com_booking.proofs.Entering.{IsPlain, clash, expected, given_by, given_gained, given_later}
+use Rattle.com_booking.proofs.Packed.{with_calls, read_rows}
 
 -- ---- a new object
 

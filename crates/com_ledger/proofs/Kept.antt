@@ -8,8 +8,8 @@ use Rattle.com_model.specs.Lists.{is_member}
 use Rattle.com_model.specs.Objects.{makes, one_more}
 use Rattle.com_moves.specs.declared.moves.Move.{Move}
 use Rattle.com_refs.specs.Counts.{holders_of}
-use Rattle.com_ledger.specs.Entries.{Applies, Around, Loses, Tally}
-use Rattle.com_ledger.specs.Moving.{Touches}
+use Rattle.com_booking.specs.Entries.{Applies, Around, Loses, Tally}
+use Rattle.com_booking.specs.Moving.{Touches}
 
 pub same_holders : (t u : Tables) (s o : ℕ) → u ≡ record t { spare = s } → holders_of u o ≡ holders_of t o
 unfolding books_of

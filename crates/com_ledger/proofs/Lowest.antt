@@ -31,7 +31,7 @@ use Rattle.com_moves.specs.Steps.{movings_of}
 use Rattle.com_moves.specs.Tables.{moves_by, moves_in}
 use Rattle.com_places.specs.Moves.{Move as Moving, Moves, acted_moves, all_moved, arrived_moves, ended_moves, entered_where, link_moves, links_moved, moved, result_moved, slots_where, together, write_moves, writes_moves}
 use Rattle.com_state.specs.After.{acting_in, actor_after, step_in}
-use Rattle.com_ledger.specs.Moving.{AllBelow}
+use Rattle.com_booking.specs.Moving.{AllBelow}
 
 abbrev pub Low : ℕ → List Moving → Type 0
 Low n [] = Unit {0}

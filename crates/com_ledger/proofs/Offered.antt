@@ -8,8 +8,8 @@ use Rattle.com_holders.specs.Tables.{Tables, offers}
 use Rattle.com_model.specs.declared.deeds.Deed.{Deed}
 use Rattle.com_model.specs.declared.deeds.Deed.TheVariants as deed
 use Rattle.com_moves.specs.declared.moves.Move.{Move}
-use Rattle.com_ledger.specs.Entries.{is_made, is_made_by}
-use Rattle.com_ledger.specs.Moving.{AllOffered, no_move}
+use Rattle.com_booking.specs.Entries.{is_made, is_made_by}
+use Rattle.com_booking.specs.Moving.{AllOffered, no_move}
 
 len-both : (xs ys : List Move) → length (xs ++ ys) ≡ length xs + length ys
 len-both [] ys = omega arith

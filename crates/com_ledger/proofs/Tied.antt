@@ -23,10 +23,10 @@ use Rattle.com_proxy.specs.declared.ProxyRow.{ProxyRow}
 use Rattle.com_refs.specs.Counts.{holders_of, outside_of}
 use Rattle.com_refs.specs.Ends.{Totals}
 use Rattle.com_stub.specs.StubRows.{is_connected}
-use Rattle.com_ledger.specs.declared.calls.CallPackets.{CallPackets}
-use Rattle.com_ledger.specs.Books.{Held, books_held}
-use Rattle.com_ledger.specs.Calls.{arguments_in, result_in}
-use Rattle.com_ledger.specs.Moving.{Touches}
+use Rattle.com_booking.specs.declared.calls.CallPackets.{CallPackets}
+use Rattle.com_booking.specs.Books.{Held, books_held}
+use Rattle.com_booking.specs.Calls.{arguments_in, result_in}
+use Rattle.com_booking.specs.Moving.{Touches}
 use Rattle.com_ledger.specs.Ties.{AllTouched, OwnersTie, Ties, IsNew, places_at, holders_at}
 
 -- ---- holders

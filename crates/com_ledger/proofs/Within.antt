@@ -38,8 +38,8 @@ use Rattle.com_moves.specs.Steps.{movings_of}
 use Rattle.com_moves.specs.Tables.{moves_in}
 use Rattle.com_quiet.specs.Ends.{books_entered, connected}
 use Rattle.com_refs.specs.Ends.{ends}
-use Rattle.com_ledger.specs.Books.{Held, books_held}
-use Rattle.com_ledger.specs.Moving.{plus, AllBelow}
+use Rattle.com_booking.specs.Books.{Held, books_held}
+use Rattle.com_booking.specs.Moving.{plus, AllBelow}
 use Rattle.com_ledger.specs.Ties.{AppliedAs, EndedAt, Ties, books_by_rows, owns_after, places_at}
 use Rattle.com_ledger.proofs.Following.{counts-next, ground-is, moves-below, owns-made, places-next, stands-after, stas-more}
 use Rattle.com_ledger.proofs.Lowest.{enters-low}

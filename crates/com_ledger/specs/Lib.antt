@@ -1,6 +1,1 @@
-pub mod Calls
-pub mod Books
-pub mod Entries
-pub mod Moving
-pub mod Owners
 pub mod Ties

@@ -19,9 +19,9 @@ use Rattle.com_model.specs.State.{next_sta_in, objects_in, owns_in, running_in, 
 use Rattle.com_moves.specs.declared.moves.Move.{Move}
 use Rattle.com_quiet.specs.Ends.{books_entered, connected}
 use Rattle.com_refs.specs.Ends.{ends, Totals}
-use Rattle.com_ledger.specs.Books.{Held, books_held}
-use Rattle.com_ledger.specs.Moving.{plus, AllBelow}
-use Rattle.com_ledger.specs.Owners.{owns_by}
+use Rattle.com_booking.specs.Books.{Held, books_held}
+use Rattle.com_booking.specs.Moving.{plus, AllBelow}
+use Rattle.com_booking.specs.Owners.{owns_by}
 
 -- The places of a state, by apartment and object, and the holders of an object.
 abbrev pub places_at : Scenario → State → (apartment object : ℕ) → ℕ

@@ -2,7 +2,7 @@
 
 ghost use Rattle.std.specs.Prelude.{◌≡◌, []};
 
-use crate::calls::CallTable;
+use com_booking::CallTable;
 use com_moves::Move;
 use com_refs::Refs;
 use std::alloc::Global;

@@ -22,9 +22,9 @@ ghost use Rattle.com_moves.specs.Tables.{moves_in};
 ghost use Rattle.com_quiet.specs.Ends.{books_entered, connected};
 ghost use Rattle.com_refs.specs.Counts.{holders_of};
 ghost use Rattle.com_refs.specs.Ends.{ends, Totals};
-ghost use Rattle.com_ledger.specs.Books.{Held};
-ghost use Rattle.com_ledger.specs.Entries.{Applies, Around, StandsAround, tally};
-ghost use Rattle.com_ledger.specs.Moving.{plus, AllBelow, Touches};
+ghost use Rattle.com_booking.specs.Books.{Held};
+ghost use Rattle.com_booking.specs.Entries.{Applies, Around, StandsAround, tally};
+ghost use Rattle.com_booking.specs.Moving.{plus, AllBelow, Touches};
 ghost use Rattle.com_ledger.specs.Ties.{AllTouched, AppliedAs, EndedAt, EntryEnds, IsNew, OwnersGrow};
 ghost use Rattle.com_ledger.specs.Ties.{OwnersTie, Ties, holders_at, places_at};
 

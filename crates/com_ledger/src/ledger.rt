@@ -19,7 +19,7 @@ pub struct Ledger {
 }
 
 impl Model for Ledger {
-    ghost use Rattle.com_ledger.specs.Books.{Held};
+    ghost use Rattle.com_booking.specs.Books.{Held};
 
     ghost Value = { Held };
 

@@ -9,22 +9,15 @@
 #![tactic(auto)]
 
 mod apply;
-mod calls;
 mod context;
 mod ends;
-mod entries;
 mod keeping;
 mod laws;
 mod ledger;
-mod making;
-mod moving;
-mod packing;
 mod reads;
-mod rows;
-mod touching;
 
-pub use calls::CallPackets;
 pub use com_base::Memory;
+pub use com_booking::CallPackets;
 pub use com_refs::Numbers;
 pub use context::Context;
 pub use laws::{

@@ -3,13 +3,12 @@ ghost use Rattle.std.specs.Prelude.{◌≡◌, ◌+◌, ◌<◌, ◌^◌, not};
 ghost use Rattle.com_books.specs.Changes.{packet, cookie};
 ghost use Rattle.com_model.specs.Deeds.{cookie_number};
 ghost use Rattle.com_model.specs.Lists.{any_of, first_that};
-ghost use Rattle.com_ledger.specs.Books.{books_held};
-ghost use Rattle.com_ledger.specs.Calls.{arguments_of};
+ghost use Rattle.com_booking.specs.Books.{books_held};
+ghost use Rattle.com_booking.specs.Calls.{arguments_of};
 ghost use Rattle.com_holders.specs.Tables.{books_of};
 
-use crate::calls::CallPackets;
 use crate::ledger::Ledger;
-use crate::rows::cookie_number;
+use com_booking::{CallPackets, cookie_number};
 use com_books::{Cookie, Packet};
 use com_exchange::Connections;
 use com_refs::Refs;

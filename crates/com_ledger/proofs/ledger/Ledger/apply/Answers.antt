@@ -3,8 +3,8 @@ use Rattle.std.specs.Prelude.{OnOk}
 use Rattle.com_model.specs.Lists.{number_or_zero}
 use Rattle.com_moves.specs.declared.moves.Move.{Move}
 use Rattle.com_moves.specs.Steps.{movings_of}
-use Rattle.com_ledger.specs.Books.{Held}
-use Rattle.com_ledger.specs.Entries.{Loses, around, tally}
+use Rattle.com_booking.specs.Books.{Held}
+use Rattle.com_booking.specs.Entries.{Loses, around, tally}
 use Rattle.com_ledger.proofs.ledger.Ledger.apply.Goals as goal
 
 pub returns-clause-applies : goal.returns-clause-applies

@@ -1,0 +1,5 @@
+pub mod Calls
+pub mod Books
+pub mod Entries
+pub mod Moving
+pub mod Owners
