@@ -1,5 +1,5 @@
 -- How an input of a scenario's text, the line `trace` and a trace is cut.
-use Rattle.std.specs.Prelude.{◌≤◌, ℕ, ◌+◌, List, [], ◌∷◌, Bool, true, false, ◌&&◌, if◌then◌else◌, codes, ⊤}
+use Rattle.std.specs.Prelude.{◌≤◌, ℕ, ◌+◌, List, [], ◌∷◌, Bool, false, ◌&&◌, if◌then◌else◌, codes, ⊤}
 use Rattle.std.specs.Str.{bytes_eq}
 use Rattle.com_text.specs.Words.{WordAt, LineAt, is_over}
 use Rattle.com_check.specs.declared.cut.Cut.{Cut}

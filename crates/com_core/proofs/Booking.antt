@@ -25,9 +25,9 @@ use Rattle.com_turns.proofs.Stands.{carried_stands}
 use Rattle.com_view.specs.Reads.{Reads}
 use Rattle.com_view.specs.Seen.{Seen, home_seen, running_seen}
 use Rattle.com_view.proofs.Sights.{reads_state as sight_read}
-use Rattle.com_ledger.specs.Books.{Held}
-use Rattle.com_ledger.specs.Entries.{Around, Carries, StandsAround, around, brings_to}
-use Rattle.com_ledger.specs.Moving.{Touches}
+use Rattle.com_booking.specs.Books.{Held}
+use Rattle.com_booking.specs.Entries.{Around, Carries, StandsAround, around, brings_to}
+use Rattle.com_booking.specs.Moving.{Touches}
 use Rattle.com_ledger.specs.Ties.{AllTouched, Ties, places_at}
 use Rattle.com_ledger.proofs.Applying.{applied-ties}
 use Rattle.com_ledger.proofs.Following.{counts-next, moves-below, places-next}

@@ -10,7 +10,7 @@ use Rattle.com_model.specs.Lists.{is_member}
 use Rattle.com_model.specs.Places.{direct_places}
 use Rattle.com_model.specs.State.{State, books_in, class_in, ground_in, named_in, next_sta_in, scene_in}
 use Rattle.com_drive.specs.Reports.{counts_in}
-use Rattle.com_ledger.specs.Books.{Held, books_held}
+use Rattle.com_booking.specs.Books.{Held, books_held}
 use Rattle.com_ledger.specs.Ties.{Ties}
 
 pub counts_read : (s : Scenario) (st : State) (w : Held) (o class owner : ℕ) (z : ObjectState) (direct proxies packets tables stub : ℕ) → Ties s st w

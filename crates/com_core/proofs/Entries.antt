@@ -41,7 +41,7 @@ use Rattle.com_model.specs.declared.keeps.Opener.{Opener}
 use Rattle.com_model.specs.Tables.{lanes}
 use Rattle.com_model.proofs.Tabled.{tabulated-row}
 use Rattle.com_model.proofs.Whole.{first-stands}
-use Rattle.com_ledger.specs.Books.{Held, books_held}
+use Rattle.com_booking.specs.Books.{Held, books_held}
 use Rattle.com_refs.specs.Counts.{holders_of}
 use Rattle.com_core.specs.Making.{BooksLater, IsCore, MakesNext}
 use Rattle.com_core.specs.Seen.{CoreView, IsWhole, Steps, core_state}

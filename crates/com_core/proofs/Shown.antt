@@ -3,7 +3,7 @@ use Rattle.std.proofs.Common.{◌≡◌, ℕ, ◌≤◌, List, All, length, refl
 use Rattle.com_body.specs.declared.frame.Outcome.{Outcome}
 use Rattle.std.specs.Prelude.{Bool, Option}
 use Rattle.com_holders.specs.Tables.{books_of}
-use Rattle.com_ledger.specs.Books.{Held}
+use Rattle.com_booking.specs.Books.{Held}
 use Rattle.com_ledger.specs.Ties.{IsNew, Ties}
 use Rattle.com_model.specs.declared.deeds.Deed.{Deed}
 use Rattle.com_model.specs.declared.deeds.Entry.{Entry}

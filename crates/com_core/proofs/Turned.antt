@@ -30,7 +30,7 @@ use Rattle.com_view.proofs.Sights.{reads_state as sight_read}
 use Rattle.com_turns.specs.declared.turns.Turn.{Turn}
 use Rattle.com_turns.specs.Turns.{IsIssued, IsTurn, actor_later}
 use Rattle.com_turns.proofs.Stands.{acting_stands, after_stands, filtered_stands, next_stands, step_stands}
-use Rattle.com_ledger.specs.Books.{Held}
+use Rattle.com_booking.specs.Books.{Held}
 use Rattle.com_core.specs.Changes.{sent_by}
 use Rattle.com_core.specs.Making.{Changed, IsCore, MakesNext}
 use Rattle.com_core.specs.Stands.{IsGiven, IsReached, IsSent, Stands, seen_by}

@@ -4,8 +4,8 @@ use Rattle.com_base.specs.declared.value.RefValue.{RefValue}
 use Rattle.com_body.specs.declared.frame.Outcome.{Outcome}
 use Rattle.com_books.specs.Changes.{Books}
 use Rattle.com_holders.specs.Places.{Counts}
-use Rattle.com_ledger.specs.Books.{Held, books_held}
-use Rattle.com_ledger.specs.Entries.{Applies, Around, Loses, around, tally}
+use Rattle.com_booking.specs.Books.{Held, books_held}
+use Rattle.com_booking.specs.Entries.{Applies, Around, Loses, around, tally}
 use Rattle.com_ledger.specs.Ties.{Ties}
 use Rattle.com_model.specs.declared.deeds.Deed.{Deed}
 use Rattle.com_model.specs.declared.deeds.Entry.{Entry}

@@ -1,8 +1,8 @@
 -- What is seen of the parts and of the ledger of a core: all but room.
-use Rattle.std.specs.Prelude.{[]}
+use Rattle.std.specs.Prelude.{[], None}
 use Rattle.com_calls.specs.Kept.{with_room}
 use Rattle.com_lanes.specs.First.{first_lanes}
-use Rattle.com_ledger.specs.Books.{Held}
+use Rattle.com_booking.specs.Books.{Held}
 use Rattle.com_parts.specs.Tables.{PartRooms, PartTables}
 
 -- No room for anything.
@@ -16,6 +16,7 @@ no_rooms = record {
   };
   objects = record { tables = record { makings = []; finaled = [] }; made = 0; gone = 0 };
   scene = record { seats = []; calls = 0; objects = 0 };
+  taken = record { acting = None; packet = None; after = None; body = None; value = None };
 }
 
 -- The parts without what is said of room.

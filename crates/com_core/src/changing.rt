@@ -14,8 +14,8 @@ ghost use Rattle.com_drive.specs.declared.runtime.Standing.TheVariants as standi
 ghost use Rattle.com_drive.specs.Standings.{standing_of};
 ghost use Rattle.com_fates.specs.Bodies.{entered_after};
 ghost use Rattle.com_fates.specs.Most.{Most};
-ghost use Rattle.com_ledger.specs.Books.{books_held};
-ghost use Rattle.com_ledger.specs.Entries.{around, most_left};
+ghost use Rattle.com_booking.specs.Books.{books_held};
+ghost use Rattle.com_booking.specs.Entries.{around, most_left};
 ghost use Rattle.com_model.specs.Calls.{lane_of};
 ghost use Rattle.com_model.specs.Clock.{ticked};
 ghost use Rattle.com_model.specs.Lists.{number_or_zero};

@@ -4,7 +4,7 @@ ghost use Rattle.std.specs.Prelude.{◌≡◌, ◌∷◌, [], IfOk, None};
 ghost use Rattle.com_calls.specs.Kept.{IsNamed};
 ghost use Rattle.com_core.specs.Beginning.{BeginsParts};
 ghost use Rattle.com_core.specs.Sound.{Few, Sound};
-ghost use Rattle.com_ledger.specs.Books.{books_held};
+ghost use Rattle.com_booking.specs.Books.{books_held};
 ghost use Rattle.com_ledger.specs.Ties.{IsNew};
 ghost use Rattle.com_model.specs.Ends.{state_of};
 ghost use Rattle.com_model.specs.Lists.{is_member};

@@ -8,7 +8,7 @@ ghost use Rattle.com_core.specs.Seen.{IsAsBefore, TurnsTo, core_state, kept_of};
 ghost use Rattle.com_core.specs.Sound.{Few, Sound};
 ghost use Rattle.com_core.specs.Stands.{seen_by};
 ghost use Rattle.com_jobs.specs.Jobs.{Fits, HasShape, IsGivenBack, IsRefused, job_of, kept_in};
-ghost use Rattle.com_ledger.specs.Books.{books_held};
+ghost use Rattle.com_booking.specs.Books.{books_held};
 ghost use Rattle.com_model.specs.declared.keeps.Opener.TheVariants.{Enters};
 ghost use Rattle.com_model.specs.Clock.{ticked};
 ghost use Rattle.com_model.specs.Lists.{first};

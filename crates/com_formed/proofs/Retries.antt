@@ -1,8 +1,8 @@
 -- The numbers that may answer a retry.
-use Rattle.std.proofs.Common.{◌≡◌, ℕ, zero, suc, ◌≤◌, refl, arith}
-use Rattle.std.specs.Prelude.{◌↔◌, ◌≤ℤ◌, ℤ, pos, negsuc}
+use Rattle.std.proofs.Common.{arith}
+use Rattle.std.specs.Prelude.{◌≤ℤ◌, ℤ, pos, negsuc}
 use Rattle.std.proofs.lemmas.Int.{ints}
-use Rattle.com_model.specs.Formed.{IsRetryAnswer, last_ms}
+use Rattle.com_model.specs.Formed.{IsRetryAnswer}
 
 pub answers : (n : ℤ) → negsuc 0 ≤ℤ n → n ≤ℤ pos 2147483647 → IsRetryAnswer n
 answers (pos n) low high = omega (arith, ints)

@@ -1,6 +1,6 @@
 -- A list whose skips end inside it is a body within each limit that its length keeps.
-use Rattle.std.proofs.Common.{◌≡◌, ℕ, ◌≤◌, ◌<◌, List, length, Option, Some, None, Bool, true, false, refl, sym, ap, ◌∙◌, arith, nat_lt, ◌^◌, All, take, if◌then◌else◌}
-use Rattle.std.proofs.lemmas.Bool.Decides.{nat_tests, Decides-ltb}
+use Rattle.std.proofs.Common.{◌≡◌, ℕ, ◌≤◌, ◌<◌, List, length, Option, Some, None, Bool, true, false, refl, ap, ◌∙◌, arith, nat_lt, ◌^◌, All, take, if◌then◌else◌}
+use Rattle.std.proofs.lemmas.Bool.Decides.{nat_tests}
 use Rattle.com_body.specs.declared.statements.Stmt.{Stmt}
 use Rattle.com_body.specs.declared.body.BodyFault.{BodyFault}
 use Rattle.com_body.specs.declared.body.BodyFault.TheVariants as fault

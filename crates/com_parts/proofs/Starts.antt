@@ -35,7 +35,7 @@ parts_of k m b s n = record { lanes = k.tables; objects = m.tables; calls = b; s
 pub begun_is : (k k' : LaneRows) (m m' : ObjectRows) (b b' : Kept) (s : SceneRows) (n lane r i : ℕ) (acting after : Acting) (step : Option Outcome) (d : Deed) (x : Begun)
     → k'.tables ≡ k.tables → m'.tables ≡ m.tables → b' ≡ with_room b r i
     → Fits k.tables m.tables b lane d x.clock → IsWriting step → n < 2 ^ 28 → length b.apartments ≡ length b.tables.issues
-    → HasSpace k' lane d → HasRowFor m' d → HasPlace d x.apartment b' → IsPrepared acting after d s.room x.prepared → HasIssued d x.issued → x.value ≡ left_in d
+    → HasSpace k' lane d → HasRowFor m' d → HasPlace d x.apartment b' → IsPrepared acting after d s.room s.taken → HasIssued d x.issued → x.value ≡ left_in d
     → NamesOwners (named_at m.tables) (ends_sta d) x.owners.items
     → x.apartment ≡ named_at m.tables (object_of (issues lane d)) → x.outermost ≡ is_none (running_call (openers_at k'.tables lane))
     → IsBegun (parts_of k' m' b' s n) acting step after lane d x

@@ -26,7 +26,7 @@ pub record IsBegun (p : PartTables) (acting : Acting) (r : Option Outcome) (afte
   pub lanes : HasSpace p.rooms.lanes l d
   pub objects : HasRowFor p.rooms.objects d
   pub place : HasPlace d b.apartment p.calls
-  pub scene : IsPrepared acting after d p.rooms.scene b.prepared
+  pub scene : IsPrepared acting after d p.rooms.scene p.rooms.taken
   pub issued : HasIssued d b.issued
   pub value : b.value ≡ left_in d
   pub owners : NamesOwners (named_at p.objects) (ends_sta d) b.owners.items

@@ -150,6 +150,7 @@ impl Parts {
             deed,
             apartment,
         )?;
+        self.scene.prepare(acting, after, deed)?;
         Ok(Begun {
             issued,
             apartment,
@@ -157,7 +158,6 @@ impl Parts {
             outermost: is_outermost(&self.lanes, lane),
             filtered,
             clock,
-            prepared: self.scene.prepare(acting, after, deed)?,
             owners,
         })
     }
@@ -195,7 +195,6 @@ impl Parts {
             outermost,
             filtered,
             clock,
-            prepared,
             owners,
         } = begun;
         let calling = Calling {
@@ -206,15 +205,8 @@ impl Parts {
             filtered,
             clock,
         };
-        self.scene.apply(
-            prepared,
-            acting,
-            outcome,
-            after,
-            lane,
-            deed,
-            owners.as_slice(),
-        );
+        self.scene
+            .apply(acting, outcome, after, lane, deed, owners.as_slice());
         change_rows(&mut self.lanes, &mut self.objects, lane, deed);
         change_calls(&mut self.calls, lane, deed, calling);
         self.entries += 1;

@@ -2,7 +2,7 @@
 
 use com_base::{HResult, Rows, Value};
 use com_model::Deed;
-use com_scene::{Actor, Prepared};
+use com_scene::Actor;
 
 /// What a call has at its Out entry: the refusal, or S_OK, and the values that it sends.
 #[derive(Debug, Drop)]
@@ -48,8 +48,6 @@ pub struct Begun {
     pub filtered: bool,
     /// The clock before the entry, in milliseconds.
     pub clock: u64,
-    /// What was taken for the scene.
-    pub prepared: Prepared,
     /// The apartment of each object, from 0, where the entry ends a single-threaded apartment; else none.
     pub owners: Vec<u32>,
 }

@@ -1,6 +1,7 @@
--- What a contract sees of a scene: its tables, and what has room.
+-- What a contract sees of a scene: its tables, what has room, and what was taken for the entry that comes.
 use Rattle.std.specs.Prelude.{ℕ, Bool, List, vec_capacity, vec_len, ◌-◌}
 use Rattle.com_model.specs.State.{SceneTables}
+use Rattle.com_scene.specs.declared.prepare.Taken.{Taken}
 use Rattle.com_scene.specs.declared.tables.Tables.{Tables}
 use Rattle.com_scene.specs.Seen.{seats_of}
 
@@ -10,10 +11,11 @@ pub record SceneRoom : Type 0 where
   pub calls : ℕ
   pub objects : ℕ
 
--- The tables, and what has room.
+-- The tables, what has room, and what was taken.
 pub record SceneRows : Type 0 where
   pub tables : SceneTables
   pub room : SceneRoom
+  pub taken : Taken
 
 abbrev pub room_of : Tables → SceneRoom
 room_of t = record {

@@ -6,17 +6,28 @@ ghost use Rattle.com_model.specs.Apartments.{ends_sta};
 ghost use Rattle.com_state.specs.SceneParts.{links_cut, rows_after, rows_arrived, with_rows};
 ghost use Rattle.com_scene.specs.Actors.{acting_of};
 ghost use Rattle.com_scene.specs.Kept.{IsKept, IsStep};
-ghost use Rattle.com_scene.specs.Prepared.{HasRowFor, HasSeatAfter, IsPrepared, result_in, values_in};
+ghost use Rattle.com_scene.specs.Prepared.{HasBody, HasRowFor, HasSeatAfter, IsPrepared, IsTaken, result_in};
 ghost use Rattle.com_scene.specs.Ranges.{FitsDeed};
 ghost use Rattle.com_scene.specs.Rooms.{room_of};
 ghost use Rattle.com_scene.specs.Seen.{seen, seat_of, seats_of, HasSeatFor, KeepsSeats};
 
 use crate::actor::Actor;
-use crate::prepare::Prepared;
+use crate::prepare::Taken;
 use crate::tables::{Seat, Tables};
 use com_base::{HResult, Value};
 use com_body::{Destination, Outcome};
 use com_model::Deed;
+
+// The copy that was taken of a value, where there is one.
+fn own(value: &Option<Value>, taken: &mut Option<Value>) -> Option<Value>
+    requires { IsTaken value.now taken.old }
+    ensures { result ≡ value.now }
+{
+    match value {
+        Some(_) => taken.take(),
+        None => None,
+    }
+}
 
 impl Tables {
     // A row for the call that an entry issues, or for the object that it makes.
@@ -45,11 +56,11 @@ impl Tables {
         call: u32,
         hr: HResult,
         value: Option<Value>,
-        spare: Option<Seat>,
+        spare: &mut Option<Seat>,
     )
         requires kept { IsKept (seen self.old) }
-        requires seat { HasSeatFor (seats_of self.old.calls.items) (acting_of after) spare }
-        requires fresh { seat_of spare ≡ entered [] }
+        requires seat { HasSeatFor (seats_of self.old.calls.items) (acting_of after) spare.old }
+        requires fresh { seat_of spare.old ≡ entered [] }
         ensures { (lane : ℕ) → seen self.new
             ≡ rows_arrived (acting_of after) lane (of_deed.Back call hr value) (seen self.old) }
     {
@@ -57,28 +68,31 @@ impl Tables {
         self.give(after, hr, to, value, spare);
     }
 
-    // What the entry does beside the step of whoever acts.
+    // What the entry does beside the step of whoever acts, with what was taken for it: a spare frame for
+    // whoever acts afterwards, the frame of a body that begins, and the value with which a call comes back.
     fn arrive(
         &mut self,
         after: Actor,
         lane: u32,
         deed: &Deed,
-        spare: Option<Seat>,
-        body: Option<Seat>,
-        value: Option<Value>,
+        spare: &mut Option<Seat>,
+        body: &mut Option<Seat>,
+        taken: &mut Option<Value>,
     )
         requires kept { IsKept (seen self.old) }
-        requires seat { HasSeatAfter (seats_of self.old.calls.items) (acting_of after) deed.now spare }
-        requires fresh { seat_of spare ≡ entered [] }
-        requires body { seat_of body ≡ entered (values_in deed.now) }
-        requires value { value ≡ result_in deed.now }
+        requires seat { HasSeatAfter (seats_of self.old.calls.items) (acting_of after) deed.now spare.old }
+        requires fresh { seat_of spare.old ≡ entered [] }
+        requires body { HasBody deed.now body.old }
+        requires value { IsTaken (result_in deed.now) taken.old }
         ensures { seen self.new ≡ rows_arrived (acting_of after) lane deed.now (seen self.old) }
     {
         match deed {
             Deed::Enter { call, .. } => self.enter(*call, body),
             Deed::Leave { call, .. } => self.leave(*call),
-            Deed::Back { call, hr, .. } => self.give_back(after, *call, *hr, value, spare),
-            Deed::EndPump => { self.give(after, HResult::S_OK, Destination::Nowhere, None, spare) }
+            Deed::Back { call, hr, value } => {
+                self.give_back(after, *call, *hr, own(value, taken), spare)
+            }
+            Deed::EndPump => self.give(after, HResult::S_OK, Destination::Nowhere, None, spare),
             Deed::Uninit { count: 0, .. } => self.clear_script(lane),
             Deed::Final { object } => self.clear_links(*object),
             _ => {}
@@ -114,7 +128,7 @@ impl Tables {
     /// object, from 0; only the end of an STA reads it. What is left of the step has no use any more.
     pub fn apply(
         &mut self,
-        prepared: Prepared,
+        taken: &mut Taken,
         acting: Actor,
         outcome: &mut Option<Outcome>,
         after: Actor,
@@ -126,20 +140,21 @@ impl Tables {
         requires step { IsStep (acting_of acting) outcome.old }
         requires kept { IsKept (seen self.old) }
         requires ready { IsPrepared (acting_of acting) (acting_of after) deed.now (room_of self.old)
-            prepared }
+            taken.old }
         ensures { seen self.new
             ≡ rows_after (λ o. slice_index_or owners.now o 0) (acting_of acting) outcome.old (acting_of after)
             (record { lane = lane; deed = deed.now }) (seen self.old) }
     {
-        let Prepared {
-            step,
-            after: spare,
-            body,
-            value,
-        } = prepared;
         self.add_row(lane, deed);
-        self.act(acting, outcome, deed, step);
-        self.arrive(after, lane, deed, spare, body, value);
+        self.act(acting, outcome, deed, &mut taken.acting, &mut taken.packet);
+        self.arrive(
+            after,
+            lane,
+            deed,
+            &mut taken.after,
+            &mut taken.body,
+            &mut taken.value,
+        );
         self.cut_ended(deed, owners);
     }
 }

@@ -58,11 +58,11 @@ impl Tables {
         hr: HResult,
         to: Destination,
         value: Option<Value>,
-        spare: Option<Seat>,
+        spare: &mut Option<Seat>,
     )
         requires to { IsDestination to }
-        requires seat { HasSeat (seats_of self.old.calls.items) call spare }
-        requires fresh { seat_of spare ≡ entered [] }
+        requires seat { HasSeat (seats_of self.old.calls.items) call spare.old }
+        requires fresh { seat_of spare.old ≡ entered [] }
         ensures { seen self.new ≡ with_body (seen self.old) call
             (fold frame_with (body_at (seen self.old) call) (to_answer hr ∷ to_destination to value)) }
     {
@@ -92,11 +92,11 @@ impl Tables {
         hr: HResult,
         to: Destination,
         value: Option<Value>,
-        spare: Option<Seat>,
+        spare: &mut Option<Seat>,
     )
         requires to { IsDestination to }
-        requires seat { HasSeatFor (seats_of self.old.calls.items) (acting_of after) spare }
-        requires fresh { seat_of spare ≡ entered [] }
+        requires seat { HasSeatFor (seats_of self.old.calls.items) (acting_of after) spare.old }
+        requires fresh { seat_of spare.old ≡ entered [] }
         ensures { seen self.new
             ≡ fold (row_written (acting_of after)) (seen self.old) (to_answer hr ∷ to_destination to value) }
     {

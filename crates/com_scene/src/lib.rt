@@ -17,6 +17,5 @@ mod tables;
 mod writes;
 
 pub use actor::Actor;
-pub use prepare::Prepared;
 pub use scene::Scene;
 pub use writes::taken;

@@ -1,9 +1,9 @@
 //! The memory that an entry takes.
-ghost use Rattle.std.specs.Prelude.{◌≡◌, ◌≤◌, IfOk, OnOk, [], false, length, slice_index_or};
+ghost use Rattle.std.specs.Prelude.{◌≡◌, ◌≤◌, IfOk, OnOk, None, [], false, length, slice_index_or};
 ghost use Rattle.com_body.specs.Frames.{entered};
 ghost use Rattle.com_scene.specs.Actors.{acting_of};
-ghost use Rattle.com_scene.specs.Prepared.{HasRowFor, HasSeatAfter, IsPrepared, IsStepReady};
-ghost use Rattle.com_scene.specs.Prepared.{packet_in, result_in, values_in};
+ghost use Rattle.com_scene.specs.Prepared.{HasBody, HasRowFor, HasSeatAfter, IsPrepared, IsTaken};
+ghost use Rattle.com_scene.specs.Prepared.{packet_in, result_in};
 ghost use Rattle.com_scene.specs.Ranges.{FitsDeed};
 ghost use Rattle.com_scene.specs.Rooms.{room_of};
 ghost use Rattle.com_scene.specs.Seen.{seat_of, seats_of, seen, HasSeat, HasSeatFor};
@@ -15,50 +15,64 @@ use com_body::Frame;
 use com_model::Deed;
 use std::alloc::Global;
 
-/// What was taken for the step of whoever acts.
+/// What was taken for the entry that comes. It stays where it is until an entry uses it or takes anew, and an
+/// entry uses only what it has taken itself.
 #[derive(Drop)]
-pub struct ForStep {
-    /// A spare frame, where a body acts that has none of its own.
-    pub seat: Option<Seat>,
-    /// The packet that the entry made, where it made one.
+pub struct Taken {
+    /// A spare frame, where a body makes the entry by its step that has none of its own.
+    pub acting: Option<Seat>,
+    /// The packet that the entry made.
     pub packet: Option<ByteList>,
+    /// A spare frame, where the entry writes for a body that has none of its own.
+    pub after: Option<Seat>,
+    /// The frame of a body that begins.
+    pub body: Option<Seat>,
+    /// The value with which a call comes back.
+    pub value: Option<Value>,
 }
 
-/// What was taken for an entry.
-#[derive(Drop)]
-pub struct Prepared {
-    pub(crate) step: ForStep,
-    // A spare frame, where the entry writes for a body that has none of its own.
-    pub(crate) after: Option<Seat>,
-    // The frame of a body that begins.
-    pub(crate) body: Option<Seat>,
-    // The value with which a call comes back.
-    pub(crate) value: Option<Value>,
+impl Taken {
+    /// Nothing was taken.
+    pub fn nothing() -> Taken {
+        Taken {
+            acting: None,
+            packet: None,
+            after: None,
+            body: None,
+            value: None,
+        }
+    }
 }
 
-// The packet that an entry made. The only error is want of memory.
-fn packet_of(deed: &Deed) -> Result<Option<ByteList>, Memory>
-    ensures { IfOk result (λ packet. packet ≡ packet_in deed.now) }
+// Takes a copy of the packet that an entry made. The only error is want of memory.
+fn take_packet(deed: &Deed, packet: &mut Option<ByteList>) -> Result<(), Memory>
+    ensures { OnOk result (IsTaken (packet_in deed.now) packet.new) }
 {
     match deed {
         Deed::Marshal {
             bytes: Some(bytes),
             ..
-        } => Ok(Some(bytes.copy()?)),
-        _ => Ok(None),
+        } => {
+            *packet = Some(bytes.copy()?);
+            Ok(())
+        }
+        _ => Ok(()),
     }
 }
 
-// The value with which a call comes back. The only error is want of memory.
-fn result_of(deed: &Deed) -> Result<Option<Value>, Memory>
-    ensures { IfOk result (λ value. value ≡ result_in deed.now) }
+// Takes a copy of the value with which a call comes back. The only error is want of memory.
+fn take_value(deed: &Deed, value: &mut Option<Value>) -> Result<(), Memory>
+    ensures { OnOk result (IsTaken (result_in deed.now) value.new) }
 {
     match deed {
         Deed::Back {
-            value: Some(value),
+            value: Some(result),
             ..
-        } => Ok(Some(value.copy()?)),
-        _ => Ok(None),
+        } => {
+            *value = Some(result.copy()?);
+            Ok(())
+        }
+        _ => Ok(()),
     }
 }
 
@@ -71,14 +85,17 @@ fn new_seat(alloc: Global, values: &[Value]) -> Result<Seat, Memory>
     Seat::new(alloc, frame)
 }
 
-// The frame of a body that begins. The only error is want of memory.
-fn body_for(alloc: Global, deed: &Deed) -> Result<Option<Seat>, Memory>
+// Takes the frame of a body that begins. The only error is want of memory.
+fn take_body(alloc: Global, deed: &Deed, body: &mut Option<Seat>) -> Result<(), Memory>
     requires { FitsDeed deed.now }
-    ensures { IfOk result (λ body. seat_of body ≡ entered (values_in deed.now)) }
+    ensures { OnOk result (HasBody deed.now body.new) }
 {
     match deed {
-        Deed::Enter { values, .. } => Ok(Some(new_seat(alloc, values.as_slice())?)),
-        _ => Ok(None),
+        Deed::Enter { values, .. } => {
+            *body = Some(new_seat(alloc, values.as_slice())?);
+            Ok(())
+        }
+        _ => Ok(()),
     }
 }
 
@@ -94,52 +111,48 @@ impl Tables {
         false
     }
 
-    // A spare frame for the body of a call, where it has none. The only error is want of memory.
-    fn spare_of(&self, call: u32) -> Result<Option<Seat>, Memory>
-        ensures seat { IfOk result (λ spare. HasSeat (seats_of self.now.calls.items) call spare) }
-        ensures fresh { IfOk result (λ spare. seat_of spare ≡ entered []) }
+    // Takes a spare frame for the body of a call, where it has none. There is no spare frame yet. The only
+    // error is want of memory.
+    fn take_seat(&self, call: u32, spare: &mut Option<Seat>) -> Result<(), Memory>
+        requires { spare.old ≡ None }
+        ensures seat { OnOk result (HasSeat (seats_of self.now.calls.items) call spare.new) }
+        ensures fresh { OnOk result (seat_of spare.new ≡ entered []) }
     {
         if self.is_seated(call) {
-            return Ok(None);
+            return Ok(());
         }
-        Ok(Some(new_seat(*self.calls.allocator(), &[])?))
+        *spare = Some(new_seat(*self.calls.allocator(), &[])?);
+        Ok(())
     }
 
-    // A spare frame for an actor, where it is a body that has none. The only error is want of memory.
-    fn spare_for(&self, actor: Actor) -> Result<Option<Seat>, Memory>
-        ensures seat { IfOk result (λ spare.
-            HasSeatFor (seats_of self.now.calls.items) (acting_of actor) spare) }
-        ensures fresh { IfOk result (λ spare. seat_of spare ≡ entered []) }
+    // Takes a spare frame for an actor, where it is a body that has none. The only error is want of memory.
+    fn take_seat_for(&self, actor: Actor, spare: &mut Option<Seat>) -> Result<(), Memory>
+        ensures seat { OnOk result
+            (HasSeatFor (seats_of self.now.calls.items) (acting_of actor) spare.new) }
+        ensures fresh { OnOk result (seat_of spare.new ≡ entered []) }
     {
+        *spare = None;
         match actor {
-            Actor::Body { call, .. } => self.spare_of(call),
-            _ => Ok(None),
+            Actor::Body { call, .. } => self.take_seat(call, spare),
+            _ => Ok(()),
         }
     }
 
-    // A spare frame for whoever acts after an entry, where the entry writes for it. The only error is want of
-    // memory.
-    fn spare_after(&self, after: Actor, deed: &Deed) -> Result<Option<Seat>, Memory>
-        ensures seat { IfOk result (λ spare.
-            HasSeatAfter (seats_of self.now.calls.items) (acting_of after) deed.now spare) }
-        ensures fresh { IfOk result (λ spare. seat_of spare ≡ entered []) }
+    // Takes a spare frame for whoever acts after an entry, where the entry writes for it. The only error is
+    // want of memory.
+    fn take_after(&self, after: Actor, deed: &Deed, spare: &mut Option<Seat>) -> Result<(), Memory>
+        ensures seat { OnOk result
+            (HasSeatAfter (seats_of self.now.calls.items) (acting_of after) deed.now spare.new) }
+        ensures fresh { OnOk result (seat_of spare.new ≡ entered []) }
     {
         match deed {
-            Deed::Back { .. } => self.spare_for(after),
-            Deed::EndPump => self.spare_for(after),
-            _ => Ok(None),
+            Deed::Back { .. } => self.take_seat_for(after, spare),
+            Deed::EndPump => self.take_seat_for(after, spare),
+            _ => {
+                *spare = None;
+                Ok(())
+            }
         }
-    }
-
-    // What the step of whoever acts takes. The only error is want of memory.
-    fn step_for(&self, acting: Actor, deed: &Deed) -> Result<ForStep, Memory>
-        ensures { IfOk result (λ step.
-            IsStepReady (seats_of self.now.calls.items) (acting_of acting) deed.now step) }
-    {
-        Ok(ForStep {
-            seat: self.spare_for(acting)?,
-            packet: packet_of(deed)?,
-        })
     }
 
     // Makes room for the row that an entry brings. The only error is want of memory.
@@ -157,19 +170,23 @@ impl Tables {
 
     /// Takes all memory that an entry needs. The tables stay as they are, but for room. The only error is
     /// want of memory.
-    pub fn prepare(&mut self, acting: Actor, after: Actor, deed: &Deed) -> Result<Prepared, Memory>
+    pub fn prepare(
+        &mut self,
+        acting: Actor,
+        after: Actor,
+        deed: &Deed,
+        taken: &mut Taken,
+    ) -> Result<(), Memory>
         requires { FitsDeed deed.now }
         ensures same { seen self.new ≡ seen self.old }
-        ensures ready { IfOk result (λ prepared.
-            IsPrepared (acting_of acting) (acting_of after) deed.now (room_of self.new) prepared) }
+        ensures ready { OnOk result (IsPrepared (acting_of acting) (acting_of after) deed.now
+            (room_of self.new) taken.new) }
     {
-        let prepared = Prepared {
-            step: self.step_for(acting, deed)?,
-            after: self.spare_after(after, deed)?,
-            body: body_for(*self.calls.allocator(), deed)?,
-            value: result_of(deed)?,
-        };
-        self.reserve(deed)?;
-        Ok(prepared)
+        take_packet(deed, &mut taken.packet)?;
+        take_value(deed, &mut taken.value)?;
+        take_body(*self.calls.allocator(), deed, &mut taken.body)?;
+        self.take_seat_for(acting, &mut taken.acting)?;
+        self.take_after(after, deed, &mut taken.after)?;
+        self.reserve(deed)
     }
 }

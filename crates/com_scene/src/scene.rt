@@ -1,5 +1,5 @@
 //! The scene, as contracts of the core see it.
-ghost use Rattle.std.specs.Prelude.{◌≡◌, ℕ, IfOk, IfSome, MatchOption, [], slice_index_or};
+ghost use Rattle.std.specs.Prelude.{◌≡◌, ℕ, IfOk, IfSome, OnOk, MatchOption, [], slice_index_or};
 ghost use Rattle.com_body.specs.Frames.{entered};
 ghost use Rattle.com_model.specs.Apartments.{ends_sta};
 ghost use Rattle.com_state.specs.SceneParts.{cells_at, destination_at, rows_after};
@@ -10,7 +10,7 @@ ghost use Rattle.com_scene.specs.Ranges.{FitsDeed};
 ghost use Rattle.com_scene.specs.Scenes.{new_scene, frame_of};
 
 use crate::actor::Actor;
-use crate::prepare::Prepared;
+use crate::prepare::Taken;
 use crate::tables::Tables;
 use com_base::Memory;
 use com_body::{Cells, Destination, Frame, Outcome};
@@ -21,13 +21,15 @@ use std::marker::Model;
 /// What the scripts of threads, the bodies of calls, the objects and the packet buffers hold, and where the
 /// result of each call goes. Scripts are numbered by lane, and calls and objects from 1; there are 64
 /// buffers. Contracts see it as the tables of the state's definition, beside what has room: which calls have
-/// a frame of their own, and for how many more calls and objects there is a row.
+/// a frame of their own, for how many more calls and objects there is a row, and what was taken for the entry
+/// that comes.
 ///
 /// A body that has not begun, or has left, has no frame of its own, and a call's row is small then. It reads
 /// as the frame of a body that was entered without values.
 #[derive(Drop)]
 pub struct Scene {
     tables: Tables,
+    taken: Taken,
 }
 
 impl Model for Scene {
@@ -37,7 +39,11 @@ impl Model for Scene {
 
     ghost Value = { SceneRows };
 
-    ghost view = { λ a. record { tables = seen a.tables; room = room_of a.tables } };
+    ghost view = { λ a. record {
+      tables = seen a.tables;
+      room = room_of a.tables;
+      taken = a.taken;
+    } };
 
     ghost invariant = { λ a. IsKept (seen a.tables) };
 }
@@ -49,6 +55,7 @@ impl Scene {
     {
         Ok(Scene {
             tables: Tables::new(alloc, threads)?,
+            taken: Taken::nothing(),
         })
     }
 
@@ -82,16 +89,16 @@ impl Scene {
         self.tables.destination(call)
     }
 
-    /// Takes all memory that an entry needs. `acting` is who makes the entry by its step, and `after` who
-    /// acts in the lane afterwards. The only error is want of memory. Whatever is answered, the scene stays
-    /// as it is, but for room.
-    pub fn prepare(&mut self, acting: Actor, after: Actor, deed: &Deed) -> Result<Prepared, Memory>
+    /// Takes all memory that an entry needs, and keeps it for the entry. `acting` is who makes the entry by
+    /// its step, and `after` who acts in the lane afterwards. The only error is want of memory. Whatever is
+    /// answered, the scene stays as it is, but for room and for what was taken.
+    pub fn prepare(&mut self, acting: Actor, after: Actor, deed: &Deed) -> Result<(), Memory>
         requires { FitsDeed deed.now }
         ensures same { self.new.tables ≡ self.old.tables }
-        ensures ready { IfOk result (λ prepared.
-            IsPrepared (acting_of acting) (acting_of after) deed.now self.new.room prepared) }
+        ensures ready { OnOk result (IsPrepared (acting_of acting) (acting_of after) deed.now self.new.room
+            self.new.taken) }
     {
-        self.tables.prepare(acting, after, deed)
+        self.tables.prepare(acting, after, deed, &mut self.taken)
     }
 
     /// The scene after an entry of a lane, for which memory was taken. It takes no memory. `acting` and
@@ -100,7 +107,6 @@ impl Scene {
     /// may be empty. The step is used where it lies, and what is left of it has no use any more.
     pub fn apply(
         &mut self,
-        prepared: Prepared,
         acting: Actor,
         outcome: &mut Option<Outcome>,
         after: Actor,
@@ -110,12 +116,12 @@ impl Scene {
     )
         requires deed { FitsDeed deed.now }
         requires step { IsStep (acting_of acting) outcome.old }
-        requires ready { IsPrepared (acting_of acting) (acting_of after) deed.now self.old.room prepared }
+        requires ready { IsPrepared (acting_of acting) (acting_of after) deed.now self.old.room
+            self.old.taken }
         ensures { (named : ℕ → ℕ) → NamesOwners named (ends_sta deed.now) owners.now →
             self.new.tables ≡ rows_after named (acting_of acting) outcome.old (acting_of after)
             (record { lane = lane; deed = deed.now }) self.old.tables }
     {
-        self.tables
-            .apply(prepared, acting, outcome, after, lane, deed, owners)
+        self.tables.apply(&mut self.taken, acting, outcome, after, lane, deed, owners)
     }
 }

@@ -113,18 +113,18 @@ impl CallRow {
     }
 
     /// Gives the body of the call a spare frame, where it has none of its own.
-    fn sit(&mut self, spare: Option<Seat>)
-        ensures frame { self.new.frame ≡ own_or self.old.frame spare }
+    fn sit(&mut self, spare: &mut Option<Seat>)
+        ensures frame { self.new.frame ≡ own_or self.old.frame spare.old }
         ensures destination { self.new.destination ≡ self.old.destination }
     {
         if self.frame.is_none() {
-            self.frame = spare;
+            self.frame = spare.take();
         }
     }
 
     /// Gives the body of the call another frame, and takes the one that it had, or the spare one.
-    fn place(&mut self, frame: &mut Frame, spare: Option<Seat>)
-        requires seat { IsSome (own_or self.old.frame spare) }
+    fn place(&mut self, frame: &mut Frame, spare: &mut Option<Seat>)
+        requires seat { IsSome (own_or self.old.frame spare.old) }
         ensures frame { self.new.frame ≡ Some frame.old }
         ensures destination { self.new.destination ≡ self.old.destination }
         ensures seated { IsSome self.new.frame }
@@ -144,12 +144,12 @@ impl CallRow {
         self.frame = None;
     }
 
-    /// The body of the call begins with a frame.
-    fn enter(&mut self, seat: Option<Seat>)
-        ensures frame { self.new.frame ≡ seat }
+    /// The body of the call begins with the frame that was taken for it.
+    fn enter(&mut self, body: &mut Option<Seat>)
+        ensures frame { self.new.frame ≡ body.old }
         ensures destination { self.new.destination ≡ self.old.destination }
     {
-        self.frame = seat;
+        self.frame = body.take();
     }
 
     /// The body of the call is given an HRESULT, and the result of a call of its own, in its own frame, or in
@@ -160,10 +160,10 @@ impl CallRow {
         hr: HResult,
         to: Destination,
         value: Option<Value>,
-        spare: Option<Seat>,
+        spare: &mut Option<Seat>,
     )
-        requires seat { IsSome (own_or self.old.frame spare) }
-        requires fresh { seat_of spare ≡ entered [] }
+        requires seat { IsSome (own_or self.old.frame spare.old) }
+        requires fresh { seat_of spare.old ≡ entered [] }
         requires to { IsDestination to }
         ensures frame { seat_of self.new.frame
             ≡ fold frame_with (seat_of self.old.frame) (to_answer hr ∷ to_destination to value) }
@@ -197,8 +197,8 @@ pub struct Tables {
 #[tactic(auto, using(crate::proofs::RowLemmas::set_beyond, crate::proofs::RowLemmas::map_set, crate::proofs::RowLemmas::map_kept, crate::proofs::RowLemmas::map_length))]
 impl Tables {
     /// Gives the body of a call another frame, and takes the one that it had, or the spare one.
-    pub fn place(&mut self, call: u32, frame: &mut Frame, spare: Option<Seat>)
-        requires seat { HasSeat (seats_of self.old.calls.items) call spare }
+    pub fn place(&mut self, call: u32, frame: &mut Frame, spare: &mut Option<Seat>)
+        requires seat { HasSeat (seats_of self.old.calls.items) call spare.old }
         ensures tables { seen self.new ≡ with_body (seen self.old) call frame.old }
         ensures seats { KeepsSeats (seats_of self.old.calls.items) (seats_of self.new.calls.items) }
     {
@@ -265,13 +265,13 @@ impl Tables {
         }
     }
 
-    /// The body of a call begins with a frame.
-    pub fn enter(&mut self, call: u32, seat: Option<Seat>)
-        ensures { seen self.new ≡ with_body (seen self.old) call (seat_of seat) }
+    /// The body of a call begins with the frame that was taken for it.
+    pub fn enter(&mut self, call: u32, body: &mut Option<Seat>)
+        ensures { seen self.new ≡ with_body (seen self.old) call (seat_of body.old) }
     {
         if (call as usize) < self.calls.len() {
             let row = &mut self.calls[call as usize];
-            row.enter(seat);
+            row.enter(body);
         }
     }
 

@@ -1,8 +1,9 @@
 //! What an entry writes for whoever acts.
-ghost use Rattle.std.specs.Prelude.{◌≡◌, ◌<◌, ◌^◌, Some, fold};
+ghost use Rattle.std.specs.Prelude.{◌≡◌, ◌<◌, ◌^◌, ℕ, List, [], ◌∷◌, Some, fold};
 ghost use Rattle.com_body.specs.Bodies.{IsPlace};
 ghost use Rattle.com_model.specs.Frames.{taken_in, reference, cookie_in, marshalled_in, writes, to_place};
-ghost use Rattle.com_scene.specs.Prepared.{packet_in};
+ghost use Rattle.com_model.specs.Frames.{ToBuffer};
+ghost use Rattle.com_scene.specs.Prepared.{packet_in, IsTaken};
 ghost use Rattle.com_scene.specs.Ranges.{FitsDeed, WritesInRange, IsInRange};
 ghost use Rattle.com_scene.specs.Steps.{IsMoreInRange, writing_of, listed, more_writes, raw_writes};
 ghost use Rattle.com_scene.specs.Steps.{frame_with, writes_of};
@@ -124,15 +125,27 @@ fn at_place(place: Place, held: Option<RefValue>) -> Write
     }
 }
 
-// The write of a packet that an entry made to a buffer, where it made one.
-fn marshalled(buffer: u8, packet: Option<ByteList>) -> Option<Write>
-    ensures writes { (deed : Deed) → packet ≡ packet_in deed
-        → listed None result ≡ marshalled_in buffer deed }
+// The write of a packet to a buffer.
+fn put_packet(buffer: u8, packet: Option<ByteList>) -> Option<Write>
+    ensures writes { (bytes : List ℕ) → packet ≡ Some bytes
+        → listed None result ≡ ToBuffer buffer bytes ∷ [] }
     ensures in_range { IsMoreInRange result }
 {
     match packet {
         Some(bytes) => Some(Write::Buffer(buffer, bytes)),
         None => None,
+    }
+}
+
+// The write of the packet that an entry made to a buffer, where it made one.
+fn marshalled(buffer: u8, deed: &Deed, packet: &mut Option<ByteList>) -> Option<Write>
+    requires { IsTaken (packet_in deed.now) packet.old }
+    ensures writes { listed None result ≡ marshalled_in buffer deed.now }
+    ensures in_range { IsMoreInRange result }
+{
+    match deed {
+        Deed::Marshal { bytes: Some(_), .. } => put_packet(buffer, packet.take()),
+        _ => None,
     }
 }
 
@@ -150,10 +163,10 @@ fn raw_write(action: &mut Action) -> Option<Write>
 
 // What the destination of an action takes, by the entry that does the action. The packet is what the entry
 // made.
-fn taken_write(action: &mut Action, deed: &Deed, packet: Option<ByteList>) -> Option<Write>
+fn taken_write(action: &mut Action, deed: &Deed, packet: &mut Option<ByteList>) -> Option<Write>
     requires deed { FitsDeed deed.now }
     requires action { WritesInRange action.old }
-    requires packet { packet ≡ packet_in deed.now }
+    requires packet { IsTaken (packet_in deed.now) packet.old }
     ensures writes { listed None result ≡ more_writes action.old deed.now }
     ensures in_range { IsMoreInRange result }
 {
@@ -162,7 +175,7 @@ fn taken_write(action: &mut Action, deed: &Deed, packet: Option<ByteList>) -> Op
         Action::Query { to, .. } => Some(Write::Slot(*to, taken(deed))),
         Action::Copy { to, held } => Some(at_place(*to, *held)),
         Action::Release { place, .. } => Some(at_place(*place, None)),
-        Action::Marshal { buffer, .. } => marshalled(*buffer, packet),
+        Action::Marshal { buffer, .. } => marshalled(*buffer, deed, packet),
         Action::Unmarshal { slot, .. } => Some(Write::Slot(*slot, taken(deed))),
         Action::Raw { .. } => raw_write(action),
         Action::Register { to, .. } => Some(Write::Register(*to, Value::Int(cookie(deed) as i64))),
@@ -174,10 +187,10 @@ fn taken_write(action: &mut Action, deed: &Deed, packet: Option<ByteList>) -> Op
 impl Writes {
     /// What the entry of an action writes for whoever acts. The packet is what the entry made. What is left
     /// of the action has no use any more.
-    pub fn of(action: &mut Action, deed: &Deed, packet: Option<ByteList>) -> Writes
+    pub fn of(action: &mut Action, deed: &Deed, packet: &mut Option<ByteList>) -> Writes
         requires deed { FitsDeed deed.now }
         requires action { WritesInRange action.old }
-        requires packet { packet ≡ packet_in deed.now }
+        requires packet { IsTaken (packet_in deed.now) packet.old }
         ensures writes { writes_of result ≡ writes action.old deed.now }
         ensures in_range { IsMoreInRange result.more }
     {

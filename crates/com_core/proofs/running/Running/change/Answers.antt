@@ -10,8 +10,8 @@ use Rattle.com_places.specs.Moves.{Moves}
 use Rattle.com_refs.specs.Counts.{holders_of}
 use Rattle.com_scene.specs.Actors.{acting_of}
 use Rattle.com_scene.specs.Kept.{HasSlots}
-use Rattle.com_ledger.specs.Books.{Held}
-use Rattle.com_ledger.specs.Entries.{Around, around, most_left}
+use Rattle.com_booking.specs.Books.{Held}
+use Rattle.com_booking.specs.Entries.{Around, around, most_left}
 use Rattle.com_core.specs.Changes.{Becomes, Settles, sent_by}
 use Rattle.com_core.specs.Making.{Booked}
 use Rattle.com_core.specs.Shown.{parts_shown}

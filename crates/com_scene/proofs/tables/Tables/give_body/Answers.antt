@@ -12,8 +12,8 @@ use Rattle.com_scene.proofs.tables.Tables.give_body.Goals as goal
 pub receive-requires-clause-seat : goal.receive-requires-clause-seat
 receive-requires-clause-seat c =
     let h : c.args.call < length c.args.self.now.calls.items = omega arith in
-    subst (λ (row : CallRow). IsSome (own_or row.frame c.args.spare)) (sym c.index_mut-row.ensures.value)
-    (seat_at c.args.self.now.calls.items c.args.call c.index_mut-row.result.now c.args.spare h c.requires.seat)
+    subst (λ (row : CallRow). IsSome (own_or row.frame c.args.spare.now)) (sym c.index_mut-row.ensures.value)
+    (seat_at c.args.self.now.calls.items c.args.call c.index_mut-row.result.now c.args.spare.now h c.requires.seat)
 
 pub returns-then-call-len : goal.returns-then-call-len
 returns-then-call-len c =

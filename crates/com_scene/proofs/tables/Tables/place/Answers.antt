@@ -9,8 +9,8 @@ pub place-requires : goal.place-requires
 place-requires c =
     let h : c.args.call < length c.args.self.now.calls.items = omega arith in
     record {
-      seat = subst (λ (row : CallRow). IsSome (own_or row.frame c.args.spare)) (sym c.index_mut-row.ensures.value)
-          (seat_at c.args.self.now.calls.items c.args.call c.index_mut-row.result.now c.args.spare h c.requires.seat);
+      seat = subst (λ (row : CallRow). IsSome (own_or row.frame c.args.spare.now)) (sym c.index_mut-row.ensures.value)
+          (seat_at c.args.self.now.calls.items c.args.call c.index_mut-row.result.now c.args.spare.now h c.requires.seat);
     }
 
 pub returns-then-call-len-clause-seats : goal.returns-then-call-len-clause-seats
