@@ -13,9 +13,9 @@ ghost use Rattle.com_agreed.specs.Lines.{IsMadeFor, NamesNext};
 
 use crate::traces::Agreed;
 use com_base::{Memory, Rows};
-use com_check::{named, split_line};
+use com_check::{lane_of, split_line};
 use com_core::Core;
-use com_drive::{Runtime, all_counts, ended};
+use com_drive::{Runtime, all_counts, end_of};
 use com_model::{Ended, Entry, Scenario};
 use com_retrace::{fresh_row, make_next};
 use com_servant::Servant;
@@ -39,7 +39,7 @@ fn make_named<C: Runtime>(
     ensures made { IfOk result (λ entry. IsMadeFor (C.scenario runtime.old)
         (C.state runtime.old) line.now entry (C.state runtime.new)) }
 {
-    match named(line) {
+    match lane_of(line) {
         Some(lane) => make_next(alloc, runtime, servants, lane),
         None => unreachable!(),
     }
@@ -47,7 +47,7 @@ fn make_named<C: Runtime>(
 
 // What was read, where a runtime has made these entries and its history has ended so. The only error is want
 // of memory.
-fn found<C: Runtime>(
+fn agreement<C: Runtime>(
     alloc: Global,
     scenario: &Scenario,
     runtime: &C,
@@ -96,8 +96,8 @@ fn read_by<C: Runtime>(
     let mut rest = trace;
     'lines: loop {
         let standing = runtime.standing();
-        if let Some(ended) = ended(scenario, runtime, standing) {
-            return found(alloc, scenario, runtime, entries, ended);
+        if let Some(ended) = end_of(scenario, runtime, standing) {
+            return agreement(alloc, scenario, runtime, entries, ended);
         }
         let (line, behind) = split_line(rest);
         let entry = make_named(alloc, runtime, servants, line)?;

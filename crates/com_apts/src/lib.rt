@@ -6,7 +6,7 @@
 #![tactic(auto)]
 
 ghost use Rattle.std.specs.Prelude.{◌≡◌, ◌+◌, ◌-◌, ◌<◌, ◌≤◌, ◌^◌, [], ◌∷◌, ◌++◌, false, true, length};
-ghost use Rattle.std.specs.Prelude.{replicate, IfOk, OnOk, OnErr, List, ℕ, slice_set, vec_len};
+ghost use Rattle.std.specs.Prelude.{replicate, IfOk, OnOk, OnErr, List, ℕ, vec_len};
 ghost use Rattle.com_apts.specs.Lanes.{Step, IsBalanced, IsThread, after_init, after_uninit, count_of};
 ghost use Rattle.com_apts.specs.Lanes.{ended_by_uninit, ended_first, free_seat, home_of, init_answer};
 ghost use Rattle.com_apts.specs.Lanes.{is_ended, is_in_mode, main_sta_of, sta_of, home_in, ended_in};

@@ -55,7 +55,7 @@ fn index_of(methods: &[Method], member: &Member) -> Option<usize>
 }
 
 /// Why a member names no method.
-fn absent(member: &Member) -> HResult
+fn absence_of(member: &Member) -> HResult
     ensures { result ≡ absent member.now }
 {
     match member {
@@ -79,7 +79,7 @@ fn is_for(result_kind: Option<Kind>, destination: Option<Sort>) -> bool
 }
 
 /// A method with its arguments.
-fn signed(
+fn bind_arguments(
     alloc: Global,
     index: usize,
     method: &Method,
@@ -123,8 +123,8 @@ pub fn bind_among(
     ensures binds { Binds result (bound_among methods.now member.now args.now destination) }
 {
     match index_of(methods, member) {
-        None => Err(BindError::Disp(absent(member))),
-        Some(index) => signed(alloc, index, &methods[index], args, destination),
+        None => Err(BindError::Disp(absence_of(member))),
+        Some(index) => bind_arguments(alloc, index, &methods[index], args, destination),
     }
 }
 

@@ -13,7 +13,7 @@ ghost use Rattle.com_booking.specs.Entries.{RowsOf, MakesOrNone, is_made};
 ghost use Rattle.com_booking.specs.Moving.{HoldsMore};
 
 use crate::making::make;
-use crate::rows::{get, marshal, query, read, register, unproved};
+use crate::rows::{get, marshal, query, read, register, unproved_fact};
 use com_base::{HResult, MarshalMode, Memory, RefValue};
 use com_body::Asked;
 use com_classes::Classes;
@@ -25,7 +25,7 @@ fn reference(object: u32, iface: u32) -> Result<RefValue, Memory>
     ensures { IfOk result (λ held. held ≡ record { object = object; iface = iface }) }
 {
     if iface > 0xffff {
-        return Err(unproved());
+        return Err(unproved_fact());
     }
     let iface = iface as u16;
     Ok(RefValue { object, iface })
@@ -60,13 +60,13 @@ pub fn enter_made(
         return Ok(());
     };
     let Some(owner) = owner else {
-        return Err(unproved());
+        return Err(unproved_fact());
     };
     let Asked::Number(class) = class else {
-        return Err(unproved());
+        return Err(unproved_fact());
     };
     let Asked::Number(iface) = iface else {
-        return Err(unproved());
+        return Err(unproved_fact());
     };
     let held = reference(object, iface)?;
     make(refs, brought, set, classes, apartment, held, owner, class)

@@ -7,10 +7,9 @@ ghost use Rattle.com_model.specs.Tables.{has_agile_model};
 ghost use Rattle.com_booking.specs.Books.{KeepsHeld, Made, moved_to};
 ghost use Rattle.com_booking.specs.Owners.{Grown};
 
-use crate::rows::{MOST_GIVEN, bring, unproved};
+use crate::rows::{MOST_GIVEN, bring, unproved_fact};
 use com_base::{Memory, RefValue};
-use com_classes::{Class, Classes};
-use com_deeds::is_agile;
+use com_classes::{Class, Classes, is_agile};
 use com_moves::Move;
 use com_refs::Refs;
 
@@ -43,7 +42,7 @@ fn can_make(refs: &Refs, set: &[u16], held: RefValue) -> bool
     ensures within { IsTrue result → among held.iface set.now ≡ true }
     ensures few { IsTrue result → refs.now.issued + 1 < 2 ^ 28 }
 {
-    if refs.issued() >= MOST_GIVEN - 1 {
+    if refs.issued_count() >= MOST_GIVEN - 1 {
         return false;
     }
     if held.object.checked_sub(1) != Some(refs.objects()) {
@@ -85,11 +84,11 @@ pub fn make(
     ensures len { vec_len brought.new ≤ vec_len brought.old + 1 }
 {
     let Some(class) = classes.class(class) else {
-        return Err(unproved());
+        return Err(unproved_fact());
     };
     fill_set(set, class)?;
     if !can_make(refs, set.as_slice(), held) {
-        return Err(unproved());
+        return Err(unproved_fact());
     }
     refs.tells();
     refs.made(

@@ -2,16 +2,16 @@
 ghost use Rattle.std.specs.Prelude.{◌≡◌, ◌+◌, ◌-◌, ◌<◌, ◌≤◌, ◌^◌, ℕ, [], None, IsTrue, OnErr, OnOk};
 ghost use Rattle.std.specs.Prelude.{length, map};
 ghost use Rattle.std.specs.Prelude.{vec_len, vec_capacity};
-ghost use Rattle.com_books.specs.Changes.{Unmarshals, marshal_all, entered_rows, made_since, first_of};
+ghost use Rattle.com_books.specs.Changes.{Unmarshals, marshal_all, entered_rows};
 ghost use Rattle.com_holders.specs.Tables.{books_of, offers, owns_of};
 ghost use Rattle.com_model.specs.Endings.{is_leave};
-ghost use Rattle.com_model.specs.Lists.{put, from_one};
+ghost use Rattle.com_model.specs.Lists.{from_one};
 ghost use Rattle.com_booking.specs.Books.{Gained, Marshalled, books_with, with_arguments, with_answer};
 ghost use Rattle.com_booking.specs.Calls.{arguments_of};
 ghost use Rattle.com_booking.specs.Moving.{AllKnown, HoldsMore};
 
 use crate::calls::{CallPackets, CallTable};
-use crate::rows::{MOST_GIVEN, give, unmarshal, unproved};
+use crate::rows::{MOST_GIVEN, give, unmarshal, unproved_fact};
 use com_base::{MarshalMode, Memory, RefValue};
 use com_calls::Calls;
 use com_deeds::is_leave;
@@ -40,7 +40,7 @@ fn can_pack(refs: &Refs, carried: &[RefValue]) -> bool
     ensures known { IsTrue result → AllKnown refs.now carried.now }
 {
     let most = MOST_GIVEN as usize;
-    if carried.len() >= most || refs.issued() as usize + carried.len() >= most {
+    if carried.len() >= most || refs.issued_count() as usize + carried.len() >= most {
         return false;
     }
     for held in carried {
@@ -95,13 +95,13 @@ pub fn issue(
     ensures spare { refs.old.spare ≤ refs.new.spare + length carried.now }
 {
     if calls.len() >= MOST_GIVEN as usize {
-        return Err(unproved());
+        return Err(unproved_fact());
     }
     if call as usize != calls.len() + 1 {
-        return Err(unproved());
+        return Err(unproved_fact());
     }
     if !can_pack(refs, carried) {
-        return Err(unproved());
+        return Err(unproved_fact());
     }
     calls.push()?;
     let (first, count) = pack(refs, apartment, carried);
@@ -131,10 +131,10 @@ pub fn reply(
     ensures spare { refs.old.spare ≤ refs.new.spare + length carried.now }
 {
     if call == 0 || call as usize > calls.len() {
-        return Err(unproved());
+        return Err(unproved_fact());
     }
     if !can_pack(refs, carried) {
-        return Err(unproved());
+        return Err(unproved_fact());
     }
     let (first, count) = pack(refs, apartment, carried);
     calls.set_result(call, if count > 0 { first } else { 0 });

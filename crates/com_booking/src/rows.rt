@@ -23,7 +23,7 @@ use std::alloc::AllocError;
 /// interface of its object's set; that a Get names the reference of its cookie, of a connected object; that
 /// calls are numbered one after another, and a Leave names one of them; that fewer than 2^28 references were
 /// given.
-pub fn unproved() -> Memory {
+pub fn unproved_fact() -> Memory {
     AllocError
 }
 
@@ -34,7 +34,7 @@ pub const MOST_GIVEN: u32 = 0x1000_0000;
 pub fn is_few(refs: &Refs) -> bool
     ensures { IsTrue result ↔ (refs.now.issued < 2 ^ 28) }
 {
-    refs.issued() < MOST_GIVEN
+    refs.issued_count() < MOST_GIVEN
 }
 
 /// Whether one more reference may be given, of an object by an interface of its set.
@@ -84,14 +84,14 @@ pub fn query(
     ensures capacity { vec_capacity brought.old ≤ vec_capacity brought.new }
 {
     if !is_few(refs) {
-        return Err(unproved());
+        return Err(unproved_fact());
     }
     match refs.query(apartment, held.object, held.iface) {
         Ok(()) => {
             bring(brought, apartment, held);
             Ok(())
         }
-        Err(_) => Err(unproved()),
+        Err(_) => Err(unproved_fact()),
     }
 }
 
@@ -133,7 +133,7 @@ pub fn marshal(
     ensures spare { refs.old.spare ≤ refs.new.spare + 1 }
 {
     if !can_give(refs, held) {
-        return Err(unproved());
+        return Err(unproved_fact());
     }
     give(refs, apartment, held, mode);
     Ok(())
@@ -185,7 +185,7 @@ pub fn read(
     ensures len { vec_len brought.new ≤ vec_len brought.old + 1 }
 {
     if !is_few(refs) {
-        return Err(unproved());
+        return Err(unproved_fact());
     }
     unmarshal(refs, brought, apartment, number);
     Ok(())
@@ -225,11 +225,11 @@ pub fn register(refs: &mut Refs, held: RefValue) -> Result<(), Memory>
         return Ok(());
     }
     if !can_give(refs, held) {
-        return Err(unproved());
+        return Err(unproved_fact());
     }
     match refs.register(held) {
         Ok(_) => Ok(()),
-        Err(_) => Err(unproved()),
+        Err(_) => Err(unproved_fact()),
     }
 }
 
@@ -253,17 +253,17 @@ pub fn get(
     ensures capacity { vec_capacity brought.old ≤ vec_capacity brought.new }
 {
     if !is_few(refs) {
-        return Err(unproved());
+        return Err(unproved_fact());
     }
     let number = cookie_number(cookie);
     let Some(kept) = refs.cookie(number) else {
-        return Err(unproved());
+        return Err(unproved_fact());
     };
     if kept != held {
-        return Err(unproved());
+        return Err(unproved_fact());
     }
     let Ok(found) = refs.get(apartment, number) else {
-        return Err(unproved());
+        return Err(unproved_fact());
     };
     bring(brought, apartment, found);
     Ok(())

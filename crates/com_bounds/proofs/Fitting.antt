@@ -24,7 +24,7 @@ use Rattle.com_model.specs.Calls.{issues, issue, admitted, is_marshalled}
 use Rattle.com_model.specs.Books.{books}
 use Rattle.com_model.specs.Endings.{ending}
 use Rattle.com_model.specs.Issue.{own_values, values_or, sent, unread_values}
-use Rattle.com_model.specs.Frames.{Scene, scene, Actor, actor_in, action_of, outcome, unless_over, act_by, act}
+use Rattle.com_model.specs.Frames.{scene, Actor, actor_in, action_of, outcome, unless_over, act}
 use Rattle.com_model.specs.Formed.{IsInterfaceNamed, Formed}
 use Rattle.com_model.specs.Sight.{sight}
 use Rattle.com_model.specs.Rules.{next, legal}
@@ -34,7 +34,7 @@ use Rattle.com_model.proofs.Sights.{same-next}
 use Rattle.com_balance.proofs.Makings.{fine-next}
 use Rattle.com_balance.proofs.Says.{Says, next-says}
 use Rattle.com_scene.specs.Ranges.{FitsDeed, IsInterface, HasInterface}
-use Rattle.com_bounds.proofs.Homes.{AsksFor, HomesSay, homes-say}
+use Rattle.com_bounds.proofs.Homes.{AsksFor, homes-say}
 use Rattle.com_bounds.proofs.Numbers.{out-few}
 use Rattle.com_bounds.proofs.Writing.{Proper, ProperOut, outcome-proper}
 

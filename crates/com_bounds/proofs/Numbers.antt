@@ -2,8 +2,7 @@
 use Rattle.std.proofs.Common.{ap, arith, subst, eqb-true}
 use Rattle.std.proofs.lemmas.List.{length-append, length-set}
 use Rattle.std.proofs.lemmas.List.Sums.{sum_by-cons}
-use Rattle.std.specs.Prelude.{◌≡◌, refl, ℕ, zero, suc, ◌+◌, ◌-◌, ◌*◌, ◌≤◌, pos, Bool, true, false, cond, not, ◌&&◌, ◌==◌, nat_le, List, [], ◌∷◌, ◌++◌, length, fold, map, sum_by, Option, Some, None, is_some, All, slice_get, slice_set, option_and_then}
-use Rattle.com_base.specs.declared.hresult.HResult.{HResult}
+use Rattle.std.specs.Prelude.{◌≡◌, refl, ℕ, zero, suc, ◌+◌, ◌-◌, ◌*◌, ◌≤◌, pos, Bool, true, false, cond, not, ◌&&◌, ◌==◌, nat_le, List, [], ◌∷◌, ◌++◌, length, map, sum_by, Option, Some, None, is_some, All, slice_get, option_and_then}
 use Rattle.com_base.specs.declared.value.Kind.{Kind}
 use Rattle.com_base.specs.declared.value.RefValue.{RefValue}
 use Rattle.com_base.specs.declared.value.Value.{Value}
@@ -16,7 +15,7 @@ use Rattle.com_body.specs.declared.operands.Asked.TheVariants as asked
 use Rattle.com_books.specs.Counting.{count_if}
 use Rattle.com_books.specs.declared.keeps.Packet.{Packet}
 use Rattle.com_books.specs.declared.keeps.Cookie.{Cookie}
-use Rattle.com_books.specs.Changes.{Books, packet, Change, ToProxy, ToPacket, Split, Join, Return, ToCookie, Withdraw, Same, changed, Row, Makes, Takes, Asks, Marshals, Unmarshals, Drops, Registers, Revokes, marshal_change, unmarshal_change, change, marshal_all, entered_rows, set_from_one, cut_packet, cut_cookie}
+use Rattle.com_books.specs.Changes.{Books, packet, Change, ToProxy, ToPacket, Split, Join, Return, ToCookie, Withdraw, Same, changed, Row, Makes, Takes, Asks, Marshals, Unmarshals, Drops, Registers, Revokes, marshal_change, unmarshal_change, change, marshal_all, entered_rows, set_from_one}
 use Rattle.com_classes.specs.declared.interfaces.Interface.{Interface}
 use Rattle.com_classes.specs.declared.interfaces.Method.{Method}
 use Rattle.com_classes.specs.Lookups.{method_at}
@@ -31,15 +30,15 @@ use Rattle.com_model.specs.declared.scenario.Scenario.{Scenario}
 use Rattle.com_model.specs.Answers.{is_S_OK, is_failure}
 use Rattle.com_model.specs.Lists.{without_first, number_or_zero}
 use Rattle.com_model.specs.Tables.{parameters}
-use Rattle.com_model.specs.Openers.{Effect, Opens, Closes, Keeps, Closer, EndsPump, Backs, Leaves, effect, effect_on, opened, openers, left_on, served}
-use Rattle.com_model.specs.Apartments.{HomeEffect, Initialises, Uninitialises, Remains, home_effect, home_effect_on, count_after, init_count, makes_sta, with_last, stas, running}
+use Rattle.com_model.specs.Openers.{Effect, Opens, Closes, Keeps, EndsPump, Backs, Leaves, effect_on, opened, openers, left_on, served}
+use Rattle.com_model.specs.Apartments.{Remains, home_effect, home_effect_on, count_after, init_count, makes_sta, with_last, stas, running}
 use Rattle.com_model.specs.Objects.{makes, one_more, objects}
 use Rattle.com_model.specs.Calls.{issues, calls, draws, causes}
 use Rattle.com_model.specs.Values.{sent_values, carried, result_list}
 use Rattle.com_model.specs.Frames.{Scene, scene, act}
 use Rattle.com_model.specs.Endings.{ending, is_leave}
 use Rattle.com_model.specs.Places.{Ground, ground}
-use Rattle.com_model.specs.Books.{out_values, rows, query_row, revoke_row, reply_rows, back_rows, kept, most, closed, books}
+use Rattle.com_model.specs.Books.{out_values, rows, reply_rows, back_rows, kept, most, closed, books}
 use Rattle.com_model.specs.Waiting.{Mail, MailEffect, Brings, Takes as TakesWord, Asks as AsksAbout, Forgets, Leaves as LeavesMail, mark_of, not_asked, asked_about, mail_effect, mail_after, mail}
 use Rattle.com_model.specs.Formed.{IsMethod, IsInterface, EachFrom, Formed}
 use Rattle.com_model.specs.Sight.{sight}

@@ -1,11 +1,11 @@
 -- The same of a state that stands for a history.
 use Rattle.std.proofs.Common.{ap, ◌∙◌, arith, subst, sym}
 use Rattle.std.proofs.lemmas.Grind.{common_steps}
-use Rattle.std.specs.Prelude.{◌≡◌, refl, ℕ, ℤ, zero, suc, pos, negsuc, ◌+◌, ◌*◌, ◌^◌, ◌<◌, ◌≤◌, Bool, true, false, cond, ◌==◌, ◌&&◌, nat_le, List, [], ◌∷◌, length, Option, Some, None, slice_index_or}
+use Rattle.std.specs.Prelude.{◌≡◌, ℕ, zero, suc, ◌+◌, ◌*◌, ◌^◌, ◌<◌, ◌≤◌, Bool, true, false, cond, ◌==◌, ◌&&◌, nat_le, List, [], ◌∷◌, length, Some, None, slice_index_or}
 use Rattle.com_base.specs.declared.value.Mode.TheVariants as mode
 use Rattle.com_books.specs.declared.keeps.Packet.{Packet}
 use Rattle.com_books.specs.declared.keeps.Cookie.{Cookie}
-use Rattle.com_lanes.specs.Changes.{IsNumber, IsBelow, NamesStas, HasRoom}
+use Rattle.com_lanes.specs.Changes.{IsNumber, IsBelow}
 use Rattle.com_model.specs.declared.deeds.Deed.{Deed}
 use Rattle.com_model.specs.declared.deeds.Deed.TheVariants as deed
 use Rattle.com_model.specs.declared.deeds.Entry.{Entry}
@@ -19,12 +19,11 @@ use Rattle.com_model.specs.Apartments.{makes_sta, ends_sta, is_sta, init_count, 
 use Rattle.com_model.specs.Objects.{finals, objects}
 use Rattle.com_model.specs.Calls.{calls}
 use Rattle.com_model.specs.Books.{books}
-use Rattle.com_model.specs.Dying.{is_dying}
 use Rattle.com_model.specs.Waiting.{Mail, no_mail}
 use Rattle.com_model.specs.Sight.{sight}
 use Rattle.com_model.specs.Rules.{next, legal}
 use Rattle.com_model.specs.State.{State, StandsFor, next_of, openers_in, served_in, books_in}
-use Rattle.com_model.proofs.Fines.{FineBy, GoodHome}
+use Rattle.com_model.proofs.Fines.{FineBy}
 use Rattle.com_model.proofs.Onces.{InRange, named-in-range}
 use Rattle.com_model.proofs.Sights.{same-next}
 use Rattle.com_balance.proofs.Makings.{fine-next}
@@ -33,7 +32,6 @@ use Rattle.com_safety.specs.Released.{ReleasesOnce}
 use Rattle.com_safety.proofs.Released.{releases}
 use Rattle.com_safety.proofs.Sources.{next-source}
 use Rattle.com_safety.proofs.Small.{and-left}
-use Rattle.com_state.specs.Parts.{lanes_of}
 use Rattle.com_bounds.specs.Bounds.{Counted, HasPlace, IssuedCall, NextCall, TakesBack, FitsParts}
 use Rattle.com_bounds.proofs.Homes.{HomesSay, homes-say}
 use Rattle.com_bounds.proofs.Numbers.{calls-few, causes-few, objects-few, stas-few, openers-few, served-few, counts-few, posted-few, FewBooks, books-few}

@@ -1,8 +1,7 @@
 -- How far the clock can have come: each wait that a filter asks for is of fewer than 2^31 milliseconds.
-use Rattle.std.proofs.Common.{subst, sym, ap, ◌∙◌, arith}
+use Rattle.std.proofs.Common.{subst, sym, ◌∙◌, arith}
 use Rattle.std.proofs.lemmas.List.Elements.{All-nil}
-use Rattle.std.proofs.lemmas.Grind.{common_steps}
-use Rattle.std.specs.Prelude.{◌≡◌, refl, ℕ, ℤ, zero, suc, pos, negsuc, ◌+◌, ◌*◌, ◌<◌, ◌≤◌, ◌^◌, min, Bool, true, false, cond, not, ◌==◌, ◌&&◌, nat_le, nat_lt, List, [], ◌∷◌, length, filter_map, Option, Some, None, is_some, All, unwrap_or, option_map, option_and_then}
+use Rattle.std.specs.Prelude.{◌≡◌, refl, ℕ, ℤ, zero, suc, pos, negsuc, ◌+◌, ◌*◌, ◌<◌, ◌≤◌, ◌^◌, min, Bool, true, false, cond, not, ◌==◌, ◌&&◌, nat_le, nat_lt, List, [], ◌∷◌, length, filter_map, Option, Some, None, is_some, All, unwrap_or, option_map}
 use Rattle.std.specs.List.{cons_option}
 use Rattle.com_base.specs.declared.hresult.HResult.{HResult}
 use Rattle.com_base.specs.declared.value.RefValue.{RefValue}
@@ -13,7 +12,7 @@ use Rattle.com_body.specs.declared.actions.Action.TheVariants as action
 use Rattle.com_filter.specs.declared.Verdict.{Verdict}
 use Rattle.com_filter.specs.declared.Rule.{Rule}
 use Rattle.com_filter.specs.declared.Rule.TheVariants as rule
-use Rattle.com_filter.specs.Answers.{is_for_verdict, retry_by, retry_answer, pending_answer}
+use Rattle.com_filter.specs.Answers.{is_for_verdict, retry_by, retry_answer}
 use Rattle.com_model.specs.declared.deeds.Deed.{Deed}
 use Rattle.com_model.specs.declared.deeds.Deed.TheVariants as deed
 use Rattle.com_model.specs.declared.deeds.Entry.{Entry}
@@ -29,7 +28,7 @@ use Rattle.com_model.specs.declared.keeps.Phase.TheVariants.{Unposted, Queued, J
 use Rattle.com_model.specs.declared.keeps.Word.{Word}
 use Rattle.com_model.specs.declared.scenario.Scenario.{Scenario}
 use Rattle.com_model.specs.Answers.{RPC_E_OUT_OF_RESOURCES, RPC_E_SERVER_CANTUNMARSHAL_DATA}
-use Rattle.com_model.specs.Lists.{or_else, where_true, first, least, lesser, one_to}
+use Rattle.com_model.specs.Lists.{where_true, first, least, lesser, one_to}
 use Rattle.com_model.specs.Tables.{LaneSort, Thread, Host, Pool, NoLane, lane_sort, filter_rules}
 use Rattle.com_model.specs.Openers.{running_call}
 use Rattle.com_model.specs.Calls.{object_of, route_of, is_post}
@@ -41,7 +40,7 @@ use Rattle.com_model.specs.Waiting.{PostEffect, Posts, Judges, Delays, GivesUp, 
 use Rattle.com_model.specs.Formed.{last_ms, IsRule, IsRetryAnswer, IsFilter, Formed}
 use Rattle.com_model.specs.Sight.{Sight, sight}
 use Rattle.com_model.specs.Deeds.{hold_refusal, named_by, deed_of, initialised, called, uninitialised, in_sta}
-use Rattle.com_model.specs.Rules.{waiting_call, admission, posted_to_sta, is_handled_in, call_sort, verdict_on, arguments_gone, top, due_of, packet_left, answered, enters_itself, admits_next, since_out, retried, posted_again, asked_on, takes_word, pumped, after_script, scripted, is_script_turn, rule_final, rule_own, rule_answer, rule_bound, rule_inbox, rule_retry, rule_again, rule_pending, rule_word, rule_script, ruled, stepped, time_waited, time_of, no_lane_can, tick_time, next_by, next, legal}
+use Rattle.com_model.specs.Rules.{waiting_call, admission, posted_to_sta, is_handled_in, call_sort, verdict_on, arguments_gone, top, due_of, packet_left, answered, enters_itself, admits_next, since_out, retried, posted_again, asked_on, takes_word, pumped, scripted, is_script_turn, rule_final, rule_own, rule_answer, rule_bound, rule_inbox, rule_retry, rule_again, rule_pending, rule_word, rule_script, ruled, stepped, time_waited, time_of, no_lane_can, tick_time, next_by, next, legal}
 use Rattle.com_model.proofs.Given.{Given, given-or, given-where, given-map, given-then, cond-of}
 use Rattle.com_model.proofs.Comes.{given-found}
 use Rattle.com_model.proofs.Goods.{all-or}

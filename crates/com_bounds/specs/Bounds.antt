@@ -1,5 +1,5 @@
 -- How far the counters of a core can have come, and what each entry that the rules give asks of them.
-use Rattle.std.specs.Prelude.{◌≡◌, ℕ, ◌+◌, ◌-◌, ◌*◌, ◌^◌, ◌<◌, ◌≤◌, List, length, Option, Some, None}
+use Rattle.std.specs.Prelude.{◌≡◌, ℕ, ◌+◌, ◌-◌, ◌*◌, ◌^◌, ◌<◌, ◌≤◌, length, Option, Some, None}
 use Rattle.std.specs.Prelude.{slice_index_or}
 use Rattle.com_body.specs.declared.frame.Outcome.{Outcome}
 use Rattle.com_lanes.specs.Changes.{NamesStas, HasRoom}

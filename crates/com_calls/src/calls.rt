@@ -18,7 +18,7 @@ ghost use Rattle.com_calls.specs.After.{judged_at, retried_at, asked_at, cut_at,
 ghost use Rattle.com_calls.specs.After.{cut_one_at};
 ghost use Rattle.com_books.specs.Counting.{count_if};
 ghost use Rattle.com_model.specs.Lists.{first, from_one};
-ghost use Rattle.com_model.specs.Waiting.{is_queued, post_effect, retries};
+ghost use Rattle.com_model.specs.Waiting.{post_effect, retries};
 ghost use Rattle.com_calls.specs.Kept.{no_tables, with_tables, with_room, with_call, inbox_at, IsNamed};
 ghost use Rattle.com_calls.specs.Steps.{entered_at, ended_at, left_at, returned_at, phased_at, posted_at};
 ghost use Rattle.com_calls.specs.Steps.{taken_at, grown_at, out_entry, is_known, delay_of};
@@ -373,12 +373,12 @@ impl Calls {
     }
 
     /// The values that a call sends, until it is entered or answered; then none.
-    pub fn unread(&self, call: u32) -> &[Value]
+    pub fn unread_values(&self, call: u32) -> &[Value]
         ensures { result.now ≡ from_one self.now.tables.unread call [] }
     {
         match rows::row_of(&self.rows, call) {
             None => &[],
-            Some(row) => row.unread(),
+            Some(row) => row.unread_values(),
         }
     }
 
@@ -506,12 +506,12 @@ impl Calls {
             (record { refusal = issued.refusal; values = issued.values }) clock (count_if outermost)) }
     {
         self.rows.push_reserved(CallRow::new(issue, issued, clock));
-        self.causes = drawn(outermost) + self.causes;
+        self.causes = causalities_of(outermost) + self.causes;
     }
 }
 
 /// How many causalities an Out draws.
-fn drawn(outermost: bool) -> u32
+fn causalities_of(outermost: bool) -> u32
     ensures { result ≡ count_if outermost }
 {
     if outermost { 1 } else { 0 }

@@ -1,6 +1,6 @@
 //! Laws of what is kept of calls, each stated on a function that does nothing.
 
-ghost use Rattle.std.specs.Prelude.{◌≡◌, ◌≤◌, ℕ, Bool, List, Option, Some, length};
+ghost use Rattle.std.specs.Prelude.{◌≡◌, ◌≤◌, ℕ, List, Option, Some, length};
 ghost use Rattle.com_base.specs.declared.value.Value.{Value};
 ghost use Rattle.com_model.specs.declared.scenario.Scenario.{Scenario};
 ghost use Rattle.com_model.specs.declared.deeds.Entry.{Entry};

@@ -218,7 +218,7 @@ impl CallRow {
     }
 
     /// What it sends, until that is let go.
-    pub fn unread(&self) -> &[Value]
+    pub fn unread_values(&self) -> &[Value]
         ensures { result.now ≡ self.now.unread }
     {
         match &self.fate {

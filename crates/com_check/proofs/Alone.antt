@@ -10,7 +10,6 @@ use Rattle.com_model.specs.Ends.{ended_as, limit}
 use Rattle.com_model.specs.Formed.{Formed}
 use Rattle.com_model.specs.Lists.{first}
 use Rattle.com_model.specs.Rules.{legal, next}
-use Rattle.com_model.specs.Tables.{lanes}
 use Rattle.com_model.proofs.Lanes.{lane-within}
 use Rattle.com_check.specs.declared.judged.Judged.{Judged}
 use Rattle.com_check.specs.declared.judged.Judged.TheVariants as judged

@@ -1,5 +1,5 @@
 -- The next entry of a lane, by the tables of a runtime.
-use Rattle.std.proofs.Common.{◌≡◌, ℕ, zero, suc, ◌<◌, ◌≤◌, Bool, true, false, cond, List, [], Option, Some, None, refl, sym, ◌∙◌, ap, subst, arith}
+use Rattle.std.proofs.Common.{◌≡◌, ℕ, zero, suc, ◌<◌, ◌≤◌, Bool, false, cond, List, [], Option, Some, None, refl, sym, ◌∙◌, ap, subst, arith}
 use Rattle.std.proofs.lemmas.Bool.{false_from_ne_true}
 use Rattle.std.proofs.lemmas.Grind.{common_steps}
 use Rattle.std.specs.Prelude.{is_some, option_map, ◌==◌}
@@ -7,15 +7,15 @@ use Rattle.com_model.specs.declared.deeds.Deed.{Deed}
 use Rattle.com_model.specs.declared.deeds.Deed.TheVariants as deed
 use Rattle.com_model.specs.declared.deeds.Entry.{Entry}
 use Rattle.com_model.specs.declared.scenario.Scenario.{Scenario}
-use Rattle.com_model.specs.Ends.{Turn, last_after}
+use Rattle.com_model.specs.Ends.{last_after}
 use Rattle.com_model.specs.Rules.{lane_next, next, next_by, tick_time, ticks}
 use Rattle.com_model.specs.Sight.{Sight}
-use Rattle.com_model.specs.State.{State, next_of, sight_of}
+use Rattle.com_model.specs.State.{State, sight_of}
 use Rattle.com_model.specs.Tables.{LaneSort, Thread, Host, Pool, NoLane, lane_sort, lanes}
 use Rattle.com_model.proofs.Lanes.{lane-within}
 use Rattle.com_model.proofs.Sights.{same-next}
 use Rattle.com_drive.specs.declared.runtime.Standing.TheVariants as standing
-use Rattle.com_drive.specs.Standings.{can_step_in, none_can_in, standing_of, turn_now, HasTurn, Reached}
+use Rattle.com_drive.specs.Standings.{can_step_in, none_can_in, standing_of, HasTurn, Reached}
 use Rattle.com_drive.specs.Turns.{IsNext}
 use Rattle.com_drive.proofs.Choices.{not_runs, turn_ticks}
 use Rattle.com_check.specs.Judging.{lane_of_turn}

@@ -1,6 +1,5 @@
 -- Judging a trace: what its steps make of what was known.
 use Rattle.std.proofs.Common.{◌≡◌, ℕ, zero, suc, ◌+◌, ◌-◌, ◌^◌, ◌<◌, ◌≤◌, refl, sym, ◌∙◌, ap, subst, append_assoc, append-nil, length-append, arith, List, [], ◌∷◌, ◌++◌, length, take, Bool, true, Option, Some, None}
-use Rattle.std.proofs.lemmas.Grind.{common_steps}
 use Rattle.std.specs.Prelude.{MatchOption, codes, cond, if◌then◌else◌, is_some, nat_le, option_map, option_and_then, ◌==◌}
 use Rattle.com_model.specs.declared.counts.Counts.{Counts}
 use Rattle.com_model.specs.declared.counts.Ended.{Ended}
@@ -8,7 +7,7 @@ use Rattle.com_model.specs.declared.deeds.Deed.{Deed}
 use Rattle.com_model.specs.declared.deeds.Entry.{Entry}
 use Rattle.com_model.specs.declared.scenario.Scenario.{Scenario}
 use Rattle.com_model.specs.Clock.{clock}
-use Rattle.com_model.specs.Ends.{Turn, all_counts, ended_as, ended_by, last_after, limit, report_as, turn}
+use Rattle.com_model.specs.Ends.{all_counts, ended_as, ended_by, last_after, limit, report_as, turn}
 use Rattle.com_model.specs.Formed.{Formed}
 use Rattle.com_model.specs.Lists.{first}
 use Rattle.com_model.specs.Rules.{legal, next}
@@ -30,7 +29,7 @@ use Rattle.com_check.specs.declared.judged.Judged.{Judged}
 use Rattle.com_check.specs.declared.judged.Judged.TheVariants as judged
 use Rattle.com_check.specs.Fronts.{named, IsNoLane}
 use Rattle.com_check.specs.Lines.{lines_of}
-use Rattle.com_check.specs.Judging.{Differs, IsJudged, IsText, Unended, entry_line, entry_of, history_lines, lane_due, lane_of_turn, last_lane, legal_line, line_due, report_lines, shown}
+use Rattle.com_check.specs.Judging.{Differs, IsJudged, Unended, entry_line, entry_of, history_lines, lane_due, lane_of_turn, last_lane, legal_line, line_due, report_lines, shown}
 use Rattle.com_check.specs.Turning.{IsCompared, IsEntry, IsNextOf, IsOther, IsReported, IsScheduled, IsTold, IsTurn, entry_in, lane_in, line_in}
 use Rattle.com_check.proofs.Entries.{entry_made, none_above}
 use Rattle.com_check.proofs.Histories.{history_length, nothing_told}

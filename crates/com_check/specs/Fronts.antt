@@ -1,5 +1,5 @@
 -- The lane that a line of a trace names.
-use Rattle.std.specs.Prelude.{ℕ, ◌+◌, ◌-◌, ◌*◌, ◌≤◌, ◌^◌, ◌==◌, List, [], ◌∷◌, Bool, not, Option, Some, None}
+use Rattle.std.specs.Prelude.{ℕ, ◌+◌, ◌-◌, ◌*◌, ◌≤◌, ◌^◌, ◌==◌, List, [], ◌∷◌, not, Option, Some, None}
 use Rattle.std.specs.Prelude.{⊤, if◌then◌else◌, codes, drop, take, position, slice_index}
 use Rattle.std.specs.Char.{is_ascii_digit}
 use Rattle.std.specs.Str.{bytes_eq}

@@ -37,7 +37,7 @@ fn value_of(digits: &[u8]) -> Option<u32>
 
 /// The lane that a line names, where its front is a decimal number, a space, `L`, a lane's number and a
 /// space. Leading zeros are taken. A number that 32 bits do not hold is that of no lane.
-pub fn named(line: &[u8]) -> Option<u32>
+pub fn lane_of(line: &[u8]) -> Option<u32>
     ensures { MatchOption result (IsNoLane (named line.now)) (λ lane. named line.now ≡ Some lane) }
 {
     let Some(place) = front_length(line) else {

@@ -10,12 +10,12 @@ ghost use Rattle.com_check.specs.Judging.{entry_line, IsJudged};
 ghost use Rattle.com_check.specs.Turning.{IsCompared, IsNextOf, IsOther, IsScheduled, IsTold, IsTurn};
 ghost use Rattle.com_check.specs.declared.judged.Judged.TheVariants as judged;
 
-use crate::fronts::named;
+use crate::fronts::lane_of;
 use crate::judged::{Judged, differs};
 use crate::lines::split_line;
 use crate::reports::{NO_LINE, compare};
 use com_base::{ByteList, Memory};
-use com_drive::{Runtime, Standing, all_counts, choose, ended};
+use com_drive::{Runtime, Standing, all_counts, choose, end_of};
 use com_model::{Ended, Entry, Scenario};
 use com_report::{line, report};
 use com_servant::Servant;
@@ -87,7 +87,7 @@ fn next_of<C: Runtime>(
 /// Makes the entry of the schedule without picks: of the first lane that can step from the one behind `last`
 /// on, or of the clock where no lane can. The only error is want of memory.
 #[tactic(auto, using(crate::proofs::Entries::lane_scheduled, crate::proofs::Entries::clock_scheduled, com_drive::proofs::Choices::not_runs, com_drive::proofs::Turning::not_finished, com_drive::proofs::Turning::not_stuck))]
-fn scheduled<C: Runtime>(
+fn step_schedule<C: Runtime>(
     alloc: Global,
     runtime: &mut C,
     standing: Standing,
@@ -132,7 +132,7 @@ fn no_entry(alloc: Global, entries: u64, found: &[u8]) -> Result<Option<Judged>,
 
 /// Judges what a trace has left where the history has ended so: it is to be the report. The only error is
 /// want of memory.
-fn told<C: Runtime>(
+fn judge_report<C: Runtime>(
     alloc: Global,
     scenario: &Scenario,
     runtime: &C,
@@ -185,7 +185,7 @@ impl Judge {
 
     /// What a found line is beside the line that was written for an entry of this lane. The only error is
     /// want of memory.
-    fn compared(
+    fn compare_line(
         &mut self,
         alloc: Global,
         place: u64,
@@ -227,14 +227,14 @@ impl Judge {
             (C.state runtime.new) self.new.last) }
     {
         let entries = runtime.entries();
-        let Some(lane) = named(found) else {
+        let Some(lane) = lane_of(found) else {
             return no_entry(alloc, entries, found);
         };
         let Some(entry) = next_of(alloc, runtime, standing, lane, servants)? else {
             return no_entry(alloc, entries, found);
         };
         self.write(alloc, version, entries + 1, &entry)?;
-        self.compared(alloc, entries + 1, lane, found)
+        self.compare_line(alloc, entries + 1, lane, found)
     }
 
     /// Judges the end of a trace in the place of an entry: the legal line is that of the schedule's entry.
@@ -258,7 +258,7 @@ impl Judge {
             (C.state runtime.old) self.old.last None j) }
     {
         let place = runtime.entries() + 1;
-        let entry = scheduled(alloc, runtime, standing, self.last, servants)?;
+        let entry = step_schedule(alloc, runtime, standing, self.last, servants)?;
         self.write(alloc, version, place, &entry)?;
         differs(alloc, place, NO_LINE, self.line.as_slice())
     }
@@ -283,8 +283,8 @@ pub fn judge_trace<C: Runtime>(
     let mut rest = trace;
     'lines: loop {
         let standing = runtime.standing();
-        if let Some(ended) = ended(scenario, runtime, standing) {
-            return told(alloc, scenario, runtime, ended, rest);
+        if let Some(ended) = end_of(scenario, runtime, standing) {
+            return judge_report(alloc, scenario, runtime, ended, rest);
         }
         if rest.is_empty() {
             return judge.early(alloc, scenario.version, runtime, standing, servants);

@@ -20,7 +20,7 @@ pub use com_base::Memory;
 use com_core::Core;
 use com_model::Scenario;
 pub use cut::{Cut, cut_text};
-pub use fronts::named;
+pub use fronts::lane_of;
 pub use judge::judge_trace;
 pub use judged::Judged;
 pub use laws::{agrees_with_text, judged_alone};

@@ -1,6 +1,6 @@
 //! Classes and the tables of interfaces and classes.
 
-ghost use Rattle.std.specs.Prelude.{◌≡◌, [], ◌∷◌, ◌++◌, ◌+◌, ◌==◌, None, IfOk, IfErr, OnOk, OnErr, IsTrue};
+ghost use Rattle.std.specs.Prelude.{◌≡◌, [], ◌∷◌, ◌++◌, ◌+◌, ◌==◌, None, IfOk, IfErr, OnOk, OnErr};
 ghost use Rattle.std.specs.Prelude.{length, slice_get, unwrap_or, if◌then◌else◌};
 ghost use Rattle.std.specs.Option.{option_copied};
 ghost use Rattle.com_classes.specs.declared.classes.ClassError.TheVariants as error;

@@ -1,10 +1,10 @@
 //! Activation: which class, which interface, and where the new object lives.
 
 ghost use Rattle.std.specs.Prelude.{◌≡◌};
-ghost use Rattle.com_classes.specs.declared.classes.ThreadingModel.TheVariants as model;
-ghost use Rattle.com_classes.specs.Activation.{apartment_of, owner_for, is_agile, placed};
+ghost use Rattle.com_classes.specs.Activation.{placed};
 
-use crate::classes::{Classes, ThreadingModel};
+use crate::classes::Classes;
+use crate::owners::{is_agile, owner_for};
 use com_base::{Guid, HResult};
 
 /// Who creates an object: the creator's running apartment, its lane's home, and the main STA at that moment.
@@ -72,39 +72,5 @@ impl Factory {
             owner: owner_for(class.model, creator),
             agile: is_agile(class.model),
         })
-    }
-}
-
-fn owner_for(model: ThreadingModel, creator: Creator) -> u32
-    ensures { result ≡ owner_for model creator }
-{
-    match model {
-        ThreadingModel::Nothing => creator.main_sta,
-        ThreadingModel::Apartment => sta_of(creator),
-        ThreadingModel::Free => 1,
-        ThreadingModel::Both => creator.running,
-        ThreadingModel::Neutral => 0,
-        ThreadingModel::Agile => 0,
-    }
-}
-
-// The creator's apartment if it is an STA, else the host's STA.
-fn sta_of(creator: Creator) -> u32
-    ensures { result ≡ owner_for model.Apartment creator }
-{
-    let apartment = if creator.running == 0 {
-        creator.home
-    } else {
-        creator.running
-    };
-    if apartment >= 2 { apartment } else { 2 }
-}
-
-fn is_agile(model: ThreadingModel) -> bool
-    ensures { result ≡ is_agile model }
-{
-    match model {
-        ThreadingModel::Agile => true,
-        _ => false,
     }
 }

@@ -7,7 +7,7 @@ ghost use Rattle.com_servant.specs.Rows.{row};
 ghost use Rattle.com_commands.specs.declared.inputs.Input.TheVariants as input;
 ghost use Rattle.com_commands.specs.declared.statuses.Status.{Status as AnyStatus};
 ghost use Rattle.com_commands.specs.declared.statuses.Status.TheVariants as status;
-ghost use Rattle.com_commands.specs.Inputs.{IsAnswer, IsSound, NoneFits, input_of};
+ghost use Rattle.com_commands.specs.Inputs.{IsSound, NoneFits, input_of};
 ghost use Rattle.com_commands.specs.Responses.{Causes, FitsServed, GivesWhole, IsAnswered, Responds, Serves};
 ghost use Rattle.com_commands.specs.Statuses.{Concludes, IsEnd, sides_of};
 

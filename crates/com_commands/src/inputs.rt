@@ -57,7 +57,7 @@ pub fn read_as<T: Drop>(read: Result<T, Fault>) -> Input<T>
 }
 
 /// A scenario that can be shared. The only error is want of memory.
-pub fn shared(alloc: Global, scenario: Scenario) -> Result<Arc<Scenario>, Memory>
+pub fn share(alloc: Global, scenario: Scenario) -> Result<Arc<Scenario>, Memory>
     ensures { IfOk result (λ shared. arc_value shared ≡ scenario) }
 {
     Ok(Arc::new(alloc, scenario)?)

@@ -41,7 +41,7 @@ mod tests;
 
 pub use com_base::Memory;
 pub use commands::{InputReader, PlayingCommand, ReplyingCommand, perform, receive, respond};
-pub use inputs::{Input, first_fault, read_as, refused_line, shared};
+pub use inputs::{Input, first_fault, read_as, refused_line, share};
 pub use numbers::push_number;
 pub use scenarios::read_scenario;
 pub use sides::{TOO_LONG, read_input, refuse, say};

@@ -1,7 +1,6 @@
 //! Two small commands, each in its frame.
-ghost use Rattle.std.specs.Prelude.{◌≡◌, ◌≤◌, ◌∷◌, ◌++◌, [], ⊤, ℕ, List, Ok, IfOk, OnOk, length, map, nat_lt};
+ghost use Rattle.std.specs.Prelude.{◌≡◌, ◌≤◌, ◌∷◌, ◌++◌, [], ⊤, Ok, length, nat_lt};
 ghost use Rattle.std.proofs.Common.{lit<, subst, sym};
-ghost use Rattle.com_servant.specs.Rows.{row};
 ghost use Rattle.com_commands.specs.declared.statuses.Status.{Status as AnyStatus};
 ghost use Rattle.com_commands.specs.declared.statuses.Status.TheVariants as status;
 ghost use Rattle.com_commands.specs.Lengths.{long_text};

@@ -3,17 +3,16 @@
 ghost use Rattle.std.specs.Prelude.{◌≡◌, ℕ, ◌+◌, ◌<◌, ◌^◌, Some, Option};
 ghost use Rattle.com_model.specs.Sight.{Sight};
 ghost use Rattle.com_model.specs.Tables.{class_number, interface_number, shown};
-ghost use Rattle.com_model.specs.Deeds.{created, created_of, creator, made_as, not_made, placing, offers};
+ghost use Rattle.com_model.specs.Deeds.{created, creator, not_made, placing, offers};
 ghost use Rattle.com_model.specs.Deeds.{queried, query_answer, object_in};
 ghost use Rattle.com_classes.specs.Lookups.{class_at as class_under};
 ghost use Rattle.com_model.specs.Lists.{number_or_zero};
 ghost use Rattle.com_deeds.specs.Seen.{FitsNumber, Sees};
 
-use crate::owners::{is_agile, owner_for};
 use crate::target::Target;
 use com_base::{HResult, RefValue};
 use com_body::Asked;
-use com_classes::{Creator, Factory, Placed};
+use com_classes::{Creator, Factory, Placed, is_agile, owner_for};
 use com_model::{Deed, Scenario};
 
 /// The number of the class that is asked for, where the scenario declares it.
@@ -44,7 +43,7 @@ pub fn interface_number(scenario: &Scenario, iface: Asked) -> Option<u16>
 }
 
 // What an entry shows of a class or an interface: its number, where it is declared.
-fn shown(number: Option<u32>, asked: Asked) -> Asked
+fn show(number: Option<u32>, asked: Asked) -> Asked
     ensures { result ≡ shown number asked }
 {
     match number {
@@ -68,7 +67,7 @@ pub fn shown_interface(scenario: &Scenario, iface: Asked) -> Asked
     requires { FitsNumber iface }
     ensures { result ≡ shown (interface_number scenario.now iface) iface }
 {
-    shown(wide(interface_number(scenario, iface)), iface)
+    show(wide(interface_number(scenario, iface)), iface)
 }
 
 fn not_made(scenario: &Scenario, class: Asked, iface: Asked, hr: HResult) -> Deed
@@ -78,7 +77,7 @@ fn not_made(scenario: &Scenario, class: Asked, iface: Asked, hr: HResult) -> Dee
     Deed::Made {
         object: None,
         apartment: None,
-        class: shown(class_number(scenario, class), class),
+        class: show(class_number(scenario, class), class),
         iface: shown_interface(scenario, iface),
         hr,
     }
@@ -88,7 +87,7 @@ fn not_made(scenario: &Scenario, class: Asked, iface: Asked, hr: HResult) -> Dee
 /// is refused, by the first that applies, with CO_E_NOTINITIALIZED without home, REGDB_E_CLASSNOTREG where
 /// the class is not declared, and E_NOINTERFACE where the interface is not in the class's set; else the owner
 /// is where the class's threading model places the object (CoCreateInstance).
-pub fn created(
+pub fn create_deed(
     scenario: &Scenario,
     class: Asked,
     iface: Asked,
@@ -210,7 +209,7 @@ fn query_answer(
 /// The entry of `query`. It is refused, by the first that applies, with CO_E_NOTINITIALIZED without home,
 /// E_POINTER on null, RPC_E_DISCONNECTED on a proxy whose object is not connected, and E_NOINTERFACE outside
 /// the object's set (IUnknown::QueryInterface).
-pub fn queried(
+pub fn query_deed(
     scenario: &Scenario,
     held: Option<RefValue>,
     iface: Asked,
@@ -224,7 +223,7 @@ pub fn queried(
     let number = interface_number(scenario, iface);
     Deed::Query {
         object: object_in(held),
-        iface: shown(wide(number), iface),
+        iface: show(wide(number), iface),
         hr: query_answer(scenario, held, number, home, target),
     }
 }

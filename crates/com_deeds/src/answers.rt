@@ -32,7 +32,7 @@ pub fn incoming(scenario: &Scenario, filter: Option<u32>, call_type: u8, elapsed
 
 /// The answer to a caller that got this verdict, so many milliseconds after its call; -1 of a lane without
 /// filter (IMessageFilter::RetryRejectedCall).
-pub fn retried(scenario: &Scenario, filter: Option<u32>, verdict: Verdict, elapsed: u64) -> i64
+pub fn retry_answer(scenario: &Scenario, filter: Option<u32>, verdict: Verdict, elapsed: u64) -> i64
     ensures { result ≡ retry_answer (rules_of scenario.now filter) verdict elapsed }
 {
     match filter_under(scenario, filter) {
@@ -83,7 +83,7 @@ fn verdict_answer(verdict: Verdict) -> HResult
 }
 
 /// The HRESULT of a call's answer, by what fixed it. `refusal` is that of the call's issue.
-pub fn answered(ending: &Ending, refusal: HResult) -> HResult
+pub fn answer_code(ending: &Ending, refusal: HResult) -> HResult
     ensures { result ≡ (answer_of refusal ending.now).hr }
 {
     match ending {

@@ -9,7 +9,7 @@ use com_model::Deed;
 
 /// The entry of `init` in a lane with this home, where the next STA has the number `next_sta`: S_OK where the
 /// lane has no home, S_FALSE where its home has the same mode, else RPC_E_CHANGED_MODE (CoInitializeEx).
-pub fn initialised(mode: Mode, home: Option<u32>, next_sta: u32) -> Deed
+pub fn init_deed(mode: Mode, home: Option<u32>, next_sta: u32) -> Deed
     ensures { (v : Sight) → v.next_sta ≡ next_sta → result ≡ initialised v mode home }
 {
     let Some(home) = home else {
@@ -47,7 +47,7 @@ fn has_mode(mode: Mode, home: u32) -> bool
 
 /// The entry of `uninit` in a lane with this home and so many initialisations: one less is left, and none of
 /// none (CoUninitialize).
-pub fn uninitialised(home: Option<u32>, count: u32) -> Deed
+pub fn uninit_deed(home: Option<u32>, count: u32) -> Deed
     ensures { (v : Sight) (l : ℕ) → v.home l ≡ home → v.count l ≡ count → result ≡ uninitialised v l }
 {
     Deed::Uninit {
@@ -58,7 +58,7 @@ pub fn uninitialised(home: Option<u32>, count: u32) -> Deed
 
 /// The entry of `setfilter` in a lane with this home: S_OK where it is an STA, else S_FALSE
 /// (CoRegisterMessageFilter).
-pub fn filter_set(filter: Option<u32>, home: Option<u32>) -> Deed
+pub fn filter_deed(filter: Option<u32>, home: Option<u32>) -> Deed
     ensures { (v : Sight) (l : ℕ) → v.home l ≡ home → result ≡ filter_set v l filter }
 {
     let hr = if in_sta(home) {

@@ -10,7 +10,7 @@ ghost use Rattle.com_deeds.specs.Seen.{Sees};
 
 use crate::activation::object_in;
 use crate::target::Target;
-use com_base::{ByteList, HResult, RefValue};
+use com_base::{ByteList, HResult, NEUTRAL, RefValue};
 use com_model::{Deed, Route, Scenario};
 
 /// Why a call is refused at its issue, if it is: CO_E_NOTINITIALIZED where the lane has no home, E_POINTER on
@@ -63,7 +63,7 @@ fn route_for(direct: bool, owner: u32, home: Option<u32>) -> Route
     if direct {
         return Route::Direct;
     }
-    if owner == 0 {
+    if owner == NEUTRAL {
         return Route::Switch;
     }
     match home {

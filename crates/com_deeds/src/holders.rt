@@ -5,8 +5,8 @@ ghost use Rattle.com_model.specs.Answers.{S_OK, E_INVALIDARG};
 ghost use Rattle.com_base.specs.declared.value.RefValue.{RefValue};
 ghost use Rattle.com_books.specs.Changes.{packet, cookie};
 ghost use Rattle.com_model.specs.Sight.{Sight};
-ghost use Rattle.com_model.specs.Deeds.{hold_refusal, registered, cookie_number, got, got_by, got_with};
-ghost use Rattle.com_model.specs.Deeds.{revoked, unmarshalled, unmarshalled_as, dropped, disconnect_answer};
+ghost use Rattle.com_model.specs.Deeds.{hold_refusal, registered, cookie_number, got};
+ghost use Rattle.com_model.specs.Deeds.{revoked, unmarshalled, dropped, disconnect_answer};
 ghost use Rattle.com_model.specs.Deeds.{object_in, gained_refs};
 ghost use Rattle.com_model.specs.declared.deeds.Deed.TheVariants as deed;
 ghost use Rattle.com_deeds.specs.Seen.{Sees, SeesObject};
@@ -43,7 +43,7 @@ pub fn hold_refusal(home: Option<u32>, held: Option<RefValue>, connected: bool) 
 
 /// The entry of `register`, where so many cookies were given so far
 /// (IGlobalInterfaceTable::RegisterInterfaceInGlobal).
-pub fn registered(held: Option<RefValue>, refusal: Option<HResult>, cookies: u32) -> Deed
+pub fn register_deed(held: Option<RefValue>, refusal: Option<HResult>, cookies: u32) -> Deed
     requires { cookies + 1 < 2 ^ 32 }
     ensures { (v : Sight) → length v.books.cookies ≡ cookies → result ≡ registered v held refusal }
 {
@@ -78,7 +78,7 @@ fn gained_refs(mode: MarshalMode, owned: bool, refs: u32) -> u32
 /// is refused, by the first that applies, with CO_E_NOTINITIALIZED without home, E_INVALIDARG where there is
 /// no such cookie or it was revoked, and CO_E_OBJNOTCONNECTED where the object is not connected
 /// (IGlobalInterfaceTable::GetInterfaceFromGlobal).
-pub fn got(number: i64, home: Option<u32>, kept: Cookie, target: Target) -> Deed
+pub fn get_deed(number: i64, home: Option<u32>, kept: Cookie, target: Target) -> Deed
     ensures { (v : Sight) (l : ℕ) → cookie v.books (cookie_number number) ≡ kept
         → SeesObject v l kept.object target → result ≡ got v l number home }
 {
@@ -116,7 +116,7 @@ fn not_got(number: i64, hr: HResult) -> Deed
 /// The entry of `revoke`, where the cookie's row is `kept`: CO_E_NOTINITIALIZED without home, else
 /// E_INVALIDARG where there is no such cookie or it was revoked
 /// (IGlobalInterfaceTable::RevokeInterfaceFromGlobal).
-pub fn revoked(number: i64, home: Option<u32>, kept: Cookie) -> Deed
+pub fn revoke_deed(number: i64, home: Option<u32>, kept: Cookie) -> Deed
     ensures { (v : Sight) → cookie v.books (cookie_number number) ≡ kept → result ≡ revoked v number home }
 {
     let hr = match home {
@@ -147,7 +147,7 @@ pub enum Named {
 
 /// The entry of `unmarshal`, where the named packet's row is `kept` and `target` is what the lane finds of
 /// its object (CoUnmarshalInterface).
-pub fn unmarshalled(found: Named, kept: Packet, target: Target) -> Deed
+pub fn unmarshal_deed(found: Named, kept: Packet, target: Target) -> Deed
     ensures { (v : Sight) (l : ℕ) → ((p : ℕ) → found ≡ named.Packet p → (packet v.books p ≡ kept)
         × SeesObject v l kept.object target) → result ≡ unmarshalled v l (named_as found) }
 {
@@ -171,7 +171,7 @@ pub fn unmarshalled(found: Named, kept: Packet, target: Target) -> Deed
 }
 
 /// The entry of `drop` (CoReleaseMarshalData).
-pub fn dropped(found: Named) -> Deed
+pub fn drop_deed(found: Named) -> Deed
     ensures { result ≡ dropped (named_as found) }
 {
     match found {
@@ -185,7 +185,7 @@ pub fn dropped(found: Named) -> Deed
 
 /// The entry of `disconnect`: CO_E_NOTINITIALIZED without home, E_POINTER for null, E_INVALIDARG where the
 /// lane's running apartment does not own the object; the first that applies (CoDisconnectObject).
-pub fn disconnected(held: Option<RefValue>, home: Option<u32>, target: Target) -> Deed
+pub fn disconnect_deed(held: Option<RefValue>, home: Option<u32>, target: Target) -> Deed
     ensures { (v : Sight) (l : ℕ) → Sees v l held target
         → result ≡ deed.Disconnect (object_in held) (disconnect_answer v l home held) }
 {

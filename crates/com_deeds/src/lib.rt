@@ -7,20 +7,20 @@ mod answers;
 mod apartments;
 mod calls;
 mod holders;
-mod owners;
 mod packets;
 mod target;
 
 pub use activation::{
-    class_number, created, interface_number, number_or_zero, object_in, queried, shown_interface,
+    class_number, create_deed, interface_number, number_or_zero, object_in, query_deed,
+    shown_interface,
 };
-pub use answers::{answered, incoming, is_handled, is_leave, is_post, pending, retried};
-pub use apartments::{filter_set, in_sta, initialised, uninitialised};
+pub use answers::{answer_code, incoming, is_handled, is_leave, is_post, pending, retry_answer};
+pub use apartments::{filter_deed, in_sta, init_deed, uninit_deed};
 pub use calls::{call_refusal, out, refusal_or_ok, route_to};
 pub use com_base::Memory;
 pub use holders::{
-    FIVE, Named, disconnected, dropped, got, hold_refusal, registered, revoked, unmarshalled,
+    FIVE, Named, disconnect_deed, drop_deed, get_deed, hold_refusal, register_deed, revoke_deed,
+    unmarshal_deed,
 };
-pub use owners::{is_agile, owner_for};
-pub use packets::{marshalled, not_marshalled, packet_fields, standard_fields};
+pub use packets::{marshal_deed, packet_fields, refused_marshal_deed, standard_fields};
 pub use target::Target;

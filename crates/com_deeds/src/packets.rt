@@ -62,7 +62,7 @@ pub fn packet_fields(scenario: &Scenario, kept: Packet, number: u32, owner: u32)
 
 /// The entry of `marshal` that makes the packet with this number and these fields, holding `refs` public
 /// references (CoMarshalInterface). The only error is want of memory.
-pub fn marshalled(
+pub fn marshal_deed(
     alloc: Global,
     number: u32,
     mode: MarshalMode,
@@ -86,7 +86,7 @@ pub fn marshalled(
 }
 
 /// The entry of a `marshal` that is refused.
-pub fn not_marshalled(mode: MarshalMode, held: Option<RefValue>, hr: HResult) -> Deed
+pub fn refused_marshal_deed(mode: MarshalMode, held: Option<RefValue>, hr: HResult) -> Deed
     ensures { (s : Scenario) (v : Sight) (l : ℕ) → result ≡ marshalled s v l mode held (Some hr) }
 {
     Deed::Marshal {

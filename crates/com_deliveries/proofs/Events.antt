@@ -10,7 +10,7 @@ use Rattle.com_deliveries.specs.Delivered.{cookie_of, IsDelivery, CallsRise, IsL
 use Rattle.com_deliveries.specs.Rows.{row_at}
 use Rattle.com_deliveries.proofs.Leaving.{own-number}
 use Rattle.com_deliveries.proofs.RowReads.{row-is}
-use Rattle.com_deliveries.proofs.Standing.{ObjectFor, CallFor, RowFor, Stands, Kept, kept-of, event-own}
+use Rattle.com_deliveries.proofs.Standing.{ObjectFor, CallFor, RowFor, Stands, kept-of, event-own}
 use Rattle.com_model.specs.declared.deeds.Entry.{Entry}
 use Rattle.com_model.specs.declared.scenario.Scenario.{Scenario}
 use Rattle.com_model.specs.declared.keeps.Issue.{Issue}
@@ -18,7 +18,6 @@ use Rattle.com_model.specs.declared.keeps.Making.{Making}
 use Rattle.com_model.specs.Lists.{is_number, number_or_zero}
 use Rattle.com_model.specs.Objects.{making, class_of}
 use Rattle.com_model.specs.Calls.{issue, left}
-use Rattle.com_points.specs.Deliveries.{IsEvent}
 use Rattle.com_points.specs.Histories.{is_on, given_to, sinks, taken, last, visited}
 use Rattle.com_points.specs.Sources.{IsSource, fire}
 

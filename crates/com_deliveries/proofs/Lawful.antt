@@ -1,11 +1,11 @@
 -- What is true of every legal history of a formed scenario: nothing is said of a call before its Out, nor of
 -- an object before it is made.
-use Rattle.std.proofs.Common.{refl, ap, sym, subst, ◌∙◌, inl, inr, arith, eqb-true}
+use Rattle.std.proofs.Common.{refl, ap, sym, subst, ◌∙◌, inl, arith, eqb-true}
 use Rattle.std.specs.Prelude.{◌≡◌, ℕ, ◌+◌, ◌-◌, ◌≤◌, ◌<◌, ◌^◌, Bool, true, false, cond, ◌&&◌, ◌==◌, List, [], ◌∷◌, ◌++◌, length, Option, Some, None, is_some}
 use Rattle.com_base.specs.declared.hresult.HResult.{HResult}
 use Rattle.com_base.specs.declared.value.Value.{Value}
 use Rattle.com_deliveries.specs.Tables.{AreSources}
-use Rattle.com_deliveries.specs.Book.{Book, after, told, empty, deliveries_in, goes_on}
+use Rattle.com_deliveries.specs.Book.{told, deliveries_in}
 use Rattle.com_deliveries.specs.Delivered.{AreDeliveries}
 use Rattle.com_deliveries.proofs.Events.{are-deliveries}
 use Rattle.com_deliveries.proofs.Standing.{Stands}
@@ -13,7 +13,6 @@ use Rattle.com_deliveries.proofs.Stepping.{Lawful, NewIn, stands-first, stands-n
 use Rattle.com_model.specs.declared.deeds.Deed.{Deed}
 use Rattle.com_model.specs.declared.deeds.Deed.TheVariants as deed
 use Rattle.com_model.specs.declared.deeds.Entry.{Entry}
-use Rattle.com_model.specs.declared.deeds.Route.{Route}
 use Rattle.com_model.specs.declared.scenario.Scenario.{Scenario}
 use Rattle.com_model.specs.declared.keeps.Issue.{Issue}
 use Rattle.com_model.specs.declared.keeps.Leaving.{Leaving}
@@ -35,7 +34,7 @@ use Rattle.com_balance.proofs.Counts.{Among}
 use Rattle.com_balance.proofs.Makings.{fine-next}
 use Rattle.com_balance.proofs.Results.{more-calls}
 use Rattle.com_points.specs.Histories.{first_number, first_reference, result_cookie, is_on, enter_values, given_to, Change, Takes, Loses, Stays, leaving, change, changed, sinks, one_taken, taken, at_enter, last, sends, with_next, reached, visited}
-use Rattle.com_points.specs.Sinks.{Sink, first_between}
+use Rattle.com_points.specs.Sinks.{first_between}
 use Rattle.com_points.specs.Sources.{advise, unadvise}
 use Rattle.com_points.proofs.Runs.{call-low}
 use Rattle.com_safety.proofs.Posted.{NewOut, next-new}

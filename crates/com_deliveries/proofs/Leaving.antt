@@ -1,13 +1,13 @@
 -- What the Leave of a call does to the objects of sources.
 use Rattle.std.proofs.Common.{refl, ap, sym, subst, ◌∙◌, arith, eqb-true}
-use Rattle.std.specs.Prelude.{◌≡◌, ℕ, ◌+◌, ◌-◌, ◌≤◌, ◌^◌, ℤ, Bool, true, false, cond, ◌&&◌, ◌==◌, List, [], ◌∷◌, ◌++◌, map, min, Option, Some, None, option_map}
+use Rattle.std.specs.Prelude.{◌≡◌, ℕ, ◌+◌, ◌-◌, ◌≤◌, ◌^◌, ℤ, Bool, true, false, cond, ◌&&◌, ◌==◌, List, [], ◌∷◌, ◌++◌, map, Option, Some, None, option_map}
 use Rattle.com_base.specs.declared.value.Value.{Value}
 use Rattle.com_deliveries.specs.declared.sources.Source.{Source}
 use Rattle.com_deliveries.specs.declared.tally.Call.{Call}
 use Rattle.com_deliveries.specs.Book.{no_source, took, lost, one_more, has_iface, on_source, changed_by}
 use Rattle.com_deliveries.specs.Delivered.{cookie_of}
 use Rattle.com_deliveries.specs.Rows.{row_at, with_row, removed}
-use Rattle.com_deliveries.proofs.Standing.{SourceFor, ObjectFor, RowFor, CallFor, apart}
+use Rattle.com_deliveries.proofs.Standing.{SourceFor, ObjectFor, CallFor, apart}
 use Rattle.com_deliveries.proofs.RowReads.{row-here, row-there}
 use Rattle.com_model.specs.declared.keeps.Issue.{Issue}
 use Rattle.com_model.specs.declared.keeps.Making.{Making}
@@ -15,7 +15,7 @@ use Rattle.com_model.specs.declared.scenario.Scenario.{Scenario}
 use Rattle.com_model.specs.Lists.{is_number, number_or_zero}
 use Rattle.com_points.specs.Histories.{is_on, Change, Takes, Loses, Stays, changed, one_taken, result_cookie}
 use Rattle.com_points.specs.Sinks.{Sink, is_cookie, without}
-use Rattle.com_points.specs.Sources.{IsSource, advise, unadvise}
+use Rattle.com_points.specs.Sources.{advise, unadvise}
 
 -- What the Leave of a call, issued so, changes of an object by an interface.
 abbrev pub change_by : Option Issue → Sink → ℤ → (object iface : ℕ) → Change

@@ -1,13 +1,12 @@
 -- The table of sources, class by class.
 use Rattle.std.proofs.Common.{refl, ap, sym, subst, ◌∙◌, inl, inr, arith}
 use Rattle.std.proofs.lemmas.Option.{slice_get_past}
-use Rattle.std.specs.Prelude.{◌≡◌, ℕ, zero, suc, ◌+◌, ◌≤◌, ◌<◌, ◌^◌, ◌⊎◌, List, [], ◌∷◌, ◌++◌, length, reverse, Option, Some, None, IfSome, IfNone, MatchOption}
+use Rattle.std.specs.Prelude.{◌≡◌, ℕ, zero, suc, ◌+◌, ◌≤◌, ◌<◌, ◌^◌, ◌⊎◌, List, [], ◌∷◌, ◌++◌, length, reverse, Option, Some, None, IfSome, IfNone}
 use Rattle.std.proofs.lemmas.List.{reverse-append}
 use Rattle.com_classes.specs.declared.classes.Class.{Class}
-use Rattle.com_deliveries.specs.Book.{Book, flat, source_at, after, told, goes_on, empty, deliveries_in}
+use Rattle.com_deliveries.specs.Book.{Book, flat, source_at, told, goes_on, empty, deliveries_in}
 use Rattle.com_deliveries.specs.declared.Delivery.{Delivery}
 use Rattle.com_deliveries.specs.Delivered.{AreDeliveries}
-use Rattle.com_deliveries.specs.Rows.{row_at}
 use Rattle.com_deliveries.specs.Tables.{AreSources, Says, Upto}
 use Rattle.com_deliveries.proofs.Lawful.{told-deliveries}
 use Rattle.com_deliveries.proofs.RowReads.{row-is, row-new, row-old}
@@ -16,7 +15,7 @@ use Rattle.com_model.specs.declared.deeds.Entry.{Entry}
 use Rattle.com_model.specs.declared.scenario.Scenario.{Scenario}
 use Rattle.com_model.specs.Formed.{Formed}
 use Rattle.com_model.specs.Rules.{legal}
-use Rattle.com_points.specs.Sources.{IsSource, IsSourceClass}
+use Rattle.com_points.specs.Sources.{IsSource}
 
 zero-none : (s : Scenario) (i : ℕ) → IsSource s 0 i → ⊥
 zero-none s i p = nothing p.there

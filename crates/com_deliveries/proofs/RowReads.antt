@@ -1,10 +1,10 @@
 -- What is read of tables of rows and of lanes after a change.
 use Rattle.std.proofs.Common.{refl, ap, sym, subst, ◌∙◌, arith, eqb-true}
 use Rattle.std.proofs.lemmas.Bool.{false_from_ne_true, ltb-true, ltb-false}
-use Rattle.std.proofs.lemmas.List.{get_or-set_same, get_or-set_other, length-set}
+use Rattle.std.proofs.lemmas.List.{get_or-set_same, length-set}
 use Rattle.std.proofs.lemmas.Option.{slice_get-get_or, slice_get_past}
 use Rattle.std.specs.Prelude.{◌≡◌, ℕ, zero, suc, ◌+◌, ◌-◌, ◌<◌, ◌≤◌, Bool, true, false, cond, ◌||◌, ◌==◌, nat_lt, List, [], ◌∷◌, ◌++◌, length, Option, Some, None, slice_get, slice_index_or, slice_set, option_map}
-use Rattle.com_deliveries.specs.Rows.{row_at, with_row, top_in, without_top, stack_in, opened_in, closed_in}
+use Rattle.com_deliveries.specs.Rows.{row_at, with_row, without_top, stack_in, opened_in, closed_in}
 
 -- ---- rows
 

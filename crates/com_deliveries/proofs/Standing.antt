@@ -1,26 +1,24 @@
 -- What the book of a history keeps of it, and that an entry keeps that true.
 use Rattle.std.proofs.Common.{refl, ap, sym, subst, ◌∙◌, arith, eqb-true}
-use Rattle.std.specs.Prelude.{◌≡◌, ℕ, zero, suc, ◌+◌, ◌≤◌, ◌^◌, ◌-◌, Bool, true, false, cond, ◌||◌, ◌&&◌, ◌==◌, nat_lt, nat_le, List, [], ◌∷◌, ◌++◌, length, map, Option, Some, None, is_some, option_map}
+use Rattle.std.specs.Prelude.{◌≡◌, ℕ, ◌+◌, ◌≤◌, ◌^◌, ◌-◌, Bool, true, false, cond, ◌||◌, ◌&&◌, ◌==◌, nat_lt, nat_le, List, [], ◌∷◌, ◌++◌, length, map, Option, Some, None, is_some, option_map}
 use Rattle.com_base.specs.declared.value.Value.{Value}
 use Rattle.com_body.specs.declared.operands.Asked.{Asked}
 use Rattle.com_deliveries.specs.declared.sources.Source.{Source}
 use Rattle.com_deliveries.specs.declared.tally.Call.{Call}
-use Rattle.com_deliveries.specs.Book.{Book, source_at, made, no_source, no_call, called, begun, got, ended, took, lost, one_more, has_iface, cookies_of, advised_of, on_source, is_event, next_of, reached_by, changed_by, done_in}
+use Rattle.com_deliveries.specs.Book.{Book, made, no_call, called, begun, got, ended, has_iface, cookies_of, advised_of, on_source, is_event, next_of, reached_by}
 use Rattle.com_deliveries.specs.Delivered.{cookie_of}
 use Rattle.com_deliveries.specs.Tables.{AreSources}
-use Rattle.com_deliveries.specs.Rows.{row_at, with_row, removed, next_in, last_in, top_in, without_top, stack_in, opened_in, closed_in}
-use Rattle.com_deliveries.proofs.RowReads.{row-new, row-old, row-here, row-there, row-length, one-more, stack-opened, stack-beside, stack-closed, stack-still}
-use Rattle.com_model.specs.declared.deeds.Deed.{Deed}
+use Rattle.com_deliveries.specs.Rows.{row_at, with_row, next_in, last_in, top_in, without_top, stack_in, opened_in, closed_in}
+use Rattle.com_deliveries.proofs.RowReads.{row-new, row-old, row-here, row-there, row-length, stack-opened, stack-beside, stack-closed, stack-still}
 use Rattle.com_model.specs.declared.deeds.Deed.TheVariants as deed
 use Rattle.com_model.specs.declared.deeds.Entry.{Entry}
-use Rattle.com_model.specs.declared.deeds.Route.{Route}
 use Rattle.com_model.specs.declared.scenario.Scenario.{Scenario}
 use Rattle.com_model.specs.declared.keeps.Issue.{Issue}
 use Rattle.com_model.specs.declared.keeps.Making.{Making}
 use Rattle.com_model.specs.declared.keeps.Opener.{Opener}
 use Rattle.com_model.specs.declared.keeps.Opener.TheVariants.{Pumps, Waits, Enters}
 use Rattle.com_model.specs.Lists.{first, without_first, is_number, number_or_zero}
-use Rattle.com_model.specs.Openers.{Effect, Opens, Closes, Keeps, Closer, opened, openers, top_call}
+use Rattle.com_model.specs.Openers.{Opens, Closes, Keeps, Closer, opened, openers, top_call}
 use Rattle.com_model.specs.Objects.{asked_number, objects, making, class_of}
 use Rattle.com_model.specs.Calls.{issue, left, calls}
 use Rattle.com_points.specs.Histories.{given_to, first_number, sinks, taken, last, reached, visited, with_next}

@@ -1,6 +1,6 @@
 -- An entry keeps what the book of a history keeps.
 use Rattle.std.proofs.Common.{refl, ap, sym, subst, ◌∙◌, arith, eqb-true}
-use Rattle.std.specs.Prelude.{◌≡◌, ℕ, zero, suc, ◌+◌, ◌-◌, ◌≤◌, ◌^◌, Bool, true, false, cond, ◌==◌, List, [], ◌∷◌, ◌++◌, length, map, Option, Some, None, is_some}
+use Rattle.std.specs.Prelude.{◌≡◌, ℕ, ◌+◌, ◌-◌, ◌≤◌, ◌^◌, Bool, true, false, cond, ◌==◌, List, [], ◌∷◌, ◌++◌, length, Option, Some, None, is_some}
 use Rattle.com_base.specs.declared.hresult.HResult.{HResult}
 use Rattle.com_base.specs.declared.value.Value.{Value}
 use Rattle.com_body.specs.declared.operands.Asked.{Asked}
@@ -8,10 +8,10 @@ use Rattle.com_model.specs.declared.deeds.Route.{Route}
 use Rattle.com_deliveries.specs.declared.sources.Source.{Source}
 use Rattle.com_deliveries.specs.declared.tally.Call.{Call}
 use Rattle.com_deliveries.specs.Tables.{AreSources}
-use Rattle.com_deliveries.specs.Book.{Book, made, no_source, no_call, called, begun, ended, took, lost, on_source, next_of, reached_by, changed_by, done_in, after, told, empty}
+use Rattle.com_deliveries.specs.Book.{Book, made, no_source, no_call, called, begun, ended, took, lost, on_source, next_of, reached_by, changed_by, done_in, after, empty}
 use Rattle.com_deliveries.specs.Rows.{row_at, with_row, top_in, stack_in}
 use Rattle.com_deliveries.proofs.Leaving.{leave-object}
-use Rattle.com_deliveries.proofs.Standing.{body_of, ObjectFor, CallFor, RowFor, Stands, Unissued, still, tops, lane-opens, lane-closes, object-made, calls-moved, kept-of, out-call, enter-call, leave-call, reached-length, class-in}
+use Rattle.com_deliveries.proofs.Standing.{ObjectFor, CallFor, Stands, still, tops, lane-opens, lane-closes, object-made, calls-moved, kept-of, out-call, enter-call, leave-call, reached-length, class-in}
 use Rattle.com_deliveries.proofs.RowReads.{row-length, one-more, no-row}
 use Rattle.com_model.specs.declared.deeds.Deed.{Deed}
 use Rattle.com_model.specs.declared.deeds.Deed.TheVariants as deed

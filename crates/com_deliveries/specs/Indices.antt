@@ -1,5 +1,5 @@
 -- The index of a cookie.
-use Rattle.std.specs.Prelude.{ℕ, zero, suc, ℤ, List, [], ◌∷◌, if◌then◌else◌}
+use Rattle.std.specs.Prelude.{ℕ, suc, ℤ, List, [], ◌∷◌, if◌then◌else◌}
 use Rattle.com_points.specs.Sinks.{is_cookie}
 
 -- The first index of a cookie that is this number, or how many there are.

@@ -1,5 +1,5 @@
 -- Rows of tables, counted from 1, and what stands open in each lane.
-use Rattle.std.specs.Prelude.{ℕ, zero, suc, ◌-◌, ℤ, Bool, true}
+use Rattle.std.specs.Prelude.{ℕ, zero, suc, ◌-◌, ℤ}
 use Rattle.std.specs.Prelude.{◌||◌, ◌&&◌, ◌==◌, nat_lt, nat_le, if◌then◌else◌}
 use Rattle.std.specs.Prelude.{List, [], ◌∷◌, length, Option, Some, None, slice_get, slice_index_or, slice_set}
 use Rattle.com_points.specs.Sinks.{is_cookie}

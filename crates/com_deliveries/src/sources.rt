@@ -1,5 +1,5 @@
 //! The sinks of each object of a source.
-ghost use Rattle.std.specs.Prelude.{◌≡◌, ℤ, [], OnOk, MatchOption, None, Some};
+ghost use Rattle.std.specs.Prelude.{◌≡◌, [], OnOk, MatchOption, None, Some};
 ghost use Rattle.com_deliveries.specs.Book.{advised_of, cookies_of, has_iface, lost};
 ghost use Rattle.com_deliveries.specs.Book.{no_source, one_more, took};
 ghost use Rattle.com_deliveries.specs.Rows.{next_in, row_at, with_row};

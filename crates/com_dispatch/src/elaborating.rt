@@ -13,7 +13,7 @@ use com_base::{BODY_LIMIT, Rows, SCRIPT_LIMIT};
 use com_classes::{Interface, built_in_interfaces};
 use com_invoke::{outcome, read_invoke, statement};
 use com_read_operands::{Fault, ScenarioError, fault};
-use com_read_sections::{Code, Outline, Section, State, begun, finish, step};
+use com_read_sections::{Code, Outline, Section, State, finish, start, step};
 use com_read_statements::Names;
 use com_scenario::scenario;
 use com_text::{TEXT_LIMIT, Word, line_at};
@@ -124,7 +124,7 @@ fn late_outline(
     if text.len() >= TEXT_LIMIT {
         return Err(ScenarioError::Memory);
     }
-    let mut st = begun(alloc, built_in)?;
+    let mut st = start(alloc, built_in)?;
     let mut bindings = Vec::new(alloc);
     let mut words = Vec::new(alloc);
     let mut line = 1;

@@ -3,7 +3,6 @@ use Rattle.std.specs.Prelude.{◌≡◌, ℕ, List, ◌++◌, Some}
 use Rattle.std.proofs.Common.{subst, sym}
 use Rattle.com_drive.specs.Replays.{whole_text, whole_served}
 use Rattle.com_model.specs.declared.counts.Ended.{Ended}
-use Rattle.com_model.specs.declared.scenario.Scenario.{Scenario}
 use Rattle.com_model.specs.Ends.{ended_as, scheduled}
 use Rattle.com_model.specs.Formed.{Formed}
 use Rattle.com_commands.specs.declared.statuses.Status.{Status}

@@ -10,7 +10,7 @@ ghost use Rattle.com_dispatch_main.specs.Dispatching.{IsDispatched, IsLate, disp
 ghost use Rattle.com_servant.specs.Rows.{row};
 
 use crate::lines::bindings_text;
-use com_commands::{Status, shared, status_at};
+use com_commands::{Status, share, status_at};
 use com_dispatch::Late;
 use com_io::{Sink, write_all};
 use com_model::Scenario;
@@ -39,18 +39,18 @@ pub(crate) fn play<K: Sink>(
     let Ok(lines) = bindings_text(alloc, bindings.as_slice()) else {
         return Status::Memory;
     };
-    let Ok(scenario) = shared(alloc, scenario) else {
+    let Ok(scenario) = share(alloc, scenario) else {
         return Status::Memory;
     };
     match write_all(sink, lines.as_slice()) {
-        Ok(()) => replayed(alloc, scenario, servants, sink),
+        Ok(()) => write_replay(alloc, scenario, servants, sink),
         Err(_) => Status::WriteFault,
     }
 }
 
 /// Writes the history and the report of a scenario.
 #[tactic(auto, using(crate::proofs::Answering::replay_done, crate::proofs::Answering::replay_faults, crate::proofs::Answering::replay_wants))]
-fn replayed<K: Sink>(
+fn write_replay<K: Sink>(
     alloc: Global,
     scenario: Arc<Scenario>,
     servants: &mut Vec<Box<dyn Servant + Send>>,

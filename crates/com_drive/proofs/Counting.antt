@@ -1,15 +1,14 @@
 -- What a report counts by the tables is what it counts after the history that they stand for.
-use Rattle.std.proofs.Common.{sym, subst, ◌∙◌, ap, arith}
-use Rattle.std.specs.Prelude.{◌≡◌, refl, ℕ, zero, suc, ◌+◌, List, [], ◌∷◌, ◌++◌, length, map, sum_by}
+use Rattle.std.proofs.Common.{sym, ◌∙◌, ap, arith}
+use Rattle.std.specs.Prelude.{◌≡◌, refl, ℕ, suc, ◌+◌, List, [], ◌∷◌, ◌++◌, length, map, sum_by}
 use Rattle.com_books.specs.Counting.{sum_below}
 use Rattle.com_model.specs.declared.counts.Counts.{Counts}
 use Rattle.com_model.specs.declared.deeds.Entry.{Entry}
 use Rattle.com_model.specs.declared.scenario.Scenario.{Scenario}
 use Rattle.com_model.specs.Lists.{one_to}
 use Rattle.com_model.specs.Objects.{objects, named, class_of}
-use Rattle.com_model.specs.Places.{Ground, ground, direct_places}
-use Rattle.com_model.specs.Frames.{Scene, scene}
-use Rattle.com_books.specs.Changes.{Books}
+use Rattle.com_model.specs.Places.{ground, direct_places}
+use Rattle.com_model.specs.Frames.{scene}
 use Rattle.com_model.specs.Books.{books}
 use Rattle.com_model.specs.Ends.{state_of, in_normal, in_table, in_cookie, over_interfaces, counts_of, all_counts}
 use Rattle.com_model.specs.State.{State, StandsFor, scene_in, books_in, ground_in, named_in, class_in, objects_in}

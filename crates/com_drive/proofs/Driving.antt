@@ -1,42 +1,39 @@
 -- From the first state to the whole history: what stands between two steps.
 use Rattle.std.proofs.Common.{sym, subst, ◌∙◌, ap, arith, inl, inr, append_assoc, append-nil, drop, map}
-use Rattle.std.proofs.lemmas.Grind.{common_steps}
 use Rattle.std.specs.Prelude.{◌≡◌, refl, ℕ, zero, suc, ◌+◌, ◌-◌, ◌≤◌, ◌<◌, Bool, true, cond, nat_le, List, [], ◌∷◌, ◌++◌, length, Option, Some, None, Result, Ok, Err, OnOk, slice_index_or, ◌⊎◌}
 use Rattle.com_io.specs.Told.{Gains, GainsPrefix}
-use Rattle.com_io.proofs.Passing.{gains_both, gains_then_prefix, prefix_of_more, prefix_of_all, gains_nothing}
-use Rattle.com_books.specs.Changes.{Books}
+use Rattle.com_io.proofs.Passing.{gains_both, gains_then_prefix, prefix_of_more, gains_nothing}
 use Rattle.com_model.specs.declared.counts.Counts.{Counts}
 use Rattle.com_model.specs.declared.counts.Ended.{Ended}
 use Rattle.com_model.specs.declared.deeds.Deed.{Deed}
 use Rattle.com_model.specs.declared.deeds.Entry.{Entry}
 use Rattle.com_model.specs.declared.keeps.Opener.{Opener}
 use Rattle.com_model.specs.declared.scenario.Scenario.{Scenario}
-use Rattle.com_model.specs.Lists.{one_to, first}
+use Rattle.com_model.specs.Lists.{first}
 use Rattle.com_model.specs.Tables.{lanes}
 use Rattle.com_model.specs.Openers.{openers}
 use Rattle.com_model.specs.Objects.{objects, class_of}
 use Rattle.com_model.specs.Clock.{clock}
 use Rattle.com_model.specs.Text.{history_text, line_text, report_text}
 use Rattle.com_model.specs.Sight.{Sight, sight}
-use Rattle.com_model.specs.Rules.{legal, next}
-use Rattle.com_model.specs.Books.{books}
-use Rattle.com_model.specs.Ends.{Turn, turn, ended_by, ended_as, last_after, limit, run_on, with_entry, with_turn, unless_ended, scheduled, text, report, report_as, all_counts, counts_of}
+use Rattle.com_model.specs.Rules.{next}
+use Rattle.com_model.specs.Ends.{Turn, turn, ended_by, ended_as, last_after, limit, run_on, with_entry, with_turn, unless_ended, scheduled, text, report, report_as}
 use Rattle.com_model.specs.Formed.{Formed}
-use Rattle.com_model.specs.State.{State, StandsFor, sight_of, after, first_tables, objects_in}
+use Rattle.com_model.specs.State.{State, StandsFor, sight_of, first_tables}
 use Rattle.com_model.proofs.Whole.{first-stands}
 use Rattle.com_model.proofs.Sights.{same-sight, same-next, same-class}
 use Rattle.com_schedule.proofs.Runs.{stands-later}
-use Rattle.com_drive.specs.declared.replayed.Replayed.{Replayed}
 use Rattle.com_drive.specs.Standings.{ended_now, turn_now, Reached}
-use Rattle.com_drive.specs.Turns.{IsNext, IsTurn, GoesOn, next_line, served_in, served_at, served_by, body_kind, one_served}
+use Rattle.com_drive.specs.Turns.{IsTurn, next_line, served_in, served_at, served_by, body_kind}
 use Rattle.com_drive.specs.declared.stream.Step.{Step}
 use Rattle.com_drive.specs.declared.stream.Step.TheVariants.{Made, Over}
-use Rattle.com_drive.specs.Steps.{Moment, IsMade, IsOver, Interrupted, Fails, StepsTo, over_of}
-use Rattle.com_drive.specs.Reports.{counts_in, all_counts_in}
+use Rattle.com_drive.specs.Steps.{Moment, IsMade, Fails, StepsTo, over_of}
+use Rattle.com_drive.specs.Reports.{all_counts_in}
 use Rattle.com_drive.specs.Replays.{whole_text, whole_history, whole_served, IsReplay}
 use Rattle.com_drive.proofs.Turning.{below_limit, one_entry}
 use Rattle.com_drive.proofs.Counting.{all-counted}
 use Rattle.com_drive.proofs.Resting.{reached_by}
+use Rattle.com_servant.specs.Rows.{one_served}
 
 -- ---- the whole text begins with the lines so far
 

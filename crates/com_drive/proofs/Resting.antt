@@ -14,14 +14,13 @@ use Rattle.com_model.specs.Tables.{LaneSort, Thread, Host, Pool, NoLane, lane_so
 use Rattle.com_model.specs.Apartments.{mta, is_sta}
 use Rattle.com_model.specs.Waiting.{bound_reached}
 use Rattle.com_model.specs.Sight.{Sight, sight}
-use Rattle.com_model.specs.Rules.{waiting_call, admission, admits_sta, admits_next, pumped, is_script_turn, scripted, is_open_to_calls, top, rule_final, rule_own, rule_answer, rule_bound, rule_inbox, rule_retry, rule_again, rule_pending, rule_word, rule_script, ruled, stepped, lane_next, can_step, no_lane_can}
+use Rattle.com_model.specs.Rules.{waiting_call, admission, admits_sta, admits_next, pumped, is_script_turn, scripted, is_open_to_calls, top, rule_final, rule_own, rule_answer, rule_bound, rule_inbox, rule_retry, rule_again, rule_pending, rule_word, ruled, stepped, can_step, no_lane_can}
 use Rattle.com_model.specs.Ends.{finished_by}
-use Rattle.com_model.specs.State.{State, StandsFor, sight_of}
+use Rattle.com_model.specs.State.{State, StandsFor}
 use Rattle.com_model.proofs.Fines.{GoodHome, GoodSight}
 use Rattle.com_model.proofs.Kept.{sight-good, legal-kept}
 use Rattle.com_model.proofs.Scenes.{actor-good}
 use Rattle.com_model.proofs.Sights.{same-sight}
-use Rattle.com_drive.specs.declared.runtime.Standing.{Standing}
 use Rattle.com_drive.specs.declared.runtime.Standing.TheVariants as standing
 use Rattle.com_drive.specs.Standings.{standing_of, finished_in, none_can_in, CanGo, Reached, Rests}
 use Rattle.com_drive.proofs.Choices.{runs_when}

@@ -9,15 +9,14 @@ use Rattle.com_model.specs.declared.deeds.Entry.{Entry}
 use Rattle.com_model.specs.declared.scenario.Scenario.{Scenario}
 use Rattle.com_model.specs.Ends.{Turn, last_after, limit, finished_by, stuck_by}
 use Rattle.com_model.specs.Rules.{next}
-use Rattle.com_model.specs.State.{State, StandsFor, sight_of, after}
+use Rattle.com_model.specs.State.{State, StandsFor, sight_of}
 use Rattle.com_model.specs.Text.{line_text}
 use Rattle.com_model.proofs.Sights.{same-next}
 use Rattle.com_schedule.proofs.Runs.{stands-later}
-use Rattle.com_drive.specs.declared.runtime.Standing.{Standing}
 use Rattle.com_drive.specs.declared.runtime.Standing.TheVariants as standing
 use Rattle.com_drive.specs.Standings.{standing_of, ended_now, turn_now, Reached}
 use Rattle.com_drive.specs.Turns.{IsNext, IsTurn, GoesOn, next_line, served_in}
-use Rattle.com_drive.specs.Steps.{Moment, IsMade, IsOver, Interrupted, Fails}
+use Rattle.com_drive.specs.Steps.{Moment, IsMade, IsOver, Fails}
 use Rattle.com_drive.proofs.Choices.{turn_ticks, ended_finished, ended_stuck}
 
 last-same : (l last : ℕ) → l ≡ 0 → last ≡ last_after l last

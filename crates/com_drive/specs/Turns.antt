@@ -1,8 +1,8 @@
 -- One turn of a runtime: its entry, the state after it, and the steps of servants.
-use Rattle.std.specs.Prelude.{◌≡◌, ℕ, zero, suc, ◌+◌, List, [], ◌∷◌, ◌++◌, Option, Some, None, slice_index}
-use Rattle.std.specs.Prelude.{slice_set, ◌⊎◌}
+use Rattle.std.specs.Prelude.{◌≡◌, ℕ, zero, suc, ◌+◌, List, [], ◌∷◌, ◌++◌, Option, Some, None}
+use Rattle.std.specs.Prelude.{◌⊎◌}
 use Rattle.com_body.specs.declared.frame.Native.{Native}
-use Rattle.com_io.specs.Told.{Gains, GainsPrefix}
+use Rattle.com_io.specs.Told.{Gains}
 use Rattle.com_model.specs.declared.deeds.Entry.{Entry}
 use Rattle.com_model.specs.declared.keeps.Opener.{Opener}
 use Rattle.com_model.specs.declared.keeps.Opener.TheVariants.{Enters}
@@ -10,10 +10,10 @@ use Rattle.com_model.specs.declared.scenario.Scenario.{Scenario}
 use Rattle.com_model.specs.Lists.{first}
 use Rattle.com_model.specs.Openers.{openers}
 use Rattle.com_model.specs.Objects.{class_of}
-use Rattle.com_model.specs.Ends.{Turn, last_after}
+use Rattle.com_model.specs.Ends.{last_after}
 use Rattle.com_model.specs.State.{State, openers_in, class_in, next_of, after}
 use Rattle.com_model.specs.Text.{line_text}
-use Rattle.com_servant.specs.Rows.{place, one_more}
+use Rattle.com_servant.specs.Rows.{one_served}
 use Rattle.com_servant.specs.Steps.{native_at}
 use Rattle.com_drive.specs.Standings.{ended_now, turn_now}
 
@@ -27,11 +27,6 @@ pub record IsNext (s : Scenario) (st : State) (lane : ℕ) (e : Entry) (new : St
 abbrev pub body_kind : Scenario → (class : ℕ → ℕ) → Option Opener → Option Native
 body_kind s class (Some (Enters c o a)) = native_at s.classes (class o)
 body_kind s class _ = None
-
--- The servants' counts, after a step of the one of a kind.
-abbrev pub one_served : Option Native → List ℕ → List ℕ
-one_served None steps = steps
-one_served (Some k) steps = slice_set steps (place k) (one_more (slice_index steps (place k)))
 
 -- An entry of a lane in which a body runs is a step of the servant of its class's kind. The clock runs none.
 unfoldable pub served_in : Scenario → State → (lane : ℕ) → List ℕ → List ℕ

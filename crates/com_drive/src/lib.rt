@@ -2,7 +2,7 @@
 //! and the report.
 #![tactic(auto)]
 
-ghost use Rattle.std.specs.Prelude.{◌≡◌, ℕ, ◌≤◌, IfOk, OnOk, Err, map};
+ghost use Rattle.std.specs.Prelude.{◌≡◌, ◌≤◌, IfOk, OnOk, Err, map};
 ghost use Rattle.com_io.specs.Faults.{Rose};
 ghost use Rattle.com_io.specs.Told.{Gains, GainsPrefix};
 ghost use Rattle.com_model.specs.Formed.{Formed};
@@ -27,7 +27,7 @@ pub use finish::all_counts;
 pub use lines::{ReplayError, show, tell};
 pub use replayed::Replayed;
 pub use runtime::{Runtime, Standing};
-pub use schedule::{Chosen, choose, ended};
+pub use schedule::{Chosen, choose, end_of};
 use std::alloc::Global;
 pub use stream::{Step, Stream};
 

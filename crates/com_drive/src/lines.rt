@@ -1,5 +1,5 @@
 //! The lines of entries and the report: they are gathered, and written to the sink in large pieces.
-ghost use Rattle.std.specs.Prelude.{◌≡◌, ℕ, ◌≤◌, ◌++◌, [], OnOk, OnErr, Err};
+ghost use Rattle.std.specs.Prelude.{◌≡◌, ◌≤◌, ◌++◌, [], OnOk, OnErr, Err};
 ghost use Rattle.com_io.specs.Faults.{Rose};
 ghost use Rattle.com_io.specs.Told.{Gains, GainsPrefix};
 ghost use Rattle.com_model.specs.Text.{line_text, report_text};

@@ -1,5 +1,5 @@
 //! Whose turn it is: the picks first, then the lanes in their order.
-ghost use Rattle.std.specs.Prelude.{◌≡◌, ◌+◌, ◌≤◌, true, Some, None, MatchOption, IfSome, IsTrue, drop};
+ghost use Rattle.std.specs.Prelude.{◌≡◌, ◌+◌, ◌≤◌, true, Some, None, IfSome, IsTrue, drop};
 ghost use Rattle.com_books.specs.Counting.{numbers_from};
 ghost use Rattle.com_model.specs.Lists.{first_that};
 ghost use Rattle.com_model.specs.Tables.{lanes};
@@ -149,7 +149,7 @@ fn budget<C: Runtime>(scenario: &Scenario, runtime: &C) -> Option<Ended>
 
 /// How the history has ended, if it has, for a runtime that stands so.
 #[tactic(auto, using(crate::proofs::Choices::ended_finished, crate::proofs::Choices::ended_stuck, crate::proofs::Choices::ended_ticks, crate::proofs::Choices::ended_runs))]
-pub fn ended<C: Runtime>(scenario: &Scenario, runtime: &C, standing: Standing) -> Option<Ended>
+pub fn end_of<C: Runtime>(scenario: &Scenario, runtime: &C, standing: Standing) -> Option<Ended>
     requires scenario { C.scenario runtime.now ≡ scenario.now }
     requires standing { standing ≡ standing_of scenario.now (C.state runtime.now) }
     ensures { result ≡ ended_now scenario.now (C.state runtime.now) }

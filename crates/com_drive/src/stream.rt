@@ -1,5 +1,5 @@
 //! A history entry by entry: each step is one turn of the schedule and one line.
-ghost use Rattle.std.specs.Prelude.{◌≡◌, ℕ, ◌<◌, ◌≤◌, ◌+◌, ◌++◌, [], true, None, IfOk, IfSome, OnOk};
+ghost use Rattle.std.specs.Prelude.{◌≡◌, ◌<◌, ◌≤◌, ◌+◌, ◌++◌, [], true, None, IfOk, IfSome, OnOk};
 ghost use Rattle.std.specs.Prelude.{Err, OnErr, map, drop};
 ghost use Rattle.com_io.specs.Faults.{Rose};
 ghost use Rattle.com_io.specs.Told.{Gains, GainsPrefix};
@@ -18,7 +18,7 @@ use crate::finish::finish;
 use crate::lines::{ReplayError, show};
 use crate::replayed::Replayed;
 use crate::runtime::{Runtime, Standing};
-use crate::schedule::{Chosen, choose, ended, stand};
+use crate::schedule::{Chosen, choose, end_of, stand};
 use com_base::{ByteList, Memory};
 use com_io::Sink;
 use com_model::{Ended, Entry, Scenario};
@@ -196,7 +196,7 @@ impl Stream {
     {
         let chosen = choose(runtime, scenario.picks.as_slice(), self.tried, self.last);
         let standing = stand(runtime, chosen);
-        if let Some(ended) = ended(scenario, runtime, standing) {
+        if let Some(ended) = end_of(scenario, runtime, standing) {
             return Ok(Step::Over(ended));
         }
         let entry = self.turn(alloc, scenario, runtime, standing, chosen, servants)?;

@@ -1,8 +1,7 @@
 -- Which objects fall by an entry: what is dying stays so, and what falls lost its last holder or its body.
-use Rattle.std.proofs.Common.{subst, sym, ap, ap₂, ◌∙◌, arith, inl, inr, eqb-true}
-use Rattle.std.proofs.lemmas.Bool.{false_from_ne_true}
+use Rattle.std.proofs.Common.{subst, sym, ap, ◌∙◌, arith, inl, inr, eqb-true}
 use Rattle.std.proofs.lemmas.Grind.{common_steps}
-use Rattle.std.specs.Prelude.{◌≡◌, refl, ℕ, zero, suc, ◌+◌, ◌<◌, ◌≤◌, Bool, true, false, cond, not, ◌==◌, ◌&&◌, ◌||◌, nat_le, List, [], ◌∷◌, ◌++◌, ◌⊎◌, Option, Some, None, filter, length}
+use Rattle.std.specs.Prelude.{◌≡◌, refl, ℕ, ◌+◌, ◌<◌, ◌≤◌, Bool, true, false, cond, not, ◌==◌, ◌&&◌, ◌||◌, nat_le, List, [], ◌∷◌, ◌++◌, ◌⊎◌, Option, Some, filter}
 use Rattle.com_model.specs.declared.deeds.Deed.{Deed}
 use Rattle.com_model.specs.declared.deeds.Deed.TheVariants as deed
 use Rattle.com_model.specs.declared.deeds.Entry.{Entry}
@@ -16,15 +15,15 @@ use Rattle.com_model.specs.Openers.{Effect, Opens, Closes, Keeps, Closer, EndsPu
 use Rattle.com_model.specs.Objects.{finals, finaled, objects}
 use Rattle.com_model.specs.Places.{ground}
 use Rattle.com_model.specs.Frames.{scene}
-use Rattle.com_model.specs.Books.{books, holders_in, holders}
+use Rattle.com_model.specs.Books.{books, holders_in}
 use Rattle.com_model.specs.Dying.{is_entered, is_dying_by, is_dying, fallen_more, fallen}
-use Rattle.com_model.specs.Rules.{next, legal}
+use Rattle.com_model.specs.Rules.{next}
 use Rattle.com_model.specs.State.{State, StandsFor, next_of, openers_in, objects_in, ground_in, scene_in, books_in, dies_in, after}
 use Rattle.com_model.proofs.Sights.{same-ground, same-scene, same-books, same-next}
 use Rattle.com_model.proofs.Stacks.{next-fits}
-use Rattle.com_objects.specs.Settled.{DieBut, Rise, Falls, without}
+use Rattle.com_objects.specs.Settled.{DieBut, Rise}
 use Rattle.com_objects.proofs.Settling.{settled}
-use Rattle.com_release.proofs.Dyings.{Dies, dies}
+use Rattle.com_release.proofs.Dyings.{dies}
 use Rattle.com_release.proofs.Orders.{legal-dying}
 use Rattle.com_safety.proofs.Small.{not-both, differ, not-true, and-left, and-right, and-both, or-left, or-right, or-second, neither, same-number}
 use Rattle.com_schedule.proofs.Runs.{stands-later}

@@ -12,7 +12,7 @@ mod writing;
 pub use com_base::Memory;
 pub use preview::{Outgoing, packet_refs};
 pub use receiving::{Request, RequestError, read_request};
-pub use sending::{Connections, carried, sent_result, sent_value, sent_values};
+pub use sending::{Connections, references_in, sent_result, sent_value, sent_values};
 pub use writing::{reply, request};
 
 #[cfg(test)]

@@ -1,8 +1,8 @@
 //! The values of a call as they travel.
-ghost use Rattle.std.specs.Prelude.{◌≡◌, ◌++◌, Bool, ℕ, IfOk, OnOk, length, option_copied};
+ghost use Rattle.std.specs.Prelude.{◌≡◌, ◌++◌, Bool, ℕ, IfOk, OnOk, option_copied};
 ghost use Rattle.com_base.specs.Values.{as_kind, default_of};
 ghost use Rattle.com_model.specs.Answers.{is_failure};
-ghost use Rattle.com_model.specs.Values.{if_live, sent_value, sent_values, given_or_default, sent_result};
+ghost use Rattle.com_model.specs.Values.{if_live, sent_value, sent_values, sent_result};
 ghost use Rattle.com_model.specs.Values.{carried};
 ghost use Rattle.com_exchange.specs.Sent.{sent_or_default};
 ghost use Rattle.com_exchange.specs.Wires.{reference_in};
@@ -138,7 +138,7 @@ fn append_reference(held: &mut Vec<RefValue>, value: &Value) -> Result<(), Memor
 
 /// The references among values, in their order, without null. The only error is want of memory.
 #[tactic(auto, using(crate::proofs::Sendings::carried_more, crate::proofs::Sendings::carried_all))]
-pub fn carried(alloc: Global, values: &[Value]) -> Result<Vec<RefValue>, Memory>
+pub fn references_in(alloc: Global, values: &[Value]) -> Result<Vec<RefValue>, Memory>
     ensures { IfOk result (λ held. held.items ≡ carried values.now) }
 {
     let mut held = Vec::new(alloc);

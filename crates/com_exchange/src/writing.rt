@@ -7,7 +7,7 @@ ghost use Rattle.com_wire.specs.Fields.{number};
 ghost use Rattle.objref.specs.Grammar.{written_of};
 ghost use Rattle.ndr_args.specs.Grammar.{gap, zeros, counted};
 ghost use Rattle.ndr_args.specs.Written.{align_of_value, written_arg, next_referent, written_args};
-ghost use Rattle.com_model.specs.Values.{cause_guid, wires, result_list, with_answer, request_bytes};
+ghost use Rattle.com_model.specs.Values.{cause_guid, wires, result_list, request_bytes};
 ghost use Rattle.com_model.specs.Values.{reply_bytes};
 ghost use Rattle.com_exchange.specs.Wires.{wire_of, packets_of};
 

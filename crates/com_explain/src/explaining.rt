@@ -16,7 +16,7 @@ use com_waits::{Waits, waits_stuck};
 use std::alloc::Global;
 
 // What explains a legal history of a formed scenario, of which it is known whether it is stuck.
-fn explained(
+fn explain_entries(
     alloc: Global,
     scenario: &Scenario,
     history: &[Entry],
@@ -47,7 +47,7 @@ pub fn explained_on<C: Runtime>(
     ensures { IfOk result (λ waits. waits ≡ explained_by scenario.now history.now) }
 {
     let is_stuck = is_stuck_on(alloc, scenario, runtime, history)?;
-    explained(alloc, scenario, history, is_stuck)
+    explain_entries(alloc, scenario, history, is_stuck)
 }
 
 /// Why a legal history of a formed scenario is stuck, as `explain` says it, on any runtime of that scenario

@@ -206,7 +206,7 @@ impl<'a> Fates<'a> {
     {
         fresh.clear();
         let mut left = other;
-        for object in self.ledger.touched() {
+        for object in self.ledger.touched_objects() {
             left = self.keep_next(fresh, left, *object);
         }
         if let Some(object) = left {

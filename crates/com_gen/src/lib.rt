@@ -4,7 +4,7 @@
 ghost use Rattle.std.specs.Prelude.{◌≡◌, ◌++◌, IfOk, OnOk, decimal};
 ghost use Rattle.com_gen.specs.Loads.{word, behind, seeded, head_text, load_text, apartment_text};
 ghost use Rattle.com_gen.specs.Loads.{round_text, behind_round, rounds_text, behind_rounds};
-ghost use Rattle.com_gen.specs.Loads.{script_text, behind_script, scripts_text, behind_scripts};
+ghost use Rattle.com_gen.specs.Loads.{script_text, behind_script, scripts_text};
 
 mod numbers;
 #[cfg(test)]
@@ -36,7 +36,7 @@ const ROOM: usize = 400_000;
 pub fn generate(alloc: Global, number: u32) -> Result<ByteList, Memory>
     ensures { IfOk result (λ text. text ≡ load_text number) }
 {
-    let mut words = seeded(number);
+    let mut words = generator_of(number);
     let mut text = head(alloc)?;
     text.reserve(ROOM)?;
     push_scripts(&mut words, &mut text)?;
@@ -45,7 +45,7 @@ pub fn generate(alloc: Global, number: u32) -> Result<ByteList, Memory>
 
 /// The generator of a number's words.
 #[tactic(auto, unfolding(crate::specs::Loads::seeded))]
-fn seeded(number: u32) -> Lcg64Xsh32
+fn generator_of(number: u32) -> Lcg64Xsh32
     ensures { result ≡ seeded number }
 {
     Lcg64Xsh32::seed_from_u64(number as u64)

@@ -74,10 +74,10 @@ impl Git {
     }
 
     /// How many cookies were given.
-    pub fn given(&self) -> u32
+    pub fn given_count(&self) -> u32
         ensures { result ≡ length self.now.entries }
     {
-        self.slots.given()
+        self.slots.given_count()
     }
 
     /// The reference under a cookie. `None` exactly where the cookie was never given or was revoked.

@@ -3,7 +3,7 @@ use Rattle.std.proofs.Common.{◌≡◌, ℕ, zero, suc, true, false, eqb, not, 
 use Rattle.std.proofs.lemmas.List.{length-map}
 use Rattle.std.proofs.lemmas.Grind.{common_steps}
 use Rattle.std.specs.Prelude.{slice_index, Option, Some, None}
-use Rattle.com_keyed.specs.Places.{IsLatest}
+use Rattle.com_keyed.specs.Indices.{IsLatest}
 use Rattle.com_keyed.proofs.Walking.{Walks, walk_ends, walk_goes_on, walk_weaker, walk_inside, walk_at}
 use Rattle.com_stub.specs.declared.StubRow.{StubRow}
 use Rattle.com_stub.specs.StubRows.{is_connected, ended_rows}

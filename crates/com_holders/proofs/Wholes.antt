@@ -1,11 +1,11 @@
 -- What is true of the whole, beside its tables: owners under their objects, and room.
 use Rattle.std.proofs.Common.{◌≡◌, ℕ, ◌+◌, ◌≤◌, sym, ◌∙◌, arith}
-use Rattle.com_keyed.specs.Places.{Places}
+use Rattle.com_keyed.specs.Indices.{KeyList}
 use Rattle.com_holders.specs.Tables.{Tables, owners_of, books_of}
 use Rattle.com_holders.specs.Stands.{IsHolders, IsWhole}
 
 -- the rooms after a call that takes so much of each at most, and as much of what is sure
-pub whole_by : (t u : Tables) (owners : Places) (o s p k g o2 s2 p2 k2 g2 taken : ℕ) → IsWhole t owners o s p k g → owners_of u.objects ≡ owners_of t.objects → u.spare + taken ≡ t.spare
+pub whole_by : (t u : Tables) (owners : KeyList) (o s p k g o2 s2 p2 k2 g2 taken : ℕ) → IsWhole t owners o s p k g → owners_of u.objects ≡ owners_of t.objects → u.spare + taken ≡ t.spare
     → o ≤ o2 + taken → s ≤ s2 + taken → p ≤ p2 + taken → k ≤ k2 + taken → g ≤ g2 + taken → IsHolders u → IsWhole u owners o2 s2 p2 k2 g2
 whole_by t u owners o s p k g o2 s2 p2 k2 g2 taken w eo es ho hs hp hk hg st = record {
   stands = st;

@@ -2,7 +2,7 @@
 use Rattle.std.specs.Prelude.{◌≡◌, ℕ, ◌+◌, ◌-◌, ◌*◌, ◌<◌, ◌≤◌, Bool, true, false, ◌==◌, ◌&&◌, if◌then◌else◌}
 use Rattle.std.specs.Prelude.{List, length, sum_by, Some}
 use Rattle.com_base.specs.declared.value.RefValue.{RefValue}
-use Rattle.com_keyed.specs.Places.{Places}
+use Rattle.com_keyed.specs.Indices.{KeyList}
 use Rattle.com_packets.specs.declared.Packet as P
 use Rattle.com_proxy.specs.declared.ProxyRow.{ProxyRow}
 use Rattle.com_proxy.specs.Rows.{public_of, local_of, IsFree}
@@ -51,7 +51,7 @@ pub record IsHolders (t : Tables) : Type 0 where
   pub apart : distinct t.proxies ≡ true
 
 -- The owners stand under their objects, and each table has room for as many calls as are sure to find memory.
-pub record IsWhole (t : Tables) (owners : Places) (objects stubs proxies packets cookies : ℕ) : Type 0 where
+pub record IsWhole (t : Tables) (owners : KeyList) (objects stubs proxies packets cookies : ℕ) : Type 0 where
   pub stands : IsHolders t
   pub keyed : owners.keys ≡ owners_of t.objects
   pub object_room : t.spare ≤ objects

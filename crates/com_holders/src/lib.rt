@@ -7,24 +7,22 @@
 #![tactic(auto)]
 
 ghost use Rattle.std.specs.Prelude.{◌≡◌, ◌+◌, ◌-◌, ◌*◌, ◌==◌, ◌<◌, ◌≤◌, ◌^◌, ◌↔◌, ◌/◌, ◌&&◌, ◌||◌, ℕ, true};
-ghost use Rattle.std.specs.Prelude.{false, not, nat_le, max, [], ◌∷◌, ◌++◌, length, OnOk, OnErr, IfOk, IsOk};
+ghost use Rattle.std.specs.Prelude.{false, not, max, [], ◌∷◌, ◌++◌, length, OnOk, OnErr, IfOk, IsOk};
 ghost use Rattle.std.specs.Prelude.{IsTrue, Ok, Err, Some, None, IsSomeAnd, if◌then◌else◌};
 ghost use Rattle.com_stub.specs.CounterRows.{counter_of, has_counter, changed_counter, more, less, sum_of};
 ghost use Rattle.com_stub.specs.CounterRows.{opened_all, EachFirst};
 ghost use Rattle.com_stub.specs.StubRows.{is_connected, has_stub};
-ghost use Rattle.com_stub.specs.Tables.{total_of};
 ghost use Rattle.com_slots.specs.Table.{held_in};
-ghost use Rattle.com_proxy.specs.Rows.{public_of, split_rows, local_of, changed_row, gaining, one_local_more};
+ghost use Rattle.com_proxy.specs.Rows.{public_of, local_of, changed_row, gaining};
 ghost use Rattle.std.specs.Prelude.{IfNone, IfSome};
 ghost use Rattle.com_proxy.specs.Rows.{public_sum, IsFree};
 ghost use Rattle.com_packets.specs.Sums.{normal_sum};
 ghost use Rattle.com_packets.specs.declared.Packet as P;
-ghost use Rattle.com_books.specs.Counting.{count_if};
-ghost use Rattle.com_books.specs.Changes.{Books, changed, change, cut, packet, cookie, Makes, Takes, Asks};
-ghost use Rattle.com_books.specs.Changes.{Marshals, Unmarshals, Drops, Registers, Revokes, ToProxy, ToCookie};
+ghost use Rattle.com_books.specs.Changes.{changed, change, cut, packet, cookie, Takes, Asks};
+ghost use Rattle.com_books.specs.Changes.{Marshals, Unmarshals, ToProxy, ToCookie};
 ghost use Rattle.com_books.specs.Changes.{Join, Return, Withdraw, given_back};
 ghost use Rattle.com_holders.specs.Tables.{Tables, is_owned, books_of, owns_of, owners_of, object_in};
-ghost use Rattle.com_holders.specs.Tables.{direct_in, direct_less, direct_more, outstanding_in, offers};
+ghost use Rattle.com_holders.specs.Tables.{direct_less, direct_more, outstanding_in, offers};
 ghost use Rattle.com_holders.specs.Places.{OneMore, OneLess, SamePlaces, places_in, distinct};
 ghost use Rattle.com_holders.specs.Stands.{Gave, Released, Tells, Known, Bounded, IsEven};
 ghost use Rattle.com_holders.specs.Steps.{minted, minted_counters, minted_rows, made_live, among};
@@ -830,7 +828,7 @@ impl Holders {
     }
 
     /// The object is connected.
-    pub fn connected(&self, object: u32) -> bool
+    pub fn is_connected(&self, object: u32) -> bool
         ensures { result ≡ is_connected self.now.stubs object }
     {
         self.stubs.is_connected(object)
@@ -840,12 +838,12 @@ impl Holders {
     pub fn objects(&self) -> u32
         ensures { result ≡ length self.now.objects }
     {
-        let _issued = self.issued();
+        let _issued = self.issued_count();
         self.objects.len() as u32
     }
 
     /// How many references were given so far.
-    pub fn issued(&self) -> u32
+    pub fn issued_count(&self) -> u32
         ensures { result ≡ self.now.issued }
     {
         self.issued
@@ -876,18 +874,18 @@ impl Holders {
     pub fn packets(&self) -> u32
         ensures { result ≡ length self.now.packets }
     {
-        self.packets.given()
+        self.packets.given_count()
     }
 
     /// How many cookies were given.
     pub fn cookies(&self) -> u32
         ensures { result ≡ length self.now.cookies }
     {
-        self.cookies.given()
+        self.cookies.given_count()
     }
 
     /// What the stub of the object counts, over all interfaces: nothing where the object is not connected.
-    pub fn counted(&self, object: u32) -> u64
+    pub fn stub_references(&self, object: u32) -> u64
         ensures { result ≡ (if is_connected self.now.stubs object then sum_of self.now.counters object
             else 0) }
     {
@@ -895,14 +893,14 @@ impl Holders {
     }
 
     /// The public references of all proxies of the object, where they have a number.
-    pub fn proxied(&self, object: u32) -> u64
+    pub fn proxy_references(&self, object: u32) -> u64
         ensures { public_sum object self.now.proxies < 2 ^ 64 → result ≡ public_sum object self.now.proxies }
     {
         self.proxies.total(object)
     }
 
     /// The public references of the normal packets of the object.
-    pub fn packed(&self, object: u32) -> u64
+    pub fn packet_references(&self, object: u32) -> u64
         ensures { result ≡ normal_sum object self.now.packets }
     {
         self.packets.normal_refs(object)
@@ -1070,7 +1068,7 @@ impl Holders {
         ensures most { self.new.spare ≤ self.old.spare }
         ensures spare { self.old.spare ≤ self.new.spare + 1 }
     {
-        if !self.connected(held.object) {
+        if !self.is_connected(held.object) {
             return Err(HoldersError::NotConnected);
         }
         match self.give_packet(apartment, held, mode) {
@@ -1129,7 +1127,7 @@ impl Holders {
         ensures spare { self.old.spare ≤ self.new.spare + 1 }
     {
         let owned = self.owns(object, apartment);
-        if !(owned || self.connected(object)) {
+        if !(owned || self.is_connected(object)) {
             return Err(HoldersError::NotConnected);
         }
         if !self.offers(object, iface) {
@@ -1189,7 +1187,7 @@ impl Holders {
         ensures most { self.new.spare ≤ self.old.spare }
         ensures spare { self.old.spare ≤ self.new.spare + 1 }
     {
-        if !self.connected(held.object) {
+        if !self.is_connected(held.object) {
             return Err(HoldersError::NotConnected);
         }
         match self.give_cookie(held) {
@@ -1225,7 +1223,7 @@ impl Holders {
         let Some(held) = self.cookie(cookie) else {
             return Err(HoldersError::Unknown);
         };
-        if !self.connected(held.object) {
+        if !self.is_connected(held.object) {
             return Err(HoldersError::NotConnected);
         }
         self.stands();

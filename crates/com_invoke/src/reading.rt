@@ -15,7 +15,7 @@ use com_base::{ByteList, Rows, Value};
 use com_binding::{DispArg, Member};
 use com_body::{Destination, Op};
 use com_read_operands::{
-    Fault, Operand, ScenarioError, declared, end, fault, literal, number_of, operand_of, slot,
+    Fault, Operand, ScenarioError, declared_name, end, fault, literal, number_of, operand_of, slot,
     stands, unfit, word,
 };
 use com_text::Word;
@@ -141,7 +141,7 @@ pub fn read_invoke(
     ensures range { IfOk result IsInvocation }
 {
     let slot = slot(line, 1)?;
-    let iface = declared(interfaces, line, 2)?;
+    let iface = declared_name(interfaces, line, 2)?;
     let member = member(alloc, line, 3)?;
     let (args, index) = arguments(alloc, line)?;
     let destination = destination(line, index)?;

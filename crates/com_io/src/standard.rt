@@ -10,9 +10,8 @@ use std::marker::Model;
 pub struct Discard;
 
 impl Sink for Discard {
-    ghost use Rattle.std.specs.Prelude.{◌≡◌, ◌≤◌, ◌<◌, None, Ok, IfOk, OnErr, length, take};
+    ghost use Rattle.std.specs.Prelude.{◌≡◌, ◌≤◌, ◌<◌, None, Ok, IfOk, OnErr, length};
     ghost use Rattle.com_io.specs.Faults.{Rose};
-    ghost use Rattle.com_io.specs.Told.{Gains};
 
     ghost held = { λ _. None };
 
@@ -55,9 +54,8 @@ impl StdSource {
 }
 
 impl Source for StdSource {
-    ghost use Rattle.std.specs.Prelude.{◌≡◌, ◌≤◌, ◌<◌, None, IfOk, OnOk, OnErr, length, take};
+    ghost use Rattle.std.specs.Prelude.{◌≡◌, ◌≤◌, ◌<◌, None, IfOk, OnOk, OnErr, length};
     ghost use Rattle.com_io.specs.Faults.{Rose, one_more};
-    ghost use Rattle.com_io.specs.Told.{Loses, IsAtEnd};
 
     ghost left = { λ _. None };
 
@@ -114,9 +112,8 @@ impl StdSink {
 }
 
 impl Sink for StdSink {
-    ghost use Rattle.std.specs.Prelude.{◌≡◌, ◌≤◌, ◌<◌, None, IfOk, OnOk, OnErr, length, take};
+    ghost use Rattle.std.specs.Prelude.{◌≡◌, ◌≤◌, ◌<◌, None, IfOk, OnOk, OnErr, length};
     ghost use Rattle.com_io.specs.Faults.{Rose, one_more};
-    ghost use Rattle.com_io.specs.Told.{Gains};
 
     ghost held = { λ _. None };
 

@@ -21,7 +21,6 @@ use Rattle.com_schedule.proofs.Runs.{stands-later}
 use Rattle.com_servant.specs.Steps.{IsOfItsClass, job_step, native_at}
 use Rattle.com_drive.specs.Standings.{can_step_in}
 use Rattle.com_drive.specs.Turns.{IsNext}
-use Rattle.com_jobs.specs.declared.jobs.Next.{Next}
 use Rattle.com_jobs.specs.declared.jobs.Next.TheVariants as next
 use Rattle.com_jobs.specs.Jobs.{is_enter, next_by, next_in, job_by, job_above, job_of, kept_above, kept_in, Fits}
 

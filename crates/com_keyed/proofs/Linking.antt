@@ -2,7 +2,7 @@
 use Rattle.std.proofs.Common.{◌≡◌, ◌≢◌, ℕ, ◌+◌, ◌-◌, ◌%◌, ◌<◌, ◌≤◌, List, [], ◌∷◌, ◌++◌, length, sym, subst, arith, get_or-set_same, get_or-set_other, length-set, ap, ◌∙◌}
 use Rattle.std.specs.Prelude.{slice_index, slice_set, Option}
 use Rattle.std.proofs.lemmas.List.{get_or_append_left}
-use Rattle.com_keyed.specs.Places.{IsLatest, reach}
+use Rattle.com_keyed.specs.Indices.{IsLatest, reach}
 use Rattle.com_keyed.specs.Linked.{IsLinked, LeadsOn, bucket_at}
 
 module _ (keys links heads : List ℕ) (buckets index : ℕ) where

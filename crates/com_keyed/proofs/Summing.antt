@@ -4,7 +4,7 @@ use Rattle.std.specs.Prelude.{slice_index_or, slice_index, sum_by, Option}
 use Rattle.std.proofs.lemmas.Bool.{cases_lt}
 use Rattle.std.proofs.lemmas.List.{drop_all}
 use Rattle.std.proofs.lemmas.List.Sums.{sum_by-drop_more, sum_by-take-drop}
-use Rattle.com_keyed.specs.Places.{IsLatest, reach}
+use Rattle.com_keyed.specs.Indices.{IsLatest, reach}
 
 -- the rows from an index on
 abbrev pub sum_from : {X : Type 0} → (X → ℕ) → List X → ℕ → ℕ

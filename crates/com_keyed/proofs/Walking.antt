@@ -2,7 +2,7 @@
 use Rattle.std.proofs.Common.{◌≡◌, ℕ, ◌-◌, ◌<◌, ◌≤◌, List, length, sym, subst, arith, ◌∙◌, inl, inr}
 use Rattle.std.proofs.lemmas.Bool.{cases_order}
 use Rattle.std.specs.Prelude.{slice_index, Option, None, Some}
-use Rattle.com_keyed.specs.Places.{IsLatest, reach}
+use Rattle.com_keyed.specs.Indices.{IsLatest, reach}
 
 -- the walk is at an index of the key or past the earliest, and P holds of each index that it has passed
 pub record Walks (keys : List ℕ) (key : ℕ) (P : ℕ → Type 0) (at : Option ℕ) : Type 0 where

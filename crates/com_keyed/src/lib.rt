@@ -5,8 +5,8 @@
 #![tactic(auto)]
 
 ghost use Rattle.std.specs.Prelude.{◌≡◌, ◌+◌, ◌-◌, ◌%◌, ◌<◌, ◌≤◌, ◌≢◌, ℕ, [], ◌∷◌, ◌++◌, length, slice_index};
-ghost use Rattle.std.specs.Prelude.{slice_set, OnOk, OnErr, IsOk, IsTrue, ◌↔◌};
-ghost use Rattle.com_keyed.specs.Places.{IsLatest, reach};
+ghost use Rattle.std.specs.Prelude.{OnOk, OnErr, IsOk, IsTrue, ◌↔◌};
+ghost use Rattle.com_keyed.specs.Indices.{IsLatest, reach};
 ghost use Rattle.com_keyed.specs.Linked.{IsLinked, LeadsOn};
 
 use std::alloc::Global;
@@ -29,10 +29,10 @@ pub struct Chains {
 
 impl Model for Chains {
     ghost use Rattle.std.specs.Prelude.{◌-◌, length, vec_capacity};
-    ghost use Rattle.com_keyed.specs.Places.{Places};
+    ghost use Rattle.com_keyed.specs.Indices.{KeyList};
     ghost use Rattle.com_keyed.specs.Linked.{IsTable};
 
-    ghost Value = { Places };
+    ghost Value = { KeyList };
 
     ghost view = { λ c. record {
       keys = c.keys.items;

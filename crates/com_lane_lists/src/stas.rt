@@ -1,5 +1,5 @@
 //! The single-threaded apartments that threads make.
-ghost use Rattle.std.specs.Prelude.{◌≡◌, ℕ, ◌+◌, ◌<◌, ◌≤◌, ◌^◌, [], ◌∷◌, ◌++◌, not, filter, length, OnOk};
+ghost use Rattle.std.specs.Prelude.{◌≡◌, ◌+◌, ◌<◌, ◌≤◌, ◌^◌, [], ◌∷◌, ◌++◌, not, filter, length, OnOk};
 ghost use Rattle.std.specs.Prelude.{IfOk, slice_index_or, slice_set};
 ghost use Rattle.com_model.specs.Apartments.{or_host};
 ghost use Rattle.com_model.specs.Lists.{first, is_member, tabulated};

@@ -1,5 +1,5 @@
 //! The lanes of a core and what is read of them.
-ghost use Rattle.std.specs.Prelude.{◌≡◌, ℕ, ◌+◌, ◌<◌, ◌≤◌, ◌^◌, [], false, not, filter, length, reverse};
+ghost use Rattle.std.specs.Prelude.{◌≡◌, ◌+◌, ◌<◌, ◌≤◌, ◌^◌, [], false, not, filter, length, reverse};
 ghost use Rattle.std.specs.Prelude.{IfOk, None, slice_get, slice_index_or};
 ghost use Rattle.com_model.specs.Apartments.{or_host};
 ghost use Rattle.com_model.specs.Lists.{first, is_member, tabulated};
@@ -55,13 +55,13 @@ impl Lanes {
         let rows = lanes as usize + 1;
         Ok(Lanes {
             openers: no_openers(alloc, rows)?,
-            served: filled(alloc, rows, 0)?,
-            homes: filled(alloc, rows, None)?,
-            counts: filled(alloc, rows, 0)?,
-            over: filled(alloc, rows, false)?,
-            filters: filled(alloc, rows, None)?,
+            served: new_table(alloc, rows, 0)?,
+            homes: new_table(alloc, rows, None)?,
+            counts: new_table(alloc, rows, 0)?,
+            over: new_table(alloc, rows, false)?,
+            filters: new_table(alloc, rows, None)?,
             mail: no_mails(alloc, rows)?,
-            quits: filled(alloc, rows, false)?,
+            quits: new_table(alloc, rows, false)?,
             stas: Stas::new(alloc, lanes)?,
         })
     }
@@ -144,7 +144,7 @@ impl Lanes {
     }
 
     /// How many bodies have left that the pump of a lane admitted.
-    pub fn served(&self, lane: u32) -> u64
+    pub fn served_count(&self, lane: u32) -> u64
         ensures { result ≡ served_at self.now.tables lane }
     {
         match self.served.get(lane as usize) {
@@ -160,7 +160,7 @@ impl Lanes {
     {
         match self.top(lane) {
             Some(Opener::Pumps { bound: 0 }) => false,
-            Some(Opener::Pumps { bound }) => bound as u64 <= self.served(lane),
+            Some(Opener::Pumps { bound }) => bound as u64 <= self.served_count(lane),
             _ => false,
         }
     }
@@ -264,7 +264,7 @@ impl Lanes {
 }
 
 /// A table of so many equal rows. The only error is want of memory.
-fn filled<T: Copy>(alloc: Global, rows: usize, row: T) -> Result<Vec<T>, Memory>
+fn new_table<T: Copy>(alloc: Global, rows: usize, row: T) -> Result<Vec<T>, Memory>
     ensures { IfOk result (λ table. table.items ≡ tabulated rows (λ l. row)) }
 {
     let mut table = Vec::new(alloc);

@@ -3,7 +3,7 @@
 use com_base::{HResult, Value};
 use com_body::{Code, Given, Op};
 use com_read_operands::{
-    ScenarioError, buffer, code, given, hresult_of, op, register, signed_of, slot,
+    ScenarioError, buffer, code, hresult_of, leave_result, op, register, signed_of, slot,
 };
 use com_text::{Word, line_at};
 use std::alloc::Global;
@@ -86,7 +86,7 @@ fn leave_takes_an_hresult_and_a_result(rt: HostRuntime) -> Result<(), Fail> {
     let alloc = rt.alloc();
     let line = words(alloc, b"leave 0x8000fFFF x\"0aFF\"")?;
     assert_eq!(rt; code(&line, 1), Ok(Code::Literal(HResult(0x8000_ffff))));
-    let found = given(alloc, &line, 2)?;
+    let found = leave_result(alloc, &line, 2)?;
     let bytes = match &found {
         Given::Op(Op::Literal(Value::Bytes(bytes))) => bytes.as_slice(),
         _ => &[],

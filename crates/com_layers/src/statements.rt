@@ -12,7 +12,7 @@ fn bytes(alloc: Global, text: &[u8]) -> Result<ByteList, Fail> {
     Ok(ByteList::from_slice(alloc, text)?)
 }
 
-fn listed(alloc: Global, names: &[&[u8]]) -> Result<Rows<ByteList>, Fail> {
+fn list_of(alloc: Global, names: &[&[u8]]) -> Result<Rows<ByteList>, Fail> {
     let mut list = Vec::new(alloc);
     for name in names {
         list.push(bytes(alloc, name)?)?;
@@ -38,9 +38,9 @@ fn names(alloc: Global) -> Result<Names, Fail> {
         methods: Rows::from_vec(vec![in alloc; add]?),
     };
     Ok(Names {
-        classes: listed(alloc, &[b"Counter"])?,
-        interfaces: listed(alloc, &[b"IUnknown", b"ICounter"])?,
-        filters: listed(alloc, &[b"Patient"])?,
+        classes: list_of(alloc, &[b"Counter"])?,
+        interfaces: list_of(alloc, &[b"IUnknown", b"ICounter"])?,
+        filters: list_of(alloc, &[b"Patient"])?,
         tables: Rows::from_vec(vec![in alloc; unknown, counter]?),
     })
 }

@@ -25,7 +25,7 @@ use com_base::{Memory, RefValue};
 use com_body::Asked;
 use com_booking::{
     MOST_GIVEN, enter_back, enter_get, enter_made, enter_marshal, enter_query, enter_register,
-    enter_unmarshal, gain_all, is_left, issue, lose_all, read_all, reply, unproved,
+    enter_unmarshal, gain_all, is_left, issue, lose_all, read_all, reply, unproved_fact,
 };
 use com_deeds::number_or_zero;
 use com_model::{Deed, Entry};
@@ -194,15 +194,15 @@ impl Keeping {
             .saturating_add(gained.len())
             .saturating_add(2);
         let most = MOST_GIVEN as usize;
-        if steps >= most || self.refs.issued() as usize + steps >= most {
-            return Err(unproved());
+        if steps >= most || self.refs.issued_count() as usize + steps >= most {
+            return Err(unproved_fact());
         }
         self.refs.reserve(steps as u32)?;
         if !can_gain(&self.refs, deed, gained) {
-            return Err(unproved());
+            return Err(unproved_fact());
         }
         if self.refs.is_held(0) {
-            return Err(unproved());
+            return Err(unproved_fact());
         }
         self.brought.clear();
         self.brought.reserve(arguments + 1)?;
@@ -411,8 +411,8 @@ impl Keeping {
         ensures err_calls { OnErr result (self.new.calls ≡ self.old.calls) }
         ensures err_touched { OnErr result (self.new.touched.items ≡ self.old.touched.items) }
     {
-        let gained = moves.gained();
-        let lost = moves.lost();
+        let gained = moves.gains();
+        let lost = moves.losses();
         self.prepare(&entry.deed, context, gained, lost)?;
         self.brought.clear();
         let apartment = number_or_zero(context.running);
@@ -438,7 +438,7 @@ impl Ledger {
         ensures { result ≡ most_left self.now.calls objects.now.tables deed.now moves.now }
     {
         let arguments = self.keeping.arguments_of(deed) as usize;
-        most_noted(deed, objects, arguments, moves.lost())
+        most_noted(deed, objects, arguments, moves.losses())
     }
 
     /// Makes of the books what an entry makes of them, which takes these references from places and brings

@@ -6,7 +6,7 @@ ghost use Rattle.com_state.specs.Parts.{ObjectTables};
 ghost use Rattle.com_booking.specs.Entries.{ClosesTables, GivesUp};
 ghost use Rattle.com_booking.specs.Moving.{Climbs, TouchesCounted};
 
-use com_base::HResult;
+use com_base::{HOST_STA, HResult};
 use com_booking::{disconnect, drop_packet, end_apartment, revoke};
 use com_objects::Objects;
 use com_refs::Refs;
@@ -102,7 +102,7 @@ pub fn end_home(
     if count > 0 {
         return;
     }
-    if home < 2 {
+    if home < HOST_STA {
         return;
     }
     end_apartment(refs, touched, objects, home);

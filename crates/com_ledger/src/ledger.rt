@@ -49,7 +49,7 @@ impl Ledger {
     }
 
     /// The objects that lost their last holder in the last entry, or may have: each once, by number.
-    pub fn touched(&self) -> &[u32]
+    pub fn touched_objects(&self) -> &[u32]
         ensures { result.now ≡ self.now.touched }
     {
         self.keeping.touched.as_slice()

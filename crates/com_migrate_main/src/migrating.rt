@@ -1,5 +1,5 @@
 //! The command in its frame.
-ghost use Rattle.std.specs.Prelude.{◌≡◌, IfOk};
+ghost use Rattle.std.specs.Prelude.{◌≡◌};
 ghost use Rattle.std.proofs.Common.{lit<};
 ghost use Rattle.com_commands.specs.Responses.{Responds};
 ghost use Rattle.com_commands.specs.Statuses.{sides_of};

@@ -1,7 +1,7 @@
 //! Laws of every legal history, stated on functions that do nothing.
 
 ghost use Rattle.com_model.specs.BooksTie.{BooksTie};
-ghost use Rattle.std.specs.Prelude.{◌≡◌, ℕ, Bool, true, List, [], ◌∷◌, length, Option, Some, None};
+ghost use Rattle.std.specs.Prelude.{◌≡◌, ℕ, true, List, [], ◌∷◌, length, Option, Some, None};
 ghost use Rattle.com_base.specs.declared.hresult.HResult.{HResult};
 ghost use Rattle.com_base.specs.declared.value.Value.{Value};
 ghost use Rattle.com_model.specs.declared.deeds.Deed.{Deed};

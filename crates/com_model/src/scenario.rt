@@ -1,6 +1,6 @@
 //! What a scenario's text says.
 
-ghost use Rattle.std.specs.Prelude.{◌≡◌, ◌+◌, ◌<◌, ◌^◌, IfSome, length};
+ghost use Rattle.std.specs.Prelude.{◌≡◌, ◌+◌, ◌<◌, ◌≤◌, ◌^◌, IfNone, IfSome, length};
 ghost use Rattle.com_model.specs.Ends.{limit};
 ghost use Rattle.com_model.specs.Tables.{lanes};
 
@@ -46,6 +46,7 @@ impl Scenario {
     pub fn lanes(&self) -> Option<u32>
         ensures lanes { IfSome result (λ count. count ≡ lanes self.now) }
         ensures threads { IfSome result (λ count. length self.now.threads + 2 < 2 ^ 32) }
+        ensures none { IfNone result (length self.now.threads < 2 ^ 28 → 2 ^ 32 ≤ lanes self.now) }
     {
         let threads = self.threads.len();
         if threads >= 0x1000_0000 {

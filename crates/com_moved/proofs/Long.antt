@@ -1,15 +1,13 @@
 -- A line has six bytes or more, so a trace of version 1 has not many.
 use Rattle.std.proofs.Common.{sym, ap, subst, ◌∙◌, arith, length-append, inl, inr}
-use Rattle.std.proofs.lemmas.Grind.{common_steps}
 use Rattle.std.proofs.lemmas.Fmt.{decimal_by_steps}
-use Rattle.std.specs.Prelude.{◌≡◌, refl, ℕ, ◌+◌, ◌*◌, ◌/◌, ◌%◌, ◌^◌, ◌<◌, ◌≤◌, ◌==◌, ◌⊎◌, Bool, true, false, cond, List, [], ◌∷◌, ◌++◌, length, codes, decimal}
+use Rattle.std.specs.Prelude.{◌≡◌, refl, ℕ, ◌+◌, ◌*◌, ◌/◌, ◌%◌, ◌^◌, ◌<◌, ◌≤◌, ◌==◌, ◌⊎◌, Bool, true, false, cond, List, [], ◌∷◌, ◌++◌, length, decimal}
 use Rattle.com_model.specs.declared.deeds.Entry.{Entry}
 use Rattle.com_model.specs.declared.scenario.Scenario.{Scenario}
 use Rattle.com_model.specs.Ends.{limit, report, text}
 use Rattle.com_model.specs.Formed.{Formed}
 use Rattle.com_model.specs.Lists.{without_first}
 use Rattle.com_model.specs.Rules.{legal}
-use Rattle.com_model.specs.Tables.{lanes}
 use Rattle.com_model.specs.Text.{deed_line, history_text, line_text}
 use Rattle.com_model.proofs.Lanes.{lane-within}
 use Rattle.com_check.specs.Judging.{IsText, IsUpToEnd, Unended, entry_line}

@@ -1,7 +1,7 @@
 -- A trace that was read is no longer than a text of version 1.
 use Rattle.std.proofs.Common.{sym, ap, subst, ◌∙◌, arith}
 use Rattle.std.proofs.lemmas.Grind.{common_steps}
-use Rattle.std.specs.Prelude.{◌≡◌, refl, ℕ, ◌≤◌, ◌-◌, List, Bool, true, false, Option, Some, None, Result, Ok, Err, drop, length, nat_lt, take, if◌then◌else◌}
+use Rattle.std.specs.Prelude.{◌≡◌, refl, ℕ, ◌≤◌, ◌-◌, List, false, Option, Some, None, Result, Ok, Err, drop, length, nat_lt, take, if◌then◌else◌}
 use Rattle.com_text.specs.Scanning.{lines_of}
 use Rattle.com_read_operands.specs.declared.faults.Fault.{Fault}
 use Rattle.com_model.specs.declared.scenario.Scenario.{Scenario}
@@ -12,7 +12,7 @@ use Rattle.com_check.specs.declared.cut.Cut.{Cut}
 use Rattle.com_check.specs.declared.cut.Cut.TheVariants as cuts
 use Rattle.com_check.specs.Cuts.{cut_of}
 use Rattle.com_moved.specs.declared.inputs.Moving.{Moving}
-use Rattle.com_moved.specs.Inputs.{IsShort, moving_by, moving_of, second_fault, with_trace, within_version_1}
+use Rattle.com_moved.specs.Inputs.{IsShort, moving_by, moving_of, with_trace, within_version_1}
 
 -- Where a scenario was read, the header is not of version 2.
 no-second : (header : Option SecondVersion) (read : Result Scenario Fault) (trace : Option (List ℕ)) (m : Moving)

@@ -34,7 +34,7 @@ pub fn move_input(alloc: Global, moving: Moving) -> Result<Moved, Memory>
     ensures { IfOk result (λ answer. IsMoved moving answer) }
 {
     let Moving { scenario, trace } = moving;
-    let (scenario, text) = printed(alloc, scenario)?;
+    let (scenario, text) = print_scenario(alloc, scenario)?;
     match trace {
         None => Ok(Moved { agrees: true, text }),
         Some(trace) => move_trace(alloc, scenario, trace.as_slice(), text),
@@ -43,7 +43,7 @@ pub fn move_input(alloc: Global, moving: Moving) -> Result<Moved, Memory>
 
 // The text of a scenario in version 2, and the scenario as it was. The only error is want of memory.
 #[tactic(auto, using(crate::proofs::Moves::moves_form))]
-fn printed(alloc: Global, scenario: Scenario) -> Result<(Scenario, ByteList), Memory>
+fn print_scenario(alloc: Global, scenario: Scenario) -> Result<(Scenario, ByteList), Memory>
     requires { Formed scenario }
     ensures same { IfOk result (λ both. both.0 ≡ scenario) }
     ensures text { IfOk result (λ both. both.1 ≡ printed (moved scenario)) }

@@ -1,5 +1,5 @@
 //! What is moved to version 2: a scenario of version 1, and a trace behind it.
-ghost use Rattle.std.specs.Prelude.{◌≡◌, ◌<◌, ◌-◌, ◌^◌, IfOk, OnOk, drop, length, option_map};
+ghost use Rattle.std.specs.Prelude.{◌≡◌, ◌<◌, ◌-◌, ◌^◌, IfOk, length};
 ghost use Rattle.com_model.specs.Formed.{Formed};
 ghost use Rattle.com_moved.specs.Inputs.{moving_of, second_fault, with_trace, within_version_1};
 

@@ -1,6 +1,6 @@
 -- The moves of an action's writes, and what slots and links hold after them.
-use Rattle.std.proofs.Common.{ap, ap₂, ◌∙◌, sym}
-use Rattle.std.specs.Prelude.{◌≡◌, refl, ℕ, cond, ◌==◌, List, [], ◌∷◌, ◌++◌, Option, Some, None, fold, slice_index_or, slice_set}
+use Rattle.std.proofs.Common.{ap, ap₂, ◌∙◌}
+use Rattle.std.specs.Prelude.{◌≡◌, refl, ℕ, ◌==◌, List, [], ◌∷◌, ◌++◌, Option, Some, None}
 use Rattle.com_base.specs.declared.hresult.HResult.{HResult}
 use Rattle.com_base.specs.declared.value.RefValue.{RefValue}
 use Rattle.com_base.specs.declared.value.Value.{Value}
@@ -13,12 +13,11 @@ use Rattle.com_body.specs.declared.operands.Place.TheVariants as place
 use Rattle.com_body.specs.Frames.{FrameView}
 use Rattle.com_model.specs.declared.deeds.Deed.{Deed}
 use Rattle.com_model.specs.declared.deeds.Deed.TheVariants as deed
-use Rattle.com_model.specs.Frames.{Scene, Actor, Body, Script, Nobody, Write, ToRegister, ToSlot, ToLink, ToBuffer, writes, to_answer, to_place, marshalled_in, taken_in, with_frame, written, wants, acted}
+use Rattle.com_model.specs.Frames.{Scene, Actor, Body, Script, Nobody, ToRegister, writes, to_answer, to_place, marshalled_in, taken_in, with_frame, written}
 use Rattle.com_model.specs.Places.{Ground}
-use Rattle.com_places.specs.Moves.{Move as Moving, Moves as Movings, no_moves, together, moved, slots_where, slots_of, write_moves, writes_moves, acted_moves}
+use Rattle.com_places.specs.Moves.{Move as Moving, Moves as Movings, no_moves, together, slots_where, slots_of, write_moves, writes_moves, acted_moves}
 use Rattle.com_places.proofs.Frames.{same-row}
-use Rattle.com_moves.specs.declared.written.Written.{Written}
-use Rattle.com_moves.specs.Steps.{place_write, exchanged, link_exchanged, place_moves, step_moves}
+use Rattle.com_moves.specs.Steps.{place_write, exchanged, place_moves, step_moves}
 use Rattle.com_moves.proofs.Lists.{append_none}
 
 pub together-none : (m : Movings) → together m no_moves ≡ m

@@ -1,7 +1,6 @@
 -- What arrives, by the slots and links after the step.
 use Rattle.std.proofs.Common.{ap, ◌∙◌, sym, subst, append_assoc}
 use Rattle.std.specs.Prelude.{◌≡◌, refl, ℕ, suc, cond, ◌==◌, List, [], ◌∷◌, ◌++◌, Option, Some, None}
-use Rattle.com_base.specs.declared.value.Value.{Value}
 use Rattle.com_model.specs.declared.keeps.Leaving.{Leaving}
 use Rattle.com_model.specs.Places.{left_value}
 use Rattle.com_body.specs.declared.frame.Outcome.{Outcome}

@@ -14,7 +14,7 @@ use Rattle.com_model.specs.Frames.{Scene, value_reference}
 use Rattle.com_model.specs.Places.{Ground, Test, passes, entered_in, left_value, in_scripts, in_frame, in_bodies, in_links, in_result, in_results}
 use Rattle.com_places.specs.Moves.{Move as Moving, moved, all_moved, counted, entered_where, result_moved}
 use Rattle.com_places.proofs.Counted.{counted-both, counted-slot, counted-slots, counted-home}
-use Rattle.com_moves.specs.Held.{over_below, held_by_opener, held_by_openers, all_held, PlacesByLists}
+use Rattle.com_moves.specs.Held.{over_below, held_by_opener, held_by_openers, PlacesByLists}
 
 over-counted : (n : ℕ) (f : ℕ → List Moving) (x : ℕ → ℕ) (a : ℕ) (t : Test) → ((k : ℕ) → counted (f k) a t ≡ x k) → counted (over_below n f) a t ≡ sum_below n x
 over-counted zero f x a t p = refl

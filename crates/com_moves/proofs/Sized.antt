@@ -2,7 +2,7 @@
 -- a method may have parameters.
 use Rattle.std.proofs.Common.{subst, sym, ap, ◌∙◌, arith}
 use Rattle.std.proofs.lemmas.List.{length-append, length-replicate, length-set}
-use Rattle.std.specs.Prelude.{◌≡◌, refl, ℕ, zero, suc, ◌+◌, ◌-◌, ◌≤◌, Bool, true, false, ◌==◌, List, [], ◌∷◌, ◌++◌, length, replicate, drop, Option, Some, None, All, fold, slice_get, slice_set, option_and_then}
+use Rattle.std.specs.Prelude.{◌≡◌, refl, ℕ, zero, suc, ◌+◌, ◌-◌, ◌≤◌, Bool, true, false, ◌==◌, List, [], ◌∷◌, ◌++◌, length, replicate, drop, Option, Some, None, All, fold, slice_get, option_and_then}
 use Rattle.com_base.specs.declared.value.Kind.{Kind}
 use Rattle.com_base.specs.declared.value.RefValue.{RefValue}
 use Rattle.com_base.specs.declared.value.Value.{Value}
@@ -36,11 +36,11 @@ use Rattle.com_model.specs.Values.{sent_values}
 use Rattle.com_model.specs.Books.{books, out_values}
 use Rattle.com_model.specs.Endings.{ending}
 use Rattle.com_model.specs.Issue.{own_values, values_or, sent, unread_values}
-use Rattle.com_model.specs.Frames.{Scene, scene, first_scene, new_cells, act, Actor, Body, Script, Nobody, actor_in, Write, ToRegister, ToSlot, ToLink, ToBuffer, to_answer, writes, to_destination, written, with_frame, wants, acted, arrived, cut_links, issued_body, acting, outcome}
+use Rattle.com_model.specs.Frames.{Scene, scene, new_cells, act, Actor, Body, Script, Nobody, actor_in, Write, ToRegister, ToSlot, ToLink, ToBuffer, to_answer, writes, to_destination, written, with_frame, wants, acted, arrived, cut_links, issued_body, acting, outcome}
 use Rattle.com_model.specs.Formed.{IsMethod, IsInterface, EachFrom, Formed}
 use Rattle.com_model.specs.Sight.{sight}
 use Rattle.com_model.specs.Rules.{next, legal}
-use Rattle.com_model.specs.State.{State, StandsFor, SceneTables, scene_in, class_in, issue_in, next_of}
+use Rattle.com_model.specs.State.{State, StandsFor, scene_in, class_in, issue_in, next_of}
 use Rattle.com_model.proofs.Fines.{cond-is}
 use Rattle.com_model.proofs.Sights.{same-next}
 use Rattle.com_balance.proofs.Carries.{all-head, all-tail}

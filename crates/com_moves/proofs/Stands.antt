@@ -16,7 +16,7 @@ use Rattle.com_model.specs.Lists.{one_to}
 use Rattle.com_model.specs.Objects.{class_of}
 use Rattle.com_model.specs.Apartments.{ends_sta}
 use Rattle.com_model.specs.Frames.{Scene, scene, Actor, Body, Script, Nobody, actor, actor_in, Write, ToRegister, ToSlot, ToLink, ToBuffer, writes, to_answer, to_destination, with_frame, written, acting, outcome, acted, arrived}
-use Rattle.com_model.specs.Places.{Ground, ground, Test, places_that, left_value}
+use Rattle.com_model.specs.Places.{Ground, ground, places_that, left_value}
 use Rattle.com_model.specs.State.{State, LanesStand, StandsFor, ground_in, scene_in, class_in, issue_in, home_in, actor_of, after}
 use Rattle.com_model.proofs.Sights.{same-scene, same-class, same-ground}
 use Rattle.com_model.proofs.Lanes.{lanes-after}
@@ -24,7 +24,7 @@ use Rattle.com_model.proofs.Rowed.{after-rows}
 use Rattle.com_model.proofs.Whole.{whole-after}
 use Rattle.com_model.proofs.Kept.{legal-bounded}
 use Rattle.com_balance.proofs.Moves.{acting-is}
-use Rattle.com_places.specs.Moves.{Moves, Move, links_moved, together, counted, moved, all_moved, result_moved, slots_where, slots_of, link_moves, write_moves, writes_moves, acted_moves, arrived_moves, ended_moves, entry_moves, acting_in as acted_by, outcome_in, PlacesMove}
+use Rattle.com_places.specs.Moves.{Move, links_moved, together, counted, moved, all_moved, result_moved, slots_where, slots_of, link_moves, write_moves, writes_moves, acted_moves, arrived_moves, ended_moves, entry_moves, acting_in as acted_by, outcome_in}
 use Rattle.com_places.proofs.Laws.{legal-places}
 use Rattle.com_state.specs.After.{acting_in, step_in, actor_after}
 use Rattle.com_state.specs.Parts.{objects_of, calls_of}

@@ -1,6 +1,6 @@
 -- The moves of an entry over the tables are those by what slots and links hold after the step.
 use Rattle.std.proofs.Common.{ap, ap₂, ◌∙◌, sym}
-use Rattle.std.specs.Prelude.{◌≡◌, refl, ℕ, zero, suc, Bool, true, false, cond, ◌==◌, List, [], ◌∷◌, ◌++◌, Option, Some, None, fold, slice_index_or, slice_set}
+use Rattle.std.specs.Prelude.{◌≡◌, refl, ℕ, zero, suc, Bool, true, false, cond, ◌==◌, List, [], ◌∷◌, ◌++◌, Option, Some, None, fold, slice_set}
 use Rattle.com_base.specs.declared.hresult.HResult.{HResult}
 use Rattle.com_base.specs.declared.value.RefValue.{RefValue}
 use Rattle.com_base.specs.declared.value.Value.{Value}
@@ -21,7 +21,7 @@ use Rattle.com_model.specs.Frames.{Scene, Actor, Body, Script, Nobody, Write, To
 use Rattle.com_model.specs.Lists.{one_to}
 use Rattle.com_model.specs.Places.{Ground, left_value}
 use Rattle.com_model.specs.State.{SceneTables, scene_read}
-use Rattle.com_places.specs.Moves.{Move as Moving, Moves as Movings, no_moves, together, moved, all_moved, entered_where, slots_where, slots_of, result_moved, writes_moves, acted_moves, arrived_moves, links_moved, ended_moves}
+use Rattle.com_places.specs.Moves.{Move as Moving, Moves as Movings, together, all_moved, entered_where, slots_where, slots_of, result_moved, writes_moves, acted_moves, arrived_moves, links_moved, ended_moves}
 use Rattle.com_places.proofs.Frames.{same-row}
 use Rattle.com_state.specs.Parts.{ObjectTables, CallTables}
 use Rattle.com_moves.specs.Steps.{place_write, has_frame_of, is_on, slots_placed, slots_with, links_placed, links_with, slots_stepped, links_stepped, exchanged, given_moves, arrived_stepped, links_of_step, ended_stepped, acted_stepped, moves_stepped}

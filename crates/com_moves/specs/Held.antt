@@ -1,5 +1,5 @@
 -- The references that places hold, as lists: each with its apartment, as an entry moves them.
-use Rattle.std.specs.Prelude.{◌≡◌, ℕ, zero, suc, ◌+◌, List, [], ◌∷◌, ◌++◌, Option, Some}
+use Rattle.std.specs.Prelude.{◌≡◌, ℕ, zero, suc, ◌+◌, List, [], ◌∷◌, ◌++◌, Some}
 use Rattle.com_model.specs.declared.keeps.Opener.{Opener}
 use Rattle.com_model.specs.declared.keeps.Opener.TheVariants.{Enters}
 use Rattle.com_model.specs.declared.scenario.Scenario.{Scenario}

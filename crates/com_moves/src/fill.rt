@@ -1,6 +1,6 @@
 //! The moves of an entry by its kind: what the action writes, what the entry brings and takes beside that,
 //! and what the end of an STA takes. All is read before anything is changed.
-ghost use Rattle.std.specs.Prelude.{◌≡◌, ℕ, Option, length, ◌++◌, ◌&&◌, not, false, [], ◌==◌, OnOk, OnErr};
+ghost use Rattle.std.specs.Prelude.{◌≡◌, Option, length, ◌++◌, ◌&&◌, not, false, [], ◌==◌, OnOk, OnErr};
 ghost use Rattle.std.specs.Prelude.{Some, None, if◌then◌else◌};
 ghost use Rattle.com_body.specs.Frames.{references};
 ghost use Rattle.com_model.specs.Apartments.{ends_sta};
@@ -8,7 +8,7 @@ ghost use Rattle.com_model.specs.Calls.{is_direct, route_of};
 ghost use Rattle.com_model.specs.Frames.{Body, Script, value_reference};
 ghost use Rattle.com_model.specs.Lists.{from_one, one_to};
 ghost use Rattle.com_model.specs.Places.{left_value};
-ghost use Rattle.com_places.specs.Moves.{no_moves, together, moved, all_moved, entered_where, slots_where};
+ghost use Rattle.com_places.specs.Moves.{no_moves, together, all_moved, entered_where, slots_where};
 ghost use Rattle.com_scene.specs.Actors.{acting_of};
 ghost use Rattle.com_scene.specs.Ranges.{FitsDeed};
 ghost use Rattle.com_state.specs.Parts.{ObjectTables, admission_at, issue_at, named_at};
@@ -22,7 +22,7 @@ ghost use Rattle.com_moves.specs.Tables.{ground_at};
 use crate::moves::Moves;
 use crate::steps::{links_after, slots_after, slots_of};
 use crate::written::{Written, written_by};
-use com_base::{Memory, RefValue, Value};
+use com_base::{HOST_STA, Memory, RefValue, Value};
 use com_body::{Destination, Outcome, Place};
 use com_calls::Calls;
 use com_model::{Deed, Entry, Route};
@@ -98,7 +98,7 @@ fn ended_sta(deed: &Deed) -> Option<u32>
     else {
         return None;
     };
-    if *apartment < 2 {
+    if *apartment < HOST_STA {
         return None;
     }
     Some(*apartment)

@@ -84,14 +84,14 @@ impl Moves {
     }
 
     /// What an entry takes from places.
-    pub fn lost(&self) -> &[Move]
+    pub fn losses(&self) -> &[Move]
         ensures { movings_of result.now ≡ self.now.lost }
     {
         self.lost.as_slice()
     }
 
     /// What an entry brings to places.
-    pub fn gained(&self) -> &[Move]
+    pub fn gains(&self) -> &[Move]
         ensures { movings_of result.now ≡ self.now.gained }
     {
         self.gained.as_slice()

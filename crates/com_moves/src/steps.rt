@@ -1,12 +1,11 @@
 //! What slots and links hold after the step of whoever acts.
-ghost use Rattle.std.specs.Prelude.{◌≡◌, slice_set};
+ghost use Rattle.std.specs.Prelude.{◌≡◌};
 ghost use Rattle.com_scene.specs.Actors.{acting_of};
 ghost use Rattle.com_scene.specs.Kept.{HasSlots};
 ghost use Rattle.com_scene.specs.Ranges.{FitsDeed};
 ghost use Rattle.com_scene.specs.Scenes.{frame_of};
 ghost use Rattle.com_state.specs.SceneParts.{body_at, script_at};
-ghost use Rattle.com_moves.specs.Steps.{has_frame_of, is_on, slots_with, slots_placed, links_with};
-ghost use Rattle.com_moves.specs.Steps.{links_placed};
+ghost use Rattle.com_moves.specs.Steps.{has_frame_of, is_on, slots_with, links_with};
 ghost use Rattle.com_moves.specs.Steps.{slots_stepped, links_stepped, FrameWhole, IsWhole};
 
 use crate::written::{Written, written_by};

@@ -6,7 +6,7 @@ ghost use Rattle.com_moves.specs.Steps.{place_write, at_slot};
 use com_base::RefValue;
 use com_body::{Action, Place};
 use com_model::Deed;
-use com_scene::taken;
+use com_scene::given_reference;
 
 /// A reference, or null, that comes to a slot or a link.
 #[derive(Debug, Clone, Copy)]
@@ -23,8 +23,8 @@ pub fn written_by(action: &Action, deed: &Deed) -> Option<Written>
     ensures { result ≡ place_write action.now deed.now }
 {
     match action {
-        Action::Create { slot, .. } => at_slot(*slot, taken(deed)),
-        Action::Query { to, .. } => at_slot(*to, taken(deed)),
+        Action::Create { slot, .. } => at_slot(*slot, given_reference(deed)),
+        Action::Query { to, .. } => at_slot(*to, given_reference(deed)),
         Action::Copy { to, held } => Some(Written {
             place: *to,
             held: *held,
@@ -33,8 +33,8 @@ pub fn written_by(action: &Action, deed: &Deed) -> Option<Written>
             place: *place,
             held: None,
         }),
-        Action::Unmarshal { slot, .. } => at_slot(*slot, taken(deed)),
-        Action::Get { slot, .. } => at_slot(*slot, taken(deed)),
+        Action::Unmarshal { slot, .. } => at_slot(*slot, given_reference(deed)),
+        Action::Get { slot, .. } => at_slot(*slot, given_reference(deed)),
         _ => None,
     }
 }

@@ -2,7 +2,7 @@
 //! or the first fault.
 #![tactic(auto)]
 
-ghost use Rattle.std.specs.Prelude.{◌≡◌, ◌++◌, IfOk, OnOk, codes, length, position, decimal, not, false};
+ghost use Rattle.std.specs.Prelude.{◌≡◌, ◌++◌, IfOk, OnOk, length, position, decimal, not, false};
 ghost use Rattle.std.specs.Char.{is_ascii_hexdigit};
 ghost use Rattle.objref.specs.Grammar.{reference_of};
 ghost use Rattle.objref.specs.Reading.{objref_of};

@@ -231,10 +231,10 @@ impl Packets {
     }
 
     /// How many numbers were given.
-    pub fn given(&self) -> u32
+    pub fn given_count(&self) -> u32
         ensures { result ≡ length self.now.entries }
     {
-        self.slots.given()
+        self.slots.given_count()
     }
 
     /// The public references of the outstanding normal packets of an object.

@@ -40,7 +40,11 @@ fn picked_shared(
 /// Whatever the picks, the history is a legal one of the scenario (`lawful`), with an entry for each pick
 /// that could step and no other (`is`), and no more entries than it may have (`few`). It need not have ended.
 /// The only error is want of memory.
-pub fn picked(alloc: Global, scenario: &Arc<Scenario>, picks: &[u32]) -> Result<Vec<Entry>, Memory>
+pub fn history_of_picks(
+    alloc: Global,
+    scenario: &Arc<Scenario>,
+    picks: &[u32],
+) -> Result<Vec<Entry>, Memory>
     requires { Formed (arc_value scenario.now) }
     ensures lawful { IfOk result (λ entries. legal (arc_value scenario.now) (reverse entries.items)) }
     ensures is { IfOk result (λ entries. reverse entries.items ≡ picked (arc_value scenario.now) picks.now) }

@@ -16,7 +16,7 @@ ghost use Rattle.com_servant.specs.Rows.{row};
 
 use crate::events::event_lines;
 use com_base::{ByteList, Memory};
-use com_commands::{Status, say, shared, status_at};
+use com_commands::{Status, say, share, status_at};
 use com_deliveries::{deliveries_by, source_table};
 use com_io::Sink;
 use com_model::{Ended, Entry, Scenario};
@@ -73,7 +73,7 @@ fn play_by<K: Sink>(
         → map stepped servants.new.items ≡ whole_served scenario (map stepped servants.old.items) }
     ensures row { map kind_of servants.new.items ≡ row }
 {
-    match replayed(alloc, scenario, table, servants, sink) {
+    match write_replay(alloc, scenario, table, servants, sink) {
         Ok(played) => say(played.lines.as_slice(), status_at(played.ended), sink),
         Err(ReplayError::WriteFault) => Status::WriteFault,
         Err(ReplayError::Memory) => Status::Memory,
@@ -82,7 +82,7 @@ fn play_by<K: Sink>(
 
 // Writes the one history of a scenario and its report, and makes the lines of its events.
 #[tactic(auto, using(com_io::proofs::Passing::prefix_of_none))]
-fn replayed<K: Sink>(
+fn write_replay<K: Sink>(
     alloc: Global,
     scenario: Scenario,
     table: &[Option<u16>],
@@ -103,7 +103,7 @@ fn replayed<K: Sink>(
         → Rose (K.faults_of sink.old) (K.faults_of sink.new) }
     ensures counts { K.faults_of sink.old ≤ K.faults_of sink.new }
 {
-    let scenario = shared(alloc, scenario)?;
+    let scenario = share(alloc, scenario)?;
     let recorded = keep(alloc, &scenario, servants, sink)?;
     let lines = lines_of(alloc, table, recorded.entries.as_slice())?;
     Ok(Played {

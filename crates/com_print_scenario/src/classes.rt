@@ -2,7 +2,7 @@
 
 ghost use Rattle.std.specs.Prelude.{◌≡◌, ◌≤◌, ◌++◌, ◌∷◌, [], OnOk, All, codes, length, map};
 ghost use Rattle.com_body.specs.declared.frame.Native.TheVariants as natives;
-ghost use Rattle.com_print_operands.specs.Ranges.{Fits, IsGuid};
+ghost use Rattle.com_print_operands.specs.Ranges.{IsGuid};
 ghost use Rattle.com_print_words.specs.Spelled.{plain, words_text, more_text, line_text, text_of};
 ghost use Rattle.com_print_scenario.specs.Printed.{program_lines, body_words, bodies_lines, class_head};
 ghost use Rattle.com_print_scenario.specs.Printed.{interface_name, class_lines, classes_lines, model_word};

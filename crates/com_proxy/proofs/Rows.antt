@@ -6,7 +6,7 @@ use Rattle.std.proofs.lemmas.Grind.{common_steps}
 use Rattle.std.specs.Prelude.{map, slice_set, slice_index_or, slice_index}
 use Rattle.com_proxy.specs.declared.ProxyRow.{ProxyRow}
 use Rattle.com_proxy.specs.Rows.{is_for, no_row, row_of, row_at, local_of, public_of, index_of, changed_row, proxy_key_of, key_of, proxies_of, objects_of, EachFirst, IsFree, IsLowest, no_public, cut_row, cut_rows}
-use Rattle.com_keyed.specs.Places.{Places}
+use Rattle.com_keyed.specs.Indices.{KeyList}
 use Rattle.com_proxy.specs.Table.{IsTable}
 
 -- a row that is there
@@ -191,7 +191,7 @@ keys_set key [] p x e = refl
 keys_set key (r ∷ rs) zero x e = ap (λ k. k ∷ map key rs) e
 keys_set key (r ∷ rs) (suc p) x e = ap (λ ks. key r ∷ ks) (keys_set key rs p x e)
 
-pub table_set : (rs : List ProxyRow) (proxies objects : Places) (p : ℕ) (x : ProxyRow) → IsTable rs proxies objects → p < length rs → x.apartment ≡ (row_at rs p).apartment → x.object ≡ (row_at rs p).object
+pub table_set : (rs : List ProxyRow) (proxies objects : KeyList) (p : ℕ) (x : ProxyRow) → IsTable rs proxies objects → p < length rs → x.apartment ≡ (row_at rs p).apartment → x.object ≡ (row_at rs p).object
     → x.iface ≡ (row_at rs p).iface → IsTable (slice_set rs p x) proxies objects
 table_set rs proxies objects p x t inside ea eo ei = record {
   by_proxy = t.by_proxy ∙ sym (keys_set key_of rs p x (ap (λ b. proxy_key_of b x.object) ea ∙ ap (λ b. proxy_key_of (row_at rs p).apartment b) eo));
@@ -221,7 +221,7 @@ index_push (r ∷ rs) x a o i h e = grind (arith, common_steps, index_push rs x 
 pub keys_push : (key : ProxyRow → ℕ) (rs : List ProxyRow) (x : ProxyRow) (keys more : List ℕ) → keys ≡ map key rs → more ≡ keys ++ key x ∷ [] → more ≡ map key (rs ++ x ∷ [])
 keys_push key rs x keys more e is = is ∙ ap (λ ks. ks ++ key x ∷ []) e ∙ sym (map-append key rs (x ∷ []))
 
-pub table_push : (rs : List ProxyRow) (proxies objects more_proxies more_objects : Places) (x : ProxyRow) → IsTable rs proxies objects → more_proxies.keys ≡ proxies.keys ++ key_of x ∷ []
+pub table_push : (rs : List ProxyRow) (proxies objects more_proxies more_objects : KeyList) (x : ProxyRow) → IsTable rs proxies objects → more_proxies.keys ≡ proxies.keys ++ key_of x ∷ []
     → more_objects.keys ≡ objects.keys ++ x.object ∷ [] → length rs ≤ index_of rs x.apartment x.object x.iface → IsTable (rs ++ x ∷ []) more_proxies more_objects
 table_push rs proxies objects more_proxies more_objects x t by_proxy by_object new = record {
   by_proxy = keys_push key_of rs x proxies.keys more_proxies.keys t.by_proxy by_proxy;
@@ -241,13 +241,13 @@ table_push rs proxies objects more_proxies more_objects x t by_proxy by_object n
 }
 
 -- the same, where the row was read
-pub table_write : (rs : List ProxyRow) (proxies objects : Places) (p : ℕ) (old x : ProxyRow) → IsTable rs proxies objects → p < length rs → old ≡ slice_index_or rs p old → x.apartment ≡ old.apartment
+pub table_write : (rs : List ProxyRow) (proxies objects : KeyList) (p : ℕ) (old x : ProxyRow) → IsTable rs proxies objects → p < length rs → old ≡ slice_index_or rs p old → x.apartment ≡ old.apartment
     → x.object ≡ old.object → x.iface ≡ old.iface → IsTable (slice_set rs p x) proxies objects
 table_write rs proxies objects p old x t inside is ea eo ei =
     let at : old ≡ row_at rs p = get_or_read rs p old inside is (no_row 0 0 0) in
     table_set rs proxies objects p x t inside (ea ∙ ap (λ r. r.apartment) at) (eo ∙ ap (λ r. r.object) at) (ei ∙ ap (λ r. r.iface) at)
 
-pub table_cut : (rs : List ProxyRow) (proxies objects : Places) (o : ℕ) → IsTable rs proxies objects → IsTable (cut_rows o rs) proxies objects
+pub table_cut : (rs : List ProxyRow) (proxies objects : KeyList) (o : ℕ) → IsTable rs proxies objects → IsTable (cut_rows o rs) proxies objects
 table_cut rs proxies objects o t = record {
   by_proxy = t.by_proxy ∙ sym (keys_cut key_of (λ r. ap (λ b. proxy_key_of b (cut_row o r).object) (apartment_cut r) ∙ ap (λ b. proxy_key_of r.apartment b) (object_cut r)) rs);
   by_object = t.by_object ∙ sym (keys_cut (λ r. r.object) object_cut rs);
@@ -274,13 +274,13 @@ table_cut rs proxies objects o t = record {
   index_cut (r ∷ rs) a p i = grind (arith, index_cut rs a p i)
 
 -- what is known where the public references of the lowest interface are taken
-pub record Taking (rs : List ProxyRow) (proxies objects : Places) (a o p : ℕ) (old : ProxyRow) : Type 0 where
+pub record Taking (rs : List ProxyRow) (proxies objects : KeyList) (a o p : ℕ) (old : ProxyRow) : Type 0 where
   pub table : IsTable (slice_set rs p (no_public old)) proxies objects
   pub held : old.public ≡ public_of rs a o old.iface
   pub least : (i : ℕ) → 0 < public_of rs a o i → old.iface ≤ i
   pub changes : slice_set rs p (no_public old) ≡ changed_row no_public a o old.iface rs
 
-pub taking : (rs : List ProxyRow) (proxies objects : Places) (a o p : ℕ) (old : ProxyRow) → IsTable rs proxies objects → IsLowest a o rs p → old ≡ slice_index_or rs p old
+pub taking : (rs : List ProxyRow) (proxies objects : KeyList) (a o p : ℕ) (old : ProxyRow) → IsTable rs proxies objects → IsLowest a o rs p → old ≡ slice_index_or rs p old
     → Taking rs proxies objects a o p old
 taking rs proxies objects a o p old t l is =
     let at : old ≡ row_at rs p = get_or_read rs p old l.inside is (no_row 0 0 0) in

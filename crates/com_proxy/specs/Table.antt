@@ -1,6 +1,6 @@
 -- What a contract sees of a `Proxies`.
 use Rattle.std.specs.Prelude.{ℕ, ◌≡◌, List}
-use Rattle.com_keyed.specs.Places.{Places}
+use Rattle.com_keyed.specs.Indices.{KeyList}
 use Rattle.com_proxy.specs.declared.ProxyRow.{ProxyRow}
 use Rattle.com_proxy.specs.Rows.{EachFirst, proxies_of, objects_of}
 
@@ -11,7 +11,7 @@ pub record Table : Type 0 where
 
 -- the indices are under the keys of the rows' proxies and under the rows' objects, and there is one row
 -- of each apartment, object and interface
-pub record IsTable (rows : List ProxyRow) (proxies objects : Places) : Type 0 where
+pub record IsTable (rows : List ProxyRow) (proxies objects : KeyList) : Type 0 where
   pub by_proxy : proxies.keys ≡ proxies_of rows
   pub by_object : objects.keys ≡ objects_of rows
   pub first : EachFirst rows

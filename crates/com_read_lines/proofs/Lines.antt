@@ -1,13 +1,11 @@
 -- The loops over a line's words read what the definitions read.
-use Rattle.std.proofs.Common.{◌≡◌, ℕ, ◌+◌, ◌<◌, List, [], ◌∷◌, ◌++◌, length, get_or, drop, Some, Result, Ok, if◌then◌else◌, refl}
+use Rattle.std.proofs.Common.{◌≡◌, ℕ, ◌+◌, ◌<◌, List, [], ◌∷◌, ◌++◌, length, get_or, drop, Some, Ok, if◌then◌else◌, refl}
 use Rattle.std.proofs.lemmas.List.{drop_more}
 use Rattle.com_base.specs.declared.value.Kind.{Kind}
 use Rattle.com_text.specs.Words.{WordAt}
 use Rattle.com_text.specs.declared.word.Sort.TheVariants as sorts
-use Rattle.com_read_operands.specs.declared.faults.Fault.{Fault}
-use Rattle.com_read_operands.specs.declared.faults.ScenarioError.{ScenarioError}
 use Rattle.com_read_operands.specs.declared.faults.ScenarioError.TheVariants as errors
-use Rattle.com_read_operands.specs.Reading.{◌>>=◌, Fails}
+use Rattle.com_read_operands.specs.Reading.{◌>>=◌}
 use Rattle.com_read_lines.specs.Declaring.{listed_item, listed_on, pick_at, picks_on}
 use Rattle.com_read_lines.specs.Methods.{item_at, signature_on}
 
@@ -30,8 +28,3 @@ pub signature_more : (names : List (List ℕ)) (done : List Kind) (line : List W
     → signature_on names done line i (drop i line) ≡ (item_at names (length done) line i >>= λ item.
     (if item.last then Ok (record { params = done; result = Some item.kind }) else signature_on names (done ++ item.kind ∷ []) line (i + 1) (drop (i + 1) line)))
 signature_more names done line i lt = rw (next line i lt).1 refl
-
--- a step that failed
-pub failed : {A B : Type 0} (e : ScenarioError) (r : Result A Fault) (f : A → Result B Fault) → Fails e r → Fails e (r >>= f)
-failed errors.Memory r f h = tt
-failed (errors.Fault n l c) r f h = rw h refl

@@ -13,7 +13,7 @@ use com_base::{ByteList, Guid, ICOUNTER, ILATCH, IRELAY, IUNKNOWN, LISTED_LIMIT,
 use com_body::Native;
 use com_classes::ThreadingModel;
 use com_read_operands::{
-    Fault, ScenarioError, declared, fault, guid, name, number, position_of, stands, word,
+    Fault, ScenarioError, declared_name, fault, guid, name, number, position_of, stands, word,
 };
 use com_text::Word;
 use std::alloc::{AllocError, Global};
@@ -148,7 +148,11 @@ pub fn natives(alloc: Global, native: Native) -> Result<Rows<u16>, AllocError>
 /// The interfaces of a class by their numbers: one name or more from the fifth word on. Where none stands
 /// there it is fault 4, a name that is none of `names` is fault 8, and a name more than 16 is fault 12.
 #[tactic(auto, unfolding(crate::specs::Declaring::listed_at))]
-pub fn listed(alloc: Global, names: &[ByteList], line: &[Word]) -> Result<Rows<u16>, ScenarioError>
+pub fn interface_list(
+    alloc: Global,
+    names: &[ByteList],
+    line: &[Word],
+) -> Result<Rows<u16>, ScenarioError>
     ensures { Gives (λ l. l) result (listed_at names.now line.now) }
 {
     word(line, 4)?;
@@ -166,7 +170,7 @@ fn listed_item(
     ensures { Gives (λ n. n) result (listed_item names.now count line.now index) }
 {
     stands(line, index)?;
-    let number = declared(names, line, index)?;
+    let number = declared_name(names, line, index)?;
     if count >= LISTED_LIMIT {
         return Err(fault(Fault::LIMIT, word(line, index)?));
     }

@@ -15,7 +15,8 @@ mod tables;
 
 pub use code::Code;
 pub use declare::{
-    filter_name, free_guid, free_name, interface_name, listed, model, native, natives, picks,
+    filter_name, free_guid, free_name, interface_list, interface_name, model, native, natives,
+    picks,
 };
 pub use header::{FIRST, earlier, lone, version};
 pub use methods::{Signature, TypeWord, method};

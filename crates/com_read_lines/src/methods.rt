@@ -6,7 +6,7 @@ ghost use Rattle.com_read_lines.specs.Methods.{type_word_of, type_at, item_at, s
 
 use com_base::{ByteList, Kind, PARAMETER_LIMIT, Rows};
 use com_classes::Method;
-use com_read_operands::{Fault, ScenarioError, declared, end, fault, name, stands, word};
+use com_read_operands::{Fault, ScenarioError, declared_name, end, fault, name, stands, word};
 use com_read_statements::method_position;
 use com_text::Word;
 use std::alloc::Global;
@@ -56,7 +56,7 @@ fn kind(interfaces: &[ByteList], line: &[Word], index: usize) -> Result<Kind, Sc
     let word = word(line, index)?;
     match type_word_of(word.bytes) {
         Some(kind) => Ok(kind),
-        None => Ok(Kind::Ref(declared(interfaces, line, index)?)),
+        None => Ok(Kind::Ref(declared_name(interfaces, line, index)?)),
     }
 }
 

@@ -102,7 +102,7 @@ fn answer(line: &[Word], index: usize) -> Result<i64, ScenarioError>
 
 /// The answer to a waiting caller: `cancel` 0, `wait` 1, `discard` 2.
 #[tactic(auto, unfolding(crate::specs::Rules::kept_at))]
-fn kept(line: &[Word], index: usize) -> Result<u8, ScenarioError>
+fn pending_answer(line: &[Word], index: usize) -> Result<u8, ScenarioError>
     ensures { Gives (λ n. n) result (kept_at line.now index) }
 {
     let word = word(line, index)?;
@@ -149,7 +149,7 @@ pub fn rule(keyword: RuleWord, line: &[Word]) -> Result<Rule, ScenarioError>
         }
         RuleWord::Pending => {
             let ms = number(line, 1, 0, 2147483647)? as u32;
-            let answer = kept(line, 2)?;
+            let answer = pending_answer(line, 2)?;
             end(line, 3)?;
             Ok(Rule::Pending { ms, answer })
         }

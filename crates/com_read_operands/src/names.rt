@@ -82,7 +82,7 @@ pub fn name<'l, 'a>(line: &'l [Word<'a>], index: usize) -> Result<&'l Word<'a>, 
 /// A name that was declared above, as its index: fault 3 for a word that is no name, 8 for a name
 /// that was not declared.
 #[tactic(auto, unfolding(crate::specs::Naming::declared_at))]
-pub fn declared(names: &[ByteList], line: &[Word], index: usize) -> Result<u16, ScenarioError>
+pub fn declared_name(names: &[ByteList], line: &[Word], index: usize) -> Result<u16, ScenarioError>
     ensures value { Gives (λ n. n) result (declared_at names.now line.now index) }
     ensures within { IfOk result (λ n. n < length names.now) }
 {
@@ -96,7 +96,7 @@ pub fn declared(names: &[ByteList], line: &[Word], index: usize) -> Result<u16, 
 /// A class or interface as it is asked for: a declared name, as its index counted from `first`, or
 /// a GUID. A word that begins with `{` and is no GUID is fault 7.
 #[tactic(auto, unfolding(crate::specs::Naming::asked_at))]
-pub fn asked(
+pub fn asked_name(
     names: &[ByteList],
     first: u32,
     line: &[Word],
@@ -112,6 +112,6 @@ pub fn asked(
             None => Err(fault(Fault::GUID, found)),
         };
     }
-    let number = declared(names, line, index)?;
+    let number = declared_name(names, line, index)?;
     Ok(Asked::Number(u32::from(number) + first))
 }

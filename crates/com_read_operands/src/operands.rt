@@ -64,7 +64,7 @@ fn small_of(bytes: &[u8]) -> Option<u8>
 
 /// A register, slot, cell, link or buffer by its letter and number.
 #[tactic(auto, unfolding(crate::specs::Operands::lettered))]
-fn lettered(letter: u8, number: Option<u8>) -> Operand
+fn operand_by(letter: u8, number: Option<u8>) -> Operand
     ensures value { result ≡ lettered letter number }
     ensures range { IsOperand result }
 {
@@ -126,7 +126,7 @@ fn plain_of(bytes: &[u8]) -> Operand
             if first.is_ascii_digit() {
                 numeric_of(bytes)
             } else {
-                lettered(*first, small_of(rest))
+                operand_by(*first, small_of(rest))
             }
         }
     }
@@ -376,7 +376,7 @@ pub fn code(line: &[Word], index: usize) -> Result<Code, ScenarioError>
 
 /// The result of `leave`: none, a register, a literal or a slot, with the faults of `literal`.
 #[tactic(auto, unfolding(crate::specs::Operands::given_at))]
-pub fn given(alloc: Global, line: &[Word], index: usize) -> Result<Given, ScenarioError>
+pub fn leave_result(alloc: Global, line: &[Word], index: usize) -> Result<Given, ScenarioError>
     ensures value { Gives (λ g. g) result (given_at line.now index) }
     ensures range { IfOk result IsGiven }
 {

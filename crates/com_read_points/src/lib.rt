@@ -13,7 +13,7 @@ use com_model::Scenario;
 use com_read_operands::Fault;
 pub use com_read_operands::ScenarioError;
 use com_scenario::parse;
-use com_source_text::{placed, written};
+use com_source_text::{place_fault, write_out};
 use std::alloc::Global;
 
 /// The scenario that a text spells, or its first fault by position, and of two at one position the one
@@ -33,7 +33,7 @@ pub fn read_points(alloc: Global, text: &[u8]) -> Result<Scenario, ScenarioError
     ensures value { Gives (λ s. s) result (reading_points text.now) }
     ensures formed { IfOk result (λ s. Formed s) }
 {
-    let written = written(alloc, text)?;
+    let written = write_out(alloc, text)?;
     match parse(alloc, written.as_slice()) {
         Ok(scenario) => Ok(scenario),
         Err(ScenarioError::Memory) => Err(ScenarioError::Memory),
@@ -58,7 +58,7 @@ fn in_text(
     ensures { IfOk result (λ e. e ≡ error_of (placed_in text.now
         (record { number = number; line = line; column = column }))) }
 {
-    let fault = placed(
+    let fault = place_fault(
         alloc,
         text,
         Fault {

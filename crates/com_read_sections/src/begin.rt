@@ -13,7 +13,8 @@ use com_base::{
 use com_body::Native;
 use com_classes::{Class, Interface};
 use com_read_lines::{
-    Code, filter_name, free_guid, free_name, interface_name, listed, model, native, natives, picks,
+    Code, filter_name, free_guid, free_name, interface_list, interface_name, model, native,
+    natives, picks,
 };
 use com_read_operands::{Fault, ScenarioError, end, fault, first, number};
 use com_text::Word;
@@ -129,7 +130,7 @@ fn class_line(
     let name = free_name(st.names.classes.as_slice(), line, 1)?;
     let clsid = free_guid(st.clsids.as_slice(), line, 2)?;
     let model = model(line, 3)?;
-    let interfaces = listed(alloc, st.names.interfaces.as_slice(), line)?;
+    let interfaces = interface_list(alloc, st.names.interfaces.as_slice(), line)?;
     let class = Class {
         name: declare(alloc, &mut st.names.classes, &mut st.clsids, name, clsid)?,
         clsid,

@@ -13,5 +13,5 @@ pub use begin::SectionWord;
 pub use com_base::Memory;
 pub use com_read_lines::{Code, RuleWord, Signature, TypeWord};
 pub use open::step;
-pub use outline::{Outline, begun, finish, outline_of};
+pub use outline::{Outline, finish, outline_of, start};
 pub use state::{Section, State};

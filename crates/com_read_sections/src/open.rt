@@ -106,7 +106,7 @@ fn body_ended(
 ) -> Result<(), ScenarioError>
     ensures { Gives (λ u. st.new) result (body_ended st.old class head code line.now) }
 {
-    let body = code.checked(BODY_LIMIT as u32)?;
+    let body = code.check(BODY_LIMIT as u32)?;
     end(line, 1)?;
     class.bodies.push(MethodBody {
         iface: head.iface,
@@ -121,7 +121,7 @@ fn body_ended(
 fn thread_ended(st: &mut State, code: Code, line: &[Word]) -> Result<(), ScenarioError>
     ensures { Gives (λ u. st.new) result (thread_ended st.old code line.now) }
 {
-    let body = code.checked(SCRIPT_LIMIT as u32)?;
+    let body = code.check(SCRIPT_LIMIT as u32)?;
     end(line, 1)?;
     st.threads.push(body)?;
     st.section = Section::Top;
@@ -170,7 +170,7 @@ fn turns(alloc: Global, st: &mut State, line: &[Word]) -> Result<(), ScenarioErr
 
 /// A line with words.
 #[tactic(auto, unfolding(crate::specs::Going::lined))]
-fn lined(alloc: Global, st: &mut State, line: &[Word]) -> Result<(), ScenarioError>
+fn take_line(alloc: Global, st: &mut State, line: &[Word]) -> Result<(), ScenarioError>
     ensures { Gives (λ u. st.new) result (lined st.old line.now) }
 {
     if goes_on(alloc, &st.names, &mut st.section, line)? {
@@ -188,5 +188,5 @@ pub fn step(alloc: Global, st: &mut State, line: &[Word]) -> Result<(), Scenario
     if line.is_empty() {
         return Ok(());
     }
-    lined(alloc, st, line)
+    take_line(alloc, st, line)
 }

@@ -48,10 +48,10 @@ pub fn finish(mut st: State, line: u32, column: u32) -> Result<Outline, Scenario
 {
     match mem::replace(&mut st.section, Section::Top) {
         Section::Header { .. } => Err(FIRST.error()),
-        Section::Top => Ok(outlined(st)),
+        Section::Top => Ok(outline_outside(st)),
         Section::Interface { interface } => {
             close_interface(&mut st, interface)?;
-            Ok(outlined(st))
+            Ok(outline_outside(st))
         }
         _ => Err(ScenarioError::Fault {
             number: Fault::UNENDED,
@@ -62,7 +62,7 @@ pub fn finish(mut st: State, line: u32, column: u32) -> Result<Outline, Scenario
 }
 
 /// What was read, outside of sections.
-fn outlined(st: State) -> Outline
+fn outline_outside(st: State) -> Outline
     ensures { result ≡ outlined st }
 {
     let State {
@@ -129,7 +129,7 @@ fn taken_iids(alloc: Global, tables: &[Interface]) -> Result<Rows<Guid>, AllocEr
 }
 
 /// What was read above the first line: the interfaces that are declared from the start.
-pub fn begun(alloc: Global, built_in: Rows<Interface>) -> Result<State, AllocError>
+pub fn start(alloc: Global, built_in: Rows<Interface>) -> Result<State, AllocError>
     ensures { IfOk result (λ st. st ≡ begun built_in) }
 {
     let interfaces = names_of(alloc, built_in.as_slice())?;
@@ -166,7 +166,7 @@ pub fn outline_of(
     if text.len() >= TEXT_LIMIT {
         return Err(ScenarioError::Memory);
     }
-    let mut st = begun(alloc, built_in)?;
+    let mut st = start(alloc, built_in)?;
     let mut words = Vec::new(alloc);
     let mut line = 1;
     let mut at = 0;

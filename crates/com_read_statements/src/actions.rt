@@ -11,8 +11,8 @@ use crate::names::Names;
 use com_base::{ByteList, RAW_LIMIT};
 use com_body::Stmt;
 use com_read_operands::{
-    Fault, ScenarioError, are_pairs, asked, buffer, end, fault, marshal_mode, place, slot, unhex,
-    word,
+    Fault, ScenarioError, are_pairs, asked_name, buffer, end, fault, marshal_mode, place, slot,
+    unhex, word,
 };
 use com_text::Word;
 use std::alloc::Global;
@@ -51,15 +51,15 @@ pub(crate) fn object(
     match keyword {
         ObjectWord::Create => {
             let slot = slot(line, 1)?;
-            let class = asked(names.classes.as_slice(), 1, line, 2)?;
-            let iface = asked(names.interfaces.as_slice(), 0, line, 3)?;
+            let class = asked_name(names.classes.as_slice(), 1, line, 2)?;
+            let iface = asked_name(names.interfaces.as_slice(), 0, line, 3)?;
             end(line, 4)?;
             Ok(Stmt::Create { slot, class, iface })
         }
         ObjectWord::Query => {
             let to = slot(line, 1)?;
             let from = slot(line, 2)?;
-            let iface = asked(names.interfaces.as_slice(), 0, line, 3)?;
+            let iface = asked_name(names.interfaces.as_slice(), 0, line, 3)?;
             end(line, 4)?;
             Ok(Stmt::Query { to, from, iface })
         }

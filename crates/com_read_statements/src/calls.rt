@@ -76,14 +76,14 @@ pub fn target_at(names: &Names, line: &[Word], index: usize) -> Result<Target, S
         return Err(fault(Fault::UNEXPECTED, word));
     }
     if let [b'#', digits @ ..] = back {
-        return numbered(names, word, front, digits);
+        return method_by_number(names, word, front, digits);
     }
-    Ok(Target::Named(named(names, word, front, back)?))
+    Ok(Target::Named(method_by_name(names, word, front, back)?))
 }
 
 /// A method by its name.
 #[tactic(auto, unfolding(crate::specs::Calls::named_of))]
-fn named(
+fn method_by_name(
     names: &Names,
     word: &Word,
     front: &[u8],
@@ -117,12 +117,12 @@ pub fn method_at(names: &Names, line: &[Word], index: usize) -> Result<MethodNum
     if !is_name(front) {
         return Err(fault(Fault::UNEXPECTED, word));
     }
-    named(names, word, front, &word.bytes[dot + 1..])
+    method_by_name(names, word, front, &word.bytes[dot + 1..])
 }
 
 /// A method by its number.
 #[tactic(auto, unfolding(crate::specs::Calls::numbered_of))]
-fn numbered(
+fn method_by_number(
     names: &Names,
     word: &Word,
     front: &[u8],

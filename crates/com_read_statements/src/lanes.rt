@@ -10,7 +10,7 @@ use crate::names::Names;
 use com_base::ByteList;
 use com_body::Stmt;
 use com_read_operands::{
-    ScenarioError, code, declared, end, given, mode, name, number, op, register, slot,
+    ScenarioError, code, declared_name, end, leave_result, mode, name, number, op, register, slot,
 };
 use com_text::Word;
 use std::alloc::Global;
@@ -24,7 +24,7 @@ fn filter(filters: &[ByteList], line: &[Word], index: usize) -> Result<Option<u3
     if word.bytes == b"none".as_slice() {
         return Ok(None);
     }
-    let number = declared(filters, line, index)?;
+    let number = declared_name(filters, line, index)?;
     Ok(Some(u32::from(number) + 1))
 }
 
@@ -70,7 +70,7 @@ pub(crate) fn lane(
         }
         LaneWord::Leave => {
             let answer = code(line, 1)?;
-            let given = given(alloc, line, 2)?;
+            let given = leave_result(alloc, line, 2)?;
             end(line, 3)?;
             Ok(Stmt::Leave { answer, given })
         }

@@ -13,7 +13,7 @@ use Rattle.com_proxy.specs.Rows.{is_for, public_of, public_any, public_sum}
 use Rattle.com_slots.specs.Table.{held_in}
 use Rattle.com_stub.specs.declared.counters.CounterRow.{CounterRow}
 use Rattle.com_stub.specs.CounterRows as counters
-use Rattle.com_stub.proofs.CounterLemmas.{place_has, place_row, counter_keys}
+use Rattle.com_stub.proofs.CounterLemmas.{index_in_range, row_at_index, counter_keys}
 use Rattle.com_books.specs.Counting.{sum_below}
 use Rattle.com_books.proofs.Sums.{sum-same, sum-changed, sum-nothing}
 use Rattle.com_books.specs.Changes.{packet_holds_of, cookie_holds_of}
@@ -184,8 +184,8 @@ first-tail c cs f p h =
 
 first-alone : (c : CounterRow) (cs : List CounterRow) (o i : ℕ) → counters.EachFirst (c ∷ cs) → counters.is_for o i c ≡ true → counters.has_counter cs o i ≡ false
 first-alone c cs o i f y = false_from_ne_true _ (λ e.
-    let inside : counters.index_of cs o i < length cs = place_has cs o i e in
-    let at : counters.row_at cs (counters.index_of cs o i) ≡ counters.counter_of cs o i = place_row cs o i (counters.no_counter 0 0) inside in
+    let inside : counters.index_of cs o i < length cs = index_in_range cs o i e in
+    let at : counters.row_at cs (counters.index_of cs o i) ≡ counters.counter_of cs o i = row_at_index cs o i (counters.no_counter 0 0) inside in
     let keys = counter_keys cs o i in
     let later : counters.index_of (c ∷ cs) (counters.row_at cs (counters.index_of cs o i)).object (counters.row_at cs (counters.index_of cs o i)).iface ≡ suc (counters.index_of cs o i) = f (suc (counters.index_of cs o i)) (omega (arith, inside)) in
     let here : counters.index_of (c ∷ cs) o i ≡ suc (counters.index_of cs o i) = rw (at, keys.0, keys.1) at later in

@@ -22,8 +22,7 @@ ghost use Rattle.com_holders.specs.Places.{Counts, OneMore, OneLess, SamePlaces,
 ghost use Rattle.com_books.specs.Counting.{count_if, sum_below};
 ghost use Rattle.com_holders.specs.Stands.{Tells};
 ghost use Rattle.com_books.specs.Changes.{Books, changed, change, cut, packet, cookie, is_weak, Makes, Takes};
-ghost use Rattle.com_books.specs.Changes.{Asks, Marshals, Unmarshals, Drops, Registers, Revokes, ToCookie};
-ghost use Rattle.com_books.specs.Changes.{Return, Withdraw};
+ghost use Rattle.com_books.specs.Changes.{Asks, Marshals, Unmarshals, Drops, Revokes, ToCookie};
 ghost use Rattle.com_refs.specs.Counts.{hold_of, hold_less, hold_more, holders_of, unheld};
 ghost use Rattle.com_refs.specs.Found.{IsFound, fields_by, shown_packet};
 ghost use Rattle.com_refs.specs.Numbers.{in_normal, in_table, in_cookie, Within};
@@ -145,7 +144,7 @@ fn settle(holders: &mut Holders, held: u64, object: u32) -> bool
         return false;
     }
     if held > 0 {
-        return !holders.connected(object);
+        return !holders.is_connected(object);
     }
     holders.disconnect(object);
     true
@@ -243,7 +242,7 @@ fn cookie_row(held: RefValue, connected: bool) -> Cookie
 }
 
 // What is written of a packet with this number, whose object has this owner.
-fn written(row: PacketRow, owner: u32, number: u32, iid: Guid) -> StdFields
+fn packet_fields(row: PacketRow, owner: u32, number: u32, iid: Guid) -> StdFields
     ensures { result ≡ fields_by owner iid row number }
 {
     let packet = Packet {
@@ -262,7 +261,9 @@ fn is_named(row: PacketRow, owner: u32, number: u32, fields: &StdFields, iface: 
     ensures { IsTrue result ↔ ((row.outstanding ≡ true) × ((row.iface ≡ iface)
         × (fields_by owner fields.now.iid row number ≡ fields.now))) }
 {
-    row.outstanding && row.iface == iface && written(row, owner, number, fields.iid) == *fields
+    row.outstanding
+        && row.iface == iface
+        && packet_fields(row, owner, number, fields.iid) == *fields
 }
 
 const NO_PACKET: PacketRow = PacketRow {
@@ -826,17 +827,17 @@ impl Refs {
     }
 
     /// How many references were given so far.
-    pub fn issued(&self) -> u32
+    pub fn issued_count(&self) -> u32
         ensures { result ≡ self.now.issued }
     {
-        self.holders.issued()
+        self.holders.issued_count()
     }
 
     /// The object is connected.
     pub fn connected(&self, object: u32) -> bool
         ensures { result ≡ is_connected self.now.stubs object }
     {
-        self.holders.connected(object)
+        self.holders.is_connected(object)
     }
 
     /// Something holds the object: a direct place, or where it is connected a place elsewhere, a packet or a
@@ -844,7 +845,7 @@ impl Refs {
     pub fn is_held(&self, object: u32) -> bool
         ensures { IsTrue result ↔ (0 < holders_of self.now object) }
     {
-        self.holders.direct(object) > 0 || self.holders.connected(object)
+        self.holders.direct(object) > 0 || self.holders.is_connected(object)
     }
 
     /// The packet of a number, if it is outstanding.
@@ -876,7 +877,7 @@ impl Refs {
         let Some(held) = self.holders.cookie(number) else {
             return NO_COOKIE;
         };
-        cookie_row(held, self.holders.connected(held.object))
+        cookie_row(held, self.holders.is_connected(held.object))
     }
 
     /// The reference of a cookie. `None` exactly where it was never given or was revoked.
@@ -899,7 +900,7 @@ impl Refs {
     pub fn public(&self, apartment: u32, object: u32, iface: u16) -> u64
         ensures { result ≡ (books_of self.now).proxy apartment object iface }
     {
-        if !self.holders.connected(object) {
+        if !self.holders.is_connected(object) {
             return 0;
         }
         self.holders.public(apartment, object, iface)
@@ -939,7 +940,7 @@ impl Refs {
             → result.stub ≡ sum_below m ((books_of self.now).stub object) }
     {
         let direct = self.holders.direct(object);
-        if !self.holders.connected(object) {
+        if !self.holders.is_connected(object) {
             return Numbers {
                 direct,
                 proxies: 0,
@@ -966,9 +967,9 @@ impl Refs {
             → result.stub ≡ sum_below m ((books_of self.now).stub object) }
     {
         self.holders.stands();
-        let proxies = self.holders.proxied(object);
-        let packets = self.holders.packed(object);
-        let stub = self.holders.counted(object);
+        let proxies = self.holders.proxy_references(object);
+        let packets = self.holders.packet_references(object);
+        let stub = self.holders.stub_references(object);
         Numbers {
             direct,
             proxies,

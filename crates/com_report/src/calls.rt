@@ -29,7 +29,7 @@ fn push_filter(text: &mut Text, filter: Option<u32>) -> Result<(), Memory>
 {
     match filter {
         None => text.push(b"none"),
-        Some(number) => text.numbered(b"F", number as u64),
+        Some(number) => text.word_and_number(b"F", number as u64),
     }
 }
 
@@ -68,14 +68,14 @@ pub fn out(
     ensures ok { OnOk result (text.new.text ≡
         deed_line version text.old.text (Deed.Out call object iface method route cause bytes.now)) }
 {
-    text.numbered(b" out c", call as u64)?;
+    text.word_and_number(b" out c", call as u64)?;
     text.push(b" ")?;
-    text.named(b"o", object)?;
-    text.numbered(b" I", iface as u64)?;
-    text.numbered(b".", method as u64)?;
+    text.letter_and_number(b"o", object)?;
+    text.word_and_number(b" I", iface as u64)?;
+    text.word_and_number(b".", method as u64)?;
     text.push(b" ")?;
     push_route(text, route)?;
-    text.numbered(b" cause", cause as u64)?;
+    text.word_and_number(b" cause", cause as u64)?;
     text.push(b" ")?;
     text.bytes(bytes)
 }
@@ -104,8 +104,8 @@ pub fn verdict(
     ensures ok { OnOk result (text.new.text
         ≡ deed_line version text.old.text (Deed.Verdict call call_type verdict)) }
 {
-    text.numbered(b" verdict c", call as u64)?;
-    text.numbered(b" ", call_type as u64)?;
+    text.word_and_number(b" verdict c", call as u64)?;
+    text.word_and_number(b" ", call_type as u64)?;
     text.push(b" ")?;
     push_verdict(text, verdict)
 }
@@ -126,7 +126,7 @@ pub fn refuse(text: &mut Text, version: u8, call: u32, hr: HResult) -> Result<()
     ensures front { text.new.front ≡ text.old.front }
     ensures ok { OnOk result (text.new.text ≡ deed_line version text.old.text (Deed.Refuse call hr)) }
 {
-    text.numbered(b" refuse c", call as u64)?;
+    text.word_and_number(b" refuse c", call as u64)?;
     text.hresult(version, hr)
 }
 
@@ -144,9 +144,9 @@ pub fn enter(
     ensures ok { OnOk result (text.new.text ≡
         deed_line version text.old.text (Deed.Enter call object apartment call_type arguments.now)) }
 {
-    text.numbered(b" enter c", call as u64)?;
-    text.numbered(b" o", object as u64)?;
-    text.numbered(b" a", apartment as u64)?;
+    text.word_and_number(b" enter c", call as u64)?;
+    text.word_and_number(b" o", object as u64)?;
+    text.word_and_number(b" a", apartment as u64)?;
     text.push(b" ")?;
     push_call_type(text, call_type)?;
     text.push(b" (")?;
@@ -177,7 +177,7 @@ pub fn leave(
     ensures ok { OnOk result (text.new.text ≡
         deed_line version text.old.text (Deed.Leave call hr value.now bytes.now)) }
 {
-    text.numbered(b" leave c", call as u64)?;
+    text.word_and_number(b" leave c", call as u64)?;
     text.hresult(version, hr)?;
     text.push(b" (")?;
     one_value(text, value)?;
@@ -190,7 +190,7 @@ pub fn retry(text: &mut Text, version: u8, call: u32, answer: i64) -> Result<(),
     ensures front { text.new.front ≡ text.old.front }
     ensures ok { OnOk result (text.new.text ≡ deed_line version text.old.text (Deed.Retry call answer)) }
 {
-    text.numbered(b" retry c", call as u64)?;
+    text.word_and_number(b" retry c", call as u64)?;
     text.signed_after(b" ", answer)
 }
 
@@ -205,7 +205,7 @@ pub fn back(
     ensures front { text.new.front ≡ text.old.front }
     ensures ok { OnOk result (text.new.text ≡ deed_line version text.old.text (Deed.Back call hr value.now)) }
 {
-    text.numbered(b" back c", call as u64)?;
+    text.word_and_number(b" back c", call as u64)?;
     text.hresult(version, hr)?;
     text.push(b" (")?;
     one_value(text, value)?;
@@ -218,7 +218,7 @@ pub fn pending(text: &mut Text, version: u8, call: u32, word: i64, answer: u8) -
     ensures ok { OnOk result (text.new.text
         ≡ deed_line version text.old.text (Deed.Pending call word answer)) }
 {
-    text.numbered(b" pending c", call as u64)?;
+    text.word_and_number(b" pending c", call as u64)?;
     text.signed_after(b" ", word)?;
-    text.numbered(b" ", answer as u64)
+    text.word_and_number(b" ", answer as u64)
 }

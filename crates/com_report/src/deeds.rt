@@ -21,7 +21,7 @@ pub fn deed(text: &mut Text, version: u8, deed: &Deed) -> Result<(), Memory>
             class,
             iface,
             hr,
-        } => references::made(text, version, *object, *apartment, class, iface, *hr),
+        } => references::create(text, version, *object, *apartment, class, iface, *hr),
         Deed::Query { object, iface, hr } => references::query(text, version, *object, iface, *hr),
         Deed::Copy { held } => references::copy(text, version, *held),
         Deed::Release { held } => references::release(text, version, *held),
@@ -54,7 +54,7 @@ pub fn deed(text: &mut Text, version: u8, deed: &Deed) -> Result<(), Memory>
         Deed::SetFilter { filter, hr } => calls::set_filter(text, version, *filter, *hr),
         Deed::Post { lane, word, hr } => calls::post(text, version, *lane, *word, *hr),
         Deed::Quit { lane, hr } => calls::quit(text, version, *lane, *hr),
-        Deed::Pump { bound } => text.numbered(b" pump ", *bound as u64),
+        Deed::Pump { bound } => text.word_and_number(b" pump ", *bound as u64),
         Deed::EndPump => text.push(b" endpump"),
         Deed::Word { word } => text.signed_after(b" word ", *word),
         Deed::Out {
@@ -90,14 +90,14 @@ pub fn deed(text: &mut Text, version: u8, deed: &Deed) -> Result<(), Memory>
             bytes,
         } => calls::leave(text, version, *call, *hr, value, bytes),
         Deed::Retry { call, answer } => calls::retry(text, version, *call, *answer),
-        Deed::Again { call } => text.numbered(b" again c", *call as u64),
+        Deed::Again { call } => text.word_and_number(b" again c", *call as u64),
         Deed::Back { call, hr, value } => calls::back(text, version, *call, *hr, value),
         Deed::Pending { call, word, answer } => {
             calls::pending(text, version, *call, *word, *answer)
         }
         Deed::Disconnect { object, hr } => references::disconnect(text, version, *object, *hr),
-        Deed::Final { object } => text.numbered(b" final o", *object as u64),
-        Deed::Tick { clock } => text.numbered(b" tick ", *clock),
+        Deed::Final { object } => text.word_and_number(b" final o", *object as u64),
+        Deed::Tick { clock } => text.word_and_number(b" tick ", *clock),
         Deed::End => text.push(b" end"),
     }
 }

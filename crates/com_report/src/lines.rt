@@ -27,7 +27,7 @@ pub fn line(
     let mut text = Text::behind(mem::replace(out, ByteList::new(alloc)));
     match entry_line(&mut text, version, place, entry) {
         Ok(()) => {
-            *out = text.done();
+            *out = text.into_list();
             Ok(())
         }
         Err(error) => {

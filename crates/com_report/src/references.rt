@@ -14,7 +14,7 @@ pub fn init(text: &mut Text, version: u8, mode: Mode, home: u32, hr: HResult) ->
 {
     text.push(b" init ")?;
     push_mode(text, mode)?;
-    text.numbered(b" a", home as u64)?;
+    text.word_and_number(b" a", home as u64)?;
     text.hresult(version, hr)
 }
 
@@ -34,12 +34,12 @@ pub fn uninit(text: &mut Text, version: u8, home: Option<u32>, count: u32) -> Re
     ensures ok { OnOk result (text.new.text ≡ deed_line version text.old.text (Deed.Uninit home count)) }
 {
     text.push(b" uninit ")?;
-    text.named(b"a", home)?;
-    text.numbered(b" ", count as u64)
+    text.letter_and_number(b"a", home)?;
+    text.word_and_number(b" ", count as u64)
 }
 
 /// Appends that an object was made, or why not.
-pub fn made(
+pub fn create(
     text: &mut Text,
     version: u8,
     object: Option<u32>,
@@ -53,13 +53,13 @@ pub fn made(
         deed_line version text.old.text (Deed.Made object apartment class.now iface.now hr)) }
 {
     text.push(b" made ")?;
-    text.named(b"o", object)?;
+    text.letter_and_number(b"o", object)?;
     text.push(b" ")?;
-    text.named(b"a", apartment)?;
+    text.letter_and_number(b"a", apartment)?;
     text.push(b" ")?;
-    text.asked(b"C", class)?;
+    text.class_or_interface(b"C", class)?;
     text.push(b" ")?;
-    text.asked(b"I", iface)?;
+    text.class_or_interface(b"I", iface)?;
     text.hresult(version, hr)
 }
 
@@ -76,9 +76,9 @@ pub fn query(
         ≡ deed_line version text.old.text (Deed.Query object iface.now hr)) }
 {
     text.push(b" query ")?;
-    text.named(b"o", object)?;
+    text.letter_and_number(b"o", object)?;
     text.push(b" ")?;
-    text.asked(b"I", iface)?;
+    text.class_or_interface(b"I", iface)?;
     text.hresult(version, hr)
 }
 
@@ -88,7 +88,7 @@ pub fn copy(text: &mut Text, version: u8, held: Option<RefValue>) -> Result<(), 
     ensures ok { OnOk result (text.new.text ≡ deed_line version text.old.text (Deed.Copy held)) }
 {
     text.push(b" copy ")?;
-    text.held(held)?;
+    text.reference(held)?;
     text.hresult(version, HResult::S_OK)
 }
 
@@ -98,7 +98,7 @@ pub fn release(text: &mut Text, version: u8, held: Option<RefValue>) -> Result<(
     ensures ok { OnOk result (text.new.text ≡ deed_line version text.old.text (Deed.Release held)) }
 {
     text.push(b" release ")?;
-    text.held(held)
+    text.reference(held)
 }
 
 /// Appends how a reference was marshalled.
@@ -117,12 +117,12 @@ pub fn marshal(
         deed_line version text.old.text (Deed.Marshal packet mode held refs hr bytes.now)) }
 {
     text.push(b" marshal ")?;
-    text.named(b"pk", packet)?;
+    text.letter_and_number(b"pk", packet)?;
     text.push(b" ")?;
     push_marshal_mode(text, mode)?;
     text.push(b" ")?;
-    text.held(held)?;
-    text.numbered(b" ", refs as u64)?;
+    text.reference(held)?;
+    text.word_and_number(b" ", refs as u64)?;
     text.hresult(version, hr)?;
     text.push(b" ")?;
     text.bytes(bytes)
@@ -153,10 +153,10 @@ pub fn unmarshal(
         deed_line version text.old.text (Deed.Unmarshal packet held refs hr)) }
 {
     text.push(b" unmarshal ")?;
-    text.named(b"pk", packet)?;
+    text.letter_and_number(b"pk", packet)?;
     text.push(b" ")?;
-    text.held(held)?;
-    text.numbered(b" ", refs as u64)?;
+    text.reference(held)?;
+    text.word_and_number(b" ", refs as u64)?;
     text.hresult(version, hr)
 }
 
@@ -171,7 +171,7 @@ pub fn drop_packet(
     ensures ok { OnOk result (text.new.text ≡ deed_line version text.old.text (Deed.DropPacket packet hr)) }
 {
     text.push(b" drop ")?;
-    text.named(b"pk", packet)?;
+    text.letter_and_number(b"pk", packet)?;
     text.hresult(version, hr)
 }
 
@@ -180,8 +180,8 @@ pub fn raw(text: &mut Text, version: u8, buffer: u8, length: u32) -> Result<(), 
     ensures front { text.new.front ≡ text.old.front }
     ensures ok { OnOk result (text.new.text ≡ deed_line version text.old.text (Deed.Raw buffer length)) }
 {
-    text.numbered(b" raw p", buffer as u64)?;
-    text.numbered(b" ", length as u64)
+    text.word_and_number(b" raw p", buffer as u64)?;
+    text.word_and_number(b" ", length as u64)
 }
 
 /// Appends under which cookie a reference was registered.
@@ -197,9 +197,9 @@ pub fn register(
         ≡ deed_line version text.old.text (Deed.Register cookie held hr)) }
 {
     text.push(b" register ")?;
-    text.named(b"g", cookie)?;
+    text.letter_and_number(b"g", cookie)?;
     text.push(b" ")?;
-    text.held(held)?;
+    text.reference(held)?;
     text.hresult(version, hr)
 }
 
@@ -218,8 +218,8 @@ pub fn get(
 {
     text.signed_after(b" get ", cookie)?;
     text.push(b" ")?;
-    text.held(held)?;
-    text.numbered(b" ", refs as u64)?;
+    text.reference(held)?;
+    text.word_and_number(b" ", refs as u64)?;
     text.hresult(version, hr)
 }
 
@@ -243,6 +243,6 @@ pub fn disconnect(
     ensures ok { OnOk result (text.new.text ≡ deed_line version text.old.text (Deed.Disconnect object hr)) }
 {
     text.push(b" disconnect ")?;
-    text.named(b"o", object)?;
+    text.letter_and_number(b"o", object)?;
     text.hresult(version, hr)
 }

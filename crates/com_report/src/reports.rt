@@ -26,7 +26,7 @@ pub fn report(
     let mut text = Text::behind(mem::replace(out, ByteList::new(alloc)));
     match whole_report(&mut text, counts, entries, clock, ended) {
         Ok(()) => {
-            *out = text.done();
+            *out = text.into_list();
             Ok(())
         }
         Err(error) => {
@@ -49,8 +49,8 @@ fn whole_report(
     ensures ok { OnOk result (text.new.text ≡ report_text counts.now entries clock ended) }
 {
     objects(text, counts)?;
-    text.numbered(b"entries ", entries)?;
-    text.numbered(b" clock ", clock)?;
+    text.word_and_number(b"entries ", entries)?;
+    text.word_and_number(b" clock ", clock)?;
     text.push(b"\nend ")?;
     push_ended(text, ended)?;
     text.push(b"\n")
@@ -77,16 +77,16 @@ fn object(text: &mut Text, number: u64, counts: &Counts) -> Result<(), Memory>
     ensures front { text.new.front ≡ text.old.front }
     ensures ok { OnOk result (text.new.text ≡ text.old.text ++ object_line number counts.now) }
 {
-    text.numbered(b"o", number)?;
-    text.numbered(b" C", counts.class as u64)?;
-    text.numbered(b" a", counts.owner as u64)?;
+    text.word_and_number(b"o", number)?;
+    text.word_and_number(b" C", counts.class as u64)?;
+    text.word_and_number(b" a", counts.owner as u64)?;
     text.push(b" ")?;
     push_state(text, counts.state)?;
-    text.numbered(b" direct ", counts.direct)?;
-    text.numbered(b" proxies ", counts.proxies)?;
-    text.numbered(b" packets ", counts.packets)?;
-    text.numbered(b" tables ", counts.tables)?;
-    text.numbered(b" stub ", counts.stub)?;
+    text.word_and_number(b" direct ", counts.direct)?;
+    text.word_and_number(b" proxies ", counts.proxies)?;
+    text.word_and_number(b" packets ", counts.packets)?;
+    text.word_and_number(b" tables ", counts.tables)?;
+    text.word_and_number(b" stub ", counts.stub)?;
     text.push(b"\n")
 }
 

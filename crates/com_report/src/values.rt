@@ -52,7 +52,7 @@ fn value(text: &mut Text, value: &Value) -> Result<(), Memory>
     ensures ok { OnOk result (text.new.text ≡ text.old.text ++ value_text value.now) }
 {
     match value {
-        Value::Int(number) => text.signed(*number),
+        Value::Int(number) => text.signed_number(*number),
         Value::Bool(true) => text.push(b"true"),
         Value::Bool(false) => text.push(b"false"),
         Value::Text(words) => {
@@ -68,8 +68,8 @@ fn value(text: &mut Text, value: &Value) -> Result<(), Memory>
         Value::Guid(guid) => text.push(&guid.text()),
         Value::Ref(None) => text.push(b"null"),
         Value::Ref(Some(held)) => {
-            text.numbered(b"o", held.object as u64)?;
-            text.numbered(b":I", held.iface as u64)
+            text.word_and_number(b"o", held.object as u64)?;
+            text.word_and_number(b":I", held.iface as u64)
         }
     }
 }

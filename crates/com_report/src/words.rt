@@ -1,5 +1,5 @@
 //! What a line is written with: the text that grows, and the words that stand in many lines.
-ghost use Rattle.std.specs.Prelude.{◌≡◌, ◌++◌, ◌+◌, ℕ, [], ◌∷◌, ◌<◌, ◌≤◌, ◌/◌, ◌%◌, OnOk, decimal, codes};
+ghost use Rattle.std.specs.Prelude.{◌≡◌, ◌++◌, ◌+◌, [], ◌∷◌, ◌<◌, ◌≤◌, ◌/◌, ◌%◌, OnOk, decimal, codes};
 ghost use Rattle.std.specs.Prelude.{length, drop};
 ghost use Rattle.std.specs.Fmt.{signed_decimal};
 ghost use Rattle.hex.specs.Hex.{encode_lower};
@@ -41,7 +41,7 @@ impl Text {
     }
 
     /// The bytes before the text, and the text.
-    pub fn done(self) -> ByteList
+    pub fn into_list(self) -> ByteList
         ensures { result ≡ self.front ++ self.text }
     {
         let Text { bytes, start: _ } = self;
@@ -75,7 +75,7 @@ impl Text {
     }
 
     /// Appends a signed number in decimal digits.
-    pub fn signed(&mut self, number: i64) -> Result<(), Memory>
+    pub fn signed_number(&mut self, number: i64) -> Result<(), Memory>
         ensures front { self.new.front ≡ self.old.front }
         ensures ok { OnOk result (self.new.text ≡ self.old.text ++ signed_decimal number) }
     {
@@ -98,7 +98,7 @@ impl Text {
     }
 
     /// Appends a word and a number in decimal digits.
-    pub fn numbered(&mut self, word: &[u8], number: u64) -> Result<(), Memory>
+    pub fn word_and_number(&mut self, word: &[u8], number: u64) -> Result<(), Memory>
         ensures front { self.new.front ≡ self.old.front }
         ensures ok { OnOk result (self.new.text ≡ self.old.text ++ word.now ++ decimal number) }
     {
@@ -112,7 +112,7 @@ impl Text {
         ensures ok { OnOk result (self.new.text ≡ self.old.text ++ word.now ++ signed_decimal number) }
     {
         self.push(word)?;
-        self.signed(number)
+        self.signed_number(number)
     }
 
     /// Appends bytes in lower-case hexadecimal digits.
@@ -161,38 +161,38 @@ impl Text {
     }
 
     /// Appends a number behind its letter, or a dash where there is none.
-    pub fn named(&mut self, letter: &[u8], number: Option<u32>) -> Result<(), Memory>
+    pub fn letter_and_number(&mut self, letter: &[u8], number: Option<u32>) -> Result<(), Memory>
         ensures front { self.new.front ≡ self.old.front }
         ensures ok { OnOk result (self.new.text ≡ self.old.text ++ named letter.now number) }
     {
         match number {
             None => self.push(b"-"),
-            Some(number) => self.numbered(letter, number as u64),
+            Some(number) => self.word_and_number(letter, number as u64),
         }
     }
 
     /// Appends an object and an interface, or two dashes for null.
-    pub fn held(&mut self, held: Option<RefValue>) -> Result<(), Memory>
+    pub fn reference(&mut self, held: Option<RefValue>) -> Result<(), Memory>
         ensures front { self.new.front ≡ self.old.front }
         ensures ok { OnOk result (self.new.text ≡ self.old.text ++ held_text held) }
     {
         match held {
             None => self.push(b"- -"),
             Some(held) => {
-                self.numbered(b"o", held.object as u64)?;
-                self.numbered(b" I", held.iface as u64)
+                self.word_and_number(b"o", held.object as u64)?;
+                self.word_and_number(b" I", held.iface as u64)
             }
         }
     }
 
     /// Appends a class or an interface: its number behind its letter, or the GUID of one that is not
     /// declared.
-    pub fn asked(&mut self, letter: &[u8], asked: &Asked) -> Result<(), Memory>
+    pub fn class_or_interface(&mut self, letter: &[u8], asked: &Asked) -> Result<(), Memory>
         ensures front { self.new.front ≡ self.old.front }
         ensures ok { OnOk result (self.new.text ≡ self.old.text ++ asked_text letter.now asked.now) }
     {
         match asked {
-            Asked::Number(number) => self.numbered(letter, *number as u64),
+            Asked::Number(number) => self.word_and_number(letter, *number as u64),
             Asked::Guid(guid) => self.push(&guid.text()),
         }
     }

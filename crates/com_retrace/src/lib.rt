@@ -66,7 +66,7 @@ pub fn make_next<C: Runtime>(
 }
 
 /// A value in a box. The only error is want of memory.
-pub fn boxed<T: Drop>(alloc: Global, value: T) -> Result<Box<T>, Memory>
+pub fn box_of<T: Drop>(alloc: Global, value: T) -> Result<Box<T>, Memory>
     ensures { IfOk result (λ boxed. boxed.value ≡ value) }
 {
     Ok(Box::new(alloc, value)?)
@@ -116,10 +116,10 @@ macro_rules! fresh_row {
     ($alloc:expr) => {
         $crate::row_of(
             $alloc,
-            $crate::boxed($alloc, $crate::Interpreter::new())?,
-            $crate::boxed($alloc, $crate::Counter::new())?,
-            $crate::boxed($alloc, $crate::Relay::new())?,
-            $crate::boxed($alloc, $crate::Latch::new())?,
+            $crate::box_of($alloc, $crate::Interpreter::new())?,
+            $crate::box_of($alloc, $crate::Counter::new())?,
+            $crate::box_of($alloc, $crate::Relay::new())?,
+            $crate::box_of($alloc, $crate::Latch::new())?,
         )?
     };
 }

@@ -138,7 +138,7 @@ fn a_first_write_that_fails_leaves_nothing_written(rt: HostRuntime) -> Result<()
 }
 
 /// What `replay` answers for a text, and what it writes.
-fn replayed<R: Threads + Wait + Sync>(
+fn replay_text<R: Threads + Wait + Sync>(
     rt: &R,
     alloc: Global,
     text: ByteList,
@@ -150,7 +150,7 @@ fn replayed<R: Threads + Wait + Sync>(
 }
 
 /// A text of this length: a front, and then spaces.
-fn padded(alloc: Global, front: &[u8], length: usize) -> Result<ByteList, Fail> {
+fn pad(alloc: Global, front: &[u8], length: usize) -> Result<ByteList, Fail> {
     let mut text = ByteList::from_slice(alloc, front)?;
     for _ in front.len()..length {
         text.push_all(b" ")?;
@@ -204,7 +204,11 @@ fn a_text_that_is_no_scenario_is_refused_at_its_first_fault(rt: HostRuntime) -> 
         ),
     ];
     for (text, line) in cases {
-        let (status, written) = replayed(&rt, rt.alloc(), ByteList::from_slice(rt.alloc(), text)?)?;
+        let (status, written) = replay_text(
+            &rt,
+            rt.alloc(),
+            ByteList::from_slice(rt.alloc(), text)?,
+        )?;
         assert_eq!(rt; status, 2);
         assert_eq!(rt; written.as_slice(), line);
     }
@@ -231,7 +235,11 @@ fn other_scenarios_end_as_their_reports_say(rt: HostRuntime) -> Result<(), Fail>
         ),
     ];
     for (text, wanted, lines) in cases {
-        let (status, written) = replayed(&rt, rt.alloc(), ByteList::from_slice(rt.alloc(), text)?)?;
+        let (status, written) = replay_text(
+            &rt,
+            rt.alloc(),
+            ByteList::from_slice(rt.alloc(), text)?,
+        )?;
         assert_eq!(rt; status, wanted);
         assert_eq!(rt; written.as_slice(), lines);
     }
@@ -246,7 +254,11 @@ fn a_scenario_without_threads_ends_at_once(rt: HostRuntime) -> Result<(), Fail> 
         b"scenario 1\npool 3\nfilter F\nend\npicks 1 2\n".as_slice(),
     ];
     for text in cases {
-        let (status, written) = replayed(&rt, rt.alloc(), ByteList::from_slice(rt.alloc(), text)?)?;
+        let (status, written) = replay_text(
+            &rt,
+            rt.alloc(),
+            ByteList::from_slice(rt.alloc(), text)?,
+        )?;
         assert_eq!(rt; status, 0);
         assert_eq!(rt;
             written.as_slice(),
@@ -271,7 +283,7 @@ fn spelling_and_unused_sections_change_nothing(rt: HostRuntime) -> Result<(), Fa
           \x20release s0\n\
           end\n\
           pool 2";
-    let (status, written) = replayed(&rt, rt.alloc(), ByteList::from_slice(rt.alloc(), text)?)?;
+    let (status, written) = replay_text(&rt, rt.alloc(), ByteList::from_slice(rt.alloc(), text)?)?;
     assert_eq!(rt; status, 0);
     assert_eq!(rt; written.as_slice(), DIRECT_CALL_TEXT);
     Ok(())
@@ -287,7 +299,7 @@ fn the_longest_text_depends_on_the_version(rt: HostRuntime) -> Result<(), Fail> 
         (b"\x01\n".as_slice(), 1_048_577, 2),
     ];
     for (front, length, wanted) in cases {
-        let (status, written) = replayed(&rt, rt.alloc(), padded(rt.alloc(), front, length)?)?;
+        let (status, written) = replay_text(&rt, rt.alloc(), pad(rt.alloc(), front, length)?)?;
         assert_eq!(rt; status, wanted);
         if wanted == 2 {
             assert_eq!(rt; written.as_slice(), b"refused 0 0 12\n".as_slice());

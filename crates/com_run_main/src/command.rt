@@ -13,10 +13,10 @@ ghost use Rattle.com_scenario.specs.Sizes.{is_too_long};
 ghost use Rattle.com_servant.specs.Rows.{row};
 
 use crate::threaded::run;
-use crate::written::written;
+use crate::written::write_history;
 use com_base::{ByteList, Memory, TEXT_2_LIMIT};
 use com_commands::{
-    Input, InputReader, Reply, Status, first_fault, read_as, receive, say, shared, status_at,
+    Input, InputReader, Reply, Status, first_fault, read_as, receive, say, share, status_at,
 };
 use com_io::{Sink, Source};
 use com_model::Scenario;
@@ -71,9 +71,9 @@ fn reply<R: Threads + Wait + Sync, G: Gate + Sync>(
     ensures { IfOk result (λ reply. IsRun scenario reply.status reply.text) }
 {
     let version = scenario.version;
-    let scenario = shared(alloc, scenario)?;
+    let scenario = share(alloc, scenario)?;
     let ran = run(rt, alloc, scenario, crew, gate)?;
-    let text = written(alloc, version, &ran)?;
+    let text = write_history(alloc, version, &ran)?;
     Ok(Reply {
         status: status_at(ran.ended),
         text,

@@ -1,5 +1,5 @@
 //! Servants whose steps are counted by lane.
-ghost use Rattle.std.specs.Prelude.{◌≡◌, IfOk, OnOk, OnErr};
+ghost use Rattle.std.specs.Prelude.{◌≡◌};
 
 use com_body::{Job, Native, Outcome};
 use com_classes::Classes;

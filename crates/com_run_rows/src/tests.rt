@@ -5,7 +5,7 @@ use crate::meeting::Meeting;
 use com_base::ByteList;
 use com_crew::{ROWS, is_manned};
 use com_io::{MemorySink, MemorySource};
-use com_retrace::{boxed, row_of};
+use com_retrace::{box_of, row_of};
 use com_servant::{Counter, Interpreter, Latch, Memory, Relay, Servant};
 use com_top::com_main;
 use std::alloc::{AllocError, Global};
@@ -42,7 +42,7 @@ fn entries_of(lines: &[u8], lane: u8) -> usize {
 
 // What a word answers for the two counters, and what it writes, with a crew whose steps are counted. The
 // counters of the first row may refuse each step.
-fn answered<R: Threads + Wait + Sync>(
+fn answer_of<R: Threads + Wait + Sync>(
     rt: &R,
     alloc: Global,
     word: &str,
@@ -58,10 +58,10 @@ fn answered<R: Threads + Wait + Sync>(
         let latch = Counted::new(Latch::new(), at, false, steps.clone()?);
         crew.push(row_of(
             alloc,
-            boxed(alloc, bodies)?,
-            boxed(alloc, counter)?,
-            boxed(alloc, relay)?,
-            boxed(alloc, latch)?,
+            box_of(alloc, bodies)?,
+            box_of(alloc, counter)?,
+            box_of(alloc, relay)?,
+            box_of(alloc, latch)?,
         )?)?;
     }
     // The loop has no invariant that names the kinds of boxes, so they are looked at once.
@@ -88,7 +88,7 @@ fn answered<R: Threads + Wait + Sync>(
 fn two_lanes_meet_between_step_and_commit(rt: HostRuntime) -> Result<(), Fail> {
     let steps = Arc::new(rt.alloc(), Steps::new())?;
     let gate = Meeting::new();
-    let (status, text) = answered(&rt, rt.alloc(), "run", &gate, &steps, false)?;
+    let (status, text) = answer_of(&rt, rt.alloc(), "run", &gate, &steps, false)?;
     assert_eq!(rt; status, 0);
     assert!(rt; gate.is_met());
     assert_eq!(rt; steps.of(0), 1);
@@ -106,7 +106,7 @@ fn two_lanes_meet_between_step_and_commit(rt: HostRuntime) -> Result<(), Fail> {
 fn a_replay_is_stepped_by_the_first_row_alone(rt: HostRuntime) -> Result<(), Fail> {
     let steps = Arc::new(rt.alloc(), Steps::new())?;
     let gate = Meeting::new();
-    let (status, text) = answered(&rt, rt.alloc(), "replay", &gate, &steps, false)?;
+    let (status, text) = answer_of(&rt, rt.alloc(), "replay", &gate, &steps, false)?;
     assert_eq!(rt; status, 0);
     assert!(rt; text.as_slice().ends_with(b"entries 22 clock 0\nend ok\n"));
     assert!(rt; !gate.is_left());
@@ -123,7 +123,7 @@ fn want_of_memory_in_a_worker_is_answered_when_all_were_joined(
 ) -> Result<(), Fail> {
     let steps = Arc::new(rt.alloc(), Steps::new())?;
     let gate = Meeting::new();
-    let (status, text) = answered(&rt, rt.alloc(), "run", &gate, &steps, true)?;
+    let (status, text) = answer_of(&rt, rt.alloc(), "run", &gate, &steps, true)?;
     assert_eq!(rt; status, 9);
     assert_eq!(rt; text.as_slice(), b"".as_slice());
     assert!(rt; gate.is_met());

@@ -13,7 +13,7 @@ use com_read_sections::{Outline, outline_of};
 use std::alloc::{AllocError, Global};
 
 /// The interfaces that a text declares itself.
-fn declared(mut interfaces: Vec<Interface>) -> Result<Vec<Interface>, Memory>
+fn declared_interfaces(mut interfaces: Vec<Interface>) -> Result<Vec<Interface>, Memory>
     ensures { IfOk result (λ v. v.items ≡ drop 4 interfaces.items) }
 {
     let from = interfaces.len().min(BUILT_IN_COUNT);
@@ -46,7 +46,7 @@ fn tables(alloc: Global, interfaces: Rows<Interface>, list: Rows<Class>) -> Resu
     ensures { IfOk result (λ t. t ≡ tables_of interfaces list) }
 {
     let mut classes = Classes::new(alloc)?;
-    for interface in declared(interfaces.into_vec())? {
+    for interface in declared_interfaces(interfaces.into_vec())? {
         add_interface(&mut classes, interface)?;
     }
     for class in list.into_vec() {

@@ -4,7 +4,7 @@
 ghost use Rattle.std.specs.Prelude.{◌≡◌, ℕ, ◌+◌, List, [], length};
 ghost use Rattle.com_model.specs.declared.deeds.Entry.{Entry};
 ghost use Rattle.com_model.specs.declared.scenario.Scenario.{Scenario};
-ghost use Rattle.com_model.specs.Ends.{limit, run_on, scheduled};
+ghost use Rattle.com_model.specs.Ends.{limit, run_on};
 ghost use Rattle.com_model.specs.Formed.{Formed};
 ghost use Rattle.com_model.specs.State.{State, StandsFor, first_tables};
 ghost use Rattle.com_schedule.specs.Turns.{RunsAs, runs};

@@ -4,7 +4,7 @@
 
 ghost use Rattle.std.specs.Prelude.{◌≡◌, ℕ, IfOk, OnOk, OnErr, map, slice_index, slice_set};
 ghost use Rattle.com_body.specs.declared.frame.Native.{Native as AnyNative};
-ghost use Rattle.com_servant.specs.Rows.{one_more, place, row};
+ghost use Rattle.com_servant.specs.Rows.{one_more, index_of, row};
 ghost use Rattle.com_servant.specs.Steps.{IsOfItsClass, job_step};
 
 mod built_ins;
@@ -47,9 +47,9 @@ pub trait Servant: Drop {
         ensures uncounted { OnErr result (stepped self.new ≡ stepped self.old) };
 }
 
-// The place of a kind in a row of servants.
-fn place(kind: Native) -> usize
-    ensures { result ≡ place kind }
+// The index of a kind in a row of servants.
+fn index_of(kind: Native) -> usize
+    ensures { result ≡ index_of kind }
 {
     match kind {
         Native::Bodies => 0,
@@ -93,10 +93,10 @@ pub fn serve(
     ensures outcome { IfOk result (λ outcome. outcome ≡ job_step classes.now job.now) }
     ensures row { map kind_of servants.new.items ≡ row }
     ensures counted { OnOk result (map stepped servants.new.items
-        ≡ slice_set (map stepped servants.old.items) (place job.now.kind)
-        (one_more (slice_index (map stepped servants.old.items) (place job.now.kind)))) }
+        ≡ slice_set (map stepped servants.old.items) (index_of job.now.kind)
+        (one_more (slice_index (map stepped servants.old.items) (index_of job.now.kind)))) }
     ensures uncounted { OnErr result (map stepped servants.new.items ≡ map stepped servants.old.items) }
 {
-    let at = place(job.kind);
+    let at = index_of(job.kind);
     step_one(alloc, &mut servants[at], classes, job)
 }

@@ -100,7 +100,7 @@ impl<T> Slots<T> {
     }
 
     /// How many numbers were given.
-    pub fn given(&self) -> u32
+    pub fn given_count(&self) -> u32
         ensures { result ≡ length self.now.entries }
     {
         let _limit = self.limit;

@@ -12,5 +12,5 @@ mod writing;
 
 pub use com_base::Memory;
 pub use heads::{Cut, Seen};
-pub use placing::{Found, placed};
-pub use writing::written;
+pub use placing::{Found, place_fault};
+pub use writing::write_out;

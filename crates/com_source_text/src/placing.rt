@@ -1,9 +1,8 @@
 //! Where a fault of the written text stands in the text itself.
 
 ghost use Rattle.std.specs.Prelude.{◌≡◌, IfOk};
-ghost use Rattle.com_source_text.specs.Heads.{cut_of as cut_in};
 ghost use Rattle.com_source_text.specs.Placing.{lines_in, fault_in, word_under, is_opening, position_in};
-ghost use Rattle.com_source_text.specs.Placing.{cut_fault, own_fault, is_same_position, first_of};
+ghost use Rattle.com_source_text.specs.Placing.{own_fault, first_of};
 ghost use Rattle.com_source_text.specs.Placing.{source_fault, within, found_in, placed};
 ghost use Rattle.std.specs.Prelude.{slice_get};
 
@@ -164,7 +163,7 @@ fn found_in(
 /// position the one with the lower number. Memory comes where memory is short, and for a text of nearly 2^32
 /// bytes or more.
 #[tactic(auto, unfolding(crate::specs::Placing::placed, com_text::specs::Scanning::lines_of))]
-pub fn placed(alloc: Global, text: &[u8], fault: Fault) -> Result<Fault, Memory>
+pub fn place_fault(alloc: Global, text: &[u8], fault: Fault) -> Result<Fault, Memory>
     ensures { IfOk result (λ f. f ≡ placed text.now fault) }
 {
     if text.len() >= TEXT_LIMIT {

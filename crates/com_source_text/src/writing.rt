@@ -118,7 +118,7 @@ fn write_line(
 /// The text in which each `source` line is written out in lines of the language. Memory comes where memory is
 /// short, and for a text of nearly 2^32 bytes or more.
 #[tactic(auto, unfolding(crate::specs::Writing::written, com_text::specs::Scanning::lines_of))]
-pub fn written(alloc: Global, text: &[u8]) -> Result<ByteList, Memory>
+pub fn write_out(alloc: Global, text: &[u8]) -> Result<ByteList, Memory>
     ensures { IfOk result (λ out. out ≡ written text.now) }
 {
     if text.len() >= TEXT_LIMIT {

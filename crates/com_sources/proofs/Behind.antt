@@ -1,7 +1,7 @@
 -- A body that begins with some statements, and does not go on with others.
 use Rattle.std.proofs.Common.{sym, ap, ◌∙◌}
 use Rattle.std.proofs.lemmas.List.{append_cancel_left}
-use Rattle.std.specs.Prelude.{◌≡◌, Bool, true, false, List, [], ◌∷◌, ◌++◌, Option, Some, None, IfNone, IsTrue}
+use Rattle.std.specs.Prelude.{◌≡◌, Bool, false, List, [], ◌∷◌, ◌++◌, Option, Some, None, IfNone, IsTrue}
 use Rattle.com_body.specs.declared.statements.Stmt.{Stmt}
 use Rattle.com_body.specs.declared.statements.Stmt.TheVariants as stmt
 use Rattle.com_body.specs.declared.operands.Given.TheVariants as given

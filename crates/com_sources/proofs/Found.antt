@@ -1,5 +1,5 @@
 -- A class that was looked through is a source.
-use Rattle.std.proofs.Common.{refl, sym, ap, subst, ◌∙◌, eqb-true, arith}
+use Rattle.std.proofs.Common.{refl, sym, ap, ◌∙◌, eqb-true, arith}
 use Rattle.std.proofs.lemmas.Bool.{false_from_ne_true}
 use Rattle.std.specs.Prelude.{◌≡◌, ℕ, zero, suc, Bool, true, false, not, cond, ◌||◌, ◌&&◌, ◌==◌, nat_lt, List, [], ◌∷◌, Option, Some, None, find, option_and_then}
 use Rattle.std.specs.Option.{option_map}
@@ -12,7 +12,7 @@ use Rattle.com_classes.specs.declared.interfaces.Interface.{Interface}
 use Rattle.com_classes.specs.Lookups.{class_at, interface_at, class_body, kind_body, body_at}
 use Rattle.com_model.specs.declared.scenario.Scenario.{Scenario}
 use Rattle.com_points.specs.Bodies.{advise_body, unadvise_body, fire_body}
-use Rattle.com_points.specs.Sources.{IsPoint, IsSource, IsStaModel, point_body, source_body}
+use Rattle.com_points.specs.Sources.{IsPoint, IsSource, IsStaModel, point_body}
 use Rattle.com_sources.specs.Heads.{are_own_bodies}
 
 abbrev pub at : (j m : ℕ) → MethodBody → Bool

@@ -1,6 +1,5 @@
 -- A class that is a source has all that is looked at.
-use Rattle.std.proofs.Common.{refl, sym, ap, subst, ◌∙◌, inl, inr, eqb-true, arith}
-use Rattle.std.proofs.lemmas.Bool.{false_from_ne_true}
+use Rattle.std.proofs.Common.{refl, sym, ap, subst, ◌∙◌, inl, inr}
 use Rattle.std.specs.Prelude.{◌≡◌, ℕ, zero, suc, Bool, true, false, not, cond, ◌||◌, ◌&&◌, ◌==◌, nat_lt, List, [], ◌∷◌, Option, Some, None, find, option_and_then, is_some, ◌⊎◌, IsTrue}
 use Rattle.std.specs.Option.{option_map}
 use Rattle.com_body.specs.declared.frame.Native.{Native}
@@ -8,12 +7,10 @@ use Rattle.com_body.specs.declared.frame.Native.TheVariants as native
 use Rattle.com_body.specs.declared.statements.Stmt.{Stmt}
 use Rattle.com_classes.specs.declared.classes.Class.{Class}
 use Rattle.com_classes.specs.declared.classes.MethodBody.{MethodBody}
-use Rattle.com_classes.specs.declared.classes.ThreadingModel.{ThreadingModel}
 use Rattle.com_classes.specs.declared.interfaces.Interface.{Interface}
-use Rattle.com_classes.specs.Lookups.{class_at, interface_at, class_body, kind_body, body_at, given_in}
+use Rattle.com_classes.specs.Lookups.{class_at, interface_at, class_body, kind_body, body_at}
 use Rattle.com_model.specs.declared.scenario.Scenario.{Scenario}
-use Rattle.com_points.specs.Bodies.{advise_body, unadvise_body, fire_body}
-use Rattle.com_points.specs.Sources.{IsPoint, IsSource, IsSourceClass, IsStaModel, point_body, source_body}
+use Rattle.com_points.specs.Sources.{IsPoint, IsSource, IsSourceClass, point_body, source_body}
 use Rattle.com_sources.specs.Heads.{are_own_bodies, Looks}
 use Rattle.com_sources.proofs.Found.{at, same_itself}
 

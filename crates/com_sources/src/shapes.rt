@@ -1,5 +1,5 @@
 //! Statements of a source's bodies, each by its form.
-ghost use Rattle.std.specs.Prelude.{◌≡◌, ◌↔◌, IsTrue, pos, [], ◌∷◌};
+ghost use Rattle.std.specs.Prelude.{◌≡◌, ◌↔◌, IsTrue, [], ◌∷◌};
 ghost use Rattle.com_base.specs.declared.value.Value.TheVariants as value;
 ghost use Rattle.com_body.specs.declared.statements.Stmt.TheVariants as stmt;
 ghost use Rattle.com_body.specs.declared.operands.Op.TheVariants as op_of;

@@ -1,7 +1,7 @@
 -- What holds of a state between entries: nothing is left to give back or to cut, and what is dying stands in
 -- the list of the dying.
-use Rattle.std.specs.Prelude.{◌≡◌, ℕ, zero, suc, ◌+◌, ◌==◌, Bool, true, false, not, List, map, filter, Option}
-use Rattle.std.specs.Prelude.{Some, None}
+use Rattle.std.specs.Prelude.{◌≡◌, ℕ, suc, ◌+◌, ◌==◌, Bool, true, false, not, map, filter}
+use Rattle.std.specs.Prelude.{None}
 use Rattle.com_books.specs.Changes.{Books, cut_packet, cut_cookie, held_outside}
 use Rattle.com_model.specs.declared.deeds.Deed.{Deed}
 use Rattle.com_model.specs.declared.deeds.Deed.TheVariants as deed

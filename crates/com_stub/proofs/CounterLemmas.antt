@@ -4,18 +4,18 @@ use Rattle.std.proofs.lemmas.Bool.{cases_eq, cases_lt}
 use Rattle.std.proofs.lemmas.List.{length-map, length-set, length-append, map-append, get_or-set_same, get_or-set_other, get_or_append_left, get_or_at, get_or_read}
 use Rattle.std.proofs.lemmas.Grind.{common_steps}
 use Rattle.std.specs.Prelude.{slice_set, slice_index_or, slice_index}
-use Rattle.com_keyed.specs.Places.{Places}
+use Rattle.com_keyed.specs.Indices.{KeyList}
 use Rattle.com_stub.specs.declared.counters.CounterRow.{CounterRow}
 use Rattle.com_stub.specs.CounterRows.{is_for, no_counter, has_counter, counter_of, row_at, index_of, changed_counter, objects_of, sum_of}
 use Rattle.com_stub.specs.Tables.{IsCounterTable}
 
 -- a counter that is there
-pub place_row : (rs : List CounterRow) (o i : ℕ) (d : CounterRow) → index_of rs o i < length rs → slice_index_or rs (index_of rs o i) d ≡ counter_of rs o i
-place_row [] o i d h = absurd (omega arith)
-place_row (r ∷ rs) o i d h =
+pub row_at_index : (rs : List CounterRow) (o i : ℕ) (d : CounterRow) → index_of rs o i < length rs → slice_index_or rs (index_of rs o i) d ≡ counter_of rs o i
+row_at_index [] o i d h = absurd (omega arith)
+row_at_index (r ∷ rs) o i d h =
     elim (is_for o i r) as (λ b. cond b 0 (index_of rs o i + 1) < length (r ∷ rs) → slice_index_or (r ∷ rs) (cond b 0 (index_of rs o i + 1)) d ≡ cond b r (counter_of rs o i)) [
       | true ↦ λ h. refl
-      | false ↦ λ h. grind (arith, common_steps, place_row rs o i d (grind (arith, common_steps, h)))
+      | false ↦ λ h. grind (arith, common_steps, row_at_index rs o i d (grind (arith, common_steps, h)))
     ] h
 
 -- a counter that is not there
@@ -35,8 +35,8 @@ pub has_not : (rs : List CounterRow) (o i : ℕ) → length rs ≤ index_of rs o
 has_not [] o i h = refl
 has_not (r ∷ rs) o i h = grind (arith, common_steps, has_not rs o i, h)
 
-pub place_has : (rs : List CounterRow) (o i : ℕ) → has_counter rs o i ≡ true → index_of rs o i < length rs
-place_has rs o i h = elim (cases_lt (index_of rs o i) (length rs)) [
+pub index_in_range : (rs : List CounterRow) (o i : ℕ) → has_counter rs o i ≡ true → index_of rs o i < length rs
+index_in_range rs o i h = elim (cases_lt (index_of rs o i) (length rs)) [
   | inl there ↦ there
   | inr past ↦ absurd (grind (arith, has_not rs o i past, h))
 ]
@@ -93,7 +93,7 @@ objects_set [] p x e = refl
 objects_set (r ∷ rs) zero x e = ap (λ o. o ∷ objects_of rs) e
 objects_set (r ∷ rs) (suc p) x e = ap (λ os. r.object ∷ os) (objects_set rs p x e)
 
-pub table_write : (rs : List CounterRow) (chains : Places) (p : ℕ) (old x : CounterRow) → IsCounterTable rs chains → p < length rs → old ≡ slice_index_or rs p old → x.object ≡ old.object
+pub table_write : (rs : List CounterRow) (chains : KeyList) (p : ℕ) (old x : CounterRow) → IsCounterTable rs chains → p < length rs → old ≡ slice_index_or rs p old → x.object ≡ old.object
     → x.iface ≡ old.iface → ((o : ℕ) → sum_of (slice_set rs p x) o < 2 ^ 64) → IsCounterTable (slice_set rs p x) chains
 table_write rs chains p old x t inside is eo ei sums =
     let read : old ≡ row_at rs p = get_or_read rs p old inside is (no_counter 0 0) in
@@ -123,7 +123,7 @@ pub index_push : (rs : List CounterRow) (x : CounterRow) (o i : ℕ) → length 
 index_push [] x o i h e = grind (arith, e)
 index_push (r ∷ rs) x o i h e = grind (arith, common_steps, index_push rs x o i, h, e)
 
-pub table_push : (rs : List CounterRow) (chains wider : Places) (x : CounterRow) → IsCounterTable rs chains → wider.keys ≡ chains.keys ++ x.object ∷ [] → length rs ≤ index_of rs x.object x.iface
+pub table_push : (rs : List CounterRow) (chains wider : KeyList) (x : CounterRow) → IsCounterTable rs chains → wider.keys ≡ chains.keys ++ x.object ∷ [] → length rs ≤ index_of rs x.object x.iface
     → ((o : ℕ) → sum_of (rs ++ x ∷ []) o < 2 ^ 64) → IsCounterTable (rs ++ x ∷ []) wider
 table_push rs chains wider x t e new sums = record {
   keyed = e ∙ ap (λ ks. ks ++ x.object ∷ []) t.keyed ∙ sym (map-append (λ (r : CounterRow). r.object) rs (x ∷ []));

@@ -4,7 +4,7 @@ use Rattle.std.proofs.lemmas.Bool.{cases_eq, cases_lt}
 use Rattle.std.proofs.lemmas.List.{length-map, length-append, map-append, ext_get_or, get_or_append_left, get_or_at, get_or-set_same, get_or-set_other, length-set}
 use Rattle.std.proofs.lemmas.Grind.{common_steps}
 use Rattle.std.specs.Prelude.{slice_set, slice_index_or, slice_index, Option, None, Some}
-use Rattle.com_keyed.specs.Places.{Places, IsLatest, reach}
+use Rattle.com_keyed.specs.Indices.{KeyList, IsLatest, reach}
 use Rattle.com_stub.specs.declared.StubRow.{StubRow}
 use Rattle.com_stub.specs.StubRows.{no_stub, has_stub, stub_of, is_connected, stub_index, ended_row, ended_rows, stub_objects, stub_at, EachStubFirst}
 use Rattle.com_stub.specs.Tables.{IsStubTable}
@@ -112,7 +112,7 @@ ended_not_connected (r ∷ rs) o = elim (cases_eq r.object o) [
   | inr other ↦ grind (arith, common_steps, ended_not_connected rs o, other)
 ]
 
-pub table_ended : (rs : List StubRow) (chains : Places) (o : ℕ) → IsStubTable rs chains → IsStubTable (ended_rows o rs) chains
+pub table_ended : (rs : List StubRow) (chains : KeyList) (o : ℕ) → IsStubTable rs chains → IsStubTable (ended_rows o rs) chains
 table_ended rs chains o t = record {
   keyed = t.keyed ∙ sym (objects_ended rs);
   first = λ q h.
@@ -139,7 +139,7 @@ pub stub_push : (rs : List StubRow) (x : StubRow) (o : ℕ) → stub_index rs o 
 stub_push [] x o h e = grind (arith, e)
 stub_push (r ∷ rs) x o h e = grind (arith, common_steps, stub_push rs x o, h, e)
 
-pub stub_table_push : (rs : List StubRow) (chains wider : Places) (x : StubRow) → IsStubTable rs chains → wider.keys ≡ chains.keys ++ x.object ∷ [] → has_stub rs x.object ≡ false → IsStubTable (rs ++ x ∷ []) wider
+pub stub_table_push : (rs : List StubRow) (chains wider : KeyList) (x : StubRow) → IsStubTable rs chains → wider.keys ≡ chains.keys ++ x.object ∷ [] → has_stub rs x.object ≡ false → IsStubTable (rs ++ x ∷ []) wider
 stub_table_push rs chains wider x t e new = record {
   keyed = e ∙ ap (λ ks. ks ++ x.object ∷ []) t.keyed ∙ sym (map-append (λ (r : StubRow). r.object) rs (x ∷ []));
   first = λ q h.

@@ -5,11 +5,11 @@ use Rattle.std.proofs.lemmas.Bool.{cases_lt, cases_eq}
 use Rattle.std.proofs.lemmas.Grind.{common_steps}
 use Rattle.std.proofs.lemmas.List.{drop_all, length-map, get_or_read}
 use Rattle.std.proofs.lemmas.List.Sums.{sum_by-append, sum_by-set, sum_by-drop_more, sum_by-take-drop}
-use Rattle.com_keyed.specs.Places.{Places, IsLatest, reach}
+use Rattle.com_keyed.specs.Indices.{KeyList, IsLatest, reach}
 use Rattle.com_stub.specs.declared.counters.CounterRow.{CounterRow}
 use Rattle.com_stub.specs.CounterRows.{no_counter, row_at, counter_of, index_of, count_for, sum_of, objects_of, more, less}
 use Rattle.com_stub.specs.Tables.{IsCounterTable}
-use Rattle.com_stub.proofs.CounterLemmas.{object_at, place_row, counter_keys, table_write}
+use Rattle.com_stub.proofs.CounterLemmas.{object_at, row_at_index, counter_keys, table_write}
 
 -- the counters from an index on
 abbrev pub sum_from : List CounterRow → ℕ → ℕ → ℕ
@@ -79,11 +79,11 @@ sum_push rs o x none =
     let nothing : sum_by (count_for o) (x ∷ []) ≡ 0 = grind (arith, common_steps, none) in
     omega arith
 
-module _ (rs : List CounterRow) (chains : Places) (o i p : ℕ) (old : CounterRow) (t : IsCounterTable rs chains) (at : index_of rs o i ≡ p) (inside : p < length rs) (is : old ≡ slice_index_or rs p old) where
+module _ (rs : List CounterRow) (chains : KeyList) (o i p : ℕ) (old : CounterRow) (t : IsCounterTable rs chains) (at : index_of rs o i ≡ p) (inside : p < length rs) (is : old ≡ slice_index_or rs p old) where
   found : old ≡ counter_of rs o i
   found =
       let there : index_of rs o i < length rs = rw at inside in
-      get_or_read rs p old inside is (no_counter 0 0) ∙ ap (λ q. row_at rs q) (sym at) ∙ place_row rs o i (no_counter 0 0) there
+      get_or_read rs p old inside is (no_counter 0 0) ∙ ap (λ q. row_at rs q) (sym at) ∙ row_at_index rs o i (no_counter 0 0) there
 
   object : old.object ≡ o
   object = ap (λ r. r.object) found ∙ (counter_keys rs o i).0

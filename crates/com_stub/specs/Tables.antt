@@ -1,6 +1,6 @@
 -- What a contract sees of the counters and of a `Stubs`.
 use Rattle.std.specs.Prelude.{ℕ, ◌≡◌, ◌<◌, ◌^◌, List, if◌then◌else◌}
-use Rattle.com_keyed.specs.Places.{Places}
+use Rattle.com_keyed.specs.Indices.{KeyList}
 use Rattle.com_stub.specs.declared.counters.CounterRow.{CounterRow}
 use Rattle.com_stub.specs.declared.StubRow.{StubRow}
 use Rattle.com_stub.specs.CounterRows.{EachFirst, objects_of, sum_of, counter_of}
@@ -13,7 +13,7 @@ pub record CounterTable : Type 0 where
 
 -- the rows are chained under the objects of the counters, there is one counter of each interface of an
 -- object, and the sum of an object's counters has a number
-pub record IsCounterTable (rows : List CounterRow) (chains : Places) : Type 0 where
+pub record IsCounterTable (rows : List CounterRow) (chains : KeyList) : Type 0 where
   pub keyed : chains.keys ≡ objects_of rows
   pub first : EachFirst rows
   pub sums : (object : ℕ) → sum_of rows object < 2 ^ 64
@@ -26,7 +26,7 @@ pub record StubTable : Type 0 where
   pub spare : ℕ
 
 -- the rows are chained under the objects of the stubs, and there is one stub of each
-pub record IsStubTable (rows : List StubRow) (chains : Places) : Type 0 where
+pub record IsStubTable (rows : List StubRow) (chains : KeyList) : Type 0 where
   pub keyed : chains.keys ≡ stub_objects rows
   pub first : EachStubFirst rows
 

@@ -1,6 +1,6 @@
 //! The counters of the stubs: a number for each object and interface.
 
-ghost use Rattle.std.specs.Prelude.{◌≡◌, ◌+◌, ◌<◌, ◌≤◌, ◌^◌, ◌↔◌, true, [], length, OnOk, IsOk, IsTrue};
+ghost use Rattle.std.specs.Prelude.{◌≡◌, ◌+◌, ◌<◌, ◌≤◌, ◌^◌, ◌↔◌, true, [], length, OnOk, IsOk};
 ghost use Rattle.com_stub.specs.CounterRows.{has_counter, counter_of, index_of, changed_counter, more, less};
 ghost use Rattle.com_stub.specs.CounterRows.{opened, opened_all, sum_of, objects_of, EachFirst};
 
@@ -135,7 +135,7 @@ impl Counters {
     }
 
     /// `n` references more.
-    #[tactic(auto, using(crate::proofs::CounterLemmas::place_has, crate::proofs::CounterLemmas::place_row, crate::proofs::CounterLemmas::changed_at))]
+    #[tactic(auto, using(crate::proofs::CounterLemmas::index_in_range, crate::proofs::CounterLemmas::row_at_index, crate::proofs::CounterLemmas::changed_at))]
     pub fn add(&mut self, object: u32, iface: u16, n: u32)
         requires there { has_counter self.old.rows object iface ≡ true }
         requires fits { sum_of self.old.rows object + n < 2 ^ 64 }
@@ -148,7 +148,7 @@ impl Counters {
     }
 
     /// `n` references less, where there is a counter.
-    #[tactic(auto, using(crate::proofs::CounterLemmas::no_index, crate::proofs::CounterLemmas::place_row, crate::proofs::CounterLemmas::changed_at, crate::proofs::CounterLemmas::changed_none))]
+    #[tactic(auto, using(crate::proofs::CounterLemmas::no_index, crate::proofs::CounterLemmas::row_at_index, crate::proofs::CounterLemmas::changed_at, crate::proofs::CounterLemmas::changed_none))]
     pub fn take(&mut self, object: u32, iface: u16, n: u64)
         requires { n ≤ (counter_of self.old.rows object iface).count }
         ensures rows { self.new.rows ≡ changed_counter (less n) object iface self.old.rows }
@@ -163,7 +163,7 @@ impl Counters {
     }
 
     /// The count of the interface.
-    #[tactic(auto, using(crate::proofs::CounterLemmas::no_index, crate::proofs::CounterLemmas::place_row))]
+    #[tactic(auto, using(crate::proofs::CounterLemmas::no_index, crate::proofs::CounterLemmas::row_at_index))]
     pub fn get(&self, object: u32, iface: u16) -> u64
         ensures { result ≡ (counter_of self.now.rows object iface).count }
     {

@@ -1,13 +1,12 @@
 -- From what entries name to what the parts ask.
 use Rattle.std.proofs.Common.{subst, sym, arith}
-use Rattle.std.specs.Prelude.{◌≡◌, refl, ℕ, ℤ, pos, negsuc, ◌+◌, ◌-◌, ◌<◌, ◌≤◌, ◌^◌, Bool, true, false, cond, nat_lt, List, length, Option, Some, None, slice_index_or}
+use Rattle.std.specs.Prelude.{◌≡◌, ℕ, ℤ, pos, negsuc, ◌+◌, ◌-◌, ◌<◌, ◌≤◌, ◌^◌, Bool, true, false, cond, nat_lt, List, length, Option, Some, None, slice_index_or}
 use Rattle.com_body.specs.declared.frame.Outcome.{Outcome}
 use Rattle.com_bounds.specs.Bounds.{IssuedCall, NextCall, TakesBack as OneLess, FitsParts, StepWrites}
 use Rattle.com_bounds.proofs.Fitting.{entry-fits}
 use Rattle.com_bounds.proofs.Standing.{fits-parts}
 use Rattle.com_bounds.proofs.Times.{time-fits}
 use Rattle.com_bounds.proofs.Writing.{steps-write}
-use Rattle.com_calls.specs.Kept.{Kept}
 use Rattle.com_calls.specs.Steps.{is_known}
 use Rattle.com_model.specs.declared.deeds.Deed.{Deed}
 use Rattle.com_model.specs.declared.deeds.Deed.TheVariants as deed
@@ -17,8 +16,8 @@ use Rattle.com_model.specs.Apartments.{home_effect}
 use Rattle.com_model.specs.Ends.{limit}
 use Rattle.com_model.specs.Formed.{Formed}
 use Rattle.com_model.specs.State.{State, StandsFor, next_of}
-use Rattle.com_model.specs.Waiting.{PostEffect, Posts, Delays, retries}
-use Rattle.com_parts.specs.Fits.{Fits, IsBack, IsCalled, IsAimed, IsWriting}
+use Rattle.com_model.specs.Waiting.{Posts, Delays, retries}
+use Rattle.com_parts.specs.Fits.{IsBack, IsCalled, IsAimed, IsWriting}
 use Rattle.com_state.specs.Parts.{CallTables, calls_of}
 use Rattle.com_state.specs.After.{step_in}
 use Rattle.com_taken.specs.Taken.{IsTaken}

@@ -1,7 +1,7 @@
 //! Cutting a text into its lines of words, byte by byte.
 
 ghost use Rattle.std.specs.Prelude.{◌≡◌, ◌≢◌, ◌<◌, ◌≤◌, ◌+◌, ◌-◌, ◌^◌, ◌++◌, ◌∷◌, [], false};
-ghost use Rattle.std.specs.Prelude.{OnOk, IfOk, length, slice_index, slice_range, drop};
+ghost use Rattle.std.specs.Prelude.{OnOk, IfOk, length, slice_index, drop};
 ghost use Rattle.com_text.specs.declared.scan.Class.TheVariants.{LineEnd as EndsLine};
 ghost use Rattle.com_text.specs.Kept.{IsKept, kind_of, word_to};
 ghost use Rattle.com_text.specs.Scanning.{class_of, seen, closing, gave, after, turn};
@@ -125,7 +125,7 @@ fn turn(within: Within, class: Class, bytes: &[u8]) -> Within
 }
 
 /// The column of the first byte outside the characters, as far as this byte.
-fn strayed(stray: Option<u32>, class: Class, column: u32) -> Option<u32>
+fn stray_after(stray: Option<u32>, class: Class, column: u32) -> Option<u32>
     ensures { result ≡ strayed stray class column }
 {
     match stray {
@@ -165,7 +165,7 @@ fn after(s: &Scanner, text: &[u8], at: usize, class: Class) -> Scanner
             first: s.first,
             from: s.from,
             within,
-            stray: strayed(s.stray, class, s.column),
+            stray: stray_after(s.stray, class, s.column),
         },
     }
 }

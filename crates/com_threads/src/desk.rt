@@ -1,6 +1,6 @@
 //! A runtime, and the history that it has made: what lies under the lock.
-ghost use Rattle.std.specs.Prelude.{◌≡◌, ◌+◌, ◌<◌, ◌≤◌, false, IfOk, OnOk, Some, None, length, MatchOption};
-ghost use Rattle.com_drive.specs.Standings.{ended_now, standing_of};
+ghost use Rattle.std.specs.Prelude.{◌≡◌, ◌+◌, ◌<◌, ◌≤◌, false, IfOk, OnOk, Some, None, length};
+ghost use Rattle.com_drive.specs.Standings.{standing_of};
 ghost use Rattle.com_drive.specs.declared.runtime.Standing.TheVariants as standing;
 ghost use Rattle.com_jobs.specs.declared.jobs.Next.TheVariants as next;
 ghost use Rattle.com_jobs.specs.Jobs.{HasShape, next_in};

@@ -12,7 +12,7 @@ ghost use Rattle.com_threads.specs.Histories.{UpToDate};
 use crate::desk::Desk;
 use crate::worker::Row;
 use com_base::Memory;
-use com_drive::{Chosen, Standing, choose, ended};
+use com_drive::{Chosen, Standing, choose, end_of};
 use com_jobs::Jobs;
 use com_model::{Ended, Scenario};
 use std::alloc::Global;
@@ -91,7 +91,7 @@ impl<C: Jobs + Drop> Desk<C> {
     {
         let chosen = choose(&self.core, &[], 0, last);
         let standing = stand(&self.core, chosen);
-        if let Some(ended) = ended(scenario, &self.core, standing) {
+        if let Some(ended) = end_of(scenario, &self.core, standing) {
             return Ok(Driven::Over(ended));
         }
         match standing {

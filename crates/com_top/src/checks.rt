@@ -1,8 +1,7 @@
 //! The command `check`.
-ghost use Rattle.std.specs.Prelude.{◌≡◌, ◌≤◌, ◌<◌, ◌-◌, ◌^◌, IfOk, length, map};
+ghost use Rattle.std.specs.Prelude.{◌≡◌, ◌≤◌, ◌<◌, ◌-◌, ◌^◌, IfOk, length};
 ghost use Rattle.std.proofs.Common.{lit<};
 ghost use Rattle.com_model.specs.Formed.{Formed};
-ghost use Rattle.com_commands.specs.Inputs.{IsSound};
 ghost use Rattle.com_commands.specs.Lengths.{long_text};
 ghost use Rattle.com_commands.specs.Responses.{Responds};
 ghost use Rattle.com_commands.specs.Statuses.{sides_of};
@@ -13,7 +12,7 @@ use crate::questions::Question;
 use com_base::{ByteList, Memory};
 use com_check::{Cut, Judged, check, cut_text};
 use com_commands::{
-    Input, InputReader, Reply, ReplyingCommand, Status, read_scenario, respond, shared,
+    Input, InputReader, Reply, ReplyingCommand, Status, read_scenario, respond, share,
 };
 use com_io::{Sink, Source};
 use com_model::Scenario;
@@ -52,7 +51,7 @@ impl ReplyingCommand for CheckCommand {
     ghost fits = { IsVerdict };
 
     fn reply(alloc: Global, read: Question) -> Result<Reply, Memory> {
-        judged(alloc, read)
+        judge(alloc, read)
     }
 
     ghost concludes = { verdict_concludes };
@@ -109,7 +108,7 @@ fn with_trace(text: ByteList, from: usize, read: Result<Scenario, Fault>) -> Res
 }
 
 // The judgement of a scenario's trace. The only error is want of memory.
-fn judged(alloc: Global, question: Question) -> Result<Reply, Memory>
+fn judge(alloc: Global, question: Question) -> Result<Reply, Memory>
     requires { IsAskable question }
     ensures { IfOk result (λ reply. IsVerdict question reply.status reply.text) }
 {
@@ -118,7 +117,7 @@ fn judged(alloc: Global, question: Question) -> Result<Reply, Memory>
         text,
         from,
     } = question;
-    let judged = check(alloc, shared(alloc, scenario)?, &text.as_slice()[from..])?;
+    let judged = check(alloc, share(alloc, scenario)?, &text.as_slice()[from..])?;
     let text = judged.text(alloc)?;
     Ok(Reply {
         status: status_of(&judged),

@@ -13,7 +13,7 @@ ghost use Rattle.com_top.specs.Scenarios.{scenario_input};
 
 use crate::replays::ReplayCommand;
 use com_base::{ByteList, Memory};
-use com_commands::{Status, receive, say, shared};
+use com_commands::{Status, receive, say, share};
 use com_io::{Discard, Sink, Source};
 use com_model::Scenario;
 use com_record::{Recorded, keep};
@@ -23,7 +23,7 @@ use std::alloc::{AllocError, Global};
 use std::sync::Arc;
 
 // The entries of the one history of a scenario. The only error is want of memory.
-fn recorded(
+fn record(
     alloc: Global,
     scenario: &Arc<Scenario>,
     servants: &mut Vec<Box<dyn Servant + Send>>,
@@ -44,11 +44,7 @@ fn recorded(
 }
 
 // Why the history of these entries is stuck, or that it is not. The only error is want of memory.
-fn explained(
-    alloc: Global,
-    scenario: &Arc<Scenario>,
-    recorded: Recorded,
-) -> Result<ByteList, Memory>
+fn explain(alloc: Global, scenario: &Arc<Scenario>, recorded: Recorded) -> Result<ByteList, Memory>
     requires formed { Formed (arc_value scenario.now) }
     requires kept { IsRecorded (arc_value scenario.now) recorded.entries.items recorded.ended }
     ensures { IfOk result (λ text. text ≡ explanation (arc_value scenario.now)) }
@@ -75,9 +71,9 @@ fn explanation(
         ≡ whole_served scenario (map stepped servants.old.items)) }
     ensures row { map kind_of servants.new.items ≡ row }
 {
-    let scenario = shared(alloc, scenario)?;
-    let recorded = recorded(alloc, &scenario, servants)?;
-    explained(alloc, &scenario, recorded)
+    let scenario = share(alloc, scenario)?;
+    let recorded = record(alloc, &scenario, servants)?;
+    explain(alloc, &scenario, recorded)
 }
 
 #[tactic(auto, using(com_commands::proofs::Answering::refused_causes, com_commands::proofs::Answering::refused_serves, com_commands::proofs::Answering::same_causes, crate::proofs::Explained::explained_causes, crate::proofs::Explained::explained_serves, crate::proofs::Explained::explained_unwritten))]

@@ -10,7 +10,7 @@ ghost use Rattle.com_commands.specs.Statuses.{IsEnd, sides_without_source};
 ghost use Rattle.com_top.specs.Loading.{IsLoaded, load_input, load_lines, loaded_served};
 
 use com_base::{ByteList, Memory};
-use com_commands::{Reply, Status, push_number, read_scenario, say, shared, status_at};
+use com_commands::{Reply, Status, push_number, read_scenario, say, share, status_at};
 use com_gen::generate;
 use com_io::{Discard, Sink};
 use com_model::Scenario;
@@ -33,7 +33,7 @@ fn load_scenario(alloc: Global, number: u32) -> Result<Scenario, Memory>
 }
 
 // Makes the one history of a number's scenario, which is written nowhere. The only error is want of memory.
-fn replayed(
+fn replay_load(
     alloc: Global,
     scenario: Scenario,
     servants: &mut Vec<Box<dyn Servant + Send>>,
@@ -46,7 +46,7 @@ fn replayed(
     ensures row { map kind_of servants.new.items ≡ row }
 {
     let mut nowhere = Discard;
-    match replay(alloc, shared(alloc, scenario)?, servants, &mut nowhere) {
+    match replay(alloc, share(alloc, scenario)?, servants, &mut nowhere) {
         Ok(replayed) => Ok(replayed),
         Err(_) => Err(AllocError),
     }
@@ -54,7 +54,7 @@ fn replayed(
 
 // The status and the text that go with the end of a number's history. The only error is want of memory.
 #[tactic(auto, using(crate::proofs::Loaded::loaded_is))]
-fn loaded(
+fn load_number(
     alloc: Global,
     number: u32,
     servants: &mut Vec<Box<dyn Servant + Send>>,
@@ -66,7 +66,7 @@ fn loaded(
     ensures row { map kind_of servants.new.items ≡ row }
 {
     let scenario = load_scenario(alloc, number)?;
-    let replayed = replayed(alloc, scenario, servants)?;
+    let replayed = replay_load(alloc, scenario, servants)?;
     let text = load_lines(alloc, number, replayed)?;
     Ok(Reply {
         status: status_at(replayed.ended),
@@ -110,7 +110,7 @@ fn load<K: Sink>(
     ensures row { map kind_of servants.new.items ≡ row }
     ensures unwritten { result ≡ status.Memory → K.held sink.new ≡ K.held sink.old }
 {
-    match loaded(alloc, number, servants) {
+    match load_number(alloc, number, servants) {
         Ok(reply) => say(reply.text.as_slice(), reply.status, sink),
         Err(_) => Status::Memory,
     }

@@ -14,7 +14,7 @@ ghost use Rattle.com_top.specs.Scenarios.{scenario_input};
 
 use crate::scenarios::scenario_input;
 use com_base::{ByteList, Memory, TEXT_2_LIMIT};
-use com_commands::{Input, InputReader, PlayingCommand, Status, perform, shared, status_at};
+use com_commands::{Input, InputReader, PlayingCommand, Status, perform, share, status_at};
 use com_io::{Sink, Source};
 use com_model::Scenario;
 use com_play::{ReplayError, replay};
@@ -79,7 +79,7 @@ fn play<K: Sink>(
         → map stepped servants.new.items ≡ whole_served scenario (map stepped servants.old.items) }
     ensures row { map kind_of servants.new.items ≡ row }
 {
-    let scenario = match shared(alloc, scenario) {
+    let scenario = match share(alloc, scenario) {
         Ok(scenario) => scenario,
         Err(_) => return Status::Memory,
     };

@@ -1,5 +1,5 @@
 //! The command `objref`.
-ghost use Rattle.std.specs.Prelude.{◌≡◌, IfOk, length, ⊤};
+ghost use Rattle.std.specs.Prelude.{◌≡◌, IfOk, ⊤};
 ghost use Rattle.std.proofs.Common.{lit<};
 ghost use Rattle.com_commands.specs.Lengths.{long_text};
 ghost use Rattle.com_commands.specs.Responses.{Responds};
@@ -42,14 +42,14 @@ impl ReplyingCommand for ObjRefCommand {
     ghost fits = { IsShown };
 
     fn reply(alloc: Global, read: ByteList) -> Result<Reply, Memory> {
-        shown(alloc, read.as_slice())
+        show_digits(alloc, read.as_slice())
     }
 
     ghost concludes = { shown_concludes };
 }
 
 // The status and the text that answer a text of digits. The only error is want of memory.
-fn shown(alloc: Global, digits: &[u8]) -> Result<Reply, Memory>
+fn show_digits(alloc: Global, digits: &[u8]) -> Result<Reply, Memory>
     ensures { IfOk result (λ reply. IsShown digits.now reply.status reply.text) }
 {
     let shown = show(alloc, digits)?;

@@ -11,13 +11,13 @@ use Rattle.com_model.specs.declared.keeps.Issue.{Issue}
 use Rattle.com_model.specs.declared.scenario.Scenario.{Scenario}
 use Rattle.com_model.specs.Frames.{issued_body, new_cells}
 use Rattle.com_model.specs.Tables.{script}
-use Rattle.com_servant.specs.Rows.{one_more, place}
+use Rattle.com_servant.specs.Rows.{index_of, one_more, one_served}
 use Rattle.com_jobs.specs.Jobs.{job_by}
 use Rattle.com_servant.specs.Steps.{job_step, native_at}
 use Rattle.com_state.specs.Parts.{class_at, issue_at}
 use Rattle.com_state.specs.SceneParts.{body_at, cells_at, script_at}
 use Rattle.com_view.specs.Seen.{Seen}
-use Rattle.com_turns.specs.Turns.{body_seen, one_served, script_seen}
+use Rattle.com_turns.specs.Turns.{body_seen, script_seen}
 use Rattle.com_work.specs.Work.{work_seen}
 
 -- A job that is the work of a body has its kind, and its step is that of the body.
@@ -41,7 +41,7 @@ pub job_steps : (w : Seen) (c o : ℕ) (job : Job) → work_seen w c o ≡ Some 
 job_steps w c o job e = by-step w.scenario (class_at w.objects o) (native_at w.scenario.classes (class_at w.objects o)) (issue_at w.calls.tables c) (body_at w.scene c) (cells_at w.scene o) job e
 
 pub served_one : (k : Option Native) (n : Native) (steps : List ℕ) → k ≡ Some n
-    → slice_set steps (place n) (one_more (slice_index steps (place n))) ≡ one_served k steps
+    → slice_set steps (index_of n) (one_more (slice_index steps (index_of n))) ≡ one_served k steps
 served_one k n steps e = ap (λ (x : Option Native). one_served x steps) (sym e)
 
 pub script_is : (s : Scenario) (l : ℕ) (body : List Stmt) → (l ≡ 0 → ⊥) → slice_get s.threads (l - 1) ≡ Some body → script s l ≡ body

@@ -1,6 +1,6 @@
 -- One turn of a lane: who acts, the step, the entry and what goes with it, as the definitions give them from
 -- the parts that are read.
-use Rattle.std.specs.Prelude.{◌≡◌, ℕ, true, List, [], Option, Some, None, slice_index, slice_set}
+use Rattle.std.specs.Prelude.{◌≡◌, ℕ, true, List, [], Option, Some, None}
 use Rattle.com_base.specs.declared.value.RefValue.{RefValue}
 use Rattle.com_body.specs.declared.actions.Action.{Action}
 use Rattle.com_body.specs.declared.frame.Native.{Native}
@@ -25,7 +25,6 @@ use Rattle.com_model.specs.State.{is_marshalled_by, scene_read}
 use Rattle.com_model.specs.Values.{carried, result_list}
 use Rattle.com_model.specs.Tables.{LaneSort, lane_sort, script}
 use Rattle.com_scene.specs.Actors.{acting_of}
-use Rattle.com_servant.specs.Rows.{one_more, place}
 use Rattle.com_servant.specs.Steps.{native_at}
 use Rattle.com_state.specs.Parts.{Issuing, class_at, issue_at, named_at, openers_at, lanes_after}
 use Rattle.com_state.specs.SceneParts.{body_at, cells_at, script_at}
@@ -148,8 +147,3 @@ kind_above s class _ = None
 
 abbrev pub kind_seen : Seen → ℕ → Option Native
 kind_seen w l = kind_above w.scenario (class_at w.objects) (first (openers_at w.lanes l))
-
--- The servants' counts, after a step of the one of a kind.
-abbrev pub one_served : Option Native → List ℕ → List ℕ
-one_served None steps = steps
-one_served (Some k) steps = slice_set steps (place k) (one_more (slice_index steps (place k)))

@@ -1,11 +1,10 @@
 //! The step of whoever acts in a lane.
 
-ghost use Rattle.std.specs.Prelude.{◌≡◌, IfOk, None, OnOk, Some, map};
-ghost use Rattle.com_servant.specs.Rows.{row};
+ghost use Rattle.std.specs.Prelude.{◌≡◌, None, OnOk, Some, map};
+ghost use Rattle.com_servant.specs.Rows.{one_served, row};
 ghost use Rattle.com_servant.specs.Steps.{native_at};
 ghost use Rattle.com_state.specs.Parts.{class_at};
-ghost use Rattle.com_turns.specs.Turns.{body_seen, one_served, script_seen};
-ghost use Rattle.com_scene.specs.Kept.{HasSlots};
+ghost use Rattle.com_turns.specs.Turns.{body_seen, script_seen};
 ghost use Rattle.com_moves.specs.Steps.{BodiesWhole, IsWhole};
 
 use com_acting::step_of;
@@ -19,7 +18,7 @@ use std::alloc::Global;
 
 /// The answer where the parts are none that the rules give: a lane without script, or numbers beyond their
 /// ranges. No core comes to such parts; that is not proved.
-pub fn unproved() -> Memory {
+pub fn unproved_fact() -> Memory {
     Memory
 }
 
@@ -61,16 +60,16 @@ pub fn script_step(
     ensures outcome { OnOk result (step.new ≡ Some (script_seen view.now lane)) }
 {
     if lane == 0 {
-        return Err(unproved());
+        return Err(unproved_fact());
     }
     let Some(body) = view.scenario.threads.as_slice().get(lane as usize - 1) else {
-        return Err(unproved());
+        return Err(unproved_fact());
     };
     match step_of(alloc, view.scene, Actor::Script { lane }, body)? {
         Some(outcome) => {
             *step = Some(outcome);
             Ok(())
         }
-        None => Err(unproved()),
+        None => Err(unproved_fact()),
     }
 }

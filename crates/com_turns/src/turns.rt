@@ -11,17 +11,17 @@ ghost use Rattle.com_model.specs.Tables.{lane_sort, lanes};
 ghost use Rattle.com_moves.specs.Steps.{BodiesWhole, IsWhole};
 ghost use Rattle.com_rules.specs.Acts.{Issues, carried_by};
 ghost use Rattle.com_scene.specs.Actors.{acting_of};
-ghost use Rattle.com_servant.specs.Rows.{row};
+ghost use Rattle.com_servant.specs.Rows.{one_served, row};
 ghost use Rattle.com_state.specs.Parts.{openers_at};
-ghost use Rattle.com_turns.specs.Turns.{IsNext, IsTurn, Steps, body_seen, deed_made, kind_seen, one_served};
+ghost use Rattle.com_turns.specs.Turns.{IsNext, IsTurn, Steps, body_seen, deed_made, kind_seen};
 ghost use Rattle.com_view.specs.Nexts.{is_body};
 ghost use Rattle.com_view.specs.Seen.{bare, sight_by};
 
-use crate::steps::{body_step, script_step, unproved};
+use crate::steps::{body_step, script_step, unproved_fact};
 use com_base::{Memory, Rows};
 use com_body::{Action, Outcome};
 use com_model::{Deed, Opener};
-use com_rules::{Doing, Found, acted, fits, has_room, ruled, script_over};
+use com_rules::{Doing, Found, act, fits, has_room, rule_deed, script_over};
 use com_scene::Actor;
 use com_servant::Servant;
 use com_view::View;
@@ -71,12 +71,12 @@ fn doing_of<B: Found>(
         ≡ carried_by view.now.scenario (B.books books.now) action.now made.deed) }
 {
     if !has_room(view, books) {
-        return Err(unproved());
+        return Err(unproved_fact());
     }
     if !fits(action) {
-        return Err(unproved());
+        return Err(unproved_fact());
     }
-    acted(view, books, alloc, lane, action)
+    act(view, books, alloc, lane, action)
 }
 
 // The turn of whoever goes on by a step in a lane.
@@ -128,7 +128,7 @@ fn own_step<B: Found>(
 {
     script_step(view, alloc, lane, step)?;
     let Some(outcome) = step else {
-        return Err(unproved());
+        return Err(unproved_fact());
     };
     if is_leave(&outcome.action) {
         *step = None;
@@ -172,7 +172,7 @@ fn rule_turn<B: Found>(
         (top (bare view.now) lane) ((bare view.now).over lane) ≡ false }
     ensures turn { IfOk result (λ made. IsNext view.now (B.books books.now) lane None made) }
 {
-    let given = ruled(view, books, alloc, lane)?;
+    let given = rule_deed(view, books, alloc, lane)?;
     match given {
         Some(deed) => Ok(Some(by_rule(alloc, deed))),
         None => Ok(None),
@@ -215,7 +215,7 @@ pub fn given_turn<B: Found>(
     ensures turn { IfOk result (λ made. IsTurn view.now (B.books books.now) lane (Some outcome.now) made) }
 {
     let Some(Opener::Enters { call, object, .. }) = view.lanes.top(lane) else {
-        return Err(unproved());
+        return Err(unproved_fact());
     };
     let doing = doing_of(view, books, alloc, lane, &outcome.action)?;
     Ok(Turn {
@@ -249,11 +249,11 @@ fn body_turn<B: Found>(
         ≡ one_served (kind_seen view.now lane) (map stepped servants.old.items)) }
 {
     let Some(Opener::Enters { call, object, .. }) = view.lanes.top(lane) else {
-        return Err(unproved());
+        return Err(unproved_fact());
     };
     body_step(view, alloc, call, object, servants, step)?;
     let Some(outcome) = step else {
-        return Err(unproved());
+        return Err(unproved_fact());
     };
     let turn = step_turn(
         view,

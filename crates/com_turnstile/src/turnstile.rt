@@ -79,7 +79,7 @@ pub struct Guard<T: Grows> {
 impl<T: Grows> Turnstile<T> {
     ghost use Rattle.com_turnstile.specs.Passes.{turnstile_id, IsIdle, IsNewSeat, IsPassOf, IsGuardOf};
     ghost use Rattle.com_turnstile.specs.Passes.{IsSamePass, IsNewPass, HasOwn, MayLeave, HasMade};
-    ghost use Rattle.com_turnstile.specs.Passes.{opening_of, seen_by, own_of};
+    ghost use Rattle.com_turnstile.specs.Passes.{seen_by, own_of};
 
     /// A turnstile round the value, and its passes, of which there may be 1 to 64.
     ///

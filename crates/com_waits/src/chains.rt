@@ -78,7 +78,7 @@ fn from_lane(alloc: Global, lanes: &[u32], lane: u32) -> Result<Vec<u32>, Memory
     let mut rest = lanes;
     'lanes: while let Some((first, others)) = rest.split_first() {
         if *first == lane {
-            return copied(alloc, rest);
+            return copy_of(alloc, rest);
         }
         rest = others;
     }
@@ -86,7 +86,7 @@ fn from_lane(alloc: Global, lanes: &[u32], lane: u32) -> Result<Vec<u32>, Memory
 }
 
 // The same list. The only error is want of memory.
-fn copied(alloc: Global, lanes: &[u32]) -> Result<Vec<u32>, Memory>
+fn copy_of(alloc: Global, lanes: &[u32]) -> Result<Vec<u32>, Memory>
     ensures { IfOk result (λ copy. copy.items ≡ lanes.now) }
 {
     let mut copy = Vec::new(alloc);
@@ -111,7 +111,7 @@ fn push_before(out: &mut Vec<u32>, lanes: &[u32], lane: u32) -> Result<(), Memor
 
 // The cycle that the chain of a lane enters. The only error is want of memory.
 #[tactic(auto, using(crate::proofs::Chained::goes_in, crate::proofs::Chained::goes_nowhere, crate::proofs::Chained::goes_on, crate::proofs::Chained::goes_out))]
-fn entered(alloc: Global, waits: &[Wait], lane: u32) -> Result<Vec<u32>, Memory>
+fn cycle_from(alloc: Global, waits: &[Wait], lane: u32) -> Result<Vec<u32>, Memory>
     ensures { IfOk result (λ cycle. cycle.items
         ≡ entered (next_in waits.now) (length waits.now + 1) [] lane) }
 {
@@ -172,12 +172,12 @@ fn cycle_of(alloc: Global, waits: &[Wait]) -> Result<Vec<u32>, Memory>
     let Some(lane) = first_in(waits) else {
         return Ok(Vec::new(alloc));
     };
-    let cycle = entered(alloc, waits, lane)?;
+    let cycle = cycle_from(alloc, waits, lane)?;
     from_least(alloc, cycle.as_slice())
 }
 
 /// The explanation whose lanes wait so: with the cycle that they make. The only error is want of memory.
-pub fn explained(alloc: Global, waits: Vec<Wait>) -> Result<Waits, Memory>
+pub fn explain(alloc: Global, waits: Vec<Wait>) -> Result<Waits, Memory>
     ensures { IfOk result (λ whole. whole ≡ explained waits.items) }
 {
     let cycle = cycle_of(alloc, waits.as_slice())?;

@@ -9,7 +9,7 @@ ghost use Rattle.com_waits.specs.Chains.{explained, explanation, explanation_of}
 ghost use Rattle.com_waits.specs.Reasons.{pool_lane};
 ghost use Rattle.com_waits.specs.Walks.{seen_waits, told};
 
-use crate::chains::explained;
+use crate::chains::explain;
 use crate::reasons::{Wait, Waits, Why};
 use crate::walks::wait_rows;
 use com_base::Memory;
@@ -46,7 +46,7 @@ fn explain_rows(alloc: Global, numbers: LaneNumbers, history: &[Entry]) -> Resul
         ≡ explained (seen_waits numbers.pool (told history.now) numbers.lanes)) }
 {
     let waits = wait_rows(alloc, history, numbers.lanes, numbers.pool)?;
-    explained(alloc, waits)
+    explain(alloc, waits)
 }
 
 /// Why a history that has ended so is stuck, by its entries in the order of their making, for any scenario

@@ -1,5 +1,5 @@
 //! What is printed of an explanation.
-ghost use Rattle.std.specs.Prelude.{◌≡◌, ◌++◌, IfOk, OnOk, codes, decimal};
+ghost use Rattle.std.specs.Prelude.{◌≡◌, ◌++◌, IfOk, OnOk, decimal};
 ghost use Rattle.com_waits.specs.Texts.{at_call, cycle_line, lane_words, text_of, wait_line, wait_lines};
 ghost use Rattle.com_waits.specs.Texts.{waits_text, why_text};
 

@@ -17,7 +17,7 @@ use std::alloc::Global;
 
 // The answer where a call has no issue, or an object no class. No core comes to such parts; that is not
 // proved.
-fn unproved() -> Memory {
+fn unproved_fact() -> Memory {
     Memory
 }
 
@@ -43,10 +43,10 @@ pub fn work_of(view: &View<'_>, alloc: Global, call: u32, object: u32) -> Result
 {
     let class = view.objects.class(object);
     let Some(declared) = view.scenario.classes.class(class) else {
-        return Err(unproved());
+        return Err(unproved_fact());
     };
     let Some(issue) = view.calls.issue(call) else {
-        return Err(unproved());
+        return Err(unproved_fact());
     };
     let frame = frame_of(view, alloc, call, object)?;
     Ok(Job {

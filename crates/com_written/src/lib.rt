@@ -2,7 +2,7 @@
 //! and has ended, and two legal histories with one text are one.
 #![tactic(auto)]
 
-ghost use Rattle.std.specs.Prelude.{◌≡◌, Bool, true, List, is_some};
+ghost use Rattle.std.specs.Prelude.{◌≡◌, true, List, is_some};
 ghost use Rattle.com_model.specs.declared.deeds.Entry.{Entry};
 ghost use Rattle.com_model.specs.declared.scenario.Scenario.{Scenario};
 ghost use Rattle.com_model.specs.Ends.{ended_as, scheduled, text};

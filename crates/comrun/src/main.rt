@@ -25,7 +25,7 @@ fn main(rt: HostRuntime) -> ExitCode {
     };
     let mut source = StdSource::new(rt.stdin());
     let mut sink = StdSink::new(rt.stdout());
-    match served(&rt, rt.alloc(), words.as_slice(), &mut source, &mut sink) {
+    match serve(&rt, rt.alloc(), words.as_slice(), &mut source, &mut sink) {
         Ok(status) => ExitCode::from(status),
         Err(_) => ExitCode::from(NO_MEMORY),
     }
@@ -33,7 +33,7 @@ fn main(rt: HostRuntime) -> ExitCode {
 
 // Does what the words ask for, with a crew of servants that have made no step, and a gate that holds nobody.
 // The only error is want of memory for the crew.
-fn served<R: Threads + Wait + Sync, S: Source, K: Sink>(
+fn serve<R: Threads + Wait + Sync, S: Source, K: Sink>(
     rt: &R,
     alloc: Global,
     words: &[String],

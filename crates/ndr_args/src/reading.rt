@@ -1,11 +1,11 @@
 //! Reading arguments in one pass over the bytes.
-ghost use Rattle.std.specs.Prelude.{◌≡◌, ◌+◌, ◌-◌, ◌<◌, ◌≤◌, ◌^◌, ℕ, List, length, take, drop, IfOk, Ok, Err};
+ghost use Rattle.std.specs.Prelude.{◌≡◌, ◌+◌, ◌-◌, ◌<◌, ◌≤◌, ◌^◌, List, length, IfOk, Ok, Err};
 ghost use Rattle.std.specs.Str.{is_utf8};
 ghost use Rattle.com_base.specs.declared.value.Kind.{Kind};
 ghost use Rattle.objref.specs.Reading.{objref_of};
 ghost use Rattle.ndr_args.specs.declared.wire.Wire.{Wire};
 ghost use Rattle.ndr_args.specs.Grammar.{gap, align_of, IsArgs};
-ghost use Rattle.ndr_args.specs.Reading.{Gives, short, u32_field, zeros_at, count_at, part_at, counted_at};
+ghost use Rattle.ndr_args.specs.Reading.{Gives, u32_field, zeros_at, count_at, part_at, counted_at};
 ghost use Rattle.ndr_args.specs.Reading.{int_at, bool_at, text_at, bytes_at, guid_arg_at, std_fields};
 ghost use Rattle.ndr_args.specs.Reading.{held_at, ref_at, arg_at, args_at, args_of};
 

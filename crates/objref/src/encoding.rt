@@ -19,7 +19,7 @@ const ENTRIES: u16 = 2;
 const SECURITY: u16 = 1;
 
 // The bytes of a standard reference without flags.
-fn written(fields: &StdFields) -> [u8; LENGTH]
+fn bytes_of(fields: &StdFields) -> [u8; LENGTH]
     ensures { result ≡ written_of fields.now }
 {
     let mut bytes = [0; LENGTH];
@@ -43,5 +43,5 @@ pub fn encode(fields: &StdFields, out: &mut ByteList) -> Result<(), Memory>
     ensures ok { OnOk result (out.new ≡ out.old ++ written_of fields.now) }
     ensures err { OnErr result (out.new ≡ out.old) }
 {
-    out.push_all(&written(fields))
+    out.push_all(&bytes_of(fields))
 }

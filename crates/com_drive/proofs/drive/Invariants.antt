@@ -1,4 +1,4 @@
-use Rattle.std.proofs.Common.{◌≡◌, ◌-◌, ◌≤◌, map, drop}
+use Rattle.std.proofs.Common.{◌≡◌, ◌-◌, ◌≤◌, drop}
 use Rattle.com_model.specs.Tables.{lanes}
 use Rattle.com_model.specs.Ends.{limit}
 use Rattle.com_servant.specs.Rows.{row}

@@ -1,6 +1,6 @@
 use Rattle.std.proofs.Common.{◌≡◌, sym, arith, subst, ◌+◌, ◌*◌, ◌≤◌, ◌∙◌}
 use Rattle.std.specs.Prelude.{None}
-use Rattle.com_keyed.specs.Places.{reach}
+use Rattle.com_keyed.specs.Indices.{reach}
 use Rattle.com_keyed.proofs.Summing.{sum_begins, sum_goes_on, sum_from}
 use Rattle.com_keyed.proofs.Walking.{walk_begins, walk_goes_on, walk_inside, walk_at}
 use Rattle.com_packets.specs.Sums.{normal_for, normal_of}

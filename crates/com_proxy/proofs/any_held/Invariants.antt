@@ -1,5 +1,5 @@
 use Rattle.std.proofs.Common.{◌≡◌}
-use Rattle.com_keyed.specs.Places.{reach}
+use Rattle.com_keyed.specs.Indices.{reach}
 use Rattle.com_keyed.proofs.Walking.{Walks}
 use Rattle.com_proxy.specs.Rows.{row_at, proxy_key_of}
 use Rattle.com_proxy.proofs.any_held.Given as goal

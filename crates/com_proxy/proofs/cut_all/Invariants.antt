@@ -1,5 +1,5 @@
 use Rattle.std.proofs.Common.{◌≡◌, ◌<◌, ℕ}
-use Rattle.com_keyed.specs.Places.{reach}
+use Rattle.com_keyed.specs.Indices.{reach}
 use Rattle.com_keyed.proofs.Walking.{Walks}
 use Rattle.com_proxy.specs.Rows.{row_at, no_public}
 use Rattle.com_proxy.proofs.cut_all.Given as goal

@@ -1,5 +1,5 @@
 use Rattle.std.proofs.Common.{◌≡◌, false}
-use Rattle.com_keyed.specs.Places.{reach}
+use Rattle.com_keyed.specs.Indices.{reach}
 use Rattle.com_keyed.proofs.Walking.{Walks}
 use Rattle.com_proxy.specs.Rows.{is_for, row_at, proxy_key_of}
 use Rattle.com_proxy.proofs.find.Given as goal

@@ -1,5 +1,5 @@
 use Rattle.std.specs.Prelude.{IfSome}
-use Rattle.com_keyed.specs.Places.{reach}
+use Rattle.com_keyed.specs.Indices.{reach}
 use Rattle.com_keyed.proofs.Walking.{Walks}
 use Rattle.com_proxy.proofs.Candidates.{IsCandidate, Bounds}
 use Rattle.com_proxy.specs.Rows.{proxy_key_of}

@@ -1,5 +1,5 @@
 use Rattle.std.proofs.Common.{◌≡◌, ◌<◌, ◌^◌}
-use Rattle.com_keyed.specs.Places.{reach}
+use Rattle.com_keyed.specs.Indices.{reach}
 use Rattle.com_keyed.proofs.Summing.{sum_from}
 use Rattle.com_keyed.proofs.Walking.{Walks}
 use Rattle.com_proxy.specs.Rows.{public_any, public_sum}

@@ -16,34 +16,34 @@ standing-standing-requires g c = is_reached _ _ _ _ _ _ c.lines.invariant.same c
 
 pub split_line-requires : goal.split_line-requires
 split_line-requires g c =
-    line_left _ _ _ _ _ c.lines.invariant.again (sym c.ended.ensures ∙ not-some c.ended.result c.in_default.not-Some)
+    line_left _ _ _ _ _ c.lines.invariant.again (sym c.end_of.ensures ∙ not-some c.end_of.result c.in_default.not-Some)
 
 pub make_named-requires-clause-names : goal.make_named-requires-clause-names
 make_named-requires-clause-names g c =
     names_next _ _ _ _ _ _ _ _ c.lines.invariant.same c.requires.formed c.lines.invariant.again
-    (sym c.ended.ensures ∙ not-some c.ended.result c.in_default.not-Some) c.split_line.ensures.lines
+    (sym c.end_of.ensures ∙ not-some c.end_of.result c.in_default.not-Some) c.split_line.ensures.lines
 
 pub make_named-requires-clause-room : goal.make_named-requires-clause-room
 make_named-requires-clause-room g c =
     has_room _ _ _ _ _ _ c.lines.invariant.same c.lines.invariant.again
-    (sym c.ended.ensures ∙ not-some c.ended.result c.in_default.not-Some)
+    (sym c.end_of.ensures ∙ not-some c.end_of.result c.in_default.not-Some)
 
 pub make_named-requires-clause-reached : goal.make_named-requires-clause-reached
 make_named-requires-clause-reached g c = is_reached _ _ _ _ _ _ c.lines.invariant.same c.requires.formed c.lines.invariant.again
 
-pub found-requires-clause-reached : goal.found-requires-clause-reached
-found-requires-clause-reached g c = is_reached _ _ _ _ _ _ (λ i. c.args.scenario.now) c.requires.formed c.lines.invariant.again
+pub agreement-requires-clause-reached : goal.agreement-requires-clause-reached
+agreement-requires-clause-reached g c = is_reached _ _ _ _ _ _ (λ i. c.args.scenario.now) c.requires.formed c.lines.invariant.again
 
 pub returns-in-Some : goal.returns-in-Some
 returns-in-Some g c =
-    IfOk-weaker c.found.result _ _
-    (λ a is. is_agreed _ _ _ _ _ _ a c.lines.invariant.again (sym c.ended.ensures ∙ c.in-Some.is) is)
-    c.found.ensures
+    IfOk-weaker c.agreement.result _ _
+    (λ a is. is_agreed _ _ _ _ _ _ a c.lines.invariant.again (sym c.end_of.ensures ∙ c.in-Some.is) is)
+    c.agreement.ensures
 
 pub lines-preserved : goal.lines-preserved
 lines-preserved g c = record {
   again = goes_on _ _ _ _ _ _ _ _ _ _ _ c.lines.invariant.same c.requires.formed c.lines.invariant.again
-      (sym c.ended.ensures ∙ not-some c.ended.result c.in_default.not-Some) c.split_line.ensures.lines c.in_ok-entry.ensures.made
+      (sym c.end_of.ensures ∙ not-some c.end_of.result c.in_default.not-Some) c.split_line.ensures.lines c.in_ok-entry.ensures.made
       c.in_ok-push.ensures.items;
   same = c.in_ok-entry.ensures.scenario ∙ c.lines.invariant.same;
   kinds = c.in_ok-entry.ensures.row;

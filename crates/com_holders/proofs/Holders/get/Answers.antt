@@ -13,7 +13,7 @@ keep_direct-requires-clause-made c =
 
 pub returns-in-Ok-clause-row : goal.returns-in-Ok-clause-row
 returns-in-Ok-clause-row c =
-    let live : is_connected c.args.self.now.stubs c.in-Some.held.object ≡ true = sym c.connected.ensures ∙ c.if-not-connected.false in
+    let live : is_connected c.args.self.now.stubs c.in-Some.held.object ≡ true = sym c.is_connected.ensures ∙ c.if-not-is_connected.false in
     let own : owns_of c.args.self.now.objects c.in-Some.held.object c.args.apartment ≡ false = sym c.owns.ensures ∙ c.if-owns.false in
     c.in-Ok.ensures.books ∙ sym (takes_new (owns_of c.args.self.now.objects) (books_of c.args.self.now) c.args.apartment c.in-Some.held.object c.in-Some.held.iface (books_live c.args.self.now c.in-Some.held.object live) own)
 

@@ -1,6 +1,6 @@
 use Rattle.std.proofs.Common.{◌≡◌, ◌∷◌, arith, refl, rules}
 use Rattle.std.proofs.lemmas.Grind.{common_steps}
-use Rattle.com_moved.proofs.Pushed.{ends, goes_on, starts}
+use Rattle.com_moved.proofs.Pushed.{goes_on, starts}
 use Rattle.com_moved.proofs.writing.push_lines.Goals as goal
 
 pub entries-init : goal.entries-init

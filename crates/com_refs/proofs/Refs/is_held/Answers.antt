@@ -8,5 +8,5 @@ pub returns-else-direct-gt0 : goal.returns-else-direct-gt0
 returns-else-direct-gt0 c =
     let t = c.self.inside.holders in
     let none : direct_in t c.args.object ≡ 0 = omega (arith, c.direct.ensures, c.if-direct-gt0.false) in
-    subst (λ (u : Tables). (c.connected.result ≡ true) ↔ (0 < holders_of u c.args.object)) c.self.view_is
-    (held_where_connected t c.self.inside.holds.items c.args.object c.connected.result c.self.invariant.counts none c.connected.ensures)
+    subst (λ (u : Tables). (c.is_connected.result ≡ true) ↔ (0 < holders_of u c.args.object)) c.self.view_is
+    (held_where_connected t c.self.inside.holds.items c.args.object c.is_connected.result c.self.invariant.counts none c.is_connected.ensures)

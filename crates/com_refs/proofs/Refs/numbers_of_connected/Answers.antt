@@ -8,13 +8,13 @@ pub returns-clause-packets : goal.returns-clause-packets
 returns-clause-packets c =
     let t = c.self.inside.holders in
     let live = rw (← c.self.view_is) at c.requires.connected in
-    rw (← c.self.view_is) (c.packed-packets.ensures ∙ sym (live_normal t c.args.object live))
+    rw (← c.self.view_is) (c.packet_references-packets.ensures ∙ sym (live_normal t c.args.object live))
 
 pub returns-clause-stub : goal.returns-clause-stub
 returns-clause-stub c =
     let t = c.self.inside.holders in
     let live = rw (← c.self.view_is) at c.requires.connected in
-    let all : c.counted-stub.result ≡ sum_of t.counters c.args.object = rw live at c.counted-stub.ensures in
+    let all : c.stub_references-stub.result ≡ sum_of t.counters c.args.object = rw live at c.stub_references-stub.ensures in
     rw (← c.self.view_is) (λ n m w. all ∙ sym (live_stub t c.args.object live n m c.stands.ensures.known c.stands.ensures.apart w c.stands.ensures.first))
 
 pub returns-clause-proxies : goal.returns-clause-proxies
@@ -22,21 +22,21 @@ returns-clause-proxies c =
     let t = c.self.inside.holders in
     let o = c.args.object in
     let live = rw (← c.self.view_is) at c.requires.connected in
-    let all : c.counted-stub.result ≡ sum_of t.counters o = rw live at c.counted-stub.ensures in
+    let all : c.stub_references-stub.result ≡ sum_of t.counters o = rw live at c.stub_references-stub.ensures in
     rw (← c.self.view_is) (λ n m w.
     let sum = live_sum t o live n m c.stands.ensures.known c.stands.ensures.apart w c.stands.ensures.even c.stands.ensures.first in
     let fits : public_sum o t.proxies < 2 ^ 64 = omega (arith, sum, all) in
-    c.proxied-proxies.ensures fits ∙ sym (live_proxies t o live n m c.stands.ensures.known c.stands.ensures.apart w c.stands.ensures.placed))
+    c.proxy_references-proxies.ensures fits ∙ sym (live_proxies t o live n m c.stands.ensures.known c.stands.ensures.apart w c.stands.ensures.placed))
 
 pub returns-clause-tables : goal.returns-clause-tables
 returns-clause-tables c =
     let t = c.self.inside.holders in
     let o = c.args.object in
     let live = rw (← c.self.view_is) at c.requires.connected in
-    let all : c.counted-stub.result ≡ sum_of t.counters o = rw live at c.counted-stub.ensures in
+    let all : c.stub_references-stub.result ≡ sum_of t.counters o = rw live at c.stub_references-stub.ensures in
     rw (← c.self.view_is) (λ n m w.
     let sum = live_sum t o live n m c.stands.ensures.known c.stands.ensures.apart w c.stands.ensures.even c.stands.ensures.first in
     let fits : public_sum o t.proxies < 2 ^ 64 = omega (arith, sum, all) in
-    let proxies = c.proxied-proxies.ensures fits in
+    let proxies = c.proxy_references-proxies.ensures fits in
     let normal = live_normal t o live in
-    omega (arith, sum, all, proxies, normal, c.packed-packets.ensures, c.saturating_sub.ensures, c.saturating_sub-2.ensures))
+    omega (arith, sum, all, proxies, normal, c.packet_references-packets.ensures, c.saturating_sub.ensures, c.saturating_sub-2.ensures))

@@ -1,5 +1,5 @@
 use Rattle.std.proofs.Common.{◌≡◌, false}
-use Rattle.com_keyed.specs.Places.{reach}
+use Rattle.com_keyed.specs.Indices.{reach}
 use Rattle.com_keyed.proofs.Walking.{Walks}
 use Rattle.com_stub.specs.CounterRows.{is_for, row_at}
 use Rattle.com_stub.proofs.counters.find.Given as goal

@@ -1,5 +1,5 @@
 use Rattle.std.proofs.Common.{◌≡◌, sym, arith, subst, ◌+◌}
-use Rattle.com_keyed.specs.Places.{reach}
+use Rattle.com_keyed.specs.Indices.{reach}
 use Rattle.com_keyed.proofs.Walking.{walk_begins, walk_goes_on, walk_inside, walk_at}
 use Rattle.com_stub.proofs.Sums.{sum_begins, sum_goes_on, sum_fits, sum_from}
 use Rattle.com_stub.proofs.counters.sum.Goals as goal

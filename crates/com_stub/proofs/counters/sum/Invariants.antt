@@ -1,5 +1,5 @@
 use Rattle.std.proofs.Common.{◌≡◌}
-use Rattle.com_keyed.specs.Places.{reach}
+use Rattle.com_keyed.specs.Indices.{reach}
 use Rattle.com_keyed.proofs.Walking.{Walks}
 use Rattle.com_stub.proofs.Sums.{sum_from}
 use Rattle.com_stub.proofs.counters.sum.Given as goal

@@ -1,6 +1,5 @@
-use Rattle.std.proofs.Common.{◌≡◌, Option, Some, refl, subst, sym, ◌∙◌}
-use Rattle.com_body.specs.declared.frame.Outcome.{Outcome}
-use Rattle.com_turns.specs.Turns.{IsTurn, script_seen}
+use Rattle.std.proofs.Common.{◌≡◌, sym, ◌∙◌}
+use Rattle.com_turns.specs.Turns.{script_seen}
 use Rattle.com_turns.proofs.Stepping.{over_rules, rule_turn, script_steps, step_next, taken_is, turns_in}
 use Rattle.com_turns.proofs.turns.own_step.Goals as goal
 

@@ -7,7 +7,7 @@ use Rattle.com_check.proofs.judge.Judge.turn.Goals as goal
 pub returns-in_default-clause-turn : goal.returns-in_default-clause-turn
 returns-in_default-clause-turn g c =
     IfOk-weaker c.no_entry.result _ _
-    (λ t is. turn_unnamed _ _ _ _ _ _ _ t c.requires.reached (when_none _ _ c.named.result c.in_default.not-Some c.named.ensures) c.entries-entries.ensures is)
+    (λ t is. turn_unnamed _ _ _ _ _ _ _ t c.requires.reached (when_none _ _ c.lane_of.result c.in_default.not-Some c.lane_of.ensures) c.entries-entries.ensures is)
     c.no_entry.ensures
 
 pub returns-in_default-2-clause-turn : goal.returns-in_default-2-clause-turn
@@ -20,7 +20,7 @@ pub returns-clause-turn : goal.returns-clause-turn
 returns-clause-turn g c =
     let made = rw c.in-Some-2.is at c.in_ok-entry.ensures.made in
     let line = c.in_ok-write.ensures.line ∙ ap (λ (v : ℕ). entry_line v (c.entries-entries.result + 1) c.in-Some-2.entry) c.requires.version in
-    IfOk-weaker c.compared.result _ _
+    IfOk-weaker c.compare_line.result _ _
     (λ t same. turn_settled _ _ _ _ _ _ _ _ c.in-Some-2.entry _ _ t c.in-Some.ensures made (ap (λ (n : ℕ). n + 1) c.entries-entries.ensures) line
     c.in_ok-write.ensures.last same)
-    c.compared.ensures
+    c.compare_line.ensures

@@ -24,11 +24,11 @@ returns-clause-applies c = λ gained lost eg el.
     (applies_whole (around c.args.context.calls.now.tables c.args.context.objects.now.tables c.args.context.classes.now c.args.context.carried.now c.number_or_zero-apartment.result) c.args.entry.now.deed
     c.args.self.now.refs c.prepare.new.self.refs c.enter_reference.new.self.refs c.take.new.refs c.enter_end.new.self.refs c.lose_all.new.refs
     c.args.self.now.calls c.prepare.new.self.calls c.enter_reference.new.self.calls c.enter_end.new.self.calls
-    c.clear.new.self.items c.enter_reference.new.self.brought.items c.as_slice.result.now c.gained-gained.result.now c.lost-lost.result.now gained lost
+    c.clear.new.self.items c.enter_reference.new.self.brought.items c.as_slice.result.now c.gains-gained.result.now c.losses-lost.result.now gained lost
     c.in_ok-prepare.ensures.places c.in_ok-prepare.ensures.books c.in_ok-prepare.ensures.calls c.clear.ensures.items
     c.in_ok-enter_reference.ensures.gives c.as_slice.ensures.value c.take.ensures.exchanged
     c.enter_end.ensures.closes c.enter_end.ensures.calls
-    c.lose_all.ensures.objects c.lose_all.ensures.ended (eg ∙ sym c.gained-gained.ensures) (el ∙ sym c.lost-lost.ensures))
+    c.lose_all.ensures.objects c.lose_all.ensures.ended (eg ∙ sym c.gains-gained.ensures) (el ∙ sym c.losses-lost.ensures))
 
 pub returns-clause-touched : goal.returns-clause-touched
 returns-clause-touched c = λ gained lost eg el.
@@ -38,30 +38,30 @@ returns-clause-touched c = λ gained lost eg el.
     (applies_whole (around c.args.context.calls.now.tables c.args.context.objects.now.tables c.args.context.classes.now c.args.context.carried.now c.number_or_zero-apartment.result) c.args.entry.now.deed
     c.args.self.now.refs c.prepare.new.self.refs c.enter_reference.new.self.refs c.take.new.refs c.enter_end.new.self.refs c.lose_all.new.refs
     c.args.self.now.calls c.prepare.new.self.calls c.enter_reference.new.self.calls c.enter_end.new.self.calls
-    c.clear.new.self.items c.enter_reference.new.self.brought.items c.as_slice.result.now c.gained-gained.result.now c.lost-lost.result.now gained lost
+    c.clear.new.self.items c.enter_reference.new.self.brought.items c.as_slice.result.now c.gains-gained.result.now c.losses-lost.result.now gained lost
     c.in_ok-prepare.ensures.places c.in_ok-prepare.ensures.books c.in_ok-prepare.ensures.calls c.clear.ensures.items
     c.in_ok-enter_reference.ensures.gives c.as_slice.ensures.value c.take.ensures.exchanged
     c.enter_end.ensures.closes c.enter_end.ensures.calls
-    c.lose_all.ensures.objects c.lose_all.ensures.ended (eg ∙ sym c.gained-gained.ensures) (el ∙ sym c.lost-lost.ensures))
+    c.lose_all.ensures.objects c.lose_all.ensures.ended (eg ∙ sym c.gains-gained.ensures) (el ∙ sym c.losses-lost.ensures))
     (held_made c.args.self.now.refs c.prepare.new.self.refs c.prepare.new.self.refs.spare c.in_ok-prepare.ensures.refs c.in_ok-prepare.ensures.none c.bounds.ensures.held)
     (λ o some most m. c.keep_made.ensures.kept o some (omega (arith, most, c.objects.ensures)) m)
     (loses_whole (around c.args.context.calls.now.tables c.args.context.objects.now.tables c.args.context.classes.now c.args.context.carried.now c.number_or_zero-apartment.result) c.args.entry.now.deed
     c.args.self.now.refs c.prepare.new.self.refs c.enter_reference.new.self.refs c.take.new.refs c.enter_end.new.self.refs c.lose_all.new.refs
     c.args.self.now.calls c.prepare.new.self.calls c.enter_reference.new.self.calls c.enter_end.new.self.calls
-    c.clear.new.self.items c.enter_reference.new.self.brought.items c.as_slice.result.now c.gained-gained.result.now c.lost-lost.result.now gained lost
+    c.clear.new.self.items c.enter_reference.new.self.brought.items c.as_slice.result.now c.gains-gained.result.now c.losses-lost.result.now gained lost
     c.clear-2.new.self.items c.take.new.touched.items c.enter_end.new.self.touched.items c.lose_all.new.touched.items
     c.in_ok-prepare.ensures.places c.in_ok-prepare.ensures.books c.in_ok-prepare.ensures.calls c.clear.ensures.items
     c.clear-2.ensures.items
     c.in_ok-enter_reference.ensures.gives c.as_slice.ensures.value c.in_ok-enter_reference.ensures.more
     c.take.ensures.exchanged c.take.ensures.touched
     c.enter_end.ensures.closes c.enter_end.ensures.touched
-    c.lose_all.ensures.touched (eg ∙ sym c.gained-gained.ensures) (el ∙ sym c.lost-lost.ensures)))
+    c.lose_all.ensures.touched (eg ∙ sym c.gains-gained.ensures) (el ∙ sym c.losses-lost.ensures)))
 
 pub returns-clause-rise : goal.returns-clause-rise
 returns-clause-rise c = subst (λ (n : ℕ). Rise 0 c.keep_made.new.touched.items n) c.objects.ensures c.keep_made.ensures.rise
 
 pub returns-clause-few : goal.returns-clause-few
 returns-clause-few c =
-    let many : length c.lost-lost.result.now ≡ length c.args.moves.now.lost = sym (length-map c.lost-lost.result.now moving_of) ∙ ap (λ l. length l) c.lost-lost.ensures in
+    let many : length c.losses-lost.result.now ≡ length c.args.moves.now.lost = sym (length-map c.losses-lost.result.now moving_of) ∙ ap (λ l. length l) c.losses-lost.ensures in
     let asked : asked_packets c.prepare.new.self.calls c.args.entry.now.deed ≡ asked_packets c.args.self.now.calls c.args.entry.now.deed = ap (λ (l : List CallPackets). asked_packets l c.args.entry.now.deed) c.in_ok-prepare.ensures.calls in
     omega (arith, many, asked, c.as_slice.ensures.len, c.keep_made.ensures.len, c.lose_all.ensures.len, c.enter_end.ensures.len, c.take.ensures.len, c.in_ok-enter_reference.ensures.brought, c.clear.ensures.len, c.clear-2.ensures.len)

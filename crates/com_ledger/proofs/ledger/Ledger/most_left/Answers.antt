@@ -7,6 +7,6 @@ use Rattle.com_ledger.proofs.ledger.Ledger.most_left.Goals as goal
 
 pub returns : goal.returns
 returns c =
-    let many : length c.lost.result.now ≡ length c.args.moves.now.lost = sym (length-map c.lost.result.now moving_of) ∙ ap (λ l. length l) c.lost.ensures in
+    let many : length c.losses.result.now ≡ length c.args.moves.now.lost = sym (length-map c.losses.result.now moving_of) ∙ ap (λ l. length l) c.losses.ensures in
     subst (λ (h : Held). c.most_noted.result ≡ most_left h.calls c.args.objects.now.tables c.args.deed.now c.args.moves.now) c.self.view_is
     (omega (arith, many, c.most_noted.ensures, c.arguments_of-arguments.ensures))

@@ -1,6 +1,0 @@
-use Rattle.std.proofs.Common.{◌≡◌}
-use Rattle.com_model.specs.Lists.{tabulated}
-use Rattle.com_lanes.proofs.lanes.filled.Given as goal
-
-abbrev pub invariant-loop-i : goal.invariant-loop-i
-invariant-loop-i g l = l.table.items ≡ tabulated l.i (λ k. l.row)
