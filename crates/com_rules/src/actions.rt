@@ -7,11 +7,11 @@ ghost use Rattle.com_rules.specs.Fits.{FitsAction, IsSilent};
 ghost use Rattle.com_rules.specs.Room.{HasRoom};
 ghost use Rattle.com_view.specs.Seen.{sight_by};
 
-use crate::alone::{acted_alone, acted_on};
+use crate::alone::{act_alone, act_on};
 use crate::asking::Found;
 use crate::making::marshalled_packet;
-use crate::naming::{dropped_packet, unmarshalled};
-use crate::sending::{called, left};
+use crate::naming::{drop_packet, unmarshal_packet};
+use crate::sending::{call, leave};
 use com_base::{Memory, RefValue, Rows};
 use com_body::Action;
 use com_calls::Issued;
@@ -44,10 +44,10 @@ fn silent_deed<B: Found>(
     ensures { IfOk result (λ made. made
         ≡ deed_of view.now.scenario (sight_by view.now (B.books books.now)) lane action.now) }
 {
-    if let Some(deed) = acted_alone(view, lane, action) {
+    if let Some(deed) = act_alone(view, lane, action) {
         return Ok(deed);
     }
-    if let Some(deed) = acted_on(view, books, lane, action) {
+    if let Some(deed) = act_on(view, books, lane, action) {
         return Ok(deed);
     }
     match action {
@@ -55,14 +55,14 @@ fn silent_deed<B: Found>(
             let deed = marshalled_packet(view, books, alloc, lane, *held, *mode)?;
             Ok(deed)
         }
-        Action::Unmarshal { buffer, .. } => Ok(unmarshalled(view, books, lane, *buffer)),
-        Action::Drop { buffer } => Ok(dropped_packet(view, books, lane, *buffer)),
+        Action::Unmarshal { buffer, .. } => Ok(unmarshal_packet(view, books, lane, *buffer)),
+        Action::Drop { buffer } => Ok(drop_packet(view, books, lane, *buffer)),
         _ => Err(AllocError),
     }
 }
 
 // The same, with nothing that goes with it.
-fn silent<B: Found>(
+fn silent_doing<B: Found>(
     view: &View<'_>,
     books: &B,
     alloc: Global,
@@ -88,7 +88,7 @@ fn silent<B: Found>(
 }
 
 /// The entry of an action of a lane, with what goes with it. The only error is want of memory.
-pub fn acted<B: Found>(
+pub fn act<B: Found>(
     view: &View<'_>,
     books: &B,
     alloc: Global,
@@ -112,7 +112,7 @@ pub fn acted<B: Found>(
             args,
             ..
         } => {
-            let made = called(
+            let made = call(
                 view,
                 books,
                 alloc,
@@ -124,7 +124,7 @@ pub fn acted<B: Found>(
             )?;
             Ok(made)
         }
-        Action::Leave { answer, value } => left(view, books, alloc, lane, *answer, value.as_ref()),
-        _ => silent(view, books, alloc, lane, action),
+        Action::Leave { answer, value } => leave(view, books, alloc, lane, *answer, value.as_ref()),
+        _ => silent_doing(view, books, alloc, lane, action),
     }
 }

@@ -8,6 +8,10 @@ ghost use Rattle.com_view.specs.Seen.{sight_by};
 ghost use Rattle.com_view.specs.Connected.{Says};
 ghost use Rattle.com_rules.specs.Fits.{FitsAction};
 
+use com_action_deeds::{
+    create_deed, disconnect_deed, filter_deed, get_deed, init_deed, post_deed, query_deed,
+    quit_deed, register_deed, revoke_deed,
+};
 use com_base::RefValue;
 use com_body::Action;
 use com_model::Deed;
@@ -26,7 +30,7 @@ pub fn is_connected<R: References>(refs: &R, held: Option<RefValue>) -> bool
 /// The entry of an action on the lane itself, on words, places and buffers: `init`, `uninit`, `setfilter`,
 /// `pump`, `post`, `quit`,
 /// `copy`, `release` and `raw`. `None` of every other.
-pub fn acted_alone(view: &View<'_>, lane: u32, action: &Action) -> Option<Deed>
+pub fn act_alone(view: &View<'_>, lane: u32, action: &Action) -> Option<Deed>
     requires stas { length view.now.lanes.stas + 4 ≤ 2 ^ 32 }
     requires threads { length view.now.scenario.threads < 2 ^ 32 }
     requires fits { FitsAction action.now }
@@ -34,12 +38,12 @@ pub fn acted_alone(view: &View<'_>, lane: u32, action: &Action) -> Option<Deed>
         ≡ deed_of view.now.scenario (sight_by view.now b) lane action.now) }
 {
     match action {
-        Action::Init { mode } => Some(view.initialised(lane, *mode)),
-        Action::Uninit => Some(view.uninitialised(lane)),
-        Action::SetFilter { filter } => Some(view.filter_set(lane, *filter)),
+        Action::Init { mode } => Some(init_deed(view, lane, *mode)),
+        Action::Uninit => Some(view.uninit_deed(lane)),
+        Action::SetFilter { filter } => Some(filter_deed(view, lane, *filter)),
         Action::Pump { bound } => Some(Deed::Pump { bound: *bound }),
-        Action::Post { lane: to, word } => Some(view.posted(*to, *word)),
-        Action::Quit { lane: to } => Some(view.quit(*to)),
+        Action::Post { lane: to, word } => Some(post_deed(view, *to, *word)),
+        Action::Quit { lane: to } => Some(quit_deed(view, *to)),
         Action::Copy { held, .. } => Some(Deed::Copy { held: *held }),
         Action::Release { held, .. } => Some(Deed::Release { held: *held }),
         Action::Raw { buffer, bytes } => Some(Deed::Raw {
@@ -53,12 +57,7 @@ pub fn acted_alone(view: &View<'_>, lane: u32, action: &Action) -> Option<Deed>
 /// The entry of an action on an object, a reference or a cookie: `create`, `query`, `disconnect`, `register`,
 /// `get` and `revoke`.
 /// `None` of every other.
-pub fn acted_on<R: References>(
-    view: &View<'_>,
-    refs: &R,
-    lane: u32,
-    action: &Action,
-) -> Option<Deed>
+pub fn act_on<R: References>(view: &View<'_>, refs: &R, lane: u32, action: &Action) -> Option<Deed>
     requires objects { length view.now.objects.makings + 1 < 2 ^ 32 }
     requires cookies { length (R.books refs.now).cookies + 1 < 2 ^ 32 }
     requires fits { FitsAction action.now }
@@ -66,25 +65,25 @@ pub fn acted_on<R: References>(
         ≡ deed_of view.now.scenario (sight_by view.now (R.books refs.now)) lane action.now) }
 {
     match action {
-        Action::Create { class, iface, .. } => Some(view.created(lane, *class, *iface)),
+        Action::Create { class, iface, .. } => Some(create_deed(view, lane, *class, *iface)),
         Action::Query { held, iface, .. } => {
             let connected = is_connected(refs, *held);
-            Some(view.queried(lane, *held, *iface, connected))
+            Some(query_deed(view, lane, *held, *iface, connected))
         }
         Action::Disconnect { held } => {
             let connected = is_connected(refs, *held);
-            Some(view.disconnected(lane, *held, connected))
+            Some(disconnect_deed(view, lane, *held, connected))
         }
         Action::Register { held, .. } => {
             let connected = is_connected(refs, *held);
-            Some(view.registered(lane, *held, connected, refs.cookies()))
+            Some(register_deed(view, lane, *held, connected, refs.cookies()))
         }
         Action::Get { cookie, .. } => {
             let kept = refs.cookie(*cookie);
             let connected = refs.is_connected(kept.object);
-            Some(view.got(lane, *cookie, kept, connected))
+            Some(get_deed(view, lane, *cookie, kept, connected))
         }
-        Action::Revoke { cookie } => Some(view.revoked(lane, *cookie, refs.cookie(*cookie))),
+        Action::Revoke { cookie } => Some(revoke_deed(view, lane, *cookie, refs.cookie(*cookie))),
         _ => None,
     }
 }

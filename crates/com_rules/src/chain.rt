@@ -13,7 +13,7 @@ use std::alloc::Global;
 
 /// The entry that the first of the rules gives a lane, but for that of its script. The only error is want of
 /// memory.
-pub fn ruled<R: References>(
+pub fn rule_deed<R: References>(
     view: &View<'_>,
     refs: &R,
     alloc: Global,

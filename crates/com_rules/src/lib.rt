@@ -11,9 +11,9 @@ mod naming;
 mod room;
 mod sending;
 
-pub use actions::{Doing, acted};
+pub use actions::{Doing, act};
 pub use asking::Found;
-pub use chain::{ruled, script_over};
+pub use chain::{rule_deed, script_over};
 pub use com_base::Memory;
 pub use com_calls::Issued;
 pub use room::{fits, has_room};

@@ -6,7 +6,7 @@ ghost use Rattle.std.specs.List.{AllByRecursion};
 ghost use Rattle.com_base.specs.declared.value.RefValue.{RefValue};
 ghost use Rattle.com_body.specs.declared.actions.Action.TheVariants as action;
 ghost use Rattle.com_books.specs.Changes.{Books, marshal_all, new_packet};
-ghost use Rattle.com_exchange.specs.Previews.{IsOutgoing, reference_of, refs_of};
+ghost use Rattle.com_exchange.specs.Previews.{IsOutgoing, reference_of};
 ghost use Rattle.com_model.specs.Deeds.{deed_of, fields_since, marshalled, packet_fields, with_packets};
 ghost use Rattle.com_model.specs.Lists.{number_or_zero};
 ghost use Rattle.com_rules.specs.Packets.{refs_made, field_of, fields_from};
@@ -16,7 +16,9 @@ use crate::alone::is_connected;
 use crate::asking::Found;
 use com_base::{HResult, MarshalMode, Memory, RefValue, StdFields};
 use com_books::Packet;
-use com_deeds::{FIVE, hold_refusal, marshalled, not_marshalled, number_or_zero, packet_fields};
+use com_deeds::{
+    FIVE, hold_refusal, marshal_deed, number_or_zero, packet_fields, refused_marshal_deed,
+};
 use com_exchange::{Outgoing, packet_refs};
 use com_model::Deed;
 use com_view::View;
@@ -95,7 +97,7 @@ fn marshalled_now<B: Found>(
     let owned = view.owns(lane, held.object);
     let refs = refs_made(mode, owned, public(view, books, lane, held)?);
     let fields = fields_as(view, number, mode, held, refs);
-    let deed = marshalled(alloc, number, mode, held, refs, &fields)?;
+    let deed = marshal_deed(alloc, number, mode, held, refs, &fields)?;
     Ok(deed)
 }
 
@@ -114,11 +116,11 @@ pub fn marshalled_packet<B: Found>(
 {
     let connected = is_connected(books, held);
     if let Some(hr) = hold_refusal(view.home(lane), held, connected) {
-        return Ok(not_marshalled(mode, held, hr));
+        return Ok(refused_marshal_deed(mode, held, hr));
     }
     match held {
         Some(held) => marshalled_now(view, books, alloc, lane, mode, held),
-        None => Ok(not_marshalled(mode, None, HResult::E_POINTER)),
+        None => Ok(refused_marshal_deed(mode, None, HResult::E_POINTER)),
     }
 }
 

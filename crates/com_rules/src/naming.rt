@@ -10,9 +10,10 @@ ghost use Rattle.com_model.specs.Deeds.{deed_of, is_named, named_by, named_packe
 ghost use Rattle.com_view.specs.Seen.{sight_by};
 
 use crate::asking::Found;
+use com_action_deeds::unmarshal_deed;
 use com_base::{HResult, StdFields};
 use com_books::Packet;
-use com_deeds::{Named, dropped, packet_fields, standard_fields};
+use com_deeds::{Named, drop_deed, packet_fields, standard_fields};
 use com_model::Deed;
 use com_view::View;
 
@@ -62,7 +63,7 @@ fn find<B: Found>(view: &View<'_>, books: &B, fields: &StdFields) -> Option<u32>
 }
 
 // The packet that the bytes of a buffer name, or why they name none.
-fn named<B: Found>(view: &View<'_>, books: &B, lane: u32, buffer: u8) -> Named
+fn packet_in<B: Found>(view: &View<'_>, books: &B, lane: u32, buffer: u8) -> Named
     ensures { named_as result ≡ named_by view.now.scenario (sight_by view.now (B.books books.now))
         ((sight_by view.now (B.books books.now)).home lane) ((sight_by view.now
         (B.books books.now)).buffers buffer) }
@@ -87,21 +88,21 @@ fn row_of<B: Found>(books: &B, found: Named) -> Packet
 }
 
 /// The entry of `unmarshal` (CoUnmarshalInterface).
-pub fn unmarshalled<B: Found>(view: &View<'_>, books: &B, lane: u32, buffer: u8) -> Deed
+pub fn unmarshal_packet<B: Found>(view: &View<'_>, books: &B, lane: u32, buffer: u8) -> Deed
     ensures { (slot : ℕ) → result
         ≡ deed_of view.now.scenario (sight_by view.now (B.books books.now)) lane
         (action.Unmarshal slot buffer) }
 {
-    let found = named(view, books, lane, buffer);
+    let found = packet_in(view, books, lane, buffer);
     let kept = row_of(books, found);
     let connected = books.is_connected(kept.object);
-    view.unmarshalled(lane, found, kept, connected)
+    unmarshal_deed(view, lane, found, kept, connected)
 }
 
 /// The entry of `drop` (CoReleaseMarshalData).
-pub fn dropped_packet<B: Found>(view: &View<'_>, books: &B, lane: u32, buffer: u8) -> Deed
+pub fn drop_packet<B: Found>(view: &View<'_>, books: &B, lane: u32, buffer: u8) -> Deed
     ensures { result ≡ deed_of view.now.scenario (sight_by view.now (B.books books.now)) lane
         (action.Drop buffer) }
 {
-    dropped(named(view, books, lane, buffer))
+    drop_deed(packet_in(view, books, lane, buffer))
 }

@@ -1,6 +1,6 @@
 //! The entries that send values: the Out of a call, and the Leave of a body.
 
-ghost use Rattle.std.specs.Prelude.{◌≡◌, ◌&&◌, ℕ, true, not, List, [], Option, Some, IfOk, option_copied};
+ghost use Rattle.std.specs.Prelude.{◌≡◌, ◌&&◌, true, [], Option, Some, IfOk, option_copied};
 ghost use Rattle.std.specs.Prelude.{if◌then◌else◌};
 ghost use Rattle.com_body.specs.declared.actions.Action.{Action};
 ghost use Rattle.com_body.specs.declared.actions.Action.TheVariants as action;
@@ -21,10 +21,11 @@ use crate::actions::Doing;
 use crate::alone::is_connected;
 use crate::asking::Found;
 use crate::making::fields_made;
+use com_action_deeds::{call_refusal, next_cause};
 use com_base::{ByteList, HResult, Kind, Memory, RefValue, Rows, Value};
 use com_calls::Issued;
 use com_deeds::{number_or_zero, object_in, out, refusal_or_ok};
-use com_exchange::{Connections, carried, reply, request, sent_result, sent_values};
+use com_exchange::{Connections, references_in, reply, request, sent_result, sent_values};
 use com_model::{Deed, Issue, Route};
 use com_view::{References, View};
 use std::alloc::Global;
@@ -104,7 +105,7 @@ fn request_with<B: Found>(
         (B.books books.now)) lane Route.Post cause values.now) }
     ensures carried { IfOk result (λ made. made.carried ≡ carried values.now) }
 {
-    let held = carried(alloc, values)?;
+    let held = references_in(alloc, values)?;
     let fields = fields_made(view, books, alloc, lane, held.as_slice())?;
     let bytes = request(alloc, cause, values, fields.as_slice())?;
     Ok(Sending {
@@ -140,12 +141,12 @@ fn route(view: &View<'_>, lane: u32, target: Option<RefValue>, refusal: Option<H
 {
     match refusal {
         Some(_) => Route::Refused,
-        None => view.route(lane, target),
+        None => com_action_deeds::route(view, lane, target),
     }
 }
 
 // What a call has at its Out.
-fn issued(
+fn issue_of(
     view: &View<'_>,
     target: Option<RefValue>,
     refusal: Option<HResult>,
@@ -168,7 +169,7 @@ fn issued(
 
 /// The entry of a call, with what goes with it. The values are those that travel on its route, and the
 /// request has their bytes. The only error is want of memory.
-pub fn called<B: Found>(
+pub fn call<B: Found>(
     view: &View<'_>,
     books: &B,
     alloc: Global,
@@ -190,7 +191,7 @@ pub fn called<B: Found>(
         (action.Call target iface method args.now to) made.deed) }
 {
     let connected = is_connected(books, target);
-    let refusal = view.call_refusal(lane, target, iface, method, connected);
+    let refusal = call_refusal(view, lane, target, iface, method, connected);
     let route = route(view, lane, target, refusal);
     let values = arguments(
         view,
@@ -201,7 +202,7 @@ pub fn called<B: Found>(
         route.is_marshalled(),
         args,
     )?;
-    let cause = view.next_cause(lane);
+    let cause = next_cause(view, lane);
     let sending = request_on(view, books, alloc, lane, route, cause, values.as_slice())?;
     Ok(Doing {
         deed: out(
@@ -213,7 +214,7 @@ pub fn called<B: Found>(
             cause,
             sending.bytes,
         ),
-        issued: Some(issued(view, target, refusal, values)),
+        issued: Some(issue_of(view, target, refusal, values)),
         carried: sending.carried,
     })
 }
@@ -345,7 +346,7 @@ fn left_bare(alloc: Global, call: u32, answer: HResult) -> Doing
 }
 
 /// The entry of a Leave, with what goes with it. The only error is want of memory.
-pub fn left<B: Found>(
+pub fn leave<B: Found>(
     view: &View<'_>,
     books: &B,
     alloc: Global,

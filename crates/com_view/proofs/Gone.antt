@@ -1,5 +1,5 @@
 -- A result whose packet was given up.
-use Rattle.std.proofs.Common.{◌≡◌, ℕ, Bool, true, false, Option, Some, None, refl}
+use Rattle.std.proofs.Common.{◌≡◌, ℕ, true, false, Option, Some, None, refl}
 use Rattle.com_model.specs.Endings.{is_leave}
 use Rattle.com_model.specs.Rules.{result_gone}
 use Rattle.com_model.specs.Sight.{Sight}

@@ -1,9 +1,7 @@
-pub mod Words
 pub mod Sights
 pub mod Served
 pub mod Firsts
 pub mod Causes
-pub mod Says
 pub mod Gone
 pub mod Chosen
 pub mod Any

@@ -1,14 +1,13 @@
 -- The sight of a state, read from its parts.
-use Rattle.std.proofs.Common.{◌≡◌, ℕ, ◌+◌, Bool, false, true, not, ◌==◌, ◌&&◌, ◌||◌, if◌then◌else◌, suc, List, [], ◌∷◌, Option, Some, None, filter, length, slice_index_or, refl, ap, sym, ◌∙◌, All, is_none, cond, arith}
+use Rattle.std.proofs.Common.{◌≡◌, ℕ, ◌+◌, Bool, true, ◌==◌, ◌&&◌, ◌||◌, if◌then◌else◌, suc, List, [], ◌∷◌, filter, refl, ap, ◌∙◌, All, is_none, arith}
 use Rattle.com_books.specs.Changes.{Books}
 use Rattle.com_model.specs.declared.scenario.Scenario.{Scenario}
-use Rattle.com_model.specs.declared.keeps.Phase.TheVariants.{Unposted}
 use Rattle.com_model.specs.Calls.{object_of}
 use Rattle.com_model.specs.Lists.{from_one}
 use Rattle.com_model.specs.Sight.{Sight}
 use Rattle.com_model.specs.State.{State, SameBooks, sight_of, books_in, dies_in, serves_in, named_in, dying_in, inbox_in, issue_in, phase_in, admitted_in, ending_in}
 use Rattle.com_model.specs.Waiting.{is_queued}
-use Rattle.com_state.specs.Parts.{CallTables, lanes_of, objects_of, calls_of, named_at, issue_at}
+use Rattle.com_state.specs.Parts.{CallTables, objects_of, calls_of, named_at, issue_at}
 use Rattle.com_calls.specs.Kept.{Kept, IsNamed, inbox_at, with_tables}
 use Rattle.com_view.specs.Reads.{Reads}
 use Rattle.com_view.specs.Seen.{Seen, sight_by}

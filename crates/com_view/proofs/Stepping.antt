@@ -1,5 +1,5 @@
 -- When a lane can step: its body always can, and else one of the rules must give an entry.
-use Rattle.std.proofs.Common.{◌≡◌, ℕ, Bool, true, ◌||◌, List, [], ◌∷◌, Option, Some, None, is_some, option_map, refl}
+use Rattle.std.proofs.Common.{◌≡◌, ℕ, true, ◌||◌, List, [], ◌∷◌, Option, Some, None, is_some, option_map, refl}
 use Rattle.com_body.specs.declared.actions.Action.{Action}
 use Rattle.com_books.specs.Changes.{Books}
 use Rattle.com_model.specs.declared.deeds.Deed.{Deed}

@@ -1,6 +1,5 @@
 pub mod Sorts
 pub mod Seen
-pub mod Words
 pub mod Nexts
 pub mod Reads
 pub mod Connected

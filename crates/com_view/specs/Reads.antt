@@ -1,5 +1,5 @@
 -- When the parts that are read, with these books, are those of a state.
-use Rattle.std.specs.Prelude.{◌≡◌, ℕ, true, All}
+use Rattle.std.specs.Prelude.{◌≡◌, true, All}
 use Rattle.com_books.specs.Changes.{Books}
 use Rattle.com_model.specs.State.{State, SameBooks, books_in, dies_in}
 use Rattle.com_state.specs.Parts.{lanes_of, objects_of, calls_of}

@@ -78,7 +78,7 @@ impl<'a> View<'a> {
 
     /// How many milliseconds a lane's innermost open call has waited, and 0 where none is open.
     #[tactic(auto, using(crate::proofs::Causes::waited_none, crate::proofs::Causes::waited_last))]
-    pub fn waited(&self, lane: u32) -> u64
+    pub fn waiting_time(&self, lane: u32) -> u64
         ensures { result ≡ waited (bare self.now).issued_at self.now.clock (open_calls
             (openers_at self.now.lanes lane)) }
     {
@@ -96,6 +96,6 @@ impl<'a> View<'a> {
     {
         let filter = self.filter(lane);
         let sort = self.call_sort(lane, call);
-        incoming(self.scenario, filter, sort, self.waited(lane))
+        incoming(self.scenario, filter, sort, self.waiting_time(lane))
     }
 }

@@ -10,7 +10,7 @@ ghost use Rattle.com_view.specs.Seen.{sight_by};
 
 use crate::view::View;
 use com_base::{HResult, Memory, Value};
-use com_deeds::answered;
+use com_deeds::answer_code;
 use com_model::{Deed, Ending};
 
 // The value that an answer has. The only error is want of memory.
@@ -39,7 +39,7 @@ fn back_of(call: u32, ending: &Ending, refusal: HResult, gone: bool) -> Result<D
     let value = value_of(ending)?;
     Ok(Deed::Back {
         call,
-        hr: answered(ending, refusal),
+        hr: answer_code(ending, refusal),
         value,
     })
 }

@@ -17,7 +17,7 @@ use com_model::Deed;
 use std::alloc::Global;
 
 // Equal values. The only error is want of memory.
-fn copied(alloc: Global, values: &[Value]) -> Result<Rows<Value>, Memory>
+fn copy_of(alloc: Global, values: &[Value]) -> Result<Rows<Value>, Memory>
     ensures { IfOk result (λ copies. copies ≡ values.now) }
 {
     let mut copies = Vec::new(alloc);
@@ -40,7 +40,7 @@ impl<'a> View<'a> {
         }
     }
 
-    fn entered(&self, alloc: Global, lane: u32, call: u32) -> Result<Deed, Memory>
+    fn enter_deed(&self, alloc: Global, lane: u32, call: u32) -> Result<Deed, Memory>
         ensures { IfOk result (λ made. made
             ≡ deed.Enter call (object_of ((bare self.now).issue call)) ((bare self.now).owner (object_of
             ((bare self.now).issue call)) lane)
@@ -50,7 +50,7 @@ impl<'a> View<'a> {
         let object = self.object_of(call);
         let apartment = self.owner(object, lane);
         let call_type = self.shown_sort(lane, call);
-        let values = copied(alloc, self.calls.unread(call))?;
+        let values = copy_of(alloc, self.calls.unread_values(call))?;
         Ok(Deed::Enter {
             call,
             object,
@@ -76,7 +76,7 @@ impl<'a> View<'a> {
                 hr: HResult::RPC_E_SERVER_CANTUNMARSHAL_DATA,
             });
         }
-        self.entered(alloc, lane, call)
+        self.enter_deed(alloc, lane, call)
     }
 
     // The Verdict of the lane's filter that turns a call away.

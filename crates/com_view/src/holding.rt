@@ -1,6 +1,6 @@
 //! The rules that look at who holds references.
 
-ghost use Rattle.std.specs.Prelude.{◌≡◌, ◌&&◌, ℕ, not, length, IfOk, option_map};
+ghost use Rattle.std.specs.Prelude.{◌≡◌, ◌&&◌, not, length, IfOk, option_map};
 ghost use Rattle.com_books.specs.Changes.{Books, cookie, packet};
 ghost use Rattle.com_model.specs.Deeds.{cookie_number};
 ghost use Rattle.com_model.specs.Endings.{is_leave};

@@ -1,7 +1,6 @@
 //! The entry that a lane makes next, computed from the parts of a core by reference. Nothing is changed.
 #![tactic(auto)]
 
-mod actions;
 mod admission;
 mod answering;
 mod entering;
@@ -10,7 +9,6 @@ mod lanes;
 mod laws;
 mod next;
 mod objects;
-mod references;
 mod rules;
 mod sorts;
 mod standing;

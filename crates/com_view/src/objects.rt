@@ -13,7 +13,8 @@ ghost use Rattle.com_view.specs.Seen.{bare, sight_by, serves_seen, dying_seen, a
 use crate::sorts::Sort;
 use crate::view::View;
 use com_base::{HOST_STA, MTA, RefValue};
-use com_deeds::{Target, is_agile, number_or_zero};
+use com_classes::is_agile;
+use com_deeds::{Target, number_or_zero};
 use com_model::Deed;
 
 impl<'a> View<'a> {

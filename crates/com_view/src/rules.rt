@@ -1,21 +1,22 @@
 //! The rules that need no references: the entry that each gives.
 
 ghost use Rattle.std.specs.Prelude.{◌≡◌, ◌&&◌, if◌then◌else◌, Option, Some, None};
+ghost use Rattle.com_body.specs.declared.actions.Action.TheVariants as action;
 ghost use Rattle.com_books.specs.Changes.{Books};
-ghost use Rattle.com_model.specs.Deeds.{in_sta};
+ghost use Rattle.com_model.specs.Deeds.{deed_of, in_sta};
 ghost use Rattle.com_model.specs.Lists.{first};
 ghost use Rattle.com_model.specs.Rules.{is_open_to_calls, admits_next, admits_sta, rule_bound, rule_retry};
 ghost use Rattle.com_model.specs.Rules.{retried, rule_again, posted_again, rule_pending, asked_on, rule_word};
-ghost use Rattle.com_model.specs.Rules.{pumped, takes_word, is_script_turn, after_script, top};
+ghost use Rattle.com_model.specs.Rules.{takes_word, is_script_turn, after_script, top};
 ghost use Rattle.com_model.specs.Tables.{lane_sort};
-ghost use Rattle.com_model.specs.Waiting.{not_asked, mark_of, no_mail};
+ghost use Rattle.com_model.specs.Waiting.{not_asked, mark_of};
 ghost use Rattle.com_view.specs.Seen.{bare, sight_by};
 ghost use Rattle.com_view.specs.Sorts.{sort_as};
 
 use crate::sorts::Sort;
 use crate::view::View;
 use com_base::{HOST_STA, MTA};
-use com_deeds::{in_sta, pending, retried};
+use com_deeds::{in_sta, pending, retry_answer, uninit_deed};
 use com_model::{Deed, Opener, Phase};
 
 impl<'a> View<'a> {
@@ -44,7 +45,7 @@ impl<'a> View<'a> {
         match self.calls.phase(call) {
             Phase::Judged(verdict) => Some(Deed::Retry {
                 call,
-                answer: retried(
+                answer: retry_answer(
                     self.scenario,
                     self.filter(lane),
                     verdict,
@@ -144,6 +145,13 @@ impl<'a> View<'a> {
         }
     }
 
+    /// The entry of `uninit` (CoUninitialize).
+    pub fn uninit_deed(&self, lane: u32) -> Deed
+        ensures { (b : Books) → result ≡ deed_of self.now.scenario (sight_by self.now b) lane action.Uninit }
+    {
+        uninit_deed(self.home(lane), self.lanes.count(lane))
+    }
+
     /// What a thread's lane does after its script: it ends where it has no initialisation left, else it drops
     /// one.
     pub fn after_script(&self, lane: u32) -> Deed
@@ -152,7 +160,7 @@ impl<'a> View<'a> {
         if self.lanes.count(lane) == 0 {
             return Deed::End;
         }
-        self.uninitialised(lane)
+        self.uninit_deed(lane)
     }
 
     /// Whether a lane lets a posted call in. An STA's lane does while it pumps or waits for a posted call,

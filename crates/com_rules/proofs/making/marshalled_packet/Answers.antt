@@ -16,7 +16,7 @@ returns-in-Some g c = λ buffer.
     let so : hold_refusal v (home_seen w c.args.lane) c.args.held ≡ Some c.in-Some.hr =
     let is = c.in-Some.is in
     sym (ap (λ (h : Option ℕ). hold_refusal v h c.args.held) c.home.ensures) ∙ sym refused ∙ is in
-    c.not_marshalled.ensures w.scenario v c.args.lane
+    c.refused_marshal_deed.ensures w.scenario v c.args.lane
     ∙ ap (λ (r : Option HResult). marshalled w.scenario v c.args.lane c.args.mode c.args.held r) (sym so)
 
 pub marshalled_now-requires : goal.marshalled_now-requires

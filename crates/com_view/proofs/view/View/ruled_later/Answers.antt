@@ -1,4 +1,4 @@
-use Rattle.std.proofs.Common.{◌≡◌, Option, Some, None, sym, ◌∙◌}
+use Rattle.std.proofs.Common.{◌≡◌, Some, None, sym, ◌∙◌}
 use Rattle.com_model.specs.Rules.{rule_retry, rule_again, rule_pending}
 use Rattle.com_view.specs.Seen.{sight_by}
 use Rattle.com_view.proofs.Chosen.{some_first, none_first}

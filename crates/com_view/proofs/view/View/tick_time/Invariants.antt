@@ -1,4 +1,4 @@
-use Rattle.std.proofs.Common.{◌≡◌, ℕ}
+use Rattle.std.proofs.Common.{◌≡◌}
 use Rattle.std.specs.List.{filter_map}
 use Rattle.com_model.specs.Lists.{least, one_to}
 use Rattle.com_model.specs.Rules.{time_of}
