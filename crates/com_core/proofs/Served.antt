@@ -7,29 +7,25 @@ use Rattle.com_model.specs.declared.keeps.Opener.TheVariants.{Pumps, Waits, Ente
 use Rattle.com_model.specs.declared.scenario.Scenario.{Scenario}
 use Rattle.com_model.specs.Lists.{first}
 use Rattle.com_model.specs.State.{State, class_in, openers_in}
-use Rattle.com_drive.specs.Turns.{body_kind, served_in, one_served as served_one}
-use Rattle.com_turns.specs.Turns.{kind_above, kind_seen, one_served}
+use Rattle.com_drive.specs.Turns.{body_kind, served_in}
+use Rattle.com_turns.specs.Turns.{kind_above, kind_seen}
 use Rattle.com_core.specs.Seen.{CoreView, core_state}
 use Rattle.com_core.specs.Stands.{seen_by}
+use Rattle.com_servant.specs.Rows.{one_served}
 
--- The schedule speaks of the kind and of the counts in words of its own.
+-- The schedule speaks of the kind in words of its own.
 kind-same : (s : Scenario) (class : ℕ → ℕ) (x : Option Opener) → kind_above s class x ≡ body_kind s class x
 kind-same s class None = refl
 kind-same s class (Some (Pumps n)) = refl
 kind-same s class (Some (Waits c)) = refl
 kind-same s class (Some (Enters c o a)) = refl
 
-counts-same : (k : Option Native) (steps : List ℕ) → one_served k steps ≡ served_one k steps
-counts-same None steps = refl
-counts-same (Some k) steps = refl
-
 served-read : (s : Scenario) (st : State) (l : ℕ) (steps : List ℕ) → 1 ≤ l
     → one_served (kind_above s (class_in st) (first (openers_in st l))) steps ≡ served_in s st l steps
 unfolding served_in
 served-read s st zero steps h = absurd (omega (arith, h))
 served-read s st (suc l) steps h =
-    counts-same (kind_above s (class_in st) (first (openers_in st (suc l)))) steps
-    ∙ ap (λ (k : Option Native). served_one k steps) (kind-same s (class_in st) (first (openers_in st (suc l))))
+    ap (λ (k : Option Native). one_served k steps) (kind-same s (class_in st) (first (openers_in st (suc l))))
 
 pub served_core : {E F : Type 0} (r : Result E F) (w : Scenario) (v c : CoreView) (l : ℕ) (old new : List ℕ) → w ≡ v.scenario → v ≡ c → 1 ≤ l
     → OnOk r (new ≡ one_served (kind_seen (seen_by w v.parts v.fallen v.clock) l) old) → OnOk r (new ≡ served_in c.scenario (core_state c) l old)

@@ -26,13 +26,13 @@ ghost use Rattle.com_refs.specs.Counts.{holders_of};
 ghost use Rattle.com_scene.specs.Actors.{acting_of};
 ghost use Rattle.com_scene.specs.Kept.{HasSlots};
 ghost use Rattle.com_scene.specs.Ranges.{FitsDeed};
-ghost use Rattle.com_servant.specs.Rows.{row};
+ghost use Rattle.com_servant.specs.Rows.{one_served, row};
 ghost use Rattle.com_state.specs.After.{filtered_by};
 ghost use Rattle.com_state.specs.Parts.{issue_at, openers_at};
-ghost use Rattle.com_turns.specs.Turns.{IsTurn, actor_later, kind_seen, one_served};
+ghost use Rattle.com_turns.specs.Turns.{IsTurn, actor_later, kind_seen};
 ghost use Rattle.com_view.specs.Seen.{filter_seen, home_seen, running_seen};
 
-use crate::running::{Running, forget, unproved};
+use crate::running::{Running, forget, unproved_fact};
 use com_base::{Memory, RefValue};
 use com_body::Outcome;
 use com_fates::{Fates, count_bodies, other_by, released_by};
@@ -70,7 +70,7 @@ fn sent_of(issued: Option<Issued>) -> Option<Sent>
 }
 
 // The clock after an entry.
-fn ticked(deed: &Deed, clock: u64) -> u64
+fn clock_after(deed: &Deed, clock: u64) -> u64
     ensures { result ≡ ticked deed.now clock }
 {
     match deed {
@@ -221,9 +221,9 @@ impl Running {
         requires whole { IsWhole outcome.now }
         ensures begun { IfOk result (λ begun. IsBegun self.new.parts (acting_of acting) outcome.now
             (acting_of glance.after) entry.now.lane entry.now.deed begun) }
-        ensures issued { IfOk result (λ begun. begun.issued ≡ sent_by issued) }
-        ensures filtered { IfOk result (λ begun. begun.filtered ≡ glance.filtered) }
-        ensures time { IfOk result (λ begun. begun.clock ≡ self.old.clock) }
+        ensures issued { IfOk result (λ begun. begun.calling.issued ≡ sent_by issued) }
+        ensures filtered { IfOk result (λ begun. begun.calling.filtered ≡ glance.filtered) }
+        ensures time { IfOk result (λ begun. begun.calling.clock ≡ self.old.clock) }
         ensures same { parts_shown self.new.parts ≡ parts_shown self.old.parts }
         ensures entered { self.new.entered ≡ self.old.entered }
         ensures ledger { self.new.ledger ≡ self.old.ledger }
@@ -260,7 +260,7 @@ impl Running {
         requires begun { IsBegun self.old.parts (acting_of acting) outcome.old (acting_of glance.after)
             entry.now.lane entry.now.deed begun }
         ensures becomes { Becomes self.old.parts self.new.parts entry.now (acting_of acting) outcome.old
-            (acting_of glance.after) begun.filtered begun.issued begun.clock }
+            (acting_of glance.after) begun.calling.filtered begun.calling.issued begun.calling.clock }
         ensures bodies { All HasSlots self.new.parts.scene.bodies }
         ensures entered { self.new.entered ≡ self.old.entered }
         ensures ledger { self.new.ledger ≡ self.old.ledger }
@@ -352,7 +352,7 @@ impl Running {
         self.book(scenario, glance, carried, entry)?;
         self.finish_parts(glance, acting, outcome, entry, begun);
         self.settle(&entry.deed, acting);
-        self.clock = ticked(&entry.deed, self.clock);
+        self.clock = clock_after(&entry.deed, self.clock);
         Ok(())
     }
 
@@ -469,7 +469,7 @@ impl Running {
         let view = self.view(scenario);
         match next_turn(&view, &self.ledger, alloc, lane, servants, step)? {
             Some(made) => Ok(made),
-            None => Err(unproved()),
+            None => Err(unproved_fact()),
         }
     }
 
@@ -502,7 +502,7 @@ impl Running {
         forget(step);
         let made = self.turn_of(scenario, alloc, lane, servants, step)?;
         if !self.can_make(&made.doing.deed) {
-            return Err(unproved());
+            return Err(unproved_fact());
         }
         self.make_turn(scenario, lane, made, step)
     }
@@ -523,14 +523,14 @@ impl Running {
         ensures err { OnErr result (IsAsBefore self.old self.new) }
     {
         let Some(clock) = self.parts.calls().next_time(self.clock) else {
-            return Err(unproved());
+            return Err(unproved_fact());
         };
         let entry = Entry {
             lane: 0,
             deed: Deed::Tick { clock },
         };
         if !self.can_make(&entry.deed) {
-            return Err(unproved());
+            return Err(unproved_fact());
         }
         let mut step = None;
         self.make(scenario, Actor::Nobody, &mut step, None, &[], &entry)?;

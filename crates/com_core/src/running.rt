@@ -35,7 +35,7 @@ pub struct Running {
 
 /// The answer where an entry is none that the rules give, or the history is as long as it may be. No schedule
 /// asks for such an entry; that is not proved here.
-pub fn unproved() -> Memory {
+pub fn unproved_fact() -> Memory {
     Memory
 }
 

@@ -20,7 +20,7 @@ ghost use Rattle.com_model.specs.Tables.{lanes};
 ghost use Rattle.com_servant.specs.Rows.{row};
 ghost use Rattle.com_servant.specs.Steps.{IsOfItsClass, job_step};
 
-use crate::running::{Running, unproved};
+use crate::running::{Running, unproved_fact};
 use com_base::Memory;
 use com_body::{Job, Outcome};
 use com_drive::{Runtime, Standing};
@@ -77,7 +77,7 @@ impl Core {
         ensures clock { IfOk result (λ core. core.clock ≡ 0) }
     {
         let Some(count) = scenario.lanes() else {
-            return Err(unproved());
+            return Err(unproved_fact());
         };
         let running = Running::new(alloc, &scenario)?;
         Ok(Core {
@@ -183,10 +183,10 @@ impl Core {
             ≡ served_in self.old.scenario (core_state self.old) lane (map stepped servants.old.items)) }
     {
         if lane == 0 {
-            return Err(unproved());
+            return Err(unproved_fact());
         }
         if lane > self.count {
-            return Err(unproved());
+            return Err(unproved_fact());
         }
         self.running
             .step(&self.scenario, alloc, lane, servants, &mut self.step)
@@ -202,7 +202,7 @@ impl Core {
         ensures scenario { self.new.scenario ≡ self.old.scenario }
     {
         if self.standing() != Standing::Ticks {
-            return Err(unproved());
+            return Err(unproved_fact());
         }
         self.make_tick()
     }

@@ -20,7 +20,7 @@ ghost use Rattle.com_state.specs.SceneParts.{body_at};
 ghost use Rattle.com_turns.specs.Turns.{IsTurn, body_seen};
 ghost use Rattle.com_view.specs.Nexts.{is_body};
 
-use crate::running::{Running, forget, unproved};
+use crate::running::{Running, forget, unproved_fact};
 use com_base::Memory;
 use com_body::{Cells, Job, Outcome};
 use com_jobs::CommitError;
@@ -50,7 +50,7 @@ impl Running {
     {
         let view = self.view(scenario);
         let Some(Opener::Enters { call, object, .. }) = view.lanes.top(lane) else {
-            return Err(unproved());
+            return Err(unproved_fact());
         };
         work_of(&view, alloc, call, object)
     }
@@ -71,7 +71,7 @@ impl Running {
     }
 
     // The cells of the object whose body is innermost in a lane.
-    fn kept(&self, lane: u32) -> Cells
+    fn cells_of(&self, lane: u32) -> Cells
         ensures { result ≡ kept_top self.now.parts.scene (first (openers_at self.now.parts.lanes lane)) }
     {
         match self.parts.lanes().top(lane) {
@@ -169,7 +169,7 @@ impl Running {
         ensures back { IfErr result (IsGivenBack job outcome) }
         ensures err { OnErr result (IsAsBefore self.old self.new) }
     {
-        let kept = self.kept(lane);
+        let kept = self.cells_of(lane);
         if !same_cells(&job.cells, &kept) {
             return Err(CommitError::Stale { job, kept });
         }
@@ -200,7 +200,7 @@ impl Running {
         let view = self.view(scenario);
         match own_turn(&view, &self.ledger, alloc, lane, step)? {
             Some(made) => Ok(made),
-            None => Err(unproved()),
+            None => Err(unproved_fact()),
         }
     }
 
@@ -228,7 +228,7 @@ impl Running {
         forget(step);
         let made = self.own_turn_of(scenario, alloc, lane, step)?;
         if !self.can_make(&made.doing.deed) {
-            return Err(unproved());
+            return Err(unproved_fact());
         }
         self.make_turn(scenario, lane, made, step)
     }

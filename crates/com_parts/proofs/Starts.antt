@@ -34,13 +34,13 @@ parts_of k m b s n = record { lanes = k.tables; objects = m.tables; calls = b; s
 
 pub begun_is : (k k' : LaneRows) (m m' : ObjectRows) (b b' : Kept) (s : SceneRows) (n lane r i : ℕ) (acting after : Acting) (step : Option Outcome) (d : Deed) (x : Begun)
     → k'.tables ≡ k.tables → m'.tables ≡ m.tables → b' ≡ with_room b r i
-    → Fits k.tables m.tables b lane d x.clock → IsWriting step → n < 2 ^ 28 → length b.apartments ≡ length b.tables.issues
-    → HasSpace k' lane d → HasRowFor m' d → HasPlace d x.apartment b' → IsPrepared acting after d s.room s.taken → HasIssued d x.issued → x.value ≡ left_in d
+    → Fits k.tables m.tables b lane d x.calling.clock → IsWriting step → n < 2 ^ 28 → length b.apartments ≡ length b.tables.issues
+    → HasSpace k' lane d → HasRowFor m' d → HasPlace d x.calling.apartment b' → IsPrepared acting after d s.room s.taken → HasIssued d x.calling.issued → x.calling.value ≡ left_in d
     → NamesOwners (named_at m.tables) (ends_sta d) x.owners.items
-    → x.apartment ≡ named_at m.tables (object_of (issues lane d)) → x.outermost ≡ is_none (running_call (openers_at k'.tables lane))
+    → x.calling.apartment ≡ named_at m.tables (object_of (issues lane d)) → x.calling.outermost ≡ is_none (running_call (openers_at k'.tables lane))
     → IsBegun (parts_of k' m' b' s n) acting step after lane d x
 begun_is k k' m m' b b' s n lane r i acting after step d x p q e fits writes few homes space row place ready issued value owners home outer = record {
-  fits = fits-kept k.tables k'.tables m.tables m'.tables b b' lane x.clock r i d p q e fits;
+  fits = fits-kept k.tables k'.tables m.tables m'.tables b b' lane x.calling.clock r i d p q e fits;
   writes = writes;
   few = few;
   homes = same_homes b b' r i e homes;

@@ -19,16 +19,16 @@ use Rattle.com_parts.specs.Tables.{PartTables}
 -- it finds of other parts.
 pub record IsBegun (p : PartTables) (acting : Acting) (r : Option Outcome) (after : Acting) (l : ℕ)
     (d : Deed) (b : Begun) : Type 0 where
-  pub fits : Fits p.lanes p.objects p.calls l d b.clock
+  pub fits : Fits p.lanes p.objects p.calls l d b.calling.clock
   pub writes : IsWriting r
   pub few : p.entries < 2 ^ 28
   pub homes : length p.calls.apartments ≡ length p.calls.tables.issues
   pub lanes : HasSpace p.rooms.lanes l d
   pub objects : HasRowFor p.rooms.objects d
-  pub place : HasPlace d b.apartment p.calls
+  pub place : HasPlace d b.calling.apartment p.calls
   pub scene : IsPrepared acting after d p.rooms.scene p.rooms.taken
-  pub issued : HasIssued d b.issued
-  pub value : b.value ≡ left_in d
+  pub issued : HasIssued d b.calling.issued
+  pub value : b.calling.value ≡ left_in d
   pub owners : NamesOwners (named_at p.objects) (ends_sta d) b.owners.items
-  pub apartment : b.apartment ≡ named_at p.objects (object_of (issues l d))
-  pub outermost : b.outermost ≡ is_none (running_call (openers_at p.lanes l))
+  pub apartment : b.calling.apartment ≡ named_at p.objects (object_of (issues l d))
+  pub outermost : b.calling.outermost ≡ is_none (running_call (openers_at p.lanes l))

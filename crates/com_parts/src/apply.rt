@@ -1,5 +1,5 @@
 //! What an entry makes of the parts.
-ghost use Rattle.std.specs.Prelude.{◌≡◌, ◌+◌, ◌<◌, ◌^◌, length, is_none, IsTrue, IfOk, OnOk, OnErr};
+ghost use Rattle.std.specs.Prelude.{◌≡◌, ◌+◌, ◌<◌, ◌^◌, length, is_none, IsTrue, IfOk, OnOk};
 ghost use Rattle.com_calls.specs.Kept.{with_room};
 ghost use Rattle.com_lanes.specs.Changes.{NamesStas, HasRoom};
 ghost use Rattle.com_lanes.specs.Rooms.{HasSpace};
@@ -32,7 +32,7 @@ const MOST_ENTRIES: u32 = 0x1000_0000;
 
 /// The answer where an entry is none that the rules give: one that names a call, an object or an apartment
 /// that there is not, or a number beyond its range. That no core asks for one is not proved here.
-fn unproved() -> Memory {
+fn unproved_fact() -> Memory {
     Memory
 }
 
@@ -123,12 +123,12 @@ impl Parts {
         ensures scene { self.new.scene ≡ self.old.scene }
         ensures begun { IfOk result (λ begun. IsBegun self.new (acting_of change.entry.acting) outcome.now
             (acting_of change.entry.after) change.entry.lane change.entry.deed.now begun) }
-        ensures issued { IfOk result (λ begun. begun.issued ≡ change.entry.issued) }
-        ensures filtered { IfOk result (λ begun. begun.filtered ≡ change.entry.filtered) }
-        ensures clock { IfOk result (λ begun. begun.clock ≡ change.entry.clock) }
+        ensures issued { IfOk result (λ begun. begun.calling.issued ≡ change.entry.issued) }
+        ensures filtered { IfOk result (λ begun. begun.calling.filtered ≡ change.entry.filtered) }
+        ensures clock { IfOk result (λ begun. begun.calling.clock ≡ change.entry.clock) }
     {
         if !self.takes(&change, outcome) {
-            return Err(unproved());
+            return Err(unproved_fact());
         }
         let Change {
             lane,
@@ -151,15 +151,15 @@ impl Parts {
             apartment,
         )?;
         self.scene.prepare(acting, after, deed)?;
-        Ok(Begun {
+        let calling = Calling {
             issued,
             apartment,
             value,
             outermost: is_outermost(&self.lanes, lane),
             filtered,
             clock,
-            owners,
-        })
+        };
+        Ok(Begun { calling, owners })
     }
 
     /// Finishes a change that was begun by the entry: the lanes, the objects, the calls and the scene after
@@ -182,63 +182,18 @@ impl Parts {
         ensures objects { self.new.objects
             ≡ objects_after self.old.objects (record { lane = lane; deed = deed.now }) }
         ensures calls { self.new.calls.tables ≡ calls_after self.old.objects
-            (moment_at self.old.lanes lane begun.filtered begun.clock) (issuing_of begun.issued)
-            self.old.calls.tables (record { lane = lane; deed = deed.now }) }
+            (moment_at self.old.lanes lane begun.calling.filtered begun.calling.clock)
+            (issuing_of begun.calling.issued) self.old.calls.tables
+            (record { lane = lane; deed = deed.now }) }
         ensures scene { self.new.scene ≡ rows_after (named_at self.old.objects) (acting_of acting) outcome.old
             (acting_of after) (record { lane = lane; deed = deed.now }) self.old.scene }
         ensures entries { self.new.entries ≡ self.old.entries + 1 }
     {
-        let Begun {
-            issued,
-            apartment,
-            value,
-            outermost,
-            filtered,
-            clock,
-            owners,
-        } = begun;
-        let calling = Calling {
-            issued,
-            apartment,
-            value,
-            outermost,
-            filtered,
-            clock,
-        };
+        let Begun { calling, owners } = begun;
         self.scene
             .apply(acting, outcome, after, lane, deed, owners.as_slice());
         change_rows(&mut self.lanes, &mut self.objects, lane, deed);
         change_calls(&mut self.calls, lane, deed, calling);
         self.entries += 1;
-    }
-
-    /// Makes of the parts what an entry makes of them: begins the change and finishes it. `outcome` has the
-    /// step of whoever makes the entry by one; what is left of it has no use any more. The only error is want
-    /// of memory; then nothing has changed, and the step is as it was.
-    pub fn apply(&mut self, change: Change<'_>, outcome: &mut Option<Outcome>) -> Result<(), Memory>
-        requires frame { FitsFrame (acting_of change.acting) outcome.old }
-        ensures lanes { OnOk result (self.new.lanes ≡ lanes_after self.old.lanes
-            (record { lane = change.entry.lane; deed = change.entry.deed.now })) }
-        ensures objects { OnOk result (self.new.objects ≡ objects_after self.old.objects
-            (record { lane = change.entry.lane; deed = change.entry.deed.now })) }
-        ensures calls { OnOk result (self.new.calls.tables ≡ calls_after self.old.objects
-            (moment_at self.old.lanes change.entry.lane change.entry.filtered change.entry.clock)
-            (issuing_of change.entry.issued) self.old.calls.tables
-            (record { lane = change.entry.lane; deed = change.entry.deed.now })) }
-        ensures scene { OnOk result (self.new.scene ≡ rows_after (named_at self.old.objects)
-            (acting_of change.entry.acting) outcome.old (acting_of change.entry.after)
-            (record { lane = change.entry.lane; deed = change.entry.deed.now }) self.old.scene) }
-        ensures entries { OnOk result (self.new.entries ≡ self.old.entries + 1) }
-        ensures err { OnErr result (IsSame self.old self.new) }
-        ensures same { OnErr result (self.new.scene ≡ self.old.scene) }
-        ensures whole { OnErr result (outcome.new ≡ outcome.old) }
-    {
-        let lane = change.lane;
-        let deed = change.deed;
-        let acting = change.acting;
-        let after = change.after;
-        let begun = self.begin(change, outcome)?;
-        self.finish(lane, deed, acting, after, outcome, begun);
-        Ok(())
     }
 }

@@ -36,6 +36,15 @@ pub struct Change<'a> {
 /// What a change that was begun has for its end, beside the entry.
 #[derive(Drop)]
 pub struct Begun {
+    /// What the calls have of it.
+    pub calling: Calling,
+    /// The apartment of each object, from 0, where the entry ends a single-threaded apartment; else none.
+    pub owners: Vec<u32>,
+}
+
+/// What the calls have for the end of a change that was begun, beside the entry.
+#[derive(Drop)]
+pub struct Calling {
     /// What the call has that the entry issues, where it is an Out.
     pub issued: Option<Sent>,
     /// The apartment of that call's target, and 0 where the entry issues none.
@@ -47,18 +56,5 @@ pub struct Begun {
     /// Whether the caller's lane has a message filter, as the change says.
     pub filtered: bool,
     /// The clock before the entry, in milliseconds.
-    pub clock: u64,
-    /// The apartment of each object, from 0, where the entry ends a single-threaded apartment; else none.
-    pub owners: Vec<u32>,
-}
-
-/// The part of a change that was begun which is the calls'.
-#[derive(Drop)]
-pub(crate) struct Calling {
-    pub issued: Option<Sent>,
-    pub apartment: u32,
-    pub value: Option<Value>,
-    pub outermost: bool,
-    pub filtered: bool,
     pub clock: u64,
 }

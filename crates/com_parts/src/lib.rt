@@ -12,5 +12,5 @@ mod issue;
 mod owners;
 mod parts;
 
-pub use change::{Begun, Change, Sent};
+pub use change::{Begun, Calling, Change, Sent};
 pub use parts::Parts;

@@ -14,7 +14,7 @@ ghost use Rattle.com_scene.specs.Seen.{seen, seat_of, seats_of, HasSeatFor, Keep
 use crate::actor::Actor;
 use crate::prepare::Taken;
 use crate::tables::{Seat, Tables};
-use com_base::{HResult, Value};
+use com_base::{HOST_STA, HResult, Value};
 use com_body::{Destination, Outcome};
 use com_model::Deed;
 
@@ -119,7 +119,7 @@ impl Tables {
             ≡ links_cut (λ o. slice_index_or owners.now o 0) (ends_sta (of_deed.Uninit (Some home) 0))
             (seen self.old) }
     {
-        if home >= 2 {
+        if home >= HOST_STA {
             self.cut_links(home, owners);
         }
     }

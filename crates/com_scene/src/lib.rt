@@ -18,4 +18,4 @@ mod writes;
 
 pub use actor::Actor;
 pub use scene::Scene;
-pub use writes::taken;
+pub use writes::given_reference;

@@ -1,5 +1,6 @@
 //! The memory that an entry takes.
-ghost use Rattle.std.specs.Prelude.{◌≡◌, ◌≤◌, IfOk, OnOk, None, [], false, length, slice_index_or};
+ghost use Rattle.std.specs.Prelude.{◌≡◌, ◌≤◌, IfOk, IsErr, MatchResult, OnOk, [], false, length};
+ghost use Rattle.std.specs.Prelude.{slice_index_or};
 ghost use Rattle.com_body.specs.Frames.{entered};
 ghost use Rattle.com_scene.specs.Actors.{acting_of};
 ghost use Rattle.com_scene.specs.Prepared.{HasBody, HasRowFor, HasSeatAfter, IsPrepared, IsTaken};
@@ -44,6 +45,14 @@ impl Taken {
     }
 }
 
+// Keeps what was made at its place. The only error is that for which it was not made.
+fn keep<T: Drop>(made: Result<T, Memory>, place: &mut Option<T>) -> Result<(), Memory>
+    ensures { MatchResult made (λ value. place.new ≡ Some value) (λ _. IsErr result) }
+{
+    *place = Some(made?);
+    Ok(())
+}
+
 // Takes a copy of the packet that an entry made. The only error is want of memory.
 fn take_packet(deed: &Deed, packet: &mut Option<ByteList>) -> Result<(), Memory>
     ensures { OnOk result (IsTaken (packet_in deed.now) packet.new) }
@@ -52,10 +61,7 @@ fn take_packet(deed: &Deed, packet: &mut Option<ByteList>) -> Result<(), Memory>
         Deed::Marshal {
             bytes: Some(bytes),
             ..
-        } => {
-            *packet = Some(bytes.copy()?);
-            Ok(())
-        }
+        } => keep(bytes.copy(), packet),
         _ => Ok(()),
     }
 }
@@ -68,10 +74,7 @@ fn take_value(deed: &Deed, value: &mut Option<Value>) -> Result<(), Memory>
         Deed::Back {
             value: Some(result),
             ..
-        } => {
-            *value = Some(result.copy()?);
-            Ok(())
-        }
+        } => keep(result.copy(), value),
         _ => Ok(()),
     }
 }
@@ -91,10 +94,7 @@ fn take_body(alloc: Global, deed: &Deed, body: &mut Option<Seat>) -> Result<(), 
     ensures { OnOk result (HasBody deed.now body.new) }
 {
     match deed {
-        Deed::Enter { values, .. } => {
-            *body = Some(new_seat(alloc, values.as_slice())?);
-            Ok(())
-        }
+        Deed::Enter { values, .. } => keep(new_seat(alloc, values.as_slice()), body),
         _ => Ok(()),
     }
 }
@@ -121,8 +121,7 @@ impl Tables {
         if self.is_seated(call) {
             return Ok(());
         }
-        *spare = Some(new_seat(*self.calls.allocator(), &[])?);
-        Ok(())
+        keep(new_seat(*self.calls.allocator(), &[]), spare)
     }
 
     // Takes a spare frame for an actor, where it is a body that has none. The only error is want of memory.

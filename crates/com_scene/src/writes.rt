@@ -64,7 +64,7 @@ pub fn wanted_by(action: &Action, deed: &Deed) -> Option<Wanted>
 
 /// The reference that an entry gives to whoever acts: that of an object that it made, asked for, unmarshalled
 /// or got from the global table; null where it gives none.
-pub fn taken(deed: &Deed) -> Option<RefValue>
+pub fn given_reference(deed: &Deed) -> Option<RefValue>
     requires { FitsDeed deed.now }
     ensures { result ≡ taken_in deed.now }
 {
@@ -138,7 +138,7 @@ fn put_packet(buffer: u8, packet: Option<ByteList>) -> Option<Write>
 }
 
 // The write of the packet that an entry made to a buffer, where it made one.
-fn marshalled(buffer: u8, deed: &Deed, packet: &mut Option<ByteList>) -> Option<Write>
+fn packet_write(buffer: u8, deed: &Deed, packet: &mut Option<ByteList>) -> Option<Write>
     requires { IsTaken (packet_in deed.now) packet.old }
     ensures writes { listed None result ≡ marshalled_in buffer deed.now }
     ensures in_range { IsMoreInRange result }
@@ -171,15 +171,15 @@ fn taken_write(action: &mut Action, deed: &Deed, packet: &mut Option<ByteList>) 
     ensures in_range { IsMoreInRange result }
 {
     match action {
-        Action::Create { slot, .. } => Some(Write::Slot(*slot, taken(deed))),
-        Action::Query { to, .. } => Some(Write::Slot(*to, taken(deed))),
+        Action::Create { slot, .. } => Some(Write::Slot(*slot, given_reference(deed))),
+        Action::Query { to, .. } => Some(Write::Slot(*to, given_reference(deed))),
         Action::Copy { to, held } => Some(at_place(*to, *held)),
         Action::Release { place, .. } => Some(at_place(*place, None)),
-        Action::Marshal { buffer, .. } => marshalled(*buffer, deed, packet),
-        Action::Unmarshal { slot, .. } => Some(Write::Slot(*slot, taken(deed))),
+        Action::Marshal { buffer, .. } => packet_write(*buffer, deed, packet),
+        Action::Unmarshal { slot, .. } => Some(Write::Slot(*slot, given_reference(deed))),
         Action::Raw { .. } => raw_write(action),
         Action::Register { to, .. } => Some(Write::Register(*to, Value::Int(cookie(deed) as i64))),
-        Action::Get { slot, .. } => Some(Write::Slot(*slot, taken(deed))),
+        Action::Get { slot, .. } => Some(Write::Slot(*slot, given_reference(deed))),
         _ => None,
     }
 }

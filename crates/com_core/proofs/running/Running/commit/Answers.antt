@@ -11,19 +11,19 @@ pub returns-then-not-same_cells-clause-refused : goal.returns-then-not-same_cell
 returns-then-not-same_cells-clause-refused c =
     let s = c.args.scenario.now in
     let r = c.args.self.now in
-    let k : c.kept-kept.result ≡ kept_in (core_state (kept_of s r)) c.args.lane = c.kept-kept.ensures ∙ kept_same s r c.args.lane in
+    let k : c.cells_of-kept.result ≡ kept_in (core_state (kept_of s r)) c.args.lane = c.cells_of-kept.ensures ∙ kept_same s r c.args.lane in
     let n : c.same_cells.result ≡ false = cc (c.if-not-same_cells.true) in
     (k, λ e. unlike c.same_cells.result c.same_cells.ensures n (e ∙ sym k))
 
 pub returns-in-Ok-clause-fresh : goal.returns-in-Ok-clause-fresh
 returns-in-Ok-clause-fresh c =
     let y : c.same_cells.result ≡ true = cc (c.if-not-same_cells.false) in
-    c.same_cells.ensures.0 y ∙ c.kept-kept.ensures ∙ kept_same c.args.scenario.now c.args.self.now c.args.lane
+    c.same_cells.ensures.0 y ∙ c.cells_of-kept.ensures ∙ kept_same c.args.scenario.now c.args.self.now c.args.lane
 
 pub returns-in-Err-clause-refused : goal.returns-in-Err-clause-refused
 returns-in-Err-clause-refused c =
     let y : c.same_cells.result ≡ true = cc (c.if-not-same_cells.false) in
-    c.same_cells.ensures.0 y ∙ c.kept-kept.ensures ∙ kept_same c.args.scenario.now c.args.self.now c.args.lane
+    c.same_cells.ensures.0 y ∙ c.cells_of-kept.ensures ∙ kept_same c.args.scenario.now c.args.self.now c.args.lane
 
 pub take-requires-clause-step : goal.take-requires-clause-step
 take-requires-clause-step c =
@@ -31,7 +31,7 @@ take-requires-clause-step c =
     let r = c.args.self.now in
     let l = c.args.lane in
     let y : c.same_cells.result ≡ true = cc (c.if-not-same_cells.false) in
-    let fresh : c.args.job.cells ≡ kept_in (core_state (kept_of s r)) l = c.same_cells.ensures.0 y ∙ c.kept-kept.ensures ∙ kept_same s r l in
+    let fresh : c.args.job.cells ≡ kept_in (core_state (kept_of s r)) l = c.same_cells.ensures.0 y ∙ c.cells_of-kept.ensures ∙ kept_same s r l in
     given_step s r l c.args.job c.args.outcome c.requires.fits fresh c.requires.outcome
 
 pub take-requires-clause-whole : goal.take-requires-clause-whole
@@ -40,5 +40,5 @@ take-requires-clause-whole c =
     let r = c.args.self.now in
     let l = c.args.lane in
     let y : c.same_cells.result ≡ true = cc (c.if-not-same_cells.false) in
-    let fresh : c.args.job.cells ≡ kept_in (core_state (kept_of s r)) l = c.same_cells.ensures.0 y ∙ c.kept-kept.ensures ∙ kept_same s r l in
+    let fresh : c.args.job.cells ≡ kept_in (core_state (kept_of s r)) l = c.same_cells.ensures.0 y ∙ c.cells_of-kept.ensures ∙ kept_same s r l in
     given_whole s r l c.args.job c.args.outcome (body_whole r.parts.scene c.requires.sound.bodies) c.requires.fits fresh c.requires.outcome
