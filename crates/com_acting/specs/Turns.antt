@@ -4,11 +4,12 @@ use Rattle.com_body.specs.declared.statements.Stmt.{Stmt}
 use Rattle.com_body.specs.declared.frame.Cells.{Cells}
 use Rattle.com_body.specs.declared.frame.Outcome.{Outcome}
 use Rattle.com_body.specs.BodySteps.{body_step}
+use Rattle.com_body.specs.Operands.{new_cells}
 use Rattle.com_classes.specs.Lookups.{body_of}
 use Rattle.com_model.specs.declared.keeps.Issue.{Issue}
 use Rattle.com_model.specs.declared.scenario.Scenario.{Scenario}
 use Rattle.com_model.specs.Tables.{script}
-use Rattle.com_model.specs.Frames.{Actor as Acting, Body, Script, Nobody, new_cells}
+use Rattle.com_model.specs.Frames.{Actor as Acting, Body, Script, Nobody}
 use Rattle.com_model.specs.State.{SceneTables}
 use Rattle.com_state.specs.SceneParts.{body_at, script_at, cells_at}
 

@@ -1,10 +1,10 @@
 -- Which lanes take words.
-use Rattle.std.proofs.Common.{◌≡◌, ℕ, ℤ, pos, negsuc, false, not, ◌&&◌, Some, None, refl, ap, ◌∙◌}
+use Rattle.std.proofs.Common.{◌≡◌, ℕ, ℤ, pos, negsuc, false, not, ◌&&◌, Some, None, refl, ap}
 use Rattle.com_model.specs.declared.scenario.Scenario.{Scenario}
 use Rattle.com_model.specs.Deeds.{takes_words}
 use Rattle.com_model.specs.Sight.{Sight}
 use Rattle.com_model.specs.Tables.{is_thread}
-use Rattle.com_action_deeds.specs.Words.{natural}
+use Rattle.com_lanes.specs.Changes.{natural}
 
 pub words_none : (s : Scenario) (v : Sight) (m : ℤ) → natural m ≡ None → takes_words s v m ≡ false
 words_none s v (pos n) e = cc

@@ -7,7 +7,7 @@ ghost use Rattle.com_model.specs.Tables.{is_thread};
 ghost use Rattle.com_body.specs.declared.actions.Action.TheVariants as action;
 ghost use Rattle.com_model.specs.declared.deeds.Deed.TheVariants as deed;
 ghost use Rattle.com_view.specs.Seen.{bare, sight_by};
-ghost use Rattle.com_action_deeds.specs.Words.{natural};
+ghost use Rattle.com_lanes.specs.Changes.{natural};
 
 use com_base::{HResult, Mode};
 use com_model::Deed;

@@ -46,24 +46,29 @@ pub fn query_deed(
     lane: u32,
     held: Option<RefValue>,
     iface: Asked,
-    connected: bool,
+    is_connected: bool,
 ) -> Deed
     requires { FitsNumber iface }
-    ensures { (b : Books) (to : ℕ) → Says b held connected
+    ensures { (b : Books) (to : ℕ) → Says b held is_connected
         → result ≡ deed_of view.now.scenario (sight_by view.now b) lane (action.Query to held iface) }
 {
     let home = view.home(lane);
-    let target = view.target_of(lane, held, connected);
+    let target = view.target_of(lane, held, is_connected);
     com_deeds::query_deed(view.scenario, held, iface, home, target)
 }
 
 /// The entry of `disconnect` of a reference whose object is connected or is not (CoDisconnectObject).
-pub fn disconnect_deed(view: &View<'_>, lane: u32, held: Option<RefValue>, connected: bool) -> Deed
-    ensures { (b : Books) → Says b held connected
+pub fn disconnect_deed(
+    view: &View<'_>,
+    lane: u32,
+    held: Option<RefValue>,
+    is_connected: bool,
+) -> Deed
+    ensures { (b : Books) → Says b held is_connected
         → result ≡ deed_of view.now.scenario (sight_by view.now b) lane (action.Disconnect held) }
 {
     let home = view.home(lane);
-    let target = view.target_of(lane, held, connected);
+    let target = view.target_of(lane, held, is_connected);
     com_deeds::disconnect_deed(held, home, target)
 }
 
@@ -73,26 +78,26 @@ pub fn register_deed(
     view: &View<'_>,
     lane: u32,
     held: Option<RefValue>,
-    connected: bool,
+    is_connected: bool,
     cookies: u32,
 ) -> Deed
     requires { cookies + 1 < 2 ^ 32 }
-    ensures { (b : Books) (to : ℕ) → length b.cookies ≡ cookies → Says b held connected
+    ensures { (b : Books) (to : ℕ) → length b.cookies ≡ cookies → Says b held is_connected
         → result ≡ deed_of view.now.scenario (sight_by view.now b) lane (action.Register to held) }
 {
-    let refusal = hold_refusal(view.home(lane), held, connected);
+    let refusal = hold_refusal(view.home(lane), held, is_connected);
     com_deeds::register_deed(held, refusal, cookies)
 }
 
 /// The entry of `get` of a cookie whose row is `kept`, where that row's object is connected or is not
 /// (IGlobalInterfaceTable::GetInterfaceFromGlobal).
-pub fn get_deed(view: &View<'_>, lane: u32, number: i64, kept: Cookie, connected: bool) -> Deed
+pub fn get_deed(view: &View<'_>, lane: u32, number: i64, kept: Cookie, is_connected: bool) -> Deed
     ensures { (b : Books) (slot : ℕ) → cookie b (cookie_number number) ≡ kept
-        → b.live kept.object ≡ connected
+        → b.live kept.object ≡ is_connected
         → result ≡ deed_of view.now.scenario (sight_by view.now b) lane (action.Get slot number) }
 {
     let home = view.home(lane);
-    let target = view.target(lane, kept.object, connected);
+    let target = view.target(lane, kept.object, is_connected);
     com_deeds::get_deed(number, home, kept, target)
 }
 
@@ -112,12 +117,12 @@ pub fn unmarshal_deed(
     lane: u32,
     found: Named,
     kept: Packet,
-    connected: bool,
+    is_connected: bool,
 ) -> Deed
-    ensures { (b : Books) → b.live kept.object ≡ connected → ((p : ℕ) → found ≡ named.Packet p
+    ensures { (b : Books) → b.live kept.object ≡ is_connected → ((p : ℕ) → found ≡ named.Packet p
         → packet b p ≡ kept) → result ≡ unmarshalled (sight_by view.now b) lane (named_as found) }
 {
-    let target = view.target(lane, kept.object, connected);
+    let target = view.target(lane, kept.object, is_connected);
     com_deeds::unmarshal_deed(found, kept, target)
 }
 
@@ -128,14 +133,14 @@ pub fn call_refusal(
     held: Option<RefValue>,
     iface: u16,
     method: u16,
-    connected: bool,
+    is_connected: bool,
 ) -> Option<HResult>
-    ensures { (b : Books) → Says b held connected
+    ensures { (b : Books) → Says b held is_connected
         → result ≡ call_refusal view.now.scenario (home_seen view.now lane)
         ((sight_by view.now b).running lane) (sight_by view.now b).owns b.live held iface method }
 {
     let home = view.home(lane);
-    let target = view.target_of(lane, held, connected);
+    let target = view.target_of(lane, held, is_connected);
     com_deeds::call_refusal(view.scenario, home, held, iface, method, target)
 }
 

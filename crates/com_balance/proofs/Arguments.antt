@@ -13,7 +13,7 @@ use Rattle.com_body.specs.declared.actions.Action.TheVariants as action
 use Rattle.com_body.specs.declared.frame.Cells.{Cells}
 use Rattle.com_body.specs.declared.frame.Outcome.{Outcome}
 use Rattle.com_body.specs.Frames.{FrameView, moved, entered}
-use Rattle.com_body.specs.Operands.{argument_of}
+use Rattle.com_body.specs.Operands.{argument_of, new_cells}
 use Rattle.com_body.specs.BodySteps.{Effect, Goes, Acts, effect_of, walk, body_step}
 use Rattle.com_classes.specs.Lookups.{body_of}
 use Rattle.com_model.specs.declared.deeds.Deed.{Deed}
@@ -23,7 +23,7 @@ use Rattle.com_model.specs.Answers.{S_OK}
 use Rattle.com_model.specs.Lists.{put}
 use Rattle.com_model.specs.Tables.{script}
 use Rattle.com_model.specs.declared.keeps.Issue.{Issue}
-use Rattle.com_model.specs.Frames.{Scene, new_cells, Actor, Body, Script, Nobody, issued_body, outcome, is_leave, unless_over, Write, ToRegister, ToSlot, ToLink, ToBuffer, writes, written, with_frame, wants, acted, arrived, cut_links, to_answer, to_destination, action_of}
+use Rattle.com_model.specs.Frames.{Scene, Actor, Body, Script, Nobody, issued_body, outcome, is_leave, unless_over, Write, ToRegister, ToSlot, ToLink, ToBuffer, writes, written, with_frame, wants, acted, arrived, cut_links, to_answer, to_destination, action_of}
 use Rattle.com_model.proofs.Goods.{IsPlain, CleanArg, all-of}
 use Rattle.com_balance.proofs.Carries.{HeldBy, ValueBy, Orderly, FrameBy, EffectBy, effect-by, argument-by, all-tail, all-head}
 use Rattle.com_balance.proofs.Moves.{OutBy, OrderlyActor}

@@ -127,7 +127,7 @@ got-low : (v : Sight) (l a : ℕ) (x : ℤ) (home : Option ℕ) → LowBy a (got
 got-low v l a x None = tt
 got-low v l a x (Some b) =
     let k : Cookie = cookie v.books (cookie_number x) in
-    cond-is (LowBy a) k.revoked (deed.Get x None 0 E_INVALIDARG) (got_with v l x k) tt
+    cond-is (LowBy a) k.is_revoked (deed.Get x None 0 E_INVALIDARG) (got_with v l x k) tt
     (cond-is (LowBy a) (v.books.live k.object) (deed.Get x (Some (reference k.object k.iface)) (gained_refs marshal.Strong (owned_by v l k.object) 0) S_OK) (deed.Get x None 0 CO_E_OBJNOTCONNECTED) tt tt)
 
 revoked-low : (v : Sight) (a : ℕ) (x : ℤ) (home : Option ℕ) → LowBy a (revoked v x home)

@@ -13,6 +13,7 @@ use Rattle.com_body.specs.declared.actions.Action.TheVariants as action
 use Rattle.com_body.specs.declared.frame.Cells.{Cells}
 use Rattle.com_body.specs.declared.frame.Outcome.{Outcome}
 use Rattle.com_body.specs.Frames.{FrameView, entered, with_register, with_slot}
+use Rattle.com_body.specs.Operands.{new_cells}
 use Rattle.com_classes.specs.Lookups.{body_of}
 use Rattle.com_model.specs.declared.deeds.Deed.{Deed}
 use Rattle.com_model.specs.declared.deeds.Deed.TheVariants as deed
@@ -22,7 +23,7 @@ use Rattle.com_model.specs.Lists.{put}
 use Rattle.com_model.specs.Tables.{script}
 use Rattle.com_model.specs.Apartments.{ends_sta}
 use Rattle.com_model.specs.declared.keeps.Issue.{Issue}
-use Rattle.com_model.specs.Frames.{Scene, new_cells, Actor, Body, Script, Nobody, issued_body, outcome, is_leave, unless_over, unless_final, taken_in, Write, ToRegister, ToSlot, ToLink, ToBuffer, to_place, to_answer, marshalled_in, writes, value_reference, to_destination, written, with_frame, wants, acted, arrived, cut_links, acting}
+use Rattle.com_model.specs.Frames.{Scene, Actor, Body, Script, Nobody, issued_body, outcome, is_leave, unless_over, unless_final, taken_in, Write, ToRegister, ToSlot, ToLink, ToBuffer, to_place, to_answer, marshalled_in, writes, value_reference, to_destination, written, with_frame, wants, acted, arrived, cut_links, acting}
 use Rattle.com_model.proofs.Goods.{IsPlain}
 use Rattle.com_model.proofs.Fines.{cond-is}
 use Rattle.com_balance.proofs.Carries.{HeldBy, ValueBy, PlaceBy, Orderly, ActionBy, FrameBy, OutcomeBy, step-by, entered-by}

@@ -192,7 +192,7 @@ got-says : (s : Scenario) (v : Sight) (l : ℕ) (x : ℤ) (home : Option ℕ) �
 got-says s v l x None e = tt
 got-says s v l x (Some b) e =
     let k : Cookie = cookie v.books (cookie_number x) in
-    cond-is (Says s v l) k.revoked (deed.Get x None 0 E_INVALIDARG) (got_with v l x k) tt (got-live s v l x k (v.books.live k.object) (homed-by v l b e) refl)
+    cond-is (Says s v l) k.is_revoked (deed.Get x None 0 E_INVALIDARG) (got_with v l x k) tt (got-live s v l x k (v.books.live k.object) (homed-by v l b e) refl)
 
 revoked-says : (s : Scenario) (v : Sight) (l : ℕ) (x : ℤ) (home : Option ℕ) → Says s v l (revoked v x home)
 revoked-says s v l x None = tt

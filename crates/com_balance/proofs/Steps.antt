@@ -12,6 +12,7 @@ use Rattle.com_body.specs.declared.actions.Action.TheVariants as action
 use Rattle.com_body.specs.declared.frame.Cells.{Cells}
 use Rattle.com_body.specs.declared.frame.Outcome.{Outcome}
 use Rattle.com_body.specs.Frames.{FrameView}
+use Rattle.com_body.specs.Operands.{new_cells}
 use Rattle.com_classes.specs.Lookups.{method_at}
 use Rattle.com_model.specs.declared.deeds.Deed.{Deed}
 use Rattle.com_model.specs.declared.deeds.Deed.TheVariants as deed
@@ -28,7 +29,7 @@ use Rattle.com_model.specs.Apartments.{Remains, home_effect, home, ends_sta}
 use Rattle.com_model.specs.Objects.{objects, named, class_of}
 use Rattle.com_model.specs.Calls.{issues, issue_or, issue, calls, admitted, admits, target}
 use Rattle.com_model.specs.declared.keeps.Issue.{Issue}
-use Rattle.com_model.specs.Frames.{Scene, new_cells, scene, Actor, actor_in, outcome, action_of, act_by, value_reference, with_frame, writes, written, wants, acted, arrived, cut_links, acting}
+use Rattle.com_model.specs.Frames.{Scene, scene, Actor, actor_in, outcome, action_of, act_by, value_reference, with_frame, writes, written, wants, acted, arrived, cut_links, acting}
 use Rattle.com_model.specs.Endings.{end_effect, ends, filtered, can_be_cut, ending}
 use Rattle.com_model.specs.declared.keeps.Ending.{Ending}
 use Rattle.com_model.specs.declared.keeps.Ending.TheVariants.{AtIssue}

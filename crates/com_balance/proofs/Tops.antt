@@ -133,7 +133,7 @@ got-act : (H : Type 0) (v : Sight) (l : ℕ) (x : ℤ) (home : Option ℕ) → I
 got-act H v l x None = tt
 got-act H v l x (Some b) =
     let k : Cookie = cookie v.books (cookie_number x) in
-    cond-is (IsAct H) k.revoked (deed.Get x None 0 E_INVALIDARG) (got_with v l x k) tt
+    cond-is (IsAct H) k.is_revoked (deed.Get x None 0 E_INVALIDARG) (got_with v l x k) tt
     (cond-is (IsAct H) (v.books.live k.object) (deed.Get x (Some (reference k.object k.iface)) (gained_refs marshal.Strong (owned_by v l k.object) 0) S_OK) (deed.Get x None 0 CO_E_OBJNOTCONNECTED) tt tt)
 
 revoked-act : (H : Type 0) (v : Sight) (x : ℤ) (home : Option ℕ) → IsAct H (revoked v x home)

@@ -98,12 +98,12 @@ drop-touches n before later t u number p lost xs ys was now rests same found boo
     (λ x ne. still-held n before later t u (changed (books_of t) (Return number)) x was now rests ended (same.direct x) (same.all_elsewhere x) refl (outside x ne))
     last members
 
-cookie-ends : (gs : List Cookie) (k x : ℕ) → (slice_index_or gs k no_cookie).revoked ≡ false → sum_by (cookie_holds x) (slice_set gs k no_cookie) + count_if (eqb (slice_index_or gs k no_cookie).object x) ≡ sum_by (cookie_holds x) gs
+cookie-ends : (gs : List Cookie) (k x : ℕ) → (slice_index_or gs k no_cookie).is_revoked ≡ false → sum_by (cookie_holds x) (slice_set gs k no_cookie) + count_if (eqb (slice_index_or gs k no_cookie).object x) ≡ sum_by (cookie_holds x) gs
 cookie-ends [] k x h = absurd (cc)
 cookie-ends (g ∷ gs) zero x h = grind (arith, common_steps, h)
 cookie-ends (g ∷ gs) (suc k) x h = grind (arith, common_steps, cookie-ends gs k x h)
 
-cookie-less : (b : Books) (n x : ℕ) → (cookie b n).revoked ≡ false → held_outside (changed b (Withdraw n)) x + count_if (eqb (cookie b n).object x) ≡ held_outside b x
+cookie-less : (b : Books) (n x : ℕ) → (cookie b n).is_revoked ≡ false → held_outside (changed b (Withdraw n)) x + count_if (eqb (cookie b n).object x) ≡ held_outside b x
 cookie-less b zero x h = absurd (cc)
 cookie-less b (suc k) x h = omega (arith, cookie-ends b.cookies k x h)
 
@@ -114,7 +114,7 @@ pub revoke-touches : (n : ℕ) (before later : ℕ → ℕ → ℕ) (t u : Table
     → lost ≡ unheld u held.object → ((x : ℕ) → is_member x ys ≡ (is_member x xs || is_number x lost)) → Touches t u xs ys
 revoke-touches n before later t u number held lost xs ys was now rests same found books last members =
     let ended : books_of u ≡ ends n later (changed (books_of t) (Withdraw number)) = books ∙ ap (λ (b : Books). ends n later b) (revoke_row t number) in
-    let there : (cookie (books_of t) number).revoked ≡ false = ap (λ (g : Cookie). g.revoked) (sym (cookie_is t number)) ∙ ap (λ (y : Option RefValue). (cookie_read (is_connected t.stubs) y).revoked) found in
+    let there : (cookie (books_of t) number).is_revoked ≡ false = ap (λ (g : Cookie). g.is_revoked) (sym (cookie_is t number)) ∙ ap (λ (y : Option RefValue). (cookie_read (is_connected t.stubs) y).is_revoked) found in
     let object : (cookie (books_of t) number).object ≡ held.object = ap (λ (g : Cookie). g.object) (sym (cookie_is t number)) ∙ ap (λ (y : Option RefValue). (cookie_read (is_connected t.stubs) y).object) found in
     let outside : (x : ℕ) → (x ≡ held.object → ⊥) → held_outside (changed (books_of t) (Withdraw number)) x ≡ held_outside (books_of t) x =
     λ x ne. (let none : count_if (eqb (cookie (books_of t) number).object x) ≡ 0 = ap (λ (o : ℕ). count_if (eqb o x)) object ∙ ap (λ (b : Bool). count_if b) (unlike held.object x (λ e. ne (sym e))) in omega (arith, none, cookie-less (books_of t) number x there)) in
@@ -226,7 +226,7 @@ registered-more t u o i row same x =
     more-by t u x (live-row t u _ row x) (omega (arith, same.direct x)) (omega (arith, same.direct x, same.all_elsewhere x, outside, now))
   where
     by-live : (v : Bool) → held_outside (books_of t) x ≤ held_outside (changed (books_of t) (cond v (ToCookie o i 1) Same)) x
-    by-live true = omega (arith, pushed-cookie (books_of t).cookies (record { revoked = false; object = o; iface = i; refs = 1 }) x)
+    by-live true = omega (arith, pushed-cookie (books_of t).cookies (record { is_revoked = false; object = o; iface = i; refs = 1 }) x)
     by-live false = omega arith
 
 -- ---- a packet that is read

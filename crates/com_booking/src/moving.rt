@@ -54,9 +54,9 @@ fn lose_by(refs: &mut Refs, touched: &mut Vec<u32>, moved: Move, iface: u16)
     refs.tells();
     refs.rests();
     let object = moved.reference.object;
-    let lost = refs.release(moved.apartment, RefValue { object, iface });
+    let is_lost = refs.release(moved.apartment, RefValue { object, iface });
     refs.tells();
-    touch_where(touched, lost, object);
+    touch_where(touched, is_lost, object);
 }
 
 // One place less: of the reference, or where the apartment has none of that, of another to the object. Places

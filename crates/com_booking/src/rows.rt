@@ -41,6 +41,7 @@ pub fn is_few(refs: &Refs) -> bool
 pub fn can_give(refs: &Refs, held: RefValue) -> bool
     ensures few { IsTrue result → refs.now.issued < 2 ^ 28 }
     ensures known { IsTrue result → offers refs.now held.object held.iface ≡ true }
+    ensures given { refs.now.issued < 2 ^ 28 → offers refs.now held.object held.iface ≡ true → IsTrue result }
 {
     if !is_few(refs) {
         return false;

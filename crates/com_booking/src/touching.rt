@@ -50,15 +50,15 @@ pub fn touch_if(touched: &mut Vec<u32>, object: Option<u32>)
 }
 
 /// The same, where it did.
-pub fn touch_where(touched: &mut Vec<u32>, lost: bool, object: u32)
+pub fn touch_where(touched: &mut Vec<u32>, is_lost: bool, object: u32)
     requires room { vec_len touched.old < vec_capacity touched.old }
     ensures members { (x : ℕ)
-        → is_member x touched.new.items ≡ (is_member x touched.old.items || (lost && x == object)) }
+        → is_member x touched.new.items ≡ (is_member x touched.old.items || (is_lost && x == object)) }
     ensures climbs { Climbs 0 touched.old.items → Climbs 0 touched.new.items }
     ensures len { vec_len touched.new ≤ vec_len touched.old + 1 }
     ensures capacity { vec_capacity touched.old ≤ vec_capacity touched.new }
 {
-    if lost {
+    if is_lost {
         touch(touched, object);
         return;
     }

@@ -26,7 +26,7 @@ proxy-past n a o i x f c k j h q e = ap (λ (b : Bool). cond (b && (eqb k o && e
 packet-sum-new : (o i k j n : ℕ) (m : MarshalMode) (ps : List Packet) → sum_by (packet_holds_of k j) (ps ++ new_packet m o i n ∷ []) ≡ sum_by (packet_holds_of k j) ps + cond (eqb k o && eqb j i) n 0
 packet-sum-new o i k j n m ps = grind (arith, common_steps)
 
-cookie-sum-new : (o i k j n : ℕ) (gs : List Cookie) → sum_by (cookie_holds_of k j) (gs ++ record { revoked = false; object = o; iface = i; refs = n } ∷ []) ≡ sum_by (cookie_holds_of k j) gs + cond (eqb k o && eqb j i) n 0
+cookie-sum-new : (o i k j n : ℕ) (gs : List Cookie) → sum_by (cookie_holds_of k j) (gs ++ record { is_revoked = false; object = o; iface = i; refs = n } ∷ []) ≡ sum_by (cookie_holds_of k j) gs + cond (eqb k o && eqb j i) n 0
 cookie-sum-new o i k j n gs = grind (arith, common_steps)
 
 inside : (ps : List Packet) (p : ℕ) → (slice_index_or ps p no_packet).outstanding ≡ true → p < length ps

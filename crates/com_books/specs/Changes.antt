@@ -23,6 +23,7 @@ pub record Books : Type 0 where
   pub arguments : ℕ → List ℕ
   pub result : ℕ → Option ℕ
 
+-- Where nobody holds a reference.
 abbrev pub no_books : Books
 no_books = record {
   stub = λ o i. 0;
@@ -38,7 +39,7 @@ abbrev pub no_packet : Packet
 no_packet = record { outstanding = false; mode = marshal.Weak; object = 0; iface = 0; refs = 0 }
 
 abbrev pub no_cookie : Cookie
-no_cookie = record { revoked = true; object = 0; iface = 0; refs = 0 }
+no_cookie = record { is_revoked = true; object = 0; iface = 0; refs = 0 }
 
 abbrev pub packet : Books → ℕ → Packet
 packet b zero = no_packet
@@ -107,7 +108,7 @@ changed b (Return p) =
 changed b (ToCookie o i n) =
     record b {
       stub = gain_stub b o i n;
-      cookies = b.cookies ++ record { revoked = false; object = o; iface = i; refs = n } ∷ [];
+      cookies = b.cookies ++ record { is_revoked = false; object = o; iface = i; refs = n } ∷ [];
     }
 changed b (Withdraw g) = record b {
   stub = lose_stub b (cookie b g).object (cookie b g).iface (cookie b g).refs;
@@ -192,7 +193,7 @@ abbrev pub packet_holds : ℕ → Packet → ℕ
 packet_holds o p = count_if (p.outstanding && (not (is_weak p.mode) && p.object == o))
 
 abbrev pub cookie_holds : ℕ → Cookie → ℕ
-cookie_holds o g = count_if (not g.revoked && g.object == o)
+cookie_holds o g = count_if (not g.is_revoked && g.object == o)
 
 abbrev pub held_outside : Books → ℕ → ℕ
 held_outside b o = sum_by (packet_holds o) b.packets + sum_by (cookie_holds o) b.cookies
@@ -224,3 +225,17 @@ abbrev pub held : ℕ → Books → (o i : ℕ) → ℕ
 held n b o i =
     sum_below n (λ a. b.proxy a o i) + sum_by (packet_holds_of o i) b.packets
     + sum_by (cookie_holds_of o i) b.cookies
+
+abbrev pub is_normal : MarshalMode → Bool
+is_normal marshal.Normal = true
+is_normal _ = false
+
+-- What a normal packet of an object holds, what another packet does, and what a cookie does.
+abbrev pub in_normal : ℕ → Packet → ℕ
+in_normal o p = if p.outstanding && (is_normal p.mode && p.object == o) then p.refs else 0
+
+abbrev pub in_table : ℕ → Packet → ℕ
+in_table o p = if p.outstanding && (not (is_normal p.mode) && p.object == o) then p.refs else 0
+
+abbrev pub in_cookie : ℕ → Cookie → ℕ
+in_cookie o g = if g.object == o then g.refs else 0

@@ -23,7 +23,7 @@ pub struct Packet {
 #[derive(Debug, Clone, Copy)]
 pub struct Cookie {
     /// Whether it was revoked.
-    pub revoked: bool,
+    pub is_revoked: bool,
     /// The object of its reference.
     pub object: u32,
     /// The interface of its reference.

@@ -101,7 +101,7 @@ got_with-none v l g k true = tt
 got_with-none v l g k false = tt
 
 got_by-none : (v : Sight) (l : ℕ) (g : ℤ) (k : Cookie) → NoHome (got_by v l g k)
-got_by-none v l g k = cond-of NoHome k.revoked (deed.Get g None 0 E_INVALIDARG) (got_with v l g k) tt (got_with-none v l g k (v.books.live k.object))
+got_by-none v l g k = cond-of NoHome k.is_revoked (deed.Get g None 0 E_INVALIDARG) (got_with v l g k) tt (got_with-none v l g k (v.books.live k.object))
 
 pub got-none : (v : Sight) (l : ℕ) (g : ℤ) (a : Option ℕ) → NoHome (got v l g a)
 got-none v l g None = tt

@@ -1,7 +1,7 @@
 -- In a formed scenario each action writes to a register, a slot or a link that there is, and asks for an interface that is declared.
 use Rattle.std.proofs.lemmas.List.Elements.{All-cons, All-drop, All-nil}
 use Rattle.std.proofs.Common.{arith}
-use Rattle.std.specs.Prelude.{ℕ, zero, suc, ◌+◌, ◌<◌, Bool, true, false, cond, ◌==◌, ◌&&◌, List, [], ◌∷◌, drop, Option, Some, None, All, option_map, option_and_then, unwrap_or, find, slice_get, slice_index_or}
+use Rattle.std.specs.Prelude.{ℕ, zero, suc, ◌+◌, Bool, true, false, cond, ◌==◌, ◌&&◌, List, [], ◌∷◌, drop, Option, Some, None, All, option_map, option_and_then, unwrap_or, find, slice_get, slice_index_or}
 use Rattle.com_body.specs.declared.operands.Destination.TheVariants as destination
 use Rattle.com_body.specs.declared.statements.Stmt.{Stmt}
 use Rattle.com_body.specs.declared.statements.Stmt.TheVariants as stmt
@@ -14,6 +14,7 @@ use Rattle.com_body.specs.declared.frame.Native.TheVariants as native
 use Rattle.com_body.specs.Bodies.{IsInRange}
 use Rattle.com_body.specs.Frames.{FrameView, moved}
 use Rattle.com_body.specs.BodySteps.{Effect, Goes, Acts, effect_of, walk, body_step, no_body}
+use Rattle.com_body.specs.Operands.{new_cells}
 use Rattle.com_classes.specs.declared.classes.Class.{Class}
 use Rattle.com_classes.specs.declared.classes.MethodBody.{MethodBody}
 use Rattle.com_classes.specs.BuiltIns.{counter_bodies, relay_bodies, latch_bodies}
@@ -21,7 +22,7 @@ use Rattle.com_classes.specs.Lookups.{class_at, class_body, kind_body, body_of}
 use Rattle.com_model.specs.declared.scenario.Scenario.{Scenario}
 use Rattle.com_model.specs.declared.keeps.Issue.{Issue}
 use Rattle.com_model.specs.Tables.{script}
-use Rattle.com_model.specs.Frames.{Scene, new_cells, Actor, Body, Script, Nobody, issued_body, outcome}
+use Rattle.com_model.specs.Frames.{Scene, Actor, Body, Script, Nobody, issued_body, outcome}
 use Rattle.com_model.specs.Formed.{Context, FormedBody, in_script, in_class, IsBody, IsClass, EachFrom, IsInterfaceNamed, IsStatement, Formed}
 use Rattle.com_model.proofs.Goods.{all-of, all-or}
 use Rattle.com_scene.specs.Ranges.{WritesInRange}

@@ -119,7 +119,3 @@ row_at rows (suc k) = slice_get rows k
 abbrev pub reaches : Cut → RowView → Bool
 reaches (cut.Object p) r = can_be_cut (Some r.issue) r.admission && p == object_of (Some r.issue)
 reaches (cut.Sta a) r = can_be_cut (Some r.issue) r.admission && a == r.apartment
-
-abbrev pub value_left : Option Leaving → Option Value
-value_left None = None
-value_left (Some x) = x.value

@@ -13,12 +13,12 @@ ghost use Rattle.com_model.specs.Answers.{S_OK};
 ghost use Rattle.com_model.specs.declared.keeps.Phase.TheVariants.{Unposted, Delayed};
 ghost use Rattle.com_calls.specs.Waits.{next_wait};
 ghost use Rattle.com_calls.specs.Inside.{settles};
-ghost use Rattle.com_calls.specs.Rows.{value_left};
 ghost use Rattle.com_calls.specs.After.{judged_at, retried_at, asked_at, cut_at, effect_of, cut_by};
 ghost use Rattle.com_calls.specs.After.{cut_one_at};
 ghost use Rattle.com_books.specs.Counting.{count_if};
 ghost use Rattle.com_model.specs.Lists.{first, from_one};
 ghost use Rattle.com_model.specs.Waiting.{post_effect, retries};
+ghost use Rattle.com_model.specs.Places.{left_value};
 ghost use Rattle.com_calls.specs.Kept.{no_tables, with_tables, with_room, with_call, inbox_at, IsNamed};
 ghost use Rattle.com_calls.specs.Steps.{entered_at, ended_at, left_at, returned_at, phased_at, posted_at};
 ghost use Rattle.com_calls.specs.Steps.{taken_at, grown_at, out_entry, is_known, delay_of};
@@ -146,16 +146,16 @@ impl Calls {
         self.leave_row(call, hr, value);
     }
 
-    /// Every other entry of a lane. `filtered` says whether the caller's lane of the call that the entry
+    /// Every other entry of a lane. `has_filter` says whether the caller's lane of the call that the entry
     /// names has a message filter, and `clock` is in milliseconds.
-    pub fn apply(&mut self, lane: u32, deed: &Deed, filtered: bool, clock: u64)
+    pub fn apply(&mut self, lane: u32, deed: &Deed, has_filter: bool, clock: u64)
         requires no_out { issues lane deed.now ≡ None }
         requires no_leave { leaves deed.now ≡ None }
         requires known { is_known self.old.tables (post_effect deed.now) }
         requires time { clock + delay_of deed.now < 2 ^ 64 }
         ensures { (o : ObjectTables) (i : Issuing) (outermost : Bool) → IsNamed o self.old → self.new
             ≡ with_tables self.old (calls_after o
-            (record { outermost = outermost; filtered = filtered; clock = clock }) i
+            (record { outermost = outermost; filtered = has_filter; clock = clock }) i
             self.old.tables (record { lane = lane; deed = deed.now })) }
     {
         match deed {
@@ -168,7 +168,7 @@ impl Calls {
                 lane,
                 apartment: *apartment,
             }),
-            Deed::Verdict { call, verdict, .. } => self.judge(*call, *verdict, filtered),
+            Deed::Verdict { call, verdict, .. } => self.judge(*call, *verdict, has_filter),
             Deed::Refuse { call, hr } => self.end(*call, Ending::AtAdmission(*hr)),
             Deed::Retry { call, answer } => self.retry(*call, *answer, clock),
             Deed::Again { call } => self.post(*call),
@@ -181,11 +181,11 @@ impl Calls {
     }
 
     /// A filter, or the want of one, judged a posted call.
-    fn judge(&mut self, call: u32, verdict: Verdict, filtered: bool)
-        ensures { self.new ≡ with_tables self.old (judged_at self.old.tables call verdict filtered) }
+    fn judge(&mut self, call: u32, verdict: Verdict, has_filter: bool)
+        ensures { self.new ≡ with_tables self.old (judged_at self.old.tables call verdict has_filter) }
     {
         self.set_phase(call, Phase::Judged(verdict));
-        if filtered {
+        if has_filter {
             return;
         }
         self.end(call, Ending::ByVerdict(verdict));
@@ -333,7 +333,7 @@ impl Calls {
     /// The value that the body of a call left with. `None` exactly where it did not leave, or left without
     /// one.
     pub fn left_value(&self, call: u32) -> Option<&Value>
-        ensures { option_copied result ≡ value_left (from_one self.now.tables.leavings call None) }
+        ensures { option_copied result ≡ left_value (from_one self.now.tables.leavings call None) }
     {
         let late = later::leaving(&self.later, call);
         match rows::row_of(&self.rows, call) {

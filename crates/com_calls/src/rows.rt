@@ -3,9 +3,10 @@
 ghost use Rattle.std.specs.Prelude.{◌≡◌, ◌&&◌, true, false, is_none, is_some, map, []};
 ghost use Rattle.com_model.specs.Endings.{is_leave};
 ghost use Rattle.com_calls.specs.Rows.{changed_row, admitting, ending_by, left_with, returning, phased};
-ghost use Rattle.com_calls.specs.Rows.{taken, new_row_of, row_at, reaches, value_left, late_of, late_row};
+ghost use Rattle.com_calls.specs.Rows.{taken, new_row_of, row_at, reaches, late_of, late_row};
 ghost use Rattle.com_calls.specs.Fates.{IsNumbered};
 ghost use Rattle.com_model.specs.Lists.{from_one, or_else};
+ghost use Rattle.com_model.specs.Places.{left_value};
 ghost use Rattle.std.specs.Option.{option_copied};
 
 use com_base::{HResult, Rows, Value};
@@ -54,7 +55,7 @@ pub struct CallRow {
     iface: u16,
     method: u16,
     route: Route,
-    returned: bool,
+    has_returned: bool,
 }
 
 impl Model for CallRow {
@@ -76,7 +77,7 @@ impl Model for CallRow {
       apartment = s.apartment;
       admission = admission_of s.call s.entered;
       leaving = leaving_of s.call s.fate;
-      returned = s.returned;
+      returned = s.has_returned;
       ending = ending_of s.fate;
       refusal = s.refusal;
       unread = unread_of s.fate;
@@ -125,7 +126,7 @@ impl CallRow {
             iface: issue.iface,
             method: issue.method,
             route: issue.route,
-            returned: false,
+            has_returned: false,
         }
     }
 
@@ -177,7 +178,7 @@ impl CallRow {
 
     /// The value that its body left with, where `late` is the Leave that came after its answer.
     pub fn left_value<'a>(&'a self, late: Option<&'a Leaving>) -> Option<&'a Value>
-        ensures { option_copied result ≡ value_left (or_else (option_copied late.entry) self.now.leaving) }
+        ensures { option_copied result ≡ left_value (or_else (option_copied late.entry) self.now.leaving) }
     {
         match (late, &self.fate) {
             (Some(late), _) => late.value.as_ref(),
@@ -190,7 +191,7 @@ impl CallRow {
     pub fn is_returned(&self) -> bool
         ensures { result ≡ self.now.returned }
     {
-        self.returned
+        self.has_returned
     }
 
     /// What has fixed its answer, once something has.
@@ -323,7 +324,7 @@ impl CallRow {
     fn give_back(&mut self)
         ensures { self.new ≡ returning self.old }
     {
-        self.returned = true;
+        self.has_returned = true;
     }
 
     fn set_phase(&mut self, phase: Phase)

@@ -1,5 +1,5 @@
 -- The lines of a report beside those of a trace.
-use Rattle.std.proofs.Common.{◌≡◌, ◌≢◌, ℕ, ◌+◌, refl, sym, ◌∙◌, ap, subst, append_assoc, length-append, arith, List, [], ◌∷◌, ◌++◌, length, Some}
+use Rattle.std.proofs.Common.{◌≡◌, ℕ, ◌+◌, refl, sym, ◌∙◌, ap, subst, append_assoc, length-append, arith, List, [], ◌∷◌, ◌++◌, length, Some}
 use Rattle.std.specs.Prelude.{codes}
 use Rattle.com_check.specs.declared.judged.Judged.{Judged}
 use Rattle.com_check.specs.declared.judged.Judged.TheVariants as judged

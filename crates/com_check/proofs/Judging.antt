@@ -1,6 +1,6 @@
 -- Judging a trace: what its steps make of what was known.
 use Rattle.std.proofs.Common.{◌≡◌, ℕ, zero, suc, ◌+◌, ◌-◌, ◌^◌, ◌<◌, ◌≤◌, refl, sym, ◌∙◌, ap, subst, append_assoc, append-nil, length-append, arith, List, [], ◌∷◌, ◌++◌, length, take, Bool, true, Option, Some, None}
-use Rattle.std.specs.Prelude.{MatchOption, codes, cond, if◌then◌else◌, is_some, nat_le, option_map, option_and_then, ◌==◌}
+use Rattle.std.specs.Prelude.{MatchOption, codes, cond, if◌then◌else◌, is_some, nat_le, option_map, option_and_then}
 use Rattle.com_model.specs.declared.counts.Counts.{Counts}
 use Rattle.com_model.specs.declared.counts.Ended.{Ended}
 use Rattle.com_model.specs.declared.deeds.Deed.{Deed}

@@ -1,5 +1,5 @@
 -- What the steps of a judge find, by the tables of a runtime.
-use Rattle.std.specs.Prelude.{◌≡◌, ◌≢◌, ℕ, ◌+◌, List, [], ◌∷◌, ◌++◌, length, Option, Some, None, option_map}
+use Rattle.std.specs.Prelude.{◌≡◌, ◌≢◌, ℕ, ◌+◌, List, [], ◌++◌, length, Option, Some, None, option_map}
 use Rattle.std.specs.Prelude.{option_and_then}
 use Rattle.com_model.specs.declared.counts.Ended.{Ended}
 use Rattle.com_model.specs.declared.deeds.Entry.{Entry}

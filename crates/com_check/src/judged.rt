@@ -1,5 +1,5 @@
 //! What is answered for a trace.
-ghost use Rattle.std.specs.Prelude.{◌≡◌, ◌++◌, [], IfOk, OnOk};
+ghost use Rattle.std.specs.Prelude.{◌≡◌, [], IfOk, OnOk};
 ghost use Rattle.com_check.specs.Judging.{judged_text};
 ghost use Rattle.com_check.specs.declared.judged.Judged.TheVariants as judged;
 

@@ -1,5 +1,5 @@
 //! The lines of a report, beside those that a trace has left.
-ghost use Rattle.std.specs.Prelude.{◌≡◌, ◌<◌, ◌+◌, ◌^◌, IfOk, length};
+ghost use Rattle.std.specs.Prelude.{◌<◌, ◌+◌, ◌^◌, IfOk, length};
 ghost use Rattle.com_check.specs.Lines.{lines_of};
 ghost use Rattle.com_check.specs.Turning.{IsReported};
 

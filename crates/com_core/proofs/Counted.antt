@@ -1,11 +1,11 @@
 -- What a report counts of an object is what it counts in the core's state.
 use Rattle.std.proofs.Common.{◌≡◌, ℕ, ap, ◌∙◌, ◌+◌}
 use Rattle.std.specs.Prelude.{sum_by}
-use Rattle.com_books.specs.Changes.{Books}
+use Rattle.com_books.specs.Changes.{Books, in_normal, in_table, in_cookie}
 use Rattle.com_books.specs.Counting.{sum_below}
 use Rattle.com_model.specs.declared.counts.ObjectState.{ObjectState}
 use Rattle.com_model.specs.declared.scenario.Scenario.{Scenario}
-use Rattle.com_model.specs.Ends.{in_cookie, in_normal, in_table, over_interfaces, state_of}
+use Rattle.com_model.specs.Ends.{over_interfaces, state_of}
 use Rattle.com_model.specs.Lists.{is_member}
 use Rattle.com_model.specs.Places.{direct_places}
 use Rattle.com_model.specs.State.{State, books_in, class_in, ground_in, named_in, next_sta_in, scene_in}

@@ -10,15 +10,16 @@ use Rattle.com_model.specs.declared.keeps.Opener.TheVariants.{Pumps, Waits, Ente
 use Rattle.com_model.specs.Rules.{can_step, no_lane_can, ruled, stepped, tick_time, top}
 use Rattle.com_model.specs.Sight.{Sight}
 use Rattle.com_model.specs.State.{State, books_in, sight_of}
+use Rattle.com_model.specs.Openers.{is_body}
 use Rattle.com_parts.specs.Tables.{PartTables}
 use Rattle.com_view.specs.Seen.{sight_by}
 use Rattle.com_view.proofs.Sights.{reads_state as sight_read}
 use Rattle.com_drive.specs.declared.runtime.Standing.{Standing}
 use Rattle.com_drive.specs.declared.runtime.Standing.TheVariants as standing
 use Rattle.com_drive.specs.Standings.{can_step_in, standing_of}
-use Rattle.com_jobs.specs.Jobs.{is_enter, next_by, next_in}
+use Rattle.com_jobs.specs.Jobs.{next_by, next_in}
 use Rattle.com_view.specs.declared.next.Next.{Next as Seeing}
-use Rattle.com_view.specs.Nexts.{is_body, kind_of}
+use Rattle.com_view.specs.Nexts.{kind_of}
 use Rattle.com_standing.specs.Standings.{standing_by}
 use Rattle.com_core.specs.Nexts.{next_as}
 use Rattle.com_core.specs.Stands.{IsReached, seen_by, state_read}
@@ -64,7 +65,7 @@ kinds-same true over = refl
 kinds-same false true = refl
 kinds-same false false = refl
 
-next-same : (s : Scenario) (v : Sight) (l : ℕ) (t : Option Opener) (over : Bool) → next_as (kind_of (is_body t) (is_some (ruled s v l)) over) ≡ next_by (is_enter t) (is_some (stepped s v l t)) over
+next-same : (s : Scenario) (v : Sight) (l : ℕ) (t : Option Opener) (over : Bool) → next_as (kind_of (is_body t) (is_some (ruled s v l)) over) ≡ next_by (is_body t) (is_some (stepped s v l t)) over
 next-same s v l None over = kinds-same (is_some (ruled s v l)) over
 next-same s v l (Some (Pumps n)) over = kinds-same (is_some (ruled s v l)) over
 next-same s v l (Some (Waits c)) over = kinds-same (is_some (ruled s v l)) over

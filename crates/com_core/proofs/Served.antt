@@ -1,31 +1,20 @@
 -- The servant that steps in a lane is that of the kind of class whose body is innermost there, by the parts as by the state.
 use Rattle.std.proofs.Common.{◌≡◌, ℕ, zero, suc, ◌≤◌, refl, ap, ◌∙◌, arith}
-use Rattle.std.specs.Prelude.{List, Option, Some, None, Result, Ok, Err, OnOk}
-use Rattle.com_body.specs.declared.frame.Native.{Native}
-use Rattle.com_model.specs.declared.keeps.Opener.{Opener}
-use Rattle.com_model.specs.declared.keeps.Opener.TheVariants.{Pumps, Waits, Enters}
+use Rattle.std.specs.Prelude.{List, Result, Ok, Err, OnOk}
 use Rattle.com_model.specs.declared.scenario.Scenario.{Scenario}
 use Rattle.com_model.specs.Lists.{first}
 use Rattle.com_model.specs.State.{State, class_in, openers_in}
 use Rattle.com_drive.specs.Turns.{body_kind, served_in}
-use Rattle.com_turns.specs.Turns.{kind_above, kind_seen}
+use Rattle.com_turns.specs.Turns.{kind_seen}
 use Rattle.com_core.specs.Seen.{CoreView, core_state}
 use Rattle.com_core.specs.Stands.{seen_by}
 use Rattle.com_servant.specs.Rows.{one_served}
 
--- The schedule speaks of the kind in words of its own.
-kind-same : (s : Scenario) (class : ℕ → ℕ) (x : Option Opener) → kind_above s class x ≡ body_kind s class x
-kind-same s class None = refl
-kind-same s class (Some (Pumps n)) = refl
-kind-same s class (Some (Waits c)) = refl
-kind-same s class (Some (Enters c o a)) = refl
-
 served-read : (s : Scenario) (st : State) (l : ℕ) (steps : List ℕ) → 1 ≤ l
-    → one_served (kind_above s (class_in st) (first (openers_in st l))) steps ≡ served_in s st l steps
+    → one_served (body_kind s (class_in st) (first (openers_in st l))) steps ≡ served_in s st l steps
 unfolding served_in
 served-read s st zero steps h = absurd (omega (arith, h))
-served-read s st (suc l) steps h =
-    ap (λ (k : Option Native). one_served k steps) (kind-same s (class_in st) (first (openers_in st (suc l))))
+served-read s st (suc l) steps h = refl
 
 pub served_core : {E F : Type 0} (r : Result E F) (w : Scenario) (v c : CoreView) (l : ℕ) (old new : List ℕ) → w ≡ v.scenario → v ≡ c → 1 ≤ l
     → OnOk r (new ≡ one_served (kind_seen (seen_by w v.parts v.fallen v.clock) l) old) → OnOk r (new ≡ served_in c.scenario (core_state c) l old)

@@ -11,18 +11,18 @@ use Rattle.com_model.specs.declared.keeps.Opener.{Opener}
 use Rattle.com_model.specs.declared.keeps.Opener.TheVariants.{Pumps, Waits, Enters}
 use Rattle.com_model.specs.declared.scenario.Scenario.{Scenario}
 use Rattle.com_model.specs.Lists.{first}
+use Rattle.com_model.specs.Openers.{is_body}
 use Rattle.com_scene.specs.Kept.{HasSlots}
 use Rattle.com_servant.specs.Steps.{job_step, native_at}
 use Rattle.com_state.specs.Parts.{class_at, issue_at, openers_at}
 use Rattle.com_state.specs.SceneParts.{body_at, cells_at}
 use Rattle.com_drive.specs.Standings.{can_step_in}
 use Rattle.com_jobs.specs.declared.jobs.Next.TheVariants as next
-use Rattle.com_jobs.specs.Jobs.{Fits, is_enter, job_above, job_by, job_of, kept_above, kept_in, next_by, next_in}
+use Rattle.com_jobs.specs.Jobs.{Fits, job_above, job_by, job_of, kept_above, kept_in, next_by, next_in}
 use Rattle.com_jobs.proofs.Taken.{fitting-job}
 use Rattle.com_turns.specs.Turns.{body_seen}
 use Rattle.com_turns.proofs.Bodies.{job_steps}
 use Rattle.com_turns.proofs.Whole.{job_whole}
-use Rattle.com_view.specs.Nexts.{is_body}
 use Rattle.com_view.specs.Seen.{Seen}
 use Rattle.com_work.specs.Work.{IsWork, work_seen}
 use Rattle.com_core.specs.declared.running.Running.{Running}
@@ -56,7 +56,7 @@ kept_same s r l = kept-tops s r (first (openers_at r.parts.lanes l))
 data Top (t : Option Opener) : Type 0 where
   top : (c o a : ℕ) → Some (Enters c o a) ≡ t → Top t
 
-enter-top : (t : Option Opener) → is_enter t ≡ true → Top t
+enter-top : (t : Option Opener) → is_body t ≡ true → Top t
 enter-top None e = absurd cc
 enter-top (Some (Pumps n)) e = absurd cc
 enter-top (Some (Waits c)) e = absurd cc
@@ -72,31 +72,25 @@ own-enters : (b can over : Bool) → next_by b can over ≡ next.Own → b ≡ f
 own-enters true can over e = absurd cc
 own-enters false can over e = refl
 
-not-body : (t : Option Opener) → is_enter t ≡ false → is_body t ≡ false
-not-body None e = refl
-not-body (Some (Pumps n)) e = refl
-not-body (Some (Waits c)) e = refl
-not-body (Some (Enters c o a)) e = absurd cc
-
 body-top : (s : Scenario) (r : Running) (l : ℕ) → next_in s (core_state (kept_of s r)) l ≡ next.Body → Top (first (openers_at r.parts.lanes l))
 unfolding next_in
 body-top s r l e =
     enter-top (first (openers_at r.parts.lanes l))
-    (body-enters (is_enter (first (openers_at r.parts.lanes l))) (can_step_in s (core_state (kept_of s r)) l) (slice_index_or (core_state (kept_of s r)).over l false) e)
+    (body-enters (is_body (first (openers_at r.parts.lanes l))) (can_step_in s (core_state (kept_of s r)) l) (slice_index_or (core_state (kept_of s r)).over l false) e)
 
 -- Where another entry than a body's is next, no body is innermost.
 pub own_read : (s : Scenario) (r : Running) (l : ℕ) → next_in s (core_state (kept_of s r)) l ≡ next.Own → is_body (first (openers_at r.parts.lanes l)) ≡ false
 unfolding next_in
 own_read s r l e =
-    not-body (first (openers_at r.parts.lanes l))
-    (own-enters (is_enter (first (openers_at r.parts.lanes l))) (can_step_in s (core_state (kept_of s r)) l) (slice_index_or (core_state (kept_of s r)).over l false) e)
+    own-enters (is_body (first (openers_at r.parts.lanes l))) (can_step_in s (core_state (kept_of s r)) l)
+    (slice_index_or (core_state (kept_of s r)).over l false) e
 
 -- ---- a job that fits
 
 next-enter : (s : Scenario) (r : Running) (l c o a : ℕ) → Some (Enters c o a) ≡ first (openers_at r.parts.lanes l) → next_in s (core_state (kept_of s r)) l ≡ next.Body
 unfolding next_in
 next-enter s r l c o a e =
-    ap (λ (t : Option Opener). next_by (is_enter t) (can_step_in s (core_state (kept_of s r)) l) (slice_index_or (core_state (kept_of s r)).over l false)) (sym e)
+    ap (λ (t : Option Opener). next_by (is_body t) (can_step_in s (core_state (kept_of s r)) l) (slice_index_or (core_state (kept_of s r)).over l false)) (sym e)
 
 pub work_fits : (s : Scenario) (r : Running) (l c o a : ℕ) (job : Job) → Some (Enters c o a) ≡ first (openers_at r.parts.lanes l)
     → IsWork (seen_by s r.parts r.fallen.objects r.clock) c o job → Fits s (core_state (kept_of s r)) l job

@@ -40,9 +40,9 @@ use com_ledger::Context;
 use com_model::{Deed, Entry, Scenario};
 use com_parts::{Begun, Change, Sent};
 use com_rules::{Doing, Issued};
-use com_scene::Actor;
+use com_scene::{Actor, fits_deed};
 use com_servant::Servant;
-use com_turns::{Turn, actor_after, fits_deed, is_filtered, next_turn};
+use com_turns::{Turn, actor_after, is_filtered, next_turn};
 use std::alloc::Global;
 
 /// What an entry's change rests on of the parts before it: who acts in the lane after the entry, whether the
@@ -51,7 +51,7 @@ use std::alloc::Global;
 #[derive(Debug, Clone, Copy)]
 struct Glance {
     after: Actor,
-    filtered: bool,
+    has_filter: bool,
     home: Option<u32>,
     running: Option<u32>,
 }
@@ -92,14 +92,14 @@ impl Running {
             → acting_of result.after ≡ actor_later
             (seen_by scenario.now self.now.parts self.now.fallen.objects self.now.clock)
             entry.now.lane entry.now.deed }
-        ensures filtered { result.filtered ≡ filtered_by (λ c. is_some (filter_seen
+        ensures filtered { result.has_filter ≡ filtered_by (λ c. is_some (filter_seen
             (seen_by scenario.now self.now.parts self.now.fallen.objects self.now.clock)
             (lane_of (issue_at self.now.parts.calls.tables c)))) entry.now.deed }
     {
         let view = self.view(scenario);
         Glance {
             after: actor_after(&view, entry.lane, &entry.deed),
-            filtered: is_filtered(&view, &entry.deed),
+            has_filter: is_filtered(&view, &entry.deed),
             home: view.home(entry.lane),
             running: view.running(entry.lane),
         }
@@ -222,7 +222,7 @@ impl Running {
         ensures begun { IfOk result (λ begun. IsBegun self.new.parts (acting_of acting) outcome.now
             (acting_of glance.after) entry.now.lane entry.now.deed begun) }
         ensures issued { IfOk result (λ begun. begun.calling.issued ≡ sent_by issued) }
-        ensures filtered { IfOk result (λ begun. begun.calling.filtered ≡ glance.filtered) }
+        ensures filtered { IfOk result (λ begun. begun.calling.has_filter ≡ glance.has_filter) }
         ensures time { IfOk result (λ begun. begun.calling.clock ≡ self.old.clock) }
         ensures same { parts_shown self.new.parts ≡ parts_shown self.old.parts }
         ensures entered { self.new.entered ≡ self.old.entered }
@@ -237,7 +237,7 @@ impl Running {
             deed: &entry.deed,
             acting,
             after: glance.after,
-            filtered: glance.filtered,
+            has_filter: glance.has_filter,
             clock: self.clock,
             issued: sent_of(issued),
         };
@@ -260,7 +260,7 @@ impl Running {
         requires begun { IsBegun self.old.parts (acting_of acting) outcome.old (acting_of glance.after)
             entry.now.lane entry.now.deed begun }
         ensures becomes { Becomes self.old.parts self.new.parts entry.now (acting_of acting) outcome.old
-            (acting_of glance.after) begun.calling.filtered begun.calling.issued begun.calling.clock }
+            (acting_of glance.after) begun.calling.has_filter begun.calling.issued begun.calling.clock }
         ensures bodies { All HasSlots self.new.parts.scene.bodies }
         ensures entered { self.new.entered ≡ self.old.entered }
         ensures ledger { self.new.ledger ≡ self.old.ledger }
@@ -330,7 +330,7 @@ impl Running {
         requires whole { IsWhole outcome.old }
         ensures becomes { OnOk result (Becomes self.old.parts self.new.parts entry.now
             (acting_of acting) outcome.old
-            (acting_of glance.after) glance.filtered (sent_by issued) self.old.clock) }
+            (acting_of glance.after) glance.has_filter (sent_by issued) self.old.clock) }
         ensures bodies { OnOk result (All HasSlots self.new.parts.scene.bodies) }
         ensures runs { OnOk result ((n : ℕ) → Most n self.old.entered.counts
             → Most (n + 1) self.new.entered.counts) }

@@ -12,13 +12,13 @@ ghost use Rattle.com_booking.specs.Books.{books_held};
 ghost use Rattle.com_model.specs.declared.keeps.Opener.TheVariants.{Enters};
 ghost use Rattle.com_model.specs.Clock.{ticked};
 ghost use Rattle.com_model.specs.Lists.{first};
+ghost use Rattle.com_model.specs.Openers.{is_body};
 ghost use Rattle.com_moves.specs.Steps.{IsWhole};
 ghost use Rattle.com_scene.specs.Kept.{HasSlots};
 ghost use Rattle.com_servant.specs.Steps.{IsOfItsClass, job_step};
 ghost use Rattle.com_state.specs.Parts.{openers_at};
 ghost use Rattle.com_state.specs.SceneParts.{body_at};
 ghost use Rattle.com_turns.specs.Turns.{IsTurn, body_seen};
-ghost use Rattle.com_view.specs.Nexts.{is_body};
 
 use crate::running::{Running, forget, unproved_fact};
 use com_base::Memory;

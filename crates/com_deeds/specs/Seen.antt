@@ -8,8 +8,8 @@ use Rattle.com_model.specs.Deeds.{owned_by}
 use Rattle.com_model.specs.Sight.{Sight}
 
 pub record SeesObject (v : Sight) (l o : ℕ) (t : Target) : Type 0 where
-  pub owned : owned_by v l o ≡ t.owned
-  pub connected : v.books.live o ≡ t.connected
+  pub owned : owned_by v l o ≡ t.is_owned
+  pub connected : v.books.live o ≡ t.is_connected
   pub owner : v.named o ≡ t.owner
   pub class : v.class o ≡ t.class
 

@@ -196,7 +196,7 @@ fn query_answer(
     if held.is_none() {
         return HResult::E_POINTER;
     }
-    if !target.owned && !target.connected {
+    if !target.is_owned && !target.is_connected {
         return HResult::RPC_E_DISCONNECTED;
     }
     if offers(scenario, target.class, iface) {

@@ -40,7 +40,7 @@ pub fn call_refusal(
     if scenario.classes.method(iface, method).is_none() {
         return Some(HResult::RPC_E_INVALIDMETHOD);
     }
-    if !target.owned && !target.connected {
+    if !target.is_owned && !target.is_connected {
         return Some(HResult::RPC_E_DISCONNECTED);
     }
     None
@@ -83,7 +83,7 @@ pub fn route_to(held: Option<RefValue>, home: Option<u32>, target: Target) -> Ro
 {
     match held {
         None => Route::Refused,
-        Some(_) => route_for(target.owned, target.owner, home),
+        Some(_) => route_for(target.is_owned, target.owner, home),
     }
 }
 

@@ -24,8 +24,12 @@ pub const FIVE: u32 = 5;
 
 /// Why a reference is not marshalled or registered, if it is not: CO_E_NOTINITIALIZED without home, E_POINTER
 /// for null, CO_E_OBJNOTCONNECTED where the object is not connected; the first that applies.
-pub fn hold_refusal(home: Option<u32>, held: Option<RefValue>, connected: bool) -> Option<HResult>
-    ensures { (v : Sight) → ((r : RefValue) → held ≡ Some r → v.books.live r.object ≡ connected)
+pub fn hold_refusal(
+    home: Option<u32>,
+    held: Option<RefValue>,
+    is_connected: bool,
+) -> Option<HResult>
+    ensures { (v : Sight) → ((r : RefValue) → held ≡ Some r → v.books.live r.object ≡ is_connected)
         → result ≡ hold_refusal v home held }
 {
     if home.is_none() {
@@ -34,7 +38,7 @@ pub fn hold_refusal(home: Option<u32>, held: Option<RefValue>, connected: bool) 
     if held.is_none() {
         return Some(HResult::E_POINTER);
     }
-    if connected {
+    if is_connected {
         None
     } else {
         Some(HResult::CO_E_OBJNOTCONNECTED)
@@ -62,10 +66,10 @@ pub fn register_deed(held: Option<RefValue>, refusal: Option<HResult>, cookies: 
 }
 
 // What the apartment's proxy gains of a packet of this mode that holds so many references.
-fn gained_refs(mode: MarshalMode, owned: bool, refs: u32) -> u32
-    ensures { result ≡ gained_refs mode owned refs }
+fn gained_refs(mode: MarshalMode, is_owned: bool, refs: u32) -> u32
+    ensures { result ≡ gained_refs mode is_owned refs }
 {
-    if owned {
+    if is_owned {
         return 0;
     }
     match mode {
@@ -85,10 +89,10 @@ pub fn get_deed(number: i64, home: Option<u32>, kept: Cookie, target: Target) ->
     if home.is_none() {
         return not_got(number, HResult::CO_E_NOTINITIALIZED);
     }
-    if kept.revoked {
+    if kept.is_revoked {
         return not_got(number, HResult::E_INVALIDARG);
     }
-    if !target.connected {
+    if !target.is_connected {
         return not_got(number, HResult::CO_E_OBJNOTCONNECTED);
     }
     Deed::Get {
@@ -97,7 +101,7 @@ pub fn get_deed(number: i64, home: Option<u32>, kept: Cookie, target: Target) ->
             object: kept.object,
             iface: kept.iface,
         }),
-        refs: gained_refs(MarshalMode::Strong, target.owned, 0),
+        refs: gained_refs(MarshalMode::Strong, target.is_owned, 0),
         hr: HResult::S_OK,
     }
 }
@@ -121,15 +125,15 @@ pub fn revoke_deed(number: i64, home: Option<u32>, kept: Cookie) -> Deed
 {
     let hr = match home {
         None => HResult::CO_E_NOTINITIALIZED,
-        Some(_) => revoke_answer(kept.revoked),
+        Some(_) => revoke_answer(kept.is_revoked),
     };
     Deed::Revoke { cookie: number, hr }
 }
 
-fn revoke_answer(revoked: bool) -> HResult
-    ensures { result ≡ (if revoked then E_INVALIDARG else S_OK) }
+fn revoke_answer(is_revoked: bool) -> HResult
+    ensures { result ≡ (if is_revoked then E_INVALIDARG else S_OK) }
 {
-    if revoked {
+    if is_revoked {
         HResult::E_INVALIDARG
     } else {
         HResult::S_OK
@@ -164,7 +168,7 @@ pub fn unmarshal_deed(found: Named, kept: Packet, target: Target) -> Deed
                 object: kept.object,
                 iface: kept.iface,
             }),
-            refs: gained_refs(kept.mode, target.owned, kept.refs),
+            refs: gained_refs(kept.mode, target.is_owned, kept.refs),
             hr: HResult::S_OK,
         },
     }
@@ -204,7 +208,7 @@ fn disconnect_answer(held: Option<RefValue>, home: Option<u32>, target: Target) 
     if held.is_none() {
         return HResult::E_POINTER;
     }
-    if target.owned {
+    if target.is_owned {
         HResult::S_OK
     } else {
         HResult::E_INVALIDARG

@@ -4,9 +4,9 @@
 #[derive(Debug, Clone, Copy, PartialEq, Eq)]
 pub struct Target {
     /// Whether the lane's running apartment owns the object, so that the reference is direct.
-    pub owned: bool,
+    pub is_owned: bool,
     /// Whether the object is connected.
-    pub connected: bool,
+    pub is_connected: bool,
     /// The apartment that the object's making names.
     pub owner: u32,
     /// The number of the object's class, from 1.
@@ -16,8 +16,8 @@ pub struct Target {
 impl Target {
     /// What stands for null, of which nothing is asked.
     pub const NOTHING: Target = Target {
-        owned: false,
-        connected: false,
+        is_owned: false,
+        is_connected: false,
         owner: 0,
         class: 0,
     };

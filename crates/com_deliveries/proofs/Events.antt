@@ -84,7 +84,7 @@ known-by s h c r (Some q) None e d w = absurd w
 known : (s : Scenario) (h : List Entry) (b : Book) (c : ℕ) (r : Call) → Stands s h b → row_at b.calls c ≡ Some r → Known s h c r
 known s h b c r st e = known-by s h c r (row_at b.calls c) (issue h c) e refl (st.calls c)
 
-delivered : (s : Scenario) (h : List Entry) (b : Book) (c : ℕ) (r : Call) → Stands s h b → Known s h c r → on_source b.objects r ≡ true → (r.method == fire) ≡ true → r.left ≡ true → IsDelivery s h (delivery r)
+delivered : (s : Scenario) (h : List Entry) (b : Book) (c : ℕ) (r : Call) → Stands s h b → Known s h c r → on_source b.objects r ≡ true → (r.method == fire) ≡ true → r.has_left ≡ true → IsDelivery s h (delivery r)
 delivered s h b c r st k on me le =
     let o : OnSource s h b.objects r = on-source s h b r st on in
     let w : RowFor s c k.of (class_of h (number_or_zero k.of.object)) (given_to h c) (is_some (left h c)) (last h (number_or_zero k.of.object) k.of.iface c) (visited h (number_or_zero k.of.object) k.of.iface c) r = k.row in
@@ -112,7 +112,7 @@ delivered s h b c r st k on me le =
 
 record GoodRow (s : Scenario) (h : List Entry) (objs : List Source) (c : ℕ) (r : Call) : Type 0 where
   number : r.call ≡ c
-  good : (is_event objs r && r.left) ≡ true → IsDelivery s h (delivery r)
+  good : (is_event objs r && r.has_left) ≡ true → IsDelivery s h (delivery r)
 
 abbrev EachRow : Scenario → List Entry → List Source → ℕ → List Call → Type 0
 EachRow s h objs n [] = Unit {0}
@@ -123,8 +123,8 @@ good-row s h b c r st e =
     let k : Known s h c r = known s h b c r st e in record {
       number = k.row.call;
       good = λ t.
-          let ev : is_event b.objects r ≡ true = and-left (is_event b.objects r) r.left t in
-          delivered s h b c r st k (and-left (on_source b.objects r) (r.method == fire) ev) (and-right (on_source b.objects r) (r.method == fire) ev) (and-right (is_event b.objects r) r.left t);
+          let ev : is_event b.objects r ≡ true = and-left (is_event b.objects r) r.has_left t in
+          delivered s h b c r st k (and-left (on_source b.objects r) (r.method == fire) ev) (and-right (on_source b.objects r) (r.method == fire) ev) (and-right (is_event b.objects r) r.has_left t);
     }
 
 rows-good : (s : Scenario) (h : List Entry) (objs : List Source) (rows : List Call) (n : ℕ) → ((k : ℕ) (r : Call) → slice_get rows k ≡ Some r → GoodRow s h objs (n + k + 1) r) → EachRow s h objs n rows
@@ -143,7 +143,7 @@ rows-good s h objs (r ∷ rs) n f = (
 each-of : (s : Scenario) (h : List Entry) (objs : List Source) (rows : List Call) (n : ℕ) → EachRow s h objs n rows → All (IsDelivery s h) (events objs rows)
 each-of s h objs [] n f = All-nil (IsDelivery s h)
 each-of s h objs (r ∷ rs) n f =
-    elim (is_event objs r && r.left) as (λ t. (is_event objs r && r.left) ≡ t → All (IsDelivery s h) (cond t (delivery r ∷ events objs rs) (events objs rs))) [
+    elim (is_event objs r && r.has_left) as (λ t. (is_event objs r && r.has_left) ≡ t → All (IsDelivery s h) (cond t (delivery r ∷ events objs rs) (events objs rs))) [
       | true ↦ λ e. All-cons (IsDelivery s h) (delivery r) (events objs rs) (f.0.good e) (each-of s h objs rs (n + 1) f.1)
       | false ↦ λ e. each-of s h objs rs (n + 1) f.1
     ] refl
@@ -152,7 +152,7 @@ rise-of : (s : Scenario) (h : List Entry) (objs : List Source) (rows : List Call
 rise-of s h objs [] m n l f = tt
 rise-of s h objs (r ∷ rs) m n l f =
     let number : r.call ≡ n + 1 = f.0.number in
-    elim (is_event objs r && r.left) as (λ t. CallsRise m (cond t (delivery r ∷ events objs rs) (events objs rs))) [
+    elim (is_event objs r && r.has_left) as (λ t. CallsRise m (cond t (delivery r ∷ events objs rs) (events objs rs))) [
       | true ↦ (higher r.call number, rise-of s h objs rs r.call (n + 1) (same-or-less r.call number) f.1)
       | false ↦ rise-of s h objs rs m (n + 1) later f.1
     ]
@@ -166,7 +166,7 @@ rise-of s h objs (r ∷ rs) m n l f =
     later : m ≤ n + 1
     later = omega (arith, l)
 
-listed-here : (objs : List Source) (x r : Call) (rs : List Call) → Some x ≡ Some r → (is_event objs r && r.left) ≡ true → IsListed r.call (events objs (x ∷ rs))
+listed-here : (objs : List Source) (x r : Call) (rs : List Call) → Some x ≡ Some r → (is_event objs r && r.has_left) ≡ true → IsListed r.call (events objs (x ∷ rs))
 listed-here objs x r rs e t =
     let z : x ≡ r = same e in
     subst (λ (y : Call). IsListed r.call (events objs (y ∷ rs))) (sym z)
@@ -179,12 +179,12 @@ listed-more : (c : ℕ) (d : Delivery) (t : Bool) (ds : List Delivery) → IsLis
 listed-more c d true ds m = inr m
 listed-more c d false ds m = m
 
-listed-of : (objs : List Source) (rows : List Call) (k : ℕ) (r : Call) → slice_get rows k ≡ Some r → (is_event objs r && r.left) ≡ true → IsListed r.call (events objs rows)
+listed-of : (objs : List Source) (rows : List Call) (k : ℕ) (r : Call) → slice_get rows k ≡ Some r → (is_event objs r && r.has_left) ≡ true → IsListed r.call (events objs rows)
 listed-of objs [] k r e t = cc
 listed-of objs (x ∷ rs) zero r e t = listed-here objs x r rs e t
-listed-of objs (x ∷ rs) (suc k) r e t = listed-more r.call (delivery x) (is_event objs x && x.left) (events objs rs) (listed-of objs rs k r e t)
+listed-of objs (x ∷ rs) (suc k) r e t = listed-more r.call (delivery x) (is_event objs x && x.has_left) (events objs rs) (listed-of objs rs k r e t)
 
-listed-at : (objs : List Source) (rows : List Call) (c : ℕ) (r : Call) → row_at rows c ≡ Some r → (is_event objs r && r.left) ≡ true → IsListed r.call (events objs rows)
+listed-at : (objs : List Source) (rows : List Call) (c : ℕ) (r : Call) → row_at rows c ≡ Some r → (is_event objs r && r.has_left) ≡ true → IsListed r.call (events objs rows)
 listed-at objs rows zero r e t = cc
 listed-at objs rows (suc k) r e t = listed-of objs rows k r (sym (row-is rows k) ∙ e) t
 
@@ -200,7 +200,7 @@ event-by s h b o i c (Some r) (Some y) st e w p t le =
     event-own s b.objects o i (taken h o i) (sinks h o i) r (kept-of s h b st o i p) (w.object ∙ ap number_or_zero mine)
     (w.iface ∙ eqb-true y.iface i (and-left (y.iface == i) (y.method == fire) rest)) (w.method ∙ eqb-true y.method fire (and-right (y.iface == i) (y.method == fire) rest)) in
     subst (λ (n : ℕ). IsListed n (events b.objects b.calls)) w.call
-    (listed-at b.objects b.calls c r e (both (is_event b.objects r) r.left ev (w.left ∙ le)))
+    (listed-at b.objects b.calls c r e (both (is_event b.objects r) r.has_left ev (w.left ∙ le)))
 event-by s h b o i c x None st e w p t le = cc
 event-by s h b o i c None (Some y) st e w p t le = absurd w
 

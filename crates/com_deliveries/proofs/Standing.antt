@@ -51,7 +51,7 @@ pub record RowFor (s : Scenario) (c : ℕ) (y : Issue) (k : ℕ) (vs : List Valu
   pub iface : r.iface ≡ y.iface
   pub method : r.method ≡ y.method
   pub number : r.number ≡ first_number vs
-  pub left : r.left ≡ lv
+  pub left : r.has_left ≡ lv
   pub got : IsSource s k y.iface → y.method ≡ fire → (r.last ≡ l) × (r.cookies ≡ map cookie_of seen)
 
 abbrev pub CallFor : Scenario → ℕ → (ℕ → ℕ) → List Value → Bool → (ℕ → ℕ → ℕ) → (ℕ → ℕ → List Sink) → Option Call → Option Issue → Type 0

@@ -74,7 +74,7 @@ no_call = record {
   number = pos 0;
   last = 0;
   cookies = [];
-  left = false;
+  has_left = false;
 }
 
 abbrev pub called : (call : ℕ) → (object : Option ℕ) → (iface method : ℕ) → Call
@@ -86,7 +86,7 @@ called c o i m = record {
   number = pos 0;
   last = 0;
   cookies = [];
-  left = false;
+  has_left = false;
 }
 
 -- A call on an object of a source, by its own interface.
@@ -106,7 +106,7 @@ begun objects n r =
       number = n;
       last = advised_of (row_at objects r.object);
       cookies = r.cookies;
-      left = r.left;
+      has_left = r.has_left;
     }
 
 abbrev pub got : ℕ → Call → Call
@@ -119,7 +119,7 @@ got c r =
       number = r.number;
       last = r.last;
       cookies = r.cookies ++ (c ∷ []);
-      left = r.left;
+      has_left = r.has_left;
     }
 
 abbrev pub ended : Call → Call
@@ -132,7 +132,7 @@ ended r =
       number = r.number;
       last = r.last;
       cookies = r.cookies;
-      left = true;
+      has_left = true;
     }
 
 -- The cookie of the next sink of an event.
@@ -226,7 +226,7 @@ delivery r = record { call = r.call; object = r.object; cookies = r.cookies }
 abbrev pub events : List Source → List Call → List Delivery
 events objects [] = []
 events objects (r ∷ rs) =
-    if is_event objects r && r.left then delivery r ∷ events objects rs else events objects rs
+    if is_event objects r && r.has_left then delivery r ∷ events objects rs else events objects rs
 
 abbrev pub deliveries_in : Book → List Delivery
 deliveries_in b = events b.objects b.calls

@@ -40,7 +40,7 @@ pub(crate) struct Call {
     /// Of an event, the cookies of the sinks that got it.
     pub cookies: Cookies,
     /// Whether its body left.
-    pub left: bool,
+    pub has_left: bool,
 }
 
 /// What was read so far: the objects in the order of their making, the calls in the order of their issue, and
@@ -236,7 +236,7 @@ fn new_call(alloc: Global, call: u32, object: Option<u32>, iface: u16, method: u
         number: 0,
         last: 0,
         cookies: Cookies::new(alloc),
-        left: false,
+        has_left: false,
     }
 }
 
@@ -323,7 +323,7 @@ fn finish(calls: &mut [Call], call: u32)
     if call == 0 || call as usize > calls.len() {
         return;
     }
-    calls[call as usize - 1].left = true;
+    calls[call as usize - 1].has_left = true;
 }
 
 /// What the Leave of a call with S_OK does to the sinks of its object.
@@ -405,7 +405,7 @@ fn add(deliveries: &mut Vec<Delivery>, objects: &[Source], call: &Call) -> Resul
     ensures { OnOk result (deliveries.new.items ≡ deliveries.old.items
         ++ events objects.now (call.now ∷ [])) }
 {
-    if !is_event(objects, call) || !call.left {
+    if !is_event(objects, call) || !call.has_left {
         return Ok(());
     }
     deliveries.push(delivery_of(call)?)?;

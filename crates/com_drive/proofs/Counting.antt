@@ -2,6 +2,7 @@
 use Rattle.std.proofs.Common.{sym, ◌∙◌, ap, arith}
 use Rattle.std.specs.Prelude.{◌≡◌, refl, ℕ, suc, ◌+◌, List, [], ◌∷◌, ◌++◌, length, map, sum_by}
 use Rattle.com_books.specs.Counting.{sum_below}
+use Rattle.com_books.specs.Changes.{in_normal, in_table, in_cookie}
 use Rattle.com_model.specs.declared.counts.Counts.{Counts}
 use Rattle.com_model.specs.declared.deeds.Entry.{Entry}
 use Rattle.com_model.specs.declared.scenario.Scenario.{Scenario}
@@ -10,7 +11,7 @@ use Rattle.com_model.specs.Objects.{objects, named, class_of}
 use Rattle.com_model.specs.Places.{ground, direct_places}
 use Rattle.com_model.specs.Frames.{scene}
 use Rattle.com_model.specs.Books.{books}
-use Rattle.com_model.specs.Ends.{state_of, in_normal, in_table, in_cookie, over_interfaces, counts_of, all_counts}
+use Rattle.com_model.specs.Ends.{state_of, over_interfaces, counts_of, all_counts}
 use Rattle.com_model.specs.State.{State, StandsFor, scene_in, books_in, ground_in, named_in, class_in, objects_in}
 use Rattle.com_model.proofs.Sights.{same-scene, same-books, same-ground, same-named, same-class}
 use Rattle.com_drive.specs.Reports.{counts_in, all_counts_in}

@@ -1,12 +1,12 @@
 -- What a report counts of an object, by the tables of a state.
 use Rattle.std.specs.Prelude.{ℕ, ◌+◌, List, map, sum_by}
-use Rattle.com_books.specs.Changes.{Books}
+use Rattle.com_books.specs.Changes.{Books, in_normal, in_table, in_cookie}
 use Rattle.com_books.specs.Counting.{sum_below}
 use Rattle.com_model.specs.declared.counts.Counts.{Counts}
 use Rattle.com_model.specs.declared.scenario.Scenario.{Scenario}
 use Rattle.com_model.specs.Lists.{is_member, one_to}
 use Rattle.com_model.specs.Places.{direct_places}
-use Rattle.com_model.specs.Ends.{state_of, in_normal, in_table, in_cookie, over_interfaces}
+use Rattle.com_model.specs.Ends.{state_of, over_interfaces}
 use Rattle.com_model.specs.State.{State, next_sta_in, objects_in, named_in, class_in, scene_in, books_in}
 use Rattle.com_model.specs.State.{ground_in}
 

@@ -63,11 +63,11 @@ after_row owned b a x = changed b (change owned b (row_of a x))
 live_after : (owned : ℕ → ℕ → Bool) (b : Books) (a : ℕ) (x : Outgoing) (o : ℕ) → (after_row owned b a x).live o ≡ b.live o
 live_after owned b a x o = grind (arith, common_steps)
 
-proxy_after : (owned : ℕ → ℕ → Bool) (b : Books) (a : ℕ) (y x : Outgoing) → owned y.object a ≡ y.owned → b.live y.object ≡ y.connected
+proxy_after : (owned : ℕ → ℕ → Bool) (b : Books) (a : ℕ) (y x : Outgoing) → owned y.object a ≡ y.is_owned → b.live y.object ≡ y.is_connected
     → (after_row owned b a y).proxy a x.object x.iface ≡ after_one y x (b.proxy a x.object x.iface)
 proxy_after owned b a y x own live = grind (arith, common_steps, own, live)
 
-packets_after : (owned : ℕ → ℕ → Bool) (b : Books) (a : ℕ) (x : Outgoing) → owned x.object a ≡ x.owned → b.live x.object ≡ x.connected
+packets_after : (owned : ℕ → ℕ → Bool) (b : Books) (a : ℕ) (x : Outgoing) → owned x.object a ≡ x.is_owned → b.live x.object ≡ x.is_connected
     → map refs_in (after_row owned b a x).packets ≡ map refs_in b.packets ++ refs_if_connected x (b.proxy a x.object x.iface)
 packets_after owned b a x own live = grind (arith, common_steps, own, live)
 
@@ -75,8 +75,8 @@ packets_after owned b a x own live = grind (arith, common_steps, own, live)
 
 -- the books say of a reference what stands in its row, after others were marshalled
 record Stands (owned : ℕ → ℕ → Bool) (b : Books) (a : ℕ) (before : List Outgoing) (x : Outgoing) : Type 0 where
-  pub owned_so : owned x.object a ≡ x.owned
-  pub live_so : b.live x.object ≡ x.connected
+  pub owned_so : owned x.object a ≡ x.is_owned
+  pub live_so : b.live x.object ≡ x.is_connected
   pub held_so : b.proxy a x.object x.iface ≡ left_after before x x.held
 
 all_first : (owned : ℕ → ℕ → Bool) (b : Books) (a : ℕ) (xs : List Outgoing) → AllByRecursion (IsOutgoing owned b a) xs

@@ -9,8 +9,8 @@ use Rattle.com_exchange.specs.declared.preview.Outgoing.{Outgoing}
 -- A row says of its reference what the books say, in the apartment that marshals it.
 pub record IsOutgoing (owns : ℕ → ℕ → Bool) (b : Books) (a : ℕ) (x : Outgoing) : Type 0 where
   pub held : b.proxy a x.object x.iface ≡ x.held
-  pub owned : owns x.object a ≡ x.owned
-  pub connected : b.live x.object ≡ x.connected
+  pub owned : owns x.object a ≡ x.is_owned
+  pub connected : b.live x.object ≡ x.is_connected
 
 abbrev pub reference_of : Outgoing → RefValue
 reference_of x = record { object = x.object; iface = x.iface }
@@ -28,7 +28,7 @@ halved n = if nat_le 2 n then n - n / 2 else n
 -- What is held for a reference x after a reference y was marshalled.
 abbrev pub after_one : (y x : Outgoing) → (held : ℕ) → ℕ
 after_one y x n =
-    if y.connected && (not y.owned && (x.object == y.object && x.iface == y.iface)) then halved n else n
+    if y.is_connected && (not y.is_owned && (x.object == y.object && x.iface == y.iface)) then halved n else n
 
 abbrev pub left_after : (earlier : List Outgoing) → (x : Outgoing) → (held : ℕ) → ℕ
 left_after [] x n = n
@@ -36,7 +36,7 @@ left_after (y ∷ ys) x n = left_after ys x (after_one y x n)
 
 -- What the packets of references hold, where others were marshalled before: none for what is not connected.
 abbrev pub refs_if_connected : Outgoing → ℕ → List ℕ
-refs_if_connected x n = if x.connected then refs_of x.owned n ∷ [] else []
+refs_if_connected x n = if x.is_connected then refs_of x.is_owned n ∷ [] else []
 
 abbrev pub previewed : (before : List Outgoing) → List Outgoing → List ℕ
 previewed before [] = []

@@ -18,17 +18,17 @@ pub struct Outgoing {
     /// How many public references the apartment's proxy has now; 0 without one.
     pub held: u32,
     /// Whether the apartment owns the object.
-    pub owned: bool,
+    pub is_owned: bool,
     /// Whether the object is connected.
-    pub connected: bool,
+    pub is_connected: bool,
 }
 
 // The public references of a normal packet: 5 new ones, or half of those that a proxy has, where it has at
 // least 2.
-fn refs_of(owned: bool, held: u32) -> u32
-    ensures { result ≡ refs_of owned held }
+fn refs_of(is_owned: bool, held: u32) -> u32
+    ensures { result ≡ refs_of is_owned held }
 {
-    if owned || held < 2 { 5 } else { held / 2 }
+    if is_owned || held < 2 { 5 } else { held / 2 }
 }
 
 // What is held for a reference after another one was marshalled: half less where both are the same and a
@@ -36,7 +36,7 @@ fn refs_of(owned: bool, held: u32) -> u32
 fn after_one(other: &Outgoing, row: &Outgoing, held: u32) -> u32
     ensures { result ≡ after_one other.now row.now held }
 {
-    if !other.connected || other.owned || held < 2 {
+    if !other.is_connected || other.is_owned || held < 2 {
         return held;
     }
     if row.object == other.object && row.iface == other.iface {
@@ -62,10 +62,10 @@ fn left_after(earlier: &[Outgoing], row: &Outgoing) -> u32
 fn append_refs(refs: &mut Vec<u32>, row: &Outgoing, held: u32) -> Result<(), Memory>
     ensures { OnOk result (refs.new.items ≡ refs.old.items ++ refs_if_connected row.now held) }
 {
-    if !row.connected {
+    if !row.is_connected {
         return Ok(());
     }
-    Ok(refs.push(refs_of(row.owned, held))?)
+    Ok(refs.push(refs_of(row.is_owned, held))?)
 }
 
 /// The public references that each new packet will hold, where an apartment marshals these references in

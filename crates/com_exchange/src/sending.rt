@@ -21,11 +21,11 @@ pub trait Connections {
 }
 
 // A reference to an object that is not connected travels as null on the routes that marshal.
-fn if_connected<C: Connections>(value: Value, marshalled: bool, connections: &C) -> Value
-    ensures { result ≡ if_live marshalled (C.live connections.now) value }
+fn if_connected<C: Connections>(value: Value, is_marshalled: bool, connections: &C) -> Value
+    ensures { result ≡ if_live is_marshalled (C.live connections.now) value }
 {
     match value {
-        Value::Ref(Some(held)) if marshalled => {
+        Value::Ref(Some(held)) if is_marshalled => {
             if connections.is_connected(held.object) {
                 Value::Ref(Some(held))
             } else {
@@ -41,15 +41,15 @@ fn if_connected<C: Connections>(value: Value, marshalled: bool, connections: &C)
 /// travels as null. The only error is want of memory.
 pub fn sent_value<C: Connections>(
     alloc: Global,
-    marshalled: bool,
+    is_marshalled: bool,
     connections: &C,
     kind: Kind,
     value: &Value,
 ) -> Result<Value, Memory>
-    ensures { IfOk result (λ sent. sent ≡ sent_value marshalled (C.live connections.now) kind value.now) }
+    ensures { IfOk result (λ sent. sent ≡ sent_value is_marshalled (C.live connections.now) kind value.now) }
 {
     let value = value.copy()?.as_kind(alloc, kind);
-    Ok(if_connected(value, marshalled, connections))
+    Ok(if_connected(value, is_marshalled, connections))
 }
 
 // The value that travels where none was given.
@@ -69,16 +69,16 @@ fn default_of(alloc: Global, kind: Kind) -> Value
 // The value of one parameter, where some was given, as it travels.
 fn sent_or_default<C: Connections>(
     alloc: Global,
-    marshalled: bool,
+    is_marshalled: bool,
     connections: &C,
     kind: Kind,
     value: Option<&Value>,
 ) -> Result<Value, Memory>
     ensures { IfOk result (λ sent. sent
-        ≡ sent_or_default marshalled (C.live connections.now) kind (option_copied value.entry)) }
+        ≡ sent_or_default is_marshalled (C.live connections.now) kind (option_copied value.entry)) }
 {
     match value {
-        Some(value) => sent_value(alloc, marshalled, connections, kind, value),
+        Some(value) => sent_value(alloc, is_marshalled, connections, kind, value),
         None => Ok(default_of(alloc, kind)),
     }
 }
@@ -88,17 +88,17 @@ fn sent_or_default<C: Connections>(
 #[tactic(auto, using(crate::proofs::Sendings::sent_more, crate::proofs::Sendings::sent_all))]
 pub fn sent_values<C: Connections>(
     alloc: Global,
-    marshalled: bool,
+    is_marshalled: bool,
     connections: &C,
     kinds: &[Kind],
     values: &[Value],
 ) -> Result<Rows<Value>, Memory>
     ensures { IfOk result (λ sent. sent
-        ≡ sent_values marshalled (C.live connections.now) kinds.now values.now) }
+        ≡ sent_values is_marshalled (C.live connections.now) kinds.now values.now) }
 {
     let mut sent = Vec::with_capacity(alloc, kinds.len())?;
     for (at, kind) in kinds.iter().enumerate() {
-        sent.push(sent_or_default(alloc, marshalled, connections, *kind, values.get(at))?)?;
+        sent.push(sent_or_default(alloc, is_marshalled, connections, *kind, values.get(at))?)?;
     }
     Ok(Rows::from_vec(sent))
 }
@@ -108,14 +108,14 @@ pub fn sent_values<C: Connections>(
 #[tactic(auto, using(crate::proofs::Sendings::sent_given))]
 pub fn sent_result<C: Connections>(
     alloc: Global,
-    marshalled: bool,
+    is_marshalled: bool,
     connections: &C,
     answer: HResult,
     kind: Option<Kind>,
     value: Option<&Value>,
 ) -> Result<Option<Value>, Memory>
     ensures { IfOk result (λ sent. sent
-        ≡ sent_result marshalled (C.live connections.now) answer kind (option_copied value.entry)) }
+        ≡ sent_result is_marshalled (C.live connections.now) answer kind (option_copied value.entry)) }
 {
     let Some(kind) = kind else {
         return Ok(None);
@@ -123,7 +123,7 @@ pub fn sent_result<C: Connections>(
     if answer.is_failure() {
         return Ok(None);
     }
-    Ok(Some(sent_or_default(alloc, marshalled, connections, kind, value)?))
+    Ok(Some(sent_or_default(alloc, is_marshalled, connections, kind, value)?))
 }
 
 // Appends the reference of a value, if it is one and not null.

@@ -65,8 +65,8 @@ fn a_proxy_halves_what_it_has(rt: HostRuntime) -> Result<(), Fail> {
         object: 1,
         iface: 1,
         held: 5,
-        owned: false,
-        connected: true,
+        is_owned: false,
+        is_connected: true,
     };
     let refs = packet_refs(rt.alloc(), &[row, row, row, row])?;
     assert_eq!(rt; refs.as_slice(), [2, 1, 1, 5].as_slice());

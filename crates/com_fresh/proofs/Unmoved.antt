@@ -17,7 +17,7 @@ use Rattle.com_model.specs.Formed.{Formed}
 use Rattle.com_model.specs.Frames.{scene}
 use Rattle.com_model.specs.Lists.{first, number_or_zero}
 use Rattle.com_model.specs.Objects.{agile, named, class_of}
-use Rattle.com_model.specs.Openers.{openers}
+use Rattle.com_model.specs.Openers.{openers, is_body}
 use Rattle.com_model.specs.Rules.{legal}
 use Rattle.com_model.specs.State.{State, StandsFor, class_in, issue_in, openers_in, scene_in}
 use Rattle.com_model.specs.Tables.{is_agile_class}
@@ -30,7 +30,7 @@ use Rattle.com_points.proofs.Runs.{Same, fresh, named-in, no-begin, one-call, ot
 use Rattle.com_servant.specs.Steps.{native_at}
 use Rattle.com_drive.specs.Standings.{can_step_in}
 use Rattle.com_jobs.specs.declared.jobs.Next.TheVariants as next
-use Rattle.com_jobs.specs.Jobs.{is_enter, next_by, next_in, job_by, job_above, job_of, kept_above, kept_in, Fits}
+use Rattle.com_jobs.specs.Jobs.{next_by, next_in, job_by, job_above, job_of, kept_above, kept_in, Fits}
 use Rattle.com_jobs.proofs.Taken.{by-moved, taken-fresh}
 use Rattle.com_fresh.specs.Fresh.{AreOfOthers}
 
@@ -114,7 +114,7 @@ fits-moved s st su l c o a os job p r w e =
     ∙ ap (λ (f : FrameView). job_by (class_in st o) (native_at s.classes (class_in st o)) (issue_in st c) f d) w.frame
     ∙ by-moved (class_in st o) (native_at s.classes (class_in st o)) (issue_in st c) ((scene_in st).bodies c) ((scene_in st).cells o) d job own in
     record {
-      body = subst (λ (xs : List Opener). next_by (is_enter (first xs)) (can_step_in s su l) (slice_index_or su.over l false) ≡ next.Body) (sym r) refl;
+      body = subst (λ (xs : List Opener). next_by (is_body (first xs)) (can_step_in s su l) (slice_index_or su.over l false) ≡ next.Body) (sym r) refl;
       same = subst (λ (xs : List Opener). job_above s su (first xs) ≡ Some (record job { cells = kept_above su (first xs) })) (sym r) then;
     }
 

@@ -33,7 +33,7 @@ same_counted t u eo er = record {
 -- ---- a new cookie
 
 pushed-cookie : (live : ℕ → Bool) (gs : List (Option RefValue)) (r : RefValue) → live r.object ≡ true
-    → map (cookie_read live) (gs ++ Some r ∷ []) ≡ map (cookie_read live) gs ++ record { revoked = false; object = r.object; iface = r.iface; refs = 1 } ∷ []
+    → map (cookie_read live) (gs ++ Some r ∷ []) ≡ map (cookie_read live) gs ++ record { is_revoked = false; object = r.object; iface = r.iface; refs = 1 } ∷ []
 pushed-cookie live [] r h = rw h refl
 pushed-cookie live (g ∷ gs) r h = ap (λ l. cookie_read live g ∷ l) (pushed-cookie live gs r h)
 
@@ -101,7 +101,7 @@ cookie-end live gs zero = refl
 cookie-end live gs (suc k) = cookie-ended live gs k
 
 abbrev pub cookie_of : (live : Bool) → RefValue → Cookie
-cookie_of live r = record { revoked = false; object = r.object; iface = r.iface; refs = cond live 1 0 }
+cookie_of live r = record { is_revoked = false; object = r.object; iface = r.iface; refs = cond live 1 0 }
 
 pub cookie_shown : (t : Tables) (n : ℕ) (r : RefValue) → held_in t.cookies n ≡ Some r → cookie (books_of t) n ≡ cookie_of (is_connected t.stubs r.object) r
 unfolding books_of

@@ -39,7 +39,7 @@ module _ (live less : ℕ → Bool) (h : (x : ℕ) → less x ≡ true → live 
 
   one_cookie : (g : Option RefValue) → cookie_read less g ≡ cut_cookie less (cookie_read live g)
   one_cookie None = grind (arith, common_steps)
-  one_cookie (Some r) = ap (λ (n : ℕ). record { revoked = false; object = r.object; iface = r.iface; refs = n }) (both (live r.object) (less r.object) 1 (h r.object))
+  one_cookie (Some r) = ap (λ (n : ℕ). record { is_revoked = false; object = r.object; iface = r.iface; refs = n }) (both (live r.object) (less r.object) 1 (h r.object))
 
   all_packets : (ps : List (Option P.Packet)) → map (packet_read less) ps ≡ map (cut_packet less) (map (packet_read live) ps)
   all_packets [] = refl

@@ -71,7 +71,7 @@ sum-opened (i ∷ set) cs o x = sum-opened set (opened o i cs) o x ∙ sum-one (
 
 -- ---- a stub and an object more
 
-connected-push : (ss : List StubRow) (o x : ℕ) → has_stub ss o ≡ false → is_connected (ss ++ record { object = o; connected = true } ∷ []) x ≡ eqb x o || is_connected ss x
+connected-push : (ss : List StubRow) (o x : ℕ) → has_stub ss o ≡ false → is_connected (ss ++ record { object = o; is_connected = true } ∷ []) x ≡ eqb x o || is_connected ss x
 connected-push [] o x h = grind (arith, common_steps)
 connected-push (r ∷ ss) o x h = grind (arith, common_steps, connected-push ss o x, h)
 
@@ -127,7 +127,7 @@ made-read false false m n s h = refl
 pub record Enrolled (t u : Tables) (o w : ℕ) (agile : Bool) (set : List ℕ) : Type 0 where
   pub number : o ≡ length t.objects + 1
   pub objects : u.objects ≡ t.objects ++ record { owner = w; agile = agile; direct = 0 } ∷ []
-  pub stubs : u.stubs ≡ t.stubs ++ record { object = o; connected = true } ∷ []
+  pub stubs : u.stubs ≡ t.stubs ++ record { object = o; is_connected = true } ∷ []
   pub counters : u.counters ≡ opened_all o set t.counters
   pub proxies : u.proxies ≡ t.proxies
   pub packets : u.packets ≡ t.packets
@@ -189,7 +189,7 @@ module _ (t u : Tables) (o w : ℕ) (agile : Bool) (set : List ℕ) (k : Enrolle
 
   stub-made : (x : ℕ) → has_stub u.stubs x ≡ true → x ≤ length u.objects
   stub-made x h =
-      let or : has_stub t.stubs x || eqb o x ≡ true = sym (ap (λ ss. has_stub ss x) k.stubs ∙ stub-push t.stubs (record { object = o; connected = true }) x) ∙ h in
+      let or : has_stub t.stubs x || eqb o x ≡ true = sym (ap (λ ss. has_stub ss x) k.stubs ∙ stub-push t.stubs (record { object = o; is_connected = true }) x) ∙ h in
       elim (has_stub t.stubs x) as (λ y. has_stub t.stubs x ≡ y → y || eqb o x ≡ true → x ≤ length u.objects) [
         | true ↦ λ y g. omega (arith, s.known.stubs x y, len)
         | false ↦ λ y g. let same : o ≡ x = eqb-true o x g in omega (arith, same, k.number, len)

@@ -82,7 +82,7 @@ packet_read live (Some p) =
 abbrev pub cookie_read : (ℕ → Bool) → Option RefValue → Cookie
 cookie_read live None = no_cookie
 cookie_read live (Some r) =
-    record { revoked = false; object = r.object; iface = r.iface; refs = if live r.object then 1 else 0 }
+    record { is_revoked = false; object = r.object; iface = r.iface; refs = if live r.object then 1 else 0 }
 
 abbrev pub books_by : (live : ℕ → Bool) → List CounterRow → List ProxyRow → List (Option P.Packet)
     → List (Option RefValue) → Books

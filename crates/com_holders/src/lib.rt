@@ -179,7 +179,7 @@ fn issue(stubs: &mut Stubs, held: RefValue, n: u32) -> u32
 fn mint(
     stubs: &mut Stubs,
     proxies: &mut Proxies,
-    owned: bool,
+    is_owned: bool,
     apartment: u32,
     held: RefValue,
     mode: MarshalMode,
@@ -188,14 +188,14 @@ fn mint(
     requires known { has_counter stubs.old.counters held.object held.iface ≡ true }
     requires fits { sum_of stubs.old.counters held.object + 5 < 2 ^ 64 }
     requires public_fits { public_of proxies.old.rows apartment held.object held.iface < 2 ^ 32 }
-    ensures result { result ≡ minted owned mode
+    ensures result { result ≡ minted is_owned mode
         (public_of proxies.old.rows apartment held.object held.iface) }
     ensures counters { stubs.new.counters
-        ≡ minted_counters owned mode
+        ≡ minted_counters is_owned mode
         (public_of proxies.old.rows apartment held.object held.iface) held.object held.iface
         stubs.old.counters }
     ensures rows { proxies.new.rows
-        ≡ minted_rows owned mode apartment held.object held.iface proxies.old.rows }
+        ≡ minted_rows is_owned mode apartment held.object held.iface proxies.old.rows }
     ensures stubs { stubs.new.stubs ≡ stubs.old.stubs }
     ensures stub_room { stubs.new.spare ≡ stubs.old.spare }
     ensures proxy_room { proxies.new.spare ≡ proxies.old.spare }
@@ -204,7 +204,7 @@ fn mint(
         MarshalMode::Strong => issue(stubs, held, 1),
         MarshalMode::Weak => issue(stubs, held, 0),
         MarshalMode::Normal => {
-            if owned {
+            if is_owned {
                 return issue(stubs, held, 5);
             }
             match proxies.split(apartment, held.object, held.iface) {
@@ -344,7 +344,8 @@ fn enroll(stubs: &mut Stubs, object: u32, set: &[u16])
     requires room { 0 < stubs.old.spare }
     requires new { has_stub stubs.old.stubs object ≡ false }
     requires few { length set.now ≤ 17 }
-    ensures stubs { stubs.new.stubs ≡ stubs.old.stubs ++ record { object = object; connected = true } ∷ [] }
+    ensures stubs { stubs.new.stubs
+        ≡ stubs.old.stubs ++ record { object = object; is_connected = true } ∷ [] }
     ensures counters { stubs.new.counters ≡ opened_all object set.now stubs.old.counters }
     ensures spare { stubs.old.spare ≤ stubs.new.spare + 1 }
 {
@@ -596,11 +597,11 @@ impl Holders {
         ensures spare { self.new.spare + 1 ≡ self.old.spare }
     {
         let row = object_at(&self.objects, held.object);
-        let owned = owns(&self.objects, held.object, apartment);
+        let is_owned = owns(&self.objects, held.object, apartment);
         let refs = mint(
             &mut self.stubs,
             &mut self.proxies,
-            owned,
+            is_owned,
             apartment,
             held,
             mode,
@@ -1084,6 +1085,7 @@ impl Holders {
             (is_connected self.old.stubs) self.old.packets number ≡ Some packet) }
         ensures unknown { OnErr result (outstanding_in
             (is_connected self.old.stubs) self.old.packets number ≡ None) }
+        ensures only { OnErr result (result ≡ Err HoldersError.Unknown) }
         ensures books { OnOk result (books_of self.new ≡ changed (books_of self.old) (Return number)) }
         ensures places { OnOk result (SamePlaces self.old self.new) }
         ensures offers { (x j : ℕ) → offers self.new x j ≡ offers self.old x j }
@@ -1126,14 +1128,14 @@ impl Holders {
         ensures most { self.new.spare ≤ self.old.spare }
         ensures spare { self.old.spare ≤ self.new.spare + 1 }
     {
-        let owned = self.owns(object, apartment);
-        if !(owned || self.is_connected(object)) {
+        let is_owned = self.owns(object, apartment);
+        if !(is_owned || self.is_connected(object)) {
             return Err(HoldersError::NotConnected);
         }
         if !self.offers(object, iface) {
             return Err(HoldersError::NoInterface);
         }
-        if owned {
+        if is_owned {
             self.stands();
             self.keep_direct(object);
             return Ok(());
@@ -1242,6 +1244,7 @@ impl Holders {
     pub fn revoke(&mut self, cookie: u32) -> Result<RefValue, HoldersError>
         ensures held { IfOk result (λ held. held_in self.old.cookies cookie ≡ Some held) }
         ensures unknown { OnErr result (held_in self.old.cookies cookie ≡ None) }
+        ensures only { OnErr result (result ≡ Err HoldersError.Unknown) }
         ensures books { OnOk result (books_of self.new ≡ changed (books_of self.old) (Withdraw cookie)) }
         ensures places { OnOk result (SamePlaces self.old self.new) }
         ensures offers { (x j : ℕ) → offers self.new x j ≡ offers self.old x j }

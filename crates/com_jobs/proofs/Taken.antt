@@ -17,12 +17,13 @@ use Rattle.com_model.specs.Rules.{legal, next}
 use Rattle.com_model.specs.State.{State, StandsFor, actor_of, class_in, issue_in, openers_in, scene_in}
 use Rattle.com_model.specs.Tables.{LaneSort, lane_sort}
 use Rattle.com_model.proofs.Sights.{same-next}
+use Rattle.com_model.specs.Openers.{is_body}
 use Rattle.com_schedule.proofs.Runs.{stands-later}
 use Rattle.com_servant.specs.Steps.{IsOfItsClass, job_step, native_at}
 use Rattle.com_drive.specs.Standings.{can_step_in}
 use Rattle.com_drive.specs.Turns.{IsNext}
 use Rattle.com_jobs.specs.declared.jobs.Next.TheVariants as next
-use Rattle.com_jobs.specs.Jobs.{is_enter, next_by, next_in, job_by, job_above, job_of, kept_above, kept_in, Fits}
+use Rattle.com_jobs.specs.Jobs.{next_by, next_in, job_by, job_above, job_of, kept_above, kept_in, Fits}
 
 -- ---- the job of a body
 
@@ -60,7 +61,7 @@ by-step s n (Some k) (Some i) f c job e =
 
 -- ---- the job of the innermost opener
 
-above-enter : (s : Scenario) (st : State) (t : Option Opener) (job : Job) → job_above s st t ≡ Some job → is_enter t ≡ true
+above-enter : (s : Scenario) (st : State) (t : Option Opener) (job : Job) → job_above s st t ≡ Some job → is_body t ≡ true
 above-enter s st None job e = cc
 above-enter s st (Some (Pumps n)) job e = cc
 above-enter s st (Some (Waits c)) job e = cc
@@ -99,7 +100,7 @@ next-body false can over e = cc
 pub taken-fits : (s : Scenario) (st : State) (l : ℕ) (job : Job) → job_of s st l ≡ Some job → Fits s st l job
 unfolding job_of next_in kept_in
 taken-fits s st l job e = record {
-  body = next-body (is_enter (first (openers_in st l))) (can_step_in s st l) (slice_index_or st.over l false) (above-enter s st (first (openers_in st l)) job e);
+  body = next-body (is_body (first (openers_in st l))) (can_step_in s st l) (slice_index_or st.over l false) (above-enter s st (first (openers_in st l)) job e);
   same = above-same s st (first (openers_in st l)) job e;
 }
 

@@ -6,12 +6,13 @@ use Rattle.com_body.specs.declared.frame.Job.{Job}
 use Rattle.com_body.specs.declared.frame.Native.{Native}
 use Rattle.com_body.specs.declared.frame.Outcome.{Outcome}
 use Rattle.com_body.specs.Frames.{FrameView}
+use Rattle.com_body.specs.Operands.{new_cells}
 use Rattle.com_model.specs.declared.keeps.Issue.{Issue}
 use Rattle.com_model.specs.declared.keeps.Opener.{Opener}
 use Rattle.com_model.specs.declared.keeps.Opener.TheVariants.{Enters}
 use Rattle.com_model.specs.declared.scenario.Scenario.{Scenario}
-use Rattle.com_model.specs.Frames.{new_cells}
 use Rattle.com_model.specs.Lists.{first}
+use Rattle.com_model.specs.Openers.{is_body}
 use Rattle.com_model.specs.State.{State, openers_in, class_in, issue_in, scene_in}
 use Rattle.com_servant.specs.Steps.{native_at}
 use Rattle.com_drive.specs.Standings.{can_step_in}
@@ -21,11 +22,6 @@ use Rattle.com_jobs.specs.declared.jobs.Next.{Next}
 use Rattle.com_jobs.specs.declared.jobs.Next.TheVariants as next
 
 -- ---- what a lane does next
-
--- Whether the innermost opener is an Enter.
-abbrev pub is_enter : Option Opener → Bool
-is_enter (Some (Enters c o a)) = true
-is_enter _ = false
 
 -- Body where the innermost opener is an Enter; Own where another next entry exists; Over where the lane has
 -- an End; else Wait.
@@ -37,7 +33,7 @@ next_by false false false = next.Wait
 
 unfoldable pub next_in : Scenario → State → (lane : ℕ) → Next
 next_in s st l =
-    next_by (is_enter (first (openers_in st l))) (can_step_in s st l) (slice_index_or st.over l false)
+    next_by (is_body (first (openers_in st l))) (can_step_in s st l) (slice_index_or st.over l false)
 
 -- ---- the job of a lane
 

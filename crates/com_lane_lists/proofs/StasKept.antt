@@ -19,25 +19,25 @@ le-row false n m h = omega arith
 
 pub gone_first_le : (rows : List Sta) → gone_first rows ≤ length rows
 gone_first_le [] = omega arith
-gone_first_le (r ∷ rows) = le-row r.gone (gone_first rows) (length rows) (gone_first_le rows)
+gone_first_le (r ∷ rows) = le-row r.is_gone (gone_first rows) (length rows) (gone_first_le rows)
 
 more-row : (b : Bool) (n k : ℕ) → (k ≤ n → k + 1 ≤ n) → suc k ≤ cond b (suc n) 0 → suc k + 1 ≤ cond b (suc n) 0
 more-row true n k f h = let z : k + 1 ≤ n = f (omega (arith, h)) in omega (arith, z)
 more-row false n k f h = absurd (omega (arith, h))
 
-pub gone_first_more : (rows : List Sta) (place : ℕ) (d : Sta) → place < length rows → place ≤ gone_first rows → (get_or rows place d).gone ≡ true → place + 1 ≤ gone_first rows
+pub gone_first_more : (rows : List Sta) (place : ℕ) (d : Sta) → place < length rows → place ≤ gone_first rows → (get_or rows place d).is_gone ≡ true → place + 1 ≤ gone_first rows
 gone_first_more [] place d lt le e = absurd (omega arith)
 gone_first_more (r ∷ rows) zero d lt le e = let z : 1 ≤ suc (gone_first rows) = omega arith in subst (λ (b : Bool). 1 ≤ cond b (suc (gone_first rows)) 0) (sym e) z
-gone_first_more (r ∷ rows) (suc place) d lt le e = more-row r.gone (gone_first rows) place (λ h. gone_first_more rows place d (omega (arith, lt)) h e) le
+gone_first_more (r ∷ rows) (suc place) d lt le e = more-row r.is_gone (gone_first rows) place (λ h. gone_first_more rows place d (omega (arith, lt)) h e) le
 
 here-row : (b : Bool) (n k : ℕ) → (k ≤ n → k ≡ n) → suc k ≤ cond b (suc n) 0 → suc k ≡ cond b (suc n) 0
 here-row true n k f h = let z : k ≡ n = f (omega (arith, h)) in omega (arith, z)
 here-row false n k f h = absurd (omega (arith, h))
 
-pub gone_first_here : (rows : List Sta) (place : ℕ) (d : Sta) → place < length rows → place ≤ gone_first rows → (get_or rows place d).gone ≡ false → place ≡ gone_first rows
+pub gone_first_here : (rows : List Sta) (place : ℕ) (d : Sta) → place < length rows → place ≤ gone_first rows → (get_or rows place d).is_gone ≡ false → place ≡ gone_first rows
 gone_first_here [] place d lt le e = absurd (omega arith)
 gone_first_here (r ∷ rows) zero d lt le e = subst (λ (b : Bool). 0 ≡ cond b (suc (gone_first rows)) 0) (sym e) refl
-gone_first_here (r ∷ rows) (suc place) d lt le e = here-row r.gone (gone_first rows) place (λ h. gone_first_here rows place d (omega (arith, lt)) h e) le
+gone_first_here (r ∷ rows) (suc place) d lt le e = here-row r.is_gone (gone_first rows) place (λ h. gone_first_here rows place d (omega (arith, lt)) h e) le
 
 -- All before it have ended, and it has not.
 before-row : (b : Bool) (n k : ℕ) → suc k < cond b (suc n) 0 → k < n
@@ -48,23 +48,23 @@ before-first : (b : Bool) (n : ℕ) → 0 < cond b (suc n) 0 → b ≡ true
 before-first true n h = refl
 before-first false n h = absurd (omega (arith, h))
 
-pub gone_before : (rows : List Sta) (place : ℕ) (d : Sta) → place < gone_first rows → (get_or rows place d).gone ≡ true
+pub gone_before : (rows : List Sta) (place : ℕ) (d : Sta) → place < gone_first rows → (get_or rows place d).is_gone ≡ true
 gone_before [] place d h = absurd (omega (arith, h))
-gone_before (r ∷ rows) zero d h = before-first r.gone (gone_first rows) h
-gone_before (r ∷ rows) (suc place) d h = gone_before rows place d (before-row r.gone (gone_first rows) place h)
+gone_before (r ∷ rows) zero d h = before-first r.is_gone (gone_first rows) h
+gone_before (r ∷ rows) (suc place) d h = gone_before rows place d (before-row r.is_gone (gone_first rows) place h)
 
-not-row : (b : Bool) (r : Sta) (rows : List Sta) (d : Sta) → r.gone ≡ b → (gone_first rows < length rows → (get_or rows (gone_first rows) d).gone ≡ false)
-    → cond b (suc (gone_first rows)) 0 < suc (length rows) → (get_or (r ∷ rows) (cond b (suc (gone_first rows)) 0) d).gone ≡ false
+not-row : (b : Bool) (r : Sta) (rows : List Sta) (d : Sta) → r.is_gone ≡ b → (gone_first rows < length rows → (get_or rows (gone_first rows) d).is_gone ≡ false)
+    → cond b (suc (gone_first rows)) 0 < suc (length rows) → (get_or (r ∷ rows) (cond b (suc (gone_first rows)) 0) d).is_gone ≡ false
 not-row true r rows d e f q = f (omega (arith, q))
 not-row false r rows d e f q = e
 
-pub gone_not : (rows : List Sta) (d : Sta) → gone_first rows < length rows → (get_or rows (gone_first rows) d).gone ≡ false
+pub gone_not : (rows : List Sta) (d : Sta) → gone_first rows < length rows → (get_or rows (gone_first rows) d).is_gone ≡ false
 gone_not [] d h = absurd (omega (arith, h))
-gone_not (r ∷ rows) d h = not-row r.gone r rows d refl (gone_not rows d) h
+gone_not (r ∷ rows) d h = not-row r.is_gone r rows d refl (gone_not rows d) h
 
-pub gone_first_push : (rows : List Sta) (l : ℕ) → gone_first (rows ++ record { maker = l; gone = false } ∷ []) ≡ gone_first rows
+pub gone_first_push : (rows : List Sta) (l : ℕ) → gone_first (rows ++ record { maker = l; is_gone = false } ∷ []) ≡ gone_first rows
 gone_first_push [] l = refl
-gone_first_push (r ∷ rows) l = ap (λ n. cond r.gone (suc n) 0) (gone_first_push rows l)
+gone_first_push (r ∷ rows) l = ap (λ n. cond r.is_gone (suc n) 0) (gone_first_push rows l)
 
 set-row : (b : Bool) (n m : ℕ) → n ≤ m → cond b (suc n) 0 ≤ cond b (suc m) 0
 set-row true n m h = omega (arith, h)
@@ -75,10 +75,10 @@ set-first true true n e = omega arith
 set-first false true n e = omega arith
 set-first b false n e = absurd cc
 
-pub gone_first_set : (rows : List Sta) (place : ℕ) (r : Sta) → r.gone ≡ true → gone_first rows ≤ gone_first (set rows place r)
+pub gone_first_set : (rows : List Sta) (place : ℕ) (r : Sta) → r.is_gone ≡ true → gone_first rows ≤ gone_first (set rows place r)
 gone_first_set [] place r e = omega arith
-gone_first_set (x ∷ rows) zero r e = set-first x.gone r.gone (gone_first rows) e
-gone_first_set (x ∷ rows) (suc place) r e = set-row x.gone (gone_first rows) (gone_first (set rows place r)) (gone_first_set rows place r e)
+gone_first_set (x ∷ rows) zero r e = set-first x.is_gone r.is_gone (gone_first rows) e
+gone_first_set (x ∷ rows) (suc place) r e = set-row x.is_gone (gone_first rows) (gone_first (set rows place r)) (gone_first_set rows place r e)
 
 -- members, after one more
 
@@ -119,13 +119,13 @@ get_last [] (suc i) y d e = absurd (omega (arith, e))
 get_last (x ∷ xs) zero y d e = absurd (omega (arith, e))
 get_last (x ∷ xs) (suc i) y d e = get_last xs i y d (omega (arith, e))
 
-pub maker_push : (rows : List Sta) (i l m : ℕ) → (i ≡ length rows → ⊥) → is_maker l (slice_get (rows ++ record { maker = m; gone = false } ∷ []) i) ≡ is_maker l (slice_get rows i)
+pub maker_push : (rows : List Sta) (i l m : ℕ) → (i ≡ length rows → ⊥) → is_maker l (slice_get (rows ++ record { maker = m; is_gone = false } ∷ []) i) ≡ is_maker l (slice_get rows i)
 maker_push [] zero l m ne = absurd (ne refl)
 maker_push [] (suc i) l m ne = refl
 maker_push (r ∷ rows) zero l m ne = refl
 maker_push (r ∷ rows) (suc i) l m ne = maker_push rows i l m (λ e. ne (omega (arith, e)))
 
-pub maker_last : (rows : List Sta) (i l m : ℕ) → i ≡ length rows → is_maker l (slice_get (rows ++ record { maker = m; gone = false } ∷ []) i) ≡ (m == l)
+pub maker_last : (rows : List Sta) (i l m : ℕ) → i ≡ length rows → is_maker l (slice_get (rows ++ record { maker = m; is_gone = false } ∷ []) i) ≡ (m == l)
 maker_last [] zero l m e = refl
 maker_last [] (suc i) l m e = absurd (omega (arith, e))
 maker_last (r ∷ rows) zero l m e = absurd (omega (arith, e))
@@ -146,7 +146,7 @@ maker_past (r ∷ rows) (suc i) l h = maker_past rows i l (omega (arith, h))
 -- who made an apartment, after one more is made
 
 abbrev pub new_row : ℕ → Sta
-new_row m = record { maker = m; gone = false }
+new_row m = record { maker = m; is_gone = false }
 
 and-by : (b x y : Bool) → (b ≡ true → x ≡ y) → (b && x) ≡ (b && y)
 and-by true x y f = f refl
@@ -193,8 +193,8 @@ kept_made made rows ended oldest lane sta k room is =
     record {
       oldest_is = k.oldest_is ∙ sym (gone_first_push rows lane);
       ended_are = λ i h. ⊎_elim
-          (λ same. k.none_above (i + 3) (omega (arith, same)) ∙ sym (ap (λ (r : Sta). r.gone) (get_last rows i (new_row lane) unmade same)))
-          (λ other. let lt : i < length rows = omega (arith, long, h, other) in k.ended_are i lt ∙ sym (ap (λ (r : Sta). r.gone) (get_push rows i (new_row lane) unmade lt)))
+          (λ same. k.none_above (i + 3) (omega (arith, same)) ∙ sym (ap (λ (r : Sta). r.is_gone) (get_last rows i (new_row lane) unmade same)))
+          (λ other. let lt : i < length rows = omega (arith, long, h, other) in k.ended_are i lt ∙ sym (ap (λ (r : Sta). r.is_gone) (get_push rows i (new_row lane) unmade lt)))
           (cases_eq i (length rows));
       none_above = λ a h. k.none_above a (omega (arith, long, h));
       makers = λ l a h. ⊎_elim
@@ -218,14 +218,14 @@ kept_host made rows ended oldest a k small = record {
 }
 
 pub kept_ended : (made : List (List ℕ)) (rows : List Sta) (ended : List ℕ) (oldest a : ℕ) (r d : Sta) → StasKept made rows ended oldest → 3 ≤ a → a < length rows + 3
-    → r.maker ≡ (slice_index_or rows (a - 3) d).maker → r.gone ≡ true → StasKept made (slice_set rows (a - 3) r) (ended ++ a ∷ []) (gone_first (slice_set rows (a - 3) r))
+    → r.maker ≡ (slice_index_or rows (a - 3) d).maker → r.is_gone ≡ true → StasKept made (slice_set rows (a - 3) r) (ended ++ a ∷ []) (gone_first (slice_set rows (a - 3) r))
 kept_ended made rows ended oldest a r d k low high m g =
     let long : length (slice_set rows (a - 3) r) ≡ length rows = length-set rows (a - 3) r in
     record {
       oldest_is = refl;
       ended_are = λ i h. ⊎_elim
-          (λ same. member_last (i + 3) a ended (omega (arith, same, low)) ∙ sym (subst (λ (n : ℕ). (slice_index_or (slice_set rows (a - 3) r) n unmade).gone ≡ true) (sym same) (ap (λ (x : Sta). x.gone) (get_or-set_same rows (a - 3) r unmade (omega (arith, low, high))) ∙ g)))
-          (λ other. member_kept (i + 3) a ended (λ e. other (omega (arith, e))) ∙ k.ended_are i (omega (arith, long, h)) ∙ sym (ap (λ (x : Sta). x.gone) (get_or-set_other rows (a - 3) i r unmade other)))
+          (λ same. member_last (i + 3) a ended (omega (arith, same, low)) ∙ sym (subst (λ (n : ℕ). (slice_index_or (slice_set rows (a - 3) r) n unmade).is_gone ≡ true) (sym same) (ap (λ (x : Sta). x.is_gone) (get_or-set_same rows (a - 3) r unmade (omega (arith, low, high))) ∙ g)))
+          (λ other. member_kept (i + 3) a ended (λ e. other (omega (arith, e))) ∙ k.ended_are i (omega (arith, long, h)) ∙ sym (ap (λ (x : Sta). x.is_gone) (get_or-set_other rows (a - 3) i r unmade other)))
           (cases_eq i (a - 3));
       none_above = λ b h. member_kept b a ended (λ e. absurd (omega (arith, e, h, long, high))) ∙ k.none_above b (omega (arith, long, h));
       makers = λ l b h. k.makers l b h ∙ sym (ap (λ (x : Bool). nat_le 3 b && x) (maker_set rows (b - 3) (a - 3) l r d m));
@@ -270,7 +270,7 @@ pub main_lives : (made : List (List ℕ)) (rows : List Sta) (ended : List ℕ) (
 main_lives made rows ended oldest k lt =
     ap or_host (first-passes (length rows) oldest (lives ended) (λ i. i + 3) lt
     (λ i q. ap not (k.ended_are i (omega (arith, q, lt)) ∙ gone_before rows i unmade (subst (λ (n : ℕ). i < n) k.oldest_is q)))
-    (ap not (k.ended_are oldest lt ∙ subst (λ (n : ℕ). (slice_index_or rows n unmade).gone ≡ false) (sym k.oldest_is) (gone_not rows unmade (subst (λ (n : ℕ). n < length rows) k.oldest_is lt)))))
+    (ap not (k.ended_are oldest lt ∙ subst (λ (n : ℕ). (slice_index_or rows n unmade).is_gone ≡ false) (sym k.oldest_is) (gone_not rows unmade (subst (λ (n : ℕ). n < length rows) k.oldest_is lt)))))
 
 pub main_host : (made : List (List ℕ)) (rows : List Sta) (ended : List ℕ) (oldest : ℕ) → StasKept made rows ended oldest → length rows ≤ oldest → or_host (first (filter (lives ended) (numbers_of rows))) ≡ 2
 main_host made rows ended oldest k le =

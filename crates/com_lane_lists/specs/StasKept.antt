@@ -7,7 +7,7 @@ use Rattle.com_lane_lists.specs.Rooms.{Roomed, numbers_in}
 use Rattle.com_lane_lists.specs.declared.stas.Sta.{Sta}
 
 abbrev pub unmade : Sta
-unmade = record { maker = 0; gone = false }
+unmade = record { maker = 0; is_gone = false }
 
 -- The apartments of so many rows.
 abbrev pub numbers_of : List Sta → List ℕ
@@ -27,11 +27,11 @@ made_by rows l a = nat_le 3 a && is_maker l (slice_get rows (a - 3))
 -- How many of the first have all ended.
 abbrev pub gone_first : List Sta → ℕ
 gone_first [] = 0
-gone_first (r ∷ rows) = cond r.gone (suc (gone_first rows)) 0
+gone_first (r ∷ rows) = cond r.is_gone (suc (gone_first rows)) 0
 
 pub record StasKept (made : List (List ℕ)) (rows : List Sta) (ended : List ℕ) (oldest : ℕ) : Type 0 where
   pub oldest_is : oldest ≡ gone_first rows
-  pub ended_are : (i : ℕ) → i < length rows → is_member (i + 3) ended ≡ (slice_index_or rows i unmade).gone
+  pub ended_are : (i : ℕ) → i < length rows → is_member (i + 3) ended ≡ (slice_index_or rows i unmade).is_gone
   pub none_above : (a : ℕ) → length rows + 3 ≤ a → is_member a ended ≡ false
   pub makers : (l a : ℕ) → l < length made → is_member a (slice_index_or made l []) ≡ made_by rows l a
   pub numbered : length rows + 3 ≤ 2 ^ 32

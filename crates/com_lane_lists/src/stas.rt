@@ -15,7 +15,7 @@ use std::marker::Model;
 #[derive(Debug, Clone, Copy)]
 struct Sta {
     maker: u32,
-    gone: bool,
+    is_gone: bool,
 }
 
 /// The single-threaded apartments that threads made, numbered from 3 in the order of making. Seen as those
@@ -98,7 +98,7 @@ impl Stas {
         push_at(&mut self.made, lane, sta);
         self.rows.push_reserved(Sta {
             maker: lane,
-            gone: false,
+            is_gone: false,
         });
     }
 
@@ -113,7 +113,7 @@ impl Stas {
         if apartment < FIRST_STA {
             return;
         }
-        self.rows[(apartment - FIRST_STA) as usize].gone = true;
+        self.rows[(apartment - FIRST_STA) as usize].is_gone = true;
         self.oldest = oldest_from(&self.rows, self.oldest);
     }
 
@@ -194,7 +194,7 @@ fn oldest_from(rows: &[Sta], from: usize) -> usize
     ensures { result ≡ gone_first rows.now }
 {
     let mut index = from;
-    while index < rows.len() && rows[index].gone {
+    while index < rows.len() && rows[index].is_gone {
         index += 1;
     }
     index

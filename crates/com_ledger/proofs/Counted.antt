@@ -3,18 +3,18 @@ use Rattle.std.proofs.Common.{◌≡◌, ℕ, refl, sym, ap, ◌∙◌, arith, �
 use Rattle.std.proofs.lemmas.Bool.{ltb-true, ltb-false}
 use Rattle.std.proofs.lemmas.List.{get_or_past}
 use Rattle.std.specs.Prelude.{sum_by}
-use Rattle.com_books.specs.Changes.{Books}
+use Rattle.com_books.specs.Changes.{Books, in_normal, in_table, in_cookie}
 use Rattle.com_books.specs.Counting.{sum_below}
 use Rattle.com_books.proofs.Sums.{sum-more, sum-same}
 use Rattle.com_holders.specs.Tables.{books_of, direct_in}
 use Rattle.com_model.specs.declared.deeds.Entry.{Entry}
 use Rattle.com_model.specs.declared.scenario.Scenario.{Scenario}
-use Rattle.com_model.specs.Ends.{in_normal, in_table, in_cookie, over_interfaces}
+use Rattle.com_model.specs.Ends.{over_interfaces}
 use Rattle.com_model.specs.Lists.{tabulated}
 use Rattle.com_model.specs.Places.{direct_places}
 use Rattle.com_model.specs.State.{BookTables, State, StandsFor, book_tables, books_in, ground_in, next_sta_in, objects_in, scene_in}
 use Rattle.com_model.proofs.Tabled.{length-tabulated, within-tabulated}
-use Rattle.com_refs.specs.Numbers as numbers
+use Rattle.com_refs.specs.Numbers.{Within}
 use Rattle.com_stub.specs.declared.counters.CounterRow.{CounterRow}
 use Rattle.com_stub.specs.CounterRows.{has_counter}
 use Rattle.com_booking.specs.Books.{Held}
@@ -45,7 +45,7 @@ has-below : (rows : List CounterRow) (o i m : ℕ) → has_counter rows o i ≡ 
 has-below [] o i m e = cc
 has-below (r ∷ rows) o i m e = has-either r rows o i m e (has-below rows o i m)
 
-within : (s : Scenario) (st : State) (w : Held) (m : ℕ) → Ties s st w → numbers.Within (next_sta_in st) (m + above w.tables.counters) w.tables
+within : (s : Scenario) (st : State) (w : Held) (m : ℕ) → Ties s st w → Within (next_sta_in st) (m + above w.tables.counters) w.tables
 within s st w m t = record {
   interfaces = λ o i e. has-below w.tables.counters o i m e;
   apartments = λ a o l. t.counts.past a o l;
@@ -95,7 +95,7 @@ direct_counted s st w o t =
     sym (t.counts.direct o) ∙ (λ i. sum_below (next_sta_in st) (λ a. cond (t.objects.owns o a i) (places_at s st a o) 0))
 
 pub stub_counted : (s : Scenario) (st : State) (h : List Entry) (w : Held) (o x : ℕ) → StandsFor s st h → Ties s st w
-    → ((n m : ℕ) → numbers.Within n m w.tables → x ≡ sum_below m ((books_of w.tables).stub o)) → x ≡ over_interfaces s ((books_in st).stub o)
+    → ((n m : ℕ) → Within n m w.tables → x ≡ sum_below m ((books_of w.tables).stub o)) → x ≡ over_interfaces s ((books_in st).stub o)
 stub_counted s st h w o x p t f =
     let m : ℕ = length s.classes.interfaces in
     f (next_sta_in st) (m + above w.tables.counters) (within s st w m t)
@@ -103,7 +103,7 @@ stub_counted s st h w o x p t f =
     ∙ sum-more m (above w.tables.counters) ((books_in st).stub o) (λ i q. stub-past s st o i p.rows.1 q)
 
 pub proxies_counted : (s : Scenario) (st : State) (h : List Entry) (w : Held) (o x : ℕ) → StandsFor s st h → Ties s st w
-    → ((n m : ℕ) → numbers.Within n m w.tables → x ≡ sum_below n (λ a. sum_below m ((books_of w.tables).proxy a o)))
+    → ((n m : ℕ) → Within n m w.tables → x ≡ sum_below n (λ a. sum_below m ((books_of w.tables).proxy a o)))
     → x ≡ sum_below (next_sta_in st) (λ a. over_interfaces s ((books_in st).proxy a o))
 proxies_counted s st h w o x p t f =
     let m : ℕ = length s.classes.interfaces in
@@ -113,11 +113,11 @@ proxies_counted s st h w o x p t f =
     ∙ sum-same n (λ a. sum_below (m + above w.tables.counters) ((books_in st).proxy a o)) (λ a. over_interfaces s ((books_in st).proxy a o))
     (λ a l. sum-more m (above w.tables.counters) ((books_in st).proxy a o) (λ i q. proxy-past s st a o i p.rows.1 q))
 
-pub packets_counted : (s : Scenario) (st : State) (w : Held) (o : ℕ) → Ties s st w → sum_by (numbers.in_normal o) (books_of w.tables).packets ≡ sum_by (in_normal o) (books_in st).packets
+pub packets_counted : (s : Scenario) (st : State) (w : Held) (o : ℕ) → Ties s st w → sum_by (in_normal o) (books_of w.tables).packets ≡ sum_by (in_normal o) (books_in st).packets
 packets_counted s st w o t = ap (λ (b : Books). sum_by (in_normal o) b.packets) t.books
 
 pub tables_counted : (s : Scenario) (st : State) (w : Held) (o x : ℕ) → Ties s st w
-    → ((n m : ℕ) → numbers.Within n m w.tables → x ≡ sum_by (numbers.in_table o) (books_of w.tables).packets + sum_by (numbers.in_cookie o) (books_of w.tables).cookies)
+    → ((n m : ℕ) → Within n m w.tables → x ≡ sum_by (in_table o) (books_of w.tables).packets + sum_by (in_cookie o) (books_of w.tables).cookies)
     → x ≡ sum_by (in_table o) (books_in st).packets + sum_by (in_cookie o) (books_in st).cookies
 tables_counted s st w o x t f =
     f (next_sta_in st) (0 + above w.tables.counters) (within s st w 0 t)

@@ -1,5 +1,5 @@
 //! What ties a ledger to a state, stated on functions that do nothing.
-ghost use Rattle.std.specs.Prelude.{◌≡◌, ◌<◌, ℕ, Bool, List, ◌∷◌, Option, Some, None};
+ghost use Rattle.std.specs.Prelude.{◌≡◌, ◌<◌, ℕ, Bool, List, Option, Some, None};
 ghost use Rattle.com_base.specs.declared.value.Value.{Value};
 ghost use Rattle.com_body.specs.declared.actions.Action.{Action};
 ghost use Rattle.com_books.specs.Changes.{Books, entered_rows};

@@ -1,9 +1,10 @@
 //! Who holds references, and the packets of each call.
 ghost use Rattle.std.specs.Prelude.{◌≡◌, ◌+◌, ◌<◌, ◌↔◌, ℕ, [], IsTrue, sum_by};
 ghost use Rattle.com_books.specs.Counting.{sum_below};
+ghost use Rattle.com_books.specs.Changes.{in_normal, in_table, in_cookie};
 ghost use Rattle.com_holders.specs.Tables.{books_of, direct_in};
 ghost use Rattle.com_refs.specs.Counts.{holders_of};
-ghost use Rattle.com_refs.specs.Numbers.{Within, in_cookie, in_normal, in_table};
+ghost use Rattle.com_refs.specs.Numbers.{Within};
 
 use crate::keeping::Keeping;
 use com_refs::Numbers;

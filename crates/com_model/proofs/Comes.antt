@@ -120,7 +120,7 @@ plain-got_with v l g k true = refl
 plain-got_with v l g k false = refl
 
 plain-got_by : (v : Sight) (l : ℕ) (g : ℤ) (k : Cookie) → Plain (got_by v l g k)
-plain-got_by v l g k = plain-if k.revoked (deed.Get g None 0 E_INVALIDARG) (got_with v l g k) (refl) (plain-got_with v l g k (v.books.live k.object))
+plain-got_by v l g k = plain-if k.is_revoked (deed.Get g None 0 E_INVALIDARG) (got_with v l g k) (refl) (plain-got_with v l g k (v.books.live k.object))
 
 plain-got : (v : Sight) (l : ℕ) (g : ℤ) (a : Option ℕ) → Plain (got v l g a)
 plain-got v l g None = refl

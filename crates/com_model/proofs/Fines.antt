@@ -257,7 +257,7 @@ got-fine : (s : Scenario) (v : Sight) (l : ℕ) (x : ℤ) (home : Option ℕ) �
 got-fine s v l x None g = tt
 got-fine s v l x (Some a) g =
     let k : Cookie = cookie v.books (cookie_number x) in
-    cond-is (Fine s v) k.revoked (deed.Get x None 0 E_INVALIDARG) (got_with v l x k) tt (got-with-fine s v l x k (v.books.live k.object) (cookie-good v.objects (length s.classes.interfaces) v.books (cookie_number x) g.some g.cookies))
+    cond-is (Fine s v) k.is_revoked (deed.Get x None 0 E_INVALIDARG) (got_with v l x k) tt (got-with-fine s v l x k (v.books.live k.object) (cookie-good v.objects (length s.classes.interfaces) v.books (cookie_number x) g.some g.cookies))
 
 revoked-fine : (s : Scenario) (v : Sight) (x : ℤ) (home : Option ℕ) → Fine s v (revoked v x home)
 revoked-fine s v x None = tt

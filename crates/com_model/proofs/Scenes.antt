@@ -16,6 +16,7 @@ use Rattle.com_body.specs.declared.actions.Action.TheVariants as action
 use Rattle.com_body.specs.declared.frame.Cells.{Cells}
 use Rattle.com_body.specs.declared.frame.Outcome.{Outcome}
 use Rattle.com_body.specs.Frames.{FrameView, entered, with_slot}
+use Rattle.com_body.specs.Operands.{new_cells}
 use Rattle.com_classes.specs.Lookups.{body_of}
 use Rattle.com_model.specs.declared.deeds.Deed.{Deed}
 use Rattle.com_model.specs.declared.deeds.Deed.TheVariants as deed
@@ -26,7 +27,7 @@ use Rattle.com_model.specs.Tables.{threads, script, LaneSort, Thread, Host, Pool
 use Rattle.com_model.specs.Openers.{Opener, Pumps, Waits, Enters}
 use Rattle.com_model.specs.Apartments.{ends_sta}
 use Rattle.com_model.specs.Calls.{Issue}
-use Rattle.com_model.specs.Frames.{Scene, new_cells, Actor, Body, Script, Nobody, actor, issued_body, outcome, is_leave, unless_over, unless_final, taken_in, Write, ToRegister, ToSlot, ToLink, ToBuffer, to_place, to_answer, marshalled_in, writes, value_reference, to_destination, written, with_frame, wants, acted, arrived, cut_links, acting, scene_after}
+use Rattle.com_model.specs.Frames.{Scene, Actor, Body, Script, Nobody, actor, issued_body, outcome, is_leave, unless_over, unless_final, taken_in, Write, ToRegister, ToSlot, ToLink, ToBuffer, to_place, to_answer, marshalled_in, writes, value_reference, to_destination, written, with_frame, wants, acted, arrived, cut_links, acting, scene_after}
 use Rattle.com_model.specs.Formed.{Formed}
 use Rattle.com_model.proofs.Goods.{GoodHeld, GoodValue, GoodResult, GoodFrame, GoodCells, GoodAction, GoodOutcome, Clean, more-frame, more-cells, register-good, step-good, entered-good}
 use Rattle.com_model.proofs.Cleans.{script-clean, body-clean}

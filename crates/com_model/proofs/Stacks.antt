@@ -21,11 +21,12 @@ use Rattle.com_model.specs.declared.scenario.Scenario.{Scenario}
 use Rattle.com_model.specs.Lists.{where_true, first}
 use Rattle.com_model.specs.Issue.{call_refusal}
 use Rattle.com_body.specs.BodySteps.{body_step}
+use Rattle.com_body.specs.Operands.{new_cells}
 use Rattle.com_model.specs.Objects.{class_of}
 use Rattle.com_model.specs.Tables.{script, class_number, interface_number, LaneSort, Thread, Host, Pool, NoLane, lane_sort}
 use Rattle.com_model.specs.Openers.{Opener, Pumps, Waits, Enters, Closes, Keeps, Backs, Leaves, top_call, effect, fits, nested, openers, running_call}
 use Rattle.com_model.specs.Calls.{Issue, issue, object_of, is_post, route_of}
-use Rattle.com_model.specs.Frames.{Scene, Actor, Body, Script, Nobody, scene, outcome, action_of, act_by, new_cells, actor, actor_in, is_leave, reference}
+use Rattle.com_model.specs.Frames.{Scene, Actor, Body, Script, Nobody, scene, outcome, action_of, act_by, actor, actor_in, is_leave, reference}
 use Rattle.com_model.specs.Endings.{Answer}
 use Rattle.com_model.specs.Waiting.{Phase, Unposted, Queued, Judged, Delayed, GivenUp, Word, mark_of, not_asked, bound_reached}
 use Rattle.com_books.specs.declared.keeps.Cookie.{Cookie}
@@ -84,7 +85,7 @@ quiet-got_with v l g k true = λ os. tt
 quiet-got_with v l g k false = λ os. tt
 
 quiet-got_by : (v : Sight) (l : ℕ) (g : ℤ) (k : Cookie) → Quiet (got_by v l g k)
-quiet-got_by v l g k = quiet-if k.revoked (deed.Get g None 0 E_INVALIDARG) (got_with v l g k) (λ os. tt) (quiet-got_with v l g k (v.books.live k.object))
+quiet-got_by v l g k = quiet-if k.is_revoked (deed.Get g None 0 E_INVALIDARG) (got_with v l g k) (λ os. tt) (quiet-got_with v l g k (v.books.live k.object))
 
 quiet-got : (v : Sight) (l : ℕ) (g : ℤ) (a : Option ℕ) → Quiet (got v l g a)
 quiet-got v l g None = λ os. tt

@@ -4,6 +4,7 @@ use Rattle.std.proofs.Common.{ap}
 use Rattle.std.specs.Prelude.{◌≡◌, refl, ℕ, ◌+◌, false, List, [], ◌∷◌, length, None}
 use Rattle.com_body.specs.declared.operands.Destination.TheVariants as destination
 use Rattle.com_body.specs.Frames.{entered}
+use Rattle.com_body.specs.Operands.{new_cells}
 use Rattle.com_model.specs.declared.deeds.Deed.{Deed}
 use Rattle.com_model.specs.declared.deeds.Entry.{Entry}
 use Rattle.com_model.specs.declared.scenario.Scenario.{Scenario}
@@ -14,7 +15,7 @@ use Rattle.com_model.specs.Apartments.{next_sta}
 use Rattle.com_model.specs.Waiting.{Unposted, no_mail}
 use Rattle.com_model.specs.Calls.{calls}
 use Rattle.com_model.specs.Objects.{objects}
-use Rattle.com_model.specs.Frames.{Scene, first_scene, new_cells, scene, scene_after, actor}
+use Rattle.com_model.specs.Frames.{Scene, first_scene, scene, scene_after, actor}
 use Rattle.com_model.specs.Places.{ground}
 use Rattle.com_books.specs.Changes.{Books, no_books}
 use Rattle.com_model.specs.Books.{books, closed, most, holders_in}

@@ -246,7 +246,7 @@ got_with v l g k =
     else deed.Get g None 0 CO_E_OBJNOTCONNECTED
 
 abbrev pub got_by : Sight → ℕ → ℤ → Cookie → Deed
-got_by v l g k = if k.revoked then deed.Get g None 0 E_INVALIDARG else got_with v l g k
+got_by v l g k = if k.is_revoked then deed.Get g None 0 E_INVALIDARG else got_with v l g k
 
 abbrev pub got : Sight → ℕ → ℤ → Option ℕ → Deed
 got v l g None = deed.Get g None 0 CO_E_NOTINITIALIZED
@@ -255,7 +255,7 @@ got v l g (Some a) = got_by v l g (cookie v.books (cookie_number g))
 abbrev pub revoked : Sight → ℤ → Option ℕ → Deed
 revoked v g None = deed.Revoke g CO_E_NOTINITIALIZED
 revoked v g (Some a) =
-    deed.Revoke g (if (cookie v.books (cookie_number g)).revoked then E_INVALIDARG else S_OK)
+    deed.Revoke g (if (cookie v.books (cookie_number g)).is_revoked then E_INVALIDARG else S_OK)
 
 -- Disconnect is refused without home, on null, and in an apartment that does not own the object. Source:
 -- CoDisconnectObject.

@@ -10,8 +10,6 @@ use Rattle.com_model.specs.declared.counts.ObjectState.{ObjectState}
 use Rattle.com_model.specs.declared.counts.ObjectState.TheVariants as state
 use Rattle.com_model.specs.declared.counts.Ended.{Ended}
 use Rattle.com_model.specs.declared.counts.Ended.TheVariants as ended
-use Rattle.com_base.specs.declared.value.MarshalMode.{MarshalMode}
-use Rattle.com_base.specs.declared.value.MarshalMode.TheVariants as marshal
 use Rattle.com_books.specs.Counting.{sum_below, numbers_from}
 use Rattle.com_model.specs.Lists.{one_to, each_of, first_that, is_empty, or_else}
 use Rattle.com_model.specs.Tables.{threads, lanes}
@@ -21,9 +19,7 @@ use Rattle.com_model.specs.Clock.{clock}
 use Rattle.com_model.specs.Text.{history_text, report_text}
 use Rattle.com_model.specs.Frames.{scene}
 use Rattle.com_model.specs.Places.{ground, direct_places}
-use Rattle.com_books.specs.Changes.{Books}
-use Rattle.com_books.specs.declared.keeps.Packet.{Packet}
-use Rattle.com_books.specs.declared.keeps.Cookie.{Cookie}
+use Rattle.com_books.specs.Changes.{Books, in_normal, in_table, in_cookie}
 use Rattle.com_model.specs.Books.{books}
 use Rattle.com_model.specs.Sight.{Sight, sight}
 use Rattle.com_model.specs.Rules.{can_step, no_lane_can, tick_time, next}
@@ -124,19 +120,6 @@ abbrev pub state_of : (finaled live : Bool) → ObjectState
 state_of true live = state.Released
 state_of false true = state.Live
 state_of false false = state.Disconnected
-
-abbrev pub is_normal : MarshalMode → Bool
-is_normal marshal.Normal = true
-is_normal _ = false
-
-abbrev pub in_normal : ℕ → Packet → ℕ
-in_normal o p = if p.outstanding && (is_normal p.mode && p.object == o) then p.refs else 0
-
-abbrev pub in_table : ℕ → Packet → ℕ
-in_table o p = if p.outstanding && (not (is_normal p.mode) && p.object == o) then p.refs else 0
-
-abbrev pub in_cookie : ℕ → Cookie → ℕ
-in_cookie o g = if g.object == o then g.refs else 0
 
 abbrev pub over_interfaces : Scenario → (ℕ → ℕ) → ℕ
 over_interfaces s f = sum_below (length s.classes.interfaces) f

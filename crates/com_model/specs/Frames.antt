@@ -15,6 +15,7 @@ use Rattle.com_body.specs.declared.actions.Action.TheVariants as action
 use Rattle.com_body.specs.declared.frame.Cells.{Cells}
 use Rattle.com_body.specs.declared.frame.Outcome.{Outcome}
 use Rattle.com_body.specs.Frames.{FrameView, entered, with_register, with_slot}
+use Rattle.com_body.specs.Operands.{new_cells}
 use Rattle.com_body.specs.BodySteps.{body_step}
 use Rattle.com_classes.specs.Lookups.{body_of}
 use Rattle.com_model.specs.declared.deeds.Deed.{Deed}
@@ -37,10 +38,6 @@ pub record Scene : Type 0 where
   pub cells : ℕ → Cells
   pub buffers : ℕ → List ℕ
   pub destinations : ℕ → Destination
-
--- An object begins with zeros and nulls.
-abbrev pub new_cells : Cells
-new_cells = record { numbers = replicate 8 (pos 0); links = replicate 4 None }
 
 abbrev pub first_scene : Scene
 first_scene = record {

@@ -85,6 +85,11 @@ abbrev pub top_call : Option Opener → Option ℕ
 top_call (Some (Enters c o a)) = Some c
 top_call _ = None
 
+-- Whether the innermost opener is an Enter, so that a body is innermost.
+abbrev pub is_body : Option Opener → Bool
+is_body (Some (Enters c o a)) = true
+is_body _ = false
+
 -- The calls of the open Outs, the innermost first.
 abbrev pub open_calls : List Opener → List ℕ
 open_calls [] = []

@@ -9,6 +9,7 @@ use Rattle.com_body.specs.declared.operands.Destination.{Destination}
 use Rattle.com_body.specs.declared.operands.Destination.TheVariants as destination
 use Rattle.com_body.specs.declared.frame.Cells.{Cells}
 use Rattle.com_body.specs.Frames.{FrameView, entered}
+use Rattle.com_body.specs.Operands.{new_cells}
 use Rattle.com_model.specs.declared.deeds.Deed.{Deed}
 use Rattle.com_model.specs.declared.deeds.Deed.TheVariants as deed
 use Rattle.com_model.specs.declared.deeds.Entry.{Entry}
@@ -29,7 +30,7 @@ use Rattle.com_model.specs.Calls.{Issue, Admission, Leaving, issues, admits, lea
 use Rattle.com_model.specs.Calls.{lane_of, is_marshalled, issue, admitted, left, returned, calls, causes}
 use Rattle.com_model.specs.Clock.{FilterEffect, Names, Keeps as KeepsFilter, ticked, filter_effect}
 use Rattle.com_model.specs.Clock.{in_made_sta, clock, issued_at, last_filter}
-use Rattle.com_model.specs.Frames.{Scene, Actor, actor, scene_after, act_by, new_cells, scene}
+use Rattle.com_model.specs.Frames.{Scene, Actor, actor, scene_after, act_by, scene}
 use Rattle.com_model.specs.Endings.{Ending, EndEffect, EndsCall, CutsObject, CutsSta, EndsNone, end_effect}
 use Rattle.com_model.specs.Endings.{ends, can_be_cut, is_leave, ending}
 use Rattle.com_model.specs.Places.{Ground}

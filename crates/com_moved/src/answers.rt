@@ -1,5 +1,5 @@
 //! What is written where a scenario is moved.
-ghost use Rattle.std.specs.Prelude.{◌≡◌, ◌≤◌, ◌++◌, IfOk, length};
+ghost use Rattle.std.specs.Prelude.{◌≡◌, ◌≤◌, IfOk, length};
 ghost use Rattle.com_model.specs.Formed.{Formed};
 ghost use Rattle.com_print_scenario.specs.Printed.{printed};
 ghost use Rattle.com_migrate.specs.Moved.{moved};

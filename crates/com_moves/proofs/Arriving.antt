@@ -1,21 +1,14 @@
 -- What arrives, by the slots and links after the step.
 use Rattle.std.proofs.Common.{ap, ◌∙◌, sym, subst, append_assoc}
-use Rattle.std.specs.Prelude.{◌≡◌, refl, ℕ, suc, cond, ◌==◌, List, [], ◌∷◌, ◌++◌, Option, Some, None}
-use Rattle.com_model.specs.declared.keeps.Leaving.{Leaving}
-use Rattle.com_model.specs.Places.{left_value}
+use Rattle.std.specs.Prelude.{◌≡◌, ℕ, suc, cond, ◌==◌, List, [], ◌∷◌, ◌++◌, Option, Some}
 use Rattle.com_body.specs.declared.frame.Outcome.{Outcome}
 use Rattle.com_model.specs.declared.deeds.Deed.{Deed}
 use Rattle.com_model.specs.Frames.{Actor}
 use Rattle.com_model.specs.Lists.{one_to}
 use Rattle.com_model.specs.State.{SceneTables}
 use Rattle.com_places.specs.Moves.{Move as Moving, all_moved}
-use Rattle.com_calls.specs.Rows.{value_left}
 use Rattle.com_moves.specs.Steps.{links_stepped, links_of_step}
 use Rattle.com_moves.proofs.Lists.{append_none}
-
-pub left_same : (x : Option Leaving) → value_left x ≡ left_value x
-left_same None = refl
-left_same (Some x) = refl
 
 abbrev pub links_one : (named : ℕ → ℕ) → SceneTables → Actor → Option Outcome → Deed → (apartment object : ℕ) → List Moving
 links_one n t a r d x o = cond (n o == x) (all_moved (Some x) (links_stepped t a r d o)) []

@@ -15,6 +15,7 @@ use Rattle.com_body.specs.declared.frame.Cells.{Cells}
 use Rattle.com_body.specs.declared.frame.Outcome.{Outcome}
 use Rattle.com_body.specs.Frames.{FrameView, references, entered, with_slot, moved}
 use Rattle.com_body.specs.BodySteps.{Effect, Goes, Acts, effect_of, walk, body_step}
+use Rattle.com_body.specs.Operands.{new_cells}
 use Rattle.com_books.specs.Changes.{Books}
 use Rattle.com_classes.specs.declared.interfaces.Interface.{Interface}
 use Rattle.com_classes.specs.declared.interfaces.Method.{Method}
@@ -36,7 +37,7 @@ use Rattle.com_model.specs.Values.{sent_values}
 use Rattle.com_model.specs.Books.{books, out_values}
 use Rattle.com_model.specs.Endings.{ending}
 use Rattle.com_model.specs.Issue.{own_values, values_or, sent, unread_values}
-use Rattle.com_model.specs.Frames.{Scene, scene, new_cells, act, Actor, Body, Script, Nobody, actor_in, Write, ToRegister, ToSlot, ToLink, ToBuffer, to_answer, writes, to_destination, written, with_frame, wants, acted, arrived, cut_links, issued_body, acting, outcome}
+use Rattle.com_model.specs.Frames.{Scene, scene, act, Actor, Body, Script, Nobody, actor_in, Write, ToRegister, ToSlot, ToLink, ToBuffer, to_answer, writes, to_destination, written, with_frame, wants, acted, arrived, cut_links, issued_body, acting, outcome}
 use Rattle.com_model.specs.Formed.{IsMethod, IsInterface, EachFrom, Formed}
 use Rattle.com_model.specs.Sight.{sight}
 use Rattle.com_model.specs.Rules.{next, legal}

@@ -1,6 +1,6 @@
 -- The reference that an action's entry writes at a place, what slots and links hold after it, and the moves
 -- that it makes.
-use Rattle.std.specs.Prelude.{◌≡◌, ℕ, zero, ◌≤◌, Bool, false, not, ◌&&◌, ◌==◌, if◌then◌else◌, List, []}
+use Rattle.std.specs.Prelude.{ℕ, zero, ◌≤◌, Bool, false, not, ◌&&◌, ◌==◌, if◌then◌else◌, List, []}
 use Rattle.std.specs.Prelude.{◌∷◌, ◌++◌, map, Option, Some, None, length, slice_index_or, slice_set}
 use Rattle.com_base.specs.declared.value.RefValue.{RefValue}
 use Rattle.com_base.specs.declared.value.Value.{Value}

@@ -77,7 +77,6 @@ fn reference_in(value: &Option<Value>) -> Option<RefValue>
 }
 
 // The reference in the value that a call's body left with.
-#[tactic(auto, using(crate::proofs::Arriving::left_same))]
 fn left_reference(calls: &Calls, call: u32) -> Option<RefValue>
     ensures { result ≡ value_reference (left_value (from_one calls.now.tables.leavings call None)) }
 {

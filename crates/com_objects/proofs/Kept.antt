@@ -36,17 +36,17 @@ member-kept x y ys ne = member-push x ys y ∙ ap (λ z. is_member x ys || z) (t
 
 -- rows
 
-last-row : (rows : List Row) (k : ℕ) (r : Row) → r.released ≡ false → (slice_index_or (rows ++ r ∷ []) k unmade).released ≡ (slice_index_or rows k unmade).released
+last-row : (rows : List Row) (k : ℕ) (r : Row) → r.is_released ≡ false → (slice_index_or (rows ++ r ∷ []) k unmade).is_released ≡ (slice_index_or rows k unmade).is_released
 last-row [] zero r e = e
 last-row [] (suc k) r e = refl
 last-row (x ∷ rows) zero r e = refl
 last-row (x ∷ rows) (suc k) r e = last-row rows k r e
 
-released-grown : (rows : List Row) (o : ℕ) (r : Row) → r.released ≡ false → released_in (rows ++ r ∷ []) o ≡ released_in rows o
+released-grown : (rows : List Row) (o : ℕ) (r : Row) → r.is_released ≡ false → released_in (rows ++ r ∷ []) o ≡ released_in rows o
 released-grown rows zero r e = refl
 released-grown rows (suc k) r e = last-row rows k r e
 
-pub kept_made : (rows : List Row) (finaled : List ℕ) (r : Row) → ObjectsKept rows finaled → length rows + 1 < 2 ^ 32 → r.released ≡ false → ObjectsKept (rows ++ r ∷ []) finaled
+pub kept_made : (rows : List Row) (finaled : List ℕ) (r : Row) → ObjectsKept rows finaled → length rows + 1 < 2 ^ 32 → r.is_released ≡ false → ObjectsKept (rows ++ r ∷ []) finaled
 kept_made rows finaled r k room e = record {
   released = λ o. k.released o ∙ sym (released-grown rows o r e);
   numbered = omega (arith, length-append rows (r ∷ []), room);
@@ -54,15 +54,15 @@ kept_made rows finaled r k room e = record {
 
 released-set : (rows : List Row) (o p : ℕ) (r : Row) → 1 ≤ o → (p ≡ o → ⊥) → released_in (slice_set rows (o - 1) r) p ≡ released_in rows p
 released-set rows o zero r h ne = refl
-released-set rows o (suc k) r h ne = ap (λ (x : Row). x.released) (get_or-set_other rows (o - 1) k r unmade (λ e. ne (omega (arith, e, h))))
+released-set rows o (suc k) r h ne = ap (λ (x : Row). x.is_released) (get_or-set_other rows (o - 1) k r unmade (λ e. ne (omega (arith, e, h))))
 
-released-own : (rows : List Row) (o p : ℕ) (r : Row) → 1 ≤ o → o ≤ length rows → r.released ≡ true → p ≡ o → released_in (slice_set rows (o - 1) r) p ≡ true
+released-own : (rows : List Row) (o p : ℕ) (r : Row) → 1 ≤ o → o ≤ length rows → r.is_released ≡ true → p ≡ o → released_in (slice_set rows (o - 1) r) p ≡ true
 released-own rows o zero r h le t e = absurd (omega (arith, e, h))
 released-own rows o (suc k) r h le t e =
     let z : k ≡ o - 1 = omega (arith, e) in
-    ap (λ (i : ℕ). (slice_index_or (slice_set rows (o - 1) r) i unmade).released) z ∙ ap (λ (x : Row). x.released) (get_or-set_same rows (o - 1) r unmade (omega (arith, h, le))) ∙ t
+    ap (λ (i : ℕ). (slice_index_or (slice_set rows (o - 1) r) i unmade).is_released) z ∙ ap (λ (x : Row). x.is_released) (get_or-set_same rows (o - 1) r unmade (omega (arith, h, le))) ∙ t
 
-pub kept_released : (rows : List Row) (finaled : List ℕ) (o : ℕ) (r : Row) → ObjectsKept rows finaled → 1 ≤ o → o ≤ length rows → r.released ≡ true → ObjectsKept (slice_set rows (o - 1) r) (finaled ++ o ∷ [])
+pub kept_released : (rows : List Row) (finaled : List ℕ) (o : ℕ) (r : Row) → ObjectsKept rows finaled → 1 ≤ o → o ≤ length rows → r.is_released ≡ true → ObjectsKept (slice_set rows (o - 1) r) (finaled ++ o ∷ [])
 kept_released rows finaled o r k h le t = record {
   released = λ p. ⊎_elim
       (λ same. member-last p o finaled same ∙ sym (released-own rows o p r h le t same))

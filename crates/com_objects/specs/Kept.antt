@@ -7,7 +7,7 @@ use Rattle.com_state.specs.Parts.{ObjectTables}
 use Rattle.com_objects.specs.declared.objects.Row.{Row}
 
 abbrev pub unmade : Row
-unmade = record { making = record { object = 0; apartment = 0; class = 0 }; released = false }
+unmade = record { making = record { object = 0; apartment = 0; class = 0 }; is_released = false }
 
 abbrev pub makings_of : List Row → List (Option Making)
 makings_of rows = map (λ (r : Row). Some r.making) rows
@@ -16,7 +16,7 @@ abbrev pub tables_of : List Row → (finaled : List ℕ) → ObjectTables
 tables_of rows finaled = record { makings = makings_of rows; finaled = finaled }
 
 abbrev pub released_in : List Row → ℕ → Bool
-released_in rows o = (from_one rows o unmade).released
+released_in rows o = (from_one rows o unmade).is_released
 
 -- The row of a number, what it says of the making, and whether it says that the object was released.
 abbrev pub row_of : List Row → ℕ → Option Row
@@ -29,7 +29,7 @@ making_in (Some r) = Some r.making
 
 abbrev pub flag_in : Option Row → Bool
 flag_in None = false
-flag_in (Some r) = r.released
+flag_in (Some r) = r.is_released
 
 pub record ObjectsKept (rows : List Row) (finaled : List ℕ) : Type 0 where
   pub released : (o : ℕ) → is_member o finaled ≡ released_in rows o

@@ -1,5 +1,5 @@
 //! The objects that were made.
-ghost use Rattle.std.specs.Prelude.{◌≡◌, ◌+◌, ◌<◌, ◌^◌, [], ◌∷◌, ◌++◌, length, OnOk, Some, is_some};
+ghost use Rattle.std.specs.Prelude.{◌≡◌, ℕ, ◌+◌, ◌<◌, ◌^◌, [], ◌∷◌, ◌++◌, length, OnOk, Some, is_some};
 ghost use Rattle.com_model.specs.Lists.{is_member};
 ghost use Rattle.com_model.specs.Objects.{asked_number, makes, finals};
 ghost use Rattle.com_model.specs.State.{grown};
@@ -17,7 +17,7 @@ use std::marker::Model;
 #[derive(Debug, Clone, Copy)]
 struct Row {
     making: Making,
-    released: bool,
+    is_released: bool,
 }
 
 /// The objects that were made, numbered from 1 in the order of making, and those that were released, in
@@ -68,15 +68,15 @@ impl Objects {
         }
     }
 
-    /// Makes of the objects what an entry of a lane makes of them, for which there is room. It takes no
-    /// memory.
+    /// Makes of the objects what an entry makes of them, whichever lane makes it, for which there is room. It
+    /// takes no memory.
     ///
     /// A Final names an object that was made.
-    pub fn apply(&mut self, lane: u32, deed: &Deed)
+    pub fn apply(&mut self, deed: &Deed)
         requires released { IsMade (length self.old.tables.makings) (finals deed.now) }
         requires room { length self.old.tables.makings + 1 < 2 ^ 32 }
         requires space { HasRowFor self.old deed.now }
-        ensures { self.new.tables
+        ensures { (lane : ℕ) → self.new.tables
             ≡ objects_after self.old.tables (record { lane = lane; deed = deed.now }) }
     {
         match deed {
@@ -104,7 +104,7 @@ impl Objects {
         };
         self.rows.push_reserved(Row {
             making,
-            released: false,
+            is_released: false,
         });
     }
 
@@ -116,7 +116,7 @@ impl Objects {
             ≡ record self.old.tables { finaled = self.old.tables.finaled ++ object ∷ [] } }
     {
         self.finaled.push_reserved(object);
-        self.rows[object as usize - 1].released = true;
+        self.rows[object as usize - 1].is_released = true;
     }
 
     /// How many were made.
@@ -164,7 +164,7 @@ impl Objects {
         ensures { result ≡ is_member object self.now.tables.finaled }
     {
         match row_at(&self.rows, object) {
-            Some(row) => row.released,
+            Some(row) => row.is_released,
             None => false,
         }
     }

@@ -70,8 +70,8 @@ abbrev pub read_digits : List ℕ → Result Reference RefFault
 read_digits digits = read_bytes digits (unhexed digits)
 
 abbrev pub shown_as : Result Reference RefFault → Shown
-shown_as (Ok r) = record { found = true; text = described r }
-shown_as (Err f) = record { found = false; text = fault_text f }
+shown_as (Ok r) = record { is_found = true; text = described r }
+shown_as (Err f) = record { is_found = false; text = fault_text f }
 
 -- What is shown of a text.
 unfoldable pub shown_of : List ℕ → Shown

@@ -20,7 +20,7 @@ use std::alloc::Global;
 #[derive(Debug, Drop)]
 pub struct Shown {
     /// Whether the text spells an OBJREF.
-    pub found: bool,
+    pub is_found: bool,
     /// The lines of its fields, or the line of the first fault.
     pub text: ByteList,
 }
@@ -51,7 +51,7 @@ fn show_bytes(alloc: Global, bytes: &[u8]) -> Result<Shown, Memory>
 {
     match decode(bytes) {
         Ok(found) => Ok(Shown {
-            found: true,
+            is_found: true,
             text: describe(alloc, &found)?,
         }),
         Err(fault) => show_fault(alloc, fault),
@@ -60,7 +60,7 @@ fn show_bytes(alloc: Global, bytes: &[u8]) -> Result<Shown, Memory>
 
 #[tactic(auto, unfolding(crate::specs::Shown::fault_text))]
 fn show_fault(alloc: Global, fault: RefFault) -> Result<Shown, Memory>
-    ensures { IfOk result (λ shown. shown ≡ record { found = false; text = fault_text fault }) }
+    ensures { IfOk result (λ shown. shown ≡ record { is_found = false; text = fault_text fault }) }
 {
     let mut text = ByteList::new(alloc);
     text.push_all(b"fault ")?;
@@ -68,7 +68,10 @@ fn show_fault(alloc: Global, fault: RefFault) -> Result<Shown, Memory>
     text.push_all(b" ")?;
     push_number(&mut text, fault.at as u64)?;
     text.push_all(b"\n")?;
-    Ok(Shown { found: false, text })
+    Ok(Shown {
+        is_found: false,
+        text,
+    })
 }
 
 /// The lines that show an OBJREF. The only error is want of memory.
@@ -233,7 +236,7 @@ mod tests {
             0300000000000000010000000000000001000000010003000100000000000000\
             0200010000000000\n";
         let shown = show(rt.alloc(), worked)?;
-        assert!(rt; shown.found);
+        assert!(rt; shown.is_found);
         assert_eq!(rt;
             shown.text.as_slice(),
             b"kind standard\n\
@@ -244,7 +247,7 @@ mod tests {
                 .as_slice()
         );
         let cut = show(rt.alloc(), b"4d454f")?;
-        assert!(rt; !cut.found);
+        assert!(rt; !cut.is_found);
         assert_eq!(rt; cut.text.as_slice(), b"fault 1 3\n".as_slice());
         assert_eq!(rt;
             show(rt.alloc(), b"4d4")?.text.as_slice(),

@@ -73,8 +73,8 @@ fn change_rows(lanes: &mut Lanes, objects: &mut Objects, lane: u32, deed: &Deed)
         ≡ objects_after objects.old.tables (record { lane = lane; deed = deed.now }) }
 {
     match deed {
-        Deed::Made { .. } => objects.apply(lane, deed),
-        Deed::Final { .. } => objects.apply(lane, deed),
+        Deed::Made { .. } => objects.apply(deed),
+        Deed::Final { .. } => objects.apply(deed),
         _ => lanes.apply(lane, deed),
     }
 }
@@ -124,7 +124,7 @@ impl Parts {
         ensures begun { IfOk result (λ begun. IsBegun self.new (acting_of change.entry.acting) outcome.now
             (acting_of change.entry.after) change.entry.lane change.entry.deed.now begun) }
         ensures issued { IfOk result (λ begun. begun.calling.issued ≡ change.entry.issued) }
-        ensures filtered { IfOk result (λ begun. begun.calling.filtered ≡ change.entry.filtered) }
+        ensures filtered { IfOk result (λ begun. begun.calling.has_filter ≡ change.entry.has_filter) }
         ensures clock { IfOk result (λ begun. begun.calling.clock ≡ change.entry.clock) }
     {
         if !self.takes(&change, outcome) {
@@ -135,7 +135,7 @@ impl Parts {
             deed,
             acting,
             after,
-            filtered,
+            has_filter,
             clock,
             issued,
         } = change;
@@ -156,7 +156,7 @@ impl Parts {
             apartment,
             value,
             outermost: is_outermost(&self.lanes, lane),
-            filtered,
+            has_filter,
             clock,
         };
         Ok(Begun { calling, owners })
@@ -182,7 +182,7 @@ impl Parts {
         ensures objects { self.new.objects
             ≡ objects_after self.old.objects (record { lane = lane; deed = deed.now }) }
         ensures calls { self.new.calls.tables ≡ calls_after self.old.objects
-            (moment_at self.old.lanes lane begun.calling.filtered begun.calling.clock)
+            (moment_at self.old.lanes lane begun.calling.has_filter begun.calling.clock)
             (issuing_of begun.calling.issued) self.old.calls.tables
             (record { lane = lane; deed = deed.now }) }
         ensures scene { self.new.scene ≡ rows_after (named_at self.old.objects) (acting_of acting) outcome.old

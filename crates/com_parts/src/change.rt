@@ -26,7 +26,7 @@ pub struct Change<'a> {
     pub after: Actor,
     /// Whether the caller's lane of the call that the entry names has a message filter. Only a Verdict reads
     /// it.
-    pub filtered: bool,
+    pub has_filter: bool,
     /// The clock before the entry, in milliseconds.
     pub clock: u64,
     /// What the call has that the entry issues, where it is an Out.
@@ -54,7 +54,7 @@ pub struct Calling {
     /// Whether the lane ran no body before the entry.
     pub outermost: bool,
     /// Whether the caller's lane has a message filter, as the change says.
-    pub filtered: bool,
+    pub has_filter: bool,
     /// The clock before the entry, in milliseconds.
     pub clock: u64,
 }

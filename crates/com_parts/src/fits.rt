@@ -5,15 +5,16 @@ ghost use Rattle.com_calls.specs.Steps.{delay_of};
 ghost use Rattle.com_lanes.specs.Changes.{NamesStas};
 ghost use Rattle.com_model.specs.Objects.{finals};
 ghost use Rattle.com_objects.specs.Kept.{IsMade};
-ghost use Rattle.com_scene.specs.Ranges.{FitsDeed, IsInterface, WritesInRange};
+ghost use Rattle.com_scene.specs.Ranges.{WritesInRange};
 ghost use Rattle.com_parts.specs.Fits.{Fits, IsAimed, IsCalled, IsWriting, TakesBack};
 
 use com_base::Mode;
-use com_body::{Action, Asked, Destination, Outcome, Place};
+use com_body::{Action, Destination, Outcome, Place};
 use com_calls::Calls;
 use com_lanes::Lanes;
 use com_model::Deed;
 use com_objects::Objects;
+use com_scene::fits_deed;
 
 /// Whether the parts take the entry.
 pub(crate) fn fits(
@@ -120,35 +121,6 @@ fn has_time(deed: &Deed, clock: u64) -> bool
     match deed {
         Deed::Retry { answer, .. } => *answer < 0 || clock <= u64::MAX - *answer as u64,
         _ => true,
-    }
-}
-
-// Whether a call has at most four values, and a reference's interface is a number of 16 bits.
-fn fits_deed(deed: &Deed) -> bool
-    ensures { IsTrue result → FitsDeed deed.now }
-{
-    match deed {
-        Deed::Enter { values, .. } => values.len() <= 4,
-        Deed::Made {
-            object: Some(_),
-            iface,
-            ..
-        } => is_interface(*iface),
-        Deed::Query {
-            object: Some(_),
-            iface,
-            ..
-        } => is_interface(*iface),
-        _ => true,
-    }
-}
-
-fn is_interface(iface: Asked) -> bool
-    ensures { IsTrue result → IsInterface iface }
-{
-    match iface {
-        Asked::Number(number) => number < 0x1_0000,
-        Asked::Guid(_) => true,
     }
 }
 

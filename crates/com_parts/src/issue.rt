@@ -81,7 +81,7 @@ pub(crate) fn change_calls(calls: &mut Calls, lane: u32, deed: &Deed, calling: C
     requires called { IsCalled calls.old.tables deed.now }
     requires time { calling.clock + delay_of deed.now < 2 ^ 64 }
     ensures tables { (o : ObjectTables) → IsNamed o calls.old → calls.new.tables ≡ calls_after o
-        (record { outermost = calling.outermost; filtered = calling.filtered; clock = calling.clock })
+        (record { outermost = calling.outermost; filtered = calling.has_filter; clock = calling.clock })
         (issuing_of calling.issued) calls.old.tables (record { lane = lane; deed = deed.now }) }
     ensures apartments { (o : ObjectTables) → IsNamed o calls.old → calls.new.apartments
         ≡ grown (is_some (issues lane deed.now)) calling.apartment calls.old.apartments }
@@ -109,24 +109,24 @@ pub(crate) fn change_calls(calls: &mut Calls, lane: u32, deed: &Deed, calling: C
             add(calls, issue, calling);
         }
         Deed::Leave { call, hr, .. } => calls.leave(*call, *hr, calling.value),
-        _ => change_others(calls, lane, deed, calling.filtered, calling.clock),
+        _ => change_others(calls, lane, deed, calling.has_filter, calling.clock),
     }
 }
 
 // The calls after an entry that neither issues a call nor leaves a body.
 #[tactic(auto, using(crate::proofs::Others::no_out, crate::proofs::Others::no_leave, crate::proofs::Others::known))]
-fn change_others(calls: &mut Calls, lane: u32, deed: &Deed, filtered: bool, clock: u64)
+fn change_others(calls: &mut Calls, lane: u32, deed: &Deed, has_filter: bool, clock: u64)
     requires other { IsOther deed.now }
     requires called { IsCalled calls.old.tables deed.now }
     requires time { clock + delay_of deed.now < 2 ^ 64 }
     ensures calls { (o : ObjectTables) (i : Issuing) (outermost : Bool) → IsNamed o calls.old
         → calls.new ≡ with_tables calls.old (calls_after o
-        (record { outermost = outermost; filtered = filtered; clock = clock }) i
+        (record { outermost = outermost; filtered = has_filter; clock = clock }) i
         calls.old.tables (record { lane = lane; deed = deed.now })) }
     ensures apartments { (o : ObjectTables) (a : ℕ) → IsNamed o calls.old → calls.new.apartments
         ≡ grown (is_some (issues lane deed.now)) a calls.old.apartments }
 {
-    calls.apply(lane, deed, filtered, clock);
+    calls.apply(lane, deed, has_filter, clock);
 }
 
 // The calls after an Out.
@@ -137,7 +137,7 @@ fn add(calls: &mut Calls, issue: Issue, calling: Calling)
     requires has { IsSome calling.issued }
     ensures { (o : ObjectTables) (bytes : Option (List ℕ)) → calls.new
         ≡ with_call calls.old calling.apartment (calls_after o
-        (record { outermost = calling.outermost; filtered = calling.filtered; clock = calling.clock })
+        (record { outermost = calling.outermost; filtered = calling.has_filter; clock = calling.clock })
         (issuing_of calling.issued) calls.old.tables (out_entry issue bytes)) }
 {
     let Calling {

@@ -6,6 +6,7 @@ use Rattle.com_base.specs.declared.hresult.HResult.{HResult}
 use Rattle.com_base.specs.declared.value.Value.{Value}
 use Rattle.com_body.specs.Frames.{entered}
 use Rattle.com_body.specs.declared.frame.Outcome.{Outcome}
+use Rattle.com_body.specs.Operands.{new_cells}
 use Rattle.com_books.proofs.Sums.{sum-nothing}
 use Rattle.com_model.specs.declared.deeds.Deed.{Deed}
 use Rattle.com_model.specs.declared.deeds.Deed.TheVariants as deed
@@ -19,7 +20,7 @@ use Rattle.com_model.specs.Openers.{Closer, Closes, effect, opened, openers}
 use Rattle.com_model.specs.Apartments.{is_sta, ends_sta}
 use Rattle.com_model.specs.Objects.{objects, class_of, named}
 use Rattle.com_model.specs.Calls.{issue, admitted}
-use Rattle.com_model.specs.Frames.{Scene, scene, new_cells, Actor, actor_in, acting, acted, arrived, cut_links}
+use Rattle.com_model.specs.Frames.{Scene, scene, Actor, actor_in, acting, acted, arrived, cut_links}
 use Rattle.com_model.specs.Places.{Ground, ground}
 use Rattle.com_model.specs.Rules.{legal}
 use Rattle.com_model.specs.Formed.{Formed}

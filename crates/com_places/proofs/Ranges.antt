@@ -15,6 +15,7 @@ use Rattle.com_body.specs.declared.frame.Native.TheVariants as native
 use Rattle.com_body.specs.Bodies.{IsPlace, IsDestination, IsInRange}
 use Rattle.com_body.specs.Frames.{FrameView, moved}
 use Rattle.com_body.specs.BodySteps.{Effect, Goes, Acts, effect_of, walk, body_step, no_body}
+use Rattle.com_body.specs.Operands.{new_cells}
 use Rattle.com_classes.specs.declared.classes.Class.{Class}
 use Rattle.com_classes.specs.declared.classes.MethodBody.{MethodBody}
 use Rattle.com_classes.specs.BuiltIns.{counter_bodies, relay_bodies, latch_bodies}
@@ -22,7 +23,7 @@ use Rattle.com_classes.specs.Lookups.{class_at, class_body, kind_body, body_of}
 use Rattle.com_model.specs.declared.scenario.Scenario.{Scenario}
 use Rattle.com_model.specs.declared.keeps.Issue.{Issue}
 use Rattle.com_model.specs.Tables.{script}
-use Rattle.com_model.specs.Frames.{Scene, new_cells, Actor, Body, Script, Nobody, issued_body, outcome}
+use Rattle.com_model.specs.Frames.{Scene, Actor, Body, Script, Nobody, issued_body, outcome}
 use Rattle.com_model.specs.Formed.{Context, FormedBody, in_script, in_class, IsBody, IsClass, EachFrom, Formed}
 use Rattle.com_model.proofs.Goods.{all-of, all-or}
 use Rattle.com_balance.proofs.Carries.{all-head, all-tail}

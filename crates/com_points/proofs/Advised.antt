@@ -10,7 +10,7 @@ use Rattle.com_body.specs.declared.actions.Action.TheVariants as action
 use Rattle.com_body.specs.declared.frame.Cells.{Cells}
 use Rattle.com_body.specs.declared.frame.Outcome.{Outcome}
 use Rattle.com_body.specs.Frames.{FrameView, entered}
-use Rattle.com_model.specs.Frames.{new_cells}
+use Rattle.com_body.specs.Operands.{new_cells}
 use Rattle.com_points.specs.Bodies.{ok, e_pointer, no_connection, advise_limit, advise_body}
 use Rattle.com_points.specs.Alone.{alone}
 use Rattle.com_points.specs.Sinks.{Sink, is_cookie, without, has_cookie}

@@ -23,7 +23,8 @@ use Rattle.com_model.specs.Openers.{effect_on, openers}
 use Rattle.com_model.specs.Apartments.{is_sta, ends_sta, next_sta}
 use Rattle.com_model.specs.Objects.{objects, makes, made_or, one_more, making, named, class_of, finals, asked_number}
 use Rattle.com_model.specs.Calls.{issue, target, admitted}
-use Rattle.com_model.specs.Frames.{scene, actor_in, new_cells}
+use Rattle.com_body.specs.Operands.{new_cells}
+use Rattle.com_model.specs.Frames.{scene, actor_in}
 use Rattle.com_model.specs.Formed.{Formed}
 use Rattle.com_model.specs.Rules.{legal}
 use Rattle.com_model.specs.Safe.{EachEntry}

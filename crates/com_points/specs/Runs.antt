@@ -7,6 +7,7 @@ use Rattle.com_body.specs.declared.actions.Action.TheVariants as action
 use Rattle.com_body.specs.declared.frame.Cells.{Cells}
 use Rattle.com_body.specs.declared.frame.Outcome.{Outcome}
 use Rattle.com_body.specs.Frames.{entered}
+use Rattle.com_body.specs.Operands.{new_cells}
 use Rattle.com_model.specs.declared.deeds.Deed.{Deed}
 use Rattle.com_model.specs.declared.deeds.Deed.TheVariants as deed
 use Rattle.com_model.specs.declared.deeds.Entry.{Entry}
@@ -18,7 +19,7 @@ use Rattle.com_model.specs.Openers.{openers}
 use Rattle.com_model.specs.Apartments.{is_sta}
 use Rattle.com_model.specs.Objects.{agile}
 use Rattle.com_model.specs.Calls.{issue}
-use Rattle.com_model.specs.Frames.{scene, new_cells, is_leave}
+use Rattle.com_model.specs.Frames.{scene, is_leave}
 use Rattle.com_points.specs.Alone.{alone}
 use Rattle.com_points.specs.Histories.{given_to}
 use Rattle.com_points.specs.Steps.{body_for, IsLeave, result_of}

@@ -38,7 +38,7 @@ use Rattle.com_model.specs.Sight.{Sight}
 use Rattle.com_model.specs.Deeds.{hold_refusal, named_by, deed_of, created, created_of, initialised, marshalled, registered, Named, NamesPacket, Refuses, unmarshalled, dropped, got, got_with, cookie_number, gained_refs, owned_by, made_as, creator, placing, revoked, uninitialised, in_sta, called, left_by, left_as}
 use Rattle.com_model.specs.Rules.{posted_to_sta, is_handled_in, call_sort, verdict_on, arguments_gone, enters_itself, packet_left, due_of, admits_next, no_lane_can, tick_time, next_by, stepped, ruled, own_call, admission, rule_final, rule_own, rule_answer, rule_bound, rule_inbox, rule_retry, rule_again, rule_pending, rule_word, rule_script, answered, retried, posted_again, asked_on, pumped, takes_word, scripted, is_script_turn, admits_sta, is_open_to_calls, waiting_call, top}
 use Rattle.com_model.proofs.Given.{Given, given-or, given-where, given-map, given-then, cond-of}
-use Rattle.com_quiet.specs.Resting.{is_quiet}
+use Rattle.com_state.specs.Resting.{is_quiet}
 
 -- The quiet deeds, and an Out.
 abbrev pub is_still : Deed → Bool
@@ -120,7 +120,7 @@ unmarshalled-loud v l (Refuses hr) = refl
 
 got-loud : (v : Sight) (l : ℕ) (g : ℤ) (a : Option ℕ) → Loud (got v l g a)
 got-loud v l g None = refl
-got-loud v l g (Some a) = cond-of Loud k.revoked (deed.Get g None 0 E_INVALIDARG) (got_with v l g k) refl (cond-of Loud (v.books.live k.object) (deed.Get g (Some (reference k.object k.iface)) (gained_refs marshal.Strong (owned_by v l k.object) 0) S_OK) (deed.Get g None 0 CO_E_OBJNOTCONNECTED) refl refl)
+got-loud v l g (Some a) = cond-of Loud k.is_revoked (deed.Get g None 0 E_INVALIDARG) (got_with v l g k) refl (cond-of Loud (v.books.live k.object) (deed.Get g (Some (reference k.object k.iface)) (gained_refs marshal.Strong (owned_by v l k.object) 0) S_OK) (deed.Get g None 0 CO_E_OBJNOTCONNECTED) refl refl)
   where
     k : Cookie
     k = cookie v.books (cookie_number g)

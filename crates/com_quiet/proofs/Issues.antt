@@ -5,6 +5,7 @@ use Rattle.std.proofs.lemmas.List.{get_or_append_left}
 use Rattle.std.specs.Prelude.{Option, Some, None}
 use Rattle.com_body.specs.declared.frame.Cells.{Cells}
 use Rattle.com_body.specs.Frames.{FrameView, entered}
+use Rattle.com_body.specs.Operands.{new_cells}
 use Rattle.com_books.specs.Counting.{sum_below}
 use Rattle.com_books.specs.Changes.{Books, held_outside}
 use Rattle.com_model.specs.declared.deeds.Deed.{Deed}
@@ -19,7 +20,7 @@ use Rattle.com_model.specs.Lists.{from_one, is_member, any_of, one_to}
 use Rattle.com_model.specs.Tables.{threads, lanes}
 use Rattle.com_model.specs.Openers.{runs}
 use Rattle.com_model.specs.Calls.{is_direct, route_of}
-use Rattle.com_model.specs.Frames.{Scene, new_cells, value_reference}
+use Rattle.com_model.specs.Frames.{Scene, value_reference}
 use Rattle.com_model.specs.Places.{Ground, Test, to_object, passes, in_frame, in_scripts, in_bodies, in_links, in_result, in_results, entered_in, left_value, places}
 use Rattle.com_model.specs.Books.{holders_in}
 use Rattle.com_model.specs.State.{State, SceneTables, openers_in, home_in, named_in, class_in, issue_in, owns_in, next_sta_in, objects_in, ground_in, scene_in, scene_read, next_of, scene_tables, scene_next, after, BookTables, books_in, books_read, book_tables, books_next, dies_in}

@@ -4,6 +4,7 @@ use Rattle.std.specs.Prelude.{Option, Some, None, is_some, option_map}
 use Rattle.com_body.specs.declared.frame.Cells.{Cells}
 use Rattle.com_body.specs.Frames.{FrameView, entered}
 use Rattle.com_body.specs.declared.frame.Outcome.{Outcome}
+use Rattle.com_body.specs.Operands.{new_cells}
 use Rattle.com_books.specs.Counting.{sum_below}
 use Rattle.com_books.specs.Changes.{Books, Row, entered_rows, given_back, cut, held_outside}
 use Rattle.com_model.specs.declared.deeds.Deed.{Deed}
@@ -21,15 +22,15 @@ use Rattle.com_model.specs.Apartments.{with_last, home_by_sort, home_effect}
 use Rattle.com_model.specs.Objects.{makes}
 use Rattle.com_model.specs.Calls.{issues}
 use Rattle.com_model.specs.Endings.{is_leave}
-use Rattle.com_model.specs.Frames.{Scene, Actor, actor, act_by, outcome, action_of, unless_over, acted, arrived, cut_links, new_cells}
+use Rattle.com_model.specs.Frames.{Scene, Actor, actor, act_by, outcome, action_of, unless_over, acted, arrived, cut_links}
 use Rattle.com_model.specs.Places.{Ground, in_frame, places}
 use Rattle.com_model.specs.Books.{rows, kept, live_after, holders_in}
 use Rattle.com_model.specs.Dying.{fallen_more, is_dying_by, is_entered}
 use Rattle.com_model.specs.State.{State, SceneTables, BookTables, openers_in, home_in, named_in, class_in, issue_in, ending_in, running_in, next_sta_in, objects_in, ground_in, scene_in, books_in, books_read, scene_read, actor_of, dies_in, sight_of, next_of, grown, issued_by, changed_at, opens, homes_change, admissions_by, leavings_by, returned_by, scene_tables, book_tables, scene_next, books_next, after}
 use Rattle.com_model.proofs.Given.{Given}
 use Rattle.com_state.specs.After.{parts_after, acting_in}
-use Rattle.com_state.specs.Resting.{Rested, Settled}
-use Rattle.com_quiet.specs.Resting.{Resting, is_quiet}
+use Rattle.com_state.specs.Resting.{Rested, Settled, is_quiet}
+use Rattle.com_quiet.specs.Resting.{Resting}
 use Rattle.com_state.proofs.Joined.{joined}
 use Rattle.com_quiet.proofs.Apt.{PlainStep, StartsPump, Fits, sort_of, Apt, Idle, next-apt, is_still, quiet-stills}
 use Rattle.com_quiet.proofs.Silent.{Silent, silent, silent-rows, silent-kept, silent-actor, silent-live}

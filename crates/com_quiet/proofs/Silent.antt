@@ -14,7 +14,7 @@ use Rattle.com_model.specs.Objects.{makes, finals, disconnects}
 use Rattle.com_model.specs.Calls.{issues, admits, leaves, returns}
 use Rattle.com_model.specs.Frames.{Actor, unless_final}
 use Rattle.com_model.specs.Books.{rows, kept, live_after, made_by}
-use Rattle.com_quiet.specs.Resting.{is_quiet}
+use Rattle.com_state.specs.Resting.{is_quiet}
 
 clash : false ≡ true → ⊥
 clash e = cc

@@ -13,6 +13,7 @@ use Rattle.com_body.specs.declared.statements.Stmt.{Stmt}
 use Rattle.com_body.specs.declared.statements.Stmt.TheVariants as stmt
 use Rattle.com_body.specs.Frames.{FrameView, moved}
 use Rattle.com_body.specs.BodySteps.{Effect, Goes, Acts, effect_of, walk, body_step}
+use Rattle.com_body.specs.Operands.{new_cells}
 use Rattle.com_books.specs.Counting.{sum_below}
 use Rattle.com_books.specs.Changes.{Books, held_outside}
 use Rattle.com_classes.specs.Lookups.{body_of}
@@ -26,12 +27,12 @@ use Rattle.com_model.specs.Answers.{S_OK}
 use Rattle.com_model.specs.Lists.{put, is_number, any_of, one_to, tabulated}
 use Rattle.com_model.specs.Tables.{threads, lanes, script}
 use Rattle.com_model.specs.Openers.{runs}
-use Rattle.com_model.specs.Frames.{Scene, Actor, Body, Script, Nobody, Write, ToRegister, ToSlot, ToLink, ToBuffer, new_cells, issued_body, outcome, action_of, written, with_frame, wants, writes, acted, arrived, to_answer}
+use Rattle.com_model.specs.Frames.{Scene, Actor, Body, Script, Nobody, Write, ToRegister, ToSlot, ToLink, ToBuffer, issued_body, outcome, action_of, written, with_frame, wants, writes, acted, arrived, to_answer}
 use Rattle.com_model.specs.Places.{Ground, Test, to_object, in_slots, in_frame, in_results, places}
 use Rattle.com_model.specs.Books.{holders_in}
 use Rattle.com_model.specs.Dying.{is_entered, is_dying_by}
 use Rattle.com_model.proofs.Tabled.{length-tabulated, within-tabulated}
-use Rattle.com_quiet.specs.Resting.{is_quiet}
+use Rattle.com_state.specs.Resting.{is_quiet}
 use Rattle.com_quiet.proofs.Apt.{IsPlain, PlainStep}
 
 clash : false ≡ true → ⊥

@@ -3,7 +3,7 @@ use Rattle.std.specs.Prelude.{Bool, true, not, None}
 use Rattle.com_model.specs.declared.deeds.Deed.{Deed}
 use Rattle.com_model.specs.declared.deeds.Deed.TheVariants as deed
 use Rattle.com_model.specs.Answers.{is_S_OK}
-use Rattle.com_quiet.specs.Resting.{is_quiet}
+use Rattle.com_state.specs.Resting.{is_quiet}
 
 -- Beside the quiet ones: each Init, what copies or releases a reference, a Final, and refusals that write a
 -- slot.

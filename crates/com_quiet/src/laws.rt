@@ -21,9 +21,9 @@ ghost use Rattle.com_model.specs.State.{State, StandsFor, after, book_tables, bo
 ghost use Rattle.com_model.specs.State.{ground_in, next_of, next_sta_in, objects_in, openers_in, scene_in};
 ghost use Rattle.com_model.specs.State.{scene_next};
 ghost use Rattle.com_state.specs.After.{parts_after};
-ghost use Rattle.com_state.specs.Resting.{Rested};
+ghost use Rattle.com_state.specs.Resting.{Rested, is_quiet};
 ghost use Rattle.com_quiet.specs.Ends.{books_entered, ends, history_entered, stays};
-ghost use Rattle.com_quiet.specs.Resting.{Resting, is_quiet};
+ghost use Rattle.com_quiet.specs.Resting.{Resting};
 ghost use Rattle.com_quiet.specs.Rowless.{is_rowless};
 
 /// A state that stands for a history is at rest.

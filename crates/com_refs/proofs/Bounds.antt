@@ -10,7 +10,7 @@ use Rattle.com_refs.specs.Counts.{holders_of, outside_of}
 -- An object that is connected has a stub.
 has-stub : (rs : List StubRow) (o : ℕ) → is_connected rs o ≡ true → has_stub rs o ≡ true
 has-stub [] o h = absurd (let no : false ≡ true = h in cc)
-has-stub (r ∷ rs) o h = elim (eqb r.object o) as (λ b. (cond b r (stub_of rs o)).connected ≡ true → (b || has_stub rs o) ≡ true) [
+has-stub (r ∷ rs) o h = elim (eqb r.object o) as (λ b. (cond b r (stub_of rs o)).is_connected ≡ true → (b || has_stub rs o) ≡ true) [
   | true ↦ λ h. refl
   | false ↦ λ h. has-stub rs o h
 ] h

@@ -136,12 +136,12 @@ dropped t v hs n p c h e s ei =
     omega (arith, less, one, s.all_elsewhere x))
     (λ x other. s.direct x) s.made (omega (arith, ei))
 
-cookie-ends : (gs : List Cookie) (k x : ℕ) → (slice_index_or gs k no_cookie).revoked ≡ false → sum_by (cookie_holds x) (slice_set gs k no_cookie) + count_if (eqb (slice_index_or gs k no_cookie).object x) ≡ sum_by (cookie_holds x) gs
+cookie-ends : (gs : List Cookie) (k x : ℕ) → (slice_index_or gs k no_cookie).is_revoked ≡ false → sum_by (cookie_holds x) (slice_set gs k no_cookie) + count_if (eqb (slice_index_or gs k no_cookie).object x) ≡ sum_by (cookie_holds x) gs
 cookie-ends [] k x h = absurd (cc)
 cookie-ends (g ∷ gs) zero x h = grind (arith, common_steps, h)
 cookie-ends (g ∷ gs) (suc k) x h = grind (arith, common_steps, cookie-ends gs k x h)
 
-cookie-less : (b : Books) (n x : ℕ) → (cookie b n).revoked ≡ false → held_outside (changed b (Withdraw n)) x + count_if (eqb (cookie b n).object x) ≡ held_outside b x
+cookie-less : (b : Books) (n x : ℕ) → (cookie b n).is_revoked ≡ false → held_outside (changed b (Withdraw n)) x + count_if (eqb (cookie b n).object x) ≡ held_outside b x
 cookie-less b zero x h = absurd (cc)
 cookie-less b (suc k) x h = omega (arith, cookie-ends b.cookies k x h)
 
@@ -149,7 +149,7 @@ pub revoked : (t v : Tables) (hs : List ℕ) (n : ℕ) (r : RefValue) → IsCoun
     → IsCountedBut v (hold_less r.object true hs) r.object
 revoked t v hs n r c h e s ei =
     let is : cookie (books_of t) n ≡ cookie_of (is_connected t.stubs r.object) r = cookie_shown t n r h in
-    let held : (cookie (books_of t) n).revoked ≡ false = ap (λ (g : Cookie). g.revoked) is in
+    let held : (cookie (books_of t) n).is_revoked ≡ false = ap (λ (g : Cookie). g.is_revoked) is in
     let object : (cookie (books_of t) n).object ≡ r.object = ap (λ (g : Cookie). g.object) is in
     lost t v hs r.object true c (live-row t v (Withdraw n) e)
     (λ x.

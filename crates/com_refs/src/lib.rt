@@ -23,9 +23,10 @@ ghost use Rattle.com_books.specs.Counting.{count_if, sum_below};
 ghost use Rattle.com_holders.specs.Stands.{Tells};
 ghost use Rattle.com_books.specs.Changes.{Books, changed, change, cut, packet, cookie, is_weak, Makes, Takes};
 ghost use Rattle.com_books.specs.Changes.{Asks, Marshals, Unmarshals, Drops, Revokes, ToCookie};
+ghost use Rattle.com_books.specs.Changes.{in_normal, in_table, in_cookie};
 ghost use Rattle.com_refs.specs.Counts.{hold_of, hold_less, hold_more, holders_of, unheld};
 ghost use Rattle.com_refs.specs.Found.{IsFound, fields_by, shown_packet};
-ghost use Rattle.com_refs.specs.Numbers.{in_normal, in_table, in_cookie, Within};
+ghost use Rattle.com_refs.specs.Numbers.{Within};
 ghost use Rattle.com_refs.specs.Ends.{ends, Totals};
 
 use com_base::{Guid, MarshalMode, RefValue, StdFields};
@@ -93,10 +94,10 @@ fn hold_at(holds: &[u64], object: u32) -> u64
 }
 
 // One holder less, if it was one.
-fn lose_hold(holds: &mut [u64], object: u32, held: bool)
-    ensures { holds.new ≡ hold_less object held holds.old }
+fn lose_hold(holds: &mut [u64], object: u32, is_held: bool)
+    ensures { holds.new ≡ hold_less object is_held holds.old }
 {
-    if !held {
+    if !is_held {
         return;
     }
     let Some(place) = object.checked_sub(1) else {
@@ -109,11 +110,11 @@ fn lose_hold(holds: &mut [u64], object: u32, held: bool)
 }
 
 // One holder more, if it is one.
-fn gain_hold(holds: &mut [u64], object: u32, held: bool)
+fn gain_hold(holds: &mut [u64], object: u32, is_held: bool)
     requires fits { hold_of holds.old object + 1 < 2 ^ 64 }
-    ensures { holds.new ≡ hold_more object held holds.old }
+    ensures { holds.new ≡ hold_more object is_held holds.old }
 {
-    if !held {
+    if !is_held {
         return;
     }
     let Some(place) = object.checked_sub(1) else {
@@ -151,16 +152,16 @@ fn settle(holders: &mut Holders, held: u64, object: u32) -> bool
 }
 
 // The holders once a packet was unmarshalled: a normal one ends, and any other stays.
-fn recount(holds: &mut [u64], object: u32, owned: bool, normal: bool)
+fn recount(holds: &mut [u64], object: u32, is_owned: bool, normal: bool)
     requires fits { hold_of holds.old object + 1 < 2 ^ 64 }
-    ensures { holds.new ≡ (if normal then hold_less object owned holds.old
-        else hold_more object (not owned) holds.old) }
+    ensures { holds.new ≡ (if normal then hold_less object is_owned holds.old
+        else hold_more object (not is_owned) holds.old) }
 {
     if normal {
-        lose_hold(holds, object, owned);
+        lose_hold(holds, object, is_owned);
         return;
     }
-    gain_hold(holds, object, !owned);
+    gain_hold(holds, object, !is_owned);
 }
 
 // The packet is one that ends when it is unmarshalled.
@@ -175,10 +176,10 @@ fn is_normal(mode: MarshalMode) -> bool
 }
 
 // The object, if it lost its last holder.
-fn if_lost(lost: bool, object: u32) -> Option<u32>
-    ensures { result ≡ (if lost then Some object else None) }
+fn if_lost(is_lost: bool, object: u32) -> Option<u32>
+    ensures { result ≡ (if is_lost then Some object else None) }
 {
-    if lost {
+    if is_lost {
         return Some(object);
     }
     None
@@ -224,20 +225,20 @@ fn packet_row(packet: Option<Packet>) -> PacketRow
 }
 
 // The row of a cookie in the books: it holds nothing of an object that is not connected.
-fn cookie_row(held: RefValue, connected: bool) -> Cookie
+fn cookie_row(held: RefValue, is_connected: bool) -> Cookie
     ensures { result ≡ record {
-      revoked = false;
+      is_revoked = false;
       object = held.object;
       iface = held.iface;
       refs = if
-          connected then 1 else 0;
+          is_connected then 1 else 0;
     } }
 {
     Cookie {
-        revoked: false,
+        is_revoked: false,
         object: held.object,
         iface: held.iface,
-        refs: if connected { 1 } else { 0 },
+        refs: if is_connected { 1 } else { 0 },
     }
 }
 
@@ -275,7 +276,7 @@ const NO_PACKET: PacketRow = PacketRow {
 };
 
 const NO_COOKIE: Cookie = Cookie {
-    revoked: true,
+    is_revoked: true,
     object: 0,
     iface: 0,
     refs: 0,
@@ -436,9 +437,9 @@ impl Refs {
         self.holders.stands();
         self.holders.add_object(owner, agile, set);
         self.holds.push_reserved(0);
-        let owned = self.holders.owns(object, apartment);
+        let is_owned = self.holders.owns(object, apartment);
         place(&mut self.holders, apartment, RefValue { object, iface });
-        gain_hold(&mut self.holds, object, !owned);
+        gain_hold(&mut self.holds, object, !is_owned);
     }
 
     /// One place less, to the end of its entry. True exactly where nothing holds the object then.
@@ -456,9 +457,9 @@ impl Refs {
         ensures issued { self.new.issued ≡ self.old.issued }
         ensures spare { self.new.spare ≡ self.old.spare }
     {
-        let owned = self.holders.owns(held.object, apartment);
+        let is_owned = self.holders.owns(held.object, apartment);
         self.holders.release(apartment, held);
-        lose_hold(&mut self.holds, held.object, !owned);
+        lose_hold(&mut self.holds, held.object, !is_owned);
         let left = hold_at(&self.holds, held.object);
         settle(&mut self.holders, left, held.object)
     }
@@ -479,9 +480,9 @@ impl Refs {
         ensures spare { self.new.spare ≡ self.old.spare }
     {
         self.holders.stands();
-        let owned = self.holders.owns(held.object, apartment);
+        let is_owned = self.holders.owns(held.object, apartment);
         self.holders.copy(apartment, held);
-        gain_hold(&mut self.holds, held.object, !owned);
+        gain_hold(&mut self.holds, held.object, !is_owned);
     }
 
     /// Whether the apartment has a place of the reference: a direct one of the object where it owns that,
@@ -530,10 +531,10 @@ impl Refs {
         ensures spare { self.old.spare ≤ self.new.spare + 1 }
     {
         self.holders.stands();
-        let owned = self.holders.owns(held.object, apartment);
+        let is_owned = self.holders.owns(held.object, apartment);
         match self.holders.share(apartment, held) {
             Ok(()) => {
-                gain_hold(&mut self.holds, held.object, !owned);
+                gain_hold(&mut self.holds, held.object, !is_owned);
                 Ok(())
             }
             Err(memory) => Err(memory),
@@ -630,10 +631,10 @@ impl Refs {
         ensures spare { self.old.spare ≤ self.new.spare + 1 }
     {
         self.holders.stands();
-        let owned = self.holders.owns(object, apartment);
+        let is_owned = self.holders.owns(object, apartment);
         match self.holders.query(apartment, object, iface) {
             Ok(()) => {
-                gain_hold(&mut self.holds, object, !owned);
+                gain_hold(&mut self.holds, object, !is_owned);
                 Ok(())
             }
             Err(error) => Err(error),
@@ -666,8 +667,8 @@ impl Refs {
         self.holders.stands();
         match self.holders.get(apartment, cookie) {
             Ok(held) => {
-                let owned = self.holders.owns(held.object, apartment);
-                gain_hold(&mut self.holds, held.object, !owned);
+                let is_owned = self.holders.owns(held.object, apartment);
+                gain_hold(&mut self.holds, held.object, !is_owned);
                 Ok(held)
             }
             Err(error) => Err(error),
@@ -698,11 +699,11 @@ impl Refs {
         self.holders.stands();
         match self.holders.unmarshal(apartment, number) {
             Ok(packet) => {
-                let owned = self.holders.owns(packet.object, apartment);
+                let is_owned = self.holders.owns(packet.object, apartment);
                 recount(
                     &mut self.holds,
                     packet.object,
-                    owned,
+                    is_owned,
                     is_normal(packet.mode),
                 );
                 Ok(packet)
@@ -737,8 +738,8 @@ impl Refs {
         self.holders.gives_nothing();
         lose_hold(&mut self.holds, packet.object, holds_object(packet.mode));
         let left = hold_at(&self.holds, packet.object);
-        let lost = settle(&mut self.holders, left, packet.object);
-        Ok(if_lost(lost, packet.object))
+        let is_lost = settle(&mut self.holders, left, packet.object);
+        Ok(if_lost(is_lost, packet.object))
     }
 
     /// A cookie ends, and its reference goes back, to the end of the entry. The answer is the cookie's object
@@ -765,8 +766,8 @@ impl Refs {
         self.holders.gives_nothing();
         lose_hold(&mut self.holds, held.object, true);
         let left = hold_at(&self.holds, held.object);
-        let lost = settle(&mut self.holders, left, held.object);
-        Ok(if_lost(lost, held.object))
+        let is_lost = settle(&mut self.holders, left, held.object);
+        Ok(if_lost(is_lost, held.object))
     }
 
     /// The object is no longer connected: nothing of it is held any more but its direct places. Source:

@@ -100,7 +100,7 @@ got_with-not-ask v l g k true = tt
 got_with-not-ask v l g k false = tt
 
 got_by-not-ask : (v : Sight) (l : ℕ) (g : ℤ) (k : Cookie) → NotAsk (got_by v l g k)
-got_by-not-ask v l g k = cond-of (NotAsk) k.revoked (deed.Get g None 0 E_INVALIDARG) (got_with v l g k) tt (got_with-not-ask v l g k (v.books.live k.object))
+got_by-not-ask v l g k = cond-of (NotAsk) k.is_revoked (deed.Get g None 0 E_INVALIDARG) (got_with v l g k) tt (got_with-not-ask v l g k (v.books.live k.object))
 
 got-not-ask : (v : Sight) (l : ℕ) (g : ℤ) (a : Option ℕ) → NotAsk (got v l g a)
 got-not-ask v l g None = tt

@@ -13,6 +13,7 @@ use Rattle.com_body.specs.declared.frame.Cells.{Cells}
 use Rattle.com_body.specs.declared.frame.Outcome.{Outcome}
 use Rattle.com_body.specs.Frames.{FrameView, moved}
 use Rattle.com_body.specs.BodySteps.{Effect, Goes, Acts, effect_of, walk, body_step}
+use Rattle.com_body.specs.Operands.{new_cells}
 use Rattle.com_classes.specs.Lookups.{body_of}
 use Rattle.com_model.specs.declared.deeds.Entry.{Entry}
 use Rattle.com_model.specs.declared.scenario.Scenario.{Scenario}
@@ -20,7 +21,7 @@ use Rattle.com_model.specs.Tables.{script}
 use Rattle.com_model.specs.Objects.{class_of}
 use Rattle.com_model.specs.Calls.{issue}
 use Rattle.com_model.specs.declared.keeps.Issue.{Issue}
-use Rattle.com_model.specs.Frames.{Scene, scene, new_cells, Actor, Body, Script, Nobody, actor_in, issued_body, outcome, unless_over, action_of, act}
+use Rattle.com_model.specs.Frames.{Scene, scene, Actor, Body, Script, Nobody, actor_in, issued_body, outcome, unless_over, action_of, act}
 use Rattle.com_model.specs.Rules.{legal}
 use Rattle.com_model.specs.Formed.{Formed}
 use Rattle.com_model.proofs.Goods.{IsPlain, all-or}

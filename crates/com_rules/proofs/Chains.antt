@@ -1,24 +1,17 @@
 -- The first of two answers.
-use Rattle.std.proofs.Common.{◌≡◌, ℕ, Bool, true, false, if◌then◌else◌, Option, Some, None, refl, ap, sym, ◌∙◌}
+use Rattle.std.proofs.Common.{◌≡◌, ℕ, Bool, true, false, if◌then◌else◌, Option, Some, None, refl}
 use Rattle.com_base.specs.declared.hresult.HResult.{HResult}
 use Rattle.com_base.specs.declared.value.RefValue.{RefValue}
-use Rattle.com_books.specs.Changes.{Books}
 use Rattle.com_model.specs.declared.deeds.Deed.{Deed}
 use Rattle.com_model.specs.Deeds.{hold_refusal}
 use Rattle.com_model.specs.Lists.{or_else}
 use Rattle.com_model.specs.Sight.{Sight}
-use Rattle.com_view.specs.Connected.{Says}
 
 pub some_first : (a r : Option Deed) (d : Deed) → a ≡ Some d → Some d ≡ or_else a r
 some_first a r d e = rw e refl
 
 pub none_first : (a r : Option Deed) → a ≡ None → or_else a r ≡ r
 none_first a r e = rw e refl
-
--- What is said of a reference's object.
-pub says_all : (b : Books) (held : Option RefValue) (x : Bool) → Says b held x → (r : RefValue) → held ≡ Some r → b.live r.object ≡ x
-says_all b None x h r e = cc
-says_all b (Some s) x h r e = let q : s ≡ r = cc in ap (λ (y : RefValue). b.live y.object) (sym q) ∙ h
 
 -- A reference that may be held is to an object that is connected.
 held_live : (t : Bool) (hr : HResult) → (if t then None else Some hr) ≡ None → t ≡ true

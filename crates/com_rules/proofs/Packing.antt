@@ -125,7 +125,7 @@ drop_rest (y ∷ ys) rest n (suc k) e = drop_rest ys rest n k e
 
 -- the rows say which objects are connected
 abbrev Says : Books → Outgoing → Type 0
-Says b x = b.live x.object ≡ x.connected
+Says b x = b.live x.object ≡ x.is_connected
 
 says_first : (owned : ℕ → ℕ → Bool) (b : Books) (a : ℕ) (xs : List Outgoing) → AllByRecursion (IsOutgoing owned b a) xs → AllByRecursion (Says b) xs
 says_first owned b a [] all = tt
@@ -147,7 +147,7 @@ foreseen s v made refs owned b a (x ∷ xs) k all e =
     let later : AllByRecursion (Says next) xs = says_later owned b a x xs all.1 in
     either (b.live x.object) _
     (λ live.
-    let connected : x.connected ≡ true = sym all.0 ∙ live in
+    let connected : x.is_connected ≡ true = sym all.0 ∙ live in
     let p : Packet = new_of owned b a x in
     let ps : List Packet = news owned next a xs in
     let split : drop k refs ≡ p.refs ∷ map refs_in ps = e ∙ (rw live refl) in
@@ -163,7 +163,7 @@ foreseen s v made refs owned b a (x ∷ xs) k all e =
     ∙ ap (λ (n : ℕ). packet_fields s v p (made + 1 + k) ∷ numbered (fields_in s v) n ps) number
     ∙ right)
     (λ dead.
-    let none : x.connected ≡ false = sym all.0 ∙ dead in
+    let none : x.is_connected ≡ false = sym all.0 ∙ dead in
     let ps : List Packet = news owned next a xs in
     let rest : drop k refs ≡ map refs_in ps = e ∙ (rw dead refl) in
     let left : fields_from s v made refs (x ∷ xs) k ≡ fields_from s v made refs xs k = rw none refl in
@@ -203,7 +203,7 @@ field_more : (s : Scenario) (v : Sight) (made : ℕ) (refs : List ℕ) (x : Outg
     ≡ (fields ++ field_of s v made refs x (length fields)) ++ fields_from s v made refs xs (length (fields ++ field_of s v made refs x (length fields)))
 field_more s v made refs x xs fields =
     let one = packet_fields s v (new_packet marshal.Normal x.object x.iface (slice_index_or refs (length fields) 0)) (made + 1 + length fields) in
-    either x.connected _
+    either x.is_connected _
     (λ holds.
     let longer : length fields + 1 ≡ length (fields ++ one ∷ []) = omega (arith, length-append fields (one ∷ [])) in
     let plain : fields ++ (one ∷ fields_from s v made refs xs (length fields + 1)) ≡ (fields ++ one ∷ []) ++ fields_from s v made refs xs (length (fields ++ one ∷ [])) =

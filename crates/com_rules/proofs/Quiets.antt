@@ -61,7 +61,7 @@ quiet_got : (s : Scenario) (v : Sight) (l : ℕ) (x : Action) (g : ℤ) (home : 
 quiet_got s v l x g None = record { issues_none = refl; carries_none = λ b. refl }
 quiet_got s v l x g (Some a) =
     let k : Cookie = cookie v.books (cookie_number g) in
-    quiet_if s l x k.revoked _ (got_with v l g k) (record { issues_none = refl; carries_none = λ b. refl })
+    quiet_if s l x k.is_revoked _ (got_with v l g k) (record { issues_none = refl; carries_none = λ b. refl })
     (quiet_if s l x (v.books.live k.object) _ _ (record { issues_none = refl; carries_none = λ b. refl }) (record { issues_none = refl; carries_none = λ b. refl }))
 
 quiet_revoked : (s : Scenario) (v : Sight) (l : ℕ) (x : Action) (g : ℤ) (home : Option ℕ) → IsQuiet s l x (revoked v g home)

@@ -16,3 +16,26 @@ abbrev pub IsSilent : Action → Type 0
 IsSilent (action.Call held i m args to) = ⊥
 IsSilent (action.Leave hr value) = ⊥
 IsSilent _ = Unit {0}
+
+-- The actions on the lane itself, on words, places and buffers.
+abbrev pub IsOnLane : Action → Type 0
+IsOnLane (action.Init mode) = Unit {0}
+IsOnLane action.Uninit = Unit {0}
+IsOnLane (action.SetFilter filter) = Unit {0}
+IsOnLane (action.Pump bound) = Unit {0}
+IsOnLane (action.Post to word) = Unit {0}
+IsOnLane (action.Quit to) = Unit {0}
+IsOnLane (action.Copy to held) = Unit {0}
+IsOnLane (action.Release from held) = Unit {0}
+IsOnLane (action.Raw b bytes) = Unit {0}
+IsOnLane _ = ⊥
+
+-- The actions on an object, a reference or a cookie.
+abbrev pub IsOnObject : Action → Type 0
+IsOnObject (action.Create slot k i) = Unit {0}
+IsOnObject (action.Query to held i) = Unit {0}
+IsOnObject (action.Disconnect held) = Unit {0}
+IsOnObject (action.Register to held) = Unit {0}
+IsOnObject (action.Get slot g) = Unit {0}
+IsOnObject (action.Revoke g) = Unit {0}
+IsOnObject _ = ⊥

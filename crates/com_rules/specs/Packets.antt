@@ -20,7 +20,7 @@ refs_made marshal.Weak owned n = 0
 -- connected.
 abbrev pub field_of : Scenario → Sight → (made : ℕ) → (refs : List ℕ) → Outgoing → (k : ℕ) → List StdFields
 field_of s v made refs x k =
-    if x.connected
+    if x.is_connected
     then packet_fields s v (new_packet marshal.Normal x.object x.iface (slice_index_or refs k 0))
     (made + 1 + k) ∷ []
     else []
@@ -30,7 +30,7 @@ abbrev pub fields_from : Scenario → Sight → (made : ℕ) → (refs : List �
     → List StdFields
 fields_from s v made refs [] k = []
 fields_from s v made refs (x ∷ xs) k =
-    if x.connected
+    if x.is_connected
     then packet_fields s v (new_packet marshal.Normal x.object x.iface (slice_index_or refs k 0))
     (made + 1 + k) ∷ fields_from s v made refs xs (k + 1)
     else fields_from s v made refs xs k

@@ -7,7 +7,7 @@ ghost use Rattle.com_rules.specs.Fits.{FitsAction, IsSilent};
 ghost use Rattle.com_rules.specs.Room.{HasRoom};
 ghost use Rattle.com_view.specs.Seen.{sight_by};
 
-use crate::alone::{act_alone, act_on};
+use crate::alone::{deed_on_lane, deed_on_object};
 use crate::asking::Found;
 use crate::making::marshalled_packet;
 use crate::naming::{drop_packet, unmarshal_packet};
@@ -17,7 +17,7 @@ use com_body::Action;
 use com_calls::Issued;
 use com_model::Deed;
 use com_view::View;
-use std::alloc::{AllocError, Global};
+use std::alloc::Global;
 
 /// What an action makes: its entry, and what goes with it.
 #[derive(Debug, Drop)]
@@ -44,10 +44,10 @@ fn silent_deed<B: Found>(
     ensures { IfOk result (λ made. made
         ≡ deed_of view.now.scenario (sight_by view.now (B.books books.now)) lane action.now) }
 {
-    if let Some(deed) = act_alone(view, lane, action) {
+    if let Some(deed) = deed_on_lane(view, lane, action) {
         return Ok(deed);
     }
-    if let Some(deed) = act_on(view, books, lane, action) {
+    if let Some(deed) = deed_on_object(view, books, lane, action) {
         return Ok(deed);
     }
     match action {
@@ -57,7 +57,7 @@ fn silent_deed<B: Found>(
         }
         Action::Unmarshal { buffer, .. } => Ok(unmarshal_packet(view, books, lane, *buffer)),
         Action::Drop { buffer } => Ok(drop_packet(view, books, lane, *buffer)),
-        _ => Err(AllocError),
+        _ => unreachable!(),
     }
 }
 

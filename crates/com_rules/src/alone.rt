@@ -1,12 +1,12 @@
 //! The entries of actions on the lane itself, on words, places and buffers, and of those on objects,
 //! references and cookies.
 
-ghost use Rattle.std.specs.Prelude.{◌≡◌, ◌+◌, ◌<◌, ◌≤◌, ◌^◌, length, IfSome};
+ghost use Rattle.std.specs.Prelude.{◌≡◌, ◌+◌, ◌<◌, ◌≤◌, ◌^◌, length, IfSome, IsSome};
 ghost use Rattle.com_books.specs.Changes.{Books};
 ghost use Rattle.com_model.specs.Deeds.{deed_of};
 ghost use Rattle.com_view.specs.Seen.{sight_by};
 ghost use Rattle.com_view.specs.Connected.{Says};
-ghost use Rattle.com_rules.specs.Fits.{FitsAction};
+ghost use Rattle.com_rules.specs.Fits.{FitsAction, IsOnLane, IsOnObject};
 
 use com_action_deeds::{
     create_deed, disconnect_deed, filter_deed, get_deed, init_deed, post_deed, query_deed,
@@ -30,12 +30,13 @@ pub fn is_connected<R: References>(refs: &R, held: Option<RefValue>) -> bool
 /// The entry of an action on the lane itself, on words, places and buffers: `init`, `uninit`, `setfilter`,
 /// `pump`, `post`, `quit`,
 /// `copy`, `release` and `raw`. `None` of every other.
-pub fn act_alone(view: &View<'_>, lane: u32, action: &Action) -> Option<Deed>
+pub fn deed_on_lane(view: &View<'_>, lane: u32, action: &Action) -> Option<Deed>
     requires stas { length view.now.lanes.stas + 4 ≤ 2 ^ 32 }
     requires threads { length view.now.scenario.threads < 2 ^ 32 }
     requires fits { FitsAction action.now }
-    ensures { (b : Books) → IfSome result (λ deed. deed
+    ensures deed { (b : Books) → IfSome result (λ deed. deed
         ≡ deed_of view.now.scenario (sight_by view.now b) lane action.now) }
+    ensures made { IsOnLane action.now → IsSome result }
 {
     match action {
         Action::Init { mode } => Some(init_deed(view, lane, *mode)),
@@ -57,31 +58,37 @@ pub fn act_alone(view: &View<'_>, lane: u32, action: &Action) -> Option<Deed>
 /// The entry of an action on an object, a reference or a cookie: `create`, `query`, `disconnect`, `register`,
 /// `get` and `revoke`.
 /// `None` of every other.
-pub fn act_on<R: References>(view: &View<'_>, refs: &R, lane: u32, action: &Action) -> Option<Deed>
+pub fn deed_on_object<R: References>(
+    view: &View<'_>,
+    refs: &R,
+    lane: u32,
+    action: &Action,
+) -> Option<Deed>
     requires objects { length view.now.objects.makings + 1 < 2 ^ 32 }
     requires cookies { length (R.books refs.now).cookies + 1 < 2 ^ 32 }
     requires fits { FitsAction action.now }
-    ensures { IfSome result (λ deed. deed
+    ensures deed { IfSome result (λ deed. deed
         ≡ deed_of view.now.scenario (sight_by view.now (R.books refs.now)) lane action.now) }
+    ensures made { IsOnObject action.now → IsSome result }
 {
     match action {
         Action::Create { class, iface, .. } => Some(create_deed(view, lane, *class, *iface)),
         Action::Query { held, iface, .. } => {
-            let connected = is_connected(refs, *held);
-            Some(query_deed(view, lane, *held, *iface, connected))
+            let is_live = is_connected(refs, *held);
+            Some(query_deed(view, lane, *held, *iface, is_live))
         }
         Action::Disconnect { held } => {
-            let connected = is_connected(refs, *held);
-            Some(disconnect_deed(view, lane, *held, connected))
+            let is_live = is_connected(refs, *held);
+            Some(disconnect_deed(view, lane, *held, is_live))
         }
         Action::Register { held, .. } => {
-            let connected = is_connected(refs, *held);
-            Some(register_deed(view, lane, *held, connected, refs.cookies()))
+            let is_live = is_connected(refs, *held);
+            Some(register_deed(view, lane, *held, is_live, refs.cookies()))
         }
         Action::Get { cookie, .. } => {
             let kept = refs.cookie(*cookie);
-            let connected = refs.is_connected(kept.object);
-            Some(get_deed(view, lane, *cookie, kept, connected))
+            let is_live = refs.is_connected(kept.object);
+            Some(get_deed(view, lane, *cookie, kept, is_live))
         }
         Action::Revoke { cookie } => Some(revoke_deed(view, lane, *cookie, refs.cookie(*cookie))),
         _ => None,

@@ -34,11 +34,11 @@ fn public<B: Found>(view: &View<'_>, books: &B, lane: u32, held: RefValue) -> Re
 }
 
 // The public references of a new packet.
-fn refs_made(mode: MarshalMode, owned: bool, held: u32) -> u32
-    ensures { result ≡ refs_made mode owned held }
+fn refs_made(mode: MarshalMode, is_owned: bool, held: u32) -> u32
+    ensures { result ≡ refs_made mode is_owned held }
 {
     match mode {
-        MarshalMode::Normal => { if owned || held < 2 { FIVE } else { held / 2 } }
+        MarshalMode::Normal => { if is_owned || held < 2 { FIVE } else { held / 2 } }
         MarshalMode::Strong => 1,
         MarshalMode::Weak => 0,
     }
@@ -94,8 +94,8 @@ fn marshalled_now<B: Found>(
         ≡ marshalled view.now.scenario (sight_by view.now (B.books books.now)) lane mode (Some held) None) }
 {
     let number = next_packet(books)?;
-    let owned = view.owns(lane, held.object);
-    let refs = refs_made(mode, owned, public(view, books, lane, held)?);
+    let is_owned = view.owns(lane, held.object);
+    let refs = refs_made(mode, is_owned, public(view, books, lane, held)?);
     let fields = fields_as(view, number, mode, held, refs);
     let deed = marshal_deed(alloc, number, mode, held, refs, &fields)?;
     Ok(deed)
@@ -114,8 +114,8 @@ pub fn marshalled_packet<B: Found>(
         → made ≡ deed_of view.now.scenario (sight_by view.now (B.books books.now)) lane
         (action.Marshal buffer held mode)) }
 {
-    let connected = is_connected(books, held);
-    if let Some(hr) = hold_refusal(view.home(lane), held, connected) {
+    let is_live = is_connected(books, held);
+    if let Some(hr) = hold_refusal(view.home(lane), held, is_live) {
         return Ok(refused_marshal_deed(mode, held, hr));
     }
     match held {
@@ -139,8 +139,8 @@ fn outgoing<B: Found>(
         object: held.object,
         iface: held.iface,
         held: public(view, books, lane, held)?,
-        owned: view.owns(lane, held.object),
-        connected: books.is_connected(held.object),
+        is_owned: view.owns(lane, held.object),
+        is_connected: books.is_connected(held.object),
     })
 }
 
@@ -177,7 +177,7 @@ fn append_field(
         ≡ fields.old.items ++ field_of view.now.scenario (bare view.now) made refs.now row.now
         (length fields.old.items)) }
 {
-    if !row.connected {
+    if !row.is_connected {
         return Ok(());
     }
     let number = number_after(made, fields.len())?;

@@ -95,8 +95,8 @@ pub fn unmarshal_packet<B: Found>(view: &View<'_>, books: &B, lane: u32, buffer:
 {
     let found = packet_in(view, books, lane, buffer);
     let kept = row_of(books, found);
-    let connected = books.is_connected(kept.object);
-    unmarshal_deed(view, lane, found, kept, connected)
+    let is_live = books.is_connected(kept.object);
+    unmarshal_deed(view, lane, found, kept, is_live)
 }
 
 /// The entry of `drop` (CoReleaseMarshalData).

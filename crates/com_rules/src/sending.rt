@@ -72,17 +72,17 @@ fn arguments<B: Found>(
     alloc: Global,
     iface: u16,
     method: u16,
-    marshalled: bool,
+    is_marshalled: bool,
     args: &[Value],
 ) -> Result<Rows<Value>, Memory>
     ensures { IfOk result (λ values. values
-        ≡ sent_values marshalled (B.books books.now).live (parameters
+        ≡ sent_values is_marshalled (B.books books.now).live (parameters
         (method_at view.now.scenario.classes iface method)) args.now) }
 {
     match view.scenario.classes.method(iface, method) {
         Some(method) => sent_values(
             alloc,
-            marshalled,
+            is_marshalled,
             &Connected { refs: books },
             method.params.as_slice(),
             args,
@@ -190,8 +190,8 @@ pub fn call<B: Found>(
         → made.carried ≡ carried_by view.now.scenario (B.books books.now)
         (action.Call target iface method args.now to) made.deed) }
 {
-    let connected = is_connected(books, target);
-    let refusal = call_refusal(view, lane, target, iface, method, connected);
+    let is_live = is_connected(books, target);
+    let refusal = call_refusal(view, lane, target, iface, method, is_live);
     let route = route(view, lane, target, refusal);
     let values = arguments(
         view,
@@ -258,17 +258,17 @@ fn reply_on<B: Found>(
     books: &B,
     alloc: Global,
     lane: u32,
-    wanted: bool,
+    is_wanted: bool,
     answer: HResult,
     value: Option<&Value>,
 ) -> Result<Sending, Memory>
     ensures bytes { IfOk result (λ made. made.bytes
-        ≡ reply_for view.now.scenario (sight_by view.now (B.books books.now)) lane wanted answer
+        ≡ reply_for view.now.scenario (sight_by view.now (B.books books.now)) lane is_wanted answer
         (option_copied value.entry)) }
-    ensures carried { IfOk result (λ made. made.carried ≡ (if wanted
+    ensures carried { IfOk result (λ made. made.carried ≡ (if is_wanted
         then carried (result_list (option_copied value.entry)) else [])) }
 {
-    if wanted {
+    if is_wanted {
         reply_with(view, books, alloc, lane, answer, value)
     } else {
         Ok(nothing_sent(alloc))
@@ -303,18 +303,18 @@ fn left_as<B: Found>(
     ensures carried { IfOk result (λ made. (x : Action)
         → made.carried ≡ carried_by view.now.scenario (B.books books.now) x made.deed) }
 {
-    let marshalled = issue.route.is_marshalled();
+    let is_marshalled = issue.route.is_marshalled();
     let kind = result_kind(view, issue.iface, issue.method);
     let value = sent_result(
         alloc,
-        marshalled,
+        is_marshalled,
         &Connected { refs: books },
         answer,
         kind,
         value,
     )?;
-    let wanted = marshalled && !view.calls.is_returned(call);
-    let sending = reply_on(view, books, alloc, lane, wanted, answer, value.as_ref())?;
+    let is_wanted = is_marshalled && !view.calls.is_returned(call);
+    let sending = reply_on(view, books, alloc, lane, is_wanted, answer, value.as_ref())?;
     Ok(Doing {
         deed: Deed::Leave {
             call,

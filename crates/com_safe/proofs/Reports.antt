@@ -9,11 +9,11 @@ use Rattle.com_model.specs.declared.scenario.Scenario.{Scenario}
 use Rattle.com_books.specs.Counting.{sum_below}
 use Rattle.com_model.specs.Apartments.{apartments}
 use Rattle.com_model.specs.Objects.{objects, finaled}
-use Rattle.com_books.specs.Changes.{Books, packet_holds_of, cookie_holds_of, held}
+use Rattle.com_books.specs.Changes.{Books, packet_holds_of, cookie_holds_of, held, is_normal, in_normal, in_table, in_cookie}
 use Rattle.com_books.specs.declared.keeps.Packet.{Packet}
 use Rattle.com_books.specs.declared.keeps.Cookie.{Cookie}
 use Rattle.com_model.specs.Books.{books}
-use Rattle.com_model.specs.Ends.{state_of, is_normal, in_normal, in_table, in_cookie, over_interfaces, counts_of}
+use Rattle.com_model.specs.Ends.{state_of, over_interfaces, counts_of}
 use Rattle.com_model.specs.Safe.{EachPrefix, Balanced}
 use Rattle.com_model.specs.Rules.{legal}
 use Rattle.com_model.specs.Formed.{Formed}

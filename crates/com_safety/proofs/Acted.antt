@@ -114,7 +114,7 @@ got_with-acted v l g k true = tt
 got_with-acted v l g k false = tt
 
 got_by-acted : (v : Sight) (l : ℕ) (g : ℤ) (k : Cookie) → OfAction Common (got_by v l g k)
-got_by-acted v l g k = cond-of (OfAction Common) k.revoked (deed.Get g None 0 E_INVALIDARG) (got_with v l g k) tt (got_with-acted v l g k (v.books.live k.object))
+got_by-acted v l g k = cond-of (OfAction Common) k.is_revoked (deed.Get g None 0 E_INVALIDARG) (got_with v l g k) tt (got_with-acted v l g k (v.books.live k.object))
 
 got-acted : (v : Sight) (l : ℕ) (g : ℤ) (a : Option ℕ) → OfAction Common (got v l g a)
 got-acted v l g None = tt

@@ -7,9 +7,10 @@ use Rattle.com_body.specs.declared.actions.Action.TheVariants as action
 use Rattle.com_body.specs.declared.frame.Cells.{Cells}
 use Rattle.com_body.specs.declared.frame.Outcome.{Outcome}
 use Rattle.com_body.specs.Frames.{FrameView, entered, with_register, with_slot}
+use Rattle.com_body.specs.Operands.{new_cells}
 use Rattle.com_model.specs.declared.deeds.Deed.{Deed}
 use Rattle.com_model.specs.declared.deeds.Deed.TheVariants as deed
-use Rattle.com_model.specs.Frames.{Write as Writing, new_cells, with_link, writes}
+use Rattle.com_model.specs.Frames.{Write as Writing, with_link, writes}
 use Rattle.com_model.specs.State.{SceneTables}
 use Rattle.com_state.specs.SceneParts.{row_written, row_wanted, rows_framed, rows_acted}
 use Rattle.com_scene.specs.declared.actor.Actor.{Actor}

@@ -2,7 +2,8 @@
 use Rattle.std.specs.Prelude.{ℕ, ◌+◌, []}
 use Rattle.com_body.specs.declared.operands.Destination.TheVariants as destination
 use Rattle.com_body.specs.Frames.{FrameView, entered}
-use Rattle.com_model.specs.Frames.{Actor as Acting, Body, Script, Nobody, new_cells}
+use Rattle.com_body.specs.Operands.{new_cells}
+use Rattle.com_model.specs.Frames.{Actor as Acting, Body, Script, Nobody}
 use Rattle.com_model.specs.Lists.{tabulated}
 use Rattle.com_model.specs.State.{SceneTables}
 use Rattle.com_state.specs.SceneParts.{body_at, script_at}

@@ -9,10 +9,11 @@ use Rattle.com_body.specs.declared.frame.Cells.{Cells}
 use Rattle.com_body.specs.declared.frame.Outcome.{Outcome}
 use Rattle.com_body.specs.declared.operands.Destination.TheVariants as destination
 use Rattle.com_body.specs.Frames.{FrameView, entered, with_register, with_slot}
+use Rattle.com_body.specs.Operands.{new_cells}
 use Rattle.com_model.specs.declared.deeds.Deed.{Deed}
 use Rattle.com_model.specs.declared.deeds.Deed.TheVariants as deed
 use Rattle.com_model.specs.Frames.{Write as Writing, ToRegister, ToSlot, ToLink, ToBuffer, to_answer}
-use Rattle.com_model.specs.Frames.{to_place, taken_in, cookie_in, marshalled_in, new_cells, with_link}
+use Rattle.com_model.specs.Frames.{to_place, taken_in, cookie_in, marshalled_in, with_link}
 use Rattle.com_model.specs.State.{SceneTables}
 use Rattle.com_state.specs.SceneParts.{with_body, with_script, with_cells, with_buffer, without_links}
 use Rattle.com_state.specs.SceneParts.{rows_acted}

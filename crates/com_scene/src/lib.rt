@@ -10,6 +10,7 @@ mod act;
 mod actor;
 mod apply;
 mod arrive;
+mod fitting;
 mod prepare;
 mod readers;
 mod scene;
@@ -17,5 +18,6 @@ mod tables;
 mod writes;
 
 pub use actor::Actor;
+pub use fitting::fits_deed;
 pub use scene::Scene;
 pub use writes::given_reference;

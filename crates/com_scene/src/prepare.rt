@@ -34,7 +34,13 @@ pub struct Taken {
 
 impl Taken {
     /// Nothing was taken.
-    pub fn nothing() -> Taken {
+    pub fn nothing() -> Taken
+        ensures acting { result.acting ≡ None }
+        ensures packet { result.packet ≡ None }
+        ensures after { result.after ≡ None }
+        ensures body { result.body ≡ None }
+        ensures value { result.value ≡ None }
+    {
         Taken {
             acting: None,
             packet: None,

@@ -11,6 +11,7 @@ use Rattle.com_body.specs.declared.operands.Destination.{Destination}
 use Rattle.com_body.specs.declared.operands.Destination.TheVariants as destination
 use Rattle.com_body.specs.declared.frame.Outcome.{Outcome}
 use Rattle.com_body.specs.Frames.{entered}
+use Rattle.com_body.specs.Operands.{new_cells}
 use Rattle.com_model.specs.declared.deeds.Deed.{Deed}
 use Rattle.com_model.specs.declared.deeds.Deed.TheVariants as deed
 use Rattle.com_model.specs.declared.deeds.Entry.{Entry}
@@ -22,7 +23,7 @@ use Rattle.com_model.specs.Tables.{threads}
 use Rattle.com_model.specs.Apartments.{ends_sta}
 use Rattle.com_model.specs.Objects.{makes}
 use Rattle.com_model.specs.Calls.{issues}
-use Rattle.com_model.specs.Frames.{Scene, Actor, Body, Script, Nobody, Write, ToRegister, ToSlot, ToLink, ToBuffer, new_cells, writes, written, with_frame, wants, acted, arrived, cut_links}
+use Rattle.com_model.specs.Frames.{Scene, Actor, Body, Script, Nobody, Write, ToRegister, ToSlot, ToLink, ToBuffer, writes, written, with_frame, wants, acted, arrived, cut_links}
 use Rattle.com_model.specs.State.{State, SceneTables, grown, issued_by, scene_tables, scene_next, scene_in, after, named_in}
 use Rattle.com_model.proofs.Tabled.{length-grown, length-tabulated, tabulated-row}
 use Rattle.com_state.specs.SceneParts.{with_rows, rows_acted, rows_arrived, rows_after, links_cut, destination_at}

@@ -13,11 +13,12 @@ use Rattle.com_body.specs.declared.operands.Destination.{Destination}
 use Rattle.com_body.specs.declared.frame.Cells.{Cells}
 use Rattle.com_body.specs.declared.frame.Outcome.{Outcome}
 use Rattle.com_body.specs.Frames.{FrameView, entered}
+use Rattle.com_body.specs.Operands.{new_cells}
 use Rattle.com_model.specs.declared.deeds.Deed.{Deed}
 use Rattle.com_model.specs.declared.deeds.Deed.TheVariants as deed
 use Rattle.com_model.specs.Answers.{S_OK}
 use Rattle.com_model.specs.Lists.{put, each_from, tabulated}
-use Rattle.com_model.specs.Frames.{Scene, Actor, Body, Script, Nobody, Write, ToRegister, ToSlot, ToLink, ToBuffer, new_cells, writes, to_answer, to_destination, written, with_frame, wants, acted, arrived, cut_links}
+use Rattle.com_model.specs.Frames.{Scene, Actor, Body, Script, Nobody, Write, ToRegister, ToSlot, ToLink, ToBuffer, writes, to_answer, to_destination, written, with_frame, wants, acted, arrived, cut_links}
 use Rattle.com_model.specs.State.{SceneTables, grown}
 use Rattle.com_model.proofs.Tabled.{length-tabulated, within-tabulated}
 use Rattle.com_state.specs.SceneParts.{row_written, rows_framed, row_wanted, rows_acted, rows_arrived, links_cut, destination_at, without_links}

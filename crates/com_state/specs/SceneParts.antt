@@ -9,6 +9,7 @@ use Rattle.com_body.specs.declared.actions.Action.TheVariants as action
 use Rattle.com_body.specs.declared.frame.Cells.{Cells}
 use Rattle.com_body.specs.declared.frame.Outcome.{Outcome}
 use Rattle.com_body.specs.Frames.{FrameView, entered, with_register, with_slot}
+use Rattle.com_body.specs.Operands.{new_cells}
 use Rattle.com_model.specs.declared.deeds.Deed.{Deed}
 use Rattle.com_model.specs.declared.deeds.Deed.TheVariants as deed
 use Rattle.com_model.specs.declared.deeds.Entry.{Entry}
@@ -17,7 +18,7 @@ use Rattle.com_model.specs.Lists.{each_from}
 use Rattle.com_model.specs.Apartments.{ends_sta}
 use Rattle.com_model.specs.Objects.{makes}
 use Rattle.com_model.specs.Frames.{Actor, Body, Script, Nobody, Write, ToRegister, ToSlot, ToLink, ToBuffer}
-use Rattle.com_model.specs.Frames.{new_cells, with_link, writes, to_answer, to_destination}
+use Rattle.com_model.specs.Frames.{with_link, writes, to_answer, to_destination}
 use Rattle.com_model.specs.State.{SceneTables, grown, issued_by}
 use Rattle.std.specs.Prelude.{is_some}
 

@@ -60,18 +60,18 @@ module _ (rs : List StubRow) (keys : List ℕ) (o : ℕ) (e : keys ≡ stub_obje
   pub connected_none : (found : Option ℕ) → IsLatest keys o (length keys) found → found ≡ None → is_connected rs o ≡ false
   connected_none found l is =
       let none : stub_index rs o ≡ length rs = absent (subst (IsLatest keys o (length keys)) is l) in
-      ap (λ r. r.connected) (no_stub_index rs o (omega arith))
+      ap (λ r. r.is_connected) (no_stub_index rs o (omega arith))
 
   index_found : (p : ℕ) → IsLatest keys o (length keys) (Some p) → (p < length rs) × ((stub_at rs p).object ≡ o)
   index_found p l =
       let same : reach (Some p) - 1 ≡ p = omega arith in
       (omega (arith, l.within, many), sym (key_at p) ∙ subst (λ q. slice_index keys q ≡ o) same (l.keyed (omega arith)))
 
-  pub connected_at : (found : Option ℕ) (p : ℕ) → IsLatest keys o (length keys) found → found ≡ Some p → is_connected rs o ≡ (stub_at rs p).connected
+  pub connected_at : (found : Option ℕ) (p : ℕ) → IsLatest keys o (length keys) found → found ≡ Some p → is_connected rs o ≡ (stub_at rs p).is_connected
   connected_at found p l is =
       let at = index_found p (subst (IsLatest keys o (length keys)) is l) in
       let index : stub_index rs o ≡ p = rw (← at.1) (each p at.0) in
-      ap (λ r. r.connected) (sym (stub_row rs o (rw index at.0)) ∙ ap (stub_at rs) index)
+      ap (λ r. r.is_connected) (sym (stub_row rs o (rw index at.0)) ∙ ap (stub_at rs) index)
 
   other_row : (p q : ℕ) → (p < length rs) × ((stub_at rs p).object ≡ o) → q < length rs → (q ≡ p → ⊥) → (stub_at rs q).object ≡ o → ⊥
   other_row p q at h apart same =
@@ -87,16 +87,16 @@ module _ (rs : List StubRow) (keys : List ℕ) (o : ℕ) (e : keys ≡ stub_obje
         | inr other ↦ sym (grind (arith, ended_at rs o p, other))
       ])
 
-  pub ended_found : (found : Option ℕ) (p : ℕ) → IsLatest keys o (length keys) found → found ≡ Some p → slice_set rs p (record (stub_at rs p) { connected = false }) ≡ ended_rows o rs
+  pub ended_found : (found : Option ℕ) (p : ℕ) → IsLatest keys o (length keys) found → found ≡ Some p → slice_set rs p (record (stub_at rs p) { is_connected = false }) ≡ ended_rows o rs
   ended_found found p l is =
       let at = index_found p (subst (IsLatest keys o (length keys)) is l) in
-      let x : StubRow = record (stub_at rs p) { connected = false } in
+      let x : StubRow = record (stub_at rs p) { is_connected = false } in
       ext_get_or (no_stub 0) (slice_set rs p x) (ended_rows o rs) (length-set rs p x ∙ sym (length-map rs (ended_row o))) (λ q h. elim (cases_eq q p) [
         | inl same ↦
             let mine : (stub_at rs q).object ≡ o = rw same at.1 in
             let set : stub_at (slice_set rs p x) q ≡ x = rw same (get_or-set_same rs p x (no_stub 0) at.0) in
-            let ended : stub_at (ended_rows o rs) q ≡ record (stub_at rs q) { connected = false } = grind (arith, ended_at rs o q, mine) in
-            set ∙ ap (λ n. record (stub_at rs n) { connected = false }) (sym same) ∙ sym ended
+            let ended : stub_at (ended_rows o rs) q ≡ record (stub_at rs q) { is_connected = false } = grind (arith, ended_at rs o q, mine) in
+            set ∙ ap (λ n. record (stub_at rs n) { is_connected = false }) (sym same) ∙ sym ended
         | inr apart ↦
             let there : q < length rs = rw (← length-set rs p x) h in
             let other = other_row p q at there apart in

@@ -4,7 +4,7 @@ use Rattle.std.specs.Prelude.{length, slice_index_or}
 use Rattle.com_stub.specs.declared.StubRow.{StubRow}
 
 abbrev pub no_stub : ℕ → StubRow
-no_stub object = record { object = object; connected = false }
+no_stub object = record { object = object; is_connected = false }
 
 abbrev pub has_stub : List StubRow → ℕ → Bool
 has_stub [] object = false
@@ -16,7 +16,7 @@ stub_of [] object = no_stub object
 stub_of (row ∷ rows) object = if row.object == object then row else stub_of rows object
 
 abbrev pub is_connected : List StubRow → ℕ → Bool
-is_connected rows object = (stub_of rows object).connected
+is_connected rows object = (stub_of rows object).is_connected
 
 -- where that row stands, or the number of rows
 abbrev pub stub_index : List StubRow → ℕ → ℕ
@@ -25,7 +25,7 @@ stub_index (row ∷ rows) object = if row.object == object then 0 else stub_inde
 
 -- the row is no longer connected, if it is of the object
 abbrev pub ended_row : ℕ → StubRow → StubRow
-ended_row object row = if row.object == object then record row { connected = false } else row
+ended_row object row = if row.object == object then record row { is_connected = false } else row
 
 abbrev pub ended_rows : ℕ → List StubRow → List StubRow
 ended_rows object rows = map (ended_row object) rows

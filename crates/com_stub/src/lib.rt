@@ -26,7 +26,7 @@ pub struct StubRow {
     /// The number of the object.
     pub object: u32,
     /// Whether the object is connected.
-    pub connected: bool,
+    pub is_connected: bool,
 }
 
 /// Why references were not added to a stub.
@@ -73,7 +73,7 @@ fn is_live(stubs: &[StubRow], chains: &Chains, object: u32) -> bool
 {
     match chains.last(object) {
         None => false,
-        Some(index) => stubs[index].connected,
+        Some(index) => stubs[index].is_connected,
     }
 }
 
@@ -84,7 +84,7 @@ fn end(stubs: &mut [StubRow], chains: &Chains, object: u32)
     ensures { stubs.new ≡ ended_rows object stubs.old }
 {
     if let Some(index) = chains.last(object) {
-        stubs[index].connected = false;
+        stubs[index].is_connected = false;
     }
 }
 
@@ -121,7 +121,7 @@ impl Stubs {
         requires new { has_stub self.old.stubs object ≡ false }
         requires few { length set.now ≤ 17 }
         ensures ok { OnOk result (self.new.stubs
-            ≡ self.old.stubs ++ record { object = object; connected = true } ∷ []) }
+            ≡ self.old.stubs ++ record { object = object; is_connected = true } ∷ []) }
         ensures opened { OnOk result (self.new.counters ≡ opened_all object set.now self.old.counters) }
         ensures err { OnErr result (self.new.stubs ≡ self.old.stubs) }
         ensures kept { OnErr result (self.new.counters ≡ self.old.counters) }
@@ -135,7 +135,7 @@ impl Stubs {
         self.chains.append(object);
         self.stubs.push_reserved(StubRow {
             object,
-            connected: true,
+            is_connected: true,
         });
         Ok(())
     }

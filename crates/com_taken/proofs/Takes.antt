@@ -1,6 +1,6 @@
 -- From what entries name to what the parts ask.
 use Rattle.std.proofs.Common.{subst, sym, arith}
-use Rattle.std.specs.Prelude.{◌≡◌, ℕ, ℤ, pos, negsuc, ◌+◌, ◌-◌, ◌<◌, ◌≤◌, ◌^◌, Bool, true, false, cond, nat_lt, List, length, Option, Some, None, slice_index_or}
+use Rattle.std.specs.Prelude.{◌≡◌, ℕ, ℤ, pos, negsuc, ◌-◌, ◌≤◌, Bool, true, false, cond, nat_lt, List, length, Option, Some, None, slice_index_or}
 use Rattle.com_body.specs.declared.frame.Outcome.{Outcome}
 use Rattle.com_bounds.specs.Bounds.{IssuedCall, NextCall, TakesBack as OneLess, FitsParts, StepWrites}
 use Rattle.com_bounds.proofs.Fitting.{entry-fits}

@@ -33,7 +33,7 @@ impl Plays for Brand {
 pub(crate) struct Book<C: Jobs + Drop, J: Plays> {
     // In a box, since the turnstile moves the book at each enter and each leave.
     desk: Box<Desk<C>>,
-    failed: bool,
+    has_failed: bool,
     of: PhantomData<J>,
 }
 
@@ -46,7 +46,7 @@ impl<C: Jobs + Drop, J: Plays> Model for Book<C, J> {
 
     ghost view = { λ b. b.desk.value.pages.entries };
 
-    ghost invariant = { λ b. b.failed ≡ false → UpToDate J.scenario (C.scenario b.desk.value.core)
+    ghost invariant = { λ b. b.has_failed ≡ false → UpToDate J.scenario (C.scenario b.desk.value.core)
         (C.state b.desk.value.core) b.desk.value.pages };
 }
 
@@ -59,7 +59,7 @@ impl<C: Jobs + Drop, J: Plays> Book<C, J> {
     {
         Ok(Book {
             desk: Box::new(alloc, desk)?,
-            failed: false,
+            has_failed: false,
             of: PhantomData,
         })
     }
@@ -79,13 +79,13 @@ impl<C: Jobs + Drop, J: Plays> Book<C, J> {
         ensures adds { Adds lane self.old self.new }
         ensures work { IsWork scenario.now work.new }
     {
-        if self.failed {
+        if self.has_failed {
             return Turn::Over;
         }
         match self.desk.turn(alloc, scenario, lane, work) {
             Ok(turn) => turn,
             Err(_) => {
-                self.failed = true;
+                self.has_failed = true;
                 Turn::Over
             }
         }
@@ -94,7 +94,7 @@ impl<C: Jobs + Drop, J: Plays> Book<C, J> {
     #[tactic(auto, using(crate::proofs::Added::reached_at))]
     // Whether the worker of a lane has something to do.
     pub(crate) fn calls(&self, lane: u32) -> bool {
-        if self.failed {
+        if self.has_failed {
             return true;
         }
         if lane < 1 || lane > self.desk.core.lanes() {
@@ -120,10 +120,10 @@ impl<C: Jobs + Drop, J: Plays> Book<C, J> {
     {
         let Book {
             desk,
-            failed,
+            has_failed,
             of: _,
         } = self;
-        if failed {
+        if has_failed {
             return Err(Memory);
         }
         Ok(Box::into_inner(desk))

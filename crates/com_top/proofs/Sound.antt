@@ -1,5 +1,5 @@
 -- The one history of every input that is a scenario is safe.
-use Rattle.std.proofs.Common.{◌≡◌, ℕ, List, Bool, true, false, Result, Ok, Err, refl, subst, if◌then◌else◌}
+use Rattle.std.proofs.Common.{ℕ, List, Bool, true, false, Result, Ok, Err, refl, subst, if◌then◌else◌}
 use Rattle.com_model.specs.declared.scenario.Scenario.{Scenario}
 use Rattle.com_model.specs.Formed.{Formed}
 use Rattle.com_read_operands.specs.declared.faults.Fault.{Fault}

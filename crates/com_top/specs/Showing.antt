@@ -27,7 +27,7 @@ status_for false = status.Refused
 -- The status and the text of a text of digits: 0 with its fields where it spells an OBJREF, and 2 with the
 -- line of its first fault where it does not.
 pub record IsShown (digits : List ℕ) (s : Status) (text : List ℕ) : Type 0 where
-  pub status_is : s ≡ status_for (shown_of digits).found
+  pub status_is : s ≡ status_for (shown_of digits).is_found
   pub written : text ≡ (shown_of digits).text
 
 found_concludes : (found : Bool) → Concludes (status_for found)
@@ -36,4 +36,4 @@ found_concludes false = tt
 
 pub shown_concludes : (digits : List ℕ) (s : Status) (text : List ℕ) → IsShown digits s text → Concludes s
 shown_concludes digits s text is =
-    subst (λ (x : Status). Concludes x) (sym is.status_is) (found_concludes (shown_of digits).found)
+    subst (λ (x : Status). Concludes x) (sym is.status_is) (found_concludes (shown_of digits).is_found)

@@ -54,15 +54,19 @@ fn show_digits(alloc: Global, digits: &[u8]) -> Result<Reply, Memory>
 {
     let shown = show(alloc, digits)?;
     Ok(Reply {
-        status: status_for(shown.found),
+        status: status_for(shown.is_found),
         text: shown.text,
     })
 }
 
-fn status_for(found: bool) -> Status
-    ensures { result ≡ status_for found }
+fn status_for(is_found: bool) -> Status
+    ensures { result ≡ status_for is_found }
 {
-    if found { Status::Done } else { Status::Refused }
+    if is_found {
+        Status::Done
+    } else {
+        Status::Refused
+    }
 }
 
 /// Reads hexadecimal text from the source, and shows the fields of the OBJREF that it spells, or its first

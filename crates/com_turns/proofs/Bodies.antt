@@ -7,9 +7,10 @@ use Rattle.com_body.specs.declared.frame.Native.{Native}
 use Rattle.com_body.specs.declared.statements.Stmt.{Stmt}
 use Rattle.com_body.specs.BodySteps.{body_step}
 use Rattle.com_body.specs.Frames.{FrameView}
+use Rattle.com_body.specs.Operands.{new_cells}
 use Rattle.com_model.specs.declared.keeps.Issue.{Issue}
 use Rattle.com_model.specs.declared.scenario.Scenario.{Scenario}
-use Rattle.com_model.specs.Frames.{issued_body, new_cells}
+use Rattle.com_model.specs.Frames.{issued_body}
 use Rattle.com_model.specs.Tables.{script}
 use Rattle.com_servant.specs.Rows.{index_of, one_more, one_served}
 use Rattle.com_jobs.specs.Jobs.{job_by}

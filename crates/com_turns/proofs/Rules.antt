@@ -22,8 +22,8 @@ use Rattle.com_model.specs.Sight.{Sight}
 use Rattle.com_model.specs.Tables.{LaneSort, Thread, Host, Pool, NoLane, lane_sort}
 use Rattle.com_model.specs.Waiting.{bound_reached, mark_of, not_asked}
 use Rattle.com_model.proofs.Given.{Given, given-or, given-where, given-map, given-then, cond-of}
+use Rattle.com_model.specs.Openers.{is_body}
 use Rattle.com_rules.proofs.Chains.{none_first}
-use Rattle.com_view.specs.Nexts.{is_body}
 use Rattle.com_turns.specs.Turns.{IsRule, carried_with}
 
 pub issues_none : (l : ℕ) (d : Deed) → IsRule d → issues l d ≡ None

@@ -26,7 +26,8 @@ use Rattle.com_view.specs.Reads.{Reads}
 use Rattle.com_view.specs.Seen.{Seen, filter_seen, sight_by}
 use Rattle.com_view.proofs.Sights.{reads_state}
 use Rattle.com_turns.specs.declared.turns.Turn.{Turn}
-use Rattle.com_turns.specs.Turns.{IsIssued, IsNext, acting_seen, actor_later, carried_seen, carried_with, deed_made, issuing_seen, kind_above, kind_seen, outcome_seen, step_seen, told_of}
+use Rattle.com_drive.specs.Turns.{body_kind}
+use Rattle.com_turns.specs.Turns.{IsIssued, IsNext, acting_seen, actor_later, carried_seen, carried_with, deed_made, issuing_seen, kind_seen, outcome_seen, step_seen, told_of}
 
 sorted_lane : (s : Scenario) (v : Sight) (l : ℕ) (a b c e : Bool) → a ≡ false → e ≡ true
     → next_by s v (cond a NoLane (cond b Thread (cond c Host (cond e Pool NoLane)))) l ≡ lane_next s v l
@@ -90,9 +91,9 @@ filtered_stands w b st l d h =
     ap (λ (v : Sight). filtered_by (λ c. is_some (v.filter (lane_of (v.issue c)))) d) (sym (reads_state w b st h))
 
 pub kind_stands : (w : Seen) (b : Books) (st : State) (l : ℕ) → Reads w b st
-    → kind_seen w l ≡ kind_above w.scenario (class_in st) (first (openers_in st l))
+    → kind_seen w l ≡ body_kind w.scenario (class_in st) (first (openers_in st l))
 kind_stands w b st l h =
-    ap (λ (v : Sight). kind_above w.scenario v.class (first (v.openers l))) (sym (reads_state w b st h))
+    ap (λ (v : Sight). body_kind w.scenario v.class (first (v.openers l))) (sym (reads_state w b st h))
 
 -- What the calls are told of the call that an entry issues makes of them what the state's change makes of them.
 same_issuing : (o : ObjectTables) (m : Moment) (i j : Issuing) (t : CallTables) (e : Entry) → i ≡ j → calls_after o m i t e ≡ calls_after o m j t e

@@ -15,12 +15,12 @@ use Rattle.com_model.specs.Lists.{or_else, where_true, first}
 use Rattle.com_model.specs.Rules.{after_script, is_script_turn, lane_next, rule_final, rule_script, ruled, scripted, stepped, top}
 use Rattle.com_model.specs.Sight.{Sight}
 use Rattle.com_model.specs.Tables.{LaneSort, Thread, lane_sort}
+use Rattle.com_model.specs.Openers.{is_body}
 use Rattle.com_rules.specs.Acts.{Issues, carried_by}
 use Rattle.com_rules.proofs.Chains.{none_first}
 use Rattle.com_scene.specs.Actors.{acting_of}
 use Rattle.com_safety.proofs.Acted.{OfAction, action_sort, deed-acted}
 use Rattle.com_state.specs.Parts.{openers_at}
-use Rattle.com_view.specs.Nexts.{is_body}
 use Rattle.com_view.specs.Seen.{Seen, sight_by}
 use Rattle.com_turns.specs.declared.turns.Turn.{Turn}
 use Rattle.com_turns.specs.Turns.{ByRule, IsIssued, IsRule, IsTurn, Steps, acting_seen, actor_seen, body_seen, carried_with, issuing_with, outcome_seen, script_seen}

@@ -6,6 +6,7 @@ use Rattle.com_body.specs.declared.actions.Action.{Action}
 use Rattle.com_body.specs.declared.frame.Native.{Native}
 use Rattle.com_body.specs.declared.frame.Outcome.{Outcome}
 use Rattle.com_body.specs.BodySteps.{body_step}
+use Rattle.com_body.specs.Operands.{new_cells}
 use Rattle.com_books.specs.Changes.{Books}
 use Rattle.com_calls.specs.declared.rows.Issued.{Issued}
 use Rattle.com_model.specs.declared.deeds.Deed.{Deed}
@@ -17,7 +18,7 @@ use Rattle.com_model.specs.Answers.{S_OK}
 use Rattle.com_model.specs.Books.{out_values}
 use Rattle.com_model.specs.Calls.{issues, object_of}
 use Rattle.com_model.specs.Frames.{Actor as Acting, Body, Nobody, actor, script_of, acting, issued_body}
-use Rattle.com_model.specs.Frames.{new_cells, outcome, unless_over}
+use Rattle.com_model.specs.Frames.{outcome, unless_over}
 use Rattle.com_model.specs.Issue.{action_refusal, or_ok}
 use Rattle.com_model.specs.Lists.{first}
 use Rattle.com_model.specs.Rules.{lane_next}
@@ -25,7 +26,7 @@ use Rattle.com_model.specs.State.{is_marshalled_by, scene_read}
 use Rattle.com_model.specs.Values.{carried, result_list}
 use Rattle.com_model.specs.Tables.{LaneSort, lane_sort, script}
 use Rattle.com_scene.specs.Actors.{acting_of}
-use Rattle.com_servant.specs.Steps.{native_at}
+use Rattle.com_drive.specs.Turns.{body_kind}
 use Rattle.com_state.specs.Parts.{Issuing, class_at, issue_at, named_at, openers_at, lanes_after}
 use Rattle.com_state.specs.SceneParts.{body_at, cells_at, script_at}
 use Rattle.com_view.specs.Seen.{Seen, home_seen, running_seen, sight_by}
@@ -140,10 +141,6 @@ pub record ByRule (w : Seen) (b : Books) (l : ℕ) (d : Deed) : Type 0 where
 
 -- ---- the steps of servants
 
--- The kind of class whose body is innermost, where one is.
-abbrev pub kind_above : Scenario → (class : ℕ → ℕ) → Option Opener → Option Native
-kind_above s class (Some (Enters c o a)) = native_at s.classes (class o)
-kind_above s class _ = None
-
+-- The kind of class whose body runs at the top of a lane, where one does.
 abbrev pub kind_seen : Seen → ℕ → Option Native
-kind_seen w l = kind_above w.scenario (class_at w.objects) (first (openers_at w.lanes l))
+kind_seen w l = body_kind w.scenario (class_at w.objects) (first (openers_at w.lanes l))

@@ -1,7 +1,7 @@
 //! What of the lanes an entry's change rests on: who acts after it, and whether a caller has a message
 //! filter.
 
-ghost use Rattle.std.specs.Prelude.{◌≡◌, ◌≤◌, ◌<◌, ◌^◌, is_some, length};
+ghost use Rattle.std.specs.Prelude.{◌≡◌, ◌<◌, ◌^◌, is_some, length};
 ghost use Rattle.com_model.specs.Calls.{lane_of};
 ghost use Rattle.com_model.specs.Frames.{actor};
 ghost use Rattle.com_model.specs.Lists.{first, without_first};

@@ -16,8 +16,9 @@ ghost use Rattle.com_state.specs.After.{acting_in, actor_after, filtered_by, iss
 ghost use Rattle.com_state.specs.Parts.{CallTables, Moment, ObjectTables, calls_after, issue_at, openers_at};
 ghost use Rattle.com_view.specs.Reads.{Reads};
 ghost use Rattle.com_view.specs.Seen.{Seen, filter_seen, sight_by};
+ghost use Rattle.com_drive.specs.Turns.{body_kind};
 ghost use Rattle.com_turns.specs.Turns.{IsIssued, acting_seen, actor_later, carried_seen, carried_with};
-ghost use Rattle.com_turns.specs.Turns.{issuing_seen, kind_above, kind_seen, step_seen, told_of};
+ghost use Rattle.com_turns.specs.Turns.{issuing_seen, kind_seen, step_seen, told_of};
 
 /// Where the parts that are read are those of a state, a turn is that of the state: its entry is the
 /// state's next one of the lane; who makes it, that step, who acts afterwards, what the call has that it
@@ -44,7 +45,7 @@ pub fn reads_the_turn()
         filtered_by (λ c. is_some (filter_seen w (lane_of (issue_at w.calls.tables c)))) d
         ≡ (moment_in w.scenario st (record { lane = l; deed = d })).filtered }
     ensures kind { (w : Seen) (b : Books) (st : State) (l : ℕ) → Reads w b st →
-        kind_seen w l ≡ kind_above w.scenario (class_in st) (first (openers_in st l)) }
+        kind_seen w l ≡ body_kind w.scenario (class_in st) (first (openers_in st l)) }
 {}
 
 /// The clock's entry, in its lane where nothing is open, is nobody's step, issues no call and carries

@@ -3,13 +3,11 @@
 #![tactic(auto)]
 
 mod after;
-mod fitting;
 mod laws;
 mod steps;
 mod turns;
 
 pub use after::{actor_after, is_filtered};
 pub use com_base::Memory;
-pub use fitting::fits_deed;
 pub use laws::{nobody_acts_for_the_clock, reads_the_turn};
 pub use turns::{Turn, given_turn, next_turn, own_turn};

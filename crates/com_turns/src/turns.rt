@@ -8,13 +8,13 @@ ghost use Rattle.com_model.specs.Frames.{Nobody, is_leave};
 ghost use Rattle.com_model.specs.Lists.{first};
 ghost use Rattle.com_model.specs.Rules.{is_script_turn, lane_next, next_by, rule_final, top};
 ghost use Rattle.com_model.specs.Tables.{lane_sort, lanes};
+ghost use Rattle.com_model.specs.Openers.{is_body};
 ghost use Rattle.com_moves.specs.Steps.{BodiesWhole, IsWhole};
 ghost use Rattle.com_rules.specs.Acts.{Issues, carried_by};
 ghost use Rattle.com_scene.specs.Actors.{acting_of};
 ghost use Rattle.com_servant.specs.Rows.{one_served, row};
 ghost use Rattle.com_state.specs.Parts.{openers_at};
 ghost use Rattle.com_turns.specs.Turns.{IsNext, IsTurn, Steps, body_seen, deed_made, kind_seen};
-ghost use Rattle.com_view.specs.Nexts.{is_body};
 ghost use Rattle.com_view.specs.Seen.{bare, sight_by};
 
 use crate::steps::{body_step, script_step, unproved_fact};

@@ -1,5 +1,5 @@
 -- Whether some number from 1 on passes a test, and the least of the times of such numbers.
-use Rattle.std.proofs.Common.{◌≡◌, ℕ, zero, suc, ◌+◌, ◌<◌, Bool, true, false, ◌||◌, min, List, [], ◌∷◌, ◌++◌, Option, Some, None, refl, ap, ◌∙◌, add-one, arith}
+use Rattle.std.proofs.Common.{◌≡◌, ℕ, zero, suc, ◌+◌, Bool, true, false, ◌||◌, min, List, [], ◌∷◌, ◌++◌, Option, Some, None, refl, ap, ◌∙◌, add-one, arith}
 use Rattle.std.specs.List.{filter_map}
 use Rattle.std.proofs.lemmas.List.Elements.{filter_map-append}
 use Rattle.com_model.specs.Lists.{any_of, one_to, least, lesser}

@@ -1,5 +1,5 @@
 -- The first of a list that passes a test.
-use Rattle.std.proofs.Common.{◌≡◌, ℕ, ◌+◌, ◌<◌, Bool, true, false, List, [], ◌∷◌, Some, filter, drop, get_or, length, refl, ap, sym, ◌∙◌, add-one, drop-cons}
+use Rattle.std.proofs.Common.{◌≡◌, ℕ, ◌+◌, ◌<◌, Bool, true, false, List, ◌∷◌, Some, filter, drop, get_or, length, refl, ap, sym, ◌∙◌, add-one, drop-cons}
 use Rattle.com_model.specs.Lists.{first}
 
 at_true : (f : ℕ → Bool) (x : ℕ) (xs : List ℕ) → f x ≡ true → first (filter f (x ∷ xs)) ≡ Some x

@@ -1,5 +1,5 @@
 -- The sight of a state, read from its parts.
-use Rattle.std.proofs.Common.{◌≡◌, ℕ, ◌+◌, Bool, true, ◌==◌, ◌&&◌, ◌||◌, if◌then◌else◌, suc, List, [], ◌∷◌, filter, refl, ap, ◌∙◌, All, is_none, arith}
+use Rattle.std.proofs.Common.{◌≡◌, ℕ, Bool, true, ◌==◌, ◌&&◌, suc, List, [], ◌∷◌, filter, refl, ap, ◌∙◌, All, is_none, arith}
 use Rattle.com_books.specs.Changes.{Books}
 use Rattle.com_model.specs.declared.scenario.Scenario.{Scenario}
 use Rattle.com_model.specs.Calls.{object_of}

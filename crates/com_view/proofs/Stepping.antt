@@ -11,8 +11,8 @@ use Rattle.com_model.specs.Lists.{first}
 use Rattle.com_model.specs.Rules.{can_step, ruled, top}
 use Rattle.com_model.specs.State.{scene_read}
 use Rattle.com_model.specs.Tables.{lane_sort}
+use Rattle.com_model.specs.Openers.{is_body}
 use Rattle.com_state.specs.Parts.{openers_at, class_at, issue_at}
-use Rattle.com_view.specs.Nexts.{is_body}
 use Rattle.com_view.specs.Seen.{Seen, sight_by}
 
 abbrev stepped_with : (Action → Deed) → Option Action → Option Deed → Option Opener → Option Deed

@@ -1,14 +1,7 @@
 -- What a lane does next, by kind.
-use Rattle.std.specs.Prelude.{Bool, true, false, Option, Some}
-use Rattle.com_model.specs.declared.keeps.Opener.{Opener}
-use Rattle.com_model.specs.declared.keeps.Opener.TheVariants.{Enters}
+use Rattle.std.specs.Prelude.{Bool, true, false}
 use Rattle.com_view.specs.declared.next.Next.{Next}
 use Rattle.com_view.specs.declared.next.Next.TheVariants as next
-
--- Whether the innermost opener is a body.
-abbrev pub is_body : Option Opener → Bool
-is_body (Some (Enters c o a)) = true
-is_body _ = false
 
 -- By whether a body is innermost, whether a rule gives an entry, and whether the lane is over.
 abbrev pub kind_of : (body ruled over : Bool) → Next

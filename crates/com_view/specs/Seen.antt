@@ -1,7 +1,7 @@
 -- What the rules look at, read from the parts of a core.
-use Rattle.std.specs.Prelude.{ℕ, ◌+◌, Bool, false, not, ◌==◌, ◌&&◌, ◌||◌, if◌then◌else◌, List, []}
+use Rattle.std.specs.Prelude.{ℕ, ◌+◌, Bool, false, not, ◌==◌, ◌||◌, if◌then◌else◌, List, []}
 use Rattle.std.specs.Prelude.{Option, None, filter, length, slice_index_or}
-use Rattle.com_books.specs.Changes.{Books}
+use Rattle.com_books.specs.Changes.{Books, no_books}
 use Rattle.com_model.specs.declared.scenario.Scenario.{Scenario}
 use Rattle.com_model.specs.declared.keeps.Phase.TheVariants.{Unposted}
 use Rattle.com_model.specs.Answers.{S_OK}
@@ -29,18 +29,6 @@ pub record Seen : Type 0 where
   pub scene : SceneTables
   pub fallen : List ℕ
   pub clock : ℕ
-
--- Where nobody holds a reference. What a rule gives without references is the same in all books.
-abbrev pub no_books : Books
-no_books = record {
-  stub = λ o i. 0;
-  proxy = λ a o i. 0;
-  packets = [];
-  cookies = [];
-  live = λ o. false;
-  arguments = λ c. [];
-  result = λ c. None;
-}
 
 abbrev pub home_seen : Seen → ℕ → Option ℕ
 home_seen w l = home_by_sort (lane_sort w.scenario l) (slice_index_or w.lanes.homes l None)
@@ -99,5 +87,6 @@ sight_by w b = record {
   buffers = λ p. slice_index_or w.scene.buffers p [];
 }
 
+-- The sight where nobody holds a reference: what a rule gives without references is the same in all books.
 abbrev pub bare : Seen → Sight
 bare w = sight_by w no_books

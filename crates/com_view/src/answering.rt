@@ -25,11 +25,11 @@ fn value_of(ending: &Ending) -> Result<Option<Value>, Memory>
 
 // The Back of a call with this answer; with RPC_E_CLIENT_CANTUNMARSHAL_DATA where the packet of its result is
 // gone.
-fn back_of(call: u32, ending: &Ending, refusal: HResult, gone: bool) -> Result<Deed, Memory>
-    ensures { IfOk result (λ deed. deed ≡ back_with call (if gone
+fn back_of(call: u32, ending: &Ending, refusal: HResult, is_gone: bool) -> Result<Deed, Memory>
+    ensures { IfOk result (λ deed. deed ≡ back_with call (if is_gone
         then without_value RPC_E_CLIENT_CANTUNMARSHAL_DATA else answer_of refusal ending.now)) }
 {
-    if gone {
+    if is_gone {
         return Ok(Deed::Back {
             call,
             hr: HResult::RPC_E_CLIENT_CANTUNMARSHAL_DATA,
@@ -45,16 +45,16 @@ fn back_of(call: u32, ending: &Ending, refusal: HResult, gone: bool) -> Result<D
 }
 
 impl<'a> View<'a> {
-    /// The Back of a call, where it has an answer. `gone` says that its answer is that of a body, and that
+    /// The Back of a call, where it has an answer. `is_gone` says that its answer is that of a body, and that
     /// the packet of its result was given up. The only error is want of memory.
-    pub fn back(&self, call: u32, gone: bool) -> Result<Option<Deed>, Memory>
-        ensures { (b : Books) → result_gone (sight_by self.now b) call (b.result call) ≡ gone →
+    pub fn back(&self, call: u32, is_gone: bool) -> Result<Option<Deed>, Memory>
+        ensures { (b : Books) → result_gone (sight_by self.now b) call (b.result call) ≡ is_gone →
             IfOk result (λ deed. deed ≡ option_map (λ x. back_with call (back_answer
             (sight_by self.now b) call x)) (due_of (sight_by self.now b) call)) }
     {
         match self.calls.ending(call) {
             None => Ok(None),
-            Some(ending) => Ok(Some(back_of(call, ending, self.calls.refusal(call), gone)?)),
+            Some(ending) => Ok(Some(back_of(call, ending, self.calls.refusal(call), is_gone)?)),
         }
     }
 }

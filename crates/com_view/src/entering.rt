@@ -60,17 +60,17 @@ impl<'a> View<'a> {
         })
     }
 
-    // A call that neither the depth of the lane nor its filter turns away. `gone` says that the packet of an
-    // argument was given up.
-    fn let_in(&self, alloc: Global, lane: u32, call: u32, gone: bool) -> Result<Deed, Memory>
-        ensures { IfOk result (λ made. made ≡ (if gone
+    // A call that neither the depth of the lane nor its filter turns away. `is_gone` says that the packet of
+    // an argument was given up.
+    fn let_in(&self, alloc: Global, lane: u32, call: u32, is_gone: bool) -> Result<Deed, Memory>
+        ensures { IfOk result (λ made. made ≡ (if is_gone
             then deed.Refuse call RPC_E_SERVER_CANTUNMARSHAL_DATA
             else deed.Enter call (object_of ((bare self.now).issue call)) ((bare self.now).owner (object_of
             ((bare self.now).issue call)) lane)
             (where_true (posted_to_sta (bare self.now) call) (call_sort (bare self.now) lane call))
             ((bare self.now).unread call))) }
     {
-        if gone {
+        if is_gone {
             return Ok(Deed::Refuse {
                 call,
                 hr: HResult::RPC_E_SERVER_CANTUNMARSHAL_DATA,
@@ -103,9 +103,15 @@ impl<'a> View<'a> {
 
     /// The admission of a call in a lane: a refusal at 256 openers, the verdict of the lane's filter on a
     /// call posted to an STA where it turns the call away, a refusal where the packet of an argument was
-    /// given up, as `gone` says, else the Enter. The only error is want of memory.
-    pub fn admission(&self, alloc: Global, lane: u32, call: u32, gone: bool) -> Result<Deed, Memory>
-        ensures { (b : Books) → arguments_gone (sight_by self.now b) call ≡ gone
+    /// given up, as `is_gone` says, else the Enter. The only error is want of memory.
+    pub fn admission(
+        &self,
+        alloc: Global,
+        lane: u32,
+        call: u32,
+        is_gone: bool,
+    ) -> Result<Deed, Memory>
+        ensures { (b : Books) → arguments_gone (sight_by self.now b) call ≡ is_gone
             → IfOk result (λ made. made ≡ admission self.now.scenario (sight_by self.now b) lane call) }
     {
         if self.lanes.depth(lane) >= OPENER_LIMIT {
@@ -117,6 +123,6 @@ impl<'a> View<'a> {
         if let Some(verdict) = self.turned_away(lane, call) {
             return Ok(verdict);
         }
-        self.let_in(alloc, lane, call, gone)
+        self.let_in(alloc, lane, call, is_gone)
     }
 }

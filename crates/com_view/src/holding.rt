@@ -1,6 +1,6 @@
 //! The rules that look at who holds references.
 
-ghost use Rattle.std.specs.Prelude.{◌≡◌, ◌&&◌, not, length, IfOk, option_map};
+ghost use Rattle.std.specs.Prelude.{◌≡◌, not, length, IfOk, option_map};
 ghost use Rattle.com_books.specs.Changes.{Books, cookie, packet};
 ghost use Rattle.com_model.specs.Deeds.{cookie_number};
 ghost use Rattle.com_model.specs.Endings.{is_leave};
@@ -116,8 +116,8 @@ impl<'a> View<'a> {
                 hr: HResult::S_OK,
             }));
         }
-        let gone = self.has_lost_result(refs, call);
-        self.back(call, gone)
+        let is_gone = self.has_lost_result(refs, call);
+        self.back(call, is_gone)
     }
 
     /// What the lane's own call with an answer gives up, or comes back with. The only error is want of
@@ -147,8 +147,8 @@ impl<'a> View<'a> {
         if !self.enters_itself(call) {
             return Ok(None);
         }
-        let gone = self.has_lost_argument(refs, call);
-        let deed = self.admission(alloc, lane, call, gone)?;
+        let is_gone = self.has_lost_argument(refs, call);
+        let deed = self.admission(alloc, lane, call, is_gone)?;
         Ok(Some(deed))
     }
 
@@ -165,8 +165,8 @@ impl<'a> View<'a> {
         let Some(call) = self.admits_next(lane) else {
             return Ok(None);
         };
-        let gone = self.has_lost_argument(refs, call);
-        let deed = self.admission(alloc, lane, call, gone)?;
+        let is_gone = self.has_lost_argument(refs, call);
+        let deed = self.admission(alloc, lane, call, is_gone)?;
         Ok(Some(deed))
     }
 

@@ -93,24 +93,24 @@ impl<'a> View<'a> {
     }
 
     /// What a lane finds of an object, which is connected or is not.
-    pub fn target(&self, lane: u32, object: u32, connected: bool) -> Target
-        ensures { (b : Books) → b.live object ≡ connected
+    pub fn target(&self, lane: u32, object: u32, is_connected: bool) -> Target
+        ensures { (b : Books) → b.live object ≡ is_connected
             → SeesObject (sight_by self.now b) lane object result }
     {
         Target {
-            owned: self.owns(lane, object),
-            connected,
+            is_owned: self.owns(lane, object),
+            is_connected,
             owner: self.objects.owner(object),
             class: self.objects.class(object),
         }
     }
 
     /// What a lane finds of the object of a reference, which is connected or is not, or of null.
-    pub fn target_of(&self, lane: u32, held: Option<RefValue>, connected: bool) -> Target
-        ensures { (b : Books) → Says b held connected → Sees (sight_by self.now b) lane held result }
+    pub fn target_of(&self, lane: u32, held: Option<RefValue>, is_connected: bool) -> Target
+        ensures { (b : Books) → Says b held is_connected → Sees (sight_by self.now b) lane held result }
     {
         match held {
-            Some(held) => self.target(lane, held.object, connected),
+            Some(held) => self.target(lane, held.object, is_connected),
             None => Target::NOTHING,
         }
     }

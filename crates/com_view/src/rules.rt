@@ -1,6 +1,6 @@
 //! The rules that need no references: the entry that each gives.
 
-ghost use Rattle.std.specs.Prelude.{◌≡◌, ◌&&◌, if◌then◌else◌, Option, Some, None};
+ghost use Rattle.std.specs.Prelude.{◌≡◌, Option, Some, None};
 ghost use Rattle.com_body.specs.declared.actions.Action.TheVariants as action;
 ghost use Rattle.com_books.specs.Changes.{Books};
 ghost use Rattle.com_model.specs.Deeds.{deed_of, in_sta};

@@ -10,4 +10,4 @@ returns c = λ b to number says.
     let v = sight_by c.args.view.now b in
     c.register_deed.ensures v number
     ∙ ap (λ (x : Option HResult). registered v c.args.held x)
-    (c.hold_refusal-refusal.ensures v (says_all b c.args.held c.args.connected says) ∙ ap (λ (h : Option ℕ). hold_refusal v h c.args.held) c.home.ensures)
+    (c.hold_refusal-refusal.ensures v (says_all b c.args.held c.args.is_connected says) ∙ ap (λ (h : Option ℕ). hold_refusal v h c.args.held) c.home.ensures)

@@ -30,7 +30,7 @@ invariant_of-self c =
     let room = rw (← c.self.view_is) at c.requires.room in
     let connected = rw (← c.self.view_is) at c.requires.connected in
     let known = rw (← c.self.view_is) at c.requires.known in
-    let owned : c.owns-owned.result ≡ owns_of c.self.inside.objects.items c.args.held.object c.args.apartment = rw c.deref-2.ensures.value at c.owns-owned.ensures in
+    let owned : c.owns-is_owned.result ≡ owns_of c.self.inside.objects.items c.args.held.object c.args.apartment = rw c.deref-2.ensures.value at c.owns-is_owned.ensures in
     let packets = rw (c.mint-refs.ensures.result, owned) at c.make-number.ensures.entries in
     whole_by _ _ _ _ _ _ _ _ _ _ _ _ _ 1 c.self.invariant refl (omega (arith, room)) (omega arith) (omega (arith, c.mint-refs.ensures.stub_room)) (omega (arith, c.mint-refs.ensures.proxy_room)) (omega (arith, c.make-number.ensures.spare)) (omega arith)
     (marshal_stands _ _ c.args.mode c.args.apartment c.args.held.object c.args.held.iface c.object_at-row.result.owner connected known refl c.mint-refs.ensures.stubs
@@ -40,15 +40,15 @@ pub returns-clause-row : goal.returns-clause-row
 returns-clause-row c =
     let connected = rw (← c.self.view_is) at c.requires.connected in
     let known = rw (← c.self.view_is) at c.requires.known in
-    let owned : c.owns-owned.result ≡ owns_of c.self.inside.objects.items c.args.held.object c.args.apartment = rw c.deref-2.ensures.value at c.owns-owned.ensures in
+    let owned : c.owns-is_owned.result ≡ owns_of c.self.inside.objects.items c.args.held.object c.args.apartment = rw c.deref-2.ensures.value at c.owns-is_owned.ensures in
     let packets = rw (c.mint-refs.ensures.result, owned) at c.make-number.ensures.entries in
     rw (← c.self.view_is)
     (marshal_tables _ _ c.args.mode c.args.apartment c.args.held.object c.args.held.iface c.object_at-row.result.owner connected known c.mint-refs.ensures.stubs
     (rw owned at c.mint-refs.ensures.counters) (rw owned at c.mint-refs.ensures.rows) packets refl)
 
 pub returns-clause-places : goal.returns-clause-places
-returns-clause-places c = rw (← c.self.view_is) (minted_same _ _ c.owns-owned.result c.args.mode c.args.apartment c.args.held.object c.args.held.iface refl c.mint-refs.ensures.rows)
+returns-clause-places c = rw (← c.self.view_is) (minted_same _ _ c.owns-is_owned.result c.args.mode c.args.apartment c.args.held.object c.args.held.iface refl c.mint-refs.ensures.rows)
 
 pub returns-clause-offers : goal.returns-clause-offers
 returns-clause-offers c = λ x j. rw (← c.self.view_is)
-    (ap (λ cs. has_counter cs x j) c.mint-refs.ensures.counters ∙ minted-has c.owns-owned.result c.args.mode (public_of c.self.inside.proxies.rows c.args.apartment c.args.held.object c.args.held.iface) c.args.held.object c.args.held.iface _ x j)
+    (ap (λ cs. has_counter cs x j) c.mint-refs.ensures.counters ∙ minted-has c.owns-is_owned.result c.args.mode (public_of c.self.inside.proxies.rows c.args.apartment c.args.held.object c.args.held.iface) c.args.held.object c.args.held.iface _ x j)

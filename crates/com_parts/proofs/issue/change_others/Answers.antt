@@ -6,5 +6,5 @@ use Rattle.com_parts.proofs.issue.change_others.Goals as goal
 
 pub returns-clause-apartments : goal.returns-clause-apartments
 returns-clause-apartments c = λ o a h.
-    ap (λ (b : Kept). b.apartments) (c.apply.ensures o (record { refusal = S_OK; values = [] }) c.args.filtered h)
+    ap (λ (b : Kept). b.apartments) (c.apply.ensures o (record { refusal = S_OK; values = [] }) c.args.has_filter h)
     ∙ sym (no_more c.args.lane a c.args.deed.now c.args.calls.now.apartments c.requires.other)

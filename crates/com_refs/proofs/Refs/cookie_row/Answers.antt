@@ -14,5 +14,5 @@ returns c =
     let t = c.self.inside.holders in
     let r = c.in-Some.held in
     let held : held_in t.cookies c.args.number ≡ Some r = sym c.cookie.ensures ∙ c.in-Some.is in
-    let row : c.cookie_row.result ≡ cookie_read (is_connected t.stubs) (Some r) = c.cookie_row.ensures ∙ ap (λ (b : Bool). record { revoked = false; object = r.object; iface = r.iface; refs = cond b 1 0 }) c.is_connected.ensures in
+    let row : c.cookie_row.result ≡ cookie_read (is_connected t.stubs) (Some r) = c.cookie_row.ensures ∙ ap (λ (b : Bool). record { is_revoked = false; object = r.object; iface = r.iface; refs = cond b 1 0 }) c.is_connected.ensures in
     rw (← c.self.view_is) (row ∙ ap (λ x. cookie_read (is_connected t.stubs) x) (sym held) ∙ cookie_is t c.args.number)

@@ -20,10 +20,10 @@ invariant_of-self-2 c =
     let whole : take c.self.inside.holds.len (c.lose_hold.new.holds ++ drop (length c.lose_hold.new.holds) c.self.inside.holds.items) ≡ c.lose_hold.new.holds = grind (arith, common_steps, len) in
     let left : c.hold_at-left.result ≡ hold_of (hold_less o (not (is_weak c.in-Ok.packet.mode)) c.self.inside.holds.items) o = c.hold_at-left.ensures ∙ ap (λ xs. hold_of xs o) (c.deref.ensures.value ∙ whole ∙ e) in
     let but = dropped t c.drop_packet.new.self c.self.inside.holds.items c.args.number c.in-Ok.packet c.self.invariant.counts c.in-Ok.ensures.packet c.in-Ok.ensures.books c.in-Ok.ensures.places c.drop_packet.ensures.issued in
-    let books = rw left at c.settle-lost.ensures.books in
+    let books = rw left at c.settle-is_lost.ensures.books in
     record {
-      counts = rw (whole, e) (settled_stands c.drop_packet.new.self o (hold_less o (not (is_weak c.in-Ok.packet.mode)) c.self.inside.holds.items) but c.settle-lost.new.holders _ c.settle-lost.ensures.objects c.settle-lost.ensures.proxies c.settle-lost.ensures.issued refl books);
-      room = omega (arith, c.self.invariant.room, c.settle-lost.ensures.spare, c.drop_packet.ensures.spare);
+      counts = rw (whole, e) (settled_stands c.drop_packet.new.self o (hold_less o (not (is_weak c.in-Ok.packet.mode)) c.self.inside.holds.items) but c.settle-is_lost.new.holders _ c.settle-is_lost.ensures.objects c.settle-is_lost.ensures.proxies c.settle-is_lost.ensures.issued refl books);
+      room = omega (arith, c.self.invariant.room, c.settle-is_lost.ensures.spare, c.drop_packet.ensures.spare);
     }
 
 pub returns-clause-books : goal.returns-clause-books
@@ -35,10 +35,10 @@ returns-clause-books c =
     let whole : take c.self.inside.holds.len (c.lose_hold.new.holds ++ drop (length c.lose_hold.new.holds) c.self.inside.holds.items) ≡ c.lose_hold.new.holds = grind (arith, common_steps, len) in
     let left : c.hold_at-left.result ≡ hold_of (hold_less o (not (is_weak c.in-Ok.packet.mode)) c.self.inside.holds.items) o = c.hold_at-left.ensures ∙ ap (λ xs. hold_of xs o) (c.deref.ensures.value ∙ whole ∙ e) in
     let but = dropped t c.drop_packet.new.self c.self.inside.holds.items c.args.number c.in-Ok.packet c.self.invariant.counts c.in-Ok.ensures.packet c.in-Ok.ensures.books c.in-Ok.ensures.places c.drop_packet.ensures.issued in
-    let books = rw left at c.settle-lost.ensures.books in
+    let books = rw left at c.settle-is_lost.ensures.books in
     λ n places tells totals. rw (← c.self.view_is)
-    (settled_ends c.drop_packet.new.self o (hold_less o (not (is_weak c.in-Ok.packet.mode)) c.self.inside.holds.items) but c.settle-lost.new.holders n places (books_of c.drop_packet.new.self) c.settle-lost.ensures.objects c.settle-lost.ensures.proxies
-    (sym (c.gives_nothing.ensures n places (tells_same n places c.settle-lost.new.holders c.drop_packet.new.self c.settle-lost.ensures.objects c.settle-lost.ensures.proxies tells))) totals books
+    (settled_ends c.drop_packet.new.self o (hold_less o (not (is_weak c.in-Ok.packet.mode)) c.self.inside.holds.items) but c.settle-is_lost.new.holders n places (books_of c.drop_packet.new.self) c.settle-is_lost.ensures.objects c.settle-is_lost.ensures.proxies
+    (sym (c.gives_nothing.ensures n places (tells_same n places c.settle-is_lost.new.holders c.drop_packet.new.self c.settle-is_lost.ensures.objects c.settle-is_lost.ensures.proxies tells))) totals books
     ∙ ap (λ (b : Books). ends n places b) (c.in-Ok.ensures.books ∙ sym (drop_row t c.args.number c.in-Ok.packet c.in-Ok.ensures.packet)))
 
 pub returns-clause-lost : goal.returns-clause-lost
@@ -50,6 +50,6 @@ returns-clause-lost c =
     let whole : take c.self.inside.holds.len (c.lose_hold.new.holds ++ drop (length c.lose_hold.new.holds) c.self.inside.holds.items) ≡ c.lose_hold.new.holds = grind (arith, common_steps, len) in
     let left : c.hold_at-left.result ≡ hold_of (hold_less o (not (is_weak c.in-Ok.packet.mode)) c.self.inside.holds.items) o = c.hold_at-left.ensures ∙ ap (λ xs. hold_of xs o) (c.deref.ensures.value ∙ whole ∙ e) in
     let but = dropped t c.drop_packet.new.self c.self.inside.holds.items c.args.number c.in-Ok.packet c.self.invariant.counts c.in-Ok.ensures.packet c.in-Ok.ensures.books c.in-Ok.ensures.places c.drop_packet.ensures.issued in
-    let flag = settled_unheld c.drop_packet.new.self c.settle-lost.new.holders o (hold_less o (not (is_weak c.in-Ok.packet.mode)) c.self.inside.holds.items) but c.settle-lost.ensures.objects c.settle-lost.ensures.proxies _ (rw left at c.settle-lost.ensures.books) (rw left at c.settle-lost.ensures.lost) in
-    let answer : c.if_lost.result ≡ unheld c.settle-lost.new.holders o = c.if_lost.ensures ∙ ap (λ (b : Bool). cond b (Some o) None) flag in
+    let flag = settled_unheld c.drop_packet.new.self c.settle-is_lost.new.holders o (hold_less o (not (is_weak c.in-Ok.packet.mode)) c.self.inside.holds.items) but c.settle-is_lost.ensures.objects c.settle-is_lost.ensures.proxies _ (rw left at c.settle-is_lost.ensures.books) (rw left at c.settle-is_lost.ensures.lost) in
+    let answer : c.if_lost.result ≡ unheld c.settle-is_lost.new.holders o = c.if_lost.ensures ∙ ap (λ (b : Bool). cond b (Some o) None) flag in
     rw (← c.self.view_is, c.in-Ok.ensures.packet) answer

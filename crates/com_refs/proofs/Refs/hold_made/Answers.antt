@@ -29,7 +29,7 @@ invariant_of-self c =
     let w = owns_of m.objects c.args.object c.args.apartment in
     let len : length m.objects ≡ length t.objects + 1 = ap (λ os. length os) c.add_object.ensures.objects ∙ grind (arith, common_steps) in
     let but = made_but t m hs c.args.object c.self.invariant.counts c.stands.ensures.known new books c.add_object.ensures.proxies (λ x. ap (λ os. (object_in os x).direct) c.add_object.ensures.objects ∙ direct_new t.objects _ x refl) len (omega (arith, c.add_object.ensures.issued)) in
-    let e : c.gain_hold.new.holds ≡ hold_more c.args.object (not w) (hs ++ 0 ∷ []) = rw (c.owns-owned.ensures, c.deref_mut.ensures.value, c.push_reserved.ensures.items) at c.gain_hold.ensures in
+    let e : c.gain_hold.new.holds ≡ hold_more c.args.object (not w) (hs ++ 0 ∷ []) = rw (c.owns-is_owned.ensures, c.deref_mut.ensures.value, c.push_reserved.ensures.items) at c.gain_hold.ensures in
     let more : length c.gain_hold.new.holds ≡ length c.push_reserved.new.self.items = ap (λ xs. length xs) e ∙ more_length c.args.object (not w) (hs ++ 0 ∷ []) ∙ ap (λ xs. length xs) (sym c.push_reserved.ensures.items) in
     let whole : take c.push_reserved.new.self.len (c.gain_hold.new.holds ++ drop (length c.gain_hold.new.holds) c.push_reserved.new.self.items) ≡ c.gain_hold.new.holds = grind (arith, common_steps, more) in
     record {

@@ -19,7 +19,7 @@ invariant_of-self c =
     let w = owns_of t.objects o a in
     let known = rw (← c.self.view_is) at c.requires.known in
     let made = c.stands.ensures.known.counters o c.args.held.iface known in
-    let e : c.gain_hold.new.holds ≡ hold_more o (not w) c.self.inside.holds.items = rw (c.owns-owned.ensures, c.deref_mut.ensures.value) at c.gain_hold.ensures in
+    let e : c.gain_hold.new.holds ≡ hold_more o (not w) c.self.inside.holds.items = rw (c.owns-is_owned.ensures, c.deref_mut.ensures.value) at c.gain_hold.ensures in
     let len : length c.gain_hold.new.holds ≡ length c.self.inside.holds.items = ap (λ xs. length xs) e ∙ more_length o (not w) c.self.inside.holds.items in
     let whole : take c.self.inside.holds.len (c.gain_hold.new.holds ++ drop (length c.gain_hold.new.holds) c.self.inside.holds.items) ≡ c.gain_hold.new.holds = grind (arith, common_steps, len) in
     record {

@@ -1,9 +1,9 @@
 use Rattle.std.proofs.Common.{◌≡◌, ℕ, ◌+◌, true, [], ◌∷◌, ◌++◌, length, slice_index_or, vec_len, refl, ap, ◌∙◌, arith}
 use Rattle.com_base.specs.declared.standard.StdFields.{StdFields}
 use Rattle.com_base.specs.declared.value.MarshalMode.TheVariants as marshal
-use Rattle.com_books.specs.Changes.{new_packet}
+use Rattle.com_books.specs.Changes.{new_packet, no_books}
 use Rattle.com_model.specs.Deeds.{packet_fields}
-use Rattle.com_view.specs.Seen.{bare, no_books}
+use Rattle.com_view.specs.Seen.{bare}
 use Rattle.com_rules.proofs.making.append_field.Goals as goal
 
 pub returns : goal.returns
@@ -12,7 +12,7 @@ returns c =
     let x = c.args.row.now in
     let fs = c.args.fields.now.items in
     let rs = c.args.refs.now in
-    let connected : x.connected ≡ true = grind (arith, c.if-not-row.false) in
+    let connected : x.is_connected ≡ true = grind (arith, c.if-not-row.false) in
     let size : vec_len c.args.fields.now ≡ length fs = omega (arith, c.args.fields.now.ok.0) in
     let refs : c.refs_at-refs.result ≡ slice_index_or rs (length fs) 0 = c.refs_at-refs.ensures ∙ ap (λ (k : ℕ). slice_index_or rs k 0) (c.len-2.ensures ∙ size) in
     let number : c.in_ok-number.number ≡ c.args.made + 1 + length fs = c.in_ok-number.ensures ∙ ap (λ (k : ℕ). c.args.made + 1 + k) (c.len.ensures ∙ size) in

@@ -24,7 +24,7 @@ returns g c =
     let k : ℕ = refs_made m (v.owns o a) (b.proxy a o i) in
     let n : ℕ = length b.packets + 1 in
     let refs : c.refs_made-refs.result ≡ k =
-    c.refs_made-refs.ensures ∙ ap (λ (t : Bool). refs_made m t c.in_ok-public.field-0) c.owns-owned.ensures
+    c.refs_made-refs.ensures ∙ ap (λ (t : Bool). refs_made m t c.in_ok-public.field-0) c.owns-is_owned.ensures
     ∙ ap (λ (x : ℕ). refs_made m (v.owns o a) x) c.in_ok-public.ensures in
     c.in_ok-deed.ensures
     ∙ ap (λ (f : StdFields). deed.Marshal (Some c.in_ok-number.number) m (Some c.args.held) c.refs_made-refs.result S_OK (Some (written_of f))) (c.fields_as-fields.ensures b)

@@ -29,7 +29,7 @@ returns-clause-deed g c = λ to.
     let refused : Option HResult = call_refusal s (home_seen w l) (running_seen w l) v.owns b.live c.args.target i m in
     let vs : List Value = sent_values true b.live (parameters (method_at s.classes i m)) c.args.args.now in
     let route : r ≡ route_or w b l c.args.target refused =
-    c.route-route.ensures b ∙ ap (λ (x : Option HResult). route_or w b l c.args.target x) (c.call_refusal-refusal.ensures b c.is_connected-connected.ensures) in
+    c.route-route.ensures b ∙ ap (λ (x : Option HResult). route_or w b l c.args.target x) (c.call_refusal-refusal.ensures b c.is_connected-is_live.ensures) in
     let values : c.as_slice.result.now ≡ sent_values (is_marshalled r) b.live (parameters (method_at s.classes i m)) c.args.args.now =
     c.as_slice.ensures ∙ c.in_ok-values.ensures
     ∙ ap (λ (t : Bool). sent_values t b.live (parameters (method_at s.classes i m)) c.args.args.now) c.is_marshalled.ensures in

@@ -33,11 +33,11 @@ returns-clause-becomes c =
     let v = a.self.now in
     let b = c.in_ok-begun in
     let same : parts_shown c.book.new.self.parts ≡ parts_shown v.parts = ap parts_shown c.book.ensures.parts ∙ c.begin_parts.ensures.same ∙ ap parts_shown c.prepare.ensures.parts in
-    let made : Becomes v.parts c.finish_parts.new.self.parts a.entry.now (acting_of a.acting) a.outcome.now (acting_of a.glance.after) a.glance.filtered (sent_by a.issued) v.clock =
+    let made : Becomes v.parts c.finish_parts.new.self.parts a.entry.now (acting_of a.acting) a.outcome.now (acting_of a.glance.after) a.glance.has_filter (sent_by a.issued) v.clock =
     becomes_finished v.parts c.book.new.self.parts c.finish_parts.new.self.parts a.entry.now (acting_of a.acting) a.outcome.now (acting_of a.glance.after)
-    a.glance.filtered b.begun.calling.filtered (sent_by a.issued) b.begun.calling.issued v.clock b.begun.calling.clock
+    a.glance.has_filter b.begun.calling.has_filter (sent_by a.issued) b.begun.calling.issued v.clock b.begun.calling.clock
     same b.ensures.filtered b.ensures.issued (b.ensures.time ∙ c.prepare.ensures.clock) c.finish_parts.ensures.becomes in
-    subst (λ (t : PartTables). Becomes v.parts t a.entry.now (acting_of a.acting) a.outcome.now (acting_of a.glance.after) a.glance.filtered (sent_by a.issued) v.clock) (sym c.settle.ensures.parts) made
+    subst (λ (t : PartTables). Becomes v.parts t a.entry.now (acting_of a.acting) a.outcome.now (acting_of a.glance.after) a.glance.has_filter (sent_by a.issued) v.clock) (sym c.settle.ensures.parts) made
 
 -- ---- the running bodies and the dying objects
 

@@ -5,7 +5,8 @@ use Rattle.com_booking.specs.Books.{books_held}
 use Rattle.com_jobs.specs.Jobs.{next_in}
 use Rattle.com_model.specs.declared.scenario.Scenario.{Scenario}
 use Rattle.com_model.specs.Rules.{ruled, top}
-use Rattle.com_view.specs.Nexts.{is_body, kind_of}
+use Rattle.com_model.specs.Openers.{is_body}
+use Rattle.com_view.specs.Nexts.{kind_of}
 use Rattle.com_view.specs.Seen.{Seen, sight_by}
 use Rattle.com_core.specs.Stands.{IsReached, seen_by}
 use Rattle.com_core.proofs.Shown.{as_shown}

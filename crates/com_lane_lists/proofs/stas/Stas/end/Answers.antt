@@ -14,7 +14,7 @@ index_mut-requires c =
 
 pub oldest_from-self-inside-requires : goal.oldest_from-self-inside-requires
 oldest_from-self-inside-requires c =
-    rw c.deref.ensures.value (omega (arith, c.self.invariant.oldest_is, gone_first_set c.self.inside.rows.items (c.args.apartment - 3) (record { maker = c.index_mut.result.now.maker; gone = true }) refl))
+    rw c.deref.ensures.value (omega (arith, c.self.invariant.oldest_is, gone_first_set c.self.inside.rows.items (c.args.apartment - 3) (record { maker = c.index_mut.result.now.maker; is_gone = true }) refl))
 
 pub invariant_of-self-2 : goal.invariant_of-self-2
 invariant_of-self-2 c =

@@ -18,7 +18,7 @@ pub returns : goal.returns
 unfolding seen
 returns c =
     ap₂ seen
-    (makings_kept c.self.inside.rows.items (c.args.object - 1) (record { making = c.index_mut.result.now.making; released = true }) c.index_mut.result.now
+    (makings_kept c.self.inside.rows.items (c.args.object - 1) (record { making = c.index_mut.result.now.making; is_released = true }) c.index_mut.result.now
     (ap (λ (x : Row). x.making) c.index_mut.ensures.value))
     c.push_reserved.ensures.items
     ∙ ap (λ (k : ObjectRows). seen k.tables.makings (k.tables.finaled ++ c.args.object ∷ [])) c.self.view_is

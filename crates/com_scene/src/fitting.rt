@@ -1,6 +1,6 @@
 //! Whether the numbers of an entry fit, in constant time.
 
-ghost use Rattle.std.specs.Prelude.{◌<◌, ◌^◌, IsTrue};
+ghost use Rattle.std.specs.Prelude.{◌<◌, ◌↔◌, IsTrue};
 ghost use Rattle.com_scene.specs.Ranges.{FitsDeed, IsInterface};
 
 use com_body::Asked;
@@ -8,7 +8,7 @@ use com_model::Deed;
 
 // Whether the number of an interface has 16 bits.
 fn is_interface(iface: &Asked) -> bool
-    ensures { IsTrue result → IsInterface iface.now }
+    ensures { IsTrue result ↔ IsInterface iface.now }
 {
     match iface {
         Asked::Number(number) => *number < 0x1_0000,
@@ -16,14 +16,15 @@ fn is_interface(iface: &Asked) -> bool
     }
 }
 
-/// Whether a call has at most four arguments, and a reference's interface a number of 16 bits.
+/// Whether a call has at most four arguments, and the interface of a reference that was made or gained a
+/// number of 16 bits.
 pub fn fits_deed(deed: &Deed) -> bool
-    ensures { IsTrue result → FitsDeed deed.now }
+    ensures { IsTrue result ↔ FitsDeed deed.now }
 {
     match deed {
         Deed::Enter { values, .. } => values.len() <= 4,
-        Deed::Made { iface, .. } => is_interface(iface),
-        Deed::Query { iface, .. } => is_interface(iface),
+        Deed::Made { object, iface, .. } => object.is_none() || is_interface(iface),
+        Deed::Query { object, iface, .. } => object.is_none() || is_interface(iface),
         _ => true,
     }
 }
