@@ -1,6 +1,11 @@
 //! `comrun`: the program over the top call. All that it prints goes to the standard output.
 #![tactic(auto)]
 
+ghost use Rattle.std.specs.Prelude.{◌≡◌, IfOk, OnErr, OnOk, map, string_bytes};
+ghost use Rattle.com_commands.specs.Statuses.{sides_of, sides_without_source};
+ghost use Rattle.com_top.specs.Commands.{Answered, ReadsNone};
+ghost use Rattle.com_top.specs.Words.{command_of};
+
 use com_base::Memory;
 use com_crew::{ROWS, is_manned};
 use com_io::{Sink, Source, StdSink, StdSource};
@@ -31,15 +36,23 @@ fn main(rt: HostRuntime) -> ExitCode {
     }
 }
 
-// Does what the words ask for, with a crew of servants that have made no step, and a gate that holds nobody.
-// The only error is want of memory for the crew.
+// Does what the words ask for, with a crew of servants that have made no step, and a gate that holds nobody:
+// the answer is the status. The only error is want of memory for the crew; then nothing was read or written.
 fn serve<R: Threads + Wait + Sync, S: Source, K: Sink>(
     rt: &R,
     alloc: Global,
     words: &[String],
     source: &mut S,
     sink: &mut K,
-) -> Result<u8, Memory> {
+) -> Result<u8, Memory>
+    ensures answers { IfOk result (λ status. Answered (command_of (map string_bytes words.now)) status
+        (sides_of S.left S.faults_of K.held K.faults_of source.old source.new sink.old sink.new)
+        (sides_without_source K.held K.faults_of sink.old sink.new)) }
+    ensures unread { OnOk result (ReadsNone (command_of (map string_bytes words.now))
+        → source.new ≡ source.old) }
+    ensures source { OnErr result (source.new ≡ source.old) }
+    ensures sink { OnErr result (sink.new ≡ sink.old) }
+{
     let mut crew: Vec<Vec<Box<dyn Servant + Send>>> = Vec::new(alloc);
     for _ in 0..ROWS {
         crew.push(fresh_row!(alloc))?;
