@@ -1,3 +1,4 @@
 pub mod Guids
 pub mod HResults
+pub mod Room
 pub mod Values

@@ -1,15 +1,19 @@
 //! Bytes, seen as a list.
 ghost use Rattle.std.specs.Prelude.{◌≡◌, ℕ, ◌++◌, ◌∷◌, List, [], IfOk, OnErr, OnOk, IsTrue, ◌↔◌, length};
-ghost use Rattle.std.specs.Prelude.{take};
+ghost use Rattle.std.specs.Prelude.{take, ◌≤◌};
+ghost use Rattle.std.specs.Borrow.{sem, LendsIfOk};
+ghost use Rattle.com_base.specs.contracts.bytes.ByteList.{the_row as list_row};
+ghost use Rattle.com_base.specs.contracts.room.Reserved.{the_row as reserved_row};
 
+use crate::room::Reserved;
 use std::alloc::{AllocError, Global};
 use std::marker::Model;
 
 /// A list of bytes that grows at its end. A contract sees the bytes alone, so two lists with the same
-/// bytes are equal, whatever room they hold.
+/// bytes are equal, whatever room they hold. Where room matters, `reserve` lends the list as `Reserved`.
 #[derive(Debug, Drop)]
 pub struct ByteList {
-    bytes: Vec<u8>,
+    bytes: Reserved,
 }
 
 impl Model for ByteList {
@@ -25,25 +29,23 @@ impl ByteList {
     pub fn new(alloc: Global) -> ByteList
         ensures { result ≡ [] }
     {
-        ByteList {
-            bytes: Vec::new(alloc),
-        }
+        ByteList::from_vec(Vec::new(alloc))
     }
 
     /// A list with these bytes. The only error is want of memory.
     pub fn from_slice(alloc: Global, bytes: &[u8]) -> Result<ByteList, AllocError>
         ensures { IfOk result (λ list. list ≡ bytes.now) }
     {
-        Ok(ByteList {
-            bytes: Vec::from_slice(alloc, bytes)?,
-        })
+        Ok(ByteList::from_vec(Vec::from_slice(alloc, bytes)?))
     }
 
     /// The list of a vector's bytes. It takes no memory.
     pub fn from_vec(bytes: Vec<u8>) -> ByteList
         ensures { result ≡ bytes.items }
     {
-        ByteList { bytes }
+        ByteList {
+            bytes: Reserved::from_vec(bytes),
+        }
     }
 
     /// The vector of these bytes. It takes no memory.
@@ -51,14 +53,19 @@ impl ByteList {
         ensures { result.items ≡ self }
     {
         let ByteList { bytes } = self;
-        bytes
+        bytes.into_vec()
     }
 
-    /// Makes room for `more` bytes beyond those that are there. The only error is want of memory.
-    pub fn reserve(&mut self, more: usize) -> Result<(), AllocError>
-        ensures { self.new ≡ self.old }
+    /// Makes room for `more` bytes beyond those that are there, and lends the list with its room seen:
+    /// what is appended through it takes no memory. The only error is want of memory, and then the list
+    /// is as before.
+    pub fn reserve(&mut self, more: usize) -> Result<&mut Reserved, AllocError>
+        ensures* lends { sem 𝓛 (LendsIfOk list_row reserved_row self.entry result (λ lent. lent.items) self.old) }
+        ensures items { IfOk result (λ lent. lent.now.items ≡ self.old) }
+        ensures spare { IfOk result (λ lent. more ≤ lent.now.spare) }
     {
-        Ok(self.bytes.reserve(more)?)
+        self.bytes.reserve(more)?;
+        Ok(&mut self.bytes)
     }
 
     /// Appends one byte. The only error is want of memory, and then the list is as before.
@@ -66,10 +73,7 @@ impl ByteList {
         ensures ok { OnOk result (self.new ≡ self.old ++ byte ∷ []) }
         ensures err { OnErr result (self.new ≡ self.old) }
     {
-        match self.bytes.push(byte) {
-            Ok(()) => Ok(()),
-            Err(_) => Err(AllocError),
-        }
+        self.bytes.push(byte)
     }
 
     /// Appends bytes. The only error is want of memory, and then the list is as before.
@@ -77,7 +81,7 @@ impl ByteList {
         ensures ok { OnOk result (self.new ≡ self.old ++ bytes.now) }
         ensures err { OnErr result (self.new ≡ self.old) }
     {
-        Ok(self.bytes.extend_from_slice(bytes)?)
+        self.bytes.grow(bytes)
     }
 
     /// Keeps the first `count` bytes, or all where there are fewer, and drops those after them. It keeps
@@ -92,7 +96,7 @@ impl ByteList {
     pub fn clear(&mut self)
         ensures { self.new ≡ [] }
     {
-        self.bytes.clear();
+        self.bytes.truncate(0);
     }
 
     /// The same bytes as a slice.
@@ -106,14 +110,14 @@ impl ByteList {
     pub fn len(&self) -> usize
         ensures { result ≡ length self.now }
     {
-        self.bytes.len()
+        self.as_slice().len()
     }
 
     /// Whether there is none.
     pub fn is_empty(&self) -> bool
         ensures { IsTrue result ↔ (self.now ≡ []) }
     {
-        self.bytes.is_empty()
+        self.as_slice().is_empty()
     }
 
     /// An equal list. The only error is want of memory.
@@ -121,7 +125,7 @@ impl ByteList {
         ensures { IfOk result (λ copy. copy ≡ self.now) }
     {
         Ok(ByteList {
-            bytes: self.bytes.clone()?,
+            bytes: self.bytes.copy()?,
         })
     }
 
@@ -129,6 +133,6 @@ impl ByteList {
     pub fn same(&self, other: &ByteList) -> bool
         ensures { IsTrue result ↔ (self.now ≡ other.now) }
     {
-        self.bytes.as_slice() == other.bytes.as_slice()
+        self.as_slice() == other.as_slice()
     }
 }

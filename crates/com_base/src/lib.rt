@@ -10,6 +10,7 @@ mod guid;
 mod hresult;
 mod laws;
 mod limits;
+mod room;
 mod rows;
 mod standard;
 mod value;
@@ -25,6 +26,7 @@ pub use limits::{
     METHOD_LIMIT, OPENER_LIMIT, PARAMETER_LIMIT, POOL_LIMIT, RAW_LIMIT, RULE_LIMIT, SCRIPT_LIMIT,
     TEXT_1_LIMIT, TEXT_2_LIMIT, THREAD_LIMIT,
 };
+pub use room::Reserved;
 pub use rows::Rows;
 pub use standard::{
     IID_ICLASS_FACTORY, IID_IGLOBAL_INTERFACE_TABLE, IID_IMESSAGE_FILTER, IID_IUNKNOWN, StdFields,

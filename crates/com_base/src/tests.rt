@@ -57,13 +57,22 @@ fn an_hresult_has_its_parts_and_its_name(rt: HostRuntime) -> Result<(), Fail> {
 #[test]
 fn lists_grow_at_their_end_with_ample_memory(rt: HostRuntime) -> Result<(), Fail> {
     let mut list = ByteList::from_slice(rt.alloc(), b"ab")?;
-    list.reserve(2)?;
     list.push(b'c')?;
     list.push_all(b"de")?;
     assert_eq!(rt; list.as_slice(), b"abcde".as_slice());
     assert!(rt; list.copy()?.same(&list));
     let rows = Rows::from_vec(vec![in rt.alloc(); 4u32, 5]?);
     assert_eq!(rt; rows.as_slice(), [4, 5].as_slice());
+    Ok(())
+}
+
+#[test]
+fn what_is_appended_through_held_room_is_in_the_list(rt: HostRuntime) -> Result<(), Fail> {
+    let mut list = ByteList::from_slice(rt.alloc(), b"ab")?;
+    let room = list.reserve(3)?;
+    room.push_all(b"c");
+    room.push_all(b"de");
+    assert_eq!(rt; list.as_slice(), b"abcde".as_slice());
     Ok(())
 }
 

@@ -2,7 +2,7 @@
 use Rattle.std.proofs.Common.{◌≡◌, ℕ, zero, suc, ◌+◌, ◌-◌, ◌<◌, ◌≤◌, Bool, true, false, ltb, eqb, List, [], ◌∷◌, ◌++◌, length, get_or, take, drop, Result, Ok, Err, refl, sym, ap, ◌∙◌, append_assoc, arith, MatchResult, is_ok}
 use Rattle.std.specs.Str.{is_utf8, IsUtf8}
 use Rattle.std.proofs.lemmas.Bool.{lt-ltb, le-ltb, ne_eqb}
-use Rattle.std.proofs.lemmas.List.{append-nil, take_at}
+use Rattle.std.proofs.lemmas.List.{append-nil}
 use Rattle.std.proofs.Math.Seq.{drop-cons}
 use Rattle.std.proofs.Math.ListN.{drop_of_length-le}
 use Rattle.std.proofs.lemmas.Str.{IsUtf8-from_is_utf8, is_utf8-from_IsUtf8}
@@ -13,11 +13,6 @@ use Rattle.ndr_args.specs.declared.wire.ArgFault.{ArgFault}
 use Rattle.ndr_args.specs.declared.wire.ArgError.{ArgError}
 use Rattle.ndr_args.specs.declared.wire.ArgError.TheVariants as errors
 use Rattle.ndr_args.specs.Reading.{Fails, fault, short, zeros_at, arg_at, args_at}
-
--- ---- what stood before
-
-pub take_front : (a b : List ℕ) → take (length a) (a ++ b) ≡ a
-take_front a b = take_at a b (length a) refl
 
 -- ---- UTF-8
 

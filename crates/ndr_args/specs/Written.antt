@@ -1,5 +1,5 @@
 -- The writer's spelling of values.
-use Rattle.std.specs.Prelude.{ℕ, ◌+◌, ◌≤◌, List, [], ◌∷◌, ◌++◌, length, Some, None, if◌then◌else◌}
+use Rattle.std.specs.Prelude.{ℕ, ◌+◌, ◌<◌, ◌≤◌, ◌^◌, List, [], ◌∷◌, ◌++◌, length, Some, None, if◌then◌else◌}
 use Rattle.std.specs.Int.{w32, w64, cast_unsigned}
 use Rattle.std.specs.Int.RustNames.{FitsSigned}
 use Rattle.std.specs.Str.{IsUtf8}
@@ -53,6 +53,38 @@ written_from position referent (v ∷ vs) =
 -- A stream: it begins at position 0, and its first referent is 0x00020000.
 abbrev pub written_args : List Wire → List ℕ
 written_args vs = written_from 0 0x20000 vs
+
+-- How many bytes a value has, without the padding before it.
+abbrev pub length_of : Wire → ℕ
+length_of (wire.Int n) = 8
+length_of (wire.Bool b) = 4
+length_of (wire.Text t) = 4 + length t
+length_of (wire.Bytes t) = 4 + length t
+length_of (wire.Guid g) = 16
+length_of (wire.Ref None) = 4
+length_of (wire.Ref (Some fields)) = 84
+
+-- The padding before a value at a position, and the value.
+abbrev pub padded_length : ℕ → Wire → ℕ
+padded_length position v = gap position (align_of_value v) + length_of v
+
+-- How many bytes values have from a position on.
+unfoldable pub length_from : ℕ → List Wire → ℕ
+length_from position [] = 0
+length_from position (v ∷ vs) = padded_length position v + length_from (position + padded_length position v) vs
+
+-- How many bytes a stream has.
+abbrev pub length_args : List Wire → ℕ
+length_args vs = length_from 0 vs
+
+-- The referent that a reference behind these values would have.
+unfoldable pub referent_after : ℕ → List Wire → ℕ
+referent_after referent [] = referent
+referent_after referent (v ∷ vs) = referent_after (next_referent referent v) vs
+
+-- Whether 32 bits tell each referent of a stream and the one behind the last.
+abbrev pub FitsReferents : List Wire → Type 0
+FitsReferents vs = referent_after 0x20000 vs < 2 ^ 32
 
 -- Texts are UTF-8, and texts and bytes have at most 65,536 bytes.
 abbrev pub CanSend : Wire → Type 0

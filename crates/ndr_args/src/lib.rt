@@ -10,7 +10,7 @@ mod writing;
 pub use laws::{no_front_is_whole, written_is_read};
 pub use reading::read_args;
 pub use wire::{ArgError, ArgFault, Wire};
-pub use writing::write_args;
+pub use writing::{args_length, write_args, write_args_reserved};
 
 #[cfg(test)]
 mod tests;

@@ -56,7 +56,9 @@ fn fault_of(alloc: Global, kinds: &[Kind], bytes: &[u8]) -> Option<(u8, usize)> 
 fn worked_bytes_are_written_and_read(rt: HostRuntime) -> Result<(), Fail> {
     let kinds = [Kind::Text, Kind::Int];
     let mut out = ByteList::new(rt.alloc());
-    write_args(&kinds, &[text(rt.alloc(), "ab")?, Wire::Int(5)], &mut out)?;
+    let sent = [text(rt.alloc(), "ab")?, Wire::Int(5)];
+    assert_eq!(rt; args_length(&sent), Some(WORKED.len()));
+    write_args(&kinds, &sent, &mut out)?;
     assert_eq!(rt; out.as_slice(), WORKED.as_slice());
     let values = read_args(rt.alloc(), &kinds, &WORKED)
         .ok()

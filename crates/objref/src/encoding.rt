@@ -1,9 +1,9 @@
 //! Writing OBJREFs, by standard marshalling.
-ghost use Rattle.std.specs.Prelude.{◌≡◌, ◌++◌, OnOk, OnErr};
+ghost use Rattle.std.specs.Prelude.{◌≡◌, ◌+◌, ◌≤◌, ◌++◌, length, OnOk, OnErr};
 ghost use Rattle.objref.specs.Grammar.{written_of};
 
 use crate::decoding::{SIGNATURE, STANDARD};
-use com_base::{ByteList, Memory, StdFields};
+use com_base::{ByteList, Memory, Reserved, StdFields};
 use com_wire::put;
 
 // How many bytes the writer makes.
@@ -43,5 +43,17 @@ pub fn encode(fields: &StdFields, out: &mut ByteList) -> Result<(), Memory>
     ensures ok { OnOk result (out.new ≡ out.old ++ written_of fields.now) }
     ensures err { OnErr result (out.new ≡ out.old) }
 {
-    out.push_all(&bytes_of(fields))
+    let room = out.reserve(LENGTH)?;
+    encode_reserved(fields, room);
+    Ok(())
+}
+
+/// What `encode` appends, to a list that has room for it. It takes no memory.
+pub fn encode_reserved(fields: &StdFields, out: &mut Reserved)
+    requires room { 72 ≤ out.old.spare }
+    ensures items { out.new.items ≡ out.old.items ++ written_of fields.now }
+    ensures spare { out.old.spare ≤ out.new.spare + 72 }
+    ensures length { length out.new.items ≡ length out.old.items + 72 }
+{
+    out.push_all(&bytes_of(fields));
 }

@@ -6,7 +6,7 @@ mod encoding;
 mod laws;
 
 pub use decoding::{ObjRef, RefFault, decode};
-pub use encoding::encode;
+pub use encoding::{encode, encode_reserved};
 pub use laws::{no_front_is_whole, written_is_read};
 
 #[cfg(test)]

@@ -2,13 +2,13 @@
 //! Source: MS-DCOM 2.2.13, "ORPC Call Conventions": ORPCTHIS and ORPCTHAT.
 #![tactic(auto)]
 
-ghost use Rattle.std.specs.Prelude.{◌≡◌, ◌<◌, ◌^◌, List, ℕ, [], ◌++◌, OnOk, OnErr, IfOk, Ok, length};
+ghost use Rattle.std.specs.Prelude.{◌≡◌, ◌+◌, ◌<◌, ◌≤◌, ◌^◌, List, ℕ, [], ◌++◌, OnOk, OnErr, IfOk, Ok, length};
 ghost use Rattle.com_base.specs.declared.guid.Guid.{Guid};
 ghost use Rattle.com_wire.specs.Fields.{IsGuid};
 ghost use Rattle.orpc.specs.Headers.{This, IsThis, this_text, this_of, that_text, whole, request_of};
 ghost use Rattle.orpc.specs.Headers.{reply_of};
 
-use com_base::{ByteList, Guid, Memory};
+use com_base::{ByteList, Guid, Memory, Reserved};
 use com_wire::{guid_at, put, u16_at, u32_at};
 
 /// Why bytes are no header: the first fault in the order of reading, and its position in the bytes.
@@ -55,17 +55,41 @@ pub fn request(cause: &Guid, out: &mut ByteList) -> Result<(), Memory>
     ensures ok { OnOk result (out.new ≡ out.old ++ this_text (this_of cause.now)) }
     ensures err { OnErr result (out.new ≡ out.old) }
 {
-    out.push_all(&this(cause))
+    let room = out.reserve(REQUEST)?;
+    request_reserved(cause, room);
+    Ok(())
+}
+
+/// What `request` appends, to a list that has room for it. It takes no memory.
+pub fn request_reserved(cause: &Guid, out: &mut Reserved)
+    requires room { 32 ≤ out.old.spare }
+    ensures items { out.new.items ≡ out.old.items ++ this_text (this_of cause.now) }
+    ensures spare { out.old.spare ≤ out.new.spare + 32 }
+    ensures length { length out.new.items ≡ length out.old.items + 32 }
+{
+    out.push_all(&this(cause));
 }
 
 /// Appends the 8 bytes of a reply's header: no flags and no extensions. The only error is want of
 /// memory, and then the list is as before. Source: MS-DCOM 2.2.13.4, "ORPCTHAT".
-#[tactic(auto, unfolding(crate::specs::Headers::that_text, com_wire::specs::Fields::number))]
 pub fn reply(out: &mut ByteList) -> Result<(), Memory>
     ensures ok { OnOk result (out.new ≡ out.old ++ that_text 0) }
     ensures err { OnErr result (out.new ≡ out.old) }
 {
-    out.push_all(&[0; REPLY])
+    let room = out.reserve(REPLY)?;
+    reply_reserved(room);
+    Ok(())
+}
+
+/// What `reply` appends, to a list that has room for it. It takes no memory.
+#[tactic(auto, unfolding(crate::specs::Headers::that_text, com_wire::specs::Fields::number))]
+pub fn reply_reserved(out: &mut Reserved)
+    requires room { 8 ≤ out.old.spare }
+    ensures items { out.new.items ≡ out.old.items ++ that_text 0 }
+    ensures spare { out.old.spare ≤ out.new.spare + 8 }
+    ensures length { length out.new.items ≡ length out.old.items + 8 }
+{
+    out.push_all(&[0; REPLY]);
 }
 
 // The value of a field that is whole, or the fault that the bytes end in it.
