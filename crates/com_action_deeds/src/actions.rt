@@ -1,11 +1,10 @@
 //! The entries of actions that need no references.
 
-ghost use Rattle.std.specs.Prelude.{◌≡◌, ◌+◌, ◌<◌, ◌≤◌, ◌^◌, ◌&&◌, not, length, ℕ, Some};
+ghost use Rattle.std.specs.Prelude.{◌≡◌, ◌+◌, ◌<◌, ◌≤◌, ◌^◌, ◌&&◌, not, length, ℕ};
 ghost use Rattle.com_books.specs.Changes.{Books};
 ghost use Rattle.com_model.specs.Deeds.{deed_of, takes_words, word_answer};
 ghost use Rattle.com_model.specs.Tables.{is_thread};
 ghost use Rattle.com_body.specs.declared.actions.Action.TheVariants as action;
-ghost use Rattle.com_model.specs.declared.deeds.Deed.TheVariants as deed;
 ghost use Rattle.com_view.specs.Seen.{bare, sight_by};
 ghost use Rattle.com_lanes.specs.Changes.{natural};
 

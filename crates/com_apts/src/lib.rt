@@ -5,7 +5,7 @@
 //! used again. Lanes are numbered too: from 1 those of the threads, then the host's, then the pool's.
 #![tactic(auto)]
 
-ghost use Rattle.std.specs.Prelude.{◌≡◌, ◌+◌, ◌-◌, ◌<◌, ◌≤◌, ◌^◌, [], ◌∷◌, ◌++◌, false, true, length};
+ghost use Rattle.std.specs.Prelude.{◌≡◌, ◌+◌, ◌<◌, ◌≤◌, ◌^◌, [], length};
 ghost use Rattle.std.specs.Prelude.{replicate, IfOk, OnOk, OnErr, List, ℕ, vec_len};
 ghost use Rattle.com_apts.specs.Lanes.{Step, IsBalanced, IsThread, after_init, after_uninit, count_of};
 ghost use Rattle.com_apts.specs.Lanes.{ended_by_uninit, ended_first, free_seat, home_of, init_answer};

@@ -1,6 +1,6 @@
 //! Bytes, seen as a list.
-ghost use Rattle.std.specs.Prelude.{◌≡◌, ℕ, ◌++◌, ◌∷◌, List, [], IfOk, OnErr, OnOk, IsTrue, ◌↔◌, length};
-ghost use Rattle.std.specs.Prelude.{take, ◌≤◌};
+ghost use Rattle.std.specs.Prelude.{◌≡◌, ◌≤◌, ◌++◌, ◌∷◌, [], IfOk, OnErr, OnOk, IsTrue, ◌↔◌, length};
+ghost use Rattle.std.specs.Prelude.{take};
 ghost use Rattle.std.specs.Borrow.{sem, LendsIfOk};
 ghost use Rattle.com_base.specs.contracts.bytes.ByteList.{the_row as list_row};
 ghost use Rattle.com_base.specs.contracts.room.Reserved.{the_row as reserved_row};

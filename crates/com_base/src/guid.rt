@@ -1,5 +1,5 @@
 //! GUIDs, their wire form and their text.
-ghost use Rattle.std.specs.Prelude.{◌≡◌, ◌↔◌};
+ghost use Rattle.std.specs.Prelude.{◌≡◌};
 ghost use Rattle.com_base.specs.Guids.{wire_of, guid_of_wire, text_of, guid_of_text, reading_order_of};
 
 use uuid::Uuid;

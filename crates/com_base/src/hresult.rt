@@ -1,5 +1,5 @@
 //! HRESULTs: their parts and the names that a text may use.
-ghost use Rattle.std.specs.Prelude.{◌≡◌, ◌/◌, ◌%◌, ◌^◌, ◌<◌, ◌≤◌, IsTrue, ◌↔◌, slice_index};
+ghost use Rattle.std.specs.Prelude.{◌≡◌, ◌^◌, ◌<◌, ◌≤◌, IsTrue, ◌↔◌, slice_index};
 ghost use Rattle.std.specs.Option.{option_copied};
 ghost use Rattle.hex.specs.Hex.{upper_digits};
 ghost use Rattle.com_base.specs.HResults.{name_of, facility_of, code_of, eight_digits, hresult_named};

@@ -1,5 +1,5 @@
 //! A list of rows, seen as a list.
-ghost use Rattle.std.specs.Prelude.{◌≡◌, ◌++◌, ◌∷◌, List, [], OnErr, OnOk, length};
+ghost use Rattle.std.specs.Prelude.{◌≡◌, ◌++◌, ◌∷◌, [], OnErr, OnOk, length};
 
 use std::alloc::{AllocError, Global};
 use std::marker::Model;

@@ -1,8 +1,8 @@
 //! Frames, cells and what a step takes and gives.
 
-ghost use Rattle.std.specs.Prelude.{◌≡◌, ◌<◌, ◌≤◌, ◌+◌, ◌-◌, Option, [], ◌∷◌, ◌++◌, IfOk};
+ghost use Rattle.std.specs.Prelude.{◌≡◌, ◌<◌, ◌≤◌, ◌+◌, Option, [], ◌∷◌, ◌++◌, IfOk};
 ghost use Rattle.std.specs.Prelude.{OnOk, length, slice_set, vec_len, vec_capacity};
-ghost use Rattle.com_body.specs.Frames.{no_number, entered, padded, plain_values, references, with_register};
+ghost use Rattle.com_body.specs.Frames.{entered, padded, plain_values, references, with_register};
 ghost use Rattle.com_body.specs.Frames.{with_slot};
 ghost use Rattle.com_body.specs.Operands.{new_cells, register_of, slot_of};
 

@@ -1,6 +1,6 @@
 //! The values of operands.
 
-ghost use Rattle.std.specs.Prelude.{◌≡◌, ◌<◌, IfOk, All};
+ghost use Rattle.std.specs.Prelude.{◌≡◌, IfOk, All};
 ghost use Rattle.com_body.specs.Operands.{value_of, number_in, number_of, held_at};
 ghost use Rattle.com_body.specs.Operands.{argument_of, arguments_of, answer_of, given_value, same_object};
 ghost use Rattle.com_body.specs.Operands.{truth};

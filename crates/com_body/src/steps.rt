@@ -1,6 +1,6 @@
 //! The body step.
 
-ghost use Rattle.std.specs.Prelude.{◌≡◌, ◌<◌, ◌≤◌, IfOk};
+ghost use Rattle.std.specs.Prelude.{◌≡◌, ◌≤◌, IfOk};
 ghost use Rattle.com_body.specs.Actions.{action_of, packet_action_of, lane_action_of, leave_ok};
 ghost use Rattle.com_body.specs.Bodies.{IsInRange, skip_of};
 ghost use Rattle.com_body.specs.BodySteps.{effect_of, body_step, no_body};

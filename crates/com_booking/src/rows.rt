@@ -1,7 +1,6 @@
 //! The rows of the table of reference counting, one for each kind of entry.
 ghost use Rattle.std.specs.Prelude.{◌≡◌, ◌+◌, ◌<◌, ◌≤◌, ◌^◌, ◌↔◌, ◌++◌, ◌∷◌, ◌==◌, [], ℕ, true, IsTrue, OnOk};
 ghost use Rattle.std.specs.Prelude.{OnErr, length, vec_len, vec_capacity};
-ghost use Rattle.com_base.specs.declared.value.RefValue.{RefValue};
 ghost use Rattle.com_books.specs.Changes.{Takes, Asks, Marshals, Unmarshals, Drops, Registers, Revokes};
 ghost use Rattle.com_holders.specs.Places.{OneMore, SamePlaces};
 ghost use Rattle.com_holders.specs.Tables.{offers, owns_of};

@@ -2,7 +2,6 @@
 use Rattle.std.proofs.Common.{ap, ◌∙◌, arith, subst, sym}
 use Rattle.std.proofs.lemmas.Grind.{common_steps}
 use Rattle.std.specs.Prelude.{◌≡◌, ℕ, zero, suc, ◌+◌, ◌*◌, ◌^◌, ◌<◌, ◌≤◌, Bool, true, false, cond, ◌==◌, ◌&&◌, nat_le, List, ◌∷◌, length, Some, None, slice_index_or}
-use Rattle.com_base.specs.declared.value.Mode.TheVariants as mode
 use Rattle.com_books.specs.declared.keeps.Packet.{Packet}
 use Rattle.com_books.specs.declared.keeps.Cookie.{Cookie}
 use Rattle.com_lanes.specs.Changes.{IsNumber, IsBelow}

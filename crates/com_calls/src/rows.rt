@@ -1,6 +1,6 @@
 //! A row for each call, and what an entry changes in one row.
 
-ghost use Rattle.std.specs.Prelude.{◌≡◌, ◌&&◌, true, false, is_none, is_some, map, []};
+ghost use Rattle.std.specs.Prelude.{◌≡◌, ◌&&◌, false, is_none, is_some, map, []};
 ghost use Rattle.com_model.specs.Endings.{is_leave};
 ghost use Rattle.com_calls.specs.Rows.{changed_row, admitting, ending_by, left_with, returning, phased};
 ghost use Rattle.com_calls.specs.Rows.{taken, new_row_of, row_at, reaches, late_of, late_row};

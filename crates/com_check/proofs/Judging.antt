@@ -6,7 +6,6 @@ use Rattle.com_model.specs.declared.counts.Ended.{Ended}
 use Rattle.com_model.specs.declared.deeds.Deed.{Deed}
 use Rattle.com_model.specs.declared.deeds.Entry.{Entry}
 use Rattle.com_model.specs.declared.scenario.Scenario.{Scenario}
-use Rattle.com_model.specs.Clock.{clock}
 use Rattle.com_model.specs.Ends.{all_counts, ended_as, ended_by, last_after, limit, report_as, turn}
 use Rattle.com_model.specs.Formed.{Formed}
 use Rattle.com_model.specs.Lists.{first}
@@ -29,7 +28,7 @@ use Rattle.com_check.specs.declared.judged.Judged.{Judged}
 use Rattle.com_check.specs.declared.judged.Judged.TheVariants as judged
 use Rattle.com_check.specs.Fronts.{named, IsNoLane}
 use Rattle.com_check.specs.Lines.{lines_of}
-use Rattle.com_check.specs.Judging.{Differs, IsJudged, Unended, entry_line, entry_of, history_lines, lane_due, lane_of_turn, last_lane, legal_line, line_due, report_lines, shown}
+use Rattle.com_check.specs.Judging.{IsJudged, Unended, entry_line, entry_of, history_lines, lane_due, lane_of_turn, last_lane, legal_line, line_due, report_lines, shown}
 use Rattle.com_check.specs.Turning.{IsCompared, IsEntry, IsNextOf, IsOther, IsReported, IsScheduled, IsTold, IsTurn, entry_in, lane_in, line_in}
 use Rattle.com_check.proofs.Entries.{entry_made, none_above}
 use Rattle.com_check.proofs.Histories.{history_length, nothing_told}

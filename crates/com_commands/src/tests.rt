@@ -1,5 +1,5 @@
 //! Two small commands, each in its frame.
-ghost use Rattle.std.specs.Prelude.{◌≡◌, ◌≤◌, ◌∷◌, ◌++◌, [], ⊤, Ok, length, nat_lt};
+ghost use Rattle.std.specs.Prelude.{◌≡◌, ⊤, Ok, length, nat_lt};
 ghost use Rattle.std.proofs.Common.{lit<, subst, sym};
 ghost use Rattle.com_commands.specs.declared.statuses.Status.{Status as AnyStatus};
 ghost use Rattle.com_commands.specs.declared.statuses.Status.TheVariants as status;

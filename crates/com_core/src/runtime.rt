@@ -1,7 +1,7 @@
 //! A runtime that makes one entry at a time.
 
-ghost use Rattle.std.specs.Prelude.{◌≡◌, ◌<◌, ◌≤◌, ◌^◌, ◌∷◌, ◌↔◌, [], IfErr, IfOk, IsTrue, OnErr, OnOk};
-ghost use Rattle.std.specs.Prelude.{Some, length, map};
+ghost use Rattle.std.specs.Prelude.{◌≡◌, ◌≤◌, ◌∷◌, ◌↔◌, [], IfErr, IfOk, IsTrue, OnErr, OnOk};
+ghost use Rattle.std.specs.Prelude.{Some, map};
 ghost use Rattle.std.specs.Arc.{arc_value};
 ghost use Rattle.com_core.specs.Beginning.{BeginsParts};
 ghost use Rattle.com_core.specs.Seen.{IsFirst, IsWhole, Makes, Steps, core_state};

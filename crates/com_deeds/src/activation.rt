@@ -1,6 +1,6 @@
 //! The entries of creation and of a query.
 
-ghost use Rattle.std.specs.Prelude.{◌≡◌, ℕ, ◌+◌, ◌<◌, ◌^◌, Some, Option};
+ghost use Rattle.std.specs.Prelude.{◌≡◌, ℕ, ◌+◌, ◌<◌, ◌^◌};
 ghost use Rattle.com_model.specs.Sight.{Sight};
 ghost use Rattle.com_model.specs.Tables.{class_number, interface_number, shown};
 ghost use Rattle.com_model.specs.Deeds.{created, creator, not_made, placing, offers};

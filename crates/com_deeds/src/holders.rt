@@ -1,6 +1,6 @@
 //! The entries of actions on packets and cookies.
 
-ghost use Rattle.std.specs.Prelude.{◌≡◌, ℕ, ◌+◌, ◌<◌, ◌^◌, Some, None, Option, length, if◌then◌else◌};
+ghost use Rattle.std.specs.Prelude.{◌≡◌, ℕ, ◌+◌, ◌<◌, ◌^◌, Some, None, length, if◌then◌else◌};
 ghost use Rattle.com_model.specs.Answers.{S_OK, E_INVALIDARG};
 ghost use Rattle.com_base.specs.declared.value.RefValue.{RefValue};
 ghost use Rattle.com_books.specs.Changes.{packet, cookie};

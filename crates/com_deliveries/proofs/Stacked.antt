@@ -1,7 +1,7 @@
 -- What stands open, kept with the innermost last, and the rows of lanes.
 use Rattle.std.proofs.Common.{refl, ap, sym, ◌∙◌, arith}
 use Rattle.std.proofs.lemmas.List.{reverse-append}
-use Rattle.std.specs.Prelude.{◌≡◌, ℕ, zero, suc, ◌+◌, ◌<◌, ◌≤◌, List, [], ◌∷◌, ◌++◌, length, reverse, Option, Some, None, slice_index_or, slice_set}
+use Rattle.std.specs.Prelude.{◌≡◌, ℕ, zero, suc, ◌<◌, ◌≤◌, List, [], ◌∷◌, ◌++◌, length, reverse, Option, Some, None, slice_index_or, slice_set}
 use Rattle.std.specs.Option.{option_to_list}
 use Rattle.com_deliveries.specs.Rows.{top_in, without_top, opened_in, closed_in}
 

@@ -1,6 +1,6 @@
 -- What the book of a history keeps of it, and that an entry keeps that true.
 use Rattle.std.proofs.Common.{refl, ap, sym, subst, ◌∙◌, arith, eqb-true}
-use Rattle.std.specs.Prelude.{◌≡◌, ℕ, ◌+◌, ◌≤◌, ◌^◌, ◌-◌, Bool, true, false, cond, ◌||◌, ◌&&◌, ◌==◌, nat_lt, nat_le, List, [], ◌∷◌, ◌++◌, length, map, Option, Some, None, is_some, option_map}
+use Rattle.std.specs.Prelude.{◌≡◌, ℕ, ◌+◌, Bool, true, false, cond, ◌&&◌, ◌==◌, nat_lt, nat_le, List, [], ◌∷◌, ◌++◌, length, map, Option, Some, None, is_some, option_map}
 use Rattle.com_base.specs.declared.value.Value.{Value}
 use Rattle.com_body.specs.declared.operands.Asked.{Asked}
 use Rattle.com_deliveries.specs.declared.sources.Source.{Source}
@@ -10,7 +10,6 @@ use Rattle.com_deliveries.specs.Delivered.{cookie_of}
 use Rattle.com_deliveries.specs.Tables.{AreSources}
 use Rattle.com_deliveries.specs.Rows.{row_at, with_row, next_in, last_in, top_in, without_top, stack_in, opened_in, closed_in}
 use Rattle.com_deliveries.proofs.RowReads.{row-new, row-old, row-here, row-there, row-length, stack-opened, stack-beside, stack-closed, stack-still}
-use Rattle.com_model.specs.declared.deeds.Deed.TheVariants as deed
 use Rattle.com_model.specs.declared.deeds.Entry.{Entry}
 use Rattle.com_model.specs.declared.scenario.Scenario.{Scenario}
 use Rattle.com_model.specs.declared.keeps.Issue.{Issue}

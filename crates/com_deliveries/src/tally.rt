@@ -1,6 +1,5 @@
 //! What was read of a history so far, by lane, by call and by object.
 ghost use Rattle.std.specs.Prelude.{◌≡◌, ◌++◌, ◌∷◌, [], IfOk, OnOk, MatchOption, None, Some};
-ghost use Rattle.com_base.specs.declared.value.Value.{Value};
 ghost use Rattle.com_deliveries.specs.Book.{after, begun, called, changed_by, closes_in, delivery, empty};
 ghost use Rattle.com_deliveries.specs.Book.{ended, enters_in, events, deliveries_in};
 ghost use Rattle.com_deliveries.specs.Book.{got, is_event, issues_in};

@@ -1,7 +1,6 @@
 //! A scenario with late-bound calls from its text.
 
-ghost use Rattle.std.specs.Prelude.{◌≡◌, ◌<◌, ◌+◌, Ok, IfOk};
-ghost use Rattle.com_classes.specs.BuiltIns.{built_in_interfaces};
+ghost use Rattle.std.specs.Prelude.{◌≡◌, IfOk};
 ghost use Rattle.com_model.specs.Formed.{Formed};
 ghost use Rattle.com_text.specs.Scanning.{lines_of};
 ghost use Rattle.com_read_operands.specs.Reading.{Gives};

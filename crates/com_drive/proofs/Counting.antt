@@ -7,7 +7,7 @@ use Rattle.com_model.specs.declared.counts.Counts.{Counts}
 use Rattle.com_model.specs.declared.deeds.Entry.{Entry}
 use Rattle.com_model.specs.declared.scenario.Scenario.{Scenario}
 use Rattle.com_model.specs.Lists.{one_to}
-use Rattle.com_model.specs.Objects.{objects, named, class_of}
+use Rattle.com_model.specs.Objects.{named, class_of}
 use Rattle.com_model.specs.Places.{ground, direct_places}
 use Rattle.com_model.specs.Frames.{scene}
 use Rattle.com_model.specs.Books.{books}

@@ -1,6 +1,6 @@
 -- From the first state to the whole history: what stands between two steps.
 use Rattle.std.proofs.Common.{sym, subst, ◌∙◌, ap, arith, inl, inr, append_assoc, append-nil, drop, map}
-use Rattle.std.specs.Prelude.{◌≡◌, refl, ℕ, zero, suc, ◌+◌, ◌-◌, ◌≤◌, ◌<◌, Bool, true, cond, nat_le, List, [], ◌∷◌, ◌++◌, length, Option, Some, None, Result, Ok, Err, OnOk, slice_index_or, ◌⊎◌}
+use Rattle.std.specs.Prelude.{◌≡◌, refl, ℕ, zero, suc, ◌+◌, ◌-◌, ◌≤◌, ◌<◌, Bool, true, cond, nat_le, List, [], ◌∷◌, ◌++◌, length, Option, Some, None, Result, Ok, Err, OnOk, slice_index_or}
 use Rattle.com_io.specs.Told.{Gains, GainsPrefix}
 use Rattle.com_io.proofs.Passing.{gains_both, gains_then_prefix, prefix_of_more, gains_nothing}
 use Rattle.com_model.specs.declared.counts.Counts.{Counts}
@@ -10,9 +10,7 @@ use Rattle.com_model.specs.declared.deeds.Entry.{Entry}
 use Rattle.com_model.specs.declared.keeps.Opener.{Opener}
 use Rattle.com_model.specs.declared.scenario.Scenario.{Scenario}
 use Rattle.com_model.specs.Lists.{first}
-use Rattle.com_model.specs.Tables.{lanes}
-use Rattle.com_model.specs.Openers.{openers}
-use Rattle.com_model.specs.Objects.{objects, class_of}
+use Rattle.com_model.specs.Objects.{class_of}
 use Rattle.com_model.specs.Clock.{clock}
 use Rattle.com_model.specs.Text.{history_text, line_text, report_text}
 use Rattle.com_model.specs.Sight.{Sight, sight}

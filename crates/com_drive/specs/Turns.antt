@@ -1,6 +1,5 @@
 -- One turn of a runtime: its entry, the state after it, and the steps of servants.
 use Rattle.std.specs.Prelude.{◌≡◌, ℕ, zero, suc, ◌+◌, List, [], ◌∷◌, ◌++◌, Option, Some, None}
-use Rattle.std.specs.Prelude.{◌⊎◌}
 use Rattle.com_body.specs.declared.frame.Native.{Native}
 use Rattle.com_io.specs.Told.{Gains}
 use Rattle.com_model.specs.declared.deeds.Entry.{Entry}

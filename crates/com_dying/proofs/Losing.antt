@@ -1,7 +1,7 @@
 -- Which objects fall by an entry: what is dying stays so, and what falls lost its last holder or its body.
 use Rattle.std.proofs.Common.{subst, sym, ap, ◌∙◌, arith, inl, inr, eqb-true}
 use Rattle.std.proofs.lemmas.Grind.{common_steps}
-use Rattle.std.specs.Prelude.{◌≡◌, refl, ℕ, ◌+◌, ◌<◌, ◌≤◌, Bool, true, false, cond, not, ◌==◌, ◌&&◌, ◌||◌, nat_le, List, [], ◌∷◌, ◌++◌, ◌⊎◌, Option, Some, filter}
+use Rattle.std.specs.Prelude.{◌≡◌, refl, ℕ, ◌<◌, ◌≤◌, Bool, true, false, cond, not, ◌==◌, ◌&&◌, ◌||◌, nat_le, List, [], ◌∷◌, ◌⊎◌, Option, Some, filter}
 use Rattle.com_model.specs.declared.deeds.Deed.{Deed}
 use Rattle.com_model.specs.declared.deeds.Deed.TheVariants as deed
 use Rattle.com_model.specs.declared.deeds.Entry.{Entry}
@@ -12,11 +12,11 @@ use Rattle.com_model.specs.Formed.{Formed}
 use Rattle.com_model.specs.Lists.{first, is_member, is_number, any_of, one_to}
 use Rattle.com_model.specs.Tables.{lanes}
 use Rattle.com_model.specs.Openers.{Effect, Opens, Closes, Keeps, Closer, EndsPump, Backs, Leaves, effect, effect_on, opened, openers, runs, matches, fits}
-use Rattle.com_model.specs.Objects.{finals, finaled, objects}
+use Rattle.com_model.specs.Objects.{finals, finaled}
 use Rattle.com_model.specs.Places.{ground}
 use Rattle.com_model.specs.Frames.{scene}
 use Rattle.com_model.specs.Books.{books, holders_in}
-use Rattle.com_model.specs.Dying.{is_entered, is_dying_by, is_dying, fallen_more, fallen}
+use Rattle.com_model.specs.Dying.{is_entered, is_dying_by, is_dying, fallen_more}
 use Rattle.com_model.specs.Rules.{next}
 use Rattle.com_model.specs.State.{State, StandsFor, next_of, openers_in, objects_in, ground_in, scene_in, books_in, dies_in, after}
 use Rattle.com_model.proofs.Sights.{same-ground, same-scene, same-books, same-next}

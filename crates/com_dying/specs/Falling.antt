@@ -1,5 +1,5 @@
 -- Which objects can fall by an entry, and what a list of those has.
-use Rattle.std.specs.Prelude.{◌≡◌, ℕ, ◌<◌, ◌≤◌, true, false, ◌==◌, List, [], ◌∷◌, ◌++◌, ◌⊎◌, Some, filter}
+use Rattle.std.specs.Prelude.{◌≡◌, ℕ, ◌<◌, ◌≤◌, true, false, ◌==◌, List, ◌++◌, ◌⊎◌, Some, filter}
 use Rattle.com_model.specs.declared.deeds.Deed.{Deed}
 use Rattle.com_model.specs.declared.keeps.Opener.TheVariants.{Enters}
 use Rattle.com_model.specs.declared.scenario.Scenario.{Scenario}

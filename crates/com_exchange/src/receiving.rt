@@ -1,6 +1,5 @@
 //! Reading a request: its causality, its values, and the packets that carry the references.
 ghost use Rattle.std.specs.Prelude.{◌≡◌, ◌++◌, IfOk, OnOk, drop};
-ghost use Rattle.std.specs.Int.{from_le_bytes};
 ghost use Rattle.com_exchange.specs.Received.{reference_in_fields, packet_in_fields, values_in, packets_in};
 ghost use Rattle.com_exchange.specs.Received.{value_in, packet_in, request_in, Reads};
 

@@ -1,7 +1,6 @@
 //! The values of a call as they travel.
 ghost use Rattle.std.specs.Prelude.{◌≡◌, ◌++◌, Bool, ℕ, IfOk, OnOk, option_copied};
-ghost use Rattle.com_base.specs.Values.{as_kind, default_of};
-ghost use Rattle.com_model.specs.Answers.{is_failure};
+ghost use Rattle.com_base.specs.Values.{default_of};
 ghost use Rattle.com_model.specs.Values.{if_live, sent_value, sent_values, sent_result};
 ghost use Rattle.com_model.specs.Values.{carried};
 ghost use Rattle.com_exchange.specs.Sent.{sent_or_default};

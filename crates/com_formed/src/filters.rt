@@ -1,6 +1,6 @@
 //! Message filters and their rules.
 
-ghost use Rattle.std.specs.Prelude.{◌≡◌, ◌≤◌, ◌↔◌, IsTrue, All, length};
+ghost use Rattle.std.specs.Prelude.{◌≤◌, ◌↔◌, IsTrue, All, length};
 ghost use Rattle.com_model.specs.Formed.{IsType, IsAsked, IsRetryAnswer, IsRule, IsFilter, last_ms};
 
 use com_base::{FILTER_LIMIT, RULE_LIMIT, Rows};

@@ -1,6 +1,6 @@
 //! Statements, and the bodies and scripts that they make.
 
-ghost use Rattle.std.specs.Prelude.{◌≡◌, ◌≤◌, ◌<◌, ◌↔◌, IsTrue, [], length};
+ghost use Rattle.std.specs.Prelude.{◌≡◌, ◌≤◌, ◌↔◌, IsTrue, [], length};
 ghost use Rattle.std.specs.Option.{option_copied};
 ghost use Rattle.com_body.specs.declared.operands.Destination.TheVariants as destination;
 ghost use Rattle.com_model.specs.Formed.{IsClassNamed, IsInterfaceNamed, IsPlaceIn, FitsKind, FitKinds};

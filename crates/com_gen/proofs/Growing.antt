@@ -1,5 +1,5 @@
 -- Texts that grow behind a text.
-use Rattle.std.proofs.Common.{◌≡◌, ℕ, ◌+◌, List, [], ◌++◌, refl, ap, sym, ◌∙◌, append_assoc, append-nil, add-one}
+use Rattle.std.proofs.Common.{◌≡◌, ℕ, ◌+◌, List, ◌++◌, refl, ap, sym, ◌∙◌, append_assoc, append-nil, add-one}
 use Rattle.std.specs.Prelude.{codes, decimal, ◌%◌}
 use Rattle.rand_pcg.specs.Lcg.{Lcg}
 use Rattle.com_gen.specs.Loads.{apartment_text, behind, behind_round, behind_rounds, behind_script, behind_scripts, round_of, round_text, rounds_text, script_text, scripts_text, word}

@@ -6,9 +6,9 @@
 //! MS-DCOM 2.2.18 and 3.2.4.4, and Essential COM, chapter 5, on stubs, proxies and marshalling.
 #![tactic(auto)]
 
-ghost use Rattle.std.specs.Prelude.{◌≡◌, ◌+◌, ◌-◌, ◌*◌, ◌==◌, ◌<◌, ◌≤◌, ◌^◌, ◌↔◌, ◌/◌, ◌&&◌, ◌||◌, ℕ, true};
+ghost use Rattle.std.specs.Prelude.{◌≡◌, ◌+◌, ◌==◌, ◌<◌, ◌≤◌, ◌^◌, ◌↔◌, ◌&&◌, ◌||◌, ℕ, true};
 ghost use Rattle.std.specs.Prelude.{false, not, max, [], ◌∷◌, ◌++◌, length, OnOk, OnErr, IfOk, IsOk};
-ghost use Rattle.std.specs.Prelude.{IsTrue, Ok, Err, Some, None, IsSomeAnd, if◌then◌else◌};
+ghost use Rattle.std.specs.Prelude.{IsTrue, Err, Some, None, IsSomeAnd, if◌then◌else◌};
 ghost use Rattle.com_stub.specs.CounterRows.{counter_of, has_counter, changed_counter, more, less, sum_of};
 ghost use Rattle.com_stub.specs.CounterRows.{opened_all, EachFirst};
 ghost use Rattle.com_stub.specs.StubRows.{is_connected, has_stub};
@@ -17,11 +17,10 @@ ghost use Rattle.com_proxy.specs.Rows.{public_of, local_of, changed_row, gaining
 ghost use Rattle.std.specs.Prelude.{IfNone, IfSome};
 ghost use Rattle.com_proxy.specs.Rows.{public_sum, IsFree};
 ghost use Rattle.com_packets.specs.Sums.{normal_sum};
-ghost use Rattle.com_packets.specs.declared.Packet as P;
 ghost use Rattle.com_books.specs.Changes.{changed, change, cut, packet, cookie, Takes, Asks};
 ghost use Rattle.com_books.specs.Changes.{Marshals, Unmarshals, ToProxy, ToCookie};
 ghost use Rattle.com_books.specs.Changes.{Join, Return, Withdraw, given_back};
-ghost use Rattle.com_holders.specs.Tables.{Tables, is_owned, books_of, owns_of, owners_of, object_in};
+ghost use Rattle.com_holders.specs.Tables.{is_owned, books_of, owns_of, owners_of, object_in};
 ghost use Rattle.com_holders.specs.Tables.{direct_less, direct_more, outstanding_in, offers};
 ghost use Rattle.com_holders.specs.Places.{OneMore, OneLess, SamePlaces, places_in, distinct};
 ghost use Rattle.com_holders.specs.Stands.{Gave, Released, Tells, Known, Bounded, IsEven};

@@ -1,6 +1,6 @@
 //! An `invoke` statement from its line.
 
-ghost use Rattle.std.specs.Prelude.{◌<◌, ◌^◌, [], Ok, IfOk, IfSome, All, drop};
+ghost use Rattle.std.specs.Prelude.{◌<◌, ◌^◌, [], IfOk, IfSome, All, drop};
 ghost use Rattle.com_body.specs.Bodies.{IsDestination};
 ghost use Rattle.com_binding.specs.Ranges.{IsDispArg};
 ghost use Rattle.com_read_operands.specs.Operands.{IsOperand};

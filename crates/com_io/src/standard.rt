@@ -10,8 +10,7 @@ use std::marker::Model;
 pub struct Discard;
 
 impl Sink for Discard {
-    ghost use Rattle.std.specs.Prelude.{◌≡◌, ◌≤◌, ◌<◌, None, Ok, IfOk, OnErr, length};
-    ghost use Rattle.com_io.specs.Faults.{Rose};
+    ghost use Rattle.std.specs.Prelude.{◌≡◌, None, Ok, length};
 
     ghost held = { λ _. None };
 
@@ -54,7 +53,7 @@ impl StdSource {
 }
 
 impl Source for StdSource {
-    ghost use Rattle.std.specs.Prelude.{◌≡◌, ◌≤◌, ◌<◌, None, IfOk, OnOk, OnErr, length};
+    ghost use Rattle.std.specs.Prelude.{◌≡◌, ◌≤◌, None, IfOk, OnOk, OnErr, length};
     ghost use Rattle.com_io.specs.Faults.{Rose, one_more};
 
     ghost left = { λ _. None };

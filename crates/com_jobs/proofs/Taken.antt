@@ -11,7 +11,7 @@ use Rattle.com_model.specs.declared.keeps.Opener.{Opener}
 use Rattle.com_model.specs.declared.keeps.Opener.TheVariants.{Pumps, Waits, Enters}
 use Rattle.com_model.specs.declared.scenario.Scenario.{Scenario}
 use Rattle.com_model.specs.Formed.{Formed}
-use Rattle.com_model.specs.Frames.{Body, actor, issued_body, outcome}
+use Rattle.com_model.specs.Frames.{actor, issued_body, outcome}
 use Rattle.com_model.specs.Lists.{first}
 use Rattle.com_model.specs.Rules.{legal, next}
 use Rattle.com_model.specs.State.{State, StandsFor, actor_of, class_in, issue_in, openers_in, scene_in}

@@ -4,7 +4,6 @@ ghost use Rattle.std.specs.Prelude.{◌≡◌, ◌∷◌, ℕ, List, Some};
 ghost use Rattle.com_body.specs.declared.frame.Job.{Job};
 ghost use Rattle.com_drive.specs.Standings.{Reached};
 ghost use Rattle.com_drive.specs.Turns.{IsNext};
-ghost use Rattle.com_jobs.specs.declared.jobs.Next.TheVariants as next;
 ghost use Rattle.com_jobs.specs.Jobs.{Fits, job_of, kept_in};
 ghost use Rattle.com_model.specs.declared.deeds.Entry.{Entry};
 ghost use Rattle.com_model.specs.declared.scenario.Scenario.{Scenario};

@@ -4,7 +4,7 @@
 //! without a walk over the others.
 #![tactic(auto)]
 
-ghost use Rattle.std.specs.Prelude.{◌≡◌, ◌+◌, ◌-◌, ◌%◌, ◌<◌, ◌≤◌, ◌≢◌, ℕ, [], ◌∷◌, ◌++◌, length, slice_index};
+ghost use Rattle.std.specs.Prelude.{◌≡◌, ◌+◌, ◌-◌, ◌<◌, ◌≤◌, ℕ, [], ◌∷◌, ◌++◌, length, slice_index};
 ghost use Rattle.std.specs.Prelude.{OnOk, OnErr, IsOk, IsTrue, ◌↔◌};
 ghost use Rattle.com_keyed.specs.Indices.{IsLatest, reach};
 ghost use Rattle.com_keyed.specs.Linked.{IsLinked, LeadsOn};

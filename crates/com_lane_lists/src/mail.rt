@@ -1,5 +1,5 @@
 //! The words of one lane.
-ghost use Rattle.std.specs.Prelude.{◌≡◌, ◌+◌, ◌<◌, ◌≤◌, ◌^◌, OnOk, length, slice_get};
+ghost use Rattle.std.specs.Prelude.{◌≡◌, ◌+◌, ◌<◌, ◌^◌, OnOk, length, slice_get};
 ghost use Rattle.com_model.specs.Lists.{first};
 ghost use Rattle.com_model.specs.Waiting.{no_mail, mail_after, mark_of, not_asked, Brings, Takes, Asks};
 ghost use Rattle.com_model.specs.Waiting.{Forgets};

@@ -1,5 +1,5 @@
 //! What each outgoing call of a lane was last asked about.
-ghost use Rattle.std.specs.Prelude.{◌≡◌, ◌<◌, [], ◌∷◌, OnOk};
+ghost use Rattle.std.specs.Prelude.{◌≡◌, [], ◌∷◌, OnOk};
 ghost use Rattle.com_model.specs.Waiting.{mark_of, without_mark};
 ghost use Rattle.com_lane_lists.specs.Rooms.{HasRow};
 

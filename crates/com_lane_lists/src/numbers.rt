@@ -1,5 +1,5 @@
 //! Lists of numbers that grow at their end.
-ghost use Rattle.std.specs.Prelude.{◌≡◌, ◌<◌, [], ◌∷◌, ◌++◌, OnOk};
+ghost use Rattle.std.specs.Prelude.{◌≡◌, [], ◌∷◌, ◌++◌, OnOk};
 ghost use Rattle.com_lane_lists.specs.Rooms.{HasRow};
 
 use com_base::Memory;

@@ -1,5 +1,5 @@
 //! Stacks, seen as lists with the innermost first.
-ghost use Rattle.std.specs.Prelude.{◌≡◌, [], ◌∷◌, ◌<◌, ◌↔◌, OnOk, length, reverse, slice_get};
+ghost use Rattle.std.specs.Prelude.{◌≡◌, [], ◌∷◌, OnOk, length, reverse, slice_get};
 ghost use Rattle.com_model.specs.Lists.{first, without_first};
 ghost use Rattle.com_lane_lists.specs.Rooms.{HasRow};
 

@@ -1,5 +1,5 @@
 //! One row of a table that has a row for each lane. A lane that has no row changes nothing.
-ghost use Rattle.std.specs.Prelude.{◌≡◌, ℕ, ◌+◌, ◌<◌, ◌≤◌, ◌^◌, length, ◌∷◌, [], false, true, if◌then◌else◌};
+ghost use Rattle.std.specs.Prelude.{◌≡◌, ℕ, ◌+◌, ◌<◌, ◌≤◌, ◌^◌, length, ◌∷◌, [], false, if◌then◌else◌};
 ghost use Rattle.std.specs.Prelude.{Option, OnOk, slice_index_or, slice_set};
 ghost use Rattle.com_model.specs.Answers.{is_S_OK};
 ghost use Rattle.com_model.specs.Apartments.{Initialises, Uninitialises, home_after, count_after, makes_sta};

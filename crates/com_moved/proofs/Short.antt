@@ -1,7 +1,7 @@
 -- A trace that was read is no longer than a text of version 1.
 use Rattle.std.proofs.Common.{sym, ap, subst, ◌∙◌, arith}
 use Rattle.std.proofs.lemmas.Grind.{common_steps}
-use Rattle.std.specs.Prelude.{◌≡◌, refl, ℕ, ◌≤◌, ◌-◌, List, false, Option, Some, None, Result, Ok, Err, drop, length, nat_lt, take}
+use Rattle.std.specs.Prelude.{◌≡◌, refl, ℕ, ◌≤◌, List, false, Option, Some, None, Result, Ok, Err, drop, length, nat_lt, take}
 use Rattle.com_text.specs.Scanning.{lines_of}
 use Rattle.com_read_operands.specs.declared.faults.Fault.{Fault}
 use Rattle.com_model.specs.declared.scenario.Scenario.{Scenario}

@@ -1,6 +1,6 @@
 //! The moves of an entry by its kind: what the action writes, what the entry brings and takes beside that,
 //! and what the end of an STA takes. All is read before anything is changed.
-ghost use Rattle.std.specs.Prelude.{◌≡◌, Option, length, ◌++◌, ◌&&◌, not, false, [], ◌==◌, OnOk, OnErr};
+ghost use Rattle.std.specs.Prelude.{◌≡◌, length, ◌++◌, ◌&&◌, not, false, [], ◌==◌, OnOk, OnErr};
 ghost use Rattle.std.specs.Prelude.{Some, None, if◌then◌else◌};
 ghost use Rattle.com_body.specs.Frames.{references};
 ghost use Rattle.com_model.specs.Apartments.{ends_sta};

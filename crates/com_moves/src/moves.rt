@@ -1,5 +1,5 @@
 //! The moves of an entry, as two lists that are used again from entry to entry.
-ghost use Rattle.std.specs.Prelude.{◌≡◌, OnOk, Some, None, [], ◌∷◌, ◌++◌, slice_index_or};
+ghost use Rattle.std.specs.Prelude.{◌≡◌, OnOk, None, [], ◌∷◌, ◌++◌, slice_index_or};
 ghost use Rattle.com_body.specs.Frames.{references};
 ghost use Rattle.com_places.specs.Moves.{no_moves, together, moved, all_moved};
 ghost use Rattle.com_moves.specs.Steps.{movings_of, exchanged};

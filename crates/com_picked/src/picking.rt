@@ -1,5 +1,5 @@
 //! The entries of picks, made on any runtime that keeps the rules.
-ghost use Rattle.std.specs.Prelude.{◌≡◌, false, IfOk, OnOk, map};
+ghost use Rattle.std.specs.Prelude.{◌≡◌, IfOk, OnOk, map};
 ghost use Rattle.com_model.specs.Formed.{Formed};
 ghost use Rattle.com_model.specs.State.{first_tables};
 ghost use Rattle.com_servant.specs.Rows.{row};

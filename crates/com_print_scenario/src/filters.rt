@@ -1,6 +1,6 @@
 //! Filters, threads and picks as lines.
 
-ghost use Rattle.std.specs.Prelude.{◌≡◌, ◌+◌, ◌++◌, ◌∷◌, [], OnOk, All, map, codes};
+ghost use Rattle.std.specs.Prelude.{◌≡◌, ◌++◌, ◌∷◌, [], OnOk, All, map, codes};
 ghost use Rattle.std.specs.Fmt.{signed_decimal};
 ghost use Rattle.com_print_words.specs.Spelled.{plain, more_text, words_text, line_text, text_of};
 ghost use Rattle.com_print_scenario.specs.Printed.{number_word, type_word, verdict_word, refusal_word};

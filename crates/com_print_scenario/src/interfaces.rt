@@ -1,6 +1,6 @@
 //! Interfaces and their methods as lines.
 
-ghost use Rattle.std.specs.Prelude.{◌≡◌, ◌≤◌, ◌++◌, ◌∷◌, [], OnOk, All, map};
+ghost use Rattle.std.specs.Prelude.{◌≡◌, ◌++◌, ◌∷◌, [], OnOk, All, map};
 ghost use Rattle.com_print_operands.specs.Ranges.{IsGuid};
 ghost use Rattle.com_print_words.specs.Spelled.{plain, words_text, more_text, line_text, text_of};
 ghost use Rattle.com_print_scenario.specs.Printed.{kind_word, result_words, method_words, interface_words};

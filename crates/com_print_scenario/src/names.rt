@@ -1,6 +1,6 @@
 //! The names that a scenario declares, and the tables of its interfaces.
 
-ghost use Rattle.std.specs.Prelude.{◌≡◌, ◌≤◌, ◌+◌, IfOk, length, map};
+ghost use Rattle.std.specs.Prelude.{◌≡◌, ◌≤◌, IfOk, length, map};
 ghost use Rattle.com_print_scenario.specs.Printed.{filter_name, filter_names, names_in};
 
 use com_base::{ByteList, Kind, Memory, Rows};

@@ -1,6 +1,6 @@
 //! A whole scenario as text.
 
-ghost use Rattle.std.specs.Prelude.{◌≡◌, ◌≤◌, ◌++◌, ◌∷◌, [], OnOk, IfOk, drop, length};
+ghost use Rattle.std.specs.Prelude.{◌≡◌, ◌≤◌, ◌++◌, OnOk, IfOk, drop, length};
 ghost use Rattle.com_model.specs.Formed.{Formed};
 ghost use Rattle.com_print_words.specs.Spelled.{line_text};
 ghost use Rattle.com_print_scenario.specs.Printed.{header_words, pool_words, printed};

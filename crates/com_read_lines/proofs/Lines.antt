@@ -4,7 +4,6 @@ use Rattle.std.proofs.lemmas.List.{drop_more}
 use Rattle.com_base.specs.declared.value.Kind.{Kind}
 use Rattle.com_text.specs.Words.{WordAt}
 use Rattle.com_text.specs.declared.word.Sort.TheVariants as sorts
-use Rattle.com_read_operands.specs.declared.faults.ScenarioError.TheVariants as errors
 use Rattle.com_read_operands.specs.Reading.{◌>>=◌}
 use Rattle.com_read_lines.specs.Declaring.{listed_item, listed_on, pick_at, picks_on}
 use Rattle.com_read_lines.specs.Methods.{item_at, signature_on}

@@ -1,6 +1,6 @@
 //! What a declaration's words say.
 
-ghost use Rattle.std.specs.Prelude.{◌≡◌, [], drop, Ok, IfOk};
+ghost use Rattle.std.specs.Prelude.{◌≡◌, [], drop, IfOk};
 ghost use Rattle.com_read_operands.specs.Reading.{Gives};
 ghost use Rattle.com_read_lines.specs.Declaring.{free_guid_at, free_name_at, interface_name_at};
 ghost use Rattle.com_read_lines.specs.Declaring.{filter_name_at, model_at, native_at, listed_item};

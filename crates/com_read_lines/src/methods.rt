@@ -1,6 +1,6 @@
 //! A method's line in an interface.
 
-ghost use Rattle.std.specs.Prelude.{◌≡◌, ◌<◌, ◌^◌, [], drop, Ok};
+ghost use Rattle.std.specs.Prelude.{◌≡◌, ◌<◌, ◌^◌, [], drop};
 ghost use Rattle.com_read_operands.specs.Reading.{Gives};
 ghost use Rattle.com_read_lines.specs.Methods.{type_word_of, type_at, item_at, signature_on, method_of};
 

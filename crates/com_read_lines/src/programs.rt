@@ -1,6 +1,6 @@
 //! The statements of bodies and scripts.
 
-ghost use Rattle.std.specs.Prelude.{◌≡◌, Ok};
+ghost use Rattle.std.specs.Prelude.{◌≡◌};
 ghost use Rattle.com_read_operands.specs.Reading.{Gives};
 ghost use Rattle.com_read_lines.specs.Programs.{number_index, spot_at, program_line};
 

@@ -1,6 +1,6 @@
 //! One rule of a filter, from its line.
 
-ghost use Rattle.std.specs.Prelude.{◌≡◌, Ok};
+ghost use Rattle.std.specs.Prelude.{◌≡◌};
 ghost use Rattle.com_read_operands.specs.Reading.{Gives};
 ghost use Rattle.com_read_lines.specs.Rules.{call_type_at, verdict_at, refusal_at, answer_at, kept_at};
 ghost use Rattle.com_read_lines.specs.Rules.{rule_word_of, rule_of};

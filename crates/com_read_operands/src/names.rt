@@ -1,6 +1,6 @@
 //! Declared names.
 
-ghost use Rattle.std.specs.Prelude.{◌≡◌, ◌<◌, ◌^◌, Ok, IfOk, IfSome, length};
+ghost use Rattle.std.specs.Prelude.{◌≡◌, ◌<◌, ◌^◌, IfOk, IfSome, length};
 ghost use Rattle.com_read_operands.specs.Reading.{Gives};
 ghost use Rattle.com_read_operands.specs.Naming.{is_tail, are_tail, is_name, position_of, number_of_name};
 ghost use Rattle.com_read_operands.specs.Naming.{name_at, declared_at, asked_at};

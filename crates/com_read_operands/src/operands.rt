@@ -1,6 +1,6 @@
 //! Operands.
 
-ghost use Rattle.std.specs.Prelude.{◌≡◌, ◌<◌, IfOk, IfSome, Ok};
+ghost use Rattle.std.specs.Prelude.{◌≡◌, ◌<◌, IfOk, IfSome};
 ghost use Rattle.hex.specs.Hex.{hex_digit_value};
 ghost use Rattle.com_body.specs.Bodies.{IsOp, IsPlace, IsCode, IsGiven};
 ghost use Rattle.com_read_operands.specs.Reading.{Gives};

@@ -1,6 +1,6 @@
 //! Lines outside of sections: declarations, and the lines that open a section.
 
-ghost use Rattle.std.specs.Prelude.{◌≡◌, ◌++◌, ◌∷◌, [], Ok, IfOk, OnOk};
+ghost use Rattle.std.specs.Prelude.{◌≡◌, ◌++◌, ◌∷◌, [], IfOk, OnOk};
 ghost use Rattle.com_read_operands.specs.Reading.{Gives};
 ghost use Rattle.com_read_sections.specs.Beginning.{section_word_of, pool_line, interface_line, class_line};
 ghost use Rattle.com_read_sections.specs.Beginning.{native_line, filter_line, thread_line, picks_line};

@@ -1,6 +1,6 @@
 //! Lines that go on with the section that is open, as one more method, statement or rule of it.
 
-ghost use Rattle.std.specs.Prelude.{◌≡◌, Ok};
+ghost use Rattle.std.specs.Prelude.{◌≡◌};
 ghost use Rattle.com_read_operands.specs.Reading.{Gives};
 ghost use Rattle.com_read_sections.specs.Opened.{method_line, program_of, ruled};
 ghost use Rattle.com_read_sections.specs.Going.{more_methods, more_statements, more_rules, goes_on};

@@ -1,6 +1,6 @@
 //! Lines inside of sections.
 
-ghost use Rattle.std.specs.Prelude.{◌≡◌, Ok, OnOk};
+ghost use Rattle.std.specs.Prelude.{◌≡◌, OnOk};
 ghost use Rattle.com_read_operands.specs.Reading.{Gives};
 ghost use Rattle.com_read_sections.specs.Opened.{interface_closed, has_body, body_head};
 ghost use Rattle.com_read_sections.specs.Opened.{class_ended, inner_class};

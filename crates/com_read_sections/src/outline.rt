@@ -1,6 +1,6 @@
 //! A text's outline: all that its lines declare.
 
-ghost use Rattle.std.specs.Prelude.{◌≡◌, Ok, IfOk};
+ghost use Rattle.std.specs.Prelude.{◌≡◌, IfOk};
 ghost use Rattle.com_text.specs.Scanning.{lines_of};
 ghost use Rattle.com_read_operands.specs.Reading.{Gives};
 ghost use Rattle.com_read_sections.specs.Outlines.{finish, outlined, names_of, iids_of, taken_iids, begun};

@@ -1,6 +1,6 @@
 //! The statement `call`: its method, its arguments and where its result goes.
 
-ghost use Rattle.std.specs.Prelude.{◌≡◌, ◌<◌, ◌^◌, [], Ok, IfOk, IfSome, All, length};
+ghost use Rattle.std.specs.Prelude.{◌≡◌, ◌<◌, ◌^◌, [], IfOk, IfSome, All, length};
 ghost use Rattle.std.specs.Option.{option_copied};
 ghost use Rattle.com_body.specs.Bodies.{IsArg, IsDestination, IsInRange};
 ghost use Rattle.com_read_operands.specs.Operands.{IsOperand};

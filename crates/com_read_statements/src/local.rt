@@ -1,6 +1,6 @@
 //! Local statements.
 
-ghost use Rattle.std.specs.Prelude.{◌≡◌, Ok, IfOk};
+ghost use Rattle.std.specs.Prelude.{IfOk};
 ghost use Rattle.com_body.specs.Bodies.{IsInRange};
 ghost use Rattle.com_read_operands.specs.Reading.{Gives};
 ghost use Rattle.com_read_statements.specs.Statements.{local_of};

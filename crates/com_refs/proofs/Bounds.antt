@@ -1,5 +1,5 @@
 -- What is held was made.
-use Rattle.std.proofs.Common.{◌≡◌, ℕ, true, false, eqb, cond, ◌+◌, ◌<◌, ◌≤◌, ◌||◌, List, [], ◌∷◌, length, refl, ◌∙◌}
+use Rattle.std.proofs.Common.{◌≡◌, ℕ, true, false, eqb, cond, ◌+◌, ◌<◌, ◌≤◌, ◌||◌, List, [], ◌∷◌, length, refl}
 use Rattle.com_stub.specs.declared.StubRow.{StubRow}
 use Rattle.com_stub.specs.StubRows.{is_connected, has_stub, stub_of}
 use Rattle.com_holders.specs.Tables.{Tables, books_of, direct_in}

@@ -8,8 +8,8 @@
 //! Essential COM, chapter 5.
 #![tactic(auto)]
 
-ghost use Rattle.std.specs.Prelude.{◌≡◌, ◌+◌, ◌-◌, ◌<◌, ◌≤◌, ◌^◌, ◌↔◌, ◌&&◌, ◌||◌, ◌==◌, ℕ, Bool, true};
-ghost use Rattle.std.specs.Prelude.{false, not, [], length, OnOk, OnErr, IfOk, IsOk, IsTrue, Ok, Err, Some};
+ghost use Rattle.std.specs.Prelude.{◌≡◌, ◌+◌, ◌<◌, ◌≤◌, ◌^◌, ◌↔◌, ◌&&◌, ◌||◌, ◌==◌, ℕ, Bool, true};
+ghost use Rattle.std.specs.Prelude.{false, not, [], length, OnOk, OnErr, IfOk, IsOk, IsTrue, Err, Some};
 ghost use Rattle.std.specs.Prelude.{None, IfSome, IfNone, IsSomeAnd, sum_by, if◌then◌else◌};
 ghost use Rattle.std.specs.Int.{from_le_bytes, w64};
 ghost use Rattle.com_stub.specs.StubRows.{is_connected};

@@ -1,5 +1,5 @@
 //! What a line is written with: the text that grows, and the words that stand in many lines.
-ghost use Rattle.std.specs.Prelude.{◌≡◌, ◌++◌, ◌+◌, [], ◌∷◌, ◌<◌, ◌≤◌, ◌/◌, ◌%◌, OnOk, decimal, codes};
+ghost use Rattle.std.specs.Prelude.{◌≡◌, ◌++◌, ◌+◌, [], ◌∷◌, ◌≤◌, OnOk, decimal, codes};
 ghost use Rattle.std.specs.Prelude.{length, drop};
 ghost use Rattle.std.specs.Fmt.{signed_decimal};
 ghost use Rattle.hex.specs.Hex.{encode_lower};

@@ -3,7 +3,6 @@
 ghost use Rattle.std.specs.Prelude.{◌≡◌, ◌++◌, ◌+◌, ℕ, IfOk, OnOk, Some, None, true, length, map};
 ghost use Rattle.std.specs.Prelude.{slice_index_or};
 ghost use Rattle.std.specs.List.{AllByRecursion};
-ghost use Rattle.com_base.specs.declared.value.RefValue.{RefValue};
 ghost use Rattle.com_body.specs.declared.actions.Action.TheVariants as action;
 ghost use Rattle.com_books.specs.Changes.{Books, marshal_all, new_packet};
 ghost use Rattle.com_exchange.specs.Previews.{IsOutgoing, reference_of};

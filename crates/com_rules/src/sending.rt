@@ -1,6 +1,6 @@
 //! The entries that send values: the Out of a call, and the Leave of a body.
 
-ghost use Rattle.std.specs.Prelude.{◌≡◌, ◌&&◌, true, [], Option, Some, IfOk, option_copied};
+ghost use Rattle.std.specs.Prelude.{◌≡◌, true, [], Option, Some, IfOk, option_copied};
 ghost use Rattle.std.specs.Prelude.{if◌then◌else◌};
 ghost use Rattle.com_body.specs.declared.actions.Action.{Action};
 ghost use Rattle.com_body.specs.declared.actions.Action.TheVariants as action;

@@ -1,6 +1,6 @@
 //! A scenario from its text.
 
-ghost use Rattle.std.specs.Prelude.{◌≡◌, ◌++◌, ◌∷◌, [], drop, Ok, OnOk, IfOk};
+ghost use Rattle.std.specs.Prelude.{◌≡◌, ◌++◌, ◌∷◌, [], drop, OnOk, IfOk};
 ghost use Rattle.com_read_operands.specs.Reading.{Gives};
 ghost use Rattle.com_model.specs.Formed.{Formed};
 ghost use Rattle.com_scenario.specs.Scenarios.{tables_of, scenario_of, reading};

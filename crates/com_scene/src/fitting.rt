@@ -1,6 +1,6 @@
 //! Whether the numbers of an entry fit, in constant time.
 
-ghost use Rattle.std.specs.Prelude.{◌<◌, ◌↔◌, IsTrue};
+ghost use Rattle.std.specs.Prelude.{◌↔◌, IsTrue};
 ghost use Rattle.com_scene.specs.Ranges.{FitsDeed, IsInterface};
 
 use com_body::Asked;

@@ -1,6 +1,6 @@
 //! The lines of the language that every source has.
 
-ghost use Rattle.std.specs.Prelude.{◌≡◌, ◌++◌, IfOk};
+ghost use Rattle.std.specs.Prelude.{◌≡◌, IfOk};
 ghost use Rattle.com_source_text.specs.Bodies.{point_text, advise_text, unadvise_text, round_text};
 ghost use Rattle.com_source_text.specs.Bodies.{fire_text, rest_text};
 

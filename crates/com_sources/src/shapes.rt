@@ -1,8 +1,6 @@
 //! Statements of a source's bodies, each by its form.
 ghost use Rattle.std.specs.Prelude.{◌≡◌, ◌↔◌, IsTrue, [], ◌∷◌};
-ghost use Rattle.com_base.specs.declared.value.Value.TheVariants as value;
 ghost use Rattle.com_body.specs.declared.statements.Stmt.TheVariants as stmt;
-ghost use Rattle.com_body.specs.declared.operands.Op.TheVariants as op_of;
 ghost use Rattle.com_body.specs.declared.operands.Arg.TheVariants as arg;
 ghost use Rattle.com_body.specs.declared.operands.Given.TheVariants as given_of;
 ghost use Rattle.com_body.specs.declared.operands.Destination.TheVariants as destination;

@@ -1,6 +1,6 @@
 -- Between entries the books are at rest: nothing is to be given back and nothing is to be cut. An entry that moves no reference
 -- leaves them, and the dying order.
-use Rattle.std.proofs.Common.{◌≡◌, refl, sym, ◌∙◌, ap, arith, ℕ, zero, suc, ◌+◌, ◌-◌, Bool, true, false, not, ◌==◌, ◌&&◌, ◌||◌, if◌then◌else◌, List, [], ◌∷◌, ◌++◌, filter, eqb-true}
+use Rattle.std.proofs.Common.{◌≡◌, refl, sym, ◌∙◌, ap, arith, ℕ, zero, suc, ◌-◌, Bool, true, false, not, ◌==◌, ◌&&◌, ◌||◌, if◌then◌else◌, List, [], ◌∷◌, ◌++◌, filter, eqb-true}
 use Rattle.std.proofs.lemmas.Grind.{common_steps}
 use Rattle.com_books.specs.Counting.{sum_below}
 use Rattle.com_model.specs.Lists.{is_member, one_to}

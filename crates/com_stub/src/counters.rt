@@ -1,6 +1,6 @@
 //! The counters of the stubs: a number for each object and interface.
 
-ghost use Rattle.std.specs.Prelude.{◌≡◌, ◌+◌, ◌<◌, ◌≤◌, ◌^◌, ◌↔◌, true, [], length, OnOk, IsOk};
+ghost use Rattle.std.specs.Prelude.{◌≡◌, ◌+◌, ◌<◌, ◌≤◌, ◌^◌, true, [], length, OnOk, IsOk};
 ghost use Rattle.com_stub.specs.CounterRows.{has_counter, counter_of, index_of, changed_counter, more, less};
 ghost use Rattle.com_stub.specs.CounterRows.{opened, opened_all, sum_of, objects_of, EachFirst};
 

@@ -6,7 +6,7 @@
 mod counters;
 
 ghost use Rattle.std.specs.Prelude.{◌≡◌, ◌+◌, ◌<◌, ◌≤◌, ◌^◌, ◌↔◌, true, false, [], ◌∷◌, ◌++◌, length};
-ghost use Rattle.std.specs.Prelude.{OnOk, OnErr, IsOk, Ok, Err};
+ghost use Rattle.std.specs.Prelude.{OnOk, OnErr, IsOk, Err};
 ghost use Rattle.com_stub.specs.CounterRows.{has_counter, changed_counter, more, less, opened_all, EachFirst};
 ghost use Rattle.com_stub.specs.StubRows.{has_stub, is_connected, ended_rows, stub_objects, EachStubFirst};
 ghost use Rattle.com_stub.specs.Tables.{count_of, total_of};

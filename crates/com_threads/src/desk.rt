@@ -1,5 +1,5 @@
 //! A runtime, and the history that it has made: what lies under the lock.
-ghost use Rattle.std.specs.Prelude.{◌≡◌, ◌+◌, ◌<◌, ◌≤◌, false, IfOk, OnOk, Some, None, length};
+ghost use Rattle.std.specs.Prelude.{◌≡◌, ◌+◌, ◌<◌, ◌≤◌, false, IfOk, OnOk, None, length};
 ghost use Rattle.com_drive.specs.Standings.{standing_of};
 ghost use Rattle.com_drive.specs.declared.runtime.Standing.TheVariants as standing;
 ghost use Rattle.com_jobs.specs.declared.jobs.Next.TheVariants as next;

@@ -1,8 +1,7 @@
 //! What is left when the workers have ended: the calling thread makes the rest of the entries.
-ghost use Rattle.std.specs.Prelude.{◌≡◌, ◌+◌, ◌≤◌, ◌<◌, [], Some, All, IfOk, IfSome, OnOk, length, map};
+ghost use Rattle.std.specs.Prelude.{◌≡◌, ◌+◌, ◌≤◌, ◌<◌, Some, All, IfOk, IfSome, OnOk, length, map};
 ghost use Rattle.std.specs.Prelude.{vec_len};
 ghost use Rattle.com_drive.specs.Standings.{ended_now, standing_of, CanGo, Reached};
-ghost use Rattle.com_drive.specs.declared.runtime.Standing.TheVariants as standing;
 ghost use Rattle.com_model.specs.Ends.{limit};
 ghost use Rattle.com_model.specs.Tables.{lanes};
 ghost use Rattle.com_servant.specs.Rows.{row};

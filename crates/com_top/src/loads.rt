@@ -1,5 +1,5 @@
 //! The command `load`.
-ghost use Rattle.std.specs.Prelude.{◌≡◌, [], IfOk, OnOk, map};
+ghost use Rattle.std.specs.Prelude.{◌≡◌, IfOk, OnOk, map};
 ghost use Rattle.com_model.specs.Formed.{Formed};
 ghost use Rattle.com_servant.specs.Rows.{row};
 ghost use Rattle.com_drive.specs.Replays.{IsReplay, whole_served};

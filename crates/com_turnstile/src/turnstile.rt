@@ -1,5 +1,5 @@
 //! The lock, its passes, and the guard of the pass that has entered.
-ghost use Rattle.std.specs.Prelude.{◌≡◌, ℕ, ◌+◌, ◌<◌, ◌≤◌, [], length, true, false, IfOk, Some, None};
+ghost use Rattle.std.specs.Prelude.{◌≡◌, ℕ, ◌+◌, ◌<◌, ◌≤◌, length, true, false, IfOk, Some};
 ghost use Rattle.std.specs.Prelude.{vec_len, slice_get};
 ghost use mathlib.Core.List.{IsPrefix};
 ghost use Rattle.com_turnstile.specs.Steps.{with_ticket, Entered};

@@ -1,9 +1,9 @@
 //! The rules that need no references: the entry that each gives.
 
-ghost use Rattle.std.specs.Prelude.{◌≡◌, Option, Some, None};
+ghost use Rattle.std.specs.Prelude.{◌≡◌};
 ghost use Rattle.com_body.specs.declared.actions.Action.TheVariants as action;
 ghost use Rattle.com_books.specs.Changes.{Books};
-ghost use Rattle.com_model.specs.Deeds.{deed_of, in_sta};
+ghost use Rattle.com_model.specs.Deeds.{deed_of};
 ghost use Rattle.com_model.specs.Lists.{first};
 ghost use Rattle.com_model.specs.Rules.{is_open_to_calls, admits_next, admits_sta, rule_bound, rule_retry};
 ghost use Rattle.com_model.specs.Rules.{retried, rule_again, posted_again, rule_pending, asked_on, rule_word};

@@ -1,7 +1,7 @@
 //! The cycle in which lanes wait for each other.
 ghost use Rattle.std.specs.Prelude.{◌≡◌, ◌++◌, ◌+◌, [], IfOk, OnOk, length};
 ghost use Rattle.com_model.specs.Lists.{is_member, least, lesser};
-ghost use Rattle.com_waits.specs.Chains.{before_lane, cycle_from, cycle_of, entered, explained, first_in};
+ghost use Rattle.com_waits.specs.Chains.{before_lane, cycle_of, entered, explained, first_in};
 ghost use Rattle.com_waits.specs.Chains.{from_lane, from_least, lane_named, is_message, next_in};
 
 use crate::reasons::{Wait, Waits, Why};

@@ -1,7 +1,6 @@
 //! Reading arguments in one pass over the bytes.
-ghost use Rattle.std.specs.Prelude.{◌≡◌, ◌+◌, ◌-◌, ◌<◌, ◌≤◌, ◌^◌, List, length, IfOk, Ok, Err};
+ghost use Rattle.std.specs.Prelude.{◌≡◌, ◌+◌, ◌<◌, ◌≤◌, List, length, IfOk, Ok};
 ghost use Rattle.std.specs.Str.{is_utf8};
-ghost use Rattle.com_base.specs.declared.value.Kind.{Kind};
 ghost use Rattle.objref.specs.Reading.{objref_of};
 ghost use Rattle.ndr_args.specs.declared.wire.Wire.{Wire};
 ghost use Rattle.ndr_args.specs.Grammar.{gap, align_of, IsArgs};

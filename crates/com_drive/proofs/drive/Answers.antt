@@ -1,4 +1,4 @@
-use Rattle.std.proofs.Common.{arith, subst, sym, ◌≡◌, ◌∙◌}
+use Rattle.std.proofs.Common.{arith, subst, sym, ◌∙◌}
 use Rattle.std.proofs.lemmas.Result.{on_ok_weaker, IfOk-weaker}
 use Rattle.com_drive.specs.Replays.{IsReplay}
 use Rattle.com_drive.proofs.Driving.{driving_start_at, driving_on_step, driving_smaller, driving_over_step, driving_stopped, driving_within, reached_over_step, ended_gains, ended_prefix, on-ok, not-some}

@@ -1,4 +1,4 @@
-use Rattle.std.proofs.Common.{◌≡◌, ℕ, ◌<◌, ◌≤◌, length, subst}
+use Rattle.std.proofs.Common.{ℕ, ◌<◌, ◌≤◌, length, subst}
 use Rattle.com_holders.specs.Tables.{Tables}
 use Rattle.com_refs.specs.Counts.{holders_of}
 use Rattle.com_refs.proofs.Bounds.{held_made}

@@ -1,4 +1,4 @@
-use Rattle.std.proofs.Common.{arith, ◌+◌, length, ◌∙◌, ap, [], ◌∷◌, ◌++◌}
+use Rattle.std.proofs.Common.{arith, ◌+◌, length, ap}
 use Rattle.com_lane_lists.specs.Rooms.{StaRows}
 use Rattle.com_lane_lists.proofs.StasKept.{length_tab, kept_made, made_seen}
 use Rattle.com_lane_lists.proofs.stas.Stas.make.Goals as goal
