@@ -1,5 +1,5 @@
 -- What a writer has appended so far, as its loop goes on.
-use Rattle.std.proofs.Common.{◌≡◌, ℕ, suc, ◌+◌, ◌-◌, ◌<◌, ◌≤◌, ◌^◌, List, [], ◌∷◌, ◌++◌, length, get_or, take, drop, Some, None, refl, sym, ap, subst, ◌∙◌, append_assoc, arith}
+use Rattle.std.proofs.Common.{◌≡◌, ℕ, suc, ◌+◌, ◌-◌, ◌<◌, ◌≤◌, ◌^◌, List, [], ◌∷◌, ◌++◌, length, get_or, drop, Some, None, refl, sym, ap, subst, ◌∙◌, append_assoc, arith}
 use Rattle.std.proofs.lemmas.List.{append-nil, length-append, length-replicate}
 use Rattle.std.proofs.Math.Seq.{drop-cons}
 use Rattle.std.proofs.Math.ListN.{drop_of_length-le}
@@ -13,9 +13,6 @@ pub record Appended (old out : List ℕ) (referent : ℕ) (rest : List Wire) (to
   pub front : List ℕ
   pub out_is : out ≡ old ++ front
   pub total_is : front ++ written_from (length front) referent rest ≡ total
-
-pub appended_none : (old : List ℕ) (vs : List Wire) → Appended old old 0x20000 vs (written_args vs)
-appended_none old vs = record { front = []; out_is = sym (append-nil old); total_is = refl }
 
 appended_more : (old out new : List ℕ) (referent next position : ℕ) (v : Wire) (vs : List Wire) (total : List ℕ) → Appended old out referent (v ∷ vs) total → position ≡ length out - length old
     → new ≡ out ++ (zeros (gap position (align_of_value v)) ++ written_arg referent v) → next ≡ next_referent referent v → Appended old new next vs total
@@ -70,17 +67,6 @@ pub record Roomy (old out : Room) (referent : ℕ) (rest vs : List Wire) : Type 
   pub total : n + length_from n rest ≡ length_args vs
   pub referents : referent_after referent rest < 2 ^ 32
 
-pub roomy_none : (old : Room) (vs : List Wire) → length_args vs ≤ old.spare → FitsReferents vs → Roomy old old 0x20000 vs vs
-roomy_none old vs room referents = record {
-  n = 0;
-  longer = omega arith;
-  appended = appended_none old.items vs;
-  room = room;
-  lowered = omega arith;
-  total = omega arith;
-  referents = referents;
-}
-
 roomy_more : (old out new : Room) (referent next position : ℕ) (v : Wire) (rest vs : List Wire) → Roomy old out referent (v ∷ rest) vs → position ≡ length out.items - length old.items
     → new.items ≡ out.items ++ (zeros (gap position (align_of_value v)) ++ written_arg referent v) → out.spare ≤ new.spare + padded_length position v → length new.items ≡ length out.items + padded_length position v
     → next ≡ next_referent referent v → Roomy old new next rest vs
@@ -125,9 +111,6 @@ roomy_first old out referent position v rest vs so_far position_is =
 pub roomy_next : (old out : Room) (referent position : ℕ) (v : Wire) (vs : List Wire) (i : ℕ) → i < length vs → v ≡ get_or vs i v → Roomy old out referent (drop i vs) vs → position ≡ length out.items - length old.items → padded_length position v ≤ out.spare
 roomy_next old out referent position v vs i lt is so_far =
     roomy_first old out referent position v (drop (i + 1) vs) vs (subst (λ (l : List Wire). Roomy old out referent l vs) (split_at vs i v lt is) so_far)
-
-pub roomy_longer : (old out : Room) (referent : ℕ) (rest vs : List Wire) → Roomy old out referent rest vs → length old.items ≤ length out.items
-roomy_longer old out referent rest vs so_far = omega (arith, so_far.longer)
 
 -- ---- referents
 
@@ -181,9 +164,6 @@ pub record Measured (so_long referent : ℕ) (rest vs : List Wire) : Type 0 wher
   pub total : so_long + length_from so_long rest ≡ length_args vs
   pub referents : referent_after referent rest ≡ referent_after 0x20000 vs
   pub fits : referent < 2 ^ 32
-
-pub measured_none : (vs : List Wire) → Measured 0 0x20000 vs vs
-measured_none vs = record { total = omega arith; referents = refl; fits = omega arith }
 
 measured_more : (so_long next referent after : ℕ) (v : Wire) (rest vs : List Wire) → Measured so_long referent (v ∷ rest) vs → next ≡ so_long + padded_length so_long v → after ≡ next_referent referent v → after < 2 ^ 32 → Measured next after rest vs
 unfolding length_from referent_after

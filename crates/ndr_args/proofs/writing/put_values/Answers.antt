@@ -1,5 +1,5 @@
 use Rattle.std.proofs.Common.{◌-◌, refl, arith}
-use Rattle.ndr_args.proofs.Appending.{roomy_none, roomy_at, roomy_next, roomy_longer, next_fits, roomy_all}
+use Rattle.ndr_args.proofs.Appending.{roomy_at, roomy_next, next_fits, roomy_all}
 use Rattle.ndr_args.proofs.writing.put_values.Goals as goal
 
 pub put_value-requires-clause-room : goal.put_value-requires-clause-room
