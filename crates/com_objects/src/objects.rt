@@ -68,10 +68,12 @@ impl Objects {
         }
     }
 
-    /// Makes of the objects what an entry makes of them, whichever lane makes it, for which there is room. It
-    /// takes no memory.
+    /// Makes of the objects what an entry makes of them, whichever lane the entry is of: a Made that names an
+    /// object and its apartment adds one more object, a Final releases the object that it names, and every
+    /// other entry leaves the objects as they are. It takes no memory.
     ///
-    /// A Final names an object that was made.
+    /// There is room for the row that the entry brings, as `reserve` makes it; the number of one more object
+    /// has 32 bits; and a Final names an object that was made.
     pub fn apply(&mut self, deed: &Deed)
         requires released { IsMade (length self.old.tables.makings) (finals deed.now) }
         requires room { length self.old.tables.makings + 1 < 2 ^ 32 }

@@ -30,7 +30,7 @@ pub struct Doing {
     pub carried: Rows<RefValue>,
 }
 
-// The entry of an action that sends no values.
+// The entry of an action that sends no values. The only error is want of memory.
 fn silent_deed<B: Found>(
     view: &View<'_>,
     books: &B,
@@ -52,8 +52,7 @@ fn silent_deed<B: Found>(
     }
     match action {
         Action::Marshal { held, mode, .. } => {
-            let deed = marshalled_packet(view, books, alloc, lane, *held, *mode)?;
-            Ok(deed)
+            marshalled_packet(view, books, alloc, lane, *held, *mode)
         }
         Action::Unmarshal { buffer, .. } => Ok(unmarshal_packet(view, books, lane, *buffer)),
         Action::Drop { buffer } => Ok(drop_packet(view, books, lane, *buffer)),

@@ -1,4 +1,5 @@
--- Numbers of registers, slots and links that are in their ranges.
+-- Numbers of registers, slots, links and interfaces that are in their ranges, and the number of a call's
+-- arguments.
 use Rattle.std.specs.Prelude.{ℕ, ◌<◌, ◌≤◌, ◌^◌, Option, Some, None, length}
 use Rattle.com_body.specs.declared.actions.Action.{Action}
 use Rattle.com_body.specs.declared.actions.Action.TheVariants as action
@@ -21,21 +22,26 @@ WritesInRange (action.Register to held) = to < 16
 WritesInRange (action.Get slot g) = slot < 8
 WritesInRange _ = Unit {0}
 
+-- The same of one write: the register, slot or link that it fills. Of a buffer nothing is asked.
 abbrev pub IsInRange : Writing → Type 0
 IsInRange (ToRegister r v) = r < 16
 IsInRange (ToSlot k held) = k < 8
 IsInRange (ToLink k held) = k < 4
 IsInRange (ToBuffer p bytes) = Unit {0}
 
--- A call has at most four arguments, and a reference's interface a number of 16 bits.
+-- An interface that is given by its number has a number of 16 bits. One that is given by its GUID has no
+-- number, and fits.
 abbrev pub IsInterface : Asked → Type 0
 IsInterface (asked.Number i) = i < 2 ^ 16
 IsInterface (asked.Guid g) = Unit {0}
 
+-- The same of the interface of an entry that names an object. Of an entry that names none nothing is asked.
 abbrev pub HasInterface : Option ℕ → Asked → Type 0
 HasInterface None i = Unit {0}
 HasInterface (Some o) i = IsInterface i
 
+-- An Enter has at most four arguments, and in a Made or a Query that names an object the interface, if it is
+-- given by its number, has a number of 16 bits. Of every other entry nothing is asked.
 abbrev pub FitsDeed : Deed → Type 0
 FitsDeed (deed.Enter c o a k vs) = length vs ≤ 4
 FitsDeed (deed.Made o a k i hr) = HasInterface o i

@@ -6,7 +6,8 @@ ghost use Rattle.com_scene.specs.Ranges.{FitsDeed, IsInterface};
 use com_body::Asked;
 use com_model::Deed;
 
-// Whether the number of an interface has 16 bits.
+// Whether an interface that is given by its number has a number of 16 bits. One that is given by its GUID has
+// no number, and fits.
 fn is_interface(iface: &Asked) -> bool
     ensures { IsTrue result ↔ IsInterface iface.now }
 {
@@ -16,8 +17,9 @@ fn is_interface(iface: &Asked) -> bool
     }
 }
 
-/// Whether a call has at most four arguments, and the interface of a reference that was made or gained a
-/// number of 16 bits.
+/// Whether an entry fits: an Enter has at most four arguments, and in a Made or a Query that names an object
+/// the interface, if it is given by its number, has a number of 16 bits. Every other entry fits, also a Made
+/// or a Query that names no object.
 pub fn fits_deed(deed: &Deed) -> bool
     ensures { IsTrue result ↔ FitsDeed deed.now }
 {
