@@ -1,7 +1,7 @@
-//! The entries of actions on the lane itself, on words, places and buffers, and of those on objects,
-//! references and cookies.
+//! The entries of the actions that send no values and make or read no packet: nine that are on the lane, on a
+//! place or on a buffer, and six that are on an object or a cookie.
 
-ghost use Rattle.std.specs.Prelude.{◌≡◌, ◌+◌, ◌<◌, ◌≤◌, ◌^◌, length, IfSome, IsSome};
+ghost use Rattle.std.specs.Prelude.{◌≡◌, ◌+◌, ◌<◌, ◌≤◌, ◌^◌, ◌↔◌, length, IfSome, IsSome};
 ghost use Rattle.com_books.specs.Changes.{Books};
 ghost use Rattle.com_model.specs.Deeds.{deed_of};
 ghost use Rattle.com_view.specs.Seen.{sight_by};
@@ -27,16 +27,17 @@ pub fn is_connected<R: References>(refs: &R, held: Option<RefValue>) -> bool
     }
 }
 
-/// The entry of an action on the lane itself, on words, places and buffers: `init`, `uninit`, `setfilter`,
-/// `pump`, `post`, `quit`,
-/// `copy`, `release` and `raw`. `None` of every other.
+/// The entry of `init`, `uninit`, `setfilter` and `pump`, on the lane itself; of `post` and `quit`, to a
+/// lane; of `copy` and `release`, on a place; and of `raw`, on a buffer. It is the same whatever the books
+/// are: none asks whether an object is connected, nor what the row of a cookie or of a packet is. `None` of
+/// every other action.
 pub fn deed_on_lane(view: &View<'_>, lane: u32, action: &Action) -> Option<Deed>
     requires stas { length view.now.lanes.stas + 4 ≤ 2 ^ 32 }
     requires threads { length view.now.scenario.threads < 2 ^ 32 }
     requires fits { FitsAction action.now }
     ensures deed { (b : Books) → IfSome result (λ deed. deed
         ≡ deed_of view.now.scenario (sight_by view.now b) lane action.now) }
-    ensures made { IsOnLane action.now → IsSome result }
+    ensures made { IsSome result ↔ IsOnLane action.now }
 {
     match action {
         Action::Init { mode } => Some(init_deed(view, lane, *mode)),
@@ -55,9 +56,9 @@ pub fn deed_on_lane(view: &View<'_>, lane: u32, action: &Action) -> Option<Deed>
     }
 }
 
-/// The entry of an action on an object, a reference or a cookie: `create`, `query`, `disconnect`, `register`,
-/// `get` and `revoke`.
-/// `None` of every other.
+/// The entry of `create`, which makes an object; of `query`, `disconnect` and `register`, on the object of a
+/// reference; and of `get` and `revoke`, on a cookie. All but `create` ask the books: whether the object is
+/// connected, or what the row of the cookie is. `None` of every other action.
 pub fn deed_on_object<R: References>(
     view: &View<'_>,
     refs: &R,
@@ -69,7 +70,7 @@ pub fn deed_on_object<R: References>(
     requires fits { FitsAction action.now }
     ensures deed { IfSome result (λ deed. deed
         ≡ deed_of view.now.scenario (sight_by view.now (R.books refs.now)) lane action.now) }
-    ensures made { IsOnObject action.now → IsSome result }
+    ensures made { IsSome result ↔ IsOnObject action.now }
 {
     match action {
         Action::Create { class, iface, .. } => Some(create_deed(view, lane, *class, *iface)),
