@@ -3,6 +3,7 @@ use Rattle.std.proofs.Common.{◌≡◌, ℕ, ◌+◌, List, [], ◌∷◌, map,
 use Rattle.std.specs.Prelude.{is_some}
 use Rattle.com_books.specs.Changes.{Books}
 use Rattle.com_books.specs.Counting.{count_if}
+use Rattle.com_books.specs.Ends.{ends}
 use Rattle.com_holders.specs.Places.{Counts, SamePlaces}
 use Rattle.com_holders.specs.Tables.{Tables, books_of}
 use Rattle.com_model.specs.declared.deeds.Deed.{Deed}
@@ -11,7 +12,6 @@ use Rattle.com_model.specs.Objects.{makes}
 use Rattle.com_moves.specs.declared.moves.Move.{Move}
 use Rattle.com_moves.specs.Steps.{movings_of}
 use Rattle.com_places.specs.Moves.{Move as Moving}
-use Rattle.com_refs.specs.Ends.{ends}
 use Rattle.com_refs.proofs.Ties.{counts_same}
 use Rattle.com_booking.specs.declared.calls.CallPackets.{CallPackets}
 use Rattle.com_booking.specs.Books.{Exchanged, books_with}

@@ -6,12 +6,12 @@ use Rattle.std.specs.Prelude.{map}
 use Rattle.com_stub.specs.StubRows.{is_connected}
 use Rattle.com_books.specs.Counting.{sum_below}
 use Rattle.com_books.specs.Changes.{Books, cut, cut_packet, cut_cookie, given_back, no_packet, held_outside}
+use Rattle.com_books.specs.Ends.{stays, ends}
 use Rattle.com_books.specs.declared.keeps.Packet.{Packet}
 use Rattle.com_books.specs.declared.keeps.Cookie.{Cookie}
 use Rattle.com_holders.specs.Places.{SamePlaces, places_of, locals_of}
 use Rattle.com_holders.specs.Tables.{Tables, books_of, owns_of, object_in}
 use Rattle.com_holders.proofs.Same.{same_books}
-use Rattle.com_refs.specs.Ends.{stays, ends}
 use Rattle.com_refs.proofs.Ends.{holds-kept, holds-same}
 use Rattle.com_refs.proofs.Losses.{live_is}
 use Rattle.com_refs.proofs.Settling.{cut_none}

@@ -6,6 +6,7 @@ use Rattle.std.specs.Prelude.{Option, None, is_some}
 use Rattle.com_body.specs.declared.actions.Action.{Action}
 use Rattle.com_books.specs.Changes.{Books, Row, changed, change, entered_rows}
 use Rattle.com_books.specs.Counting.{count_if}
+use Rattle.com_books.specs.Ends.{ends}
 use Rattle.com_holders.specs.Places.{Counts}
 use Rattle.com_holders.specs.Stands.{Tells}
 use Rattle.com_holders.specs.Tables.{Tables, books_of, owns_of}
@@ -21,7 +22,7 @@ use Rattle.com_model.specs.Lists.{is_number}
 use Rattle.com_model.specs.Objects.{makes, disconnects}
 use Rattle.com_moves.specs.declared.moves.Move.{Move}
 use Rattle.com_quiet.specs.Ends.{connected}
-use Rattle.com_refs.specs.Ends.{ends, Totals}
+use Rattle.com_refs.specs.Totals.{Totals}
 use Rattle.com_refs.proofs.Ends.{ends_again}
 use Rattle.com_refs.proofs.Ties.{counts_same}
 use Rattle.com_state.specs.Parts.{named_at}

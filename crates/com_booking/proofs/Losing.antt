@@ -5,12 +5,13 @@ use Rattle.std.proofs.lemmas.Bool.{cases_lt}
 use Rattle.std.specs.Prelude.{None, Ok, Err, slice_set, slice_index_or}
 use Rattle.com_stub.specs.StubRows.{is_connected}
 use Rattle.com_books.specs.Changes.{Books, Row, changed, change, unmarshal_change, Same, Return, Withdraw, Unmarshals, Drops, packet, cookie, no_cookie, at2, set_from_one}
+use Rattle.com_books.specs.Ends.{ends}
 use Rattle.com_books.specs.declared.keeps.Packet.{Packet}
 use Rattle.com_books.specs.declared.keeps.Cookie.{Cookie}
 use Rattle.com_holders.specs.Stands.{Tells}
 use Rattle.com_holders.specs.Tables.{Tables, books_of, owns_of, outstanding_in}
 use Rattle.com_holders.proofs.Cuts.{packet_hidden}
-use Rattle.com_refs.specs.Ends.{ends, Totals}
+use Rattle.com_refs.specs.Totals.{Totals}
 use Rattle.com_booking.specs.Books.{Taken}
 use Rattle.com_booking.proofs.Cutting.{same_rows}
 

@@ -12,7 +12,7 @@ use Rattle.com_holders.specs.Places.{Counts, places_in}
 use Rattle.com_holders.proofs.Rowed.{places_le}
 use Rattle.com_holders.specs.Steps.{made_live}
 use Rattle.com_holders.specs.Tables.{Tables, owns_of, direct_in, no_object}
-use Rattle.com_refs.specs.Ends.{Totals}
+use Rattle.com_refs.specs.Totals.{Totals}
 use Rattle.com_booking.specs.Books.{moved_to, AreMade}
 use Rattle.com_booking.specs.Moving.{plus}
 

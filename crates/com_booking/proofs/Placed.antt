@@ -3,11 +3,12 @@ use mathlib.Core.Path.{fun_ext}
 use Rattle.std.proofs.Common.{◌≡◌, ℕ, zero, suc, ◌+◌, ◌<◌, ◌≤◌, List, [], ◌∷◌, ◌++◌, length, get_or, take, drop, refl, sym, ap, subst, ◌∙◌, arith, add-one, drop-cons}
 use Rattle.std.proofs.lemmas.List.{take_more}
 use Rattle.com_books.specs.Changes.{Books}
+use Rattle.com_books.specs.Ends.{ends}
 use Rattle.com_holders.specs.Places.{Counts, OneMore, OneLess}
 use Rattle.com_holders.specs.Stands.{Tells}
 use Rattle.com_holders.specs.Tables.{Tables, books_of, owns_of}
 use Rattle.com_moves.specs.declared.moves.Move.{Move}
-use Rattle.com_refs.specs.Ends.{ends, Totals}
+use Rattle.com_refs.specs.Totals.{Totals}
 use Rattle.com_refs.proofs.Ties.{counts_more, counts_less}
 use Rattle.com_refs.proofs.Ends.{ends_again}
 use Rattle.com_booking.specs.Moving.{moves_at, plus, AllBelow, Ended}

@@ -10,6 +10,7 @@ use Rattle.com_books.specs.declared.keeps.Cookie.{Cookie}
 use Rattle.com_books.specs.declared.keeps.Packet.{Packet}
 use Rattle.com_books.specs.Changes.{Books, Change, Asks, Drops, Marshals, Registers, Return, Revokes, Same, Split, Takes, ToCookie, ToPacket, ToProxy, Unmarshals, Withdraw, change, changed, cookie, cookie_holds, cut, held_outside, is_weak, marshal_change, new_packet, no_cookie, packet, packet_holds, unmarshal_change}
 use Rattle.com_books.specs.Counting.{sum_below, count_if}
+use Rattle.com_books.specs.Ends.{stays, ends}
 use Rattle.com_holders.specs.declared.ObjectRow.{ObjectRow}
 use Rattle.com_holders.specs.Places.{OneMore, SamePlaces, locals_of}
 use Rattle.com_holders.specs.Tables.{Tables, books_of, cookie_read, direct_in, object_in, outstanding_in, owns_of}
@@ -17,7 +18,7 @@ use Rattle.com_model.specs.Lists.{is_member, is_number}
 use Rattle.com_packets.specs.declared.Packet as P
 use Rattle.com_proxy.specs.declared.ProxyRow.{ProxyRow}
 use Rattle.com_refs.specs.Counts.{holders_of, outside_of, unheld}
-use Rattle.com_refs.specs.Ends.{ends, stays, Totals}
+use Rattle.com_refs.specs.Totals.{Totals}
 use Rattle.com_refs.specs.Found.{shown_packet}
 use Rattle.com_refs.proofs.Ends.{holds-kept, holds-same}
 use Rattle.com_refs.proofs.Finding.{cookie_is, packet_is}

@@ -3,12 +3,13 @@ use Rattle.std.proofs.Common.{◌≡◌, refl, sym, ap, ◌∙◌, arith, inl, i
 use Rattle.std.proofs.lemmas.Grind.{common_steps}
 use Rattle.com_books.specs.Changes.{Books, held_outside}
 use Rattle.com_books.specs.Counting.{sum_below, count_if}
+use Rattle.com_books.specs.Ends.{stays, ends}
 use Rattle.com_holders.specs.Places.{Counts, OneLess, OneMore, locals_of}
 use Rattle.com_holders.specs.Tables.{Tables, books_of, direct_in}
 use Rattle.com_model.specs.Lists.{is_member}
 use Rattle.com_moves.specs.declared.moves.Move.{Move}
 use Rattle.com_refs.specs.Counts.{holders_of, outside_of}
-use Rattle.com_refs.specs.Ends.{ends, stays, Totals}
+use Rattle.com_refs.specs.Totals.{Totals}
 use Rattle.com_refs.proofs.Ends.{holds-kept, holds-same}
 use Rattle.com_booking.specs.Moving.{plus, AllBelow, Ended, Touches}
 use Rattle.com_booking.proofs.Placed.{EndedSome, below_at, falls_one, same_counts}

@@ -4,6 +4,7 @@ use Rattle.std.specs.Prelude.{Option, Some, None, IsSomeAnd}
 use Rattle.com_base.specs.declared.value.RefValue.{RefValue}
 use Rattle.com_books.specs.Changes.{Books, Drops, Makes, Revokes, Same, ToProxy, change, changed, cut, held_outside}
 use Rattle.com_books.specs.Counting.{count_if, sum_below}
+use Rattle.com_books.specs.Ends.{ends}
 use Rattle.com_holders.specs.Places.{Counts, SamePlaces, locals_of}
 use Rattle.com_holders.specs.Stands.{Tells}
 use Rattle.com_holders.specs.Steps.{made_live}
@@ -14,7 +15,7 @@ use Rattle.com_moves.specs.declared.moves.Move.{Move}
 use Rattle.com_moves.specs.Steps.{movings_of}
 use Rattle.com_packets.specs.declared.Packet as P
 use Rattle.com_refs.specs.Counts.{holders_of, unheld}
-use Rattle.com_refs.specs.Ends.{ends, Totals}
+use Rattle.com_refs.specs.Totals.{Totals}
 use Rattle.com_refs.proofs.Ties.{counts_same}
 use Rattle.com_slots.specs.Table.{held_in}
 use Rattle.com_stub.specs.StubRows.{is_connected}

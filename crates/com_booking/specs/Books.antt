@@ -3,13 +3,14 @@ use Rattle.std.specs.Prelude.{◌≡◌, ℕ, ◌+◌, ◌<◌, ◌≤◌, Bool,
 use Rattle.com_base.specs.declared.value.RefValue.{RefValue}
 use Rattle.com_books.specs.Changes.{Books, Row, Makes, changed, change, entered_rows, made_since, first_of}
 use Rattle.com_books.specs.Changes.{cut}
+use Rattle.com_books.specs.Ends.{ends}
 use Rattle.com_holders.specs.Places.{Counts, SamePlaces}
 use Rattle.com_holders.specs.Stands.{Tells}
 use Rattle.com_holders.specs.Steps.{made_live}
 use Rattle.com_holders.specs.Tables.{Tables, books_of, owns_of}
 use Rattle.com_model.specs.Lists.{put}
 use Rattle.com_moves.specs.declared.moves.Move.{Move}
-use Rattle.com_refs.specs.Ends.{ends, Totals}
+use Rattle.com_refs.specs.Totals.{Totals}
 use Rattle.com_booking.specs.declared.calls.CallPackets.{CallPackets}
 use Rattle.com_booking.specs.Calls.{arguments_in, result_in}
 use Rattle.com_booking.specs.Moving.{plus, AllBelow, HoldsMore}

@@ -10,6 +10,7 @@ use Rattle.com_body.specs.declared.operands.Asked.{Asked}
 use Rattle.com_body.specs.declared.operands.Asked.TheVariants as asked
 use Rattle.com_books.specs.Changes.{Books, entered_rows}
 use Rattle.com_books.specs.Counting.{count_if}
+use Rattle.com_books.specs.Ends.{ends}
 use Rattle.com_classes.specs.Tables.{Tables as ClassTables}
 use Rattle.com_holders.specs.Places.{Counts, SamePlaces}
 use Rattle.com_holders.specs.Tables.{Tables, offers, owns_of}
@@ -26,7 +27,6 @@ use Rattle.com_model.specs.Values.{carried, result_list}
 use Rattle.com_moves.specs.declared.moves.Move.{Move}
 use Rattle.com_places.specs.Moves.{Moves as Movings}
 use Rattle.com_quiet.specs.Ends.{connected}
-use Rattle.com_refs.specs.Ends.{ends}
 use Rattle.com_state.specs.Parts.{CallTables, ObjectTables, calls_of, named_at, objects_of}
 use Rattle.com_booking.specs.declared.calls.CallPackets.{CallPackets}
 use Rattle.com_booking.specs.Books.{AreMade, Gained, Made, books_with, moved_to}

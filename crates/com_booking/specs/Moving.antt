@@ -2,12 +2,12 @@
 use Rattle.std.specs.Prelude.{◌≡◌, ℕ, ◌+◌, ◌<◌, ◌≤◌, true, ◌==◌, ◌&&◌, List, [], ◌∷◌, length, slice_index_or}
 use Rattle.com_base.specs.declared.value.RefValue.{RefValue}
 use Rattle.com_books.specs.Counting.{count_if}
+use Rattle.com_books.specs.Ends.{ends}
 use Rattle.com_holders.specs.Places.{Counts}
 use Rattle.com_holders.specs.Tables.{Tables, books_of, offers}
 use Rattle.com_model.specs.Lists.{is_member}
 use Rattle.com_moves.specs.declared.moves.Move.{Move}
 use Rattle.com_refs.specs.Counts.{holders_of}
-use Rattle.com_refs.specs.Ends.{ends}
 
 -- How many of the moves are at an apartment and an object.
 abbrev pub moves_at : List Move → (apartment object : ℕ) → ℕ

@@ -1,3 +1,4 @@
 pub mod Counting
 pub mod Changes
 pub mod Evens
+pub mod Ends

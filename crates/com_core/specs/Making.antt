@@ -22,7 +22,7 @@ use Rattle.com_parts.specs.declared.change.Sent.{Sent}
 use Rattle.com_parts.specs.Tables.{PartTables}
 use Rattle.com_places.specs.Moves.{Moves}
 use Rattle.com_refs.specs.Counts.{holders_of}
-use Rattle.com_refs.specs.Ends.{Totals}
+use Rattle.com_refs.specs.Totals.{Totals}
 use Rattle.com_state.specs.After.{filtered_by}
 use Rattle.com_state.specs.Parts.{issue_at, openers_at}
 use Rattle.com_turns.specs.Turns.{actor_later}

@@ -2,6 +2,7 @@
 use Rattle.std.proofs.Common.{◌≡◌, sym, ap, ◌∙◌, subst, ℕ, Bool, ◌<◌, List}
 use Rattle.std.specs.Prelude.{Some}
 use Rattle.com_books.specs.Changes.{Books, entered_rows}
+use Rattle.com_books.specs.Ends.{ends}
 use Rattle.com_holders.specs.Places.{Counts}
 use Rattle.com_holders.specs.Tables.{owns_of}
 use Rattle.com_model.specs.declared.deeds.Deed.{Deed}
@@ -17,7 +18,7 @@ use Rattle.com_moves.specs.declared.moves.Move.{Move}
 use Rattle.com_moves.specs.Steps.{movings_of}
 use Rattle.com_moves.specs.Tables.{moves_in}
 use Rattle.com_quiet.specs.Ends.{connected}
-use Rattle.com_refs.specs.Ends.{ends, Totals}
+use Rattle.com_refs.specs.Totals.{Totals}
 use Rattle.com_state.specs.Parts.{named_at}
 use Rattle.com_booking.specs.Books.{Held, books_held}
 use Rattle.com_booking.specs.Entries.{Applied, Applies, Around, Carries, StandsAround, brings_to, entered, left_by, tally}

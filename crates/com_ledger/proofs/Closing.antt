@@ -20,7 +20,7 @@ use Rattle.com_model.specs.Deeds.{cookie_number}
 use Rattle.com_model.specs.Lists.{is_number, where_true}
 use Rattle.com_model.specs.Objects.{makes, disconnects}
 use Rattle.com_quiet.specs.Ends.{connected}
-use Rattle.com_refs.specs.Ends.{Totals}
+use Rattle.com_refs.specs.Totals.{Totals}
 use Rattle.com_state.specs.Parts.{ObjectTables, named_at}
 use Rattle.com_booking.specs.declared.calls.CallPackets.{CallPackets}
 use Rattle.com_booking.specs.Calls.{call_at, number_of}

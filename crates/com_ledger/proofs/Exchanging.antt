@@ -1,10 +1,10 @@
 -- What the row brought, and all that comes to places, is held once.
 use Rattle.std.proofs.Common.{◌≡◌, ℕ, zero, suc, length, take, refl, ◌≤◌, List, [], ◌∷◌, ◌++◌, sym, ap, subst, ◌∙◌, arith}
 use Rattle.com_books.specs.Changes.{Books}
+use Rattle.com_books.specs.Ends.{ends}
 use Rattle.com_holders.specs.Places.{Counts}
 use Rattle.com_holders.specs.Tables.{Tables, books_of}
 use Rattle.com_moves.specs.declared.moves.Move.{Move}
-use Rattle.com_refs.specs.Ends.{ends}
 use Rattle.com_refs.proofs.Ends.{ends_again}
 use Rattle.com_booking.specs.Books.{Exchanged}
 use Rattle.com_booking.specs.Moving.{moves_at, plus, AllBelow, Ended}

@@ -8,6 +8,7 @@ use Rattle.com_balance.proofs.Counts.{Found, found-place}
 use Rattle.com_balance.proofs.Lows.{more-stas}
 use Rattle.com_books.specs.Changes.{entered_rows}
 use Rattle.com_books.specs.Counting.{count_if}
+use Rattle.com_books.specs.Ends.{ends}
 use Rattle.com_books.proofs.Sums.{sum-more}
 use Rattle.com_holders.specs.Places.{Counts}
 use Rattle.com_holders.specs.Tables.{Tables, owns_of}
@@ -39,7 +40,6 @@ use Rattle.com_moves.proofs.Stands.{moves-places}
 use Rattle.com_places.specs.Moves.{Move as Moving, counted}
 use Rattle.com_quiet.specs.Ends.{books_entered, connected, history_entered}
 use Rattle.com_quiet.proofs.Endings.{history-end}
-use Rattle.com_refs.specs.Ends.{ends}
 use Rattle.com_release.proofs.Lives.{place-low}
 use Rattle.com_booking.specs.Books.{Held}
 use Rattle.com_booking.specs.Moving.{moves_at, plus, AllBelow}

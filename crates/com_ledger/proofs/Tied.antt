@@ -21,7 +21,7 @@ use Rattle.com_model.proofs.Sights.{same-books, same-ground, same-scene}
 use Rattle.com_model.proofs.Whole.{first-stands}
 use Rattle.com_proxy.specs.declared.ProxyRow.{ProxyRow}
 use Rattle.com_refs.specs.Counts.{holders_of, outside_of}
-use Rattle.com_refs.specs.Ends.{Totals}
+use Rattle.com_refs.specs.Totals.{Totals}
 use Rattle.com_stub.specs.StubRows.{is_connected}
 use Rattle.com_booking.specs.declared.calls.CallPackets.{CallPackets}
 use Rattle.com_booking.specs.Books.{Held, books_held}

@@ -11,6 +11,7 @@ use Rattle.com_base.specs.declared.value.Value.{Value}
 use Rattle.com_body.specs.declared.actions.Action.{Action}
 use Rattle.com_body.specs.declared.operands.Asked.TheVariants as asked
 use Rattle.com_books.specs.Changes.{Books, Same, ToProxy, changed, entered_rows}
+use Rattle.com_books.specs.Ends.{ends}
 use Rattle.com_holders.specs.Places.{Counts}
 use Rattle.com_model.specs.declared.deeds.Deed.{Deed}
 use Rattle.com_model.specs.declared.deeds.Deed.TheVariants as deed
@@ -37,7 +38,6 @@ use Rattle.com_moves.specs.declared.moves.Move.{Move}
 use Rattle.com_moves.specs.Steps.{movings_of}
 use Rattle.com_moves.specs.Tables.{moves_in}
 use Rattle.com_quiet.specs.Ends.{books_entered, connected}
-use Rattle.com_refs.specs.Ends.{ends}
 use Rattle.com_booking.specs.Books.{Held, books_held}
 use Rattle.com_booking.specs.Moving.{plus, AllBelow}
 use Rattle.com_ledger.specs.Ties.{AppliedAs, EndedAt, Ties, books_by_rows, owns_after, places_at}

@@ -4,6 +4,7 @@ use Rattle.std.specs.Prelude.{◌≡◌, ◌<◌, ◌≤◌, ◌⊎◌, ℕ, ◌
 use Rattle.std.specs.Prelude.{length, Option, Some, None}
 use Rattle.com_books.specs.Changes.{Books, entered_rows}
 use Rattle.com_books.specs.Counting.{count_if}
+use Rattle.com_books.specs.Ends.{ends}
 use Rattle.com_holders.specs.Places.{Counts}
 use Rattle.com_holders.specs.Tables.{object_in, owns_of}
 use Rattle.com_model.specs.declared.deeds.Deed.{Deed}
@@ -18,7 +19,7 @@ use Rattle.com_model.specs.State.{State, after, books_in, ending_in, ground_in, 
 use Rattle.com_model.specs.State.{next_sta_in, objects_in, owns_in, running_in, scene_in, sight_of}
 use Rattle.com_moves.specs.declared.moves.Move.{Move}
 use Rattle.com_quiet.specs.Ends.{books_entered, connected}
-use Rattle.com_refs.specs.Ends.{ends, Totals}
+use Rattle.com_refs.specs.Totals.{Totals}
 use Rattle.com_booking.specs.Books.{Held, books_held}
 use Rattle.com_booking.specs.Moving.{plus, AllBelow}
 use Rattle.com_booking.specs.Owners.{owns_by}

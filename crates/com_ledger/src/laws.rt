@@ -3,6 +3,7 @@ ghost use Rattle.std.specs.Prelude.{◌≡◌, ◌<◌, ℕ, Bool, List, Option,
 ghost use Rattle.com_base.specs.declared.value.Value.{Value};
 ghost use Rattle.com_body.specs.declared.actions.Action.{Action};
 ghost use Rattle.com_books.specs.Changes.{Books, entered_rows};
+ghost use Rattle.com_books.specs.Ends.{ends};
 ghost use Rattle.com_holders.specs.Places.{Counts};
 ghost use Rattle.com_model.specs.declared.deeds.Deed.{Deed};
 ghost use Rattle.com_model.specs.declared.deeds.Deed.TheVariants as deed;
@@ -21,7 +22,7 @@ ghost use Rattle.com_moves.specs.Steps.{movings_of};
 ghost use Rattle.com_moves.specs.Tables.{moves_in};
 ghost use Rattle.com_quiet.specs.Ends.{books_entered, connected};
 ghost use Rattle.com_refs.specs.Counts.{holders_of};
-ghost use Rattle.com_refs.specs.Ends.{ends, Totals};
+ghost use Rattle.com_refs.specs.Totals.{Totals};
 ghost use Rattle.com_booking.specs.Books.{Held};
 ghost use Rattle.com_booking.specs.Entries.{Applies, Around, StandsAround, tally};
 ghost use Rattle.com_booking.specs.Moving.{plus, AllBelow, Touches};

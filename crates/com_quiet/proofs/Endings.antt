@@ -4,6 +4,7 @@ use Rattle.std.proofs.lemmas.Bool.{false_from_ne_true}
 use Rattle.std.proofs.lemmas.Bool.Decides.{nat_tests}
 use Rattle.com_books.specs.Counting.{sum_below}
 use Rattle.com_books.specs.Changes.{Books, entered_rows, given_back, cut, held_outside}
+use Rattle.com_books.specs.Ends.{stays, ends}
 use Rattle.com_model.specs.declared.deeds.Deed.{Deed}
 use Rattle.com_model.specs.declared.deeds.Entry.{Entry}
 use Rattle.com_model.specs.declared.scenario.Scenario.{Scenario}
@@ -18,7 +19,7 @@ use Rattle.com_model.specs.Dying.{is_dying_by, is_entered}
 use Rattle.com_model.specs.State.{State, openers_in, ground_in, scene_in, books_in, named_in, next_sta_in, scene_next, books_next, book_tables, dies_in, objects_in, after}
 use Rattle.com_state.specs.After.{parts_after}
 use Rattle.com_state.proofs.Joined.{joined}
-use Rattle.com_quiet.specs.Ends.{stays, ends, connected, rows_entered, books_entered, history_entered}
+use Rattle.com_quiet.specs.Ends.{connected, rows_entered, books_entered, history_entered}
 use Rattle.com_quiet.specs.Resting.{Resting}
 
 regroup : (x y z w : Bool) → (x && (y && (z && w))) ≡ ((x && (y && z)) && w)
@@ -27,6 +28,7 @@ regroup true false z w = refl
 regroup false y z w = refl
 
 pub books-end : (s : Scenario) (st su : State) (w : Scene) (e : Entry) → books_next s st su w e ≡ ends (next_sta_in su) (places s (ground_in s su) w) (books_entered s st su e)
+unfolding ends
 books-end s st su w e =
     let r : Books = rows_entered s st su e in
     let m : Books = given_back (next_sta_in su) (places s (ground_in s su) w) r in
@@ -82,6 +84,7 @@ died-before n m f g h k x y o low p q r e =
     (both-true (h o == 0) (not (x o)) (ap (λ (j : ℕ). j == 0) zero-h) (not-false (x o) (r (not-true (y o) (second-of (k o == 0) (not (y o)) last))))))
 
 pub history-end : (s : Scenario) (h : List Entry) (e : Entry) → books s (e ∷ h) ≡ ends (next_sta (e ∷ h)) (places s (ground s (e ∷ h)) (scene s (e ∷ h))) (history_entered s h e)
+unfolding ends
 history-end s h e =
     let g : Ground = ground s (e ∷ h) in
     let r : Books = kept (books s h) e.deed (entered_rows g.owns (books s h) (rows s (act s h e.lane) (λ c. is_leave (ending s h c)) (books s h) (number_or_zero (running s h e.lane)) e.deed)) in

@@ -8,6 +8,7 @@ use Rattle.com_body.specs.Frames.{FrameView, entered}
 use Rattle.com_body.specs.Operands.{new_cells}
 use Rattle.com_books.specs.Counting.{sum_below}
 use Rattle.com_books.specs.Changes.{Books, held_outside}
+use Rattle.com_books.specs.Ends.{ends}
 use Rattle.com_model.specs.declared.deeds.Deed.{Deed}
 use Rattle.com_model.specs.declared.deeds.Deed.TheVariants as deed
 use Rattle.com_model.specs.declared.deeds.Entry.{Entry}
@@ -31,7 +32,6 @@ use Rattle.com_quiet.specs.Resting.{Resting}
 use Rattle.com_quiet.proofs.Quiets.{still-apt}
 use Rattle.com_quiet.proofs.Still.{SameHolds, step-holds, past-rows, read-back, rows-tell, Still, frames-told, still-places}
 use Rattle.com_model.specs.Dying.{fallen_more, is_dying_by, is_entered}
-use Rattle.com_quiet.specs.Ends.{ends}
 use Rattle.com_quiet.proofs.Endings.{books-end}
 use Rattle.com_quiet.proofs.Rowless.{ends-rested, out-books}
 use Rattle.com_state.proofs.Quiet.{none-fall}

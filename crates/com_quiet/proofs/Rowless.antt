@@ -7,6 +7,7 @@ use Rattle.com_body.specs.declared.operands.Asked.TheVariants as asked
 use Rattle.com_body.specs.declared.actions.Action.{Action}
 use Rattle.com_books.specs.Counting.{sum_below, numbers_from}
 use Rattle.com_books.specs.Changes.{Books, Row, Revokes, Asks, Unmarshals, entered_rows, made_since, first_of, cut, held_outside}
+use Rattle.com_books.specs.Ends.{stays, ends}
 use Rattle.com_model.specs.declared.deeds.Deed.{Deed}
 use Rattle.com_model.specs.declared.deeds.Deed.TheVariants as deed
 use Rattle.com_model.specs.declared.deeds.Entry.{Entry}
@@ -21,7 +22,7 @@ use Rattle.com_model.specs.Books.{rows, kept, made_by, back_rows}
 use Rattle.com_model.specs.State.{State, books_in, ending_in, named_in, owns_in, running_in, sight_of}
 use Rattle.com_state.specs.Resting.{Rested}
 use Rattle.com_state.proofs.Quiet.{given-rested, cut-rested}
-use Rattle.com_quiet.specs.Ends.{stays, ends, connects, connected, books_entered}
+use Rattle.com_quiet.specs.Ends.{connects, connected, books_entered}
 use Rattle.com_quiet.specs.Rowless.{is_rowless}
 
 clash : false ≡ true → ⊥
@@ -33,6 +34,7 @@ off false e = refl
 
 -- Books at rest have nothing to end.
 pub ends-rested : (n : ℕ) (pl : ℕ → ℕ → ℕ) (b : Books) → Rested pl (λ o. sum_below n (λ a. pl a o) + held_outside b o) b → ends n pl b ≡ b
+unfolding ends
 ends-rested n pl b r =
     let h : ℕ → ℕ = λ o. sum_below n (λ a. pl a o) + held_outside b o in
     ap (λ (c : Books). cut (stays n pl b) c) (given-rested n pl h b r)

@@ -1,7 +1,6 @@
--- The end of an entry: what apartments without place give back, and what has no holder is cut.
-use Rattle.std.specs.Prelude.{ℕ, ◌+◌, Bool, not, ◌==◌, ◌&&◌, ◌||◌, List, ◌∷◌}
-use Rattle.com_books.specs.Counting.{sum_below}
-use Rattle.com_books.specs.Changes.{Books, entered_rows, given_back, cut, held_outside}
+-- The books after an entry's rows and before its end, by the state and by the history.
+use Rattle.std.specs.Prelude.{ℕ, Bool, not, ◌&&◌, ◌||◌, List, ◌∷◌}
+use Rattle.com_books.specs.Changes.{Books, entered_rows}
 use Rattle.com_model.specs.declared.deeds.Deed.{Deed}
 use Rattle.com_model.specs.declared.deeds.Entry.{Entry}
 use Rattle.com_model.specs.declared.scenario.Scenario.{Scenario}
@@ -12,13 +11,6 @@ use Rattle.com_model.specs.Frames.{act}
 use Rattle.com_model.specs.Endings.{ending, is_leave}
 use Rattle.com_model.specs.Books.{made_by, rows, kept, books}
 use Rattle.com_model.specs.State.{State, books_in, ending_in, named_in, owns_in, running_in, sight_of}
-
--- What is connected and has a holder.
-abbrev pub stays : ℕ → (ℕ → ℕ → ℕ) → Books → ℕ → Bool
-stays n places b o = b.live o && not (sum_below n (λ a. places a o) + held_outside b o == 0)
-
-abbrev pub ends : ℕ → (ℕ → ℕ → ℕ) → Books → Books
-ends n places b = cut (stays n places b) (given_back n places b)
 
 -- The books with the rows of an entry, and with what it keeps of packets.
 abbrev pub rows_entered : Scenario → (before after : State) → Entry → Books

@@ -6,6 +6,7 @@ ghost use Rattle.com_base.specs.declared.hresult.HResult.{HResult};
 ghost use Rattle.com_base.specs.declared.value.Value.{Value};
 ghost use Rattle.com_books.specs.Changes.{Books, held_outside};
 ghost use Rattle.com_books.specs.Counting.{sum_below};
+ghost use Rattle.com_books.specs.Ends.{stays, ends};
 ghost use Rattle.com_model.specs.declared.deeds.Deed.{Deed};
 ghost use Rattle.com_model.specs.declared.deeds.Deed.TheVariants as deed;
 ghost use Rattle.com_model.specs.declared.deeds.Entry.{Entry};
@@ -22,7 +23,7 @@ ghost use Rattle.com_model.specs.State.{ground_in, next_of, next_sta_in, objects
 ghost use Rattle.com_model.specs.State.{scene_next};
 ghost use Rattle.com_state.specs.After.{parts_after};
 ghost use Rattle.com_state.specs.Resting.{Rested, is_quiet};
-ghost use Rattle.com_quiet.specs.Ends.{books_entered, ends, history_entered, stays};
+ghost use Rattle.com_quiet.specs.Ends.{books_entered, history_entered};
 ghost use Rattle.com_quiet.specs.Resting.{Resting};
 ghost use Rattle.com_quiet.specs.Rowless.{is_rowless};
 

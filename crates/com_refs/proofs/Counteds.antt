@@ -6,11 +6,11 @@ use Rattle.std.proofs.lemmas.Grind.{common_steps}
 use Rattle.std.proofs.lemmas.List.{length-set}
 use Rattle.com_books.specs.Counting.{sum_below, count_if}
 use Rattle.com_books.specs.Changes.{Books, cut, given_back, held_outside}
-use Rattle.com_refs.specs.Ends.{ends, holders_by}
+use Rattle.com_books.specs.Ends.{holders_by, ends}
 use Rattle.com_holders.specs.Tables.{Tables, books_of, direct_in, object_in}
 use Rattle.com_holders.specs.Places.{locals_of}
 use Rattle.com_refs.specs.Counts.{hold_of, hold_less, hold_more, outside_of, IsCounted, IsCountedBut}
-use Rattle.com_refs.specs.Ends.{Totals}
+use Rattle.com_refs.specs.Totals.{Totals}
 use Rattle.com_refs.proofs.Ends.{holds-kept, holds-same}
 use Rattle.com_refs.proofs.Settling.{tests_agree, cut_none}
 

@@ -2,10 +2,10 @@
 use mathlib.Core.Path.{fun_ext}
 use Rattle.std.proofs.Common.{◌≡◌, ℕ, Bool, true, false, eqb, not, ◌&&◌, List, refl, ap, ◌∙◌, arith}
 use Rattle.com_books.specs.Changes.{Books, given_back, cut}
-use Rattle.com_refs.specs.Ends.{ends, stays}
+use Rattle.com_books.specs.Ends.{stays, ends}
 use Rattle.com_holders.specs.Tables.{Tables, books_of}
 use Rattle.com_refs.specs.Counts.{IsCounted}
-use Rattle.com_refs.specs.Ends.{Totals}
+use Rattle.com_refs.specs.Totals.{Totals}
 use Rattle.com_refs.proofs.Settling.{cut_none, one-test}
 
 pub ends_none : (t : Tables) (holds : List ℕ) (n : ℕ) (places : ℕ → ℕ → ℕ) → given_back n places (books_of t) ≡ books_of t → IsCounted t holds → Totals n places t → ends n places (books_of t) ≡ books_of t

@@ -9,7 +9,7 @@ use Rattle.com_holders.specs.Tables.{Tables, owns_of}
 use Rattle.com_holders.specs.Places.{Counts, OneMore, OneLess, SamePlaces, places_in, places_of, locals_of, local_at, local_for, distinct}
 use Rattle.com_holders.specs.Stands.{Tells}
 use Rattle.com_holders.proofs.Rowed.{places_none, free_places}
-use Rattle.com_refs.specs.Ends.{Totals}
+use Rattle.com_refs.specs.Totals.{Totals}
 
 -- ---- what it tells
 

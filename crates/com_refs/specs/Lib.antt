@@ -1,4 +1,4 @@
 pub mod Counts
-pub mod Ends
+pub mod Totals
 pub mod Found
 pub mod Numbers

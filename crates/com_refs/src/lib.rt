@@ -24,10 +24,11 @@ ghost use Rattle.com_holders.specs.Stands.{Tells};
 ghost use Rattle.com_books.specs.Changes.{Books, changed, change, cut, packet, cookie, is_weak, Makes, Takes};
 ghost use Rattle.com_books.specs.Changes.{Asks, Marshals, Unmarshals, Drops, Revokes, ToCookie};
 ghost use Rattle.com_books.specs.Changes.{in_normal, in_table, in_cookie};
+ghost use Rattle.com_books.specs.Ends.{ends};
 ghost use Rattle.com_refs.specs.Counts.{hold_of, hold_less, hold_more, holders_of, unheld};
 ghost use Rattle.com_refs.specs.Found.{IsFound, fields_by, shown_packet};
 ghost use Rattle.com_refs.specs.Numbers.{Within};
-ghost use Rattle.com_refs.specs.Ends.{ends, Totals};
+ghost use Rattle.com_refs.specs.Totals.{Totals};
 
 use com_base::{Guid, MarshalMode, RefValue, StdFields};
 use com_holders::Holders;

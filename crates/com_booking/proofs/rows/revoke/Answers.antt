@@ -1,10 +1,10 @@
 use Rattle.std.proofs.Common.{◌≡◌, ◌<◌, ℕ, ℤ, w64, sym, ap, subst, ◌∙◌}
 use Rattle.std.proofs.lemmas.Int.{to_z-of_z}
 use Rattle.com_books.specs.Changes.{Books, changed, Revokes, Withdraw}
+use Rattle.com_books.specs.Ends.{ends}
 use Rattle.com_holders.specs.Tables.{books_of}
 use Rattle.com_holders.proofs.Cookies.{cookie_hidden}
 use Rattle.com_model.specs.Deeds.{cookie_number}
-use Rattle.com_refs.specs.Ends.{ends}
 use Rattle.com_booking.proofs.Losing.{taken_nothing, withdraw_found, withdraw_none}
 use Rattle.com_booking.proofs.Unholding.{revoke-touched, touches-same}
 use Rattle.com_booking.proofs.rows.revoke.Goals as goal
