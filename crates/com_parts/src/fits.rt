@@ -1,5 +1,5 @@
 //! Tests in constant time of what the parts ask of an entry. Each entry that the rules give passes them.
-ghost use Rattle.std.specs.Prelude.{◌≡◌, ◌+◌, ◌≤◌, ◌<◌, ◌^◌, IsTrue, length};
+ghost use Rattle.std.specs.Prelude.{◌≡◌, ◌+◌, ◌≤◌, ◌<◌, ◌^◌, ◌↔◌, IsTrue, length};
 ghost use Rattle.com_body.specs.Bodies.{IsPlace, IsDestination};
 ghost use Rattle.com_calls.specs.Steps.{delay_of};
 ghost use Rattle.com_lanes.specs.Changes.{NamesStas};
@@ -62,7 +62,7 @@ fn names_stas(lanes: &Lanes, deed: &Deed) -> bool
 
 // Whether an Uninit leaves no more initialisations than there are.
 fn takes_back(lanes: &Lanes, lane: u32, deed: &Deed) -> bool
-    ensures { IsTrue result → TakesBack lanes.now.tables lane deed.now }
+    ensures { IsTrue result ↔ TakesBack lanes.now.tables lane deed.now }
 {
     match deed {
         Deed::Uninit { count, .. } => *count <= lanes.count(lane),
@@ -72,7 +72,7 @@ fn takes_back(lanes: &Lanes, lane: u32, deed: &Deed) -> bool
 
 // Whether a Final names an object that was made.
 fn names_made(objects: &Objects, deed: &Deed) -> bool
-    ensures { IsTrue result → IsMade (length objects.now.tables.makings) (finals deed.now) }
+    ensures { IsTrue result ↔ IsMade (length objects.now.tables.makings) (finals deed.now) }
 {
     match deed {
         Deed::Final { object } => 1 <= *object && *object <= objects.len(),
@@ -94,7 +94,7 @@ fn names_call(calls: &Calls, deed: &Deed) -> bool
 
 // Whether an Out is on an object that was made, or on none.
 fn names_target(objects: &Objects, deed: &Deed) -> bool
-    ensures { IsTrue result → IsAimed (length objects.now.tables.makings) deed.now }
+    ensures { IsTrue result ↔ IsAimed (length objects.now.tables.makings) deed.now }
 {
     match deed {
         Deed::Out { object, .. } => object.unwrap_or(0) <= objects.len(),
@@ -103,20 +103,20 @@ fn names_target(objects: &Objects, deed: &Deed) -> bool
 }
 
 fn is_next(calls: &Calls, call: u32) -> bool
-    ensures { IsTrue result → call ≡ length calls.now.tables.issues + 1 }
+    ensures { IsTrue result ↔ (call ≡ length calls.now.tables.issues + 1) }
 {
     call >= 1 && call - 1 == calls.len()
 }
 
 fn is_issued(calls: &Calls, call: u32) -> bool
-    ensures { IsTrue result → (1 ≤ call) × (call ≤ length calls.now.tables.issues) }
+    ensures { IsTrue result ↔ ((1 ≤ call) × (call ≤ length calls.now.tables.issues)) }
 {
     1 <= call && call <= calls.len()
 }
 
 // Whether the time until which an entry lets its call wait is a number of 64 bits.
 fn has_time(deed: &Deed, clock: u64) -> bool
-    ensures { IsTrue result → clock + delay_of deed.now < 2 ^ 64 }
+    ensures { IsTrue result ↔ (clock + delay_of deed.now < 2 ^ 64) }
 {
     match deed {
         Deed::Retry { answer, .. } => *answer < 0 || clock <= u64::MAX - *answer as u64,
@@ -126,7 +126,7 @@ fn has_time(deed: &Deed, clock: u64) -> bool
 
 /// Whether the numbers of registers, slots and links are in their ranges where the action of a step writes.
 pub(crate) fn is_writing(outcome: &Option<Outcome>) -> bool
-    ensures { IsTrue result → IsWriting outcome.now }
+    ensures { IsTrue result ↔ IsWriting outcome.now }
 {
     match outcome {
         None => true,
@@ -135,7 +135,7 @@ pub(crate) fn is_writing(outcome: &Option<Outcome>) -> bool
 }
 
 fn in_range(action: &Action) -> bool
-    ensures { IsTrue result → WritesInRange action.now }
+    ensures { IsTrue result ↔ WritesInRange action.now }
 {
     match action {
         Action::Create { slot, .. } => *slot < 8,
@@ -151,7 +151,7 @@ fn in_range(action: &Action) -> bool
 }
 
 fn is_place(place: Place) -> bool
-    ensures { IsTrue result → IsPlace place }
+    ensures { IsTrue result ↔ IsPlace place }
 {
     match place {
         Place::Slot(slot) => slot < 8,
@@ -160,7 +160,7 @@ fn is_place(place: Place) -> bool
 }
 
 fn is_destination(destination: Destination) -> bool
-    ensures { IsTrue result → IsDestination destination }
+    ensures { IsTrue result ↔ IsDestination destination }
 {
     match destination {
         Destination::Nowhere => true,

@@ -1,5 +1,5 @@
 //! What the calls make of an entry.
-ghost use Rattle.std.specs.Prelude.{◌≡◌, ◌+◌, ◌<◌, ◌^◌, ℕ, Bool, List, Option, IsTrue, IsSome, is_some};
+ghost use Rattle.std.specs.Prelude.{◌≡◌, ◌+◌, ◌<◌, ◌^◌, ◌↔◌, ℕ, Bool, List, Option, IsTrue, IsSome, is_some};
 ghost use Rattle.std.specs.Prelude.{IfOk, OnOk, length};
 ghost use Rattle.com_calls.specs.Kept.{IsNamed, with_call, with_room, with_tables};
 ghost use Rattle.com_calls.specs.Steps.{delay_of, out_entry};
@@ -52,7 +52,7 @@ fn room_for(calls: &mut Calls, apartment: u32) -> Result<(), Memory>
 
 /// Whether an Out comes with what it issues.
 pub(crate) fn has_issued(deed: &Deed, issued: &Option<Sent>) -> bool
-    ensures { IsTrue result → HasIssued deed.now issued.now }
+    ensures { IsTrue result ↔ HasIssued deed.now issued.now }
 {
     match deed {
         Deed::Out { .. } => issued.is_some(),
