@@ -92,7 +92,7 @@ impl Running {
             → acting_of result.after ≡ actor_later
             (seen_by scenario.now self.now.parts self.now.fallen.objects self.now.clock)
             entry.now.lane entry.now.deed }
-        ensures filtered { result.has_filter ≡ filtered_by (λ c. is_some (filter_seen
+        ensures has_filter { result.has_filter ≡ filtered_by (λ c. is_some (filter_seen
             (seen_by scenario.now self.now.parts self.now.fallen.objects self.now.clock)
             (lane_of (issue_at self.now.parts.calls.tables c)))) entry.now.deed }
     {
@@ -222,7 +222,7 @@ impl Running {
         ensures begun { IfOk result (λ begun. IsBegun self.new.parts (acting_of acting) outcome.now
             (acting_of glance.after) entry.now.lane entry.now.deed begun) }
         ensures issued { IfOk result (λ begun. begun.calling.issued ≡ sent_by issued) }
-        ensures filtered { IfOk result (λ begun. begun.calling.has_filter ≡ glance.has_filter) }
+        ensures has_filter { IfOk result (λ begun. begun.calling.has_filter ≡ glance.has_filter) }
         ensures time { IfOk result (λ begun. begun.calling.clock ≡ self.old.clock) }
         ensures same { parts_shown self.new.parts ≡ parts_shown self.old.parts }
         ensures entered { self.new.entered ≡ self.old.entered }
@@ -360,6 +360,7 @@ impl Running {
     pub(crate) fn can_make(&self, deed: &Deed) -> bool
         ensures room { IsTrue result → self.now.parts.entries < 1_000_000 }
         ensures deed { IsTrue result → FitsDeed deed.now }
+        ensures exact { (self.now.parts.entries < 1_000_000) × FitsDeed deed.now → IsTrue result }
     {
         if self.parts.entries() >= 1_000_000 {
             return false;

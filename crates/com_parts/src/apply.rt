@@ -124,7 +124,7 @@ impl Parts {
         ensures begun { IfOk result (λ begun. IsBegun self.new (acting_of change.entry.acting) outcome.now
             (acting_of change.entry.after) change.entry.lane change.entry.deed.now begun) }
         ensures issued { IfOk result (λ begun. begun.calling.issued ≡ change.entry.issued) }
-        ensures filtered { IfOk result (λ begun. begun.calling.has_filter ≡ change.entry.has_filter) }
+        ensures has_filter { IfOk result (λ begun. begun.calling.has_filter ≡ change.entry.has_filter) }
         ensures clock { IfOk result (λ begun. begun.calling.clock ≡ change.entry.clock) }
     {
         if !self.takes(&change, outcome) {

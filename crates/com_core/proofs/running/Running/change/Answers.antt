@@ -36,7 +36,7 @@ returns-clause-becomes c =
     let made : Becomes v.parts c.finish_parts.new.self.parts a.entry.now (acting_of a.acting) a.outcome.now (acting_of a.glance.after) a.glance.has_filter (sent_by a.issued) v.clock =
     becomes_finished v.parts c.book.new.self.parts c.finish_parts.new.self.parts a.entry.now (acting_of a.acting) a.outcome.now (acting_of a.glance.after)
     a.glance.has_filter b.begun.calling.has_filter (sent_by a.issued) b.begun.calling.issued v.clock b.begun.calling.clock
-    same b.ensures.filtered b.ensures.issued (b.ensures.time ∙ c.prepare.ensures.clock) c.finish_parts.ensures.becomes in
+    same b.ensures.has_filter b.ensures.issued (b.ensures.time ∙ c.prepare.ensures.clock) c.finish_parts.ensures.becomes in
     subst (λ (t : PartTables). Becomes v.parts t a.entry.now (acting_of a.acting) a.outcome.now (acting_of a.glance.after) a.glance.has_filter (sent_by a.issued) v.clock) (sym c.settle.ensures.parts) made
 
 -- ---- the running bodies and the dying objects
