@@ -39,7 +39,7 @@ after_refuse o m i t l c hr = none-drawn (ended_at t c (ending.AtAdmission hr))
 pub after_again : (o : ObjectTables) (m : Moment) (i : Issuing) (t : CallTables) (l c : ℕ) → calls_after o m i t (record { lane = l; deed = deed.Again c }) ≡ posted_at t c
 after_again o m i t l c = none-drawn (posted_at t c)
 
-pub after_verdict : (o : ObjectTables) (out filtered : Bool) (now : ℕ) (i : Issuing) (t : CallTables) (l c k : ℕ) (v : Verdict) → calls_after o (record { outermost = out; filtered = filtered; clock = now }) i t (record { lane = l; deed = deed.Verdict c k v }) ≡ judged_at t c v filtered
+pub after_verdict : (o : ObjectTables) (out filtered : Bool) (now : ℕ) (i : Issuing) (t : CallTables) (l c k : ℕ) (v : Verdict) → calls_after o (record { is_outermost = out; filtered = filtered; clock = now }) i t (record { lane = l; deed = deed.Verdict c k v }) ≡ judged_at t c v filtered
 after_verdict o out true now i t l c k v = none-drawn (judged_at t c v true)
 after_verdict o out false now i t l c k v = none-drawn (judged_at t c v false)
 
@@ -64,13 +64,13 @@ after_disconnect o m i t l x hr = none-drawn (cut_at o t (cuts_object (disconnec
 pub after_uninit : (o : ObjectTables) (m : Moment) (i : Issuing) (t : CallTables) (l : ℕ) (a : Option ℕ) (n : ℕ) → calls_after o m i t (record { lane = l; deed = deed.Uninit a n }) ≡ cut_at o t (cuts_sta (ends_sta (deed.Uninit a n)))
 after_uninit o m i t l a n = none-drawn (cut_at o t (cuts_sta (ends_sta (deed.Uninit a n))))
 
-after-route : (o : ObjectTables) (m : Moment) (i : Issuing) (t : CallTables) (x : Issue) (r : Route) (bytes : Option (List ℕ)) → (let y : Issue = record x { route = r } in calls_after o m i t (out_entry y bytes) ≡ routed_at (grown_at t y i m.clock (count_if m.outermost)) y.call r)
+after-route : (o : ObjectTables) (m : Moment) (i : Issuing) (t : CallTables) (x : Issue) (r : Route) (bytes : Option (List ℕ)) → (let y : Issue = record x { route = r } in calls_after o m i t (out_entry y bytes) ≡ routed_at (grown_at t y i m.clock (count_if m.is_outermost)) y.call r)
 after-route o m i t x route.Direct bytes = refl
 after-route o m i t x route.Switch bytes = refl
 after-route o m i t x route.Post bytes = refl
 after-route o m i t x route.Refused bytes = refl
 
-pub after_out : (o : ObjectTables) (m : Moment) (i : Issuing) (t : CallTables) (x : Issue) (bytes : Option (List ℕ)) → calls_after o m i t (out_entry x bytes) ≡ routed_at (grown_at t x i m.clock (count_if m.outermost)) x.call x.route
+pub after_out : (o : ObjectTables) (m : Moment) (i : Issuing) (t : CallTables) (x : Issue) (bytes : Option (List ℕ)) → calls_after o m i t (out_entry x bytes) ≡ routed_at (grown_at t x i m.clock (count_if m.is_outermost)) x.call x.route
 after_out o m i t x bytes = after-route o m i t x x.route bytes
 
 -- The other entries leave the calls.

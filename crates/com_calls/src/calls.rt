@@ -116,19 +116,19 @@ impl Calls {
         self.waiting.first(apartment)
     }
 
-    /// The Out entry of a call. `outermost` says that its lane runs no body, so that the call draws a
+    /// The Out entry of a call. `is_outermost` says that its lane runs no body, so that the call draws a
     /// causality; `clock` is in milliseconds.
-    pub fn add(&mut self, issue: Issue, issued: Issued, outermost: bool, clock: u64)
+    pub fn add(&mut self, issue: Issue, issued: Issued, is_outermost: bool, clock: u64)
         requires number { issue.call ≡ length self.old.tables.issues + 1 }
         requires room { length self.old.tables.issues < self.old.room }
         requires inbox { issued.apartment < self.old.inboxes }
         ensures { (o : ObjectTables) (filtered : Bool) (bytes : Option (List ℕ)) → self.new
             ≡ with_call self.old issued.apartment (calls_after o
-            (record { outermost = outermost; filtered = filtered; clock = clock })
+            (record { is_outermost = is_outermost; filtered = filtered; clock = clock })
             (record { refusal = issued.refusal; values = issued.values })
             self.old.tables (out_entry issue bytes)) }
     {
-        self.push(issue, issued, outermost, clock);
+        self.push(issue, issued, is_outermost, clock);
         match issue.route {
             Route::Post => self.post(issue.call),
             Route::Refused => self.end(issue.call, Ending::AtIssue),
@@ -153,9 +153,9 @@ impl Calls {
         requires no_leave { leaves deed.now ≡ None }
         requires known { is_known self.old.tables (post_effect deed.now) }
         requires time { clock + delay_of deed.now < 2 ^ 64 }
-        ensures { (o : ObjectTables) (i : Issuing) (outermost : Bool) → IsNamed o self.old → self.new
+        ensures { (o : ObjectTables) (i : Issuing) (is_outermost : Bool) → IsNamed o self.old → self.new
             ≡ with_tables self.old (calls_after o
-            (record { outermost = outermost; filtered = has_filter; clock = clock }) i
+            (record { is_outermost = is_outermost; filtered = has_filter; clock = clock }) i
             self.old.tables (record { lane = lane; deed = deed.now })) }
     {
         match deed {
@@ -498,23 +498,23 @@ impl Calls {
     }
 
     /// A call more, that is neither posted nor refused.
-    fn push(&mut self, issue: Issue, issued: Issued, outermost: bool, clock: u64)
+    fn push(&mut self, issue: Issue, issued: Issued, is_outermost: bool, clock: u64)
         requires number { issue.call ≡ length self.old.tables.issues + 1 }
         requires room { length self.old.tables.issues < self.old.room }
         requires inbox { issued.apartment < self.old.inboxes }
         ensures { self.new ≡ with_call self.old issued.apartment (grown_at self.old.tables issue
-            (record { refusal = issued.refusal; values = issued.values }) clock (count_if outermost)) }
+            (record { refusal = issued.refusal; values = issued.values }) clock (count_if is_outermost)) }
     {
         self.rows.push_reserved(CallRow::new(issue, issued, clock));
-        self.causes = causalities_of(outermost) + self.causes;
+        self.causes = causalities_of(is_outermost) + self.causes;
     }
 }
 
 /// How many causalities an Out draws.
-fn causalities_of(outermost: bool) -> u32
-    ensures { result ≡ count_if outermost }
+fn causalities_of(is_outermost: bool) -> u32
+    ensures { result ≡ count_if is_outermost }
 {
-    if outermost { 1 } else { 0 }
+    if is_outermost { 1 } else { 0 }
 }
 
 /// Room for one call more than there are: the same where there is such room, else twice as much.

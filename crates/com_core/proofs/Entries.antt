@@ -134,7 +134,7 @@ calls_by x o m i t e = record {
   phases = phases_by (post_effect e.deed) m.clock (grown (is_some x) Unposted t.phases);
   times = grown (is_some x) m.clock t.times;
   postings = posted_last (post_effect e.deed) t.postings;
-  causes = count_if (is_some x && m.outermost) + t.causes;
+  causes = count_if (is_some x && m.is_outermost) + t.causes;
 }
 
 sent-calls : (s : Scenario) (st : State) (e : Entry) (x : Option Sent) (o : ObjectTables) (m : Moment) (t : CallTables) → IsSent s st e x

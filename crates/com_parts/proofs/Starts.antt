@@ -37,7 +37,7 @@ pub begun_is : (k k' : LaneRows) (m m' : ObjectRows) (b b' : Kept) (s : SceneRow
     → Fits k.tables m.tables b lane d x.calling.clock → IsWriting step → n < 2 ^ 28 → length b.apartments ≡ length b.tables.issues
     → HasSpace k' lane d → HasRowFor m' d → HasPlace d x.calling.apartment b' → IsPrepared acting after d s.room s.taken → HasIssued d x.calling.issued → x.calling.value ≡ left_in d
     → NamesOwners (named_at m.tables) (ends_sta d) x.owners.items
-    → x.calling.apartment ≡ named_at m.tables (object_of (issues lane d)) → x.calling.outermost ≡ is_none (running_call (openers_at k'.tables lane))
+    → x.calling.apartment ≡ named_at m.tables (object_of (issues lane d)) → x.calling.is_outermost ≡ is_none (running_call (openers_at k'.tables lane))
     → IsBegun (parts_of k' m' b' s n) acting step after lane d x
 begun_is k k' m m' b b' s n lane r i acting after step d x p q e fits writes few homes space row place ready issued value owners home outer = record {
   fits = fits-kept k.tables k'.tables m.tables m'.tables b b' lane x.calling.clock r i d p q e fits;
@@ -52,5 +52,5 @@ begun_is k k' m m' b b' s n lane r i acting after step d x p q e fits writes few
   value = value;
   owners = subst (λ (o : ObjectTables). NamesOwners (named_at o) (ends_sta d) x.owners.items) (sym q) owners;
   apartment = home ∙ ap (λ (o : ObjectTables). named_at o (object_of (issues lane d))) (sym q);
-  outermost = outer;
+  is_outermost = outer;
 }

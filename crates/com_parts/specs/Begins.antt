@@ -31,4 +31,4 @@ pub record IsBegun (p : PartTables) (acting : Acting) (r : Option Outcome) (afte
   pub value : b.calling.value ≡ left_in d
   pub owners : NamesOwners (named_at p.objects) (ends_sta d) b.owners.items
   pub apartment : b.calling.apartment ≡ named_at p.objects (object_of (issues l d))
-  pub outermost : b.calling.outermost ≡ is_none (running_call (openers_at p.lanes l))
+  pub is_outermost : b.calling.is_outermost ≡ is_none (running_call (openers_at p.lanes l))

@@ -12,7 +12,7 @@ use Rattle.com_parts.specs.Tables.{PartTables}
 -- What the entry finds of other parts: a call draws a causality where its lane runs no body.
 abbrev pub moment_at : LaneTables → (lane : ℕ) → (filtered : Bool) → (clock : ℕ) → Moment
 moment_at t l filtered clock = record {
-  outermost = is_none (running_call (openers_at t l));
+  is_outermost = is_none (running_call (openers_at t l));
   filtered = filtered;
   clock = clock;
 }

@@ -155,7 +155,7 @@ impl Parts {
             issued,
             apartment,
             value,
-            outermost: is_outermost(&self.lanes, lane),
+            is_outermost: is_outermost(&self.lanes, lane),
             has_filter,
             clock,
         };

@@ -52,7 +52,7 @@ pub struct Calling {
     /// The value of a Leave.
     pub value: Option<Value>,
     /// Whether the lane ran no body before the entry.
-    pub outermost: bool,
+    pub is_outermost: bool,
     /// Whether the caller's lane has a message filter, as the change says.
     pub has_filter: bool,
     /// The clock before the entry, in milliseconds.

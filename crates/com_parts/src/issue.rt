@@ -81,7 +81,7 @@ pub(crate) fn change_calls(calls: &mut Calls, lane: u32, deed: &Deed, calling: C
     requires called { IsCalled calls.old.tables deed.now }
     requires time { calling.clock + delay_of deed.now < 2 ^ 64 }
     ensures tables { (o : ObjectTables) → IsNamed o calls.old → calls.new.tables ≡ calls_after o
-        (record { outermost = calling.outermost; filtered = calling.has_filter; clock = calling.clock })
+        (record { is_outermost = calling.is_outermost; filtered = calling.has_filter; clock = calling.clock })
         (issuing_of calling.issued) calls.old.tables (record { lane = lane; deed = deed.now }) }
     ensures apartments { (o : ObjectTables) → IsNamed o calls.old → calls.new.apartments
         ≡ grown (is_some (issues lane deed.now)) calling.apartment calls.old.apartments }
@@ -119,9 +119,9 @@ fn change_others(calls: &mut Calls, lane: u32, deed: &Deed, has_filter: bool, cl
     requires other { IsOther deed.now }
     requires called { IsCalled calls.old.tables deed.now }
     requires time { clock + delay_of deed.now < 2 ^ 64 }
-    ensures calls { (o : ObjectTables) (i : Issuing) (outermost : Bool) → IsNamed o calls.old
+    ensures calls { (o : ObjectTables) (i : Issuing) (is_outermost : Bool) → IsNamed o calls.old
         → calls.new ≡ with_tables calls.old (calls_after o
-        (record { outermost = outermost; filtered = has_filter; clock = clock }) i
+        (record { is_outermost = is_outermost; filtered = has_filter; clock = clock }) i
         calls.old.tables (record { lane = lane; deed = deed.now })) }
     ensures apartments { (o : ObjectTables) (a : ℕ) → IsNamed o calls.old → calls.new.apartments
         ≡ grown (is_some (issues lane deed.now)) a calls.old.apartments }
@@ -137,13 +137,13 @@ fn add(calls: &mut Calls, issue: Issue, calling: Calling)
     requires has { IsSome calling.issued }
     ensures { (o : ObjectTables) (bytes : Option (List ℕ)) → calls.new
         ≡ with_call calls.old calling.apartment (calls_after o
-        (record { outermost = calling.outermost; filtered = calling.has_filter; clock = calling.clock })
+        (record { is_outermost = calling.is_outermost; filtered = calling.has_filter; clock = calling.clock })
         (issuing_of calling.issued) calls.old.tables (out_entry issue bytes)) }
 {
     let Calling {
         issued,
         apartment,
-        outermost,
+        is_outermost,
         clock,
         ..
     } = calling;
@@ -156,5 +156,5 @@ fn add(calls: &mut Calls, issue: Issue, calling: Calling)
         values,
         apartment,
     };
-    calls.add(issue, issued, outermost, clock);
+    calls.add(issue, issued, is_outermost, clock);
 }

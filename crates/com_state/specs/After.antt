@@ -27,7 +27,7 @@ filtered_by filtered _ = false
 
 abbrev pub moment_in : Scenario → State → Entry → Moment
 moment_in s st e = record {
-  outermost = is_none (running_call (openers_in st e.lane));
+  is_outermost = is_none (running_call (openers_in st e.lane));
   filtered = filtered_by (λ c. is_some (filter_in s st (lane_of (issue_in st c)))) e.deed;
   clock = st.clock;
 }

@@ -184,7 +184,7 @@ pub record Issuing : Type 0 where
 -- What an entry finds of other parts: whether its lane runs no body, whether the caller's lane of the call
 -- that it names has a filter, and the clock.
 pub record Moment : Type 0 where
-  pub outermost : Bool
+  pub is_outermost : Bool
   pub filtered : Bool
   pub clock : ℕ
 
@@ -229,5 +229,5 @@ calls_after o m i t e = record {
   phases = phases_by (post_effect e.deed) m.clock (grown (issued_by e) Unposted t.phases);
   times = grown (issued_by e) m.clock t.times;
   postings = posted_last (post_effect e.deed) t.postings;
-  causes = count_if (issued_by e && m.outermost) + t.causes;
+  causes = count_if (issued_by e && m.is_outermost) + t.causes;
 }

@@ -20,7 +20,7 @@ returns-in-Out-clause-apartments c = λ o h.
 
 pub returns-in-Leave-clause-tables : goal.returns-in-Leave-clause-tables
 returns-in-Leave-clause-tables c = λ o h.
-    let m : Moment = record { outermost = c.args.calling.outermost; filtered = c.args.calling.has_filter; clock = c.args.calling.clock } in
+    let m : Moment = record { is_outermost = c.args.calling.is_outermost; filtered = c.args.calling.has_filter; clock = c.args.calling.clock } in
     subst (λ (d : Deed). c.leave.new.self.tables ≡ calls_after o m (issuing_of c.args.calling.issued) c.args.calls.now.tables (record { lane = c.args.lane; deed = d })) (sym c.in-Leave.is)
     (subst (λ (v : Option Value). c.leave.new.self.tables ≡ calls_after o m (issuing_of c.args.calling.issued) c.args.calls.now.tables (record { lane = c.args.lane; deed = deed.Leave c.in-Leave.call c.in-Leave.hr v c.in-Leave.bytes }))
     (c.requires.value ∙ ap left_in c.in-Leave.is)
@@ -30,4 +30,4 @@ pub returns-in-Leave-clause-apartments : goal.returns-in-Leave-clause-apartments
 returns-in-Leave-clause-apartments c = λ o h.
     subst (λ (d : Deed). c.leave.new.self.apartments ≡ grown (is_some (issues c.args.lane d)) c.args.calling.apartment c.args.calls.now.apartments) (sym c.in-Leave.is)
     (ap (λ (b : Kept). b.apartments) (c.leave.ensures o
-    (record { outermost = c.args.calling.outermost; filtered = c.args.calling.has_filter; clock = c.args.calling.clock }) (issuing_of c.args.calling.issued) c.args.lane c.in-Leave.bytes))
+    (record { is_outermost = c.args.calling.is_outermost; filtered = c.args.calling.has_filter; clock = c.args.calling.clock }) (issuing_of c.args.calling.issued) c.args.lane c.in-Leave.bytes))

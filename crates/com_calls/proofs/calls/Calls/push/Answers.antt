@@ -17,7 +17,7 @@ invariant_of-self c =
     let room : s.room ≡ c.args.self.now.room = ap (λ (b : Kept). b.room) c.self.view_is in
     let inboxes : length s.waiting.queues ≡ c.args.self.now.inboxes = ap (λ (b : Kept). b.inboxes) c.self.view_is in
     let home : c.new.result.apartment ≡ c.args.issued.apartment = ap (λ (r : RowView). r.apartment) c.new.ensures in
-    let one : c.causalities_of.result ≤ 1 = let low = drawn-low c.args.outermost in omega (arith, low, c.causalities_of.ensures) in (
+    let one : c.causalities_of.result ≤ 1 = let low = drawn-low c.args.is_outermost in omega (arith, low, c.causalities_of.ensures) in (
       rw (c.push_reserved.ensures.items, c.push_reserved.ensures.capacity)
           (kept_grown s.rows.items c.new.result s.posted s.waiting s.rows.cap s.room s.causes c.causalities_of.result c.self.invariant.0 (omega (arith, n, room, c.requires.room)) one (omega (arith, home, inboxes, c.requires.inbox))
           (λ a. subst (λ (r : RowView). row_waits a r ≡ false) (sym c.new.ensures) (new_waits_not c.args.issue c.args.issued c.args.clock a))),

@@ -16,7 +16,7 @@ returns-clause-calls c =
     let begun : IsBegun (parts_of c.self.inside.lanes c.self.inside.objects c.self.inside.calls c.self.inside.scene c.self.inside.entries) (acting_of c.args.acting) c.args.outcome.now (acting_of c.args.after) c.args.lane c.args.deed.now c.args.begun =
     subst (λ (p : PartTables). IsBegun p (acting_of c.args.acting) c.args.outcome.now (acting_of c.args.after) c.args.lane c.args.deed.now c.args.begun) (sym c.self.view_is) c.requires.begun in
     subst (λ (p : PartTables). x ≡ calls_after p.objects (moment_at p.lanes c.args.lane c.args.begun.calling.has_filter c.args.begun.calling.clock) (issuing_of c.args.begun.calling.issued) p.calls.tables e) c.self.view_is
-    (subst (λ (o : _). x ≡ calls_after c.self.inside.objects.tables (record { outermost = o; filtered = c.args.begun.calling.has_filter; clock = c.args.begun.calling.clock }) (issuing_of c.args.begun.calling.issued) c.self.inside.calls.tables e) begun.outermost
+    (subst (λ (o : _). x ≡ calls_after c.self.inside.objects.tables (record { is_outermost = o; filtered = c.args.begun.calling.has_filter; clock = c.args.begun.calling.clock }) (issuing_of c.args.begun.calling.issued) c.self.inside.calls.tables e) begun.is_outermost
     (c.change_calls.ensures.tables c.self.inside.objects.tables c.self.invariant.named))
 
 pub invariant_of-self : goal.invariant_of-self
