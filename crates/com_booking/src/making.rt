@@ -1,6 +1,6 @@
 //! The row of a new object.
 ghost use Rattle.std.specs.Prelude.{◌≡◌, ◌+◌, ◌<◌, ◌≤◌, ◌^◌, ◌++◌, ◌∷◌, [], true, IsTrue, OnOk, Some, length};
-ghost use Rattle.std.specs.Prelude.{ℕ, OnErr, vec_len, vec_capacity};
+ghost use Rattle.std.specs.Prelude.{◌↔◌, ℕ, OnErr, vec_len, vec_capacity};
 ghost use Rattle.com_holders.specs.Steps.{among};
 ghost use Rattle.com_holders.specs.Tables.{offers};
 ghost use Rattle.com_model.specs.Tables.{has_agile_model};
@@ -25,7 +25,7 @@ fn fill_set(set: &mut Vec<u16>, class: &Class) -> Result<(), Memory> {
 
 // Whether the interface is one of the set.
 fn is_among(set: &[u16], iface: u16) -> bool
-    ensures { IsTrue result → among iface set.now ≡ true }
+    ensures { IsTrue result ↔ (among iface set.now ≡ true) }
 {
     for other in set {
         if *other == iface {
@@ -41,6 +41,8 @@ fn can_make(refs: &Refs, set: &[u16], held: RefValue) -> bool
     ensures small { IsTrue result → length set.now ≤ 17 }
     ensures within { IsTrue result → among held.iface set.now ≡ true }
     ensures few { IsTrue result → refs.now.issued + 1 < 2 ^ 28 }
+    ensures exact { held.object ≡ length refs.now.objects + 1 → length set.now ≤ 17
+        → among held.iface set.now ≡ true → refs.now.issued + 1 < 2 ^ 28 → IsTrue result }
 {
     if refs.issued_count() >= MOST_GIVEN - 1 {
         return false;

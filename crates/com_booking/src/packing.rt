@@ -38,6 +38,8 @@ fn marshal_all(refs: &mut Refs, apartment: u32, carried: &[RefValue])
 fn can_pack(refs: &Refs, carried: &[RefValue]) -> bool
     ensures few { IsTrue result → refs.now.issued + length carried.now < 2 ^ 28 }
     ensures known { IsTrue result → AllKnown refs.now carried.now }
+    ensures exact { refs.now.issued + length carried.now < 2 ^ 28 → AllKnown refs.now carried.now
+        → IsTrue result }
 {
     let most = MOST_GIVEN as usize;
     if carried.len() >= most || refs.issued_count() as usize + carried.len() >= most {
