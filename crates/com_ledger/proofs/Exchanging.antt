@@ -1,5 +1,5 @@
 -- What the row brought, and all that comes to places, is held once.
-use Rattle.std.proofs.Common.{◌≡◌, ℕ, zero, suc, length, take, refl, ◌≤◌, List, [], ◌∷◌, ◌++◌, sym, ap, subst, ◌∙◌, arith}
+use Rattle.std.proofs.Common.{◌≡◌, ℕ, zero, suc, length, take, get_or, get_or-take, refl, ◌<◌, ◌≤◌, List, [], ◌∷◌, ◌++◌, sym, ap, subst, ◌∙◌, arith}
 use Rattle.com_books.specs.Changes.{Books}
 use Rattle.com_books.specs.Ends.{ends}
 use Rattle.com_holders.specs.Places.{Counts}
@@ -46,3 +46,7 @@ exchanged_again brought gained t v u some first then same grown ends-all = recor
     last n places bs gs counts =
         ends-all n (plus places gained) bs
         (same_counts n (plus (plus places brought) gained) (plus (plus places gained) brought) v (λ c x. omega arith) (grown n (plus places brought) gs counts))
+
+-- What stands first in a list is the same at each place.
+pub first_same : (brought gained : List Move) (k : ℕ) (d : Move) → k < length brought → take (length brought) gained ≡ brought → get_or gained k d ≡ get_or brought k d
+first_same brought gained k d h e = sym (get_or-take (length brought) gained k d h) ∙ ap (λ (ms : List Move). get_or ms k d) e

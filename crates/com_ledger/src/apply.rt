@@ -48,6 +48,8 @@ fn stands_first(brought: &[Move], gained: &[Move]) -> bool
     ensures within { IsTrue result → length brought.now ≤ length gained.now }
     ensures first { IsTrue result → take (length brought.now) gained.now ≡ brought.now }
     ensures none { brought.now ≡ [] → IsTrue result }
+    ensures exact { length brought.now ≤ length gained.now
+        → take (length brought.now) gained.now ≡ brought.now → IsTrue result }
 {
     if brought.len() > gained.len() {
         return false;
@@ -117,7 +119,8 @@ fn can_place(refs: &Refs, deed: &Deed, held: RefValue) -> bool
 // Whether each reference that comes to a place is by an interface of its object's set, once the object is
 // made.
 fn can_gain(refs: &Refs, deed: &Deed, gained: &[Move]) -> bool
-    ensures { IsTrue result → AllGiven refs.now deed.now gained.now }
+    ensures known { IsTrue result → AllGiven refs.now deed.now gained.now }
+    ensures exact { AllGiven refs.now deed.now gained.now → IsTrue result }
 {
     for moved in gained {
         if !can_place(refs, deed, moved.reference) {

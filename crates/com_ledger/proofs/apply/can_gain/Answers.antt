@@ -19,5 +19,5 @@ loop-moved-preserved c = λ k h. elim (cases_lt k c.loop-moved.moved-index) [
       (sym c.can_place.ensures ∙ c.if-not-can_place.false)
 ]
 
-pub returns : goal.returns
-returns c = λ _ k h. c.loop-moved.invariant k (omega (arith, h, c.loop-moved-test.false))
+pub returns-clause-known : goal.returns-clause-known
+returns-clause-known c = λ _ k h. c.loop-moved.invariant k (omega (arith, h, c.loop-moved-test.false))
