@@ -84,15 +84,15 @@ impl ByteList {
         self.bytes.grow(bytes)
     }
 
-    /// Keeps the first `count` bytes, or all where there are fewer, and drops those after them. It keeps
-    /// the room, so a writer that wants memory in the middle can take back what it appended.
+    /// Keeps the first `count` bytes, or all where there are fewer, and drops those after them, so that a
+    /// writer that wants memory in the middle can take back what it appended. It takes no memory.
     pub fn truncate(&mut self, count: usize)
         ensures { self.new ≡ take count self.old }
     {
         self.bytes.truncate(count);
     }
 
-    /// Drops every byte and keeps the room.
+    /// Drops every byte. It takes no memory.
     pub fn clear(&mut self)
         ensures { self.new ≡ [] }
     {

@@ -68,7 +68,7 @@ impl Reserved {
         self.bytes.extend_from_slice(bytes)
     }
 
-    // Keeps the first `count` bytes, and the room.
+    // Keeps the first `count` bytes, or all where there are fewer.
     pub(crate) fn truncate(&mut self, count: usize)
         ensures { self.new.items ≡ take count self.old.items }
     {

@@ -38,6 +38,7 @@ pub fn generate(alloc: Global, number: u32) -> Result<ByteList, Memory>
 {
     let mut words = generator_of(number);
     let mut text = head(alloc)?;
+    // For speed alone: what follows makes room where it wants some.
     text.reserve(ROOM)?;
     push_scripts(&mut words, &mut text)?;
     Ok(text)
