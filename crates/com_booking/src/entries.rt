@@ -44,7 +44,7 @@ pub fn enter_made(
     iface: Asked,
 ) -> Result<(), Memory>
     requires place { vec_len brought.old < vec_capacity brought.old }
-    requires room { 2 ≤ refs.old.spare }
+    requires room { 0 < refs.old.spare }
     ensures row { OnOk result
         (MakesOrNone classes.now apartment object owner class iface refs.old refs.new brought.old.items
         brought.new.items) }
@@ -53,7 +53,7 @@ pub fn enter_made(
     ensures offers { OnOk result ((x j : ℕ) → (offers refs.old x j || is_made object iface x j) ≡ true
         → offers refs.new x j ≡ true) }
     ensures issued { refs.new.issued ≤ refs.old.issued + 2 }
-    ensures spare { refs.old.spare ≤ refs.new.spare + 2 }
+    ensures spare { refs.old.spare ≤ refs.new.spare + 1 }
     ensures len { vec_len brought.new ≤ vec_len brought.old + 1 }
 {
     let Some(object) = object else {

@@ -72,7 +72,7 @@ pub fn make(
     class: u32,
 ) -> Result<(), Memory>
     requires place { vec_len brought.old < vec_capacity brought.old }
-    requires room { 2 ≤ refs.old.spare }
+    requires room { 0 < refs.old.spare }
     ensures brought { OnOk result (brought.new.items ≡ brought.old.items ++ moved_to apartment held ∷ []) }
     ensures made { OnOk result (Made apartment held refs.old refs.new) }
     ensures grown { OnOk result (Grown classes.now (Some
@@ -82,7 +82,7 @@ pub fn make(
     ensures offers { OnOk result ((x j : ℕ) → offers refs.old x j ≡ true → offers refs.new x j ≡ true) }
     ensures offered { OnOk result (offers refs.new held.object held.iface ≡ true) }
     ensures issued { refs.new.issued ≤ refs.old.issued + 2 }
-    ensures spare { refs.old.spare ≤ refs.new.spare + 2 }
+    ensures spare { refs.old.spare ≤ refs.new.spare + 1 }
     ensures len { vec_len brought.new ≤ vec_len brought.old + 1 }
 {
     let Some(class) = classes.class(class) else {

@@ -1,13 +1,13 @@
 -- Values as they travel, one after the other.
-use Rattle.std.proofs.Common.{◌≡◌, ℕ, suc, zero, ◌+◌, ◌-◌, ◌<◌, ◌≤◌, List, [], ◌∷◌, ◌++◌, length, get_or, drop, Option, Some, None, refl, sym, ap, subst, ◌∙◌, append_assoc, arith, slice_get}
-use Rattle.std.proofs.lemmas.List.{append-nil, length-append, length-replicate}
+use Rattle.std.proofs.Common.{◌≡◌, ℕ, suc, zero, ◌+◌, ◌-◌, ◌<◌, ◌≤◌, List, [], ◌∷◌, ◌++◌, length, get_or, drop, Option, Some, None, refl, sym, ap, subst, ◌∙◌, arith, slice_get}
+use Rattle.std.proofs.lemmas.List.{append-nil, length-append}
 use Rattle.std.proofs.Math.Seq.{drop-cons}
 use Rattle.std.proofs.Math.ListN.{drop_of_length-le}
 use Rattle.ndr_args.specs.declared.wire.Wire.{Wire}
 use Rattle.ndr_args.specs.declared.wire.Wire.TheVariants as wire
 use Rattle.ndr_args.specs.Grammar.{gap, zeros}
-use Rattle.ndr_args.specs.Written.{align_of_value, written_arg, next_referent, written_from, written_args}
-use Rattle.ndr_args.proofs.Appending.{Appended, appended_all}
+use Rattle.ndr_args.specs.Written.{align_of_value, written_arg, next_referent, written_args}
+use Rattle.ndr_args.proofs.Appending.{Appended, appended_more, appended_all}
 use Rattle.com_base.specs.declared.standard.StdFields.{StdFields}
 use Rattle.com_base.specs.declared.value.Value.{Value}
 use Rattle.com_base.specs.declared.value.Value.TheVariants as value
@@ -55,28 +55,6 @@ pub record SoFar (old out : List ℕ) (referent taken i : ℕ) (vs : List Value)
   pub appended : Appended old out referent (wires (drop i vs) (drop taken fs)) (written_args (wires vs fs))
   pub few : taken ≤ i
 
--- a value more, behind what was written
-appended_one : (old out new : List ℕ) (referent next position : ℕ) (w : Wire) (rest : List Wire) (total : List ℕ) → Appended old out referent (w ∷ rest) total → position ≡ length out - length old
-    → new ≡ out ++ (zeros (gap position (align_of_value w)) ++ written_arg referent w) → next ≡ next_referent referent w → Appended old new next rest total
-unfolding written_from
-appended_one old out new referent next position w rest total so_far position_is new_is next_is =
-    let front = so_far.front in
-    let here : position ≡ length front = omega (arith, position_is, ap length so_far.out_is, length-append old front) in
-    let pad = gap (length front) (align_of_value w) in
-    let text = written_arg referent w in
-    let piece = zeros pad ++ text in
-    let new_at : new ≡ out ++ piece = new_is ∙ ap (λ (k : ℕ). out ++ (zeros (gap k (align_of_value w)) ++ text)) here in
-    let len : length (front ++ piece) ≡ length front + pad + length text = omega (arith, length-append front piece, length-append (zeros pad) text, length-replicate {A = ℕ} pad 0) in
-    record {
-      front = front ++ piece;
-      out_is = new_at ∙ ap (λ (t : List ℕ). t ++ piece) so_far.out_is ∙ append_assoc old front piece;
-      total_is = ap (λ (n : ℕ). (front ++ piece) ++ written_from n next rest) len
-          ∙ ap (λ (r : ℕ). (front ++ piece) ++ written_from (length front + pad + length text) r rest) next_is
-          ∙ append_assoc front piece (written_from (length front + pad + length text) (next_referent referent w) rest)
-          ∙ ap (λ (t : List ℕ). front ++ t) (append_assoc (zeros pad) text (written_from (length front + pad + length text) (next_referent referent w) rest))
-          ∙ so_far.total_is;
-    }
-
 pub so_far_none : (old : List ℕ) (vs : List Value) (fs : List StdFields) → SoFar old old 0x20000 0 0 vs fs
 so_far_none old vs fs = record {
   appended = record { front = []; out_is = sym (append-nil old); total_is = refl };
@@ -94,7 +72,7 @@ so_far_more old out new referent next position taken i v vs fs within is so_far 
     let split : drop i vs ≡ v ∷ drop (suc i) vs = drop-cons vs i v within ∙ ap (λ (x : Value). x ∷ drop (suc i) vs) (sym is) in
     let here : wires (drop i vs) (drop taken fs) ≡ w ∷ rest = ap (λ (l : List Value). wires l (drop taken fs)) split ∙ wires_next v (drop (suc i) vs) fs taken in
     let before : Appended old out referent (w ∷ rest) total = subst (λ (l : List Wire). Appended old out referent l total) here so_far.appended in
-    let after : Appended old new next rest total = appended_one old out new referent next position w rest total before place_is new_is next_is in
+    let after : Appended old new next rest total = appended_more old out new referent next position w rest total before place_is new_is next_is in
     let more : suc i ≡ i + 1 = omega arith in
     record {
       appended = subst (λ (n : ℕ). Appended old new next (wires (drop n vs) (drop (taken + packets_of v) fs)) total) more after;

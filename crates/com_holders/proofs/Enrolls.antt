@@ -242,3 +242,12 @@ module _ (t u : Tables) (o w : ℕ) (agile : Bool) (set : List ℕ) (k : Enrolle
 
   pub enrolled_owners : owners_of u.objects ≡ owners_of t.objects ++ w ∷ []
   enrolled_owners = ap (λ os. owners_of os) k.objects ∙ map-append (λ (r : ObjectRow). r.owner) t.objects (record { owner = w; agile = agile; direct = 0 } ∷ [])
+
+  pub enrolled_live : is_connected u.stubs o ≡ true
+  enrolled_live = live-now o ∙ grind (arith, common_steps)
+
+  pub enrolled_has : (i : ℕ) → among i set ≡ true → has_counter u.counters o i ≡ true
+  enrolled_has i h = enrolled_offers o i ∙ grind (arith, common_steps, h)
+
+  pub enrolled_made : (0 < o) × (o ≤ length u.objects)
+  enrolled_made = (omega (arith, k.number), omega (arith, k.number, len))

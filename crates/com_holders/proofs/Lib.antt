@@ -11,6 +11,7 @@ pub mod Grown
 pub mod Issues
 pub mod Joins
 pub mod Keeps
+pub mod Makes
 pub mod Marshals
 pub mod Moves
 pub mod Owners

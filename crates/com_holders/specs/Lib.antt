@@ -1,3 +1,4 @@
+pub mod Makes
 pub mod Places
 pub mod Stands
 pub mod Steps

@@ -24,7 +24,8 @@ ghost use Rattle.com_holders.specs.Tables.{is_owned, books_of, owns_of, owners_o
 ghost use Rattle.com_holders.specs.Tables.{direct_less, direct_more, outstanding_in, offers};
 ghost use Rattle.com_holders.specs.Places.{OneMore, OneLess, SamePlaces, places_in, distinct};
 ghost use Rattle.com_holders.specs.Stands.{Gave, Released, Tells, Known, Bounded, IsEven};
-ghost use Rattle.com_holders.specs.Steps.{minted, minted_counters, minted_rows, made_live, among};
+ghost use Rattle.com_holders.specs.Makes.{IsMade};
+ghost use Rattle.com_holders.specs.Steps.{minted, minted_counters, minted_rows, among};
 
 use com_base::{MarshalMode, RefValue};
 use com_git::Git;
@@ -349,6 +350,40 @@ fn enroll(stubs: &mut Stubs, object: u32, set: &[u16])
     ensures spare { stubs.old.spare ≤ stubs.new.spare + 1 }
 {
     let _ = stubs.enroll(object, set);
+}
+
+// The first place of a new object: a direct one in an apartment that owns it, else one of the apartment's
+// proxy with 5 new public references, for which there is room.
+fn first_place(
+    objects: &mut [ObjectRow],
+    proxies: &mut Proxies,
+    stubs: &mut Stubs,
+    apartment: u32,
+    held: RefValue,
+)
+    requires connected { is_connected stubs.old.stubs held.object ≡ true }
+    requires known { has_counter stubs.old.counters held.object held.iface ≡ true }
+    requires room { 0 < proxies.old.spare }
+    requires direct_fits { (object_in objects.old held.object).direct + 1 < 2 ^ 64 }
+    requires local_fits { local_of proxies.old.rows apartment held.object held.iface + 1 < 2 ^ 64 }
+    requires public_fits { public_of proxies.old.rows apartment held.object held.iface + 5 < 2 ^ 64 }
+    requires sum_fits { sum_of stubs.old.counters held.object + 5 < 2 ^ 64 }
+    ensures objects { objects.new ≡ (if owns_of objects.old held.object apartment
+        then direct_more held.object objects.old else objects.old) }
+    ensures proxies { proxies.new.rows ≡ (if owns_of objects.old held.object apartment then proxies.old.rows
+        else changed_row (gaining 5) apartment held.object held.iface proxies.old.rows) }
+    ensures counters { stubs.new.counters ≡ (if owns_of objects.old held.object apartment
+        then stubs.old.counters else changed_counter (more 5) held.object held.iface stubs.old.counters) }
+    ensures stubs { stubs.new.stubs ≡ stubs.old.stubs }
+    ensures proxy_room { proxies.old.spare ≤ proxies.new.spare + 1 }
+    ensures stub_room { stubs.new.spare ≡ stubs.old.spare }
+{
+    if owns(objects, held.object, apartment) {
+        gain_direct(objects, held.object);
+        return;
+    }
+    gain(proxies, apartment, held, 5);
+    issue(stubs, held, 5);
 }
 
 // The reference of a cookie back to the stub of its object, if that is connected.
@@ -774,21 +809,18 @@ impl Holders {
         Ok(self.issue_cookie(held))
     }
 
-    /// The number of a new object, counted from 1, which nobody holds yet. It has an owner, 0 where it is
-    /// agile, and a connected stub with the interfaces of the set, of which there are at most 17. Room for a
-    /// call was made before.
-    pub fn add_object(&mut self, owner: u32, agile: bool, set: &[u16]) -> u32
+    /// A new object, the next by its number from 1 on, with its first place. It has an owner, 0 where it is
+    /// agile, and a connected stub with the interfaces of the set, of which there are at most 17. The place is
+    /// a direct one in an apartment that owns the object, and else one of that apartment's proxy, with 5 new
+    /// public references, by an interface of the set. Room for a call was made before. Source: Essential COM,
+    /// chapter 5, on stubs and proxies; MS-DCOM 3.2.4.4.
+    pub fn make_object(&mut self, owner: u32, agile: bool, set: &[u16], apartment: u32, iface: u16)
         requires small { length set.now ≤ 17 }
-        requires few { self.old.issued < 2 ^ 28 }
+        requires within { among iface set.now ≡ true }
+        requires few { self.old.issued + 1 < 2 ^ 28 }
         requires room { 0 < self.old.spare }
-        ensures number { result ≡ length self.old.objects + 1 }
-        ensures books { books_of self.new ≡ made_live (length self.old.objects + 1) (books_of self.old) }
-        ensures objects { self.new.objects
-            ≡ self.old.objects ++ record { owner = owner; agile = agile; direct = 0 } ∷ [] }
-        ensures proxies { self.new.proxies ≡ self.old.proxies }
-        ensures offers { (x j : ℕ) → offers self.new x j
-            ≡ (offers self.old x j || (x == length self.old.objects + 1 && among j set.now)) }
-        ensures issued { self.new.issued ≡ self.old.issued + 1 }
+        ensures made { IsMade self.old self.new (length self.old.objects + 1) owner agile set.now
+            apartment iface }
         ensures spare { self.new.spare + 1 ≡ self.old.spare }
     {
         let object = self.objects.len() as u32 + 1;
@@ -799,9 +831,15 @@ impl Holders {
             agile,
             direct: 0,
         });
-        self.issued += 1;
+        first_place(
+            &mut self.objects,
+            &mut self.proxies,
+            &mut self.stubs,
+            apartment,
+            RefValue { object, iface },
+        );
+        self.issued += 2;
         self.room -= 1;
-        object
     }
 
     /// All objects that the apartment alone owns are no longer connected. Places, packets and cookies stay.

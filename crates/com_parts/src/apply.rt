@@ -95,6 +95,10 @@ impl Parts {
         ensures writes { IsTrue result → IsWriting outcome.now }
         ensures issued { IsTrue result → HasIssued change.now.deed.now change.now.issued }
         ensures few { IsTrue result → self.now.entries < 2 ^ 28 }
+        ensures all { Fits self.now.lanes self.now.objects self.now.calls
+            change.now.lane change.now.deed.now change.now.clock → IsWriting outcome.now
+            → HasIssued change.now.deed.now change.now.issued → self.now.entries < 2 ^ 28
+            → IsTrue result }
         ensures homes { length self.now.calls.apartments ≡ length self.now.calls.tables.issues }
     {
         let _calls = self.calls.len();

@@ -1,9 +1,10 @@
 //! Tests in constant time of what the parts ask of an entry. Each entry that the rules give passes them.
 ghost use Rattle.std.specs.Prelude.{◌≡◌, ◌+◌, ◌≤◌, ◌<◌, ◌^◌, ◌↔◌, IsTrue, length};
 ghost use Rattle.com_body.specs.Bodies.{IsPlace, IsDestination};
-ghost use Rattle.com_calls.specs.Steps.{delay_of};
+ghost use Rattle.com_calls.specs.Steps.{delay_of, is_known};
 ghost use Rattle.com_lanes.specs.Changes.{NamesStas};
 ghost use Rattle.com_model.specs.Objects.{finals};
+ghost use Rattle.com_model.specs.Waiting.{retries};
 ghost use Rattle.com_objects.specs.Kept.{IsMade};
 ghost use Rattle.com_scene.specs.Ranges.{WritesInRange};
 ghost use Rattle.com_parts.specs.Fits.{Fits, IsAimed, IsCalled, IsWriting, TakesBack};
@@ -26,7 +27,7 @@ pub(crate) fn fits(
     clock: u64,
 ) -> bool
     requires { length lanes.now.tables.stas + 4 ≤ 2 ^ 32 }
-    ensures { IsTrue result → Fits lanes.now.tables objects.now.tables calls.now lane deed.now clock }
+    ensures { IsTrue result ↔ Fits lanes.now.tables objects.now.tables calls.now lane deed.now clock }
 {
     if !names_stas(lanes, deed) || !takes_back(lanes, lane, deed) {
         return false;
@@ -44,7 +45,7 @@ pub(crate) fn fits(
 // host's.
 fn names_stas(lanes: &Lanes, deed: &Deed) -> bool
     requires { length lanes.now.tables.stas + 4 ≤ 2 ^ 32 }
-    ensures { IsTrue result → NamesStas lanes.now.tables deed.now }
+    ensures { IsTrue result ↔ NamesStas lanes.now.tables deed.now }
 {
     match deed {
         Deed::Init {
@@ -54,7 +55,7 @@ fn names_stas(lanes: &Lanes, deed: &Deed) -> bool
         } => hr.0 != 0 || *home == lanes.next_sta(),
         Deed::Uninit {
             home: Some(home),
-            ..
+            count: 0,
         } => *home < lanes.next_sta(),
         _ => true,
     }
@@ -82,13 +83,24 @@ fn names_made(objects: &Objects, deed: &Deed) -> bool
 
 // Whether an Out issues the next call, and a call that is posted or waits was issued.
 fn names_call(calls: &Calls, deed: &Deed) -> bool
-    ensures { IsTrue result → IsCalled calls.now.tables deed.now }
+    ensures { IsTrue result ↔ IsCalled calls.now.tables deed.now }
 {
     match deed {
         Deed::Out { call, .. } => is_next(calls, *call),
-        Deed::Retry { call, .. } => is_issued(calls, *call),
+        Deed::Retry { call, answer } => can_retry(calls, *call, *answer),
         Deed::Again { call } => is_issued(calls, *call),
         _ => true,
+    }
+}
+
+// Whether a call that is posted again, or that waits for a time, was issued. One that is given up may be any.
+fn can_retry(calls: &Calls, call: u32, answer: i64) -> bool
+    ensures { IsTrue result ↔ is_known calls.now.tables (retries call answer) }
+{
+    match answer {
+        ..=-1 => true,
+        0..=99 => is_issued(calls, call),
+        _ => call <= calls.len(),
     }
 }
 

@@ -5,8 +5,7 @@ ghost use Rattle.std.specs.Prelude.{None};
 ghost use Rattle.com_base.specs.declared.hresult.HResult.{HResult};
 ghost use Rattle.com_base.specs.declared.value.Value.{Value};
 ghost use Rattle.com_books.specs.Changes.{Books, held_outside};
-ghost use Rattle.com_books.specs.Counting.{sum_below};
-ghost use Rattle.com_books.specs.Ends.{stays, ends};
+ghost use Rattle.com_books.specs.Ends.{holders_by, stays, ends};
 ghost use Rattle.com_model.specs.declared.deeds.Deed.{Deed};
 ghost use Rattle.com_model.specs.declared.deeds.Deed.TheVariants as deed;
 ghost use Rattle.com_model.specs.declared.deeds.Entry.{Entry};
@@ -66,8 +65,8 @@ pub fn books_by_ends()
 pub fn untouched()
     ensures connected { (s : Scenario) (st : State) (n : ℕ) (pl : ℕ → ℕ → ℕ) (c : Books) (o : ℕ)
         → Resting s st → (books_in st).live o ≡ true → c.live o ≡ true
-        → all_places s (ground_in s st) (scene_in st) o + held_outside (books_in st) o ≤ sum_below n
-        (λ a. pl a o) + held_outside c o → stays n pl c o ≡ true }
+        → all_places s (ground_in s st) (scene_in st) o + held_outside (books_in st) o
+        ≤ holders_by n pl c o → stays n pl c o ≡ true }
     ensures fallen { (s : Scenario) (st y : State) (o : ℕ) → Resting s st → o ≤ objects_in st
         → (is_member o y.finaled ≡ false → is_member o st.finaled ≡ false)
         → holders_in s (ground_in s st) (scene_in st) (books_in st) o ≤ holders_in s (ground_in s y)
@@ -80,7 +79,7 @@ pub fn untouched()
 /// Enter, Leave and Back.
 pub fn rowless_entries()
     ensures ends { (n : ℕ) (pl : ℕ → ℕ → ℕ) (b : Books)
-        → Rested pl (λ o. sum_below n (λ a. pl a o) + held_outside b o) b → ends n pl b ≡ b }
+        → Rested pl (holders_by n pl b) b → ends n pl b ≡ b }
     ensures rowless { (s : Scenario) (st su : State) (e : Entry) → is_rowless e.deed ≡ true
         → books_entered s st su e ≡ books_in st }
     ensures out { (s : Scenario) (st su : State) (l c i m k : ℕ) (o : Option ℕ) (r : Route)

@@ -123,13 +123,6 @@ made_counted m v hs a o i c e one ei some made =
     outside : (x : ℕ) → outside_of v x ≡ outside_of m x + count_if (not (owns_of m.objects o a) && eqb x o)
     outside x = let out : held_outside (books_of v) x ≡ held_outside (books_of m) x = ap (λ (b : Books). held_outside b x) e ∙ makes-none (books_of m) (owns_of m.objects o a) a o i x in omega (arith, out, one.all_elsewhere x)
 
-pub live_connected : (t : Tables) (o : ℕ) → (books_of t).live o ≡ true → is_connected t.stubs o ≡ true
-unfolding books_of
-live_connected t o h = h
-
-pub here_live : (t : Tables) (o : ℕ) (b : Books) → books_of t ≡ made_live o b → is_connected t.stubs o ≡ true
-here_live t o b e = live_connected t o (ap (λ (c : Books). c.live o) e ∙ grind (arith, common_steps))
-
 pub same_owner : (os us : List ObjectRow) (r : ObjectRow) (x a : ℕ) → us ≡ os ++ r ∷ [] → x ≤ length os → owns_of us x a ≡ owns_of os x a
 unfolding owns_of
 same_owner os us r x a e h = let is : object_in us x ≡ object_in os x = ap (λ us. object_in us x) e ∙ object_before os r x h in rw is refl

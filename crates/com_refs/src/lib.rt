@@ -283,30 +283,6 @@ const NO_COOKIE: Cookie = Cookie {
     refs: 0,
 };
 
-// The first place of an object: a direct one, or one of a proxy with new references.
-fn place(holders: &mut Holders, apartment: u32, held: RefValue)
-    requires live { is_connected holders.old.stubs held.object ≡ true }
-    requires known { offers holders.old held.object held.iface ≡ true }
-    requires few { holders.old.issued < 2 ^ 28 }
-    requires room { 0 < holders.old.spare }
-    ensures row { books_of holders.new
-        ≡ changed (books_of holders.old) (change (owns_of holders.old.objects) (books_of holders.old)
-        (Makes apartment held.object held.iface)) }
-    ensures places { OneMore holders.old holders.new apartment held.object
-        (owns_of holders.old.objects held.object apartment) }
-    ensures offers { (x j : ℕ) → offers holders.new x j ≡ offers holders.old x j }
-    ensures issued { holders.new.issued ≡ holders.old.issued + 1 }
-    ensures most { holders.new.spare ≤ holders.old.spare }
-    ensures spare { holders.old.spare ≤ holders.new.spare + 1 }
-{
-    holders.stands();
-    if holders.owns(held.object, apartment) {
-        holders.keep_direct(held.object);
-        return;
-    }
-    holders.issue_elsewhere(apartment, held);
-}
-
 impl Refs {
     /// No object was made and nothing is held. It takes no memory.
     pub fn new(alloc: Global) -> Self
@@ -362,7 +338,8 @@ impl Refs {
     }
 
     /// An object of the owner's is made, the next by its number, and the apartment has a place for it by an
-    /// interface of its set. Every apartment owns an agile object. The call takes the room of two.
+    /// interface of its set. Every apartment owns an agile object. The only error is want of memory, and then
+    /// nothing changed; it does not come where there is room for a call.
     pub fn made(
         &mut self,
         object: u32,
@@ -394,10 +371,10 @@ impl Refs {
             → offers self.new x j ≡ (offers self.old x j || (x == object && among j set.now))) }
         ensures issued { OnOk result (self.new.issued ≡ self.old.issued + 2) }
         ensures err { OnErr result (self.new ≡ record self.old { spare = self.new.spare }) }
-        ensures room { 2 ≤ self.old.spare → IsOk result }
-        ensures spare { self.old.spare ≤ self.new.spare + 2 }
+        ensures room { 0 < self.old.spare → IsOk result }
+        ensures spare { self.old.spare ≤ self.new.spare + 1 }
     {
-        self.reserve(2)?;
+        self.reserve(1)?;
         self.hold_made(object, owner, agile, apartment, iface, set);
         Ok(())
     }
@@ -416,7 +393,7 @@ impl Refs {
         requires small { length set.now ≤ 17 }
         requires within { among iface set.now ≡ true }
         requires few { self.old.issued + 1 < 2 ^ 28 }
-        requires room { 2 ≤ self.old.spare }
+        requires room { 0 < self.old.spare }
         ensures row { books_of self.new
             ≡ changed (made_live object (books_of self.old)) (change (owns_of self.new.objects)
             (made_live object (books_of self.old)) (Makes apartment object iface)) }
@@ -433,13 +410,13 @@ impl Refs {
         ensures offers { (x j : ℕ) → offers self.new x j
             ≡ (offers self.old x j || (x == object && among j set.now)) }
         ensures issued { self.new.issued ≡ self.old.issued + 2 }
-        ensures spare { self.old.spare ≤ self.new.spare + 2 }
+        ensures spare { self.old.spare ≤ self.new.spare + 1 }
     {
         self.holders.stands();
-        self.holders.add_object(owner, agile, set);
+        self.holders
+            .make_object(owner, agile, set, apartment, iface);
         self.holds.push_reserved(0);
         let is_owned = self.holders.owns(object, apartment);
-        place(&mut self.holders, apartment, RefValue { object, iface });
         gain_hold(&mut self.holds, object, !is_owned);
     }
 

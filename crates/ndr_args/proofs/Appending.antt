@@ -1,5 +1,5 @@
 -- What a writer has appended so far, as its loop goes on.
-use Rattle.std.proofs.Common.{◌≡◌, ℕ, suc, ◌+◌, ◌-◌, ◌<◌, ◌≤◌, ◌^◌, List, [], ◌∷◌, ◌++◌, length, get_or, drop, Some, None, refl, sym, ap, subst, ◌∙◌, append_assoc, arith}
+use Rattle.std.proofs.Common.{◌≡◌, ℕ, suc, ◌+◌, ◌-◌, ◌<◌, ◌≤◌, ◌^◌, List, [], ◌∷◌, ◌++◌, length, get_or, drop, Some, None, sym, ap, subst, ◌∙◌, append_assoc, arith}
 use Rattle.std.proofs.lemmas.List.{append-nil, length-append, length-replicate}
 use Rattle.std.proofs.Math.Seq.{drop-cons}
 use Rattle.std.proofs.Math.ListN.{drop_of_length-le}
@@ -7,14 +7,15 @@ use Rattle.com_base.specs.Room.{Room}
 use Rattle.ndr_args.specs.declared.wire.Wire.{Wire}
 use Rattle.ndr_args.specs.declared.wire.Wire.TheVariants as wire
 use Rattle.ndr_args.specs.Grammar.{gap, zeros}
-use Rattle.ndr_args.specs.Written.{align_of_value, written_arg, next_referent, written_from, written_args, padded_length, length_from, length_args, referent_after, FitsReferents}
+use Rattle.ndr_args.specs.Written.{align_of_value, written_arg, next_referent, written_from, written_args, padded_length, length_from, length_args, referent_after}
 
 pub record Appended (old out : List ℕ) (referent : ℕ) (rest : List Wire) (total : List ℕ) : Type 0 where
   pub front : List ℕ
   pub out_is : out ≡ old ++ front
   pub total_is : front ++ written_from (length front) referent rest ≡ total
 
-appended_more : (old out new : List ℕ) (referent next position : ℕ) (v : Wire) (vs : List Wire) (total : List ℕ) → Appended old out referent (v ∷ vs) total → position ≡ length out - length old
+-- a value more, behind what was written
+pub appended_more : (old out new : List ℕ) (referent next position : ℕ) (v : Wire) (vs : List Wire) (total : List ℕ) → Appended old out referent (v ∷ vs) total → position ≡ length out - length old
     → new ≡ out ++ (zeros (gap position (align_of_value v)) ++ written_arg referent v) → next ≡ next_referent referent v → Appended old new next vs total
 unfolding written_from
 appended_more old out new referent next position v vs total so_far position_is new_is next_is =

@@ -1,10 +1,10 @@
 -- Arguments one behind the other: what is read is spelled so, what is spelled so is read, and the writer's
 -- spelling is one.
 use Rattle.std.proofs.Common.{◌≡◌, ℕ, suc, ◌+◌, ◌*◌, ◌%◌, ◌^◌, ◌<◌, ◌≤◌, false, cond, ltb, List, [], ◌∷◌, ◌++◌, length, drop, Some, None, Result, Ok, Err, refl, sym, ap, subst, ◌∙◌, append_assoc, arith}
-use Rattle.std.specs.Prelude.{IfOk}
+use Rattle.std.specs.Prelude.{IfOk, if◌then◌else◌}
 use Rattle.std.specs.Global.{Vec}
 use Rattle.std.specs.List.{AllByRecursion}
-use Rattle.std.specs.Int.{w32}
+use Rattle.std.specs.Int.{w32, w64, cast_unsigned}
 use Rattle.std.proofs.lemmas.Bool.{ltb-false, le-ltb}
 use Rattle.std.proofs.lemmas.List.{append-nil, length-append, length-replicate, nil_from_length}
 use Rattle.std.proofs.Math.ListN.{drop_of_length-le}
@@ -14,7 +14,7 @@ use Rattle.com_base.specs.declared.value.Kind.TheVariants as kind
 use Rattle.com_wire.specs.Fields.{IsBytes, number}
 use Rattle.com_wire.specs.Steps.{◌>>=◌}
 use Rattle.com_wire.proofs.Chosen.{bind_ok, guard_ok, ok_is}
-use Rattle.com_wire.proofs.Fields.{Stands, Stands-then, after}
+use Rattle.com_wire.proofs.Fields.{Stands, Stands-then, wide32, wide64, length-number, length-guid, after}
 use Rattle.objref.specs.Grammar.{written_of, IsStdFields}
 use Rattle.objref.proofs.Spelled.{said_fits, length-written}
 use Rattle.ndr_args.specs.declared.wire.Wire.{Wire}
@@ -23,9 +23,9 @@ use Rattle.ndr_args.specs.declared.wire.ArgFault.{ArgFault}
 use Rattle.ndr_args.specs.declared.wire.ArgError.{ArgError}
 use Rattle.ndr_args.specs.Grammar.{gap, align_of, zeros, IsRef, IsArg, IsArgs}
 use Rattle.ndr_args.specs.Reading.{Gives, fault, zeros_at, value_at, arg_at, args_at, args_of}
-use Rattle.ndr_args.specs.Written.{align_of_value, written_arg, next_referent, written_from, CanSend, HasKind, CanSendAll, IsInRange}
+use Rattle.ndr_args.specs.Written.{align_of_value, written_arg, next_referent, written_from, length_of, padded_length, length_from, CanSend, HasKind, CanSendAll, IsInRange}
 use Rattle.ndr_args.proofs.Spelled.{stands_end, zeros_take, zeros_again}
-use Rattle.ndr_args.proofs.Values.{value_take, value_again}
+use Rattle.ndr_args.proofs.Values.{length-counted, value_take, value_again}
 
 -- behind the padding lies a multiple of the alignment
 aligned : (k : Kind) (position : ℕ) → (position + gap position (align_of k)) % align_of k ≡ 0
@@ -177,3 +177,29 @@ as_many [] [] can = refl
 as_many [] (v ∷ vs) can = absurd can
 as_many (k ∷ ks) [] can = absurd can
 as_many (k ∷ ks) (v ∷ vs) can = ap suc (as_many ks vs can.2)
+
+-- ---- how long a stream is
+
+arg_length : (referent : ℕ) (v : Wire) → IsInRange v → length (written_arg referent v) ≡ length_of v
+unfolding written_arg
+arg_length referent (wire.Int n) fits = length-number w64 (2 ^ 64) wide64 (cast_unsigned w64 n)
+arg_length referent (wire.Bool b) fits = length-number w32 (2 ^ 32) wide32 (if b then 1 else 0)
+arg_length referent (wire.Text t) fits = length-counted t
+arg_length referent (wire.Bytes t) fits = length-counted t
+arg_length referent (wire.Guid g) fits = length-guid g fits
+arg_length referent (wire.Ref None) fits = length-number w32 (2 ^ 32) wide32 0
+arg_length referent (wire.Ref (Some f)) fits =
+    let o = written_of f in
+    omega (arith, length-append (number w32 referent) (number w32 72 ++ (number w32 72 ++ o)), length-append (number w32 72) (number w32 72 ++ o), length-append (number w32 72) o, length-number w32 (2 ^ 32) wide32 referent, length-number w32 (2 ^ 32) wide32 72, length-written f fits)
+
+pub stream_length : (vs : List Wire) (position referent : ℕ) → AllByRecursion IsInRange vs → length (written_from position referent vs) ≡ length_from position vs
+unfolding written_from length_from
+stream_length [] position referent fits = refl
+stream_length (v ∷ vs) position referent fits =
+    let pad = gap position (align_of_value v) in
+    let w = written_arg referent v in
+    let others = written_from (position + pad + length w) (next_referent referent v) vs in
+    let here : length w ≡ length_of v = arg_length referent v fits.0 in
+    let place : position + pad + length w ≡ position + padded_length position v = omega (arith, here) in
+    let behind : length others ≡ length_from (position + padded_length position v) vs = subst (λ (k : ℕ). length others ≡ length_from k vs) place (stream_length vs (position + pad + length w) (next_referent referent v) fits.1) in
+    omega (arith, length-append (zeros pad) (w ++ others), length-append w others, length-replicate {A = ℕ} pad 0, here, behind)

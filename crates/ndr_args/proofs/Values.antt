@@ -107,7 +107,7 @@ bytes_take bytes position x fits e =
     let t = counted_take bytes position a.0 fits a.1 in
     subst (Found bytes position kind.Bytes) (ok_is {F = ArgFault} (wire.Bytes a.0.0, a.0.1) x a.2) (counted a.0.0, (t.1, refl), t.0)
 
-length-counted : (t : List ℕ) → length (counted t) ≡ 4 + length t
+pub length-counted : (t : List ℕ) → length (counted t) ≡ 4 + length t
 length-counted t = omega (arith, length-append (number w32 (length t)) t, length-number w32 (2 ^ 32) wide32 (length t))
 
 text_again : (bytes : List ℕ) (position : ℕ) (t text rest : List ℕ) → IsArg kind.Text (wire.Text t) text → drop position bytes ≡ text ++ rest → text_at bytes position ≡ Ok (wire.Text t, position + length text)

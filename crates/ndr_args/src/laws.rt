@@ -5,7 +5,7 @@ ghost use Rattle.com_base.specs.declared.value.Kind.{Kind};
 ghost use Rattle.ndr_args.specs.declared.wire.Wire.{Wire};
 ghost use Rattle.ndr_args.specs.Grammar.{IsArgs};
 ghost use Rattle.ndr_args.specs.Reading.{args_of};
-ghost use Rattle.ndr_args.specs.Written.{written_args, CanSendAll, IsInRange};
+ghost use Rattle.ndr_args.specs.Written.{written_args, length_args, CanSendAll, IsInRange};
 
 /// What the writer writes is in the grammar, and is read again as the values that were written. Each
 /// referent fits where there are fewer than about a thousand million references.
@@ -23,4 +23,10 @@ pub fn no_front_is_whole()
     ensures { (kinds : List Kind) (values others : List Wire) (front more : List ℕ)
         → IsArgs kinds 0 values front
         → IsArgs kinds 0 others (front ++ more) → (values ≡ others) × (more ≡ []) }
+{}
+
+/// A stream has as many bytes as `length_args` counts without writing any.
+pub fn written_has_its_length()
+    ensures { (values : List Wire) → AllByRecursion IsInRange values
+        → length (written_args values) ≡ length_args values }
 {}

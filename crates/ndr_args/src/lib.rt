@@ -7,7 +7,7 @@ mod reading;
 mod wire;
 mod writing;
 
-pub use laws::{no_front_is_whole, written_is_read};
+pub use laws::{no_front_is_whole, written_has_its_length, written_is_read};
 pub use reading::read_args;
 pub use wire::{ArgError, ArgFault, Wire};
 pub use writing::{args_length, write_args, write_args_reserved};

@@ -24,8 +24,8 @@ const STEP: u32 = 4;
 // How many bytes the OBJREF of a reference has.
 const OBJREF: u32 = 72;
 
-// How many bytes a reference has that is not null: the referent, both counts and the OBJREF.
-const REFERENCE: usize = 84;
+// How many bytes a reference has that is not null: the referent and both counts, four each, and the OBJREF.
+const REFERENCE: usize = 3 * 4 + OBJREF as usize;
 
 // Appends so many zeros.
 fn put_zeros(count: usize, out: &mut Reserved)
@@ -209,6 +209,7 @@ pub fn write_args(kinds: &[Kind], values: &[Wire], out: &mut ByteList) -> Result
     ensures err { OnErr result (out.new ≡ out.old) }
     ensures length { OnOk result (length out.new ≡ length out.old + length_args values.now) }
 {
+    // A stream whose length usize does not tell has no room in any memory.
     let Some(more) = args_length(values) else {
         return Err(AllocError);
     };
