@@ -22,7 +22,8 @@ use com_refs::Refs;
 
 // A reference by an interface that has a number of 16 bits.
 fn reference(object: u32, iface: u32) -> Result<RefValue, Memory>
-    ensures { IfOk result (λ held. held ≡ record { object = object; iface = iface }) }
+    ensures ok { IfOk result (λ held. held ≡ record { object = object; iface = iface }) }
+    ensures err { OnErr result (0xffff < iface) }
 {
     if iface > 0xffff {
         return Err(unproved_fact());

@@ -14,13 +14,12 @@ use com_moves::Move;
 use com_refs::Refs;
 
 // The interfaces of a class: IUnknown, and those of its list.
-fn fill_set(set: &mut Vec<u16>, class: &Class) -> Result<(), Memory> {
+fn fill_set(set: &mut Vec<u16>, class: &Class) -> Result<(), Memory>
+    ensures { OnOk result (set.new.items ≡ 0 ∷ class.now.interfaces) }
+{
     set.clear();
     set.push(0)?;
-    for iface in class.interfaces.as_slice() {
-        set.push(*iface)?;
-    }
-    Ok(())
+    set.extend_from_slice(class.interfaces.as_slice())
 }
 
 // Whether the interface is one of the set.

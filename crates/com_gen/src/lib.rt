@@ -25,7 +25,7 @@ const SCRIPTS: u32 = 8;
 /// How many objects a script makes, calls and releases, one after another.
 const ROUNDS: u32 = 400;
 
-/// No text is as long as this, in bytes.
+/// Room for a text in bytes, more than one takes; nothing rests on it but speed.
 const ROOM: usize = 400_000;
 
 /// The text of a number's scenario: five classes, one of each model, and eight threads. Each thread goes into
@@ -38,7 +38,6 @@ pub fn generate(alloc: Global, number: u32) -> Result<ByteList, Memory>
 {
     let mut words = generator_of(number);
     let mut text = head(alloc)?;
-    // For speed alone: what follows makes room where it wants some.
     text.reserve(ROOM)?;
     push_scripts(&mut words, &mut text)?;
     Ok(text)

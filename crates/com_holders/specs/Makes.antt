@@ -1,4 +1,4 @@
--- What an object brings that is made.
+-- What making an object does, with its first place.
 use Rattle.std.specs.Prelude.{◌≡◌, ℕ, ◌+◌, Bool, ◌==◌, ◌&&◌, ◌||◌, List, [], ◌∷◌, ◌++◌}
 use Rattle.com_books.specs.Changes.{changed, change, Makes}
 use Rattle.com_holders.specs.Tables.{Tables, books_of, owns_of, offers}
@@ -7,7 +7,7 @@ use Rattle.com_holders.specs.Steps.{made_live, among}
 
 -- First an object with a number, which nobody holds yet: the tables between. Then its first place, of an
 -- apartment and an interface.
-pub record IsMade (t u : Tables) (o owner : ℕ) (agile : Bool) (set : List ℕ) (a i : ℕ) : Type 0 where
+pub record MadeWithPlace (t u : Tables) (o owner : ℕ) (agile : Bool) (set : List ℕ) (a i : ℕ) : Type 0 where
   pub between : Tables
   pub books : books_of between ≡ made_live o (books_of t)
   pub objects : between.objects ≡ t.objects ++ record { owner = owner; agile = agile; direct = 0 } ∷ []

@@ -24,7 +24,7 @@ ghost use Rattle.com_holders.specs.Tables.{is_owned, books_of, owns_of, owners_o
 ghost use Rattle.com_holders.specs.Tables.{direct_less, direct_more, outstanding_in, offers};
 ghost use Rattle.com_holders.specs.Places.{OneMore, OneLess, SamePlaces, places_in, distinct};
 ghost use Rattle.com_holders.specs.Stands.{Gave, Released, Tells, Known, Bounded, IsEven};
-ghost use Rattle.com_holders.specs.Makes.{IsMade};
+ghost use Rattle.com_holders.specs.Makes.{MadeWithPlace};
 ghost use Rattle.com_holders.specs.Steps.{minted, minted_counters, minted_rows, among};
 
 use com_base::{MarshalMode, RefValue};
@@ -352,9 +352,9 @@ fn enroll(stubs: &mut Stubs, object: u32, set: &[u16])
     let _ = stubs.enroll(object, set);
 }
 
-// The first place of a new object: a direct one in an apartment that owns it, else one of the apartment's
-// proxy with 5 new public references, for which there is room.
-fn first_place(
+// Gives an apartment the first place of a new object: a direct one where the apartment owns it, else one of the
+// apartment's proxy with 5 new public references, for which there is room.
+fn give_first_place(
     objects: &mut [ObjectRow],
     proxies: &mut Proxies,
     stubs: &mut Stubs,
@@ -470,9 +470,9 @@ impl Holders {
         self.reserve(1)
     }
 
-    /// One direct place more of an object that was made: an apartment that owns it holds one reference more.
-    /// No public reference moves.
-    pub fn keep_direct(&mut self, object: u32)
+    // One direct place more of an object that was made: an apartment that owns it holds one reference more.
+    // No public reference moves.
+    fn keep_direct(&mut self, object: u32)
         requires made { (0 < object) × (object ≤ length self.old.objects) }
         requires few { self.old.issued < 2 ^ 28 }
         ensures books { books_of self.new ≡ books_of self.old }
@@ -501,9 +501,9 @@ impl Holders {
         self.issued += 1;
     }
 
-    /// One place more of an apartment that does not own the connected object, with 5 new public references,
-    /// which its stub counts from now on. Source: MS-DCOM 3.2.4.4.
-    pub fn issue_elsewhere(&mut self, apartment: u32, held: RefValue)
+    // One place more of an apartment that does not own the connected object, with 5 new public references,
+    // which its stub counts from now on. Source: MS-DCOM 3.2.4.4.
+    fn issue_elsewhere(&mut self, apartment: u32, held: RefValue)
         requires elsewhere { owns_of self.old.objects held.object apartment ≡ false }
         requires connected { is_connected self.old.stubs held.object ≡ true }
         requires known { offers self.old held.object held.iface ≡ true }
@@ -809,18 +809,18 @@ impl Holders {
         Ok(self.issue_cookie(held))
     }
 
-    /// A new object, the next by its number from 1 on, with its first place. It has an owner, 0 where it is
-    /// agile, and a connected stub with the interfaces of the set, of which there are at most 17. The place is
-    /// a direct one in an apartment that owns the object, and else one of that apartment's proxy, with 5 new
-    /// public references, by an interface of the set. Room for a call was made before. Source: Essential COM,
-    /// chapter 5, on stubs and proxies; MS-DCOM 3.2.4.4.
+    /// A new object, the next by its number from 1 on, with its first place in an apartment. It has an owner,
+    /// 0 where it is agile, and a connected stub with the interfaces of the set, of which there are at most 17.
+    /// Where the apartment owns the object, the place is a direct one. Else it is one of the apartment's proxy,
+    /// by an interface of the set, with 5 new public references. Room for a call was made before. Source:
+    /// Essential COM, chapter 5, on stubs and proxies; MS-DCOM 3.2.4.4.
     pub fn make_object(&mut self, owner: u32, agile: bool, set: &[u16], apartment: u32, iface: u16)
         requires small { length set.now ≤ 17 }
         requires within { among iface set.now ≡ true }
         requires few { self.old.issued + 1 < 2 ^ 28 }
         requires room { 0 < self.old.spare }
-        ensures made { IsMade self.old self.new (length self.old.objects + 1) owner agile set.now
-            apartment iface }
+        ensures made { MadeWithPlace self.old self.new (length self.old.objects + 1) owner agile
+            set.now apartment iface }
         ensures spare { self.new.spare + 1 ≡ self.old.spare }
     {
         let object = self.objects.len() as u32 + 1;
@@ -831,7 +831,7 @@ impl Holders {
             agile,
             direct: 0,
         });
-        first_place(
+        give_first_place(
             &mut self.objects,
             &mut self.proxies,
             &mut self.stubs,

@@ -81,20 +81,22 @@ fn names_made(objects: &Objects, deed: &Deed) -> bool
     }
 }
 
-// Whether an Out issues the next call, and a call that is posted or waits was issued.
+// Whether an Out issues the next call, a call that is posted was issued, and one that waits is none that was
+// not issued.
 fn names_call(calls: &Calls, deed: &Deed) -> bool
     ensures { IsTrue result ↔ IsCalled calls.now.tables deed.now }
 {
     match deed {
         Deed::Out { call, .. } => is_next(calls, *call),
-        Deed::Retry { call, answer } => can_retry(calls, *call, *answer),
+        Deed::Retry { call, answer } => names_retried(calls, *call, *answer),
         Deed::Again { call } => is_issued(calls, *call),
         _ => true,
     }
 }
 
-// Whether a call that is posted again, or that waits for a time, was issued. One that is given up may be any.
-fn can_retry(calls: &Calls, call: u32, answer: i64) -> bool
+// The same of a Retry: with 0 to 99 the call is posted, with more it waits for a time, and where it is given up
+// nothing is asked.
+fn names_retried(calls: &Calls, call: u32, answer: i64) -> bool
     ensures { IsTrue result ↔ is_known calls.now.tables (retries call answer) }
 {
     match answer {

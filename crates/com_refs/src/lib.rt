@@ -299,12 +299,14 @@ impl Refs {
         }
     }
 
-    /// Makes room for `n` calls.
+    /// Makes room for `n` calls: so many of those that can want memory then do not. The only error is want of
+    /// memory, and then nothing changed; it does not come where there is that room already.
     #[tactic(auto, unfolding(com_holders::specs::Tables::books_of))]
     pub fn reserve(&mut self, n: u32) -> Result<(), Memory>
         ensures room { OnOk result (n ≤ self.new.spare) }
         ensures succeeds { n ≤ self.old.spare → IsOk result }
         ensures same { self.new ≡ record self.old { spare = self.new.spare } }
+        ensures err { OnErr result (self.new ≡ self.old) }
         ensures books { books_of self.new ≡ books_of self.old }
         ensures spare { self.old.spare ≤ self.new.spare }
     {
@@ -370,7 +372,7 @@ impl Refs {
         ensures offers { OnOk result ((x j : ℕ)
             → offers self.new x j ≡ (offers self.old x j || (x == object && among j set.now))) }
         ensures issued { OnOk result (self.new.issued ≡ self.old.issued + 2) }
-        ensures err { OnErr result (self.new ≡ record self.old { spare = self.new.spare }) }
+        ensures err { OnErr result (self.new ≡ self.old) }
         ensures room { 0 < self.old.spare → IsOk result }
         ensures spare { self.old.spare ≤ self.new.spare + 1 }
     {

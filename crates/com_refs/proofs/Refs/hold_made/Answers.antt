@@ -2,7 +2,7 @@ use Rattle.std.proofs.Common.{◌≡◌, ℕ, Bool, eqb, not, ◌&&◌, ◌+◌,
 use Rattle.std.proofs.lemmas.Grind.{common_steps}
 use Rattle.com_books.specs.Counting.{count_if}
 use Rattle.com_holders.specs.Places.{places_of}
-use Rattle.com_holders.specs.Makes.{IsMade}
+use Rattle.com_holders.specs.Makes.{MadeWithPlace}
 use Rattle.com_holders.specs.Tables.{owns_of, object_in, direct_in}
 use Rattle.com_holders.proofs.Enrolls.{direct_new}
 use Rattle.com_refs.specs.Counts.{hold_more}
@@ -14,7 +14,7 @@ pub invariant_of-self : goal.invariant_of-self
 invariant_of-self c =
     let t = c.self.inside.holders in
     let new : c.args.object ≡ length t.objects + 1 = rw (← c.self.view_is) at c.requires.new in
-    let k : IsMade t c.make_object.new.self c.args.object c.args.owner c.args.agile c.args.set.now c.args.apartment c.args.iface = rw new c.make_object.ensures.made in
+    let k : MadeWithPlace t c.make_object.new.self c.args.object c.args.owner c.args.agile c.args.set.now c.args.apartment c.args.iface = rw new c.make_object.ensures.made in
     let m = k.between in
     let hs = c.self.inside.holds.items in
     let w = owns_of m.objects c.args.object c.args.apartment in
@@ -39,7 +39,7 @@ pub returns-clause-direct : goal.returns-clause-direct
 returns-clause-direct c =
     let t = c.self.inside.holders in
     let new : c.args.object ≡ length t.objects + 1 = rw (← c.self.view_is) at c.requires.new in
-    let k : IsMade t c.make_object.new.self c.args.object c.args.owner c.args.agile c.args.set.now c.args.apartment c.args.iface = rw new c.make_object.ensures.made in
+    let k : MadeWithPlace t c.make_object.new.self c.args.object c.args.owner c.args.agile c.args.set.now c.args.apartment c.args.iface = rw new c.make_object.ensures.made in
     let m = k.between in
     λ x. rw (← c.self.view_is)
     (k.places.direct x
@@ -50,7 +50,7 @@ pub returns-clause-elsewhere : goal.returns-clause-elsewhere
 returns-clause-elsewhere c =
     let t = c.self.inside.holders in
     let new : c.args.object ≡ length t.objects + 1 = rw (← c.self.view_is) at c.requires.new in
-    let k : IsMade t c.make_object.new.self c.args.object c.args.owner c.args.agile c.args.set.now c.args.apartment c.args.iface = rw new c.make_object.ensures.made in
+    let k : MadeWithPlace t c.make_object.new.self c.args.object c.args.owner c.args.agile c.args.set.now c.args.apartment c.args.iface = rw new c.make_object.ensures.made in
     let m = k.between in
     λ d x. rw (← c.self.view_is)
     (k.places.elsewhere d x
@@ -61,8 +61,7 @@ pub returns-clause-offers : goal.returns-clause-offers
 returns-clause-offers c =
     let t = c.self.inside.holders in
     let new : c.args.object ≡ length t.objects + 1 = rw (← c.self.view_is) at c.requires.new in
-    let k : IsMade t c.make_object.new.self c.args.object c.args.owner c.args.agile c.args.set.now c.args.apartment c.args.iface = rw new c.make_object.ensures.made in
-    let m = k.between in
+    let k : MadeWithPlace t c.make_object.new.self c.args.object c.args.owner c.args.agile c.args.set.now c.args.apartment c.args.iface = rw new c.make_object.ensures.made in
     λ x j. rw (← c.self.view_is)
     (k.kept x j ∙ k.offered x j)
 
