@@ -1,7 +1,7 @@
 -- What is said of the object of a reference.
 use Rattle.std.proofs.Common.{◌≡◌, Bool, false, Option, Some, None, refl, ap, sym, ◌∙◌}
 use Rattle.com_base.specs.declared.value.RefValue.{RefValue}
-use Rattle.com_books.specs.Changes.{Books, no_books}
+use Rattle.com_refs_books.specs.Changes.{Books, no_books}
 use Rattle.com_view.specs.Connected.{Says}
 
 pub says_all : (b : Books) (held : Option RefValue) (x : Bool) → Says b held x → (r : RefValue) → held ≡ Some r → b.live r.object ≡ x

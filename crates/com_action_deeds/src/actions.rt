@@ -1,7 +1,7 @@
 //! The entries of actions that need no references.
 
 ghost use Rattle.std.specs.Prelude.{◌≡◌, ◌+◌, ◌<◌, ◌≤◌, ◌^◌, ◌&&◌, not, length, ℕ};
-ghost use Rattle.com_books.specs.Changes.{Books};
+ghost use Rattle.com_refs_books.specs.Changes.{Books};
 ghost use Rattle.com_model.specs.Deeds.{deed_of, takes_words, word_answer};
 ghost use Rattle.com_model.specs.Tables.{is_thread};
 ghost use Rattle.com_body.specs.declared.actions.Action.TheVariants as action;

@@ -2,7 +2,7 @@
 
 ghost use Rattle.std.specs.Prelude.{◌≡◌, ◌+◌, ◌<◌, ◌^◌, ℕ, length};
 ghost use Rattle.com_body.specs.declared.actions.Action.TheVariants as action;
-ghost use Rattle.com_books.specs.Changes.{Books, packet, cookie};
+ghost use Rattle.com_refs_books.specs.Changes.{Books, packet, cookie};
 ghost use Rattle.com_deeds.specs.Seen.{FitsNumber};
 ghost use Rattle.com_deeds.specs.Naming.{named_as};
 ghost use Rattle.com_deeds.specs.declared.holders.Named.TheVariants as named;
@@ -13,7 +13,7 @@ ghost use Rattle.com_view.specs.Connected.{Says};
 
 use com_base::{HResult, RefValue};
 use com_body::Asked;
-use com_books::{Cookie, Packet};
+use com_refs_books::{Cookie, Packet};
 use com_deeds::{Named, hold_refusal, route_to};
 use com_model::{Deed, Route};
 use com_view::View;

@@ -16,7 +16,7 @@ use Rattle.com_model.specs.declared.keeps.Ending.{Ending}
 use Rattle.com_model.specs.declared.keeps.Ending.TheVariants.{ByLeave}
 use Rattle.com_model.specs.declared.keeps.Phase.{Phase}
 use Rattle.com_calls.specs.Rows.{RowView, row_at, late_row, call_tables, changed_in, changed_row, phased, admitting, ending_by, left_with, new_row_of}
-use Rattle.com_books.specs.Counting.{count_if}
+use Rattle.com_refs_books.specs.Counting.{count_if}
 use Rattle.com_model.specs.declared.keeps.Issue.{Issue}
 use Rattle.com_calls.specs.declared.rows.Issued.{Issued}
 use Rattle.com_model.specs.declared.keeps.Leaving.{Leaving}

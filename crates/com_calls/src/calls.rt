@@ -15,7 +15,7 @@ ghost use Rattle.com_calls.specs.Waits.{next_wait};
 ghost use Rattle.com_calls.specs.Inside.{settles};
 ghost use Rattle.com_calls.specs.After.{judged_at, retried_at, asked_at, cut_at, effect_of, cut_by};
 ghost use Rattle.com_calls.specs.After.{cut_one_at};
-ghost use Rattle.com_books.specs.Counting.{count_if};
+ghost use Rattle.com_refs_books.specs.Counting.{count_if};
 ghost use Rattle.com_model.specs.Lists.{first, from_one};
 ghost use Rattle.com_model.specs.Waiting.{post_effect, retries};
 ghost use Rattle.com_model.specs.Places.{left_value};

@@ -4,7 +4,7 @@ use Rattle.std.specs.Prelude.{Bool, Option, Some}
 use Rattle.com_base.specs.declared.value.RefValue.{RefValue}
 use Rattle.com_body.specs.declared.actions.Action.{Action}
 use Rattle.com_body.specs.declared.frame.Outcome.{Outcome}
-use Rattle.com_books.specs.Changes.{Books}
+use Rattle.com_refs_books.specs.Changes.{Books}
 use Rattle.com_model.specs.declared.deeds.Deed.{Deed}
 use Rattle.com_model.specs.declared.deeds.Deed.TheVariants as deed
 use Rattle.com_model.specs.declared.deeds.Entry.{Entry}
@@ -13,21 +13,21 @@ use Rattle.com_model.specs.Frames.{Actor}
 use Rattle.com_model.specs.Lists.{number_or_zero}
 use Rattle.com_model.specs.Sight.{Sight}
 use Rattle.com_model.specs.State.{State, after, books_in, home_in, next_of, next_sta_in, running_in, sight_of}
-use Rattle.com_moves.specs.declared.moves.Move.{Move}
-use Rattle.com_moves.specs.Steps.{moves_stepped, movings_of}
-use Rattle.com_moves.specs.Tables.{ground_at, moves_in}
+use Rattle.com_reference_moves.specs.declared.moves.Move.{Move}
+use Rattle.com_reference_moves.specs.Steps.{moves_stepped, movings_of}
+use Rattle.com_reference_moves.specs.Tables.{ground_at, moves_in}
 use Rattle.com_objects.specs.Settled.{Rise}
 use Rattle.com_parts.specs.declared.change.Sent.{Sent}
 use Rattle.com_parts.specs.Tables.{PartTables}
-use Rattle.com_places.specs.Moves.{Moves, Move as Moving}
+use Rattle.com_laws_places.specs.Moves.{Moves, Move as Moving}
 use Rattle.com_turns.specs.Turns.{carried_seen, carried_with}
 use Rattle.com_turns.proofs.Stands.{carried_stands}
 use Rattle.com_view.specs.Reads.{Reads}
 use Rattle.com_view.specs.Seen.{Seen, home_seen, running_seen}
 use Rattle.com_view.proofs.Sights.{reads_state as sight_read}
-use Rattle.com_booking.specs.Books.{Held}
-use Rattle.com_booking.specs.Entries.{Around, Carries, StandsAround, around, brings_to}
-use Rattle.com_booking.specs.Moving.{Touches}
+use Rattle.com_refs_rows.specs.Books.{Held}
+use Rattle.com_refs_rows.specs.Entries.{Around, Carries, StandsAround, around, brings_to}
+use Rattle.com_refs_rows.specs.Moving.{Touches}
 use Rattle.com_ledger.specs.Ties.{AllTouched, Ties, places_at}
 use Rattle.com_ledger.proofs.Applying.{applied-ties}
 use Rattle.com_ledger.proofs.Following.{counts-next, moves-below, places-next}

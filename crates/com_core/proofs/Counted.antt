@@ -1,8 +1,8 @@
 -- What a report counts of an object is what it counts in the core's state.
 use Rattle.std.proofs.Common.{◌≡◌, ℕ, ap, ◌∙◌, ◌+◌}
 use Rattle.std.specs.Prelude.{sum_by}
-use Rattle.com_books.specs.Changes.{Books, in_normal, in_table, in_cookie}
-use Rattle.com_books.specs.Counting.{sum_below}
+use Rattle.com_refs_books.specs.Changes.{Books, in_normal, in_table, in_cookie}
+use Rattle.com_refs_books.specs.Counting.{sum_below}
 use Rattle.com_model.specs.declared.counts.ObjectState.{ObjectState}
 use Rattle.com_model.specs.declared.scenario.Scenario.{Scenario}
 use Rattle.com_model.specs.Ends.{over_interfaces, state_of}
@@ -10,7 +10,7 @@ use Rattle.com_model.specs.Lists.{is_member}
 use Rattle.com_model.specs.Places.{direct_places}
 use Rattle.com_model.specs.State.{State, books_in, class_in, ground_in, named_in, next_sta_in, scene_in}
 use Rattle.com_drive.specs.Reports.{counts_in}
-use Rattle.com_booking.specs.Books.{Held, books_held}
+use Rattle.com_refs_rows.specs.Books.{Held, books_held}
 use Rattle.com_ledger.specs.Ties.{Ties}
 
 pub counts_read : (s : Scenario) (st : State) (w : Held) (o class owner : ℕ) (z : ObjectState) (direct proxies packets tables stub : ℕ) → Ties s st w

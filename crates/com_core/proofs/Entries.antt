@@ -3,8 +3,8 @@ use Rattle.std.proofs.Common.{arith, ap, sym, subst, ◌∙◌}
 use Rattle.std.specs.Prelude.{◌≡◌, refl, ℕ, zero, suc, ◌+◌, Bool, true, false, not, ◌==◌, ◌&&◌, ◌||◌, ◌<◌, List, [], ◌∷◌, Option, Some, None, is_some, filter, slice_index_or, length}
 use Rattle.std.proofs.lemmas.Grind.{common_steps}
 use Rattle.com_body.specs.declared.frame.Outcome.{Outcome}
-use Rattle.com_books.specs.Changes.{Books}
-use Rattle.com_books.specs.Counting.{count_if}
+use Rattle.com_refs_books.specs.Changes.{Books}
+use Rattle.com_refs_books.specs.Counting.{count_if}
 use Rattle.com_calls.specs.Kept.{IsNamed}
 use Rattle.com_model.specs.declared.deeds.Deed.{Deed}
 use Rattle.com_model.specs.declared.deeds.Entry.{Entry}
@@ -34,14 +34,14 @@ use Rattle.com_state.proofs.Joined.{calls-joined}
 use Rattle.com_state.proofs.SceneNext.{scene-next}
 use Rattle.com_view.specs.Reads.{Reads}
 use Rattle.com_core.specs.Stands.{Stands, state_by, state_read, IsReached, IsSent, IsGiven, seen_by}
-use Rattle.com_books.proofs.Sums.{sum-nothing}
+use Rattle.com_refs_books.proofs.Sums.{sum-nothing}
 use Rattle.com_core.specs.Beginning.{BeginsParts}
 use Rattle.com_fates.specs.Bodies.{bodies_among, entered_after, CountsBodies}
 use Rattle.com_model.specs.declared.keeps.Opener.{Opener}
 use Rattle.com_model.specs.Tables.{lanes}
 use Rattle.com_model.proofs.Tabled.{tabulated-row}
 use Rattle.com_model.proofs.Whole.{first-stands}
-use Rattle.com_booking.specs.Books.{Held, books_held}
+use Rattle.com_refs_rows.specs.Books.{Held, books_held}
 use Rattle.com_refs.specs.Counts.{holders_of}
 use Rattle.com_core.specs.Making.{BooksLater, IsCore, MakesNext}
 use Rattle.com_core.specs.Seen.{CoreView, IsWhole, Steps, core_state}

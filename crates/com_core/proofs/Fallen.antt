@@ -16,9 +16,9 @@ use Rattle.com_model.specs.Frames.{Actor, Body}
 use Rattle.com_model.specs.Lists.{is_member, is_number, or_else}
 use Rattle.com_model.specs.Objects.{makes}
 use Rattle.com_model.specs.Openers.{Closes, Leaves, effect, fits}
-use Rattle.com_books.specs.Counting.{count_if}
-use Rattle.com_balance.proofs.Bases.{first-is}
-use Rattle.com_safety.proofs.Small.{not-both, and-left, and-right, or-right, or-second, same-number}
+use Rattle.com_refs_books.specs.Counting.{count_if}
+use Rattle.com_laws_balance.proofs.Bases.{first-is}
+use Rattle.com_laws_safety.proofs.Small.{not-both, and-left, and-right, or-right, or-second, same-number}
 use Rattle.com_model.specs.State.{State, StandsFor, openers_in, objects_in, dies_in, next_of, after}
 use Rattle.com_objects.specs.Settled.{Rise, Falls}
 use Rattle.com_state.specs.After.{acting_in}

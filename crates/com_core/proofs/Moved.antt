@@ -2,19 +2,19 @@
 use Rattle.std.proofs.Common.{◌≡◌, ℕ, sym, ◌∙◌}
 use Rattle.std.specs.Prelude.{Bool, List, Option}
 use Rattle.com_body.specs.declared.frame.Outcome.{Outcome}
-use Rattle.com_books.specs.Changes.{Books}
+use Rattle.com_refs_books.specs.Changes.{Books}
 use Rattle.com_model.specs.declared.deeds.Deed.{Deed}
 use Rattle.com_model.specs.declared.deeds.Entry.{Entry}
 use Rattle.com_model.specs.declared.scenario.Scenario.{Scenario}
 use Rattle.com_model.specs.Frames.{Actor}
 use Rattle.com_model.specs.State.{State, home_in}
-use Rattle.com_moves.specs.Steps.{moves_stepped}
-use Rattle.com_moves.specs.Tables.{ground_at, moves_at, moves_in}
-use Rattle.com_moves.proofs.Stands.{moves-tables}
-use Rattle.com_moves.proofs.Stepped.{moves-stepped}
+use Rattle.com_reference_moves.specs.Steps.{moves_stepped}
+use Rattle.com_reference_moves.specs.Tables.{ground_at, moves_at, moves_in}
+use Rattle.com_reference_moves.proofs.Stands.{moves-tables}
+use Rattle.com_reference_moves.proofs.Stepped.{moves-stepped}
 use Rattle.com_parts.specs.declared.change.Sent.{Sent}
 use Rattle.com_parts.specs.Tables.{PartTables}
-use Rattle.com_places.specs.Moves.{Moves}
+use Rattle.com_laws_places.specs.Moves.{Moves}
 use Rattle.com_core.specs.Stands.{Stands, IsGiven}
 
 pub moves_filled : (s : Scenario) (st : State) (p : PartTables) (b : Books) (fallen : List ℕ) (clock : ℕ) (l : ℕ) (d : Deed)

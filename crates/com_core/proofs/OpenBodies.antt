@@ -4,8 +4,8 @@ use Rattle.std.proofs.lemmas.Bool.{false_from_ne_true, eqb-false}
 use Rattle.std.proofs.lemmas.Grind.{common_steps}
 use Rattle.std.proofs.lemmas.List.{get_or-set_same, get_or-set_other}
 use Rattle.std.specs.Prelude.{◌≡◌, refl, ℕ, zero, suc, ◌+◌, ◌-◌, ◌<◌, ◌≤◌, Bool, true, false, cond, not, ◌==◌, ◌||◌, List, [], ◌∷◌, ◌++◌, length, Option, Some, None, is_some, option_map, slice_index_or, slice_set}
-use Rattle.com_books.specs.Counting.{count_if, sum_below}
-use Rattle.com_books.proofs.Sums.{sum-same, sum-changed}
+use Rattle.com_refs_books.specs.Counting.{count_if, sum_below}
+use Rattle.com_refs_books.proofs.Sums.{sum-same, sum-changed}
 use Rattle.com_model.specs.declared.deeds.Deed.{Deed}
 use Rattle.com_model.specs.declared.deeds.Deed.TheVariants as deed
 use Rattle.com_model.specs.declared.deeds.Entry.{Entry}
@@ -25,9 +25,9 @@ use Rattle.com_model.specs.Tables.{lanes, lane_sort}
 use Rattle.com_model.proofs.Lanes.{lane-within}
 use Rattle.com_model.proofs.Sights.{same-next}
 use Rattle.com_model.proofs.Stacks.{next-fits}
-use Rattle.com_balance.proofs.Bases.{open-made}
-use Rattle.com_balance.proofs.Counts.{Among}
-use Rattle.com_safety.proofs.Small.{same-number}
+use Rattle.com_laws_balance.proofs.Bases.{open-made}
+use Rattle.com_laws_balance.proofs.Counts.{Among}
+use Rattle.com_laws_safety.proofs.Small.{same-number}
 use Rattle.com_schedule.proofs.Runs.{stands-later}
 use Rattle.com_state.specs.After.{acting_in}
 use Rattle.com_fates.specs.Bodies.{bodies_among, bodies_over, CountsBodies, left_object, without_body, entered_after}

@@ -2,8 +2,8 @@
 use Rattle.std.proofs.Common.{◌≡◌, ℕ, ◌≤◌, List, All, length, refl, sym, subst}
 use Rattle.com_body.specs.declared.frame.Outcome.{Outcome}
 use Rattle.std.specs.Prelude.{Bool, Option}
-use Rattle.com_holders.specs.Tables.{books_of}
-use Rattle.com_booking.specs.Books.{Held}
+use Rattle.com_refs_holders.specs.Tables.{books_of}
+use Rattle.com_refs_rows.specs.Books.{Held}
 use Rattle.com_ledger.specs.Ties.{IsNew, Ties}
 use Rattle.com_model.specs.declared.deeds.Deed.{Deed}
 use Rattle.com_model.specs.declared.deeds.Entry.{Entry}

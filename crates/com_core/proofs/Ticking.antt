@@ -1,7 +1,7 @@
 -- The clock's entry is the next one of its lane, and is nobody's step.
 use Rattle.std.proofs.Common.{◌≡◌, ℕ, refl, ap, sym, ◌∙◌, subst, eqb-true}
 use Rattle.std.specs.Prelude.{Bool, true, false, not, cond, ◌==◌, ◌&&◌, List, [], ◌∷◌, Option, Some, None, is_none, option_map}
-use Rattle.com_books.specs.Changes.{Books}
+use Rattle.com_refs_books.specs.Changes.{Books}
 use Rattle.com_calls.specs.Kept.{with_tables}
 use Rattle.com_calls.specs.Waits.{next_wait}
 use Rattle.com_model.specs.declared.deeds.Deed.{Deed}

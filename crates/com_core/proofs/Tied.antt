@@ -1,7 +1,7 @@
 -- What a ledger's ties to a state give a core.
 use Rattle.std.proofs.Common.{◌≡◌, ℕ, subst, sym}
 use Rattle.std.specs.Prelude.{[], ◌∷◌}
-use Rattle.com_booking.specs.Books.{Held, books_held}
+use Rattle.com_refs_rows.specs.Books.{Held, books_held}
 use Rattle.com_ledger.specs.Ties.{AllTouched, IsNew, Ties}
 use Rattle.com_ledger.proofs.Tied.{first-tied, holders-tie}
 use Rattle.com_model.specs.declared.deeds.Deed.{Deed}

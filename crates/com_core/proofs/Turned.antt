@@ -2,7 +2,7 @@
 use Rattle.std.proofs.Common.{◌≡◌, ℕ, ◌+◌, ◌<◌, ◌≤◌, ◌^◌, ap, sym, ◌∙◌, subst, arith}
 use Rattle.std.specs.Prelude.{Bool, List, [], Option, Some, None, is_some, length, refl}
 use Rattle.com_body.specs.declared.frame.Outcome.{Outcome}
-use Rattle.com_books.specs.Changes.{Books}
+use Rattle.com_refs_books.specs.Changes.{Books}
 use Rattle.com_calls.specs.declared.rows.Issued.{Issued}
 use Rattle.com_calls.specs.Kept.{IsNamed}
 use Rattle.com_model.specs.declared.deeds.Deed.{Deed}
@@ -19,7 +19,7 @@ use Rattle.com_model.specs.Issue.{action_refusal, or_ok}
 use Rattle.com_model.specs.Sight.{Sight}
 use Rattle.com_model.specs.State.{State, is_marshalled_by, next_of, openers_in}
 use Rattle.com_model.specs.Tables.{lanes}
-use Rattle.com_bounds.proofs.Standing.{few}
+use Rattle.com_laws_ranges.proofs.Standing.{few}
 use Rattle.com_parts.specs.Tables.{PartTables}
 use Rattle.com_scene.specs.Actors.{acting_of}
 use Rattle.com_state.specs.After.{actor_after, filtered_by}
@@ -30,7 +30,7 @@ use Rattle.com_view.proofs.Sights.{reads_state as sight_read}
 use Rattle.com_turns.specs.declared.turns.Turn.{Turn}
 use Rattle.com_turns.specs.Turns.{IsIssued, IsTurn, actor_later}
 use Rattle.com_turns.proofs.Stands.{acting_stands, after_stands, filtered_stands, next_stands, step_stands}
-use Rattle.com_booking.specs.Books.{Held}
+use Rattle.com_refs_rows.specs.Books.{Held}
 use Rattle.com_core.specs.Changes.{sent_by}
 use Rattle.com_core.specs.Making.{Changed, IsCore, MakesNext}
 use Rattle.com_core.specs.Stands.{IsGiven, IsReached, IsSent, Stands, seen_by}

@@ -20,7 +20,7 @@ use Rattle.com_state.specs.SceneParts.{body_at, destination_at, with_rows, row_w
 use Rattle.com_scene.specs.Kept.{HasSlots}
 use Rattle.com_scene.specs.Ranges.{FitsDeed}
 use Rattle.com_scene.specs.Scenes.{new_scene}
-use Rattle.com_moves.specs.Steps.{IsWhole, BodiesWhole, FrameWhole}
+use Rattle.com_reference_moves.specs.Steps.{IsWhole, BodiesWhole, FrameWhole}
 use Rattle.com_parts.specs.Changes.{FitsFrame}
 
 abbrev pub Bodies : SceneTables → Type 0

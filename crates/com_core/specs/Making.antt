@@ -2,10 +2,10 @@
 use Rattle.std.specs.Prelude.{◌≡◌, ℕ, ◌<◌, ◌^◌, Bool, List, Option, Some, is_some, length}
 use Rattle.com_base.specs.declared.value.RefValue.{RefValue}
 use Rattle.com_body.specs.declared.frame.Outcome.{Outcome}
-use Rattle.com_books.specs.Changes.{Books}
-use Rattle.com_holders.specs.Places.{Counts}
-use Rattle.com_booking.specs.Books.{Held, books_held}
-use Rattle.com_booking.specs.Entries.{Applies, Around, Loses, around, tally}
+use Rattle.com_refs_books.specs.Changes.{Books}
+use Rattle.com_refs_holders.specs.Places.{Counts}
+use Rattle.com_refs_rows.specs.Books.{Held, books_held}
+use Rattle.com_refs_rows.specs.Entries.{Applies, Around, Loses, around, tally}
 use Rattle.com_ledger.specs.Ties.{Ties}
 use Rattle.com_model.specs.declared.deeds.Deed.{Deed}
 use Rattle.com_model.specs.declared.deeds.Entry.{Entry}
@@ -14,13 +14,13 @@ use Rattle.com_model.specs.Calls.{lane_of}
 use Rattle.com_model.specs.Frames.{Actor}
 use Rattle.com_model.specs.Lists.{number_or_zero}
 use Rattle.com_model.specs.State.{State, after, books_in, next_of}
-use Rattle.com_moves.specs.declared.moves.Move.{Move}
-use Rattle.com_moves.specs.Steps.{moves_stepped, movings_of}
-use Rattle.com_moves.specs.Tables.{ground_at}
+use Rattle.com_reference_moves.specs.declared.moves.Move.{Move}
+use Rattle.com_reference_moves.specs.Steps.{moves_stepped, movings_of}
+use Rattle.com_reference_moves.specs.Tables.{ground_at}
 use Rattle.com_objects.specs.Settled.{Rise}
 use Rattle.com_parts.specs.declared.change.Sent.{Sent}
 use Rattle.com_parts.specs.Tables.{PartTables}
-use Rattle.com_places.specs.Moves.{Moves}
+use Rattle.com_laws_places.specs.Moves.{Moves}
 use Rattle.com_refs.specs.Counts.{holders_of}
 use Rattle.com_refs.specs.Totals.{Totals}
 use Rattle.com_state.specs.After.{filtered_by}

@@ -1,6 +1,6 @@
 -- What a contract sees of a core.
 use Rattle.std.specs.Prelude.{◌≡◌, ℕ, ◌+◌, ◌≤◌, List}
-use Rattle.com_booking.specs.Books.{Held, books_held}
+use Rattle.com_refs_rows.specs.Books.{Held, books_held}
 use Rattle.com_model.specs.declared.deeds.Entry.{Entry}
 use Rattle.com_model.specs.declared.scenario.Scenario.{Scenario}
 use Rattle.com_model.specs.Clock.{ticked}

@@ -2,7 +2,7 @@
 use Rattle.std.specs.Prelude.{[], None}
 use Rattle.com_calls.specs.Kept.{with_room}
 use Rattle.com_lanes.specs.First.{first_lanes}
-use Rattle.com_booking.specs.Books.{Held}
+use Rattle.com_refs_rows.specs.Books.{Held}
 use Rattle.com_parts.specs.Tables.{PartRooms, PartTables}
 
 -- No room for anything.

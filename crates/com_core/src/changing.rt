@@ -14,13 +14,13 @@ ghost use Rattle.com_drive.specs.declared.runtime.Standing.TheVariants as standi
 ghost use Rattle.com_drive.specs.Standings.{standing_of};
 ghost use Rattle.com_fates.specs.Bodies.{entered_after};
 ghost use Rattle.com_fates.specs.Most.{Most};
-ghost use Rattle.com_booking.specs.Books.{books_held};
-ghost use Rattle.com_booking.specs.Entries.{around, most_left};
+ghost use Rattle.com_refs_rows.specs.Books.{books_held};
+ghost use Rattle.com_refs_rows.specs.Entries.{around, most_left};
 ghost use Rattle.com_model.specs.Calls.{lane_of};
 ghost use Rattle.com_model.specs.Clock.{ticked};
 ghost use Rattle.com_model.specs.Lists.{number_or_zero};
-ghost use Rattle.com_moves.specs.Steps.{IsWhole, moves_stepped};
-ghost use Rattle.com_moves.specs.Tables.{ground_at};
+ghost use Rattle.com_reference_moves.specs.Steps.{IsWhole, moves_stepped};
+ghost use Rattle.com_reference_moves.specs.Tables.{ground_at};
 ghost use Rattle.com_parts.specs.Begins.{IsBegun};
 ghost use Rattle.com_refs.specs.Counts.{holders_of};
 ghost use Rattle.com_scene.specs.Actors.{acting_of};

@@ -4,7 +4,7 @@ ghost use Rattle.std.specs.Prelude.{◌≡◌, ℕ, [], ◌∷◌};
 ghost use Rattle.com_core.specs.Beginning.{BeginsParts};
 ghost use Rattle.com_core.specs.Making.{BooksLater};
 ghost use Rattle.com_core.specs.Seen.{CoreView, IsWhole, Steps, core_state};
-ghost use Rattle.com_booking.specs.Books.{books_held};
+ghost use Rattle.com_refs_rows.specs.Books.{books_held};
 ghost use Rattle.com_model.specs.declared.deeds.Entry.{Entry};
 ghost use Rattle.com_model.specs.Clock.{ticked};
 ghost use Rattle.com_model.specs.Formed.{Formed};

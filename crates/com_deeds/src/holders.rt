@@ -3,7 +3,7 @@
 ghost use Rattle.std.specs.Prelude.{◌≡◌, ℕ, ◌+◌, ◌<◌, ◌^◌, Some, None, length, if◌then◌else◌};
 ghost use Rattle.com_model.specs.Answers.{S_OK, E_INVALIDARG};
 ghost use Rattle.com_base.specs.declared.value.RefValue.{RefValue};
-ghost use Rattle.com_books.specs.Changes.{packet, cookie};
+ghost use Rattle.com_refs_books.specs.Changes.{packet, cookie};
 ghost use Rattle.com_model.specs.Sight.{Sight};
 ghost use Rattle.com_model.specs.Deeds.{hold_refusal, registered, cookie_number, got};
 ghost use Rattle.com_model.specs.Deeds.{revoked, unmarshalled, dropped, disconnect_answer};
@@ -16,7 +16,7 @@ ghost use Rattle.com_deeds.specs.declared.holders.Named.TheVariants as named;
 use crate::activation::object_in;
 use crate::target::Target;
 use com_base::{HResult, MarshalMode, RefValue};
-use com_books::{Cookie, Packet};
+use com_refs_books::{Cookie, Packet};
 use com_model::Deed;
 
 /// The public references that a proxy is given at a time.

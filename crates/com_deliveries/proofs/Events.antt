@@ -18,8 +18,8 @@ use Rattle.com_model.specs.declared.keeps.Making.{Making}
 use Rattle.com_model.specs.Lists.{is_number, number_or_zero}
 use Rattle.com_model.specs.Objects.{making, class_of}
 use Rattle.com_model.specs.Calls.{issue, left}
-use Rattle.com_points.specs.Histories.{is_on, given_to, sinks, taken, last, visited}
-use Rattle.com_points.specs.Sources.{IsSource, fire}
+use Rattle.com_laws_sources.specs.Histories.{is_on, given_to, sinks, taken, last, visited}
+use Rattle.com_laws_sources.specs.Sources.{IsSource, fire}
 
 -- ---- bits
 

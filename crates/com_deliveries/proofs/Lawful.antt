@@ -30,14 +30,14 @@ use Rattle.com_model.specs.Rules.{legal}
 use Rattle.com_model.proofs.Fines.{FineBy}
 use Rattle.com_model.proofs.Onces.{Names, InRange, call_named, named-in-range}
 use Rattle.com_model.proofs.Scenes.{faces}
-use Rattle.com_balance.proofs.Counts.{Among}
-use Rattle.com_balance.proofs.Makings.{fine-next}
-use Rattle.com_balance.proofs.Results.{more-calls}
-use Rattle.com_points.specs.Histories.{first_number, first_reference, result_cookie, is_on, enter_values, given_to, Change, Takes, Loses, Stays, leaving, change, changed, sinks, one_taken, taken, at_enter, last, sends, with_next, reached, visited}
-use Rattle.com_points.specs.Sinks.{first_between}
-use Rattle.com_points.specs.Sources.{advise, unadvise}
-use Rattle.com_points.proofs.Runs.{call-low}
-use Rattle.com_safety.proofs.Posted.{NewOut, next-new}
+use Rattle.com_laws_balance.proofs.Counts.{Among}
+use Rattle.com_laws_balance.proofs.Makings.{fine-next}
+use Rattle.com_laws_balance.proofs.Results.{more-calls}
+use Rattle.com_laws_sources.specs.Histories.{first_number, first_reference, result_cookie, is_on, enter_values, given_to, Change, Takes, Loses, Stays, leaving, change, changed, sinks, one_taken, taken, at_enter, last, sends, with_next, reached, visited}
+use Rattle.com_laws_sources.specs.Sinks.{first_between}
+use Rattle.com_laws_sources.specs.Sources.{advise, unadvise}
+use Rattle.com_laws_sources.proofs.Runs.{call-low}
+use Rattle.com_laws_safety.proofs.Posted.{NewOut, next-new}
 
 not-true : (b : Bool) → (b ≡ true → ⊥) → b ≡ false
 not-true true g = absurd (g refl)

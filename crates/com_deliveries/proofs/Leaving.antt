@@ -13,9 +13,9 @@ use Rattle.com_model.specs.declared.keeps.Issue.{Issue}
 use Rattle.com_model.specs.declared.keeps.Making.{Making}
 use Rattle.com_model.specs.declared.scenario.Scenario.{Scenario}
 use Rattle.com_model.specs.Lists.{is_number, number_or_zero}
-use Rattle.com_points.specs.Histories.{is_on, Change, Takes, Loses, Stays, changed, one_taken, result_cookie}
-use Rattle.com_points.specs.Sinks.{Sink, is_cookie, without}
-use Rattle.com_points.specs.Sources.{advise, unadvise}
+use Rattle.com_laws_sources.specs.Histories.{is_on, Change, Takes, Loses, Stays, changed, one_taken, result_cookie}
+use Rattle.com_laws_sources.specs.Sinks.{Sink, is_cookie, without}
+use Rattle.com_laws_sources.specs.Sources.{advise, unadvise}
 
 -- What the Leave of a call, issued so, changes of an object by an interface.
 abbrev pub change_by : Option Issue → Sink → ℤ → (object iface : ℕ) → Change

@@ -10,12 +10,12 @@ use Rattle.com_deliveries.specs.Delivered.{AreDeliveries}
 use Rattle.com_deliveries.specs.Tables.{AreSources, Says, Upto}
 use Rattle.com_deliveries.proofs.Lawful.{told-deliveries}
 use Rattle.com_deliveries.proofs.RowReads.{row-is, row-new, row-old}
-use Rattle.com_balance.proofs.Steps.{made-or-new}
+use Rattle.com_laws_balance.proofs.Steps.{made-or-new}
 use Rattle.com_model.specs.declared.deeds.Entry.{Entry}
 use Rattle.com_model.specs.declared.scenario.Scenario.{Scenario}
 use Rattle.com_model.specs.Formed.{Formed}
 use Rattle.com_model.specs.Rules.{legal}
-use Rattle.com_points.specs.Sources.{IsSource}
+use Rattle.com_laws_sources.specs.Sources.{IsSource}
 
 zero-none : (s : Scenario) (i : ℕ) → IsSource s 0 i → ⊥
 zero-none s i p = nothing p.there

@@ -1,7 +1,7 @@
 -- A cookie that is removed by its index.
 use Rattle.std.proofs.Common.{refl, ap, sym, subst, ◌∙◌, arith, take, drop}
 use Rattle.std.specs.Prelude.{◌≡◌, ℕ, suc, ◌+◌, ◌<◌, ◌≤◌, ℤ, true, false, cond, List, [], ◌∷◌, ◌++◌, length}
-use Rattle.com_points.specs.Sinks.{is_cookie}
+use Rattle.com_laws_sources.specs.Sinks.{is_cookie}
 use Rattle.com_deliveries.specs.Indices.{index_in}
 use Rattle.com_deliveries.specs.Rows.{removed, last_in}
 

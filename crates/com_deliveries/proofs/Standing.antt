@@ -20,9 +20,9 @@ use Rattle.com_model.specs.Lists.{first, without_first, is_number, number_or_zer
 use Rattle.com_model.specs.Openers.{Opens, Closes, Keeps, Closer, opened, openers, top_call}
 use Rattle.com_model.specs.Objects.{asked_number, objects, making, class_of}
 use Rattle.com_model.specs.Calls.{issue, left, calls}
-use Rattle.com_points.specs.Histories.{given_to, first_number, sinks, taken, last, reached, visited, with_next}
-use Rattle.com_points.specs.Sinks.{Sink, first_between}
-use Rattle.com_points.specs.Sources.{IsSource, fire}
+use Rattle.com_laws_sources.specs.Histories.{given_to, first_number, sinks, taken, last, reached, visited, with_next}
+use Rattle.com_laws_sources.specs.Sinks.{Sink, first_between}
+use Rattle.com_laws_sources.specs.Sources.{IsSource, fire}
 
 -- ---- what is kept
 

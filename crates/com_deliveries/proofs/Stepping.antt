@@ -25,9 +25,9 @@ use Rattle.com_model.specs.Lists.{first, is_number, number_or_zero}
 use Rattle.com_model.specs.Openers.{openers, top_call, EndsPump, Backs, Leaves}
 use Rattle.com_model.specs.Objects.{asked_number, objects, making, class_of}
 use Rattle.com_model.specs.Calls.{issue, left, calls}
-use Rattle.com_points.specs.Histories.{given_to, first_number, first_reference, result_cookie, sinks, taken, last, visited, leaving, changed, one_taken}
-use Rattle.com_points.specs.Sinks.{Sink}
-use Rattle.com_points.specs.Sources.{advise, unadvise}
+use Rattle.com_laws_sources.specs.Histories.{given_to, first_number, first_reference, result_cookie, sinks, taken, last, visited, leaving, changed, one_taken}
+use Rattle.com_laws_sources.specs.Sinks.{Sink}
+use Rattle.com_laws_sources.specs.Sources.{advise, unadvise}
 
 -- What is true of a legal history, and of the entry that comes next.
 pub record Lawful (s : Scenario) (h : List Entry) : Type 0 where

@@ -15,8 +15,8 @@ use Rattle.com_model.specs.declared.deeds.Entry.{Entry}
 use Rattle.com_model.specs.Answers.{is_S_OK}
 use Rattle.com_model.specs.Lists.{is_number, number_or_zero}
 use Rattle.com_model.specs.Objects.{asked_number}
-use Rattle.com_points.specs.Histories.{first_number, result_cookie}
-use Rattle.com_points.specs.Sources.{advise, unadvise, fire}
+use Rattle.com_laws_sources.specs.Histories.{first_number, result_cookie}
+use Rattle.com_laws_sources.specs.Sources.{advise, unadvise, fire}
 
 pub record Book : Type 0 where
   pub objects : List Source

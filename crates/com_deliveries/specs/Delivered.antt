@@ -4,9 +4,9 @@ use Rattle.com_deliveries.specs.declared.Delivery.{Delivery}
 use Rattle.com_model.specs.declared.deeds.Entry.{Entry}
 use Rattle.com_model.specs.declared.scenario.Scenario.{Scenario}
 use Rattle.com_model.specs.Calls.{left}
-use Rattle.com_points.specs.Deliveries.{IsEvent}
-use Rattle.com_points.specs.Histories.{visited}
-use Rattle.com_points.specs.Sinks.{Sink}
+use Rattle.com_laws_sources.specs.Deliveries.{IsEvent}
+use Rattle.com_laws_sources.specs.Histories.{visited}
+use Rattle.com_laws_sources.specs.Sinks.{Sink}
 
 abbrev pub cookie_of : Sink → ℕ
 cookie_of x = x.cookie

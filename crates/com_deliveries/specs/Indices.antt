@@ -1,6 +1,6 @@
 -- The index of a cookie.
 use Rattle.std.specs.Prelude.{ℕ, suc, ℤ, List, [], ◌∷◌, if◌then◌else◌}
-use Rattle.com_points.specs.Sinks.{is_cookie}
+use Rattle.com_laws_sources.specs.Sinks.{is_cookie}
 
 -- The first index of a cookie that is this number, or how many there are.
 abbrev pub index_in : ℤ → List ℕ → ℕ

@@ -2,7 +2,7 @@
 use Rattle.std.specs.Prelude.{ℕ, zero, suc, ◌-◌, ℤ}
 use Rattle.std.specs.Prelude.{◌||◌, ◌&&◌, ◌==◌, nat_lt, nat_le, if◌then◌else◌}
 use Rattle.std.specs.Prelude.{List, [], ◌∷◌, length, Option, Some, None, slice_get, slice_index_or, slice_set}
-use Rattle.com_points.specs.Sinks.{is_cookie}
+use Rattle.com_laws_sources.specs.Sinks.{is_cookie}
 
 -- ---- tables
 

@@ -2,7 +2,7 @@
 use Rattle.std.specs.Prelude.{◌≡◌, ℕ, ◌≤◌, List, Option, Some, length}
 use Rattle.com_deliveries.specs.Book.{source_at}
 use Rattle.com_model.specs.declared.scenario.Scenario.{Scenario}
-use Rattle.com_points.specs.Sources.{IsSource}
+use Rattle.com_laws_sources.specs.Sources.{IsSource}
 
 -- The table has for each class the number of its interface, exactly where it is a source.
 unfoldable pub AreSources : Scenario → List (Option ℕ) → Type 0

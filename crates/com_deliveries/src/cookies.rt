@@ -1,6 +1,6 @@
 //! Cookies in the order in which they were given.
 ghost use Rattle.std.specs.Prelude.{◌≡◌, ◌+◌, ◌<◌, ◌++◌, ◌∷◌, [], IfOk, OnOk, drop, length, take};
-ghost use Rattle.com_points.specs.Sinks.{is_cookie};
+ghost use Rattle.com_laws_sources.specs.Sinks.{is_cookie};
 ghost use Rattle.com_deliveries.specs.Rows.{last_in, next_in, removed};
 ghost use Rattle.com_deliveries.specs.Indices.{index_in};
 

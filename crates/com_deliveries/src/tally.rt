@@ -8,7 +8,7 @@ ghost use Rattle.com_deliveries.specs.Book.{reached_by, source_at};
 ghost use Rattle.com_deliveries.specs.Rows.{row_at, with_row};
 ghost use Rattle.com_model.specs.Answers.{is_S_OK};
 ghost use Rattle.com_model.specs.Objects.{asked_number};
-ghost use Rattle.com_points.specs.Histories.{first_number as first_of, result_cookie};
+ghost use Rattle.com_laws_sources.specs.Histories.{first_number as first_of, result_cookie};
 
 use crate::Delivery;
 use crate::cookies::Cookies;

@@ -23,10 +23,10 @@ use Rattle.com_read_operands.specs.Naming.{declared_at}
 use Rattle.com_read_operands.specs.Literals.{guid_of, are_pairs, unhexed}
 use Rattle.com_read_operands.specs.Operands.{small_of, lettered_by, lettered, numbered, numeric_of, braced, begins_number, by_first, plain_of, inner, operand_by, operand_of, slot_at, text_literal, as_bytes, bytes_literal, literal_of}
 use Rattle.com_model.specs.Formed.{IsLiteral}
-use Rattle.com_scenario_laws.specs.Words.{IsWord}
-use Rattle.com_scenario_laws.specs.Holds.{Holds}
-use Rattle.com_scenario_laws.proofs.Holds.{done, fails, anything, bind, either}
-use Rattle.com_scenario_laws.proofs.Fields.{word_formed, declared_formed, IsSaid, said, slot_formed, text_formed, bytes_formed}
+use Rattle.com_laws_scenario.specs.Words.{IsWord}
+use Rattle.com_laws_scenario.specs.Holds.{Holds}
+use Rattle.com_laws_scenario.proofs.Holds.{done, fails, anything, bind, either}
+use Rattle.com_laws_scenario.proofs.Fields.{word_formed, declared_formed, IsSaid, said, slot_formed, text_formed, bytes_formed}
 use Rattle.com_invoke.specs.declared.Invocation.{Invocation}
 use Rattle.com_invoke.specs.Invoking.{member_at, as_literal, as_given, Arguments, item_at, arguments_on, landing_of, destination_at, invocation_at}
 

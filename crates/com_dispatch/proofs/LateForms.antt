@@ -34,11 +34,11 @@ use Rattle.com_read_sections.specs.Outlines.{finish}
 use Rattle.com_model.specs.declared.scenario.Scenario.{Scenario}
 use Rattle.com_model.specs.Formed.{Context, IsStatement, FitsMethod, in_script, in_class, Formed}
 use Rattle.com_scenario.specs.Scenarios.{scenario_of}
-use Rattle.com_scenario_laws.specs.Declared.{Declares, Fits}
-use Rattle.com_scenario_laws.specs.Words.{IsWord, IsLine}
-use Rattle.com_scenario_laws.specs.Holds.{Holds}
-use Rattle.com_scenario_laws.proofs.Holds.{done, fails, bind, weaker, either}
-use Rattle.com_scenario_laws.proofs.Words.{lines_formed}
+use Rattle.com_laws_scenario.specs.Declared.{Declares, Fits}
+use Rattle.com_laws_scenario.specs.Words.{IsWord, IsLine}
+use Rattle.com_laws_scenario.specs.Holds.{Holds}
+use Rattle.com_laws_scenario.proofs.Holds.{done, fails, bind, weaker, either}
+use Rattle.com_laws_scenario.proofs.Words.{lines_formed}
 use Rattle.com_scenario.proofs.Standing.{so_far, AtBody, AtThread, Stands, StandsAt, body_declares, script_declares}
 use Rattle.com_scenario.proofs.Steps.{step_stands}
 use Rattle.com_scenario.proofs.Forms.{IsOutline, begun_stands, finish_formed}

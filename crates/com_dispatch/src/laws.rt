@@ -2,7 +2,7 @@
 
 ghost use Rattle.std.specs.Prelude.{ℕ, List};
 ghost use Rattle.com_model.specs.Formed.{Formed};
-ghost use Rattle.com_scenario_laws.specs.Holds.{Holds};
+ghost use Rattle.com_laws_scenario.specs.Holds.{Holds};
 ghost use Rattle.com_dispatch.specs.Late.{late, CallsAreSame, OthersStay};
 
 /// Every scenario with late-bound calls that a text spells is formed.

@@ -1,8 +1,8 @@
 -- What a report counts by the tables is what it counts after the history that they stand for.
 use Rattle.std.proofs.Common.{sym, ◌∙◌, ap, arith}
 use Rattle.std.specs.Prelude.{◌≡◌, refl, ℕ, suc, ◌+◌, List, [], ◌∷◌, ◌++◌, length, map, sum_by}
-use Rattle.com_books.specs.Counting.{sum_below}
-use Rattle.com_books.specs.Changes.{in_normal, in_table, in_cookie}
+use Rattle.com_refs_books.specs.Counting.{sum_below}
+use Rattle.com_refs_books.specs.Changes.{in_normal, in_table, in_cookie}
 use Rattle.com_model.specs.declared.counts.Counts.{Counts}
 use Rattle.com_model.specs.declared.deeds.Entry.{Entry}
 use Rattle.com_model.specs.declared.scenario.Scenario.{Scenario}

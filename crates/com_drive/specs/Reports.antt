@@ -1,7 +1,7 @@
 -- What a report counts of an object, by the tables of a state.
 use Rattle.std.specs.Prelude.{ℕ, ◌+◌, List, map, sum_by}
-use Rattle.com_books.specs.Changes.{Books, in_normal, in_table, in_cookie}
-use Rattle.com_books.specs.Counting.{sum_below}
+use Rattle.com_refs_books.specs.Changes.{Books, in_normal, in_table, in_cookie}
+use Rattle.com_refs_books.specs.Counting.{sum_below}
 use Rattle.com_model.specs.declared.counts.Counts.{Counts}
 use Rattle.com_model.specs.declared.scenario.Scenario.{Scenario}
 use Rattle.com_model.specs.Lists.{is_member, one_to}

@@ -1,6 +1,6 @@
 //! Whose turn it is: the picks first, then the lanes in their order.
 ghost use Rattle.std.specs.Prelude.{◌≡◌, ◌+◌, ◌≤◌, true, Some, None, IfSome, IsTrue, drop};
-ghost use Rattle.com_books.specs.Counting.{numbers_from};
+ghost use Rattle.com_refs_books.specs.Counting.{numbers_from};
 ghost use Rattle.com_model.specs.Lists.{first_that};
 ghost use Rattle.com_model.specs.Tables.{lanes};
 ghost use Rattle.com_model.specs.Ends.{picked, lanes_after};

@@ -23,9 +23,9 @@ use Rattle.com_model.proofs.Sights.{same-ground, same-scene, same-books, same-ne
 use Rattle.com_model.proofs.Stacks.{next-fits}
 use Rattle.com_objects.specs.Settled.{DieBut, Rise}
 use Rattle.com_objects.proofs.Settling.{settled}
-use Rattle.com_release.proofs.Dyings.{dies}
-use Rattle.com_release.proofs.Orders.{legal-dying}
-use Rattle.com_safety.proofs.Small.{not-both, differ, not-true, and-left, and-right, and-both, or-left, or-right, or-second, neither, same-number}
+use Rattle.com_laws_release.proofs.Dyings.{dies}
+use Rattle.com_laws_release.proofs.Orders.{legal-dying}
+use Rattle.com_laws_safety.proofs.Small.{not-both, differ, not-true, and-left, and-right, and-both, or-left, or-right, or-second, neither, same-number}
 use Rattle.com_schedule.proofs.Runs.{stands-later}
 use Rattle.com_state.specs.Resting.{Settled}
 use Rattle.com_state.proofs.Settles.{settled-stands}

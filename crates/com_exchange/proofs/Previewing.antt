@@ -7,7 +7,7 @@ use Rattle.std.proofs.lemmas.Grind.{common_steps}
 use Rattle.std.proofs.Math.Seq.{drop-cons}
 use Rattle.std.proofs.Math.ListN.{drop_of_length-le}
 use Rattle.com_base.specs.declared.value.MarshalMode.TheVariants as marshal
-use Rattle.com_books.specs.Changes.{Books, Row, Marshals, change, changed, marshal_all, entered_rows}
+use Rattle.com_refs_books.specs.Changes.{Books, Row, Marshals, change, changed, marshal_all, entered_rows}
 use Rattle.com_exchange.specs.declared.preview.Outgoing.{Outgoing}
 use Rattle.com_exchange.specs.Previews.{IsOutgoing, reference_of, refs_in, after_one, left_after, refs_if_connected, previewed}
 

@@ -2,8 +2,8 @@
 use Rattle.std.specs.Prelude.{◌≡◌, ℕ, ◌-◌, ◌/◌, Bool, ◌==◌, ◌&&◌, not, nat_le, if◌then◌else◌, List, [], ◌∷◌}
 use Rattle.std.specs.Prelude.{◌++◌}
 use Rattle.com_base.specs.declared.value.RefValue.{RefValue}
-use Rattle.com_books.specs.Changes.{Books}
-use Rattle.com_books.specs.declared.keeps.Packet.{Packet}
+use Rattle.com_refs_books.specs.Changes.{Books}
+use Rattle.com_refs_books.specs.declared.keeps.Packet.{Packet}
 use Rattle.com_exchange.specs.declared.preview.Outgoing.{Outgoing}
 
 -- A row says of its reference what the books say, in the apartment that marshals it.

@@ -1,6 +1,6 @@
 //! Laws of the exchange: functions that do nothing, whose contracts are the laws.
 ghost use Rattle.std.specs.Prelude.{◌≡◌, ℕ, ◌^◌, ◌<◌};
-ghost use Rattle.com_books.specs.declared.keeps.Packet.{Packet};
+ghost use Rattle.com_refs_books.specs.declared.keeps.Packet.{Packet};
 ghost use Rattle.com_model.specs.declared.scenario.Scenario.{Scenario};
 ghost use Rattle.com_model.specs.Sight.{Sight};
 ghost use Rattle.com_model.specs.Deeds.{packet_fields};

@@ -1,7 +1,7 @@
 //! The public references that the packets of one call will hold, before they are made.
 ghost use Rattle.std.specs.Prelude.{◌≡◌, ◌++◌, ℕ, Bool, [], IfOk, OnOk, map};
 ghost use Rattle.std.specs.List.{AllByRecursion};
-ghost use Rattle.com_books.specs.Changes.{Books, marshal_all, entered_rows};
+ghost use Rattle.com_refs_books.specs.Changes.{Books, marshal_all, entered_rows};
 ghost use Rattle.com_exchange.specs.Previews.{IsOutgoing, reference_of, refs_in, refs_of, after_one};
 ghost use Rattle.com_exchange.specs.Previews.{left_after, previewed, refs_if_connected};
 

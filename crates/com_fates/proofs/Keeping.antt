@@ -5,7 +5,7 @@ use Rattle.std.proofs.lemmas.Bool.{false_from_ne_true}
 use Rattle.std.proofs.Math.Seq.{drop-cons}
 use Rattle.std.specs.Prelude.{nat_lt}
 use Rattle.com_model.specs.Lists.{is_member}
-use Rattle.com_safety.proofs.Small.{same-number}
+use Rattle.com_laws_safety.proofs.Small.{same-number}
 use Rattle.com_fates.specs.Falling.{placed, placed_in}
 
 one-kept : (test : ℕ → Bool) (o : ℕ) (rest : List ℕ) → filter test (o ∷ []) ++ filter test rest ≡ filter test (o ∷ rest)

@@ -1,7 +1,7 @@
 -- How many bodies of each object run, and what an entry changes in that.
 use Rattle.std.specs.Prelude.{◌≡◌, ℕ, suc, ◌+◌, ◌-◌, ◌==◌, List, [], ◌∷◌, ◌++◌, Option, Some, None, length}
 use Rattle.std.specs.Prelude.{slice_index_or, slice_set}
-use Rattle.com_books.specs.Counting.{count_if, sum_below}
+use Rattle.com_refs_books.specs.Counting.{count_if, sum_below}
 use Rattle.com_model.specs.declared.deeds.Deed.{Deed}
 use Rattle.com_model.specs.declared.deeds.Deed.TheVariants as deed
 use Rattle.com_model.specs.declared.keeps.Opener.{Opener}

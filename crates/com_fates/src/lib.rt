@@ -3,7 +3,7 @@
 
 ghost use Rattle.std.specs.Prelude.{◌≡◌, ℕ, ◌+◌, ◌++◌, ◌∷◌, [], ◌<◌, ◌≤◌, ◌^◌, List, filter, is_some, length};
 ghost use Rattle.std.specs.Prelude.{slice_index_or, vec_capacity, vec_len};
-ghost use Rattle.com_books.specs.Counting.{count_if};
+ghost use Rattle.com_refs_books.specs.Counting.{count_if};
 ghost use Rattle.com_fates.specs.Bodies.{entered_after, left_object, without_body};
 ghost use Rattle.com_fates.specs.Falling.{begins_by, other_object, placed_in};
 ghost use Rattle.com_fates.specs.Most.{Most};

@@ -1,10 +1,10 @@
 -- An entry that was applied to a ledger which is tied to a state.
 use Rattle.std.proofs.Common.{◌≡◌, sym, ap, ◌∙◌, subst, ℕ, Bool, ◌<◌, List}
 use Rattle.std.specs.Prelude.{Some}
-use Rattle.com_books.specs.Changes.{Books, entered_rows}
-use Rattle.com_books.specs.Ends.{ends}
-use Rattle.com_holders.specs.Places.{Counts}
-use Rattle.com_holders.specs.Tables.{owns_of}
+use Rattle.com_refs_books.specs.Changes.{Books, entered_rows}
+use Rattle.com_refs_books.specs.Ends.{ends}
+use Rattle.com_refs_holders.specs.Places.{Counts}
+use Rattle.com_refs_holders.specs.Tables.{owns_of}
 use Rattle.com_model.specs.declared.deeds.Deed.{Deed}
 use Rattle.com_model.specs.declared.deeds.Deed.TheVariants as deed
 use Rattle.com_model.specs.declared.deeds.Entry.{Entry}
@@ -14,15 +14,15 @@ use Rattle.com_model.specs.Formed.{Formed}
 use Rattle.com_model.specs.Lists.{number_or_zero}
 use Rattle.com_model.specs.Objects.{makes}
 use Rattle.com_model.specs.State.{State, StandsFor, after, next_of, next_sta_in, running_in, sight_of}
-use Rattle.com_moves.specs.declared.moves.Move.{Move}
-use Rattle.com_moves.specs.Steps.{movings_of}
-use Rattle.com_moves.specs.Tables.{moves_in}
-use Rattle.com_quiet.specs.Ends.{connected}
+use Rattle.com_reference_moves.specs.declared.moves.Move.{Move}
+use Rattle.com_reference_moves.specs.Steps.{movings_of}
+use Rattle.com_reference_moves.specs.Tables.{moves_in}
+use Rattle.com_laws_unchanged.specs.Ends.{connected}
 use Rattle.com_refs.specs.Totals.{Totals}
 use Rattle.com_state.specs.Parts.{named_at}
-use Rattle.com_booking.specs.Books.{Held, books_held}
-use Rattle.com_booking.specs.Entries.{Applied, Applies, Around, Carries, StandsAround, brings_to, entered, left_by, tally}
-use Rattle.com_booking.specs.Owners.{Grown, owns_by}
+use Rattle.com_refs_rows.specs.Books.{Held, books_held}
+use Rattle.com_refs_rows.specs.Entries.{Applied, Applies, Around, Carries, StandsAround, brings_to, entered, left_by, tally}
+use Rattle.com_refs_rows.specs.Owners.{Grown, owns_by}
 use Rattle.com_ledger.specs.Ties.{AppliedAs, ObjectsGrow, ObjectsTie, Ties, books_by_rows, places_at}
 use Rattle.com_ledger.proofs.Following.{objects-tie, stands-after, ties-after}
 use Rattle.com_ledger.proofs.Within.{ends-applied, entered-below, running-below}

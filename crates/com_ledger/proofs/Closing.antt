@@ -7,10 +7,10 @@ use Rattle.std.specs.Prelude.{Option, Some, None}
 use Rattle.com_base.specs.declared.hresult.HResult.{HResult}
 use Rattle.com_base.specs.declared.value.Value.{Value}
 use Rattle.com_body.specs.declared.actions.Action.{Action}
-use Rattle.com_books.specs.Changes.{Books, Row, Drops, Revokes, entered_rows}
-use Rattle.com_holders.specs.Places.{Counts}
-use Rattle.com_holders.specs.Stands.{Tells}
-use Rattle.com_holders.specs.Tables.{Tables, owns_of}
+use Rattle.com_refs_books.specs.Changes.{Books, Row, Drops, Revokes, entered_rows}
+use Rattle.com_refs_holders.specs.Places.{Counts}
+use Rattle.com_refs_holders.specs.Stands.{Tells}
+use Rattle.com_refs_holders.specs.Tables.{Tables, owns_of}
 use Rattle.com_model.specs.declared.deeds.Deed.{Deed}
 use Rattle.com_model.specs.declared.deeds.Deed.TheVariants as deed
 use Rattle.com_model.specs.declared.scenario.Scenario.{Scenario}
@@ -19,15 +19,15 @@ use Rattle.com_model.specs.Books.{rows, kept, back_rows, made_by}
 use Rattle.com_model.specs.Deeds.{cookie_number}
 use Rattle.com_model.specs.Lists.{is_number, where_true}
 use Rattle.com_model.specs.Objects.{makes, disconnects}
-use Rattle.com_quiet.specs.Ends.{connected}
+use Rattle.com_laws_unchanged.specs.Ends.{connected}
 use Rattle.com_refs.specs.Totals.{Totals}
 use Rattle.com_state.specs.Parts.{ObjectTables, named_at}
-use Rattle.com_booking.specs.declared.calls.CallPackets.{CallPackets}
-use Rattle.com_booking.specs.Calls.{call_at, number_of}
-use Rattle.com_booking.specs.Books.{Taken, Cut, books_with}
-use Rattle.com_booking.specs.Entries.{Around, tally, left_by, entered, ends_holder, Closed, Closes, ClosesTables, GivesUp}
-use Rattle.com_booking.proofs.Entering.{IsPlain, connected_plain, closed_none, closed_taken, closed_cut}
-use Rattle.com_booking.proofs.Losing.{withdraw_none}
+use Rattle.com_refs_rows.specs.declared.calls.CallPackets.{CallPackets}
+use Rattle.com_refs_rows.specs.Calls.{call_at, number_of}
+use Rattle.com_refs_rows.specs.Books.{Taken, Cut, books_with}
+use Rattle.com_refs_rows.specs.Entries.{Around, tally, left_by, entered, ends_holder, Closed, Closes, ClosesTables, GivesUp}
+use Rattle.com_refs_rows.proofs.Entering.{IsPlain, connected_plain, closed_none, closed_taken, closed_cut}
+use Rattle.com_refs_rows.proofs.Losing.{withdraw_none}
 
 module _ (s : Scenario) (x : Option Action) (g : Around) (owned : ℕ → ℕ → Bool) (calls : List CallPackets) (t u : Tables) where
   abbrev pub expects : Deed → Books

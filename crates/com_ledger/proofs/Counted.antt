@@ -3,10 +3,10 @@ use Rattle.std.proofs.Common.{◌≡◌, ℕ, refl, sym, ap, ◌∙◌, arith, �
 use Rattle.std.proofs.lemmas.Bool.{ltb-true, ltb-false}
 use Rattle.std.proofs.lemmas.List.{get_or_past}
 use Rattle.std.specs.Prelude.{sum_by}
-use Rattle.com_books.specs.Changes.{Books, in_normal, in_table, in_cookie}
-use Rattle.com_books.specs.Counting.{sum_below}
-use Rattle.com_books.proofs.Sums.{sum-more, sum-same}
-use Rattle.com_holders.specs.Tables.{books_of, direct_in}
+use Rattle.com_refs_books.specs.Changes.{Books, in_normal, in_table, in_cookie}
+use Rattle.com_refs_books.specs.Counting.{sum_below}
+use Rattle.com_refs_books.proofs.Sums.{sum-more, sum-same}
+use Rattle.com_refs_holders.specs.Tables.{books_of, direct_in}
 use Rattle.com_model.specs.declared.deeds.Entry.{Entry}
 use Rattle.com_model.specs.declared.scenario.Scenario.{Scenario}
 use Rattle.com_model.specs.Ends.{over_interfaces}
@@ -17,7 +17,7 @@ use Rattle.com_model.proofs.Tabled.{length-tabulated, within-tabulated}
 use Rattle.com_refs.specs.Numbers.{Within}
 use Rattle.com_stub.specs.declared.counters.CounterRow.{CounterRow}
 use Rattle.com_stub.specs.CounterRows.{has_counter}
-use Rattle.com_booking.specs.Books.{Held}
+use Rattle.com_refs_rows.specs.Books.{Held}
 use Rattle.com_ledger.specs.Ties.{Ties, places_at}
 
 -- ---- interfaces

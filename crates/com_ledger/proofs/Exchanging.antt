@@ -1,17 +1,17 @@
 -- What the row brought, and all that comes to places, is held once.
 use Rattle.std.proofs.Common.{◌≡◌, ℕ, zero, suc, length, take, get_or, get_or-take, refl, ◌<◌, ◌≤◌, List, [], ◌∷◌, ◌++◌, sym, ap, subst, ◌∙◌, arith}
-use Rattle.com_books.specs.Changes.{Books}
-use Rattle.com_books.specs.Ends.{ends}
-use Rattle.com_holders.specs.Places.{Counts}
-use Rattle.com_holders.specs.Tables.{Tables, books_of}
-use Rattle.com_moves.specs.declared.moves.Move.{Move}
+use Rattle.com_refs_books.specs.Changes.{Books}
+use Rattle.com_refs_books.specs.Ends.{ends}
+use Rattle.com_refs_holders.specs.Places.{Counts}
+use Rattle.com_refs_holders.specs.Tables.{Tables, books_of}
+use Rattle.com_reference_moves.specs.declared.moves.Move.{Move}
 use Rattle.com_refs.proofs.Ends.{ends_again}
-use Rattle.com_booking.specs.Books.{Exchanged}
-use Rattle.com_booking.specs.Moving.{moves_at, plus, AllBelow, Ended}
-use Rattle.com_booking.proofs.Gaining.{moves_append, below_right}
-use Rattle.com_booking.specs.Owners.{AsOwned}
-use Rattle.com_booking.proofs.Owning.{owned_then}
-use Rattle.com_booking.proofs.Placed.{same_counts}
+use Rattle.com_refs_rows.specs.Books.{Exchanged}
+use Rattle.com_refs_rows.specs.Moving.{moves_at, plus, AllBelow, Ended}
+use Rattle.com_refs_rows.proofs.Gaining.{moves_append, below_right}
+use Rattle.com_refs_rows.specs.Owners.{AsOwned}
+use Rattle.com_refs_rows.proofs.Owning.{owned_then}
+use Rattle.com_refs_rows.proofs.Placed.{same_counts}
 
 pub whole_taken : (ms : List Move) (k : ℕ) → length ms ≤ k → take k ms ≡ ms
 whole_taken [] zero h = refl

@@ -4,14 +4,14 @@ use Rattle.std.proofs.lemmas.Bool.{cases_lt}
 use Rattle.std.proofs.lemmas.Grind.{common_steps}
 use Rattle.std.proofs.lemmas.List.Sums.{sum_by-cons}
 use Rattle.std.specs.Prelude.{Option, Some, None, option_map}
-use Rattle.com_balance.proofs.Counts.{Found, found-place}
-use Rattle.com_balance.proofs.Lows.{more-stas}
-use Rattle.com_books.specs.Changes.{entered_rows}
-use Rattle.com_books.specs.Counting.{count_if}
-use Rattle.com_books.specs.Ends.{ends}
-use Rattle.com_books.proofs.Sums.{sum-more}
-use Rattle.com_holders.specs.Places.{Counts}
-use Rattle.com_holders.specs.Tables.{Tables, owns_of}
+use Rattle.com_laws_balance.proofs.Counts.{Found, found-place}
+use Rattle.com_laws_balance.proofs.Lows.{more-stas}
+use Rattle.com_refs_books.specs.Changes.{entered_rows}
+use Rattle.com_refs_books.specs.Counting.{count_if}
+use Rattle.com_refs_books.specs.Ends.{ends}
+use Rattle.com_refs_books.proofs.Sums.{sum-more}
+use Rattle.com_refs_holders.specs.Places.{Counts}
+use Rattle.com_refs_holders.specs.Tables.{Tables, owns_of}
 use Rattle.com_model.specs.declared.deeds.Deed.{Deed}
 use Rattle.com_model.specs.declared.deeds.Entry.{Entry}
 use Rattle.com_model.specs.declared.keeps.Making.{Making}
@@ -33,16 +33,16 @@ use Rattle.com_model.proofs.Rowed.{after-rows}
 use Rattle.com_model.proofs.Sights.{same-books, same-ground, same-named, same-next, same-scene, same-sight}
 use Rattle.com_model.proofs.Tabled.{length-grown}
 use Rattle.com_model.proofs.Whole.{whole-after}
-use Rattle.com_moves.specs.declared.moves.Move.{Move}
-use Rattle.com_moves.specs.Steps.{moving_of, movings_of}
-use Rattle.com_moves.specs.Tables.{moves_in, PlacesMoveIn}
-use Rattle.com_moves.proofs.Stands.{moves-places}
-use Rattle.com_places.specs.Moves.{Move as Moving, counted}
-use Rattle.com_quiet.specs.Ends.{books_entered, connected, history_entered}
-use Rattle.com_quiet.proofs.Endings.{history-end}
-use Rattle.com_release.proofs.Lives.{place-low}
-use Rattle.com_booking.specs.Books.{Held}
-use Rattle.com_booking.specs.Moving.{moves_at, plus, AllBelow}
+use Rattle.com_reference_moves.specs.declared.moves.Move.{Move}
+use Rattle.com_reference_moves.specs.Steps.{moving_of, movings_of}
+use Rattle.com_reference_moves.specs.Tables.{moves_in, PlacesMoveIn}
+use Rattle.com_reference_moves.proofs.Stands.{moves-places}
+use Rattle.com_laws_places.specs.Moves.{Move as Moving, counted}
+use Rattle.com_laws_unchanged.specs.Ends.{books_entered, connected, history_entered}
+use Rattle.com_laws_unchanged.proofs.Endings.{history-end}
+use Rattle.com_laws_release.proofs.Lives.{place-low}
+use Rattle.com_refs_rows.specs.Books.{Held}
+use Rattle.com_refs_rows.specs.Moving.{moves_at, plus, AllBelow}
 use Rattle.com_ledger.specs.Ties.{EntryEnds, ObjectsGrow, ObjectsTie, OwnersGrow, OwnersTie, Ties, owner_after, owns_after, places_at}
 use Rattle.com_ledger.proofs.Lowest.{LowMoves, low-state, moves-low}
 

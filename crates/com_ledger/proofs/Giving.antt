@@ -12,25 +12,25 @@ use Rattle.com_base.specs.declared.value.MarshalMode.{MarshalMode}
 use Rattle.com_body.specs.declared.actions.Action.{Action}
 use Rattle.com_body.specs.declared.operands.Asked.{Asked}
 use Rattle.com_body.specs.declared.operands.Asked.TheVariants as asked
-use Rattle.com_books.specs.Changes.{Books, Row, changed, ToProxy, Same, entered_rows, marshal_all}
-use Rattle.com_holders.specs.Steps.{made_live}
-use Rattle.com_holders.specs.Tables.{Tables, books_of, owns_of}
+use Rattle.com_refs_books.specs.Changes.{Books, Row, changed, ToProxy, Same, entered_rows, marshal_all}
+use Rattle.com_refs_holders.specs.Steps.{made_live}
+use Rattle.com_refs_holders.specs.Tables.{Tables, books_of, owns_of}
 use Rattle.com_model.specs.declared.deeds.Deed.{Deed}
 use Rattle.com_model.specs.declared.deeds.Deed.TheVariants as deed
 use Rattle.com_model.specs.declared.deeds.Route.{Route}
 use Rattle.com_model.specs.declared.scenario.Scenario.{Scenario}
 use Rattle.com_model.specs.Calls.{issues}
 use Rattle.com_model.specs.Books.{rows, kept, back_rows}
-use Rattle.com_moves.specs.declared.moves.Move.{Move}
-use Rattle.com_booking.specs.declared.calls.CallPackets.{CallPackets}
-use Rattle.com_booking.specs.Calls.{call_at, arguments_of, arguments_in, result_in, number_of}
-use Rattle.com_booking.specs.Books.{Gained, Made, Marshalled, books_with, moved_to, with_arguments, with_answer}
-use Rattle.com_booking.specs.Entries.{Around, tally, left_by, ends_holder, brings_to, Carries, Given, Gives, RowsOf, MakesOrNone, is_of_reference}
-use Rattle.com_booking.specs.Owners.{Grown}
-use Rattle.com_booking.proofs.Cutting.{same_rows}
-use Rattle.com_booking.proofs.Gaining.{brought_none}
-use Rattle.com_booking.proofs.Entering.{IsPlain, clash, expected, given_by, given_gained, given_later}
-use Rattle.com_booking.proofs.Packed.{with_calls, read_rows}
+use Rattle.com_reference_moves.specs.declared.moves.Move.{Move}
+use Rattle.com_refs_rows.specs.declared.calls.CallPackets.{CallPackets}
+use Rattle.com_refs_rows.specs.Calls.{call_at, arguments_of, arguments_in, result_in, number_of}
+use Rattle.com_refs_rows.specs.Books.{Gained, Made, Marshalled, books_with, moved_to, with_arguments, with_answer}
+use Rattle.com_refs_rows.specs.Entries.{Around, tally, left_by, ends_holder, brings_to, Carries, Given, Gives, RowsOf, MakesOrNone, is_of_reference}
+use Rattle.com_refs_rows.specs.Owners.{Grown}
+use Rattle.com_refs_rows.proofs.Cutting.{same_rows}
+use Rattle.com_refs_rows.proofs.Gaining.{brought_none}
+use Rattle.com_refs_rows.proofs.Entering.{IsPlain, clash, expected, given_by, given_gained, given_later}
+use Rattle.com_refs_rows.proofs.Packed.{with_calls, read_rows}
 
 -- ---- a new object
 

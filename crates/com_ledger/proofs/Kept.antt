@@ -1,15 +1,15 @@
 -- What is left of the objects that lost their last holder.
 use Rattle.std.proofs.Common.{◌≡◌, ℕ, zero, suc, true, false, ◌<◌, ◌≤◌, List, [], length, ap, arith}
 use Rattle.std.specs.Prelude.{Option, Some, None}
-use Rattle.com_holders.specs.Tables.{Tables, books_of}
+use Rattle.com_refs_holders.specs.Tables.{Tables, books_of}
 use Rattle.com_model.specs.declared.deeds.Deed.{Deed}
 use Rattle.com_model.specs.declared.keeps.Making.{Making}
 use Rattle.com_model.specs.Lists.{is_member}
 use Rattle.com_model.specs.Objects.{makes, one_more}
-use Rattle.com_moves.specs.declared.moves.Move.{Move}
+use Rattle.com_reference_moves.specs.declared.moves.Move.{Move}
 use Rattle.com_refs.specs.Counts.{holders_of}
-use Rattle.com_booking.specs.Entries.{Applies, Around, Loses, Tally}
-use Rattle.com_booking.specs.Moving.{Touches}
+use Rattle.com_refs_rows.specs.Entries.{Applies, Around, Loses, Tally}
+use Rattle.com_refs_rows.specs.Moving.{Touches}
 
 pub same_holders : (t u : Tables) (s o : ℕ) → u ≡ record t { spare = s } → holders_of u o ≡ holders_of t o
 unfolding books_of

@@ -5,8 +5,8 @@ use Rattle.com_base.specs.declared.value.RefValue.{RefValue}
 use Rattle.com_base.specs.declared.value.Value.{Value}
 use Rattle.com_body.specs.declared.frame.Outcome.{Outcome}
 use Rattle.com_body.specs.Frames.{entered}
-use Rattle.com_balance.proofs.Lows.{more-stas}
-use Rattle.com_balance.proofs.Makings.{fine-next}
+use Rattle.com_laws_balance.proofs.Lows.{more-stas}
+use Rattle.com_laws_balance.proofs.Makings.{fine-next}
 use Rattle.com_model.specs.declared.deeds.Deed.{Deed}
 use Rattle.com_model.specs.declared.deeds.Deed.TheVariants as deed
 use Rattle.com_model.specs.declared.deeds.Entry.{Entry}
@@ -26,12 +26,12 @@ use Rattle.com_model.proofs.Fines.{FineBy, GoodHome}
 use Rattle.com_model.proofs.Kept.{Kept, legal-kept}
 use Rattle.com_model.proofs.Scenes.{faces}
 use Rattle.com_model.proofs.Sights.{same-ground}
-use Rattle.com_moves.specs.declared.moves.Move.{Move}
-use Rattle.com_moves.specs.Steps.{movings_of}
-use Rattle.com_moves.specs.Tables.{moves_by, moves_in}
-use Rattle.com_places.specs.Moves.{Move as Moving, Moves, acted_moves, all_moved, arrived_moves, ended_moves, entered_where, link_moves, links_moved, moved, result_moved, slots_where, together, write_moves, writes_moves}
+use Rattle.com_reference_moves.specs.declared.moves.Move.{Move}
+use Rattle.com_reference_moves.specs.Steps.{movings_of}
+use Rattle.com_reference_moves.specs.Tables.{moves_by, moves_in}
+use Rattle.com_laws_places.specs.Moves.{Move as Moving, Moves, acted_moves, all_moved, arrived_moves, ended_moves, entered_where, link_moves, links_moved, moved, result_moved, slots_where, together, write_moves, writes_moves}
 use Rattle.com_state.specs.After.{acting_in, actor_after, step_in}
-use Rattle.com_booking.specs.Moving.{AllBelow}
+use Rattle.com_refs_rows.specs.Moving.{AllBelow}
 
 abbrev pub Low : ℕ → List Moving → Type 0
 Low n [] = Unit {0}

@@ -4,12 +4,12 @@ use Rattle.std.specs.Prelude.{Option, Some, None}
 use Rattle.com_base.specs.declared.hresult.HResult.{HResult}
 use Rattle.com_body.specs.declared.operands.Asked.{Asked}
 use Rattle.com_body.specs.declared.operands.Asked.TheVariants as asked
-use Rattle.com_holders.specs.Tables.{Tables, offers}
+use Rattle.com_refs_holders.specs.Tables.{Tables, offers}
 use Rattle.com_model.specs.declared.deeds.Deed.{Deed}
 use Rattle.com_model.specs.declared.deeds.Deed.TheVariants as deed
-use Rattle.com_moves.specs.declared.moves.Move.{Move}
-use Rattle.com_booking.specs.Entries.{is_made, is_made_by}
-use Rattle.com_booking.specs.Moving.{AllOffered, no_move}
+use Rattle.com_reference_moves.specs.declared.moves.Move.{Move}
+use Rattle.com_refs_rows.specs.Entries.{is_made, is_made_by}
+use Rattle.com_refs_rows.specs.Moving.{AllOffered, no_move}
 
 len-both : (xs ys : List Move) → length (xs ++ ys) ≡ length xs + length ys
 len-both [] ys = omega arith

@@ -2,8 +2,8 @@
 use Rattle.std.proofs.Common.{◌≡◌, ℕ, zero, suc, ◌<◌, ◌≤◌, List, [], ◌∷◌, length, refl, ap, ◌∙◌, arith, inl, inr}
 use Rattle.std.proofs.lemmas.Bool.{cases_lt}
 use Rattle.std.specs.Prelude.{Option, slice_index_or}
-use Rattle.com_books.specs.Changes.{Books, packet, cookie, no_cookie}
-use Rattle.com_books.specs.declared.keeps.Cookie.{Cookie}
+use Rattle.com_refs_books.specs.Changes.{Books, packet, cookie, no_cookie}
+use Rattle.com_refs_books.specs.declared.keeps.Cookie.{Cookie}
 
 pub cookie_same : (b : Books) (x : ℕ → List ℕ) (y : ℕ → Option ℕ) (n : ℕ) → cookie (record b { arguments = x; result = y }) n ≡ cookie b n
 cookie_same b x y zero = refl

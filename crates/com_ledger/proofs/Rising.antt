@@ -5,7 +5,7 @@ use Rattle.std.proofs.lemmas.Bool.Decides.{nat_tests}
 use Rattle.std.specs.Prelude.{filter, nat_lt}
 use Rattle.com_model.specs.Lists.{is_member}
 use Rattle.com_objects.specs.Settled.{Rise}
-use Rattle.com_booking.specs.Moving.{Climbs}
+use Rattle.com_refs_rows.specs.Moving.{Climbs}
 
 -- The number is one of so many objects.
 abbrev pub among_made : (made object : ℕ) → Bool

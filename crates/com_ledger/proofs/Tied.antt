@@ -3,12 +3,12 @@ use mathlib.Core.Path.{fun_ext}
 use Rattle.std.proofs.Common.{◌≡◌, refl, sym, ap, ◌∙◌, subst, arith, eqb-true, ℕ, zero, suc, Bool, true, false, cond, not, eqb, ◌&&◌, ◌+◌, ◌<◌, ◌||◌, List, [], length}
 use Rattle.std.proofs.lemmas.Grind.{common_steps}
 use Rattle.std.specs.Prelude.{None}
-use Rattle.com_books.specs.Changes.{Books, no_books, held_outside}
-use Rattle.com_books.specs.Counting.{sum_below}
-use Rattle.com_books.proofs.Sums.{sum-nothing}
-use Rattle.com_holders.specs.declared.ObjectRow.{ObjectRow}
-use Rattle.com_holders.specs.Places.{Counts, locals_of, places_of}
-use Rattle.com_holders.specs.Tables.{Tables, books_by, books_of, direct_in, no_object, object_in, owns_of}
+use Rattle.com_refs_books.specs.Changes.{Books, no_books, held_outside}
+use Rattle.com_refs_books.specs.Counting.{sum_below}
+use Rattle.com_refs_books.proofs.Sums.{sum-nothing}
+use Rattle.com_refs_holders.specs.declared.ObjectRow.{ObjectRow}
+use Rattle.com_refs_holders.specs.Places.{Counts, locals_of, places_of}
+use Rattle.com_refs_holders.specs.Tables.{Tables, books_by, books_of, direct_in, no_object, object_in, owns_of}
 use Rattle.com_model.specs.declared.scenario.Scenario.{Scenario}
 use Rattle.com_model.specs.Books.{holders_in}
 use Rattle.com_model.specs.Calls.{is_direct, route_of}
@@ -23,10 +23,10 @@ use Rattle.com_proxy.specs.declared.ProxyRow.{ProxyRow}
 use Rattle.com_refs.specs.Counts.{holders_of, outside_of}
 use Rattle.com_refs.specs.Totals.{Totals}
 use Rattle.com_stub.specs.StubRows.{is_connected}
-use Rattle.com_booking.specs.declared.calls.CallPackets.{CallPackets}
-use Rattle.com_booking.specs.Books.{Held, books_held}
-use Rattle.com_booking.specs.Calls.{arguments_in, result_in}
-use Rattle.com_booking.specs.Moving.{Touches}
+use Rattle.com_refs_rows.specs.declared.calls.CallPackets.{CallPackets}
+use Rattle.com_refs_rows.specs.Books.{Held, books_held}
+use Rattle.com_refs_rows.specs.Calls.{arguments_in, result_in}
+use Rattle.com_refs_rows.specs.Moving.{Touches}
 use Rattle.com_ledger.specs.Ties.{AllTouched, OwnersTie, Ties, IsNew, places_at, holders_at}
 
 -- ---- holders

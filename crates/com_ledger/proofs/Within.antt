@@ -1,18 +1,18 @@
 -- Which objects places hold, in which apartment a lane runs, and what the books are before an entry ends.
 use Rattle.std.proofs.Common.{◌≡◌, refl, sym, ap, ◌∙◌, subst, arith, inl, inr, eqb-true, ℕ, zero, suc, Bool, cond, not, ◌&&◌, ◌||◌, ◌<◌, ◌≤◌, ◌⊎◌, List, [], ◌∷◌, length}
 use Rattle.std.specs.Prelude.{All, Option, Some, None, option_map, slice_index_or}
-use Rattle.com_balance.proofs.Answered.{left-known}
-use Rattle.com_balance.proofs.Arrivals.{known-of}
-use Rattle.com_balance.proofs.Carries.{all-head, all-tail}
-use Rattle.com_balance.proofs.Counts.{Found, PlaceOf, found-place, of_script, of_body, of_link, of_result}
-use Rattle.com_balance.proofs.Lows.{legal-low, running-low}
+use Rattle.com_laws_balance.proofs.Answered.{left-known}
+use Rattle.com_laws_balance.proofs.Arrivals.{known-of}
+use Rattle.com_laws_balance.proofs.Carries.{all-head, all-tail}
+use Rattle.com_laws_balance.proofs.Counts.{Found, PlaceOf, found-place, of_script, of_body, of_link, of_result}
+use Rattle.com_laws_balance.proofs.Lows.{legal-low, running-low}
 use Rattle.com_base.specs.declared.value.RefValue.{RefValue}
 use Rattle.com_base.specs.declared.value.Value.{Value}
 use Rattle.com_body.specs.declared.actions.Action.{Action}
 use Rattle.com_body.specs.declared.operands.Asked.TheVariants as asked
-use Rattle.com_books.specs.Changes.{Books, Same, ToProxy, changed, entered_rows}
-use Rattle.com_books.specs.Ends.{ends}
-use Rattle.com_holders.specs.Places.{Counts}
+use Rattle.com_refs_books.specs.Changes.{Books, Same, ToProxy, changed, entered_rows}
+use Rattle.com_refs_books.specs.Ends.{ends}
+use Rattle.com_refs_holders.specs.Places.{Counts}
 use Rattle.com_model.specs.declared.deeds.Deed.{Deed}
 use Rattle.com_model.specs.declared.deeds.Deed.TheVariants as deed
 use Rattle.com_model.specs.declared.deeds.Entry.{Entry}
@@ -34,12 +34,12 @@ use Rattle.com_model.proofs.Goods.{GoodHeld}
 use Rattle.com_model.proofs.Kept.{legal-kept}
 use Rattle.com_model.proofs.Scenes.{faces}
 use Rattle.com_model.proofs.Sights.{same-named, same-scene, same-sight}
-use Rattle.com_moves.specs.declared.moves.Move.{Move}
-use Rattle.com_moves.specs.Steps.{movings_of}
-use Rattle.com_moves.specs.Tables.{moves_in}
-use Rattle.com_quiet.specs.Ends.{books_entered, connected}
-use Rattle.com_booking.specs.Books.{Held, books_held}
-use Rattle.com_booking.specs.Moving.{plus, AllBelow}
+use Rattle.com_reference_moves.specs.declared.moves.Move.{Move}
+use Rattle.com_reference_moves.specs.Steps.{movings_of}
+use Rattle.com_reference_moves.specs.Tables.{moves_in}
+use Rattle.com_laws_unchanged.specs.Ends.{books_entered, connected}
+use Rattle.com_refs_rows.specs.Books.{Held, books_held}
+use Rattle.com_refs_rows.specs.Moving.{plus, AllBelow}
 use Rattle.com_ledger.specs.Ties.{AppliedAs, EndedAt, Ties, books_by_rows, owns_after, places_at}
 use Rattle.com_ledger.proofs.Following.{counts-next, ground-is, moves-below, owns-made, places-next, stands-after, stas-more}
 use Rattle.com_ledger.proofs.Lowest.{enters-low}

@@ -2,11 +2,11 @@
 -- objects and calls are the state's.
 use Rattle.std.specs.Prelude.{◌≡◌, ◌<◌, ◌≤◌, ◌⊎◌, ℕ, ◌+◌, Bool, true, false, ◌==◌, if◌then◌else◌, List, []}
 use Rattle.std.specs.Prelude.{length, Option, Some, None}
-use Rattle.com_books.specs.Changes.{Books, entered_rows}
-use Rattle.com_books.specs.Counting.{count_if}
-use Rattle.com_books.specs.Ends.{ends}
-use Rattle.com_holders.specs.Places.{Counts}
-use Rattle.com_holders.specs.Tables.{object_in, owns_of}
+use Rattle.com_refs_books.specs.Changes.{Books, entered_rows}
+use Rattle.com_refs_books.specs.Counting.{count_if}
+use Rattle.com_refs_books.specs.Ends.{ends}
+use Rattle.com_refs_holders.specs.Places.{Counts}
+use Rattle.com_refs_holders.specs.Tables.{object_in, owns_of}
 use Rattle.com_model.specs.declared.deeds.Deed.{Deed}
 use Rattle.com_model.specs.declared.keeps.Making.{Making}
 use Rattle.com_model.specs.declared.scenario.Scenario.{Scenario}
@@ -17,12 +17,12 @@ use Rattle.com_model.specs.Objects.{makes, one_more}
 use Rattle.com_model.specs.Places.{places}
 use Rattle.com_model.specs.State.{State, after, books_in, ending_in, ground_in, issued_by, named_in}
 use Rattle.com_model.specs.State.{next_sta_in, objects_in, owns_in, running_in, scene_in, sight_of}
-use Rattle.com_moves.specs.declared.moves.Move.{Move}
-use Rattle.com_quiet.specs.Ends.{books_entered, connected}
+use Rattle.com_reference_moves.specs.declared.moves.Move.{Move}
+use Rattle.com_laws_unchanged.specs.Ends.{books_entered, connected}
 use Rattle.com_refs.specs.Totals.{Totals}
-use Rattle.com_booking.specs.Books.{Held, books_held}
-use Rattle.com_booking.specs.Moving.{plus, AllBelow}
-use Rattle.com_booking.specs.Owners.{owns_by}
+use Rattle.com_refs_rows.specs.Books.{Held, books_held}
+use Rattle.com_refs_rows.specs.Moving.{plus, AllBelow}
+use Rattle.com_refs_rows.specs.Owners.{owns_by}
 
 -- The places of a state, by apartment and object, and the holders of an object.
 abbrev pub places_at : Scenario → State → (apartment object : ℕ) → ℕ

@@ -1,21 +1,21 @@
 //! The change of the books by an entry.
 ghost use Rattle.std.specs.Prelude.{◌≡◌, ◌+◌, ◌<◌, ◌≤◌, ◌^◌, ◌||◌, ℕ, [], false, true, if◌then◌else◌, IsTrue};
 ghost use Rattle.std.specs.Prelude.{OnErr, OnOk, List, length, take, vec_len, vec_capacity};
-ghost use Rattle.com_holders.specs.Places.{Counts, SamePlaces};
-ghost use Rattle.com_holders.specs.Tables.{books_of, offers};
+ghost use Rattle.com_refs_holders.specs.Places.{Counts, SamePlaces};
+ghost use Rattle.com_refs_holders.specs.Tables.{books_of, offers};
 ghost use Rattle.com_model.specs.Lists.{is_member, number_or_zero};
-ghost use Rattle.com_moves.specs.declared.moves.Move.{Move};
-ghost use Rattle.com_moves.specs.Steps.{movings_of};
-ghost use Rattle.com_booking.specs.Books.{Exchanged};
+ghost use Rattle.com_reference_moves.specs.declared.moves.Move.{Move};
+ghost use Rattle.com_reference_moves.specs.Steps.{movings_of};
+ghost use Rattle.com_refs_rows.specs.Books.{Exchanged};
 ghost use Rattle.com_objects.specs.Settled.{Rise};
 ghost use Rattle.com_refs.specs.Counts.{holders_of};
-ghost use Rattle.com_booking.specs.Entries.{AllGiven, Gives, Closes, Applies, KeepsHeldBy, Loses};
-ghost use Rattle.com_booking.specs.Entries.{around, tally};
-ghost use Rattle.com_booking.specs.Entries.{asked_packets, ended_objects, is_made, is_made_by};
-ghost use Rattle.com_booking.specs.Entries.{is_of_reference};
-ghost use Rattle.com_booking.specs.Entries.{most_left, row_steps};
-ghost use Rattle.com_booking.specs.Moving.{plus, AllBelow, AllOffered, Climbs, HoldsMore, Touches};
-ghost use Rattle.com_booking.specs.Moving.{TouchesCounted};
+ghost use Rattle.com_refs_rows.specs.Entries.{AllGiven, Gives, Closes, Applies, KeepsHeldBy, Loses};
+ghost use Rattle.com_refs_rows.specs.Entries.{around, tally};
+ghost use Rattle.com_refs_rows.specs.Entries.{asked_packets, ended_objects, is_made, is_made_by};
+ghost use Rattle.com_refs_rows.specs.Entries.{is_of_reference};
+ghost use Rattle.com_refs_rows.specs.Entries.{most_left, row_steps};
+ghost use Rattle.com_refs_rows.specs.Moving.{plus, AllBelow, AllOffered, Climbs, HoldsMore, Touches};
+ghost use Rattle.com_refs_rows.specs.Moving.{TouchesCounted};
 
 use crate::context::Context;
 use crate::ends::{end_connection, end_cookie, end_home, end_packet, give_up};
@@ -23,13 +23,13 @@ use crate::keeping::Keeping;
 use crate::ledger::Ledger;
 use com_base::{Memory, RefValue};
 use com_body::Asked;
-use com_booking::{
+use com_refs_rows::{
     MOST_GIVEN, enter_back, enter_get, enter_made, enter_marshal, enter_query, enter_register,
     enter_unmarshal, gain_all, is_left, issue, lose_all, read_all, reply, unproved_fact,
 };
 use com_deeds::number_or_zero;
 use com_model::{Deed, Entry};
-use com_moves::{Move, Moves};
+use com_reference_moves::{Move, Moves};
 use com_objects::Objects;
 use com_refs::Refs;
 

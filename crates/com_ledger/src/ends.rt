@@ -3,11 +3,11 @@ ghost use Rattle.std.specs.Prelude.{◌+◌, ◌<◌, ◌≤◌, length, vec_len
 ghost use Rattle.com_model.specs.declared.deeds.Deed.TheVariants as deed;
 ghost use Rattle.com_base.specs.declared.hresult.HResult.{HResult};
 ghost use Rattle.com_state.specs.Parts.{ObjectTables};
-ghost use Rattle.com_booking.specs.Entries.{ClosesTables, GivesUp};
-ghost use Rattle.com_booking.specs.Moving.{Climbs, TouchesCounted};
+ghost use Rattle.com_refs_rows.specs.Entries.{ClosesTables, GivesUp};
+ghost use Rattle.com_refs_rows.specs.Moving.{Climbs, TouchesCounted};
 
 use com_base::{HOST_STA, HResult};
-use com_booking::{disconnect, drop_packet, end_apartment, revoke};
+use com_refs_rows::{disconnect, drop_packet, end_apartment, revoke};
 use com_objects::Objects;
 use com_refs::Refs;
 

@@ -2,8 +2,8 @@
 
 ghost use Rattle.std.specs.Prelude.{◌≡◌, []};
 
-use com_booking::CallTable;
-use com_moves::Move;
+use com_refs_rows::CallTable;
+use com_reference_moves::Move;
 use com_refs::Refs;
 use std::alloc::Global;
 

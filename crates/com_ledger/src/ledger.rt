@@ -1,8 +1,8 @@
 //! Who holds references, and the packets of each call.
 ghost use Rattle.std.specs.Prelude.{◌≡◌, ◌+◌, ◌<◌, ◌↔◌, ℕ, [], IsTrue, sum_by};
-ghost use Rattle.com_books.specs.Counting.{sum_below};
-ghost use Rattle.com_books.specs.Changes.{in_normal, in_table, in_cookie};
-ghost use Rattle.com_holders.specs.Tables.{books_of, direct_in};
+ghost use Rattle.com_refs_books.specs.Counting.{sum_below};
+ghost use Rattle.com_refs_books.specs.Changes.{in_normal, in_table, in_cookie};
+ghost use Rattle.com_refs_holders.specs.Tables.{books_of, direct_in};
 ghost use Rattle.com_refs.specs.Counts.{holders_of};
 ghost use Rattle.com_refs.specs.Numbers.{Within};
 
@@ -20,7 +20,7 @@ pub struct Ledger {
 }
 
 impl Model for Ledger {
-    ghost use Rattle.com_booking.specs.Books.{Held};
+    ghost use Rattle.com_refs_rows.specs.Books.{Held};
 
     ghost Value = { Held };
 

@@ -17,7 +17,7 @@ mod ledger;
 mod reads;
 
 pub use com_base::Memory;
-pub use com_booking::CallPackets;
+pub use com_refs_rows::CallPackets;
 pub use com_refs::Numbers;
 pub use context::Context;
 pub use laws::{

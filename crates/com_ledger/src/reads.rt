@@ -1,15 +1,15 @@
 //! What the rules read of the books.
 ghost use Rattle.std.specs.Prelude.{◌≡◌, ◌+◌, ◌<◌, ◌^◌, not};
-ghost use Rattle.com_books.specs.Changes.{packet, cookie};
+ghost use Rattle.com_refs_books.specs.Changes.{packet, cookie};
 ghost use Rattle.com_model.specs.Deeds.{cookie_number};
 ghost use Rattle.com_model.specs.Lists.{any_of, first_that};
-ghost use Rattle.com_booking.specs.Books.{books_held};
-ghost use Rattle.com_booking.specs.Calls.{arguments_of};
-ghost use Rattle.com_holders.specs.Tables.{books_of};
+ghost use Rattle.com_refs_rows.specs.Books.{books_held};
+ghost use Rattle.com_refs_rows.specs.Calls.{arguments_of};
+ghost use Rattle.com_refs_holders.specs.Tables.{books_of};
 
 use crate::ledger::Ledger;
-use com_booking::{CallPackets, cookie_number};
-use com_books::{Cookie, Packet};
+use com_refs_rows::{CallPackets, cookie_number};
+use com_refs_books::{Cookie, Packet};
 use com_exchange::Connections;
 use com_refs::Refs;
 use com_rules::Found;
@@ -68,7 +68,7 @@ fn cookie_at(refs: &Refs, number: i64) -> Cookie
 impl Connections for Ledger {
     ghost live = { λ w. (books_held w).live };
 
-    #[tactic(auto, unfolding(com_holders::specs::Tables::books_of))]
+    #[tactic(auto, unfolding(com_refs_holders::specs::Tables::books_of))]
     fn is_connected(&self, object: u32) -> bool {
         self.keeping.refs.connected(object)
     }
@@ -77,7 +77,7 @@ impl Connections for Ledger {
 impl References for Ledger {
     ghost books = { λ w. books_held w };
 
-    #[tactic(auto, unfolding(com_holders::specs::Tables::books_of))]
+    #[tactic(auto, unfolding(com_refs_holders::specs::Tables::books_of))]
     fn is_connected(&self, object: u32) -> bool {
         self.keeping.refs.connected(object)
     }

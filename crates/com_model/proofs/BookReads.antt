@@ -3,7 +3,7 @@ use mathlib.Core.Path.{fun_ext}
 use Rattle.std.specs.Prelude.{◌≡◌, refl, ℕ, zero, suc, ◌+◌, Bool, false, List, [], length, Option, None}
 use Rattle.std.proofs.Common.{ap, ◌∙◌}
 use Rattle.com_model.specs.declared.scenario.Scenario.{Scenario}
-use Rattle.com_books.specs.Changes.{Books, Change, ToProxy, ToPacket, Split, Join, Return, ToCookie, Withdraw, Same, changed}
+use Rattle.com_refs_books.specs.Changes.{Books, Change, ToProxy, ToPacket, Split, Join, Return, ToCookie, Withdraw, Same, changed}
 use Rattle.com_model.specs.State.{State, books_in, book_tables, objects_in, next_sta_in}
 use Rattle.com_model.specs.BooksTie.{BoundedBooks, BooksTie, with_calls}
 use Rattle.com_model.proofs.Tabled.{tabulated-row, rows-in-rows, rows-deep}

@@ -26,8 +26,8 @@ use Rattle.com_model.specs.Calls.{Issue, object_of, is_post, route_of, admitted,
 use Rattle.com_model.specs.Frames.{reference}
 use Rattle.com_model.specs.Endings.{Answer, ending}
 use Rattle.com_model.specs.Waiting.{Phase, Unposted, Queued, Judged, Delayed, GivenUp, Word, mark_of, not_asked, bound_reached, is_queued, phase, postings, waits_in}
-use Rattle.com_books.specs.declared.keeps.Cookie.{Cookie}
-use Rattle.com_books.specs.Changes.{cookie}
+use Rattle.com_refs_books.specs.declared.keeps.Cookie.{Cookie}
+use Rattle.com_refs_books.specs.Changes.{cookie}
 use Rattle.com_model.specs.Sight.{Sight, sight}
 use Rattle.com_model.specs.Deeds.{hold_refusal, named_by, deed_of, created, created_of, initialised, marshalled, registered, Named, NamesPacket, Refuses, unmarshalled, dropped, got, got_by, got_with, cookie_number, gained_refs, owned_by, made_as, creator, placing, revoked, uninitialised, in_sta, called, left_by, left_as, word_answer}
 use Rattle.com_model.specs.Rules.{posted_to_sta, is_handled_in, call_sort, verdict_on, arguments_gone, enters_itself, packet_left, due_of, admits_next, no_lane_can, tick_time, next, next_by, stepped, ruled, admission, rule_final, rule_own, rule_answer, rule_bound, rule_inbox, rule_retry, rule_again, rule_pending, rule_word, rule_script, answered, retried, posted_again, asked_on, pumped, takes_word, scripted, is_script_turn, admits_sta, is_open_to_calls, top}

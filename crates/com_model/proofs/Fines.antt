@@ -34,7 +34,7 @@ use Rattle.com_model.specs.declared.deeds.Deed.TheVariants as deed
 use Rattle.com_model.specs.declared.deeds.Entry.{Entry}
 use Rattle.com_model.specs.declared.scenario.Scenario.{Scenario}
 use Rattle.com_model.specs.Answers.{S_OK, E_INVALIDARG, E_NOINTERFACE, CO_E_OBJNOTCONNECTED, RPC_E_DISCONNECTED, RPC_E_OUT_OF_RESOURCES, RPC_E_SERVER_CANTUNMARSHAL_DATA, RPC_E_CLIENT_CANTUNMARSHAL_DATA, is_S_OK, is_failure}
-use Rattle.com_books.specs.Counting.{count_if}
+use Rattle.com_refs_books.specs.Counting.{count_if}
 use Rattle.com_model.specs.Lists.{first, number_or_zero, where_true}
 use Rattle.com_model.specs.Tables.{class_number, interface_number, shown, LaneSort, Thread, Host, Pool, NoLane, lane_sort}
 use Rattle.com_model.specs.Openers.{Opener, Pumps, Waits, Enters, running_call}
@@ -43,9 +43,9 @@ use Rattle.com_model.specs.Calls.{Issue, object_of}
 use Rattle.com_model.specs.Values.{if_live, sent_value, sent_values, sent_result, given_or_default}
 use Rattle.com_model.specs.Frames.{reference}
 use Rattle.com_model.specs.Endings.{Ending, AtIssue, AtAdmission, ByVerdict, ByRetry, ByCancel, ByDisconnection, ByLeave, Answer, answer_of, without_value}
-use Rattle.com_books.specs.Changes.{Books, no_packet, no_cookie, packet, cookie}
-use Rattle.com_books.specs.declared.keeps.Packet.{Packet}
-use Rattle.com_books.specs.declared.keeps.Cookie.{Cookie}
+use Rattle.com_refs_books.specs.Changes.{Books, no_packet, no_cookie, packet, cookie}
+use Rattle.com_refs_books.specs.declared.keeps.Packet.{Packet}
+use Rattle.com_refs_books.specs.declared.keeps.Cookie.{Cookie}
 use Rattle.com_model.specs.Waiting.{Phase, Unposted, Queued, Judged, Delayed, GivenUp, Word, bound_reached, mark_of, not_asked}
 use Rattle.com_model.specs.Issue.{call_refusal}
 use Rattle.com_model.specs.Sight.{Sight, sight}

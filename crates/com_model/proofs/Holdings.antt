@@ -20,8 +20,8 @@ use Rattle.com_model.specs.Objects.{makes}
 use Rattle.com_model.specs.Values.{carried, result_list}
 use Rattle.com_model.specs.Frames.{Scene}
 use Rattle.com_model.specs.Places.{Ground}
-use Rattle.com_books.specs.declared.keeps.Packet.{Packet}
-use Rattle.com_books.specs.Changes.{Books, packet, cookie, Change, ToProxy, ToPacket, Split, Join, Return, ToCookie, Withdraw, Same, at2, at3, set_from_one, changed, Row, Makes, Takes, Asks, Marshals, Unmarshals, Drops, Registers, Revokes, marshal_change, unmarshal_change, change, marshal_all, entered_rows, given_back, cut, cut_packet, no_packet}
+use Rattle.com_refs_books.specs.declared.keeps.Packet.{Packet}
+use Rattle.com_refs_books.specs.Changes.{Books, packet, cookie, Change, ToProxy, ToPacket, Split, Join, Return, ToCookie, Withdraw, Same, at2, at3, set_from_one, changed, Row, Makes, Takes, Asks, Marshals, Unmarshals, Drops, Registers, Revokes, marshal_change, unmarshal_change, change, marshal_all, entered_rows, given_back, cut, cut_packet, no_packet}
 use Rattle.com_model.specs.Books.{out_values, reply_rows, back_rows, rows, kept, made_by, live_after, most, closed}
 use Rattle.com_model.proofs.Goods.{GoodValue, GoodResult, GoodAction, all-of, more-result}
 use Rattle.com_model.proofs.Fines.{cond-is, GoodPacket, GoodCookie, FineBy, packet-good, cookie-good, all-sent-good}

@@ -7,7 +7,7 @@ use Rattle.com_model.specs.declared.deeds.Deed.TheVariants as deed
 use Rattle.com_model.specs.declared.deeds.Entry.{Entry}
 use Rattle.com_model.specs.declared.deeds.Route.TheVariants as route
 use Rattle.com_model.specs.declared.scenario.Scenario.{Scenario}
-use Rattle.com_books.specs.Counting.{count_if}
+use Rattle.com_refs_books.specs.Counting.{count_if}
 use Rattle.com_model.specs.Lists.{first, is_member, without_first}
 use Rattle.com_model.specs.Openers.{Opener, Pumps, Waits, Enters, Closes, Keeps, Backs, Leaves, effect, opened, openers, open_calls, fits}
 use Rattle.com_model.specs.Calls.{Issue, Admission, issues, admits, issue, admitted, issue_or, admission_or, lane_of, calls}

@@ -7,7 +7,7 @@ use Rattle.com_model.specs.declared.deeds.Deed.TheVariants as deed
 use Rattle.com_model.specs.declared.deeds.Entry.{Entry}
 use Rattle.com_model.specs.declared.deeds.Route.TheVariants as route
 use Rattle.com_model.specs.declared.scenario.Scenario.{Scenario}
-use Rattle.com_books.specs.Counting.{count_if}
+use Rattle.com_refs_books.specs.Counting.{count_if}
 use Rattle.com_model.specs.Lists.{from_one, is_number}
 use Rattle.com_model.specs.Openers.{Opener, openers, running_call}
 use Rattle.com_model.specs.Objects.{Making, makes, made_or, one_more, objects, finals}

@@ -12,7 +12,7 @@ use Rattle.com_model.specs.Calls.{object_of}
 use Rattle.com_model.specs.Clock.{in_made_sta}
 use Rattle.com_model.specs.Frames.{Scene, scene, actor, act_by}
 use Rattle.com_model.specs.Places.{ground}
-use Rattle.com_books.specs.Changes.{Books}
+use Rattle.com_refs_books.specs.Changes.{Books}
 use Rattle.com_model.specs.Books.{books, holders_in}
 use Rattle.com_model.specs.Waiting.{is_queued}
 use Rattle.com_model.specs.Dying.{is_dying_by, is_entered}

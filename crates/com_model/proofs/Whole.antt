@@ -17,7 +17,7 @@ use Rattle.com_model.specs.Calls.{calls}
 use Rattle.com_model.specs.Objects.{objects}
 use Rattle.com_model.specs.Frames.{Scene, first_scene, scene, scene_after, actor}
 use Rattle.com_model.specs.Places.{ground}
-use Rattle.com_books.specs.Changes.{Books, no_books}
+use Rattle.com_refs_books.specs.Changes.{Books, no_books}
 use Rattle.com_model.specs.Books.{books, closed, most, holders_in}
 use Rattle.com_model.specs.Endings.{is_leave}
 use Rattle.com_model.specs.Dying.{is_dying_by, is_entered, fallen_more}

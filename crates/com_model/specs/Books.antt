@@ -1,5 +1,5 @@
 -- Public references over a history: the rows of each entry, and which objects are connected. What a row
--- changes, and what is given back and cut, is said by `Changes` of com_books.
+-- changes, and what is given back and cut, is said by `Changes` of com_refs_books.
 use Rattle.std.specs.Prelude.{ℕ, ◌+◌, pos, Bool, true, false, not, ◌==◌, ◌&&◌, ◌||◌, if◌then◌else◌, List, []}
 use Rattle.std.specs.Prelude.{◌∷◌, map, Option, Some, None}
 use Rattle.com_base.specs.declared.hresult.HResult.{HResult}
@@ -8,9 +8,9 @@ use Rattle.com_body.specs.declared.operands.Asked.TheVariants as asked
 use Rattle.com_body.specs.declared.actions.Action.{Action}
 use Rattle.com_body.specs.declared.actions.Action.TheVariants as action
 use Rattle.com_classes.specs.Lookups.{method_at}
-use Rattle.com_books.specs.Changes.{Books, no_books, Row, Makes, Takes, Asks, Marshals, Unmarshals, Drops}
-use Rattle.com_books.specs.Changes.{Registers, Revokes, marshal_all, entered_rows, made_since, first_of}
-use Rattle.com_books.specs.Changes.{given_back, held_outside, cut, held}
+use Rattle.com_refs_books.specs.Changes.{Books, no_books, Row, Makes, Takes, Asks, Marshals, Unmarshals, Drops}
+use Rattle.com_refs_books.specs.Changes.{Registers, Revokes, marshal_all, entered_rows, made_since, first_of}
+use Rattle.com_refs_books.specs.Changes.{given_back, held_outside, cut, held}
 use Rattle.com_model.specs.declared.deeds.Deed.{Deed}
 use Rattle.com_model.specs.declared.deeds.Deed.TheVariants as deed
 use Rattle.com_model.specs.declared.deeds.Entry.{Entry}

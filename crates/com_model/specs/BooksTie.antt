@@ -1,7 +1,7 @@
 -- What ties the books of the code to those of the state.
 use Rattle.std.specs.Prelude.{◌≡◌, ℕ, ◌+◌, ◌≤◌, false, List, [], length, Option, None}
 use Rattle.com_model.specs.declared.scenario.Scenario.{Scenario}
-use Rattle.com_books.specs.Changes.{Books, Change, changed}
+use Rattle.com_refs_books.specs.Changes.{Books, Change, changed}
 use Rattle.com_model.specs.State.{State, books_in, book_tables, objects_in, next_sta_in}
 
 pub record BoundedBooks (faces n c a : ℕ) (b : Books) : Type 0 where

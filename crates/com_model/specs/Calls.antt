@@ -6,7 +6,7 @@ use Rattle.com_model.specs.declared.deeds.Deed.TheVariants as deed
 use Rattle.com_model.specs.declared.deeds.Entry.{Entry}
 use Rattle.com_model.specs.declared.deeds.Route.{Route}
 use Rattle.com_model.specs.declared.deeds.Route.TheVariants as route
-use Rattle.com_books.specs.Counting.{count_if}
+use Rattle.com_refs_books.specs.Counting.{count_if}
 use Rattle.com_model.specs.Lists.{is_number, number_or_zero}
 use Rattle.com_model.specs.Apartments.{neutral}
 use Rattle.com_model.specs.Openers.{openers, running_call}

@@ -42,10 +42,10 @@ use Rattle.com_model.specs.Apartments.{mta, is_sta}
 use Rattle.com_model.specs.Calls.{Issue, route_for, cause_for, is_marshalled}
 use Rattle.com_model.specs.Values.{carried, result_list, sent_values, sent_result, request_bytes, reply_bytes}
 use Rattle.com_model.specs.Frames.{reference}
-use Rattle.com_books.specs.Changes.{Books, Row, Marshals, packet, cookie, entered_rows, made_since}
-use Rattle.com_books.specs.Changes.{marshal_all}
-use Rattle.com_books.specs.declared.keeps.Packet.{Packet}
-use Rattle.com_books.specs.declared.keeps.Cookie.{Cookie}
+use Rattle.com_refs_books.specs.Changes.{Books, Row, Marshals, packet, cookie, entered_rows, made_since}
+use Rattle.com_refs_books.specs.Changes.{marshal_all}
+use Rattle.com_refs_books.specs.declared.keeps.Packet.{Packet}
+use Rattle.com_refs_books.specs.declared.keeps.Cookie.{Cookie}
 use Rattle.com_model.specs.Issue.{call_refusal}
 use Rattle.com_model.specs.Sight.{Sight}
 

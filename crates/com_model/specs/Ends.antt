@@ -10,7 +10,7 @@ use Rattle.com_model.specs.declared.counts.ObjectState.{ObjectState}
 use Rattle.com_model.specs.declared.counts.ObjectState.TheVariants as state
 use Rattle.com_model.specs.declared.counts.Ended.{Ended}
 use Rattle.com_model.specs.declared.counts.Ended.TheVariants as ended
-use Rattle.com_books.specs.Counting.{sum_below, numbers_from}
+use Rattle.com_refs_books.specs.Counting.{sum_below, numbers_from}
 use Rattle.com_model.specs.Lists.{one_to, each_of, first_that, is_empty, or_else}
 use Rattle.com_model.specs.Tables.{threads, lanes}
 use Rattle.com_model.specs.Apartments.{apartments}
@@ -19,7 +19,7 @@ use Rattle.com_model.specs.Clock.{clock}
 use Rattle.com_model.specs.Text.{history_text, report_text}
 use Rattle.com_model.specs.Frames.{scene}
 use Rattle.com_model.specs.Places.{ground, direct_places}
-use Rattle.com_books.specs.Changes.{Books, in_normal, in_table, in_cookie}
+use Rattle.com_refs_books.specs.Changes.{Books, in_normal, in_table, in_cookie}
 use Rattle.com_model.specs.Books.{books}
 use Rattle.com_model.specs.Sight.{Sight, sight}
 use Rattle.com_model.specs.Rules.{can_step, no_lane_can, tick_time, next}

@@ -25,5 +25,5 @@ pub mod Formed
 pub mod State
 pub mod Cases
 pub mod BooksTie
-pub use Rattle.com_books.specs.Changes
-pub use Rattle.com_books.specs.Counting
+pub use Rattle.com_refs_books.specs.Changes
+pub use Rattle.com_refs_books.specs.Counting

@@ -5,7 +5,7 @@ use Rattle.com_base.specs.declared.value.RefValue.{RefValue}
 use Rattle.com_base.specs.declared.value.Value.{Value}
 use Rattle.com_model.specs.declared.deeds.Entry.{Entry}
 use Rattle.com_model.specs.declared.scenario.Scenario.{Scenario}
-use Rattle.com_books.specs.Counting.{sum_below, count_if}
+use Rattle.com_refs_books.specs.Counting.{sum_below, count_if}
 use Rattle.com_model.specs.Lists.{is_number}
 use Rattle.com_model.specs.Tables.{threads, lanes}
 use Rattle.com_model.specs.Openers.{Opener, Enters, openers}

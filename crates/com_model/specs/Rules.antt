@@ -19,7 +19,7 @@ use Rattle.com_filter.specs.Answers.{incoming_answer, retry_answer, pending_answ
 use Rattle.com_cause.specs.CallType.{call_type}
 use Rattle.com_model.specs.Clock.{waited, rules_of, is_handled}
 use Rattle.com_model.specs.Endings.{Answer, answer_of, without_value, is_leave}
-use Rattle.com_books.specs.Changes.{packet}
+use Rattle.com_refs_books.specs.Changes.{packet}
 use Rattle.com_model.specs.Waiting.{Phase, Judged, Delayed, Word, mark_of, not_asked, bound_reached}
 use Rattle.com_model.specs.Deeds.{deed_of, uninitialised, in_sta}
 use Rattle.com_model.specs.Sight.{Sight, sight}

@@ -18,7 +18,7 @@ use Rattle.com_model.specs.Calls.{issue, target, lane_of, route_of, is_post}
 use Rattle.com_model.specs.Frames.{scene, act, answer_in}
 use Rattle.com_model.specs.Places.{ground, places_that, to_interface, direct_places}
 use Rattle.com_model.specs.Endings.{ending}
-use Rattle.com_books.specs.Changes.{held}
+use Rattle.com_refs_books.specs.Changes.{held}
 use Rattle.com_model.specs.Books.{books}
 use Rattle.com_model.specs.Waiting.{inbox}
 use Rattle.com_model.specs.Dying.{is_dying}

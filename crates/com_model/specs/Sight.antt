@@ -12,7 +12,7 @@ use Rattle.com_model.specs.Calls.{Issue, Admission, issue, admitted, returned, c
 use Rattle.com_model.specs.Clock.{clock, issued_at, filter_of}
 use Rattle.com_model.specs.Frames.{scene, act}
 use Rattle.com_model.specs.Endings.{Ending, ending}
-use Rattle.com_books.specs.Changes.{Books}
+use Rattle.com_refs_books.specs.Changes.{Books}
 use Rattle.com_model.specs.Books.{books}
 use Rattle.com_model.specs.Waiting.{Phase, Mail, phase, inbox, mail, quit_stands}
 use Rattle.com_model.specs.Dying.{dying}

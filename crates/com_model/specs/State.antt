@@ -17,7 +17,7 @@ use Rattle.com_model.specs.declared.scenario.Scenario.{Scenario}
 use Rattle.com_model.specs.Answers.{S_OK, is_S_OK}
 use Rattle.com_model.specs.Lists.{or_else, where_true, without_first, first, is_member, number_or_zero}
 use Rattle.com_model.specs.Lists.{each_from, tabulated, from_one}
-use Rattle.com_books.specs.Counting.{count_if}
+use Rattle.com_refs_books.specs.Counting.{count_if}
 use Rattle.com_model.specs.Tables.{lanes, threads, lane_sort, is_agile_class}
 use Rattle.com_model.specs.Openers.{Opener, Pumps, Effect, Opens, Closes, Keeps, Leaves, effect, opened}
 use Rattle.com_model.specs.Openers.{left_on, running_call, entered_apartment, openers, served}
@@ -34,9 +34,9 @@ use Rattle.com_model.specs.Frames.{Scene, Actor, actor, scene_after, act_by, sce
 use Rattle.com_model.specs.Endings.{Ending, EndEffect, EndsCall, CutsObject, CutsSta, EndsNone, end_effect}
 use Rattle.com_model.specs.Endings.{ends, can_be_cut, is_leave, ending}
 use Rattle.com_model.specs.Places.{Ground}
-use Rattle.com_books.specs.Changes.{Books}
-use Rattle.com_books.specs.declared.keeps.Packet.{Packet}
-use Rattle.com_books.specs.declared.keeps.Cookie.{Cookie}
+use Rattle.com_refs_books.specs.Changes.{Books}
+use Rattle.com_refs_books.specs.declared.keeps.Packet.{Packet}
+use Rattle.com_refs_books.specs.declared.keeps.Cookie.{Cookie}
 use Rattle.com_model.specs.Books.{most, closed, out_values, holders_in, books}
 use Rattle.com_model.specs.Waiting.{Phase, Queued, Judged, Delayed, GivenUp, PostEffect, Posts, Judges}
 use Rattle.com_model.specs.Waiting.{Delays, GivesUp, PostsNone, Brings, Takes, Asks, Forgets, Unposted, Mail}

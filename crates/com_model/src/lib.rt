@@ -8,7 +8,7 @@ pub mod laws;
 mod scenario;
 
 pub use com_base::Memory;
-pub use com_books::{Cookie, Packet};
+pub use com_refs_books::{Cookie, Packet};
 pub use counts::{Counts, Ended, ObjectState};
 pub use deeds::{Deed, Entry, Route};
 pub use keeps::{Admission, Ending, Issue, Leaving, Making, Mark, Opener, Phase, Word};

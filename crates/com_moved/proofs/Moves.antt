@@ -15,9 +15,9 @@ use Rattle.com_check.specs.declared.judged.Judged.{Judged}
 use Rattle.com_check.specs.Judging.{IsJudged, judged_text}
 use Rattle.com_agreed.specs.declared.traces.Agreed.{Agreed}
 use Rattle.com_agreed.specs.Agreeing.{IsAgreed, IsOther}
-use Rattle.com_migrate.specs.Moved.{moved}
-use Rattle.com_migrate.proofs.Formed.{moved_formed}
-use Rattle.com_migrate.proofs.Histories.{moved_counts, moved_ends, moved_legal}
+use Rattle.com_laws_versions.specs.Moved.{moved}
+use Rattle.com_laws_versions.proofs.Formed.{moved_formed}
+use Rattle.com_laws_versions.proofs.Histories.{moved_counts, moved_ends, moved_legal}
 use Rattle.com_moved.specs.declared.answers.Moved.{Moved}
 use Rattle.com_moved.specs.Answers.{IsMovedBy}
 use Rattle.com_moved.specs.Moving.{Moves, trace_text}

@@ -7,7 +7,7 @@ use Rattle.com_print_scenario.specs.Printed.{printed}
 use Rattle.com_check.specs.declared.judged.Judged.{Judged}
 use Rattle.com_check.specs.Judging.{IsJudged, IsText, judged_text}
 use Rattle.com_agreed.specs.Agreeing.{IsOther}
-use Rattle.com_migrate.specs.Moved.{moved}
+use Rattle.com_laws_versions.specs.Moved.{moved}
 use Rattle.com_moved.specs.declared.answers.Moved.{Moved}
 use Rattle.com_moved.specs.declared.inputs.Moving.{Moving}
 

@@ -5,7 +5,7 @@ use Rattle.com_model.specs.Ends.{ended_as, report, text}
 use Rattle.com_model.specs.Rules.{legal}
 use Rattle.com_model.specs.Text.{history_text, report_text}
 use Rattle.com_agreed.specs.declared.traces.Agreed.{Agreed}
-use Rattle.com_migrate.specs.Moved.{moved}
+use Rattle.com_laws_versions.specs.Moved.{moved}
 
 -- Its lines and its report.
 abbrev pub trace_text : Agreed → List ℕ

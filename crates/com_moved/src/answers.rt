@@ -2,7 +2,7 @@
 ghost use Rattle.std.specs.Prelude.{◌≡◌, ◌≤◌, IfOk, length};
 ghost use Rattle.com_model.specs.Formed.{Formed};
 ghost use Rattle.com_print_scenario.specs.Printed.{printed};
-ghost use Rattle.com_migrate.specs.Moved.{moved};
+ghost use Rattle.com_laws_versions.specs.Moved.{moved};
 ghost use Rattle.com_moved.specs.Answers.{IsMoved, IsMovedBy};
 ghost use Rattle.com_moved.specs.Inputs.{IsShort};
 

@@ -2,9 +2,9 @@
 use Rattle.std.proofs.Common.{◌≡◌, ℕ, true, false, eqb, cond, ◌+◌, ◌<◌, ◌≤◌, ◌||◌, List, [], ◌∷◌, length, refl}
 use Rattle.com_stub.specs.declared.StubRow.{StubRow}
 use Rattle.com_stub.specs.StubRows.{is_connected, has_stub, stub_of}
-use Rattle.com_holders.specs.Tables.{Tables, books_of, direct_in}
-use Rattle.com_holders.specs.Stands.{Known}
-use Rattle.com_holders.proofs.Issues.{direct_made}
+use Rattle.com_refs_holders.specs.Tables.{Tables, books_of, direct_in}
+use Rattle.com_refs_holders.specs.Stands.{Known}
+use Rattle.com_refs_holders.proofs.Issues.{direct_made}
 use Rattle.com_refs.specs.Counts.{holders_of, outside_of}
 
 -- An object that is connected has a stub.

@@ -4,11 +4,11 @@ use Rattle.std.proofs.Common.{◌≡◌, ℕ, zero, suc, Bool, true, false, eqb,
 use Rattle.std.proofs.lemmas.Bool.{eqb-false}
 use Rattle.std.proofs.lemmas.Grind.{common_steps}
 use Rattle.std.proofs.lemmas.List.{length-set}
-use Rattle.com_books.specs.Counting.{sum_below, count_if}
-use Rattle.com_books.specs.Changes.{Books, cut, given_back, held_outside}
-use Rattle.com_books.specs.Ends.{holders_by, ends}
-use Rattle.com_holders.specs.Tables.{Tables, books_of, direct_in, object_in}
-use Rattle.com_holders.specs.Places.{locals_of}
+use Rattle.com_refs_books.specs.Counting.{sum_below, count_if}
+use Rattle.com_refs_books.specs.Changes.{Books, cut, given_back, held_outside}
+use Rattle.com_refs_books.specs.Ends.{holders_by, ends}
+use Rattle.com_refs_holders.specs.Tables.{Tables, books_of, direct_in, object_in}
+use Rattle.com_refs_holders.specs.Places.{locals_of}
 use Rattle.com_refs.specs.Counts.{hold_of, hold_less, hold_more, outside_of, IsCounted, IsCountedBut}
 use Rattle.com_refs.specs.Totals.{Totals}
 use Rattle.com_refs.proofs.Ends.{holds-kept, holds-same}

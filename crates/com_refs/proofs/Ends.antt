@@ -3,12 +3,12 @@ use mathlib.Core.Path.{fun_ext}
 use Rattle.std.proofs.Common.{◌≡◌, ℕ, zero, suc, Bool, true, false, eqb, cond, not, ◌&&◌, ◌+◌, ◌-◌, ◌≤◌, List, [], ◌∷◌, refl, sym, ap, ◌∙◌, arith, eqb-true}
 use Rattle.std.proofs.lemmas.Grind.{common_steps}
 use Rattle.std.specs.Prelude.{map, sum_by}
-use Rattle.com_books.specs.Counting.{sum_below, count_if}
-use Rattle.com_books.specs.Changes.{Books, cut, cut_packet, cut_cookie, given_back, no_packet, packet_holds, cookie_holds, held_outside, is_weak}
-use Rattle.com_books.specs.Ends.{stays, ends}
-use Rattle.com_books.specs.declared.keeps.Packet.{Packet}
-use Rattle.com_books.specs.declared.keeps.Cookie.{Cookie}
-use Rattle.com_holders.proofs.Same.{same_books}
+use Rattle.com_refs_books.specs.Counting.{sum_below, count_if}
+use Rattle.com_refs_books.specs.Changes.{Books, cut, cut_packet, cut_cookie, given_back, no_packet, packet_holds, cookie_holds, held_outside, is_weak}
+use Rattle.com_refs_books.specs.Ends.{stays, ends}
+use Rattle.com_refs_books.specs.declared.keeps.Packet.{Packet}
+use Rattle.com_refs_books.specs.declared.keeps.Cookie.{Cookie}
+use Rattle.com_refs_holders.proofs.Same.{same_books}
 
 sum-le : (n : ℕ) (f g : ℕ → ℕ) → ((k : ℕ) → f k ≤ g k) → sum_below n f ≤ sum_below n g
 sum-le zero f g p = omega arith

@@ -6,13 +6,13 @@ use Rattle.std.proofs.lemmas.Nat.{from_le_bytes-to_le_bytes_8}
 use Rattle.std.proofs.lemmas.List.{length-map}
 use Rattle.com_base.specs.declared.standard.StdFields.{StdFields}
 use Rattle.com_base.specs.declared.value.RefValue.{RefValue}
-use Rattle.com_books.specs.Changes.{Books, packet, cookie, no_packet, no_cookie}
-use Rattle.com_books.specs.declared.keeps.Packet.{Packet}
+use Rattle.com_refs_books.specs.Changes.{Books, packet, cookie, no_packet, no_cookie}
+use Rattle.com_refs_books.specs.declared.keeps.Packet.{Packet}
 use Rattle.com_packets.specs.declared.Packet as P
 use Rattle.com_proxy.specs.Rows.{public_of}
 use Rattle.com_slots.specs.Table.{held_in}
 use Rattle.com_stub.specs.StubRows.{is_connected}
-use Rattle.com_holders.specs.Tables.{Tables, books_of, outstanding_in, packet_read, cookie_read, live_packet, object_in}
+use Rattle.com_refs_holders.specs.Tables.{Tables, books_of, outstanding_in, packet_read, cookie_read, live_packet, object_in}
 use Rattle.com_refs.specs.Found.{IsFound, shown_packet, fields_by, fields_in}
 
 -- ---- rows

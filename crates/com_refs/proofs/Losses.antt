@@ -2,9 +2,9 @@
 use Rattle.std.proofs.Common.{◌≡◌, ◌↔◌, ℕ, Bool, true, false, eqb, cond, not, ◌&&◌, ◌+◌, ◌<◌, List, refl, sym, ap, ◌∙◌, arith, eqb-true}
 use Rattle.std.proofs.lemmas.Grind.{common_steps}
 use Rattle.com_stub.specs.StubRows.{is_connected}
-use Rattle.com_books.specs.Changes.{Books, cut, held_outside}
-use Rattle.com_holders.specs.Tables.{Tables, books_of, direct_in, object_in}
-use Rattle.com_holders.specs.Places.{locals_of}
+use Rattle.com_refs_books.specs.Changes.{Books, cut, held_outside}
+use Rattle.com_refs_holders.specs.Tables.{Tables, books_of, direct_in, object_in}
+use Rattle.com_refs_holders.specs.Places.{locals_of}
 use Rattle.com_refs.specs.Counts.{hold_of, outside_of, holders_of, IsCounted, IsCountedBut}
 
 -- Nothing holds an object by its direct places and its count, which stands where it is connected.

@@ -8,14 +8,14 @@ use Rattle.com_packets.specs.declared.Packet as P
 use Rattle.com_proxy.specs.declared.ProxyRow.{ProxyRow}
 use Rattle.com_slots.specs.Table.{held_in}
 use Rattle.com_stub.specs.StubRows.{is_connected}
-use Rattle.com_books.specs.Counting.{count_if}
-use Rattle.com_books.specs.Changes.{Books, held_outside, packet_holds, cookie_holds, changed, change, ToProxy, Same, Makes}
-use Rattle.com_holders.specs.Tables.{Tables, books_of, packet_read, cookie_read, owns_of, no_object, object_in, direct_in}
-use Rattle.com_holders.specs.Places.{OneMore, locals_of, has_row}
-use Rattle.com_holders.specs.Stands.{Known}
-use Rattle.com_holders.specs.Steps.{made_live}
-use Rattle.com_holders.proofs.Enrolls.{no_row_yet, object_before}
-use Rattle.com_holders.specs.declared.ObjectRow.{ObjectRow}
+use Rattle.com_refs_books.specs.Counting.{count_if}
+use Rattle.com_refs_books.specs.Changes.{Books, held_outside, packet_holds, cookie_holds, changed, change, ToProxy, Same, Makes}
+use Rattle.com_refs_holders.specs.Tables.{Tables, books_of, packet_read, cookie_read, owns_of, no_object, object_in, direct_in}
+use Rattle.com_refs_holders.specs.Places.{OneMore, locals_of, has_row}
+use Rattle.com_refs_holders.specs.Stands.{Known}
+use Rattle.com_refs_holders.specs.Steps.{made_live}
+use Rattle.com_refs_holders.proofs.Enrolls.{no_row_yet, object_before}
+use Rattle.com_refs_holders.specs.declared.ObjectRow.{ObjectRow}
 use Rattle.com_refs.specs.Counts.{hold_of, hold_more, outside_of, IsCounted, IsCountedBut}
 use Rattle.com_refs.proofs.Counteds.{more_is, more_length, at_most}
 use Rattle.com_refs.proofs.Steps.{live-row}

@@ -2,10 +2,10 @@
 use Rattle.std.proofs.Common.{◌≡◌, ℕ, Bool, eqb, not, ◌&&◌, ◌+◌, List, length, ap, sym, subst, ◌∙◌}
 use Rattle.com_proxy.specs.declared.ProxyRow.{ProxyRow}
 use Rattle.com_proxy.specs.Rows.{IsFree}
-use Rattle.com_books.specs.Counting.{count_if}
-use Rattle.com_holders.specs.Tables.{Tables, owns_of, object_in}
-use Rattle.com_holders.specs.Places.{OneLess, places_of, locals_of}
-use Rattle.com_holders.specs.Stands.{Tells}
+use Rattle.com_refs_books.specs.Counting.{count_if}
+use Rattle.com_refs_holders.specs.Tables.{Tables, owns_of, object_in}
+use Rattle.com_refs_holders.specs.Places.{OneLess, places_of, locals_of}
+use Rattle.com_refs_holders.specs.Stands.{Tells}
 
 pub less_same : (t v u : Tables) (a o : ℕ) (w : Bool) → u.objects ≡ v.objects → u.proxies ≡ v.proxies → OneLess t v a o w → OneLess t u a o w
 less_same t v u a o w eo er m = record {

@@ -14,13 +14,13 @@ use Rattle.com_slots.specs.Table.{held_in}
 use Rattle.com_stub.specs.declared.counters.CounterRow.{CounterRow}
 use Rattle.com_stub.specs.CounterRows as counters
 use Rattle.com_stub.proofs.CounterLemmas.{index_in_range, row_at_index, counter_keys}
-use Rattle.com_books.specs.Counting.{sum_below}
-use Rattle.com_books.proofs.Sums.{sum-same, sum-changed, sum-nothing}
-use Rattle.com_books.specs.Changes.{packet_holds_of, cookie_holds_of, is_normal, in_normal, in_table, in_cookie}
-use Rattle.com_books.specs.declared.keeps.Packet.{Packet}
-use Rattle.com_holders.specs.Tables.{packet_read, cookie_read}
-use Rattle.com_holders.specs.Places.{has_row, distinct}
-use Rattle.com_holders.proofs.Rowed.{no_row_public}
+use Rattle.com_refs_books.specs.Counting.{sum_below}
+use Rattle.com_refs_books.proofs.Sums.{sum-same, sum-changed, sum-nothing}
+use Rattle.com_refs_books.specs.Changes.{packet_holds_of, cookie_holds_of, is_normal, in_normal, in_table, in_cookie}
+use Rattle.com_refs_books.specs.declared.keeps.Packet.{Packet}
+use Rattle.com_refs_holders.specs.Tables.{packet_read, cookie_read}
+use Rattle.com_refs_holders.specs.Places.{has_row, distinct}
+use Rattle.com_refs_holders.proofs.Rowed.{no_row_public}
 
 -- ---- sums
 

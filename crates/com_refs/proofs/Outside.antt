@@ -2,8 +2,8 @@
 use Rattle.std.proofs.Common.{◌≡◌, ℕ, zero, suc, true, ◌+◌, ◌<◌, List, [], ◌∷◌, length, arith}
 use Rattle.std.proofs.lemmas.Grind.{common_steps}
 use Rattle.std.specs.Prelude.{sum_by, slice_set, slice_index_or}
-use Rattle.com_books.specs.Changes.{Books, packet, no_packet, packet_holds, held_outside, changed, Return, Join}
-use Rattle.com_books.specs.declared.keeps.Packet.{Packet}
+use Rattle.com_refs_books.specs.Changes.{Books, packet, no_packet, packet_holds, held_outside, changed, Return, Join}
+use Rattle.com_refs_books.specs.declared.keeps.Packet.{Packet}
 
 inside : (ps : List Packet) (p : ℕ) → (slice_index_or ps p no_packet).outstanding ≡ true → p < length ps
 inside ps p h = grind (arith, common_steps)

@@ -8,13 +8,13 @@ use Rattle.com_packets.specs.Sums.{normal_sum}
 use Rattle.com_proxy.specs.Rows.{public_of, public_sum}
 use Rattle.com_stub.specs.StubRows.{is_connected}
 use Rattle.com_stub.specs.CounterRows as counters
-use Rattle.com_books.specs.Counting.{sum_below}
-use Rattle.com_books.proofs.Sums.{sum-same, sum-nothing}
-use Rattle.com_books.specs.Changes.{packet_holds_of, cookie_holds_of, in_normal, in_table, in_cookie}
-use Rattle.com_holders.specs.Tables.{Tables, books_of, packet_read, cookie_read}
-use Rattle.com_holders.specs.Places.{distinct, has_row}
-use Rattle.com_holders.specs.Stands.{Known, IsEven}
-use Rattle.com_holders.proofs.Rowed.{places_none}
+use Rattle.com_refs_books.specs.Counting.{sum_below}
+use Rattle.com_refs_books.proofs.Sums.{sum-same, sum-nothing}
+use Rattle.com_refs_books.specs.Changes.{packet_holds_of, cookie_holds_of, in_normal, in_table, in_cookie}
+use Rattle.com_refs_holders.specs.Tables.{Tables, books_of, packet_read, cookie_read}
+use Rattle.com_refs_holders.specs.Places.{distinct, has_row}
+use Rattle.com_refs_holders.specs.Stands.{Known, IsEven}
+use Rattle.com_refs_holders.proofs.Rowed.{places_none}
 use Rattle.com_proxy.specs.Rows.{IsFree}
 use Rattle.com_refs.specs.Numbers.{Within}
 use Rattle.com_refs.proofs.Numbered.{sum-add, sum_swap, proxies_sum, packets_sum, cookies_sum, counters_sum, normal_is}

@@ -1,9 +1,9 @@
 -- Between entries nothing is left to give back or to cut.
 use mathlib.Core.Path.{fun_ext}
 use Rattle.std.proofs.Common.{◌≡◌, ℕ, Bool, true, false, eqb, not, ◌&&◌, List, refl, ap, ◌∙◌, arith}
-use Rattle.com_books.specs.Changes.{Books, given_back, cut}
-use Rattle.com_books.specs.Ends.{stays, ends}
-use Rattle.com_holders.specs.Tables.{Tables, books_of}
+use Rattle.com_refs_books.specs.Changes.{Books, given_back, cut}
+use Rattle.com_refs_books.specs.Ends.{stays, ends}
+use Rattle.com_refs_holders.specs.Tables.{Tables, books_of}
 use Rattle.com_refs.specs.Counts.{IsCounted}
 use Rattle.com_refs.specs.Totals.{Totals}
 use Rattle.com_refs.proofs.Settling.{cut_none, one-test}

@@ -4,9 +4,9 @@ use Rattle.std.proofs.Common.{◌≡◌, ℕ, Bool, true, false, eqb, not, ◌&&
 use Rattle.std.proofs.lemmas.Bool.{eqb-false}
 use Rattle.std.proofs.lemmas.Grind.{common_steps}
 use Rattle.com_stub.specs.StubRows.{is_connected}
-use Rattle.com_books.specs.Changes.{cut}
-use Rattle.com_holders.specs.Tables.{Tables, books_of}
-use Rattle.com_holders.proofs.Cuts.{cut_reads}
+use Rattle.com_refs_books.specs.Changes.{cut}
+use Rattle.com_refs_holders.specs.Tables.{Tables, books_of}
+use Rattle.com_refs_holders.proofs.Cuts.{cut_reads}
 
 pub one-test : (l : Bool) (total : ℕ) → (l ≡ true → 0 < total) → l && not (eqb total 0) ≡ l
 one-test true total h = let some : 0 < total = h refl in grind (arith, common_steps, some)

@@ -5,20 +5,20 @@ use Rattle.std.specs.Prelude.{Some, nat_le, sum_by, slice_set, slice_index_or}
 use Rattle.com_base.specs.declared.value.RefValue.{RefValue}
 use Rattle.com_packets.specs.declared.Packet as P
 use Rattle.com_stub.specs.StubRows.{is_connected}
-use Rattle.com_books.specs.Counting.{count_if}
+use Rattle.com_refs_books.specs.Counting.{count_if}
 use Rattle.com_base.specs.declared.value.MarshalMode.{MarshalMode}
 use Rattle.com_base.specs.declared.value.MarshalMode.TheVariants as marshal
 use Rattle.com_slots.specs.Table.{held_in}
-use Rattle.com_books.specs.Changes.{Books, held_outside, packet_holds, cookie_holds, packet, cookie, no_cookie, new_packet, is_weak, cut, Change, changed, change, marshal_change, ToProxy, ToPacket, Split, Join, Return, ToCookie, Withdraw, Same, Marshals, Asks, Takes, Drops, Revokes, Unmarshals}
-use Rattle.com_books.specs.declared.keeps.Packet.{Packet}
-use Rattle.com_books.specs.declared.keeps.Cookie.{Cookie}
-use Rattle.com_holders.proofs.Cuts.{shown, packet_shown}
-use Rattle.com_holders.proofs.Choices.{drops, returns, joins, keeps_table, takes_table}
-use Rattle.com_holders.proofs.Cookies.{cookie_of, cookie_shown}
+use Rattle.com_refs_books.specs.Changes.{Books, held_outside, packet_holds, cookie_holds, packet, cookie, no_cookie, new_packet, is_weak, cut, Change, changed, change, marshal_change, ToProxy, ToPacket, Split, Join, Return, ToCookie, Withdraw, Same, Marshals, Asks, Takes, Drops, Revokes, Unmarshals}
+use Rattle.com_refs_books.specs.declared.keeps.Packet.{Packet}
+use Rattle.com_refs_books.specs.declared.keeps.Cookie.{Cookie}
+use Rattle.com_refs_holders.proofs.Cuts.{shown, packet_shown}
+use Rattle.com_refs_holders.proofs.Choices.{drops, returns, joins, keeps_table, takes_table}
+use Rattle.com_refs_holders.proofs.Cookies.{cookie_of, cookie_shown}
 use Rattle.com_refs.proofs.Outside.{outside-end, outside-join}
 use Rattle.com_refs.proofs.Ends.{holds-kept, holds-same}
-use Rattle.com_holders.specs.Tables.{Tables, books_of, owns_of, outstanding_in, direct_in, object_in}
-use Rattle.com_holders.specs.Places.{OneMore, OneLess, SamePlaces, locals_of}
+use Rattle.com_refs_holders.specs.Tables.{Tables, books_of, owns_of, outstanding_in, direct_in, object_in}
+use Rattle.com_refs_holders.specs.Places.{OneMore, OneLess, SamePlaces, locals_of}
 use Rattle.com_refs.specs.Counts.{hold_of, IsCounted, IsCountedBut, hold_less, hold_more}
 use Rattle.com_refs.proofs.Counteds.{lost, gained, still}
 

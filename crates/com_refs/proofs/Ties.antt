@@ -3,12 +3,12 @@ use Rattle.std.proofs.Common.{◌≡◌, ℕ, zero, suc, Bool, true, false, eqb,
 use Rattle.std.proofs.lemmas.Bool.{cases_lt}
 use Rattle.std.proofs.lemmas.Grind.{common_steps}
 use Rattle.com_proxy.specs.declared.ProxyRow.{ProxyRow}
-use Rattle.com_books.specs.Counting.{sum_below, count_if}
-use Rattle.com_books.proofs.Sums.{sum-same, sum-changed, sum-split, sum-nothing}
-use Rattle.com_holders.specs.Tables.{Tables, owns_of}
-use Rattle.com_holders.specs.Places.{Counts, OneMore, OneLess, SamePlaces, places_in, places_of, locals_of, local_at, local_for, distinct}
-use Rattle.com_holders.specs.Stands.{Tells}
-use Rattle.com_holders.proofs.Rowed.{places_none, free_places}
+use Rattle.com_refs_books.specs.Counting.{sum_below, count_if}
+use Rattle.com_refs_books.proofs.Sums.{sum-same, sum-changed, sum-split, sum-nothing}
+use Rattle.com_refs_holders.specs.Tables.{Tables, owns_of}
+use Rattle.com_refs_holders.specs.Places.{Counts, OneMore, OneLess, SamePlaces, places_in, places_of, locals_of, local_at, local_for, distinct}
+use Rattle.com_refs_holders.specs.Stands.{Tells}
+use Rattle.com_refs_holders.proofs.Rowed.{places_none, free_places}
 use Rattle.com_refs.specs.Totals.{Totals}
 
 -- ---- what it tells

@@ -1,9 +1,9 @@
 -- What is counted for each object, so that its holders are known without a walk.
 use Rattle.std.specs.Prelude.{◌≡◌, ℕ, zero, suc, ◌+◌, ◌-◌, slice_index_or, ◌<◌, ◌≤◌, Bool, true}
 use Rattle.std.specs.Prelude.{if◌then◌else◌, ◌==◌, List, length, Option, Some, None}
-use Rattle.com_holders.specs.Tables.{Tables, books_of, direct_in}
-use Rattle.com_holders.specs.Places.{locals_of}
-use Rattle.com_books.specs.Changes.{held_outside, set_from_one}
+use Rattle.com_refs_holders.specs.Tables.{Tables, books_of, direct_in}
+use Rattle.com_refs_holders.specs.Places.{locals_of}
+use Rattle.com_refs_books.specs.Changes.{held_outside, set_from_one}
 
 -- The row of an object's number.
 abbrev pub hold_of : List ℕ → ℕ → ℕ

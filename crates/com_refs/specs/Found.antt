@@ -5,10 +5,10 @@ use Rattle.com_base.specs.declared.guid.Guid.{Guid}
 use Rattle.com_base.specs.declared.standard.StdFields.{StdFields}
 use Rattle.com_base.specs.declared.value.MarshalMode.{MarshalMode}
 use Rattle.com_base.specs.declared.value.MarshalMode.TheVariants as marshal
-use Rattle.com_books.specs.Changes.{packet, no_packet}
-use Rattle.com_books.specs.declared.keeps.Packet.{Packet}
+use Rattle.com_refs_books.specs.Changes.{packet, no_packet}
+use Rattle.com_refs_books.specs.declared.keeps.Packet.{Packet}
 use Rattle.com_packets.specs.declared.Packet as P
-use Rattle.com_holders.specs.Tables.{Tables, books_of, object_in}
+use Rattle.com_refs_holders.specs.Tables.{Tables, books_of, object_in}
 
 -- The row of a packet in the books.
 abbrev pub shown_packet : Option P.Packet → Packet

@@ -1,7 +1,7 @@
 -- Bounds of the interfaces and apartments that a report sums over.
 use Rattle.std.specs.Prelude.{ℕ, ◌≡◌, ◌<◌, ◌≤◌, true}
-use Rattle.com_holders.specs.Tables.{Tables, offers}
-use Rattle.com_holders.specs.Places.{places_in}
+use Rattle.com_refs_holders.specs.Tables.{Tables, offers}
+use Rattle.com_refs_holders.specs.Places.{places_in}
 
 -- All interfaces of all sets are below m, and all apartments with a place are below n.
 pub record Within (n m : ℕ) (t : Tables) : Type 0 where

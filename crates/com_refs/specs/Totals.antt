@@ -1,8 +1,8 @@
 -- The places of all apartments are those that are counted.
 use Rattle.std.specs.Prelude.{◌≡◌, ℕ, ◌+◌}
-use Rattle.com_books.specs.Counting.{sum_below}
-use Rattle.com_holders.specs.Tables.{Tables, direct_in}
-use Rattle.com_holders.specs.Places.{locals_of}
+use Rattle.com_refs_books.specs.Counting.{sum_below}
+use Rattle.com_refs_holders.specs.Tables.{Tables, direct_in}
+use Rattle.com_refs_holders.specs.Places.{locals_of}
 
 pub record Totals (n : ℕ) (places : ℕ → ℕ → ℕ) (t : Tables) : Type 0 where
   pub total : (x : ℕ) → sum_below n (λ a. places a x) ≡ direct_in t x + locals_of x t.proxies

@@ -15,35 +15,35 @@ ghost use Rattle.std.specs.Int.{from_le_bytes, w64};
 ghost use Rattle.com_stub.specs.StubRows.{is_connected};
 ghost use Rattle.com_slots.specs.Table.{held_in};
 ghost use Rattle.com_proxy.specs.Rows.{IsFree, local_of};
-ghost use Rattle.com_holders.specs.Tables.{Tables, books_of, owns_of, owners_of, is_owned, object_in};
-ghost use Rattle.com_holders.specs.Tables.{direct_in, offers, outstanding_in};
-ghost use Rattle.com_holders.specs.Steps.{made_live, among};
-ghost use Rattle.com_holders.specs.Places.{Counts, OneMore, OneLess, SamePlaces, places_in};
-ghost use Rattle.com_books.specs.Counting.{count_if, sum_below};
-ghost use Rattle.com_holders.specs.Stands.{Tells};
-ghost use Rattle.com_books.specs.Changes.{Books, changed, change, cut, packet, cookie, is_weak, Makes, Takes};
-ghost use Rattle.com_books.specs.Changes.{Asks, Marshals, Unmarshals, Drops, Revokes, ToCookie};
-ghost use Rattle.com_books.specs.Changes.{in_normal, in_table, in_cookie};
-ghost use Rattle.com_books.specs.Ends.{ends};
+ghost use Rattle.com_refs_holders.specs.Tables.{Tables, books_of, owns_of, owners_of, is_owned, object_in};
+ghost use Rattle.com_refs_holders.specs.Tables.{direct_in, offers, outstanding_in};
+ghost use Rattle.com_refs_holders.specs.Steps.{made_live, among};
+ghost use Rattle.com_refs_holders.specs.Places.{Counts, OneMore, OneLess, SamePlaces, places_in};
+ghost use Rattle.com_refs_books.specs.Counting.{count_if, sum_below};
+ghost use Rattle.com_refs_holders.specs.Stands.{Tells};
+ghost use Rattle.com_refs_books.specs.Changes.{Books, changed, change, cut, packet, cookie, is_weak, Makes, Takes};
+ghost use Rattle.com_refs_books.specs.Changes.{Asks, Marshals, Unmarshals, Drops, Revokes, ToCookie};
+ghost use Rattle.com_refs_books.specs.Changes.{in_normal, in_table, in_cookie};
+ghost use Rattle.com_refs_books.specs.Ends.{ends};
 ghost use Rattle.com_refs.specs.Counts.{hold_of, hold_less, hold_more, holders_of, unheld};
 ghost use Rattle.com_refs.specs.Found.{IsFound, fields_by, shown_packet};
 ghost use Rattle.com_refs.specs.Numbers.{Within};
 ghost use Rattle.com_refs.specs.Totals.{Totals};
 
 use com_base::{Guid, MarshalMode, RefValue, StdFields};
-use com_holders::Holders;
+use com_refs_holders::Holders;
 use com_packets::Packet;
 use std::alloc::Global;
 use std::marker::Model;
 
 /// The row of a cookie in the books.
-pub use com_books::Cookie;
+pub use com_refs_books::Cookie;
 /// The row of a packet in the books.
-pub use com_books::Packet as PacketRow;
+pub use com_refs_books::Packet as PacketRow;
 /// Want of memory.
 pub use com_base::Memory;
 /// Why a call changed nothing.
-pub use com_holders::HoldersError as RefsError;
+pub use com_refs_holders::HoldersError as RefsError;
 
 /// The numbers of a report for an object: its direct places, and the public references of proxies, of normal
 /// packets, of strong packets and cookies, and of the stub, which is the sum of the three before it.
@@ -71,7 +71,7 @@ pub struct Refs {
 
 impl Model for Refs {
     ghost use Rattle.std.specs.Prelude.{◌-◌, vec_len, vec_capacity};
-    ghost use Rattle.com_holders.specs.Tables.{Tables};
+    ghost use Rattle.com_refs_holders.specs.Tables.{Tables};
     ghost use Rattle.com_refs.specs.Counts.{IsRefs};
 
     ghost Value = { Tables };
@@ -301,7 +301,7 @@ impl Refs {
 
     /// Makes room for `n` calls: so many of those that can want memory then do not. The only error is want of
     /// memory, and then nothing changed; it does not come where there is that room already.
-    #[tactic(auto, unfolding(com_holders::specs::Tables::books_of))]
+    #[tactic(auto, unfolding(com_refs_holders::specs::Tables::books_of))]
     pub fn reserve(&mut self, n: u32) -> Result<(), Memory>
         ensures room { OnOk result (n ≤ self.new.spare) }
         ensures succeeds { n ≤ self.old.spare → IsOk result }

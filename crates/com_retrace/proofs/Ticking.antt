@@ -3,7 +3,7 @@ use Rattle.std.proofs.Common.{ap, subst, ◌∙◌, inl, inr, arith}
 use Rattle.std.proofs.lemmas.Grind.{common_steps}
 use Rattle.std.specs.Prelude.{◌≡◌, refl, ℕ, zero, suc, ◌≤◌, Bool, true, false, ◌&&◌, nat_le, List, [], ◌∷◌, ◌++◌, Option, Some, None, is_some, option_map, cond, filter_map}
 use Rattle.std.specs.List.{cons_option}
-use Rattle.com_books.specs.Counting.{numbers_from}
+use Rattle.com_refs_books.specs.Counting.{numbers_from}
 use Rattle.com_model.specs.declared.deeds.Deed.{Deed}
 use Rattle.com_model.specs.declared.deeds.Deed.TheVariants as deed
 use Rattle.com_model.specs.declared.deeds.Entry.{Entry}
@@ -23,12 +23,12 @@ use Rattle.com_model.specs.Waiting.{phase}
 use Rattle.com_model.specs.Sight.{Sight, sight}
 use Rattle.com_model.specs.Rules.{legal, next, no_lane_can, tick_time, time_of, time_waited}
 use Rattle.com_model.specs.Ends.{finished_by}
-use Rattle.com_balance.proofs.Answered.{lane-low}
-use Rattle.com_balance.proofs.Counts.{Among}
-use Rattle.com_balance.proofs.Homes.{among-any}
-use Rattle.com_balance.proofs.Steps.{opens-own}
-use Rattle.com_release.proofs.Lives.{legal-waits}
-use Rattle.com_safety.proofs.Posted.{At, Known, legal-posted}
+use Rattle.com_laws_balance.proofs.Answered.{lane-low}
+use Rattle.com_laws_balance.proofs.Counts.{Among}
+use Rattle.com_laws_balance.proofs.Homes.{among-any}
+use Rattle.com_laws_balance.proofs.Steps.{opens-own}
+use Rattle.com_laws_release.proofs.Lives.{legal-waits}
+use Rattle.com_laws_safety.proofs.Posted.{At, Known, legal-posted}
 
 -- ---- a call that waits for a time
 

@@ -6,7 +6,7 @@ use Rattle.std.proofs.lemmas.Slice.Eq.{bytes_eq-Decides}
 use Rattle.std.proofs.lemmas.Nat.{from_le_bytes-to_le_bytes_8}
 use Rattle.com_base.specs.declared.guid.Guid.{Guid}
 use Rattle.com_base.specs.declared.standard.StdFields.{StdFields}
-use Rattle.com_books.specs.Changes.{packet}
+use Rattle.com_refs_books.specs.Changes.{packet}
 use Rattle.com_classes.specs.Lookups.{same_guid}
 use Rattle.com_model.specs.declared.scenario.Scenario.{Scenario}
 use Rattle.com_model.specs.Deeds.{is_named, named_packet, packet_fields, same_fields}

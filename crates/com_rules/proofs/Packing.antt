@@ -10,9 +10,9 @@ use Rattle.com_base.specs.declared.standard.StdFields.{StdFields}
 use Rattle.com_base.specs.declared.value.RefValue.{RefValue}
 use Rattle.com_base.specs.declared.value.MarshalMode.{MarshalMode}
 use Rattle.com_base.specs.declared.value.MarshalMode.TheVariants as marshal
-use Rattle.com_books.specs.Changes.{Books, Row, Marshals, change, changed, marshal_all, entered_rows, new_packet, no_packet, packet}
-use Rattle.com_books.specs.declared.keeps.Packet.{Packet}
-use Rattle.com_books.specs.Counting.{numbers_from}
+use Rattle.com_refs_books.specs.Changes.{Books, Row, Marshals, change, changed, marshal_all, entered_rows, new_packet, no_packet, packet}
+use Rattle.com_refs_books.specs.declared.keeps.Packet.{Packet}
+use Rattle.com_refs_books.specs.Counting.{numbers_from}
 use Rattle.com_exchange.specs.declared.preview.Outgoing.{Outgoing}
 use Rattle.com_exchange.specs.Previews.{IsOutgoing, reference_of, refs_in, refs_of}
 use Rattle.com_model.specs.declared.scenario.Scenario.{Scenario}

@@ -7,8 +7,8 @@ use Rattle.com_base.specs.declared.value.RefValue.{RefValue}
 use Rattle.com_body.specs.declared.actions.Action.{Action}
 use Rattle.com_body.specs.declared.actions.Action.TheVariants as action
 use Rattle.com_body.specs.declared.operands.Asked.{Asked}
-use Rattle.com_books.specs.Changes.{Books, cookie}
-use Rattle.com_books.specs.declared.keeps.Cookie.{Cookie}
+use Rattle.com_refs_books.specs.Changes.{Books, cookie}
+use Rattle.com_refs_books.specs.declared.keeps.Cookie.{Cookie}
 use Rattle.com_classes.specs.declared.factory.Placed.{Placed}
 use Rattle.com_classes.specs.Lookups.{class_at}
 use Rattle.com_model.specs.declared.deeds.Deed.{Deed}

@@ -3,7 +3,7 @@ use Rattle.std.specs.Prelude.{ℕ, ◌+◌, Bool, if◌then◌else◌, List, [],
 use Rattle.com_base.specs.declared.standard.StdFields.{StdFields}
 use Rattle.com_base.specs.declared.value.MarshalMode.{MarshalMode}
 use Rattle.com_base.specs.declared.value.MarshalMode.TheVariants as marshal
-use Rattle.com_books.specs.Changes.{new_packet}
+use Rattle.com_refs_books.specs.Changes.{new_packet}
 use Rattle.com_exchange.specs.declared.preview.Outgoing.{Outgoing}
 use Rattle.com_exchange.specs.Previews.{refs_of}
 use Rattle.com_model.specs.declared.scenario.Scenario.{Scenario}

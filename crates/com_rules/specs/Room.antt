@@ -1,6 +1,6 @@
 -- Room for the numbers of one more entry.
 use Rattle.std.specs.Prelude.{◌+◌, ◌<◌, ◌≤◌, ◌^◌, length}
-use Rattle.com_books.specs.Changes.{Books}
+use Rattle.com_refs_books.specs.Changes.{Books}
 use Rattle.com_view.specs.Seen.{Seen}
 
 -- The next apartment, object, call, causality and cookie have numbers of 32 bits, and so has each thread's

@@ -2,7 +2,7 @@
 //! place or on a buffer, and six that are on an object or a cookie.
 
 ghost use Rattle.std.specs.Prelude.{◌≡◌, ◌+◌, ◌<◌, ◌≤◌, ◌^◌, ◌↔◌, length, IfSome, IsSome};
-ghost use Rattle.com_books.specs.Changes.{Books};
+ghost use Rattle.com_refs_books.specs.Changes.{Books};
 ghost use Rattle.com_model.specs.Deeds.{deed_of};
 ghost use Rattle.com_view.specs.Seen.{sight_by};
 ghost use Rattle.com_view.specs.Connected.{Says};

@@ -1,9 +1,9 @@
 //! What the entries of packets ask of the books.
 
 ghost use Rattle.std.specs.Prelude.{◌≡◌, length};
-ghost use Rattle.com_books.specs.Changes.{packet};
+ghost use Rattle.com_refs_books.specs.Changes.{packet};
 
-use com_books::Packet;
+use com_refs_books::Packet;
 use com_view::References;
 
 /// Who holds references, as the entries of actions ask for it.

@@ -1,7 +1,7 @@
 //! The rules in their order: the first that gives an entry gives it.
 
 ghost use Rattle.std.specs.Prelude.{◌≡◌, IfOk};
-ghost use Rattle.com_books.specs.Changes.{Books};
+ghost use Rattle.com_refs_books.specs.Changes.{Books};
 ghost use Rattle.com_model.specs.Lists.{or_else};
 ghost use Rattle.com_model.specs.Rules.{after_script, rule_script, ruled};
 ghost use Rattle.com_view.specs.Seen.{sight_by};

@@ -4,7 +4,7 @@ ghost use Rattle.std.specs.Prelude.{◌≡◌, ◌++◌, ◌+◌, ℕ, IfOk, OnO
 ghost use Rattle.std.specs.Prelude.{slice_index_or};
 ghost use Rattle.std.specs.List.{AllByRecursion};
 ghost use Rattle.com_body.specs.declared.actions.Action.TheVariants as action;
-ghost use Rattle.com_books.specs.Changes.{Books, marshal_all, new_packet};
+ghost use Rattle.com_refs_books.specs.Changes.{Books, marshal_all, new_packet};
 ghost use Rattle.com_exchange.specs.Previews.{IsOutgoing, reference_of};
 ghost use Rattle.com_model.specs.Deeds.{deed_of, fields_since, marshalled, packet_fields, with_packets};
 ghost use Rattle.com_model.specs.Lists.{number_or_zero};
@@ -14,7 +14,7 @@ ghost use Rattle.com_view.specs.Seen.{bare, sight_by, running_seen};
 use crate::alone::is_connected;
 use crate::asking::Found;
 use com_base::{HResult, MarshalMode, Memory, RefValue, StdFields};
-use com_books::Packet;
+use com_refs_books::Packet;
 use com_deeds::{
     FIVE, hold_refusal, marshal_deed, number_or_zero, packet_fields, refused_marshal_deed,
 };

@@ -3,7 +3,7 @@
 ghost use Rattle.std.specs.Prelude.{◌≡◌, ℕ};
 ghost use Rattle.std.specs.Int.{w64, from_le_bytes};
 ghost use Rattle.com_body.specs.declared.actions.Action.TheVariants as action;
-ghost use Rattle.com_books.specs.Changes.{packet};
+ghost use Rattle.com_refs_books.specs.Changes.{packet};
 ghost use Rattle.com_deeds.specs.Naming.{named_as};
 ghost use Rattle.com_deeds.specs.declared.holders.Named.TheVariants as named;
 ghost use Rattle.com_model.specs.Deeds.{deed_of, is_named, named_by, named_packet, same_fields};
@@ -12,7 +12,7 @@ ghost use Rattle.com_view.specs.Seen.{sight_by};
 use crate::asking::Found;
 use com_action_deeds::unmarshal_deed;
 use com_base::{HResult, StdFields};
-use com_books::Packet;
+use com_refs_books::Packet;
 use com_deeds::{Named, drop_deed, packet_fields, standard_fields};
 use com_model::Deed;
 use com_view::View;

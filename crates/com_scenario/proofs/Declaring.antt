@@ -30,9 +30,9 @@ use Rattle.com_read_lines.specs.Declaring.{free_guid_at, free_name_at, interface
 use Rattle.com_read_lines.specs.Rules.{call_type_at, verdict_at, refusal_at, in_answers, as_answer, answer_at, kept_at, rule_of}
 use Rattle.com_classes.specs.Activation.{is_agile}
 use Rattle.com_model.specs.Formed.{IsName, IsKindBy, IsResultBy, IsMethod, same_method, IsType, IsAsked, IsRetryAnswer, IsRule}
-use Rattle.com_scenario_laws.specs.Holds.{Holds}
-use Rattle.com_scenario_laws.proofs.Holds.{done, fails, anything, bind, weaker, either}
-use Rattle.com_scenario_laws.proofs.Fields.{number_formed, name_formed, declared_formed}
+use Rattle.com_laws_scenario.specs.Holds.{Holds}
+use Rattle.com_laws_scenario.proofs.Holds.{done, fails, anything, bind, weaker, either}
+use Rattle.com_laws_scenario.proofs.Fields.{number_formed, name_formed, declared_formed}
 use Rattle.com_scenario.proofs.Alike.{name_good, unnamed_method}
 
 -- ---- names and GUIDs that are new

@@ -20,10 +20,10 @@ use Rattle.com_read_sections.specs.Outlines.{outlined, finished, finish, begun, 
 use Rattle.com_model.specs.declared.scenario.Scenario.{Scenario}
 use Rattle.com_model.specs.Formed.{Distinct, IsKindBy, IsMethod, IsInterface, IsAllowed, same_interface, same_method, FormedInterfaces, FormedBody, in_script, IsFilter, Formed}
 use Rattle.com_scenario.specs.Scenarios.{scenario_of, reading}
-use Rattle.com_scenario_laws.specs.Words.{IsLine}
-use Rattle.com_scenario_laws.specs.Holds.{Holds}
-use Rattle.com_scenario_laws.proofs.Holds.{done, fails, bind, either}
-use Rattle.com_scenario_laws.proofs.Words.{lines_formed}
+use Rattle.com_laws_scenario.specs.Words.{IsLine}
+use Rattle.com_laws_scenario.specs.Holds.{Holds}
+use Rattle.com_laws_scenario.proofs.Holds.{done, fails, bind, either}
+use Rattle.com_laws_scenario.proofs.Words.{lines_formed}
 use Rattle.com_scenario.proofs.Alike.{name_good}
 use Rattle.com_scenario.proofs.Growing.{Grows, body_grows, classes_stay}
 use Rattle.com_scenario.proofs.Standing.{so_far, IsPool, AtHeader, AtTop, Stands, StandsAt}

@@ -16,7 +16,7 @@ use Rattle.com_classes.specs.declared.classes.MethodBody.{MethodBody}
 use Rattle.com_model.specs.declared.scenario.Scenario.{Scenario}
 use Rattle.com_classes.specs.Lookups.{method_at}
 use Rattle.com_model.specs.Formed.{EachFrom, Distinct, Context, IsClassNamed, IsInterfaceNamed, IsPlaceIn, IsCall, IsFilterNamed, IsStatement, FormedBody, FitsMethod, in_class, methods_of, IsBody, IsClass}
-use Rattle.com_scenario_laws.specs.Declared.{Fits}
+use Rattle.com_laws_scenario.specs.Declared.{Fits}
 
 -- ---- one more at the end of a list
 

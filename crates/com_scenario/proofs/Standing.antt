@@ -35,11 +35,11 @@ use Rattle.com_read_sections.specs.Outlines.{taken_iids}
 use Rattle.com_model.specs.declared.scenario.Scenario.{Scenario}
 use Rattle.com_classes.specs.Activation.{is_agile}
 use Rattle.com_model.specs.Formed.{EachFrom, Distinct, FormedInterfaces, FormedBody, IsInterface, IsAllowed, same_interface, same_class, Context, in_script, in_class, IsClass, IsFilter, methods_of}
-use Rattle.com_scenario_laws.specs.Words.{IsWord}
-use Rattle.com_scenario_laws.specs.Holds.{Holds}
-use Rattle.com_scenario_laws.specs.Declared.{Declares, Fits}
-use Rattle.com_scenario_laws.proofs.Holds.{done, fails, bind, either}
-use Rattle.com_scenario_laws.proofs.Statements.{stmt_formed}
+use Rattle.com_laws_scenario.specs.Words.{IsWord}
+use Rattle.com_laws_scenario.specs.Holds.{Holds}
+use Rattle.com_laws_scenario.specs.Declared.{Declares, Fits}
+use Rattle.com_laws_scenario.proofs.Holds.{done, fails, bind, either}
+use Rattle.com_laws_scenario.proofs.Statements.{stmt_formed}
 use Rattle.com_scenario.proofs.Growing.{Grows, each_push, distinct_push, get_push, body_grows, class_stays, classes_stay}
 
 -- the scenario of what is closed

@@ -41,12 +41,12 @@ use Rattle.com_read_sections.specs.Opened.{interface_closed, method_line, inner_
 use Rattle.com_read_sections.specs.Outlines.{taken_iids, microsoft}
 use Rattle.com_model.specs.declared.scenario.Scenario.{Scenario}
 use Rattle.com_model.specs.Formed.{Distinct, IsName, IsMethod, same_interface, same_method, same_class, same_body, IsNative, IsBody, IsClass, IsRule, IsFilter, in_class, in_script}
-use Rattle.com_scenario_laws.specs.Words.{IsWord}
-use Rattle.com_scenario_laws.specs.Holds.{Holds}
-use Rattle.com_scenario_laws.specs.Declared.{Fits}
-use Rattle.com_scenario_laws.proofs.Holds.{done, fails, anything, bind, either}
-use Rattle.com_scenario_laws.proofs.Fields.{number_formed}
-use Rattle.com_scenario_laws.proofs.Calls.{head_formed}
+use Rattle.com_laws_scenario.specs.Words.{IsWord}
+use Rattle.com_laws_scenario.specs.Holds.{Holds}
+use Rattle.com_laws_scenario.specs.Declared.{Fits}
+use Rattle.com_laws_scenario.proofs.Holds.{done, fails, anything, bind, either}
+use Rattle.com_laws_scenario.proofs.Fields.{number_formed}
+use Rattle.com_laws_scenario.proofs.Calls.{head_formed}
 use Rattle.com_scenario.proofs.Alike.{unlisted, not_first, unnamed, unmet, untyped, unreserved}
 use Rattle.com_scenario.proofs.Growing.{distinct_push}
 use Rattle.com_scenario.proofs.Declaring.{free_guid_new, IsNew, free_name_new, interface_name_new, method_new, IsNativeOf, native_new, list_new, picks_new, rule_new}

@@ -1,7 +1,7 @@
 //! The laws, each on a function that does nothing.
 
 ghost use Rattle.std.specs.Prelude.{ℕ, List};
-ghost use Rattle.com_scenario_laws.specs.Holds.{Holds};
+ghost use Rattle.com_laws_scenario.specs.Holds.{Holds};
 ghost use Rattle.com_model.specs.Formed.{Formed};
 ghost use Rattle.com_scenario.specs.Scenarios.{reading};
 

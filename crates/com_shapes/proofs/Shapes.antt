@@ -35,7 +35,7 @@ use Rattle.com_model.specs.State.{State, StandsFor, first_tables, after, class_i
 use Rattle.com_model.proofs.Fines.{cond-is}
 use Rattle.com_model.proofs.Sights.{same-next}
 use Rattle.com_model.proofs.Whole.{first-stands}
-use Rattle.com_bounds.proofs.Fitting.{entry-fits}
+use Rattle.com_laws_ranges.proofs.Fitting.{entry-fits}
 use Rattle.com_schedule.proofs.Runs.{stands-later}
 use Rattle.com_scene.specs.Ranges.{FitsDeed}
 use Rattle.com_drive.specs.Standings.{Reached}

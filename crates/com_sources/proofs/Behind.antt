@@ -6,7 +6,7 @@ use Rattle.com_body.specs.declared.statements.Stmt.{Stmt}
 use Rattle.com_body.specs.declared.statements.Stmt.TheVariants as stmt
 use Rattle.com_body.specs.declared.operands.Given.TheVariants as given
 use Rattle.com_body.specs.declared.operands.Place.TheVariants as place
-use Rattle.com_points.specs.Bodies.{ok, int, move_down, no_connection, advise_limit, leave_with, leave_register, take_place, look_in, look_at, send_event, event_round}
+use Rattle.com_laws_sources.specs.Bodies.{ok, int, move_down, no_connection, advise_limit, leave_with, leave_register, take_place, look_in, look_at, send_event, event_round}
 
 pub peel : (front rest more body : List Stmt) → body ≡ front ++ rest → body ≡ front ++ more → rest ≡ more
 peel front rest more body e p = append_cancel_left front rest more (sym e ∙ p)

@@ -11,8 +11,8 @@ use Rattle.com_classes.specs.declared.classes.MethodBody.{MethodBody}
 use Rattle.com_classes.specs.declared.interfaces.Interface.{Interface}
 use Rattle.com_classes.specs.Lookups.{class_at, interface_at, class_body, kind_body, body_at}
 use Rattle.com_model.specs.declared.scenario.Scenario.{Scenario}
-use Rattle.com_points.specs.Bodies.{advise_body, unadvise_body, fire_body}
-use Rattle.com_points.specs.Sources.{IsPoint, IsSource, IsStaModel, point_body}
+use Rattle.com_laws_sources.specs.Bodies.{advise_body, unadvise_body, fire_body}
+use Rattle.com_laws_sources.specs.Sources.{IsPoint, IsSource, IsStaModel, point_body}
 use Rattle.com_sources.specs.Heads.{are_own_bodies}
 
 abbrev pub at : (j m : ℕ) → MethodBody → Bool

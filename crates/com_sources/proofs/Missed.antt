@@ -10,7 +10,7 @@ use Rattle.com_classes.specs.declared.classes.MethodBody.{MethodBody}
 use Rattle.com_classes.specs.declared.interfaces.Interface.{Interface}
 use Rattle.com_classes.specs.Lookups.{class_at, interface_at, class_body, kind_body, body_at}
 use Rattle.com_model.specs.declared.scenario.Scenario.{Scenario}
-use Rattle.com_points.specs.Sources.{IsPoint, IsSource, IsSourceClass, point_body, source_body}
+use Rattle.com_laws_sources.specs.Sources.{IsPoint, IsSource, IsSourceClass, point_body, source_body}
 use Rattle.com_sources.specs.Heads.{are_own_bodies, Looks}
 use Rattle.com_sources.proofs.Found.{at, same_itself}
 

@@ -10,9 +10,9 @@ use Rattle.com_classes.specs.declared.classes.Class.{Class}
 use Rattle.com_classes.specs.Tables.{Tables}
 use Rattle.com_classes.specs.declared.interfaces.Interface.{Interface}
 use Rattle.com_classes.specs.Lookups.{body_at}
-use Rattle.com_points.specs.Bodies.{e_pointer, no_connection, int, register, leave_with}
-use Rattle.com_points.specs.Bodies.{advise_body, unadvise_body, fire_body}
-use Rattle.com_points.specs.Sources.{IsPoint, IsStaModel}
+use Rattle.com_laws_sources.specs.Bodies.{e_pointer, no_connection, int, register, leave_with}
+use Rattle.com_laws_sources.specs.Bodies.{advise_body, unadvise_body, fire_body}
+use Rattle.com_laws_sources.specs.Sources.{IsPoint, IsStaModel}
 
 -- Null is refused, and the new cookie is one more than the last one.
 abbrev pub advise_head : List Stmt

@@ -4,9 +4,9 @@ ghost use Rattle.com_body.specs.declared.statements.Stmt.{Stmt};
 ghost use Rattle.com_body.specs.declared.statements.Stmt.TheVariants as stmt;
 ghost use Rattle.com_body.specs.declared.operands.Given.TheVariants as given_of;
 ghost use Rattle.com_body.specs.declared.operands.Place.TheVariants as place;
-ghost use Rattle.com_points.specs.Bodies.{ok, no_connection, advise_limit, int, leave_with, leave_register};
-ghost use Rattle.com_points.specs.Bodies.{take_place, advise_body, look_in, move_down, unadvise_body};
-ghost use Rattle.com_points.specs.Bodies.{look_at, send_event, event_round, fire_body};
+ghost use Rattle.com_laws_sources.specs.Bodies.{ok, no_connection, advise_limit, int, leave_with, leave_register};
+ghost use Rattle.com_laws_sources.specs.Bodies.{take_place, advise_body, look_in, move_down, unadvise_body};
+ghost use Rattle.com_laws_sources.specs.Bodies.{look_at, send_event, event_round, fire_body};
 ghost use Rattle.com_sources.specs.Heads.{advise_head, unadvise_head, fire_head};
 
 use crate::shapes::{

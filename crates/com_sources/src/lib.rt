@@ -4,8 +4,8 @@
 ghost use Rattle.std.specs.Prelude.{◌≡◌, ◌↔◌, ◌∷◌, [], ℕ, IfNone, IfSome, IsTrue, Some};
 ghost use Rattle.com_body.specs.declared.frame.Native.TheVariants.{Bodies};
 ghost use Rattle.com_classes.specs.Lookups.{body_at};
-ghost use Rattle.com_points.specs.Bodies.{advise_body, unadvise_body, fire_body};
-ghost use Rattle.com_points.specs.Sources.{IsPoint, IsSource, IsStaModel, point_iid, point_methods};
+ghost use Rattle.com_laws_sources.specs.Bodies.{advise_body, unadvise_body, fire_body};
+ghost use Rattle.com_laws_sources.specs.Sources.{IsPoint, IsSource, IsStaModel, point_iid, point_methods};
 ghost use Rattle.com_sources.specs.Heads.{Looks, are_own_bodies};
 
 mod bodies;

@@ -4,7 +4,7 @@ ghost use Rattle.com_body.specs.declared.statements.Stmt.TheVariants as stmt;
 ghost use Rattle.com_body.specs.declared.operands.Arg.TheVariants as arg;
 ghost use Rattle.com_body.specs.declared.operands.Given.TheVariants as given_of;
 ghost use Rattle.com_body.specs.declared.operands.Destination.TheVariants as destination;
-ghost use Rattle.com_points.specs.Bodies.{int, register, leave_with, leave_register};
+ghost use Rattle.com_laws_sources.specs.Bodies.{int, register, leave_with, leave_register};
 
 use com_base::{HResult, Value};
 use com_body::{Arg, Code, Destination, Given, Op, Place, Stmt};

@@ -1,6 +1,6 @@
 -- Whether each number in a row passes a test, one after another.
 use Rattle.std.proofs.Common.{◌≡◌, ℕ, zero, suc, ◌+◌, ◌<◌, Bool, true, false, ◌&&◌, List, [], ◌∷◌, ◌++◌, is_some, is_none, refl, ap, sym, ◌∙◌, add-one, arith}
-use Rattle.com_books.specs.Counting.{numbers_from}
+use Rattle.com_refs_books.specs.Counting.{numbers_from}
 use Rattle.com_model.specs.Lists.{each_of, one_to, first, is_empty}
 
 each-append : (f : ℕ → Bool) (xs ys : List ℕ) → each_of f (xs ++ ys) ≡ (each_of f xs && each_of f ys)

@@ -7,7 +7,7 @@ use Rattle.com_model.specs.Sight.{Sight}
 use Rattle.com_drive.specs.declared.runtime.Standing.{Standing}
 use Rattle.com_drive.specs.declared.runtime.Standing.TheVariants as standing
 use Rattle.com_standing.specs.Standings.{standing_by}
-use Rattle.com_books.specs.Changes.{Books}
+use Rattle.com_refs_books.specs.Changes.{Books}
 use Rattle.com_calls.specs.Waits.{next_wait}
 use Rattle.com_model.specs.Rules.{no_lane_can, tick_time}
 use Rattle.com_view.specs.Seen.{Seen, sight_by}

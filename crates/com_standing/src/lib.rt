@@ -2,8 +2,8 @@
 #![tactic(auto)]
 
 ghost use Rattle.std.specs.Prelude.{◌≡◌, ◌+◌, ◌≤◌, ◌^◌, is_some, length};
-ghost use Rattle.com_books.specs.Changes.{Books};
-ghost use Rattle.com_books.specs.Counting.{numbers_from};
+ghost use Rattle.com_refs_books.specs.Changes.{Books};
+ghost use Rattle.com_refs_books.specs.Counting.{numbers_from};
 ghost use Rattle.com_standing.specs.Standings.{is_quiet, is_unasked, over_at, standing_by};
 ghost use Rattle.com_model.specs.Ends.{finished_by};
 ghost use Rattle.com_model.specs.Lists.{each_of, one_to};

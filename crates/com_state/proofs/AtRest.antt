@@ -3,10 +3,10 @@ use Rattle.std.proofs.Common.{◌≡◌, refl, sym, ◌∙◌, ap, ap₂, arith,
 use Rattle.std.proofs.lemmas.Grind.{common_steps}
 use Rattle.std.specs.Prelude.{Option}
 use Rattle.com_body.specs.declared.actions.Action.{Action}
-use Rattle.com_books.specs.Counting.{count_if}
-use Rattle.com_books.specs.declared.keeps.Packet.{Packet}
-use Rattle.com_books.specs.declared.keeps.Cookie.{Cookie}
-use Rattle.com_books.specs.Changes.{Books, entered_rows, cut, cut_packet, cut_cookie, no_packet, given_back, held_outside, packet_holds, cookie_holds, is_weak}
+use Rattle.com_refs_books.specs.Counting.{count_if}
+use Rattle.com_refs_books.specs.declared.keeps.Packet.{Packet}
+use Rattle.com_refs_books.specs.declared.keeps.Cookie.{Cookie}
+use Rattle.com_refs_books.specs.Changes.{Books, entered_rows, cut, cut_packet, cut_cookie, no_packet, given_back, held_outside, packet_holds, cookie_holds, is_weak}
 use Rattle.com_model.specs.declared.deeds.Deed.{Deed}
 use Rattle.com_model.specs.declared.deeds.Entry.{Entry}
 use Rattle.com_model.specs.declared.scenario.Scenario.{Scenario}

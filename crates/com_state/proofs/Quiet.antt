@@ -2,9 +2,9 @@
 -- leaves them, and the dying order.
 use Rattle.std.proofs.Common.{◌≡◌, refl, sym, ◌∙◌, ap, arith, ℕ, zero, suc, ◌-◌, Bool, true, false, not, ◌==◌, ◌&&◌, ◌||◌, if◌then◌else◌, List, [], ◌∷◌, ◌++◌, filter, eqb-true}
 use Rattle.std.proofs.lemmas.Grind.{common_steps}
-use Rattle.com_books.specs.Counting.{sum_below}
+use Rattle.com_refs_books.specs.Counting.{sum_below}
 use Rattle.com_model.specs.Lists.{is_member, one_to}
-use Rattle.com_books.specs.Changes.{Books, given_back, cut}
+use Rattle.com_refs_books.specs.Changes.{Books, given_back, cut}
 use Rattle.com_model.specs.Dying.{fallen_more}
 use Rattle.com_state.specs.Resting.{Rested}
 

@@ -8,7 +8,7 @@ use Rattle.com_model.specs.Objects.{objects, finaled}
 use Rattle.com_model.specs.Openers.{openers}
 use Rattle.com_model.specs.Frames.{Scene, scene}
 use Rattle.com_model.specs.Places.{Ground, ground, places, all_places}
-use Rattle.com_books.specs.Changes.{Books, held_outside}
+use Rattle.com_refs_books.specs.Changes.{Books, held_outside}
 use Rattle.com_model.specs.Books.{books, holders_in}
 use Rattle.com_model.specs.Dying.{fallen, fallen_more, is_dying, is_dying_by, is_entered}
 use Rattle.com_model.specs.State.{State, StandsFor, ground_in, scene_in, books_in, dies_in}

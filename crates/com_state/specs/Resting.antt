@@ -2,7 +2,7 @@
 -- the list of the dying.
 use Rattle.std.specs.Prelude.{◌≡◌, ℕ, suc, ◌+◌, ◌==◌, Bool, true, false, not, map, filter}
 use Rattle.std.specs.Prelude.{None}
-use Rattle.com_books.specs.Changes.{Books, cut_packet, cut_cookie, held_outside}
+use Rattle.com_refs_books.specs.Changes.{Books, cut_packet, cut_cookie, held_outside}
 use Rattle.com_model.specs.declared.deeds.Deed.{Deed}
 use Rattle.com_model.specs.declared.deeds.Deed.TheVariants as deed
 use Rattle.com_model.specs.declared.scenario.Scenario.{Scenario}

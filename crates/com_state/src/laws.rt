@@ -7,7 +7,7 @@ ghost use Rattle.com_model.specs.declared.scenario.Scenario.{Scenario};
 ghost use Rattle.com_model.specs.State.{State, StandsFor, after, scene_in, scene_next, scene_tables};
 ghost use Rattle.com_state.specs.Parts.{lanes_of, objects_of, calls_of, lanes_after, objects_after};
 ghost use Rattle.com_state.specs.Parts.{calls_after, state_of};
-ghost use Rattle.com_books.specs.Changes.{held_outside};
+ghost use Rattle.com_refs_books.specs.Changes.{held_outside};
 ghost use Rattle.com_model.specs.Books.{books};
 ghost use Rattle.com_model.specs.Frames.{scene};
 ghost use Rattle.com_model.specs.Places.{ground, places, all_places};

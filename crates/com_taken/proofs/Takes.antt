@@ -2,11 +2,11 @@
 use Rattle.std.proofs.Common.{subst, sym, arith}
 use Rattle.std.specs.Prelude.{◌≡◌, ℕ, ℤ, pos, negsuc, ◌-◌, ◌≤◌, Bool, true, false, cond, nat_lt, List, length, Option, Some, None, slice_index_or}
 use Rattle.com_body.specs.declared.frame.Outcome.{Outcome}
-use Rattle.com_bounds.specs.Bounds.{IssuedCall, NextCall, TakesBack as OneLess, FitsParts, StepWrites}
-use Rattle.com_bounds.proofs.Fitting.{entry-fits}
-use Rattle.com_bounds.proofs.Standing.{fits-parts}
-use Rattle.com_bounds.proofs.Times.{time-fits}
-use Rattle.com_bounds.proofs.Writing.{steps-write}
+use Rattle.com_laws_ranges.specs.Bounds.{IssuedCall, NextCall, TakesBack as OneLess, FitsParts, StepWrites}
+use Rattle.com_laws_ranges.proofs.Fitting.{entry-fits}
+use Rattle.com_laws_ranges.proofs.Standing.{fits-parts}
+use Rattle.com_laws_ranges.proofs.Times.{time-fits}
+use Rattle.com_laws_ranges.proofs.Writing.{steps-write}
 use Rattle.com_calls.specs.Steps.{is_known}
 use Rattle.com_model.specs.declared.deeds.Deed.{Deed}
 use Rattle.com_model.specs.declared.deeds.Deed.TheVariants as deed

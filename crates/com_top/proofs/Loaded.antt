@@ -1,8 +1,8 @@
 -- What `load` answers.
 use Rattle.std.proofs.Common.{◌≡◌, ℕ, List, length, refl, sym, ◌∙◌, ap, subst, Option, Result, Ok, Err}
 use Rattle.com_gen.specs.Loads.{load_text}
-use Rattle.com_load_laws.specs.LoadScenarios.{load_scenario}
-use Rattle.com_load_laws.proofs.Reading.{read_again}
+use Rattle.com_laws_load.specs.LoadScenarios.{load_scenario}
+use Rattle.com_laws_load.proofs.Reading.{read_again}
 use Rattle.com_read_operands.specs.declared.faults.Fault.{Fault}
 use Rattle.com_model.specs.declared.scenario.Scenario.{Scenario}
 use Rattle.com_model.specs.Ends.{scheduled}

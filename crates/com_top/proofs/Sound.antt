@@ -6,7 +6,7 @@ use Rattle.com_read_operands.specs.declared.faults.Fault.{Fault}
 use Rattle.com_scenario.proofs.Forms.{reading_formed}
 use Rattle.com_scenario.specs.Scenarios.{reading}
 use Rattle.com_scenario.specs.Sizes.{is_too_long}
-use Rattle.com_scenario_laws.specs.Holds.{Holds}
+use Rattle.com_laws_scenario.specs.Holds.{Holds}
 use Rattle.com_commands.specs.declared.inputs.Input.{Input}
 use Rattle.com_commands.specs.declared.inputs.Input.TheVariants as input
 use Rattle.com_commands.specs.Inputs.{IsSound, input_of, read_as}

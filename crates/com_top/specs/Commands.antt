@@ -9,11 +9,11 @@ use Rattle.com_commands.specs.Inputs.{input_of}
 use Rattle.com_commands.specs.Statuses.{Sides}
 use Rattle.com_scenario.specs.Sizes.{is_too_long}
 use Rattle.com_read_points.specs.Sources.{reading_points}
-use Rattle.com_points_main.specs.Playing.{IsPlayed}
+use Rattle.com_command_points.specs.Playing.{IsPlayed}
 use Rattle.com_dispatch.specs.Late.{late}
-use Rattle.com_dispatch_main.specs.Dispatching.{IsDispatched, dispatched_served}
-use Rattle.com_migrate_main.specs.Migrating.{IsMigrated, migrating}
-use Rattle.com_run_main.specs.Runs.{IsRun}
+use Rattle.com_command_dispatch.specs.Dispatching.{IsDispatched, dispatched_served}
+use Rattle.com_command_migrate.specs.Migrating.{IsMigrated, migrating}
+use Rattle.com_command_run.specs.Runs.{IsRun}
 use Rattle.com_top.specs.declared.words.Command.{Command}
 use Rattle.com_top.specs.declared.words.Command.TheVariants as command
 use Rattle.com_top.specs.Checking.{IsVerdict, question_input}

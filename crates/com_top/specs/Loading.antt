@@ -1,7 +1,7 @@
 -- What the command `load` answers for a number.
 use Rattle.std.specs.Prelude.{◌≡◌, ℕ, List, [], ◌++◌, Some, Ok, length, codes, decimal}
 use Rattle.com_gen.specs.Loads.{load_text}
-use Rattle.com_load_laws.specs.LoadScenarios.{load_scenario}
+use Rattle.com_laws_load.specs.LoadScenarios.{load_scenario}
 use Rattle.com_model.specs.declared.counts.Ended.{Ended}
 use Rattle.com_model.specs.Clock.{clock}
 use Rattle.com_model.specs.Ends.{ended_as, scheduled}

@@ -3,7 +3,7 @@ ghost use Rattle.std.specs.Prelude.{◌≡◌, IfOk, OnOk, map};
 ghost use Rattle.com_model.specs.Formed.{Formed};
 ghost use Rattle.com_servant.specs.Rows.{row};
 ghost use Rattle.com_drive.specs.Replays.{IsReplay, whole_served};
-ghost use Rattle.com_load_laws.specs.LoadScenarios.{load_scenario};
+ghost use Rattle.com_laws_load.specs.LoadScenarios.{load_scenario};
 ghost use Rattle.com_commands.specs.declared.statuses.Status.TheVariants as status;
 ghost use Rattle.com_commands.specs.Responses.{Causes, FitsServed, GivesWhole, Responds, Serves};
 ghost use Rattle.com_commands.specs.Statuses.{IsEnd, sides_without_source};

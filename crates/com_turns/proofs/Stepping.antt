@@ -2,7 +2,7 @@
 use Rattle.std.proofs.Common.{◌≡◌, ℕ, Bool, true, false, cond, List, [], ◌∷◌, Option, Some, None, option_map, refl, ap, sym, ◌∙◌, subst}
 use Rattle.com_body.specs.declared.actions.Action.{Action}
 use Rattle.com_body.specs.declared.frame.Outcome.{Outcome}
-use Rattle.com_books.specs.Changes.{Books}
+use Rattle.com_refs_books.specs.Changes.{Books}
 use Rattle.com_calls.specs.declared.rows.Issued.{Issued}
 use Rattle.com_model.specs.declared.deeds.Deed.{Deed}
 use Rattle.com_model.specs.declared.deeds.Deed.TheVariants as deed
@@ -19,7 +19,7 @@ use Rattle.com_model.specs.Openers.{is_body}
 use Rattle.com_rules.specs.Acts.{Issues, carried_by}
 use Rattle.com_rules.proofs.Chains.{none_first}
 use Rattle.com_scene.specs.Actors.{acting_of}
-use Rattle.com_safety.proofs.Acted.{OfAction, action_sort, deed-acted}
+use Rattle.com_laws_safety.proofs.Acted.{OfAction, action_sort, deed-acted}
 use Rattle.com_state.specs.Parts.{openers_at}
 use Rattle.com_view.specs.Seen.{Seen, sight_by}
 use Rattle.com_turns.specs.declared.turns.Turn.{Turn}

@@ -1,7 +1,7 @@
 //! What is read of a turn is what the state's definition looks at.
 
 ghost use Rattle.std.specs.Prelude.{◌≡◌, ◌≤◌, ℕ, [], None, Option, is_some};
-ghost use Rattle.com_books.specs.Changes.{Books};
+ghost use Rattle.com_refs_books.specs.Changes.{Books};
 ghost use Rattle.com_calls.specs.declared.rows.Issued.{Issued};
 ghost use Rattle.com_model.specs.Calls.{issues, lane_of, object_of};
 ghost use Rattle.com_model.specs.declared.deeds.Deed.{Deed};

@@ -5,7 +5,7 @@ ghost use Rattle.com_servant.specs.Rows.{one_served, row};
 ghost use Rattle.com_servant.specs.Steps.{native_at};
 ghost use Rattle.com_state.specs.Parts.{class_at};
 ghost use Rattle.com_turns.specs.Turns.{body_seen, script_seen};
-ghost use Rattle.com_moves.specs.Steps.{BodiesWhole, IsWhole};
+ghost use Rattle.com_reference_moves.specs.Steps.{BodiesWhole, IsWhole};
 
 use com_acting::step_of;
 use com_base::Memory;

@@ -9,7 +9,7 @@ ghost use Rattle.com_model.specs.Lists.{first};
 ghost use Rattle.com_model.specs.Rules.{is_script_turn, lane_next, next_by, rule_final, top};
 ghost use Rattle.com_model.specs.Tables.{lane_sort, lanes};
 ghost use Rattle.com_model.specs.Openers.{is_body};
-ghost use Rattle.com_moves.specs.Steps.{BodiesWhole, IsWhole};
+ghost use Rattle.com_reference_moves.specs.Steps.{BodiesWhole, IsWhole};
 ghost use Rattle.com_rules.specs.Acts.{Issues, carried_by};
 ghost use Rattle.com_scene.specs.Actors.{acting_of};
 ghost use Rattle.com_servant.specs.Rows.{one_served, row};

@@ -1,6 +1,6 @@
 -- The sight of a state, read from its parts.
 use Rattle.std.proofs.Common.{◌≡◌, ℕ, Bool, true, ◌==◌, ◌&&◌, suc, List, [], ◌∷◌, filter, refl, ap, ◌∙◌, All, is_none, arith}
-use Rattle.com_books.specs.Changes.{Books}
+use Rattle.com_refs_books.specs.Changes.{Books}
 use Rattle.com_model.specs.declared.scenario.Scenario.{Scenario}
 use Rattle.com_model.specs.Calls.{object_of}
 use Rattle.com_model.specs.Lists.{from_one}

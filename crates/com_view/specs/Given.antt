@@ -1,6 +1,6 @@
 -- Packets that were given up.
 use Rattle.std.specs.Prelude.{ℕ, Bool, false, not, Option, Some, None}
-use Rattle.com_books.specs.Changes.{Books, packet}
+use Rattle.com_refs_books.specs.Changes.{Books, packet}
 
 -- Whether there is such a packet, and it is not outstanding.
 abbrev pub gone_in : Books → Option ℕ → Bool

@@ -1,6 +1,6 @@
 -- When the parts that are read, with these books, are those of a state.
 use Rattle.std.specs.Prelude.{◌≡◌, true, All}
-use Rattle.com_books.specs.Changes.{Books}
+use Rattle.com_refs_books.specs.Changes.{Books}
 use Rattle.com_model.specs.State.{State, SameBooks, books_in, dies_in}
 use Rattle.com_state.specs.Parts.{lanes_of, objects_of, calls_of}
 use Rattle.com_calls.specs.Kept.{IsNamed}

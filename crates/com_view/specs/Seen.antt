@@ -1,7 +1,7 @@
 -- What the rules look at, read from the parts of a core.
 use Rattle.std.specs.Prelude.{ℕ, ◌+◌, Bool, false, not, ◌==◌, ◌||◌, if◌then◌else◌, List, []}
 use Rattle.std.specs.Prelude.{Option, None, filter, length, slice_index_or}
-use Rattle.com_books.specs.Changes.{Books, no_books}
+use Rattle.com_refs_books.specs.Changes.{Books, no_books}
 use Rattle.com_model.specs.declared.scenario.Scenario.{Scenario}
 use Rattle.com_model.specs.declared.keeps.Phase.TheVariants.{Unposted}
 use Rattle.com_model.specs.Answers.{S_OK}

@@ -2,7 +2,7 @@
 
 ghost use Rattle.std.specs.Prelude.{◌≡◌, IfOk, option_map, if◌then◌else◌};
 ghost use Rattle.com_base.specs.declared.hresult.HResult.{HResult};
-ghost use Rattle.com_books.specs.Changes.{Books};
+ghost use Rattle.com_refs_books.specs.Changes.{Books};
 ghost use Rattle.com_model.specs.Answers.{RPC_E_CLIENT_CANTUNMARSHAL_DATA};
 ghost use Rattle.com_model.specs.Endings.{answer_of, without_value};
 ghost use Rattle.com_model.specs.Rules.{back_answer, back_with, due_of, result_gone};

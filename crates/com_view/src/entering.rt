@@ -1,7 +1,7 @@
 //! The Enter of a call, or why it is not let in.
 
 ghost use Rattle.std.specs.Prelude.{◌≡◌, ◌&&◌, not, IfOk, if◌then◌else◌};
-ghost use Rattle.com_books.specs.Changes.{Books};
+ghost use Rattle.com_refs_books.specs.Changes.{Books};
 ghost use Rattle.com_model.specs.Rules.{admission, arguments_gone, call_sort, is_handled_in, posted_to_sta};
 ghost use Rattle.com_model.specs.Rules.{verdict_on};
 ghost use Rattle.com_model.specs.Answers.{RPC_E_SERVER_CANTUNMARSHAL_DATA};

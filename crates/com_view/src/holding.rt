@@ -1,7 +1,7 @@
 //! The rules that look at who holds references.
 
 ghost use Rattle.std.specs.Prelude.{◌≡◌, not, length, IfOk, option_map};
-ghost use Rattle.com_books.specs.Changes.{Books, cookie, packet};
+ghost use Rattle.com_refs_books.specs.Changes.{Books, cookie, packet};
 ghost use Rattle.com_model.specs.Deeds.{cookie_number};
 ghost use Rattle.com_model.specs.Endings.{is_leave};
 ghost use Rattle.com_model.specs.Lists.{any_of, first_that, or_else};
@@ -13,7 +13,7 @@ ghost use Rattle.com_view.specs.Given.{gone_in};
 
 use crate::view::View;
 use com_base::{HResult, Memory};
-use com_books::Cookie;
+use com_refs_books::Cookie;
 use com_deeds::is_leave;
 use com_model::Deed;
 use std::alloc::Global;

@@ -1,7 +1,7 @@
 //! What is read is what the rules look at.
 
 ghost use Rattle.std.specs.Prelude.{◌≡◌};
-ghost use Rattle.com_books.specs.Changes.{Books};
+ghost use Rattle.com_refs_books.specs.Changes.{Books};
 ghost use Rattle.com_model.specs.State.{State, sight_of};
 ghost use Rattle.com_view.specs.Reads.{Reads};
 ghost use Rattle.com_view.specs.Seen.{Seen, sight_by};

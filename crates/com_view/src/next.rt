@@ -1,7 +1,7 @@
 //! What a lane does next, without its entry.
 
 ghost use Rattle.std.specs.Prelude.{◌≡◌, is_some};
-ghost use Rattle.com_books.specs.Changes.{Books};
+ghost use Rattle.com_refs_books.specs.Changes.{Books};
 ghost use Rattle.com_model.specs.Rules.{asked_on, enters_itself, ruled, rule_final, rule_own, rule_answer};
 ghost use Rattle.com_model.specs.Rules.{rule_bound, rule_inbox, rule_retry, rule_again, posted_again};
 ghost use Rattle.com_model.specs.Rules.{rule_pending, rule_word, rule_script, top};

@@ -1,7 +1,7 @@
 //! What the rules read of objects.
 
 ghost use Rattle.std.specs.Prelude.{◌≡◌, filter};
-ghost use Rattle.com_books.specs.Changes.{Books};
+ghost use Rattle.com_refs_books.specs.Changes.{Books};
 ghost use Rattle.com_deeds.specs.Seen.{Sees, SeesObject};
 ghost use Rattle.com_model.specs.Deeds.{owned_by};
 ghost use Rattle.com_model.specs.Lists.{first};

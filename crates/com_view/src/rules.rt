@@ -2,7 +2,7 @@
 
 ghost use Rattle.std.specs.Prelude.{◌≡◌};
 ghost use Rattle.com_body.specs.declared.actions.Action.TheVariants as action;
-ghost use Rattle.com_books.specs.Changes.{Books};
+ghost use Rattle.com_refs_books.specs.Changes.{Books};
 ghost use Rattle.com_model.specs.Deeds.{deed_of};
 ghost use Rattle.com_model.specs.Lists.{first};
 ghost use Rattle.com_model.specs.Rules.{is_open_to_calls, admits_next, admits_sta, rule_bound, rule_retry};

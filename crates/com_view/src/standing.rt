@@ -1,7 +1,7 @@
 //! Whether the lanes of a core can go on.
 
 ghost use Rattle.std.specs.Prelude.{◌≡◌};
-ghost use Rattle.com_books.specs.Changes.{Books};
+ghost use Rattle.com_refs_books.specs.Changes.{Books};
 ghost use Rattle.com_model.specs.Rules.{can_step, no_lane_can, tick_time, time_of};
 ghost use Rattle.com_model.specs.Tables.{lanes};
 ghost use Rattle.com_view.specs.Seen.{bare, sight_by};

@@ -17,9 +17,9 @@ use Rattle.com_model.specs.Calls.{admits, admission_or, admitted, issue, target}
 use Rattle.com_model.specs.Endings.{ends, end_effect, filtered, can_be_cut, ending}
 use Rattle.com_model.specs.Rules.{legal}
 use Rattle.com_model.proofs.Stacks.{next-fits}
-use Rattle.com_safety.proofs.Small.{same-number}
-use Rattle.com_balance.proofs.Counts.{Among}
-use Rattle.com_balance.proofs.Directs.{openers-own, openers-other}
+use Rattle.com_laws_safety.proofs.Small.{same-number}
+use Rattle.com_laws_balance.proofs.Counts.{Among}
+use Rattle.com_laws_balance.proofs.Directs.{openers-own, openers-other}
 
 pub record OpenAt (h : List Entry) (l c : ℕ) : Type 0 where
   pub object : ℕ

@@ -19,10 +19,10 @@ use Rattle.com_model.specs.Deeds.{has_mode, initialised}
 use Rattle.com_model.specs.Formed.{Formed}
 use Rattle.com_model.specs.Sight.{Sight, sight}
 use Rattle.com_model.specs.Rules.{legal}
-use Rattle.com_safety.proofs.Small.{differ, same-number}
-use Rattle.com_safety.proofs.Sources.{Source, next-source}
-use Rattle.com_safety.proofs.Facts.{Fact, source-fact}
-use Rattle.com_safety.proofs.Threads.{is_homes, source-thread}
+use Rattle.com_laws_safety.proofs.Small.{differ, same-number}
+use Rattle.com_laws_safety.proofs.Sources.{Source, next-source}
+use Rattle.com_laws_safety.proofs.Facts.{Fact, source-fact}
+use Rattle.com_laws_safety.proofs.Threads.{is_homes, source-thread}
 
 -- ---- tables of homes
 

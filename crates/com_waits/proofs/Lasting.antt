@@ -7,7 +7,7 @@ use Rattle.com_base.specs.declared.hresult.HResult.{HResult}
 use Rattle.com_body.specs.declared.operands.Asked.{Asked}
 use Rattle.com_body.specs.declared.actions.Action.{Action}
 use Rattle.com_body.specs.declared.actions.Action.TheVariants as action
-use Rattle.com_books.specs.Changes.{Books, entered_rows, held_outside}
+use Rattle.com_refs_books.specs.Changes.{Books, entered_rows, held_outside}
 use Rattle.com_classes.specs.declared.factory.Creator.{Creator}
 use Rattle.com_classes.specs.declared.classes.Class.{Class}
 use Rattle.com_classes.specs.declared.classes.ThreadingModel.{ThreadingModel}
@@ -38,18 +38,18 @@ use Rattle.com_model.specs.Sight.{Sight, sight}
 use Rattle.com_model.specs.Rules.{legal, packet_left}
 use Rattle.com_model.proofs.Given.{cond-of}
 use Rattle.com_model.proofs.Comes.{first-filter}
-use Rattle.com_safety.proofs.Small.{neither, not-both, not-true, same-number}
-use Rattle.com_safety.proofs.Sources.{Source, by_body, by_script, by_end, by_final, by_own, by_answer, by_inbox, by_retry, by_again, by_rest, next-source}
-use Rattle.com_safety.proofs.Acted.{ActionSort, Making as MakingSort, action_sort, OfAction, deed-acted}
-use Rattle.com_safety.proofs.Facts.{IsRuled, admission-ruled, answered-ruled, rest-ruled}
-use Rattle.com_safety.proofs.Threads.{is_homes, source-thread}
-use Rattle.com_safety.proofs.Served.{named-of}
-use Rattle.com_safety.proofs.Ready.{legal-apartment}
-use Rattle.com_balance.proofs.Counts.{Among}
-use Rattle.com_balance.proofs.Homes.{among-any, home-remains}
-use Rattle.com_balance.proofs.Holds.{rows-live}
-use Rattle.com_balance.proofs.Bases.{home-stays}
-use Rattle.com_balance.proofs.Steps.{legal-base, opens-own}
+use Rattle.com_laws_safety.proofs.Small.{neither, not-both, not-true, same-number}
+use Rattle.com_laws_safety.proofs.Sources.{Source, by_body, by_script, by_end, by_final, by_own, by_answer, by_inbox, by_retry, by_again, by_rest, next-source}
+use Rattle.com_laws_safety.proofs.Acted.{ActionSort, Making as MakingSort, action_sort, OfAction, deed-acted}
+use Rattle.com_laws_safety.proofs.Facts.{IsRuled, admission-ruled, answered-ruled, rest-ruled}
+use Rattle.com_laws_safety.proofs.Threads.{is_homes, source-thread}
+use Rattle.com_laws_safety.proofs.Served.{named-of}
+use Rattle.com_laws_safety.proofs.Ready.{legal-apartment}
+use Rattle.com_laws_balance.proofs.Counts.{Among}
+use Rattle.com_laws_balance.proofs.Homes.{among-any, home-remains}
+use Rattle.com_laws_balance.proofs.Holds.{rows-live}
+use Rattle.com_laws_balance.proofs.Bases.{home-stays}
+use Rattle.com_laws_balance.proofs.Steps.{legal-base, opens-own}
 use Rattle.com_waits.proofs.Homes.{HomesBy, HomeStep, remains, again, to_mta, makes_one, lowers, leaves, sta_of, legal-homes, next-home, home-of-own, home-of-other, none-made, one-made}
 
 -- ---- an open body of an STA stands in a lane whose home it is

@@ -31,17 +31,17 @@ use Rattle.com_model.specs.Rules.{admission, admits_next, answered, arguments_go
 use Rattle.com_model.specs.Safe.{maker, MadeOnTop}
 use Rattle.com_model.proofs.Given.{Given, given-or, given-where, given-map, given-then, cond-of}
 use Rattle.com_model.proofs.Kept.{legal-kept}
-use Rattle.com_safety.proofs.Small.{and-left, and-right, not-both}
-use Rattle.com_safety.proofs.Sources.{Source, by_body, by_script, by_end, by_final, by_own, by_answer, by_inbox, by_retry, by_again, by_rest, IsRest, next-source}
-use Rattle.com_safety.proofs.Acted.{ActionSort, action_sort, OfAction, deed-acted}
-use Rattle.com_safety.proofs.Facts.{IsRuled, admission-ruled, answered-ruled}
-use Rattle.com_safety.proofs.OnTop.{made-on-top}
-use Rattle.com_safety.proofs.Threads.{is_homes, source-thread}
-use Rattle.com_balance.proofs.Says.{Homed, Says, OutSays, next-says}
-use Rattle.com_balance.proofs.Tops.{issue-past}
-use Rattle.com_balance.proofs.Steps.{made-or-new}
-use Rattle.com_balance.proofs.Makings.{same-named}
-use Rattle.com_balance.proofs.Directs.{issue-stays}
+use Rattle.com_laws_safety.proofs.Small.{and-left, and-right, not-both}
+use Rattle.com_laws_safety.proofs.Sources.{Source, by_body, by_script, by_end, by_final, by_own, by_answer, by_inbox, by_retry, by_again, by_rest, IsRest, next-source}
+use Rattle.com_laws_safety.proofs.Acted.{ActionSort, action_sort, OfAction, deed-acted}
+use Rattle.com_laws_safety.proofs.Facts.{IsRuled, admission-ruled, answered-ruled}
+use Rattle.com_laws_safety.proofs.OnTop.{made-on-top}
+use Rattle.com_laws_safety.proofs.Threads.{is_homes, source-thread}
+use Rattle.com_laws_balance.proofs.Says.{Homed, Says, OutSays, next-says}
+use Rattle.com_laws_balance.proofs.Tops.{issue-past}
+use Rattle.com_laws_balance.proofs.Steps.{made-or-new}
+use Rattle.com_laws_balance.proofs.Makings.{same-named}
+use Rattle.com_laws_balance.proofs.Directs.{issue-stays}
 use Rattle.com_waits.proofs.Homes.{HomeStep, remains, again, to_mta, makes_one, lowers, leaves, next-home, home-of-own, home-of-other}
 use Rattle.com_waits.proofs.Lasting.{none-and-some, either-lane}
 

@@ -28,10 +28,10 @@ use Rattle.com_model.specs.Waiting.{PostEffect, Posts, Judges, Delays, GivesUp, 
 use Rattle.com_model.specs.Formed.{Formed}
 use Rattle.com_model.specs.Sight.{sight}
 use Rattle.com_model.specs.Rules.{legal, posted_again, retried, time_of, time_waited}
-use Rattle.com_safety.proofs.Small.{and-both, and-left, cond-when, not-both, same-number}
-use Rattle.com_safety.proofs.Posted.{NewOut, next-new}
-use Rattle.com_balance.proofs.Counts.{Among}
-use Rattle.com_balance.proofs.Directs.{waits-issued}
+use Rattle.com_laws_safety.proofs.Small.{and-both, and-left, cond-when, not-both, same-number}
+use Rattle.com_laws_safety.proofs.Posted.{NewOut, next-new}
+use Rattle.com_laws_balance.proofs.Counts.{Among}
+use Rattle.com_laws_balance.proofs.Directs.{waits-issued}
 use Rattle.com_waits.proofs.Stills.{NoRule, Still}
 use Rattle.com_waits.proofs.Tops.{is-posted, not-answered, own-rule}
 

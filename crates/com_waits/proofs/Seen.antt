@@ -19,11 +19,11 @@ use Rattle.com_model.specs.Formed.{Formed}
 use Rattle.com_model.specs.Sight.{sight}
 use Rattle.com_model.specs.Rules.{admission, admits_next, legal}
 use Rattle.com_model.specs.Ends.{stuck}
-use Rattle.com_safety.proofs.Small.{not-both}
-use Rattle.com_balance.proofs.Counts.{Among}
-use Rattle.com_balance.proofs.Arrivals.{WaitsTop}
-use Rattle.com_balance.proofs.Bases.{first-among}
-use Rattle.com_release.proofs.Arrived.{waits-top}
+use Rattle.com_laws_safety.proofs.Small.{not-both}
+use Rattle.com_laws_balance.proofs.Counts.{Among}
+use Rattle.com_laws_balance.proofs.Arrivals.{WaitsTop}
+use Rattle.com_laws_balance.proofs.Bases.{first-among}
+use Rattle.com_laws_release.proofs.Arrived.{waits-top}
 use Rattle.com_waits.specs.declared.reasons.Why.{Why}
 use Rattle.com_waits.specs.declared.reasons.Why.TheVariants as reason
 use Rattle.com_waits.specs.declared.reasons.Wait.{Wait}

@@ -21,11 +21,11 @@ use Rattle.com_model.specs.Sight.{sight}
 use Rattle.com_model.specs.Rules.{admission, admits_next, admits_sta, is_open_to_calls, is_script_turn, legal, scripted, top}
 use Rattle.com_model.specs.Ends.{stuck}
 use Rattle.com_model.proofs.Kept.{legal-kept}
-use Rattle.com_safety.proofs.Small.{not-both, same-number}
-use Rattle.com_balance.proofs.Counts.{Among}
-use Rattle.com_balance.proofs.Bases.{first-among}
-use Rattle.com_balance.proofs.Directs.{waits-issued}
-use Rattle.com_release.proofs.Lives.{legal-live}
+use Rattle.com_laws_safety.proofs.Small.{not-both, same-number}
+use Rattle.com_laws_balance.proofs.Counts.{Among}
+use Rattle.com_laws_balance.proofs.Bases.{first-among}
+use Rattle.com_laws_balance.proofs.Directs.{waits-issued}
+use Rattle.com_laws_release.proofs.Lives.{legal-live}
 use Rattle.com_waits.specs.declared.reasons.Why.{Why}
 use Rattle.com_waits.specs.declared.reasons.Why.TheVariants as reason
 use Rattle.com_waits.specs.Reasons.{pool_lane, why, why_at, why_at_call}

@@ -21,12 +21,12 @@ use Rattle.com_model.specs.Rules.{next, legal}
 use Rattle.com_model.specs.Safe.{maker, MadeOnTop}
 use Rattle.com_model.proofs.Scenes.{GoodOpeners}
 use Rattle.com_model.proofs.Kept.{legal-kept}
-use Rattle.com_safety.proofs.Sources.{next-source}
-use Rattle.com_safety.proofs.OnTop.{made-on-top}
-use Rattle.com_balance.proofs.Counts.{Among}
-use Rattle.com_balance.proofs.Steps.{waits-number}
-use Rattle.com_balance.proofs.Directs.{openers-own, openers-other, issue-stays, waits-issued}
-use Rattle.com_balance.proofs.Tops.{Tops, next-tops, RuleDeed, not-enter}
+use Rattle.com_laws_safety.proofs.Sources.{next-source}
+use Rattle.com_laws_safety.proofs.OnTop.{made-on-top}
+use Rattle.com_laws_balance.proofs.Counts.{Among}
+use Rattle.com_laws_balance.proofs.Steps.{waits-number}
+use Rattle.com_laws_balance.proofs.Directs.{openers-own, openers-other, issue-stays, waits-issued}
+use Rattle.com_laws_balance.proofs.Tops.{Tops, next-tops, RuleDeed, not-enter}
 
 -- Each call that stands open here has a smaller number.
 abbrev pub Under : ℕ → List Opener → Type 0

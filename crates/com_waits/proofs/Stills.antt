@@ -19,7 +19,7 @@ use Rattle.com_model.specs.Sight.{Sight, sight}
 use Rattle.com_model.specs.Rules.{rule_final, rule_own, rule_answer, rule_bound, rule_inbox, rule_retry, rule_again, rule_pending, rule_word, rule_script, ruled, stepped, lane_next, can_step, no_lane_can, tick_time, next, legal}
 use Rattle.com_model.specs.Deeds.{deed_of}
 use Rattle.com_model.specs.Ends.{finished_by, stuck}
-use Rattle.com_safety.proofs.Small.{and-left, and-right, neither, not-true, none-of}
+use Rattle.com_laws_safety.proofs.Small.{and-left, and-right, neither, not-true, none-of}
 
 -- ---- no lane can step
 

@@ -20,11 +20,11 @@ use Rattle.com_model.specs.Formed.{Formed}
 use Rattle.com_model.specs.Sight.{Sight, sight}
 use Rattle.com_model.specs.Rules.{admission, answered, due_of, enters_itself, legal, packet_left, waiting_call}
 use Rattle.com_model.specs.Ends.{stuck}
-use Rattle.com_safety.proofs.Small.{not-both, neither}
-use Rattle.com_balance.proofs.Counts.{Among}
-use Rattle.com_balance.proofs.Answered.{lane-low}
-use Rattle.com_balance.proofs.Bases.{first-among}
-use Rattle.com_balance.proofs.Directs.{waits-issued}
+use Rattle.com_laws_safety.proofs.Small.{not-both, neither}
+use Rattle.com_laws_balance.proofs.Counts.{Among}
+use Rattle.com_laws_balance.proofs.Answered.{lane-low}
+use Rattle.com_laws_balance.proofs.Bases.{first-among}
+use Rattle.com_laws_balance.proofs.Directs.{waits-issued}
 use Rattle.com_waits.specs.declared.reasons.Why.TheVariants as reason
 use Rattle.com_waits.specs.Reasons.{pool_lane, why_at, why_at_call}
 use Rattle.com_waits.specs.Chains.{lane_named}

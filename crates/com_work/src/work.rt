@@ -2,7 +2,7 @@
 
 ghost use Rattle.std.specs.Prelude.{◌≡◌, ◌↔◌, IfOk, IsTrue, Some};
 ghost use Rattle.com_jobs.specs.Jobs.{HasShape};
-ghost use Rattle.com_moves.specs.Steps.{BodiesWhole};
+ghost use Rattle.com_reference_moves.specs.Steps.{BodiesWhole};
 ghost use Rattle.com_scene.specs.Kept.{HasSlots};
 ghost use Rattle.com_servant.specs.Steps.{IsOfItsClass};
 ghost use Rattle.com_state.specs.SceneParts.{body_at};

@@ -3,7 +3,7 @@ use Rattle.std.specs.Prelude.{refl}
 use Rattle.com_model.specs.declared.scenario.Scenario.{Scenario}
 use Rattle.com_model.specs.Ends.{scheduled}
 use Rattle.com_model.specs.Formed.{Formed}
-use Rattle.com_safe.proofs.Whole.{legal-safe}
+use Rattle.com_laws_safe.proofs.Whole.{legal-safe}
 use Rattle.com_written.specs.OneHistory.{OneHistory}
 use Rattle.com_written.proofs.Fixes.{legal-fixed}
 use Rattle.com_written.proofs.Schedule.{LegalEnd, legal-end}

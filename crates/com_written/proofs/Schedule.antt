@@ -8,7 +8,7 @@ use Rattle.com_model.specs.declared.deeds.Entry.{Entry}
 use Rattle.com_model.specs.declared.scenario.Scenario.{Scenario}
 use Rattle.com_model.specs.declared.counts.Ended.{Ended}
 use Rattle.com_model.specs.declared.counts.Ended.TheVariants as ended
-use Rattle.com_books.specs.Counting.{numbers_from}
+use Rattle.com_refs_books.specs.Counting.{numbers_from}
 use Rattle.com_model.specs.Lists.{or_else, one_to, any_of, is_member, first_that}
 use Rattle.com_model.specs.Tables.{LaneSort, Thread, Host, Pool, NoLane, threads, host_lane, lanes, lane_sort}
 use Rattle.com_model.specs.Sight.{Sight, sight}

@@ -1,5 +1,5 @@
 use Rattle.std.proofs.Common.{◌≡◌, true}
-use Rattle.com_books.specs.Counting.{numbers_from}
+use Rattle.com_refs_books.specs.Counting.{numbers_from}
 use Rattle.com_model.specs.Lists.{each_of}
 use Rattle.com_standing.specs.Standings.{is_unasked}
 use Rattle.com_standing.proofs.are_empty.Given as goal

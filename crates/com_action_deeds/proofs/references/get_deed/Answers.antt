@@ -1,6 +1,6 @@
 use Rattle.std.proofs.Common.{Option, ℕ, ℤ, w64, ap, ◌∙◌}
 use Rattle.std.proofs.lemmas.Int.{to_z-of_z}
-use Rattle.com_books.specs.Changes.{cookie}
+use Rattle.com_refs_books.specs.Changes.{cookie}
 use Rattle.com_model.specs.Deeds.{cookie_number, got}
 use Rattle.com_view.specs.Seen.{sight_by}
 use Rattle.com_action_deeds.proofs.references.get_deed.Goals as goal

@@ -1,5 +1,5 @@
 use Rattle.std.proofs.Common.{sym}
-use Rattle.com_books.specs.Changes.{no_books}
+use Rattle.com_refs_books.specs.Changes.{no_books}
 use Rattle.com_view.specs.Seen.{bare}
 use Rattle.com_action_deeds.proofs.Says.{says_not}
 use Rattle.com_action_deeds.proofs.references.route.Goals as goal

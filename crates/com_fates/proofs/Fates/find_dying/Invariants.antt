@@ -1,6 +1,6 @@
 use Rattle.std.proofs.Common.{◌≡◌, ◌≤◌, ◌+◌, ◌++◌, ℕ, Bool, filter, drop, length, vec_capacity, vec_len}
 use Rattle.std.specs.Prelude.{is_some}
-use Rattle.com_books.specs.Counting.{count_if}
+use Rattle.com_refs_books.specs.Counting.{count_if}
 use Rattle.com_fates.specs.Falling.{begins_by, placed_in}
 use Rattle.com_refs.specs.Counts.{holders_of}
 use Rattle.com_fates.proofs.Fates.find_dying.Given as goal

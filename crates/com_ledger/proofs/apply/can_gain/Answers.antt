@@ -1,9 +1,9 @@
 use Rattle.std.proofs.Common.{◌≡◌, ◌||◌, ℕ, true, subst, sym, ◌∙◌, arith, inl, inr}
 use Rattle.std.proofs.lemmas.Bool.{cases_lt}
 use Rattle.std.specs.Prelude.{slice_index_or}
-use Rattle.com_holders.specs.Tables.{offers}
-use Rattle.com_booking.specs.Entries.{is_made_by}
-use Rattle.com_booking.specs.Moving.{no_move}
+use Rattle.com_refs_holders.specs.Tables.{offers}
+use Rattle.com_refs_rows.specs.Entries.{is_made_by}
+use Rattle.com_refs_rows.specs.Moving.{no_move}
 use Rattle.com_ledger.proofs.apply.can_gain.Goals as goal
 
 pub loop-moved-init : goal.loop-moved-init

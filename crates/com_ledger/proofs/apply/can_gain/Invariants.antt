@@ -1,8 +1,8 @@
 use Rattle.std.proofs.Common.{ℕ, ◌≡◌, ◌<◌, ◌||◌, true}
 use Rattle.std.specs.Prelude.{slice_index_or}
-use Rattle.com_holders.specs.Tables.{offers}
-use Rattle.com_booking.specs.Entries.{is_made_by}
-use Rattle.com_booking.specs.Moving.{no_move}
+use Rattle.com_refs_holders.specs.Tables.{offers}
+use Rattle.com_refs_rows.specs.Entries.{is_made_by}
+use Rattle.com_refs_rows.specs.Moving.{no_move}
 use Rattle.com_ledger.proofs.apply.can_gain.Given as goal
 
 abbrev pub invariant-loop-moved : goal.invariant-loop-moved

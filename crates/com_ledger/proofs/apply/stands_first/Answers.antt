@@ -1,6 +1,6 @@
 use Rattle.std.proofs.Common.{arith}
 use Rattle.std.proofs.lemmas.Grind.{common_steps}
-use Rattle.com_booking.specs.Moving.{no_move}
+use Rattle.com_refs_rows.specs.Moving.{no_move}
 use Rattle.com_ledger.proofs.Exchanging.{first_same}
 use Rattle.com_ledger.proofs.apply.stands_first.Goals as goal
 

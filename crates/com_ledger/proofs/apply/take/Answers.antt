@@ -1,11 +1,11 @@
 use Rattle.std.proofs.Common.{◌≡◌, true, false, length, take, drop, ◌-◌, ◌++◌, List, refl, sym, ap, ◌∙◌, arith, length-drop}
 use Rattle.std.proofs.lemmas.List.{take-append-drop}
-use Rattle.com_moves.specs.declared.moves.Move.{Move}
+use Rattle.com_reference_moves.specs.declared.moves.Move.{Move}
 use Rattle.com_ledger.proofs.Exchanging.{whole_taken, exchanged_kept, exchanged_again}
-use Rattle.com_booking.specs.Moving.{plus}
+use Rattle.com_refs_rows.specs.Moving.{plus}
 use Rattle.com_ledger.proofs.Offered.{offered_rest}
-use Rattle.com_booking.proofs.Placed.{same_counts}
-use Rattle.com_booking.proofs.Unheld.{touches-more, touches-then}
+use Rattle.com_refs_rows.proofs.Placed.{same_counts}
+use Rattle.com_refs_rows.proofs.Unheld.{touches-more, touches-then}
 use Rattle.com_ledger.proofs.apply.take.Goals as goal
 
 pub gain_all-requires-clause-known : goal.gain_all-requires-clause-known

@@ -1,8 +1,8 @@
 use Rattle.std.proofs.Common.{ℤ, rules, subst}
 use Rattle.std.proofs.lemmas.Int.{to_z-of_z}
-use Rattle.com_books.specs.Changes.{Revokes}
+use Rattle.com_refs_books.specs.Changes.{Revokes}
 use Rattle.com_model.specs.Deeds.{cookie_number}
-use Rattle.com_booking.specs.Books.{Taken}
+use Rattle.com_refs_rows.specs.Books.{Taken}
 use Rattle.com_ledger.proofs.Closing.{closed_revoke}
 use mir.Syntax.{w64}
 use mir.Val.{SFits}

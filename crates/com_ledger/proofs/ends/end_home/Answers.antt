@@ -3,8 +3,8 @@ use Rattle.std.specs.Prelude.{Option}
 use Rattle.std.proofs.lemmas.Bool.Decides.{nat_tests}
 use Rattle.com_model.specs.declared.deeds.Deed.TheVariants as deed
 use Rattle.com_state.specs.Parts.{ObjectTables, named_at}
-use Rattle.com_booking.specs.Books.{Cut, books_with}
-use Rattle.com_booking.specs.Entries.{Closed, entered, tally}
+use Rattle.com_refs_rows.specs.Books.{Cut, books_with}
+use Rattle.com_refs_rows.specs.Entries.{Closed, entered, tally}
 use Rattle.com_ledger.proofs.Closing.{closed_uninit}
 use Rattle.com_ledger.proofs.ends.end_home.Goals as goal
 

@@ -1,8 +1,8 @@
 use Rattle.std.proofs.Common.{ℕ, sym, subst}
 use Rattle.std.specs.Prelude.{Option}
 use Rattle.com_model.specs.declared.deeds.Deed.TheVariants as deed
-use Rattle.com_booking.specs.Books.{books_with}
-use Rattle.com_booking.specs.Entries.{Closed, entered, tally}
+use Rattle.com_refs_rows.specs.Books.{books_with}
+use Rattle.com_refs_rows.specs.Entries.{Closed, entered, tally}
 use Rattle.com_ledger.proofs.Closing.{closed_drop}
 use Rattle.com_ledger.proofs.ends.end_packet.Goals as goal
 

@@ -1,7 +1,7 @@
 use Rattle.std.proofs.Common.{subst, ◌<◌, ℕ, ℤ, w64, ap, ◌∙◌}
 use Rattle.std.proofs.lemmas.Int.{to_z-of_z}
-use Rattle.com_books.specs.Changes.{cookie}
-use Rattle.com_holders.specs.Tables.{books_of}
+use Rattle.com_refs_books.specs.Changes.{cookie}
+use Rattle.com_refs_holders.specs.Tables.{books_of}
 use Rattle.com_model.specs.Deeds.{cookie_number}
 use Rattle.com_ledger.proofs.Reading.{cookie_found}
 use Rattle.com_ledger.proofs.reads.cookie_at.Goals as goal

@@ -1,7 +1,7 @@
 use Rattle.std.proofs.Common.{◌≡◌, ◌+◌, ◌-◌, not}
-use Rattle.com_books.specs.Changes.{packet}
-use Rattle.com_books.specs.Counting.{numbers_from}
-use Rattle.com_holders.specs.Tables.{books_of}
+use Rattle.com_refs_books.specs.Changes.{packet}
+use Rattle.com_refs_books.specs.Counting.{numbers_from}
+use Rattle.com_refs_holders.specs.Tables.{books_of}
 use Rattle.com_model.specs.Lists.{first_that}
 use Rattle.com_ledger.proofs.reads.left_one.Given as goal
 

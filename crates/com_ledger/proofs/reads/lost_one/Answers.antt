@@ -1,7 +1,7 @@
 use Rattle.std.proofs.Common.{not, sym, ◌∙◌}
-use Rattle.com_books.specs.Changes.{packet}
-use Rattle.com_holders.specs.Tables.{books_of}
-use Rattle.com_booking.proofs.Listed.{any_first, any_found, any_passed, any_none}
+use Rattle.com_refs_books.specs.Changes.{packet}
+use Rattle.com_refs_holders.specs.Tables.{books_of}
+use Rattle.com_refs_rows.proofs.Listed.{any_first, any_found, any_passed, any_none}
 use Rattle.com_ledger.proofs.reads.lost_one.Goals as goal
 
 pub loop-place-init : goal.loop-place-init

@@ -1,5 +1,5 @@
 use Rattle.std.proofs.Common.{ℕ, ◌<◌, ◌≤◌, length, subst}
-use Rattle.com_holders.specs.Tables.{Tables}
+use Rattle.com_refs_holders.specs.Tables.{Tables}
 use Rattle.com_refs.specs.Counts.{holders_of}
 use Rattle.com_refs.proofs.Bounds.{held_made}
 use Rattle.com_refs.proofs.Refs.bounds.Goals as goal

@@ -2,7 +2,7 @@ use Rattle.std.proofs.Common.{◌≡◌, ◌∙◌, sym, ap, Bool, false, cond}
 use Rattle.std.specs.Prelude.{Some}
 use Rattle.com_slots.specs.Table.{held_in}
 use Rattle.com_stub.specs.StubRows.{is_connected}
-use Rattle.com_holders.specs.Tables.{cookie_read}
+use Rattle.com_refs_holders.specs.Tables.{cookie_read}
 use Rattle.com_refs.proofs.Finding.{cookie_is, no_cookie_is}
 use Rattle.com_refs.proofs.Refs.cookie_row.Goals as goal
 

@@ -1,5 +1,5 @@
 use Rattle.std.proofs.Common.{arith}
-use Rattle.com_holders.specs.Tables.{is_owned, owners_of}
+use Rattle.com_refs_holders.specs.Tables.{is_owned, owners_of}
 use Rattle.com_refs.proofs.Steps.{cut_counted}
 use Rattle.com_refs.proofs.Refs.end_apartment.Goals as goal
 

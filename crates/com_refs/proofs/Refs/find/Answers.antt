@@ -1,5 +1,5 @@
 use Rattle.std.proofs.Common.{◌≡◌, ◌<◌, ◌^◌, ◌∙◌, sym, ap, arith, length, true, false, subst}
-use Rattle.com_holders.specs.Tables.{Tables, object_in}
+use Rattle.com_refs_holders.specs.Tables.{Tables, object_in}
 use Rattle.com_refs.specs.Found.{IsFound}
 use Rattle.com_refs.proofs.Finding.{finds, found_inside, found_number}
 use Rattle.com_refs.proofs.Refs.find.Goals as goal

@@ -1,6 +1,6 @@
 use Rattle.std.proofs.Common.{◌≡◌, not, ap, ◌∙◌, arith, take, drop, length, ◌++◌}
 use Rattle.std.proofs.lemmas.Grind.{common_steps}
-use Rattle.com_holders.specs.Tables.{owns_of}
+use Rattle.com_refs_holders.specs.Tables.{owns_of}
 use Rattle.com_refs.specs.Counts.{hold_more}
 use Rattle.com_refs.proofs.Counteds.{more_length}
 use Rattle.com_refs.proofs.Steps.{took}

@@ -1,10 +1,10 @@
 use Rattle.std.proofs.Common.{◌≡◌, ℕ, Bool, eqb, not, ◌&&◌, ◌+◌, ◌∷◌, [], refl, sym, ap, ◌∙◌, arith, take, drop, length, ◌++◌}
 use Rattle.std.proofs.lemmas.Grind.{common_steps}
-use Rattle.com_books.specs.Counting.{count_if}
-use Rattle.com_holders.specs.Places.{places_of}
-use Rattle.com_holders.specs.Makes.{MadeWithPlace}
-use Rattle.com_holders.specs.Tables.{owns_of, object_in, direct_in}
-use Rattle.com_holders.proofs.Enrolls.{direct_new}
+use Rattle.com_refs_books.specs.Counting.{count_if}
+use Rattle.com_refs_holders.specs.Places.{places_of}
+use Rattle.com_refs_holders.specs.Makes.{MadeWithPlace}
+use Rattle.com_refs_holders.specs.Tables.{owns_of, object_in, direct_in}
+use Rattle.com_refs_holders.proofs.Enrolls.{direct_new}
 use Rattle.com_refs.specs.Counts.{hold_more}
 use Rattle.com_refs.proofs.Counteds.{more_length}
 use Rattle.com_refs.proofs.Makings.{made_but, made_counted, owner_new, same_owner}

@@ -1,5 +1,5 @@
 use Rattle.std.proofs.Common.{◌≡◌, ◌↔◌, ◌<◌, true, arith, subst}
-use Rattle.com_holders.specs.Tables.{Tables, direct_in}
+use Rattle.com_refs_holders.specs.Tables.{Tables, direct_in}
 use Rattle.com_refs.specs.Counts.{holders_of}
 use Rattle.com_refs.proofs.Losses.{held_where_connected}
 use Rattle.com_refs.proofs.Refs.is_held.Goals as goal

@@ -1,10 +1,10 @@
 use Rattle.std.proofs.Common.{◌≡◌, cond, eqb, not, ◌&&◌, ◌||◌, ◌+◌, ap, ◌∙◌, subst, length, ◌≤◌}
 use Rattle.com_stub.specs.CounterRows.{has_counter}
-use Rattle.com_books.specs.Counting.{count_if}
-use Rattle.com_books.specs.Changes.{Books, changed, change, Makes}
-use Rattle.com_holders.specs.Places.{places_of}
-use Rattle.com_holders.specs.Steps.{made_live, among}
-use Rattle.com_holders.specs.Tables.{Tables, owns_of, books_of, object_in}
+use Rattle.com_refs_books.specs.Counting.{count_if}
+use Rattle.com_refs_books.specs.Changes.{Books, changed, change, Makes}
+use Rattle.com_refs_holders.specs.Places.{places_of}
+use Rattle.com_refs_holders.specs.Steps.{made_live, among}
+use Rattle.com_refs_holders.specs.Tables.{Tables, owns_of, books_of, object_in}
 use Rattle.com_refs.proofs.Refs.made.Goals as goal
 
 pub returns-clause-row : goal.returns-clause-row

@@ -1,7 +1,7 @@
 use Rattle.std.proofs.Common.{◌≡◌, not, true, ap, ◌∙◌, arith, take, drop, length, ◌++◌}
 use Rattle.std.proofs.lemmas.Grind.{common_steps}
 use Rattle.com_stub.specs.StubRows.{is_connected}
-use Rattle.com_books.specs.Changes.{is_weak}
+use Rattle.com_refs_books.specs.Changes.{is_weak}
 use Rattle.com_refs.specs.Counts.{hold_more}
 use Rattle.com_refs.proofs.Counteds.{more_length}
 use Rattle.com_refs.proofs.Steps.{marshalled}

@@ -1,7 +1,7 @@
 use mathlib.Core.Path.{fun_ext}
 use Rattle.std.proofs.Common.{◌≡◌, not, refl, ap, ◌∙◌, arith, take, drop, length, ◌++◌}
 use Rattle.std.proofs.lemmas.Grind.{common_steps}
-use Rattle.com_holders.specs.Tables.{owns_of}
+use Rattle.com_refs_holders.specs.Tables.{owns_of}
 use Rattle.com_refs.specs.Counts.{hold_of, hold_less}
 use Rattle.com_refs.proofs.Counteds.{settled_ends, settled_stands, less_length}
 use Rattle.com_refs.proofs.Losses.{settled_lost}

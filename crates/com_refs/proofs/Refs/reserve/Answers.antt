@@ -1,5 +1,5 @@
 use Rattle.std.proofs.Common.{sym, subst, arith}
-use Rattle.com_holders.specs.Tables.{Tables}
+use Rattle.com_refs_holders.specs.Tables.{Tables}
 use Rattle.com_refs.specs.Counts.{IsCounted}
 use Rattle.com_refs.proofs.Makings.{spare_counted}
 use Rattle.com_refs.proofs.Refs.reserve.Goals as goal

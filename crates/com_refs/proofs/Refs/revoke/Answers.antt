@@ -1,8 +1,8 @@
 use Rattle.std.proofs.Common.{◌≡◌, Bool, cond, true, refl, sym, ap, ◌∙◌, arith, take, drop, length, ◌++◌}
 use Rattle.std.proofs.lemmas.Grind.{common_steps}
-use Rattle.com_books.specs.Changes.{Books}
-use Rattle.com_books.specs.Ends.{ends}
-use Rattle.com_holders.specs.Tables.{books_of}
+use Rattle.com_refs_books.specs.Changes.{Books}
+use Rattle.com_refs_books.specs.Ends.{ends}
+use Rattle.com_refs_holders.specs.Tables.{books_of}
 use Rattle.std.specs.Prelude.{Some, None}
 use Rattle.com_refs.specs.Counts.{hold_of, hold_less, unheld}
 use Rattle.com_refs.proofs.Counteds.{settled_ends, settled_stands, less_length}

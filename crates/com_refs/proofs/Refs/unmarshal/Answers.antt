@@ -1,7 +1,7 @@
 use Rattle.std.proofs.Common.{◌≡◌, Bool, not, cond, true, false, refl, sym, ap, ◌∙◌, arith, take, drop, length, ◌++◌, List, ℕ}
 use Rattle.std.proofs.lemmas.Grind.{common_steps}
-use Rattle.com_holders.specs.Tables.{owns_of}
-use Rattle.com_holders.proofs.Cuts.{outstanding_held}
+use Rattle.com_refs_holders.specs.Tables.{owns_of}
+use Rattle.com_refs_holders.proofs.Cuts.{outstanding_held}
 use Rattle.com_refs.specs.Counts.{hold_less, hold_more}
 use Rattle.com_refs.proofs.Counteds.{less_length, more_length}
 use Rattle.com_refs.proofs.Steps.{unmarshalled}

@@ -1,7 +1,7 @@
 use Rattle.std.proofs.Common.{◌≡◌, ℕ, ◌+◌, true, [], ◌∷◌, ◌++◌, length, slice_index_or, vec_len, refl, ap, ◌∙◌, arith}
 use Rattle.com_base.specs.declared.standard.StdFields.{StdFields}
 use Rattle.com_base.specs.declared.value.MarshalMode.TheVariants as marshal
-use Rattle.com_books.specs.Changes.{new_packet, no_books}
+use Rattle.com_refs_books.specs.Changes.{new_packet, no_books}
 use Rattle.com_model.specs.Deeds.{packet_fields}
 use Rattle.com_view.specs.Seen.{bare}
 use Rattle.com_rules.proofs.making.append_field.Goals as goal

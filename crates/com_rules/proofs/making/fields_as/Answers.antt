@@ -1,5 +1,5 @@
 use Rattle.std.proofs.Common.{◌≡◌, sym, ap, ◌∙◌}
-use Rattle.com_books.specs.declared.keeps.Packet.{Packet}
+use Rattle.com_refs_books.specs.declared.keeps.Packet.{Packet}
 use Rattle.com_model.specs.Deeds.{packet_fields}
 use Rattle.com_state.specs.Parts.{named_at}
 use Rattle.com_view.specs.Seen.{Seen, sight_by}

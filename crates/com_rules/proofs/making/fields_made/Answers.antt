@@ -2,7 +2,7 @@ use Rattle.std.specs.List.{AllByRecursion}
 use Rattle.std.specs.Prelude.{map}
 use Rattle.std.proofs.Common.{◌≡◌, ℕ, List, length, sym, ap, subst, ◌∙◌}
 use Rattle.com_base.specs.declared.value.RefValue.{RefValue}
-use Rattle.com_books.specs.Changes.{marshal_all}
+use Rattle.com_refs_books.specs.Changes.{marshal_all}
 use Rattle.com_exchange.specs.declared.preview.Outgoing.{Outgoing}
 use Rattle.com_exchange.specs.Previews.{IsOutgoing, reference_of}
 use Rattle.com_model.specs.Deeds.{fields_since, with_packets}

@@ -1,7 +1,7 @@
 use Rattle.std.proofs.Common.{◌≡◌, ℕ, ◌+◌, length, Bool, Some, sym, ap, ◌∙◌}
 use Rattle.com_base.specs.declared.standard.StdFields.{StdFields}
-use Rattle.com_books.specs.Changes.{new_packet}
-use Rattle.com_books.specs.declared.keeps.Packet.{Packet}
+use Rattle.com_refs_books.specs.Changes.{new_packet}
+use Rattle.com_refs_books.specs.declared.keeps.Packet.{Packet}
 use Rattle.com_model.specs.declared.deeds.Deed.TheVariants as deed
 use Rattle.com_model.specs.Answers.{S_OK}
 use Rattle.com_model.specs.Deeds.{packet_fields}

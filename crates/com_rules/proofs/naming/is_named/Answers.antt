@@ -1,6 +1,6 @@
 use Rattle.std.proofs.Common.{◌≡◌, true, ◌&&◌, refl, sym, ap, ◌∙◌, arith}
 use Rattle.com_base.specs.declared.standard.StdFields.{StdFields}
-use Rattle.com_books.specs.declared.keeps.Packet.{Packet}
+use Rattle.com_refs_books.specs.declared.keeps.Packet.{Packet}
 use Rattle.com_model.specs.Deeds.{packet_fields, same_fields}
 use Rattle.com_state.specs.Parts.{named_at}
 use Rattle.com_view.specs.Seen.{Seen, sight_by}

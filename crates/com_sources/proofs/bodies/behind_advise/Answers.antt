@@ -1,10 +1,10 @@
 use Rattle.com_body.specs.declared.statements.Stmt.{Stmt}
-use Rattle.com_points.specs.Bodies.{take_place}
+use Rattle.com_laws_sources.specs.Bodies.{take_place}
 use Rattle.com_sources.specs.Heads.{advise_head}
 use Rattle.com_sources.proofs.Behind.{peel, if_none, places_0, places_1, places_2, places_3}
 use Rattle.std.specs.Prelude.{◌≡◌, List, ◌∷◌, ◌++◌}
 use Rattle.com_body.specs.declared.operands.Given.TheVariants as given
-use Rattle.com_points.specs.Bodies.{advise_limit, leave_with}
+use Rattle.com_laws_sources.specs.Bodies.{advise_limit, leave_with}
 use Rattle.com_sources.proofs.bodies.behind_advise.Goals as goal
 
 pub returns-in_err-rest-2-clause-none : goal.returns-in_err-rest-2-clause-none

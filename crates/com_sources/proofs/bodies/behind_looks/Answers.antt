@@ -1,6 +1,6 @@
 use Rattle.com_body.specs.declared.statements.Stmt.{Stmt}
 use Rattle.std.specs.Prelude.{◌≡◌, List, ◌++◌}
-use Rattle.com_points.specs.Bodies.{look_in}
+use Rattle.com_laws_sources.specs.Bodies.{look_in}
 use Rattle.com_sources.specs.Heads.{unadvise_head}
 use Rattle.com_sources.proofs.Behind.{peel, if_none, looks_0, looks_1, looks_2}
 use Rattle.com_sources.proofs.bodies.behind_looks.Goals as goal

@@ -1,6 +1,6 @@
 use Rattle.com_body.specs.declared.statements.Stmt.{Stmt}
 use Rattle.std.specs.Prelude.{◌≡◌, List}
-use Rattle.com_points.specs.Bodies.{look_at}
+use Rattle.com_laws_sources.specs.Bodies.{look_at}
 use Rattle.com_sources.proofs.Behind.{peel, if_none, none_map, finds_0, finds_1, finds_2, finds_3, sends}
 use Rattle.com_sources.proofs.bodies.behind_round.Goals as goal
 

@@ -1,6 +1,6 @@
 use Rattle.com_body.specs.declared.statements.Stmt.{Stmt}
 use Rattle.std.specs.Prelude.{◌≡◌, List, ◌++◌}
-use Rattle.com_points.specs.Bodies.{event_round}
+use Rattle.com_laws_sources.specs.Bodies.{event_round}
 use Rattle.com_sources.specs.Heads.{fire_head}
 use Rattle.com_sources.proofs.Behind.{peel, if_none, none_map, rounds_1, rounds_2, rounds_3, rounds_4}
 use Rattle.com_sources.proofs.bodies.behind_rounds.Goals as goal

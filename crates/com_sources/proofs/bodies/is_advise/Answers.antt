@@ -1,5 +1,5 @@
 use Rattle.std.specs.Prelude.{[], ◌++◌}
-use Rattle.com_points.specs.Bodies.{advise_body}
+use Rattle.com_laws_sources.specs.Bodies.{advise_body}
 use Rattle.com_sources.specs.Heads.{advise_head}
 use Rattle.com_sources.proofs.Behind.{never, places_0, whole}
 use Rattle.com_sources.proofs.bodies.is_advise.Goals as goal

@@ -1,5 +1,5 @@
 use Rattle.std.specs.Prelude.{[], ◌∷◌, ◌++◌}
-use Rattle.com_points.specs.Bodies.{fire_body, leave_register}
+use Rattle.com_laws_sources.specs.Bodies.{fire_body, leave_register}
 use Rattle.com_sources.specs.Heads.{fire_head}
 use Rattle.com_sources.proofs.Behind.{never, rounds_4, whole}
 use Rattle.com_sources.proofs.bodies.is_fire.Goals as goal

@@ -1,5 +1,5 @@
 use Rattle.std.specs.Prelude.{[], ◌++◌}
-use Rattle.com_points.specs.Bodies.{unadvise_body}
+use Rattle.com_laws_sources.specs.Bodies.{unadvise_body}
 use Rattle.com_sources.specs.Heads.{unadvise_head}
 use Rattle.com_sources.proofs.Behind.{looks_0, moves, never, peel, unadvise_end}
 use Rattle.com_sources.proofs.bodies.is_unadvise.Goals as goal

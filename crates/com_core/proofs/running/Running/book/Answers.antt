@@ -1,7 +1,7 @@
 -- What an entry makes of a ledger, beside the parts of the core.
 use Rattle.std.proofs.Common.{◌≡◌, subst}
 use Rattle.com_model.specs.Lists.{number_or_zero}
-use Rattle.com_booking.specs.Entries.{Around, around}
+use Rattle.com_refs_rows.specs.Entries.{Around, around}
 use Rattle.com_core.specs.Making.{Booked}
 use Rattle.com_core.proofs.running.Running.book.Goals as goal
 

@@ -2,16 +2,16 @@
 use Rattle.std.proofs.Common.{◌≡◌, ℕ, List, All, ap, arith, length, vec_capacity, ◌∙◌, subst, sym}
 use Rattle.com_fates.specs.Most.{Most}
 use Rattle.com_model.specs.Lists.{number_or_zero}
-use Rattle.com_moves.specs.Steps.{moves_stepped}
-use Rattle.com_moves.specs.Tables.{ground_at}
+use Rattle.com_reference_moves.specs.Steps.{moves_stepped}
+use Rattle.com_reference_moves.specs.Tables.{ground_at}
 use Rattle.com_objects.specs.Lists.{BodyCounts, DyingList}
 use Rattle.com_parts.specs.Tables.{PartTables}
-use Rattle.com_places.specs.Moves.{Moves}
+use Rattle.com_laws_places.specs.Moves.{Moves}
 use Rattle.com_refs.specs.Counts.{holders_of}
 use Rattle.com_scene.specs.Actors.{acting_of}
 use Rattle.com_scene.specs.Kept.{HasSlots}
-use Rattle.com_booking.specs.Books.{Held}
-use Rattle.com_booking.specs.Entries.{Around, around, most_left}
+use Rattle.com_refs_rows.specs.Books.{Held}
+use Rattle.com_refs_rows.specs.Entries.{Around, around, most_left}
 use Rattle.com_core.specs.Changes.{Becomes, Settles, sent_by}
 use Rattle.com_core.specs.Making.{Booked}
 use Rattle.com_core.specs.Shown.{parts_shown}

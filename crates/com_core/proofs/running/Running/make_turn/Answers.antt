@@ -2,7 +2,7 @@
 use Rattle.std.proofs.Common.{List, subst}
 use Rattle.com_base.specs.declared.value.RefValue.{RefValue}
 use Rattle.com_scene.specs.Actors.{acting_of}
-use Rattle.com_booking.specs.Books.{books_held}
+use Rattle.com_refs_rows.specs.Books.{books_held}
 use Rattle.com_core.specs.Changes.{sent_by}
 use Rattle.com_core.specs.Making.{Changed}
 use Rattle.com_core.specs.Stands.{state_read}

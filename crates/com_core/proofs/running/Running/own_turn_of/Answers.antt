@@ -1,6 +1,6 @@
 -- A turn is that of what is read of the core.
 use Rattle.std.proofs.Common.{Option, subst}
-use Rattle.com_booking.specs.Books.{books_held}
+use Rattle.com_refs_rows.specs.Books.{books_held}
 use Rattle.com_turns.specs.declared.turns.Turn.{Turn}
 use Rattle.com_turns.specs.Turns.{IsNext, IsTurn}
 use Rattle.com_view.specs.Seen.{Seen}

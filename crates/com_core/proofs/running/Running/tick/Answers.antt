@@ -2,7 +2,7 @@
 use Rattle.std.proofs.Common.{◌≡◌, Some, ap, sym, ◌∙◌}
 use Rattle.com_calls.specs.Kept.{Kept}
 use Rattle.com_calls.specs.Waits.{next_wait}
-use Rattle.com_booking.specs.Books.{books_held}
+use Rattle.com_refs_rows.specs.Books.{books_held}
 use Rattle.com_core.specs.Stands.{state_read}
 use Rattle.com_core.proofs.Turned.{tick_made}
 use Rattle.com_core.proofs.running.Running.tick.Goals as goal

@@ -1,7 +1,7 @@
 -- A lane can step by the parts where it can by the state that they are.
 use Rattle.std.proofs.Common.{◌≡◌, ap, ◌∙◌}
 use Rattle.std.specs.Arc.{arc_value}
-use Rattle.com_booking.specs.Books.{books_held}
+use Rattle.com_refs_rows.specs.Books.{books_held}
 use Rattle.com_drive.specs.Standings.{can_step_in}
 use Rattle.com_model.specs.declared.scenario.Scenario.{Scenario}
 use Rattle.com_model.specs.Rules.{can_step}

@@ -2,7 +2,7 @@
 use Rattle.std.proofs.Common.{◌≡◌, ap, subst, ◌∙◌}
 use Rattle.std.specs.Arc.{arc_value}
 use Rattle.com_drive.specs.Reports.{counts_in}
-use Rattle.com_booking.specs.Books.{Held}
+use Rattle.com_refs_rows.specs.Books.{Held}
 use Rattle.com_ledger.specs.Ties.{Ties}
 use Rattle.com_ledger.proofs.Counted.{direct_counted, packets_counted, proxies_counted, stub_counted, tables_counted}
 use Rattle.com_model.specs.State.{State}

@@ -1,7 +1,7 @@
 -- What a lane does next by the parts is what it does by the state that they are.
 use Rattle.std.proofs.Common.{◌≡◌, ap, ◌∙◌, is_some}
 use Rattle.std.specs.Arc.{arc_value}
-use Rattle.com_booking.specs.Books.{books_held}
+use Rattle.com_refs_rows.specs.Books.{books_held}
 use Rattle.com_jobs.specs.Jobs.{next_in}
 use Rattle.com_model.specs.declared.scenario.Scenario.{Scenario}
 use Rattle.com_model.specs.Rules.{ruled, top}

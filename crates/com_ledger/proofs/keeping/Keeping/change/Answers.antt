@@ -1,14 +1,14 @@
 use Rattle.std.proofs.Common.{◌≡◌, ℕ, List, length, sym, ap, subst, ◌∙◌, arith}
-use Rattle.com_booking.specs.declared.calls.CallPackets.{CallPackets}
-use Rattle.com_booking.specs.Entries.{asked_packets}
-use Rattle.com_moves.specs.Steps.{moving_of}
+use Rattle.com_refs_rows.specs.declared.calls.CallPackets.{CallPackets}
+use Rattle.com_refs_rows.specs.Entries.{asked_packets}
+use Rattle.com_reference_moves.specs.Steps.{moving_of}
 use Rattle.std.proofs.lemmas.List.{length-map}
 use Rattle.com_objects.specs.Settled.{Rise}
-use Rattle.com_booking.specs.Entries.{Applies, Loses, around, tally}
-use Rattle.com_booking.specs.Moving.{Climbs}
-use Rattle.com_booking.proofs.Changing.{applies_whole}
+use Rattle.com_refs_rows.specs.Entries.{Applies, Loses, around, tally}
+use Rattle.com_refs_rows.specs.Moving.{Climbs}
+use Rattle.com_refs_rows.proofs.Changing.{applies_whole}
 use Rattle.com_ledger.proofs.Kept.{held_made, loses_kept}
-use Rattle.com_booking.proofs.Unholding.{loses_whole}
+use Rattle.com_refs_rows.proofs.Unholding.{loses_whole}
 use Rattle.com_ledger.proofs.keeping.Keeping.change.Goals as goal
 
 pub take-requires-clause-known : goal.take-requires-clause-known

@@ -2,11 +2,11 @@ use Rattle.std.proofs.Common.{◌≡◌, arith, Bool, cond, not, [], refl, sym, 
 use Rattle.std.proofs.lemmas.Result.{on_ok_weaker}
 use Rattle.com_model.specs.declared.deeds.Deed.{Deed}
 use Rattle.com_model.specs.declared.deeds.Deed.TheVariants as deed
-use Rattle.com_booking.specs.declared.calls.CallPackets.{CallPackets}
-use Rattle.com_booking.specs.Entries.{Gives, around, tally}
+use Rattle.com_refs_rows.specs.declared.calls.CallPackets.{CallPackets}
+use Rattle.com_refs_rows.specs.Entries.{Gives, around, tally}
 use Rattle.com_ledger.proofs.Giving.{given_out, given_leave, given_enter, gives_back, gives_later, gives_other}
-use Rattle.com_booking.proofs.Losing.{on_ok, on_ok_three}
-use Rattle.com_booking.specs.Entries.{asked_packets}
+use Rattle.com_refs_rows.proofs.Losing.{on_ok, on_ok_three}
+use Rattle.com_refs_rows.specs.Entries.{asked_packets}
 use Rattle.com_ledger.proofs.keeping.Keeping.enter_call.Goals as goal
 
 pub returns-in-Out-clause-gives : goal.returns-in-Out-clause-gives

@@ -1,8 +1,8 @@
 use Rattle.std.proofs.Common.{Bool, not, refl, sym, subst, ap, ◌∙◌}
 use Rattle.com_model.specs.declared.deeds.Deed.{Deed}
 use Rattle.com_model.specs.declared.deeds.Deed.TheVariants as deed
-use Rattle.com_booking.specs.declared.calls.CallPackets.{CallPackets}
-use Rattle.com_booking.specs.Entries.{Closes, around, tally, left_by}
+use Rattle.com_refs_rows.specs.declared.calls.CallPackets.{CallPackets}
+use Rattle.com_refs_rows.specs.Entries.{Closes, around, tally, left_by}
 use Rattle.com_ledger.proofs.Closing.{closes_tables, closes_nothing, closes_back, not_ender}
 use Rattle.com_ledger.proofs.keeping.Keeping.enter_end.Goals as goal
 

@@ -1,10 +1,10 @@
 use Rattle.std.proofs.Common.{◌≡◌, ◌<◌, ◌||◌, true, sym, subst, ap, ◌∙◌}
-use Rattle.com_holders.specs.Tables.{offers}
+use Rattle.com_refs_holders.specs.Tables.{offers}
 use Rattle.std.proofs.lemmas.Result.{on_ok_weaker}
 use Rattle.com_model.specs.declared.deeds.Deed.{Deed}
-use Rattle.com_booking.specs.Entries.{Gives, around, brings_to, is_made_by, tally}
+use Rattle.com_refs_rows.specs.Entries.{Gives, around, brings_to, is_made_by, tally}
 use Rattle.com_ledger.proofs.Giving.{gives_made, gives_query, gives_marshal, gives_unmarshal, gives_register, gives_get, not_of_reference}
-use Rattle.com_booking.proofs.Losing.{on_ok}
+use Rattle.com_refs_rows.proofs.Losing.{on_ok}
 use Rattle.com_ledger.proofs.Offered.{or_left, unmade}
 use Rattle.com_ledger.proofs.keeping.Keeping.enter_reference.Goals as goal
 

@@ -1,10 +1,10 @@
 use Rattle.std.proofs.Common.{◌≡◌, List, subst}
 use Rattle.std.specs.Prelude.{OnOk}
 use Rattle.com_model.specs.Lists.{number_or_zero}
-use Rattle.com_moves.specs.declared.moves.Move.{Move}
-use Rattle.com_moves.specs.Steps.{movings_of}
-use Rattle.com_booking.specs.Books.{Held}
-use Rattle.com_booking.specs.Entries.{Loses, around, tally}
+use Rattle.com_reference_moves.specs.declared.moves.Move.{Move}
+use Rattle.com_reference_moves.specs.Steps.{movings_of}
+use Rattle.com_refs_rows.specs.Books.{Held}
+use Rattle.com_refs_rows.specs.Entries.{Loses, around, tally}
 use Rattle.com_ledger.proofs.ledger.Ledger.apply.Goals as goal
 
 pub returns-clause-applies : goal.returns-clause-applies

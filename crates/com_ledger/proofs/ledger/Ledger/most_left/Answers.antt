@@ -1,8 +1,8 @@
 use Rattle.std.proofs.Common.{◌≡◌, length, sym, ap, ◌∙◌, arith, subst}
 use Rattle.std.proofs.lemmas.List.{length-map}
-use Rattle.com_booking.specs.Books.{Held}
-use Rattle.com_booking.specs.Entries.{most_left}
-use Rattle.com_moves.specs.Steps.{moving_of}
+use Rattle.com_refs_rows.specs.Books.{Held}
+use Rattle.com_refs_rows.specs.Entries.{most_left}
+use Rattle.com_reference_moves.specs.Steps.{moving_of}
 use Rattle.com_ledger.proofs.ledger.Ledger.most_left.Goals as goal
 
 pub returns : goal.returns

@@ -1,5 +1,5 @@
 use Rattle.std.proofs.Common.{◌≡◌, false}
-use Rattle.com_books.specs.Changes.{Books}
+use Rattle.com_refs_books.specs.Changes.{Books}
 use Rattle.com_model.specs.Lists.{any_of, one_to}
 use Rattle.com_model.specs.Rules.{can_step}
 use Rattle.com_view.specs.Seen.{sight_by}

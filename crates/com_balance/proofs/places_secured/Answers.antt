@@ -1,5 +1,0 @@
-use Rattle.com_balance.proofs.Laws.{legal-balance}
-use Rattle.com_balance.proofs.places_secured.Goals as goal
-
-pub returns : goal.returns
-returns c = legal-balance

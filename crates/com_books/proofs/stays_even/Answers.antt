@@ -1,5 +1,0 @@
-use Rattle.com_books.proofs.Evens.{stays-even}
-use Rattle.com_books.proofs.stays_even.Goals as goal
-
-pub returns : goal.returns
-returns c = stays-even

@@ -1,8 +1,0 @@
-use Rattle.com_bounds.proofs.Standing.{few, place}
-use Rattle.com_bounds.proofs.counters.Goals as goal
-
-pub returns-clause-few : goal.returns-clause-few
-returns-clause-few c = few
-
-pub returns-clause-place : goal.returns-clause-place
-returns-clause-place c = place

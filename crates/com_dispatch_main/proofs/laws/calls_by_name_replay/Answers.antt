@@ -1,5 +1,0 @@
-use Rattle.com_dispatch_main.proofs.Answering.{behind_lines}
-use Rattle.com_dispatch_main.proofs.laws.calls_by_name_replay.Goals as goal
-
-pub returns : goal.returns
-returns c = behind_lines

@@ -1,0 +1,158 @@
+-- The law of balance: the stub's count is what is held, and a connected object's proxy place has a proxy.
+use Rattle.std.proofs.Common.{subst, sym, ap, ◌∙◌, inl, inr, eqb-true}
+use Rattle.std.specs.Prelude.{◌≡◌, refl, ℕ, Bool, true, false, cond, ◌==◌, ◌||◌, List, [], ◌∷◌, Option, Some, None}
+use Rattle.com_base.specs.declared.hresult.HResult.{HResult}
+use Rattle.com_base.specs.declared.value.RefValue.{RefValue}
+use Rattle.com_base.specs.declared.value.Kind.{Kind}
+use Rattle.com_base.specs.declared.value.Value.{Value}
+use Rattle.com_base.specs.declared.value.Value.TheVariants as value
+use Rattle.com_base.specs.Values.{as_kind}
+use Rattle.com_body.specs.declared.actions.Action.TheVariants as action
+use Rattle.com_model.specs.declared.deeds.Deed.{Deed}
+use Rattle.com_model.specs.declared.deeds.Deed.TheVariants as deed
+use Rattle.com_model.specs.declared.deeds.Entry.{Entry}
+use Rattle.com_model.specs.declared.scenario.Scenario.{Scenario}
+use Rattle.com_model.specs.Answers.{is_failure}
+use Rattle.com_model.specs.Lists.{is_number}
+use Rattle.com_model.specs.Tables.{lane_sort}
+use Rattle.com_model.specs.Openers.{openers}
+use Rattle.com_model.specs.declared.keeps.Opener.{Opener}
+use Rattle.com_model.specs.declared.keeps.Opener.TheVariants.{Enters}
+use Rattle.com_model.specs.Apartments.{home}
+use Rattle.com_model.specs.Objects.{objects, agile, named, class_of}
+use Rattle.com_model.specs.Calls.{issue, calls, admitted, left, returns, returned, route_of, is_direct}
+use Rattle.com_model.specs.declared.keeps.Issue.{Issue}
+use Rattle.com_model.specs.declared.keeps.Admission.{Admission}
+use Rattle.com_model.specs.declared.keeps.Leaving.{Leaving}
+use Rattle.com_model.specs.Values.{sent_value, sent_result, given_or_default}
+use Rattle.com_model.specs.Frames.{scene, Actor, Body, actor, actor_in, outcome, acting, act_by, act, value_reference}
+use Rattle.com_model.specs.Places.{ground, entered_in, left_value}
+use Rattle.com_model.specs.Books.{books}
+use Rattle.com_model.specs.Safe.{EachPrefix, Balanced, Secured, Balance}
+use Rattle.com_model.specs.Sight.{sight}
+use Rattle.com_model.specs.Rules.{legal}
+use Rattle.com_model.specs.Formed.{Formed}
+use Rattle.com_laws_balance.proofs.Counts.{Among, PlaceOf, of_script, of_body, of_link, of_result}
+use Rattle.com_laws_balance.proofs.Secures.{Backed, secured-step}
+use Rattle.com_laws_balance.proofs.Balances.{legal-balanced}
+use Rattle.com_laws_balance.proofs.Carries.{HeldBy, ValueBy, ResultBy}
+use Rattle.com_laws_balance.proofs.Moves.{SceneBy, acting-is, scene-by}
+use Rattle.com_laws_balance.proofs.Stacks.{open-admitted, still-admitted}
+use Rattle.com_laws_balance.proofs.Results.{kind_of}
+use Rattle.com_laws_balance.proofs.Says.{LeaveSays, next-says}
+use Rattle.com_laws_balance.proofs.Bases.{I_of, L_of, actor-orderly, top-among, some-none, body-action}
+use Rattle.com_laws_balance.proofs.Steps.{made-or-new}
+use Rattle.com_laws_balance.proofs.Directs.{issue-stays, admitted-past}
+use Rattle.com_laws_balance.proofs.Pending.{kind-by, default-by, direct-not-marshalled}
+use Rattle.com_laws_balance.proofs.Answered.{TopEnter, leave-top, left-known, left-admitted}
+use Rattle.com_laws_balance.proofs.Tests.{S1, B1, K1, still-backed, in-slots-by, ActsLaw, shares-law, acting-law, nobody-law, before-law}
+use Rattle.com_laws_balance.proofs.Arrivals.{none-reference, known-of, arrives-law}
+
+-- ---- the result of a Leave
+
+value-held : (P : RefValue → Type 0) (v : Value) → ValueBy P v → HeldBy P (value_reference (Some v))
+value-held P (value.Ref held) p = p
+value-held P (value.Int x) p = tt
+value-held P (value.Bool x) p = tt
+value-held P (value.Text x) p = tt
+value-held P (value.Bytes x) p = tt
+value-held P (value.Guid x) p = tt
+
+given-by : (P : RefValue → Type 0) (k : Kind) (x : Option Value) → ResultBy P x → ValueBy P (given_or_default k x)
+given-by P k None p = default-by P k
+given-by P k (Some v) p = p
+
+leave-held : (P : RefValue → Type 0) (live : ℕ → Bool) (hr : HResult) (k : Option Kind) (x : Option Value) → ResultBy P x → HeldBy P (value_reference (sent_result false live hr k x))
+leave-held P live hr None x p = tt
+leave-held P live hr (Some k) x p = by-test (is_failure hr)
+  where
+    by-test : (t : Bool) → HeldBy P (value_reference (cond t None (Some (sent_value false live k (given_or_default k x)))))
+    by-test true = tt
+    by-test false = value-held P (as_kind (given_or_default k x) k) (kind-by P (given_or_default k x) k (given-by P k x p))
+
+leave-given : (s : Scenario) (h : List Entry) (l c : ℕ) (hr : HResult) (v : Option Value) (bytes : Option (List ℕ)) (o a : ℕ) (rest : List Opener) (given : Option Value) → Formed s → legal s (record { lane = l; deed = deed.Leave c hr v bytes } ∷ h) → Secured s h → openers h l ≡ Enters c o a ∷ rest → act s h l ≡ Some (action.Leave hr given) → ResultBy (B1 s h (record { lane = l; deed = deed.Leave c hr v bytes }) c) given
+leave-given s h l c hr v bytes o a rest given f q w p e =
+    let x : Entry = record { lane = l; deed = deed.Leave c hr v bytes } in
+    body-action s (S1 s h x) (B1 s h x) (K1 s h x) (agile s h o ≡ false) (class_of h) (issue h) (scene s h) c o (action.Leave hr given)
+    (shares-law s h x l c o a f q (top-among c o a (openers h l) rest p)) (actor-orderly s h f (Body c o)) (before-law s h x f q w)
+    (subst (λ (os : List Opener). act_by s (class_of h) (issue h) (scene s h) (actor (lane_sort s l) l os) ≡ Some (action.Leave hr given)) p e)
+
+leave-backed : (s : Scenario) (h : List Entry) (l c : ℕ) (hr : HResult) (v : Option Value) (bytes : Option (List ℕ)) (a : ℕ) (r : RefValue) → Formed s → legal s (record { lane = l; deed = deed.Leave c hr v bytes } ∷ h) → Secured s h → is_direct (route_of (issue h c)) ≡ true → entered_in a (admitted h c) ≡ true → value_reference v ≡ Some r → Backed s h (record { lane = l; deed = deed.Leave c hr v bytes }) a r
+leave-backed s h l c hr v bytes a r f q w z n m =
+    let x : Entry = record { lane = l; deed = deed.Leave c hr v bytes } in
+    let t : TopEnter (openers h l) c = leave-top s h l c (deed.Leave c hr v bytes) hr v bytes q.1 refl in
+    let says : LeaveSays s (sight s h) l c hr v bytes = next-says s h l (deed.Leave c hr v bytes) q.1 in
+    let among : Among (Enters c t.object t.apartment) (openers h l) = top-among c t.object t.apartment (openers h l) t.rest t.is in
+    let given : ResultBy (B1 s h x c) says.given = leave-given s h l c hr v bytes t.object t.apartment t.rest says.given f q w t.is says.acts in
+    let same : t.apartment ≡ a = eqb-true t.apartment a (subst (λ (y : Option Admission). entered_in a y ≡ true) (open-admitted s h q.0 l c t.object t.apartment among) n) in
+    elim says.sent as (λ _. Backed s h x a r) [
+      | inl k ↦ absurd (none-reference v r k m)
+      | inr k ↦ subst (λ (b : ℕ). Backed s h x b r) same
+          (subst (HeldBy (B1 s h x c)) m (subst (λ (y : Option Value). HeldBy (B1 s h x c) (value_reference y)) (sym (k ∙ ap (λ (b : Bool). sent_result b (books s h).live hr (kind_of s (issue h c)) says.given) (direct-not-marshalled (route_of (issue h c)) z)))
+          (leave-held (B1 s h x c) (books s h).live hr (kind_of s (issue h c)) says.given given)) l t.object t.apartment (inl among))
+    ]
+
+-- ---- a direct result
+
+or-none : (p q : Bool) → (p || q) ≡ false → (p ≡ false) × (q ≡ false)
+or-none true q e = cc
+or-none false q e = (refl, e)
+
+no-left : (x : Option Leaving) (r : RefValue) → x ≡ None → value_reference (left_value x) ≡ Some r → ⊥
+no-left None r n e = cc
+no-left (Some y) r n e = cc
+
+result-old : (s : Scenario) (h : List Entry) (e : Entry) (c a : ℕ) (r : RefValue) → Formed s → legal s (e ∷ h) → Secured s h → is_direct (route_of (issue (e ∷ h) c)) ≡ true → entered_in a (admitted (e ∷ h) c) ≡ true → returned (e ∷ h) c ≡ false → value_reference (left_value (left h c)) ≡ Some r → Backed s h e a r
+result-old s h e c a r f q w z n b m =
+    elim (admitted h c) as (λ x. admitted h c ≡ x → Backed s h e a r) [
+      | None ↦ λ p. absurd (no-left (left h c) r (left-admitted s h c q.0 p) m)
+      | Some y ↦ λ p. elim (made-or-new (calls h) c) as (λ _. Backed s h e a r) [
+        | inl low ↦ still-backed s h e a r f q w (known-of (objects h) (value_reference (left_value (left h c))) r (left-known s h c f q.0) m)
+            (of_result c low (subst (λ (i : Option Issue). is_direct (route_of i) ≡ true) (issue-stays s h e c q low) z)
+            (subst (λ (x : Option Admission). entered_in a x ≡ true) (sym p) (subst (λ (x : Option Admission). entered_in a x ≡ true) (still-admitted s h e.lane c e.deed y q.1 p) n))
+            (or-none (is_number c (returns e.deed)) (returned h c) b).1 m)
+        | inr past ↦ absurd (some-none (admitted h c) y p (admitted-past s h c q.0 past))
+      ]
+    ] refl
+
+result-deed : (s : Scenario) (h : List Entry) (l : ℕ) (d : Deed) (c a : ℕ) (r : RefValue) → Formed s → legal s (record { lane = l; deed = d } ∷ h) → Secured s h → is_direct (route_of (issue (record { lane = l; deed = d } ∷ h) c)) ≡ true → entered_in a (admitted (record { lane = l; deed = d } ∷ h) c) ≡ true → returned (record { lane = l; deed = d } ∷ h) c ≡ false → value_reference (left_value (left (record { lane = l; deed = d } ∷ h) c)) ≡ Some r → Backed s h (record { lane = l; deed = d }) a r
+result-deed s h l (deed.Leave k hr v bytes) c a r f q w z n b m =
+    elim (k == c) as (λ t. (k == c) ≡ t → value_reference (left_value (cond t (Some (record { call = k; hr = hr; value = v })) (left h c))) ≡ Some r → Backed s h (record { lane = l; deed = deed.Leave k hr v bytes }) a r) [
+      | true ↦ λ e p. leave-backed s h l k hr v bytes a r f q w (subst (λ (j : ℕ). is_direct (route_of (issue h j)) ≡ true) (sym (eqb-true k c e)) z) (subst (λ (j : ℕ). entered_in a (admitted h j) ≡ true) (sym (eqb-true k c e)) n) p
+      | false ↦ λ e p. result-old s h (record { lane = l; deed = deed.Leave k hr v bytes }) c a r f q w z n b p
+    ] refl m
+result-deed s h l d c a r f q w z n b m = result-old s h (record { lane = l; deed = d }) c a r f q w z n b m
+
+-- ---- the law
+
+acts-law : (s : Scenario) (h : List Entry) (e : Entry) → Formed s → legal s (e ∷ h) → ActsLaw s h e (acting s (class_of h) (issue h) (scene s h) (actor_in s h e.lane) e.deed)
+acts-law s h e f q = acting-is (ActsLaw s h e) s (class_of h) (issue h) (scene s h) (actor_in s h e.lane) e.deed (acting-law s h e f q) (nobody-law s h e)
+
+after-law : (s : Scenario) (h : List Entry) (e : Entry) → Formed s → legal s (e ∷ h) → Secured s h → SceneBy (S1 s h e) (B1 s h e) (K1 s h e) (scene s (e ∷ h))
+after-law s h e f q w =
+    let u : Actor = acting s (class_of h) (issue h) (scene s h) (actor_in s h e.lane) e.deed in
+    let a : ActsLaw s h e u = acts-law s h e f q in
+    scene-by s (S1 s h e) (B1 s h e) (K1 s h e) (I_of u) (L_of s h u) (class_of h) (named h) (issue h) u (actor_in s (e ∷ h) e.lane) e.lane e.deed (scene s h)
+    a.shares (actor-orderly s h f u) a.taken (arrives-law s h e u (outcome s (class_of h) (issue h) (scene s h) u) f q w) (before-law s h e f q w)
+
+home-is : (a : ℕ) (x : Option ℕ) → is_number a x ≡ true → x ≡ Some a
+home-is a None e = cc
+home-is a (Some b) e = ap (λ (n : ℕ). Some n) (sym (eqb-true a b e))
+
+places-backed : (s : Scenario) (h : List Entry) (e : Entry) → Formed s → legal s (e ∷ h) → Secured s h → (a : ℕ) (r : RefValue) → PlaceOf s (ground s (e ∷ h)) (scene s (e ∷ h)) a r → Backed s h e a r
+places-backed s h e f q w a r (of_script l k low z is) = in-slots-by (S1 s h e l) ((scene s (e ∷ h)).scripts l).slots r ((after-law s h e f q w).scripts l).slots (record { index = k; is = is }) low a (home-is a (home s (e ∷ h) l) z)
+places-backed s h e f q w a r (of_body l c x k low m is) = in-slots-by (B1 s h e c) ((scene s (e ∷ h)).bodies c).slots r ((after-law s h e f q w).bodies c).slots (record { index = k; is = is }) l x a (inr m)
+places-backed s h e f q w a r (of_link x k low n is) = subst (λ (b : ℕ). Backed s h e b r) n ((in-slots-by (K1 s h e x) ((scene s (e ∷ h)).cells x).links r ((after-law s h e f q w).links x) (record { index = k; is = is })).1 low)
+places-backed s h e f q w a r (of_result c low z n b m) = result-deed s h e.lane e.deed c a r f q w z n b m
+
+pub legal-secured : (s : Scenario) (h : List Entry) → Formed s → legal s h → Secured s h
+legal-secured s [] f q = λ a o i live other some. cc
+legal-secured s (e ∷ h) f q = secured-step s h e (places-backed s h e f q (legal-secured s h f q.0))
+
+each-both : (s : Scenario) (h : List Entry) → Formed s → legal s h → EachPrefix (Balanced s) h → Balance s h
+each-both s [] f q b = (b, legal-secured s [] f q)
+each-both s (e ∷ h) f q b = (each-both s h f q.0 b.0, (b.1, legal-secured s (e ∷ h) f q))
+
+-- After every prefix of a legal history of a formed scenario both hold.
+pub legal-balance : (s : Scenario) (h : List Entry) → Formed s → legal s h → Balance s h
+legal-balance s h f q = each-both s h f q (legal-balanced s h q)

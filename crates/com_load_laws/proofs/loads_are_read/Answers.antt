@@ -1,8 +1,0 @@
-use Rattle.com_load_laws.proofs.Reading.{formed, read_again}
-use Rattle.com_load_laws.proofs.loads_are_read.Goals as goal
-
-pub returns-clause-read : goal.returns-clause-read
-returns-clause-read c = read_again
-
-pub returns-clause-formed : goal.returns-clause-formed
-returns-clause-formed c = formed

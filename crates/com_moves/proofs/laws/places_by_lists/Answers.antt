@@ -1,5 +1,0 @@
-use Rattle.com_moves.proofs.Held.{places-lists}
-use Rattle.com_moves.proofs.laws.places_by_lists.Goals as goal
-
-pub returns : goal.returns
-returns c = places-lists

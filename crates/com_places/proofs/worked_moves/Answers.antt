@@ -1,5 +1,0 @@
-use Rattle.com_places.proofs.Worked.{worked}
-use Rattle.com_places.proofs.worked_moves.Goals as goal
-
-pub returns : goal.returns
-returns c = worked

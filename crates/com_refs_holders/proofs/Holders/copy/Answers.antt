@@ -1,0 +1,18 @@
+use Rattle.std.proofs.Common.{◌≡◌, ◌∙◌, sym, Bool, true, false, subst}
+use Rattle.com_refs_holders.specs.Places.{OneMore}
+use Rattle.com_refs_holders.specs.Tables.{owns_of}
+use Rattle.com_refs_holders.proofs.Issues.{direct_made}
+use Rattle.com_refs_holders.proofs.Holders.copy.Goals as goal
+
+pub keep_direct-requires-clause-made : goal.keep_direct-requires-clause-made
+keep_direct-requires-clause-made c = direct_made c.args.self.now.objects c.args.held.object (c.requires.direct (sym c.owns.ensures ∙ c.if-owns.true))
+
+pub returns-then-owns-clause-places : goal.returns-then-owns-clause-places
+returns-then-owns-clause-places c =
+    let own : owns_of c.args.self.now.objects c.args.held.object c.args.apartment ≡ true = sym c.owns.ensures ∙ c.if-owns.true in
+    subst (λ (w : Bool). OneMore c.args.self.now c.keep_direct.new.self c.args.apartment c.args.held.object w) (sym own) (c.keep_direct.ensures.places c.args.apartment)
+
+pub returns-clause-places : goal.returns-clause-places
+returns-clause-places c =
+    let own : owns_of c.args.self.now.objects c.args.held.object c.args.apartment ≡ false = sym c.owns.ensures ∙ c.if-owns.false in
+    subst (λ (w : Bool). OneMore c.args.self.now c.keep_elsewhere.new.self c.args.apartment c.args.held.object w) (sym own) c.keep_elsewhere.ensures.places

@@ -1,0 +1,10 @@
+use Rattle.std.proofs.Common.{ℕ, ap}
+use Rattle.std.specs.Prelude.{Option}
+use Rattle.com_model.specs.declared.deeds.Deed.TheVariants as deed
+use Rattle.com_model.specs.Books.{rows}
+use Rattle.com_refs_rows.proofs.Rowless.{gained_nil}
+use Rattle.com_refs_rows.proofs.entries.enter_unmarshal.Goals as goal
+
+pub returns-in-None-clause-row : goal.returns-in-None-clause-row
+returns-in-None-clause-row c = λ held n hr s x left b.
+    gained_nil c.args.apartment _ c.args.refs.now c.args.brought.now.items (ap (λ (p : Option ℕ). rows s x left b c.args.apartment (deed.Unmarshal p held n hr)) c.in-None.is)

@@ -1,0 +1,34 @@
+use Rattle.std.proofs.Common.{[], ◌∷◌, refl, ap, ◌∙◌}
+use Rattle.com_refs_holders.specs.Tables.{books_of, owns_of}
+use Rattle.com_model.specs.Tables.{has_agile_model}
+use Rattle.com_refs_rows.proofs.Makings.{made_books, made_counts}
+use Rattle.com_refs_rows.specs.Books.{moved_to}
+use Rattle.com_refs_rows.specs.Moving.{plus}
+use Rattle.com_refs_rows.proofs.Owning.{grown_one}
+use Rattle.com_refs_rows.proofs.Unholding.{made-more}
+use Rattle.com_refs_rows.proofs.making.make.Goals as goal
+
+pub returns-clause-made : goal.returns-clause-made
+returns-clause-made c =
+    let t = c.args.refs.now in
+    let u = c.made.new.self in
+    let next = c.if-not-can_make.ensures.new refl in
+    record {
+      next = next;
+      owns = c.in_ok-made.ensures.owns;
+      counts = λ n places below made counts. made_counts n places t u c.args.apartment c.args.held (owns_of u.objects c.args.held.object c.args.apartment) next refl c.in_ok-made.ensures.owns c.in_ok-made.ensures.direct c.in_ok-made.ensures.elsewhere (c.tells.ensures.totals n places counts) below made counts;
+      books = c.in_ok-made.ensures.row ∙ made_books (owns_of u.objects) (books_of t) c.args.apartment c.args.held.object c.args.held.iface;
+    }
+
+pub returns-clause-grown : goal.returns-clause-grown
+returns-clause-grown c = grown_one c.args.classes.now (record { object = c.args.held.object; apartment = c.args.owner; class = c.args.class }) c.args.refs.now c.made.new.self c.are_agile.result (c.are_agile.ensures ∙ ap has_agile_model c.in-Some.ensures) c.in_ok-made.ensures.made c.in_ok-made.ensures.whose
+
+pub returns-clause-more : goal.returns-clause-more
+returns-clause-more c = (λ n places below made counts.
+    let t = c.args.refs.now in
+    let u = c.made.new.self in
+    let next = c.if-not-can_make.ensures.new refl in
+    let was = c.tells.ensures.totals n places counts in
+    let later = made_counts n places t u c.args.apartment c.args.held (owns_of u.objects c.args.held.object c.args.apartment) next refl c.in_ok-made.ensures.owns c.in_ok-made.ensures.direct c.in_ok-made.ensures.elsewhere was below made counts in
+    made-more t u c.args.apartment c.args.held (owns_of u.objects c.args.held.object c.args.apartment) n places c.in_ok-made.ensures.row c.in_ok-made.ensures.direct was
+    (c.tells-2.ensures.totals n (plus places (moved_to c.args.apartment c.args.held ∷ [])) later))

@@ -1,0 +1,25 @@
+-- Who owns objects after an entry that may make one.
+use Rattle.std.specs.Prelude.{◌≡◌, ℕ, Bool, ◌==◌, ◌||◌, if◌then◌else◌, length, Option, Some, None}
+use Rattle.com_classes.specs.Lookups.{class_at}
+use Rattle.com_classes.specs.Tables.{Tables as ClassTables}
+use Rattle.com_refs_holders.specs.Tables.{Tables, owns_of}
+use Rattle.com_model.specs.declared.keeps.Making.{Making}
+use Rattle.com_model.specs.Objects.{one_more}
+use Rattle.com_model.specs.Tables.{has_agile_model}
+
+-- Whether an apartment owns an object, by the classes, where it is told whether the apartment owned it
+-- before.
+abbrev pub owns_by : ClassTables → Option Making → (object apartment : ℕ) → Bool → Bool
+owns_by t None o a x = x
+owns_by t (Some m) o a x =
+    if m.object == o then has_agile_model (class_at t m.class) || a == m.apartment else x
+
+-- There is one object more where one is made. That is owned as its making says, and every other as before.
+pub record Grown (classes : ClassTables) (making : Option Making) (t u : Tables) : Type 0 where
+  pub number : length u.objects ≡ one_more making (length t.objects)
+  pub owns : (x c : ℕ) → owns_of u.objects x c ≡ owns_by classes making x c (owns_of t.objects x c)
+
+-- There are as many objects, and each is owned as before.
+abbrev pub AsOwned : Tables → Tables → Type 0
+AsOwned t u =
+    (length u.objects ≡ length t.objects) × ((x c : ℕ) → owns_of u.objects x c ≡ owns_of t.objects x c)

@@ -1,0 +1,229 @@
+//! The rows of entries that make, ask for, marshal, unmarshal, register or get a reference.
+ghost use Rattle.std.specs.Prelude.{◌≡◌, ◌+◌, ◌<◌, ◌≤◌, ◌||◌, ℕ, true, IfOk, OnErr, OnOk, List, Option};
+ghost use Rattle.std.specs.Prelude.{vec_len, vec_capacity};
+ghost use Rattle.com_base.specs.declared.hresult.HResult.{HResult};
+ghost use Rattle.com_base.specs.declared.value.RefValue.{RefValue};
+ghost use Rattle.com_refs_holders.specs.Tables.{offers};
+ghost use Rattle.com_model.specs.declared.deeds.Deed.TheVariants as deed;
+ghost use Rattle.com_model.specs.Books.{back_rows};
+ghost use Rattle.com_reference_moves.specs.declared.moves.Move.{Move};
+ghost use Rattle.com_refs_rows.specs.Books.{Gained, KeepsHeld};
+ghost use Rattle.com_refs_rows.specs.Calls.{number_of};
+ghost use Rattle.com_refs_rows.specs.Entries.{RowsOf, MakesOrNone, is_made};
+ghost use Rattle.com_refs_rows.specs.Moving.{HoldsMore};
+
+use crate::making::make;
+use crate::rows::{get, marshal, query, read, register, unproved_fact};
+use com_base::{HResult, MarshalMode, Memory, RefValue};
+use com_body::Asked;
+use com_classes::Classes;
+use com_reference_moves::Move;
+use com_refs::Refs;
+
+// A reference by an interface that has a number of 16 bits.
+fn reference(object: u32, iface: u32) -> Result<RefValue, Memory>
+    ensures ok { IfOk result (λ held. held ≡ record { object = object; iface = iface }) }
+    ensures err { OnErr result (0xffff < iface) }
+{
+    if iface > 0xffff {
+        return Err(unproved_fact());
+    }
+    let iface = iface as u16;
+    Ok(RefValue { object, iface })
+}
+
+/// The row of a new object.
+pub fn enter_made(
+    refs: &mut Refs,
+    brought: &mut Vec<Move>,
+    set: &mut Vec<u16>,
+    classes: &Classes,
+    apartment: u32,
+    object: Option<u32>,
+    owner: Option<u32>,
+    class: Asked,
+    iface: Asked,
+) -> Result<(), Memory>
+    requires place { vec_len brought.old < vec_capacity brought.old }
+    requires room { 0 < refs.old.spare }
+    ensures row { OnOk result
+        (MakesOrNone classes.now apartment object owner class iface refs.old refs.new brought.old.items
+        brought.new.items) }
+    ensures more { OnOk result (KeepsHeld apartment refs.old refs.new) }
+    ensures err { OnErr result (refs.new ≡ refs.old) }
+    ensures offers { OnOk result ((x j : ℕ) → (offers refs.old x j || is_made object iface x j) ≡ true
+        → offers refs.new x j ≡ true) }
+    ensures issued { refs.new.issued ≤ refs.old.issued + 2 }
+    ensures spare { refs.old.spare ≤ refs.new.spare + 1 }
+    ensures len { vec_len brought.new ≤ vec_len brought.old + 1 }
+{
+    let Some(object) = object else {
+        return Ok(());
+    };
+    let Some(owner) = owner else {
+        return Err(unproved_fact());
+    };
+    let Asked::Number(class) = class else {
+        return Err(unproved_fact());
+    };
+    let Asked::Number(iface) = iface else {
+        return Err(unproved_fact());
+    };
+    let held = reference(object, iface)?;
+    make(refs, brought, set, classes, apartment, held, owner, class)
+}
+
+/// The row of a reference that was asked for an interface.
+pub fn enter_query(
+    refs: &mut Refs,
+    brought: &mut Vec<Move>,
+    apartment: u32,
+    object: Option<u32>,
+    iface: Asked,
+    hr: HResult,
+) -> Result<(), Memory>
+    requires place { vec_len brought.old < vec_capacity brought.old }
+    ensures row { OnOk result (RowsOf apartment
+        (deed.Query object iface hr) refs.old refs.new brought.old.items brought.new.items) }
+    ensures more { OnOk result (HoldsMore refs.old refs.new) }
+    ensures err { OnErr result (refs.new ≡ refs.old) }
+    ensures offers { (x j : ℕ) → offers refs.new x j ≡ offers refs.old x j }
+    ensures issued { refs.new.issued ≤ refs.old.issued + 1 }
+    ensures spare { refs.old.spare ≤ refs.new.spare + 1 }
+    ensures len { vec_len brought.new ≤ vec_len brought.old + 1 }
+{
+    let Some(object) = object else {
+        return Ok(());
+    };
+    let Asked::Number(iface) = iface else {
+        return Ok(());
+    };
+    if hr.0 != 0 {
+        return Ok(());
+    }
+    let held = reference(object, iface)?;
+    query(refs, brought, apartment, held)
+}
+
+/// The row of a packet that was read.
+pub fn enter_unmarshal(
+    refs: &mut Refs,
+    brought: &mut Vec<Move>,
+    apartment: u32,
+    packet: Option<u32>,
+) -> Result<(), Memory>
+    requires place { vec_len brought.old < vec_capacity brought.old }
+    requires room { 0 < refs.old.spare }
+    ensures row { OnOk result ((held : Option RefValue) (n : ℕ) (hr : HResult)
+        → RowsOf apartment
+        (deed.Unmarshal packet held n hr) refs.old refs.new brought.old.items brought.new.items) }
+    ensures more { OnOk result (HoldsMore refs.old refs.new) }
+    ensures err { OnErr result (refs.new ≡ refs.old) }
+    ensures offers { (x j : ℕ) → offers refs.new x j ≡ offers refs.old x j }
+    ensures issued { refs.new.issued ≤ refs.old.issued + 1 }
+    ensures spare { refs.old.spare ≤ refs.new.spare + 1 }
+    ensures len { vec_len brought.new ≤ vec_len brought.old + 1 }
+{
+    match packet {
+        None => Ok(()),
+        Some(packet) => read(refs, brought, apartment, packet),
+    }
+}
+
+/// The row of a packet of a reference.
+pub fn enter_marshal(
+    refs: &mut Refs,
+    apartment: u32,
+    packet: Option<u32>,
+    mode: MarshalMode,
+    held: Option<RefValue>,
+) -> Result<(), Memory>
+    requires room { 0 < refs.old.spare }
+    ensures row { OnOk result ((n : ℕ) (hr : HResult) (bytes : Option (List ℕ)) (brought : List Move)
+        → RowsOf apartment (deed.Marshal packet mode held n hr bytes) refs.old refs.new brought brought) }
+    ensures more { OnOk result (HoldsMore refs.old refs.new) }
+    ensures err { OnErr result (refs.new ≡ refs.old) }
+    ensures offers { (x j : ℕ) → offers refs.new x j ≡ offers refs.old x j }
+    ensures issued { refs.new.issued ≤ refs.old.issued + 1 }
+    ensures spare { refs.old.spare ≤ refs.new.spare + 1 }
+{
+    let Some(_) = packet else {
+        return Ok(());
+    };
+    match held {
+        None => Ok(()),
+        Some(held) => marshal(refs, apartment, held, mode),
+    }
+}
+
+/// The row of a cookie of a reference.
+pub fn enter_register(
+    refs: &mut Refs,
+    cookie: Option<u32>,
+    held: Option<RefValue>,
+) -> Result<(), Memory>
+    ensures row { OnOk result ((a : ℕ) (hr : HResult) (brought : List Move)
+        → RowsOf a (deed.Register cookie held hr) refs.old refs.new brought brought) }
+    ensures more { OnOk result (HoldsMore refs.old refs.new) }
+    ensures err { OnErr result (refs.new ≡ refs.old) }
+    ensures offers { (x j : ℕ) → offers refs.new x j ≡ offers refs.old x j }
+    ensures issued { refs.new.issued ≤ refs.old.issued + 1 }
+    ensures spare { refs.old.spare ≤ refs.new.spare + 1 }
+{
+    let Some(_) = cookie else {
+        return Ok(());
+    };
+    match held {
+        None => Ok(()),
+        Some(held) => register(refs, held),
+    }
+}
+
+/// The row of a cookie whose reference was taken.
+pub fn enter_get(
+    refs: &mut Refs,
+    brought: &mut Vec<Move>,
+    apartment: u32,
+    cookie: &i64,
+    held: Option<RefValue>,
+) -> Result<(), Memory>
+    requires place { vec_len brought.old < vec_capacity brought.old }
+    ensures row { OnOk result ((n : ℕ) (hr : HResult)
+        → RowsOf apartment
+        (deed.Get cookie.now held n hr) refs.old refs.new brought.old.items brought.new.items) }
+    ensures more { OnOk result (HoldsMore refs.old refs.new) }
+    ensures err { OnErr result (refs.new ≡ refs.old) }
+    ensures offers { (x j : ℕ) → offers refs.new x j ≡ offers refs.old x j }
+    ensures issued { refs.new.issued ≤ refs.old.issued + 1 }
+    ensures spare { refs.old.spare ≤ refs.new.spare + 1 }
+    ensures len { vec_len brought.new ≤ vec_len brought.old + 1 }
+{
+    match held {
+        None => Ok(()),
+        Some(held) => get(refs, brought, apartment, *cookie, held),
+    }
+}
+
+/// The row of a result's packet that is read: its call's answer is its body's Leave.
+pub fn enter_back(
+    refs: &mut Refs,
+    brought: &mut Vec<Move>,
+    apartment: u32,
+    number: u32,
+) -> Result<(), Memory>
+    requires place { vec_len brought.old < vec_capacity brought.old }
+    requires room { 0 < refs.old.spare }
+    ensures row { OnOk result (Gained apartment (back_rows apartment true
+        (number_of number)) refs.old refs.new brought.old.items brought.new.items) }
+    ensures more { OnOk result (HoldsMore refs.old refs.new) }
+    ensures err { OnErr result (refs.new ≡ refs.old) }
+    ensures offers { (x j : ℕ) → offers refs.new x j ≡ offers refs.old x j }
+    ensures issued { refs.new.issued ≤ refs.old.issued + 1 }
+    ensures spare { refs.old.spare ≤ refs.new.spare + 1 }
+    ensures len { vec_len brought.new ≤ vec_len brought.old + 1 }
+{
+    if number == 0 {
+        return Ok(());
+    }
+    read(refs, brought, apartment, number)
+}

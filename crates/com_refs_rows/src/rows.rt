@@ -1,0 +1,339 @@
+//! The rows of the table of reference counting, one for each kind of entry.
+ghost use Rattle.std.specs.Prelude.{◌≡◌, ◌+◌, ◌<◌, ◌≤◌, ◌^◌, ◌↔◌, ◌++◌, ◌∷◌, ◌==◌, [], ℕ, true, IsTrue, OnOk};
+ghost use Rattle.std.specs.Prelude.{OnErr, length, vec_len, vec_capacity};
+ghost use Rattle.com_refs_books.specs.Changes.{Takes, Asks, Marshals, Unmarshals, Drops, Registers, Revokes};
+ghost use Rattle.com_refs_holders.specs.Places.{OneMore, SamePlaces};
+ghost use Rattle.com_refs_holders.specs.Tables.{offers, owns_of};
+ghost use Rattle.com_model.specs.Deeds.{cookie_number};
+ghost use Rattle.com_state.specs.Parts.{named_at};
+ghost use Rattle.com_refs_rows.specs.Books.{Rowed, Gained, Taken, Cut, moved_to};
+ghost use Rattle.com_refs_rows.specs.Moving.{Climbs, HoldsMore, Touches, TouchesCounted};
+
+use crate::touching::{touch, touch_if};
+use com_base::{MarshalMode, Memory, RefValue};
+use com_reference_moves::Move;
+use com_objects::Objects;
+use com_refs::Refs;
+use std::alloc::AllocError;
+
+/// Where a fact of all histories is not proved here, the core stops as it does without memory, before it has
+/// changed anything. Missing are, at their places: that an object has the next number, and the interface that
+/// is asked for is in its class's set, of 17 at most; that a reference at a place or of a packet is by an
+/// interface of its object's set; that a Get names the reference of its cookie, of a connected object; that
+/// calls are numbered one after another, and a Leave names one of them; that fewer than 2^28 references were
+/// given.
+pub fn unproved_fact() -> Memory {
+    AllocError
+}
+
+/// How many references are given at most.
+pub const MOST_GIVEN: u32 = 0x1000_0000;
+
+/// Whether one more reference may be given.
+pub fn is_few(refs: &Refs) -> bool
+    ensures { IsTrue result ↔ (refs.now.issued < 2 ^ 28) }
+{
+    refs.issued_count() < MOST_GIVEN
+}
+
+/// Whether one more reference may be given, of an object by an interface of its set.
+pub fn can_give(refs: &Refs, held: RefValue) -> bool
+    ensures few { IsTrue result → refs.now.issued < 2 ^ 28 }
+    ensures known { IsTrue result → offers refs.now held.object held.iface ≡ true }
+    ensures given { refs.now.issued < 2 ^ 28 → offers refs.now held.object held.iface ≡ true → IsTrue result }
+{
+    if !is_few(refs) {
+        return false;
+    }
+    refs.offers(held.object, held.iface)
+}
+
+/// The row brought a place.
+pub fn bring(brought: &mut Vec<Move>, apartment: u32, reference: RefValue)
+    requires place { vec_len brought.old < vec_capacity brought.old }
+    ensures items { brought.new.items ≡ brought.old.items ++ moved_to apartment reference ∷ [] }
+    ensures len { vec_len brought.new ≡ vec_len brought.old + 1 }
+    ensures capacity { vec_capacity brought.new ≡ vec_capacity brought.old }
+{
+    brought.push_reserved(Move {
+        apartment,
+        reference,
+    });
+}
+
+/// A reference is asked for another interface.
+pub fn query(
+    refs: &mut Refs,
+    brought: &mut Vec<Move>,
+    apartment: u32,
+    held: RefValue,
+) -> Result<(), Memory>
+    requires place { vec_len brought.old < vec_capacity brought.old }
+    ensures row { OnOk result (Rowed refs.old refs.new (Asks apartment held.object held.iface)) }
+    ensures places { OnOk result (OneMore refs.old refs.new apartment held.object
+        (owns_of refs.old.objects held.object apartment)) }
+    ensures brought { OnOk result (brought.new.items ≡ brought.old.items ++ moved_to apartment held ∷ []) }
+    ensures gained { OnOk result (Gained apartment
+        (Asks apartment held.object held.iface ∷ []) refs.old refs.new brought.old.items brought.new.items) }
+    ensures more { OnOk result (HoldsMore refs.old refs.new) }
+    ensures err { OnErr result (refs.new ≡ refs.old) }
+    ensures offers { (x j : ℕ) → offers refs.new x j ≡ offers refs.old x j }
+    ensures issued { refs.new.issued ≤ refs.old.issued + 1 }
+    ensures spare { refs.old.spare ≤ refs.new.spare + 1 }
+    ensures len { vec_len brought.new ≤ vec_len brought.old + 1 }
+    ensures capacity { vec_capacity brought.old ≤ vec_capacity brought.new }
+{
+    if !is_few(refs) {
+        return Err(unproved_fact());
+    }
+    match refs.query(apartment, held.object, held.iface) {
+        Ok(()) => {
+            bring(brought, apartment, held);
+            Ok(())
+        }
+        Err(_) => Err(unproved_fact()),
+    }
+}
+
+/// A packet of a reference that is known; what is not connected gets none.
+pub fn give(refs: &mut Refs, apartment: u32, held: RefValue, mode: MarshalMode)
+    requires known { offers refs.old held.object held.iface ≡ true }
+    requires few { refs.old.issued < 2 ^ 28 }
+    requires room { 0 < refs.old.spare }
+    ensures row { Rowed refs.old refs.new (Marshals apartment mode held.object held.iface) }
+    ensures more { HoldsMore refs.old refs.new }
+    ensures places { SamePlaces refs.old refs.new }
+    ensures offers { (x j : ℕ) → offers refs.new x j ≡ offers refs.old x j }
+    ensures issued { refs.new.issued ≤ refs.old.issued + 1 }
+    ensures spare { refs.old.spare ≤ refs.new.spare + 1 }
+{
+    if !refs.connected(held.object) {
+        return;
+    }
+    match refs.marshal(apartment, held, mode) {
+        Ok(_) => {}
+        Err(_) => {}
+    }
+}
+
+/// A packet of a reference.
+pub fn marshal(
+    refs: &mut Refs,
+    apartment: u32,
+    held: RefValue,
+    mode: MarshalMode,
+) -> Result<(), Memory>
+    requires room { 0 < refs.old.spare }
+    ensures row { OnOk result (Rowed refs.old refs.new (Marshals apartment mode held.object held.iface)) }
+    ensures more { OnOk result (HoldsMore refs.old refs.new) }
+    ensures places { OnOk result (SamePlaces refs.old refs.new) }
+    ensures err { OnErr result (refs.new ≡ refs.old) }
+    ensures offers { (x j : ℕ) → offers refs.new x j ≡ offers refs.old x j }
+    ensures issued { refs.new.issued ≤ refs.old.issued + 1 }
+    ensures spare { refs.old.spare ≤ refs.new.spare + 1 }
+{
+    if !can_give(refs, held) {
+        return Err(unproved_fact());
+    }
+    give(refs, apartment, held, mode);
+    Ok(())
+}
+
+/// A packet is read; one that has ended gives nothing.
+pub fn unmarshal(refs: &mut Refs, brought: &mut Vec<Move>, apartment: u32, number: u32)
+    requires few { refs.old.issued < 2 ^ 28 }
+    requires room { 0 < refs.old.spare }
+    requires place { vec_len brought.old < vec_capacity brought.old }
+    ensures row { Gained apartment
+        (Unmarshals apartment number ∷ []) refs.old refs.new brought.old.items brought.new.items }
+    ensures more { HoldsMore refs.old refs.new }
+    ensures offers { (x j : ℕ) → offers refs.new x j ≡ offers refs.old x j }
+    ensures issued { refs.new.issued ≤ refs.old.issued + 1 }
+    ensures spare { refs.old.spare ≤ refs.new.spare + 1 }
+    ensures len { vec_len brought.new ≤ vec_len brought.old + 1 }
+    ensures capacity { vec_capacity brought.old ≤ vec_capacity brought.new }
+{
+    match refs.unmarshal(apartment, number) {
+        Ok(packet) => bring(
+            brought,
+            apartment,
+            RefValue {
+                object: packet.object,
+                iface: packet.iface,
+            },
+        ),
+        Err(_) => {}
+    }
+}
+
+/// The same, where one more reference may be given.
+pub fn read(
+    refs: &mut Refs,
+    brought: &mut Vec<Move>,
+    apartment: u32,
+    number: u32,
+) -> Result<(), Memory>
+    requires room { 0 < refs.old.spare }
+    requires place { vec_len brought.old < vec_capacity brought.old }
+    ensures row { OnOk result (Gained apartment
+        (Unmarshals apartment number ∷ []) refs.old refs.new brought.old.items brought.new.items) }
+    ensures more { OnOk result (HoldsMore refs.old refs.new) }
+    ensures err { OnErr result (refs.new ≡ refs.old) }
+    ensures offers { (x j : ℕ) → offers refs.new x j ≡ offers refs.old x j }
+    ensures issued { refs.new.issued ≤ refs.old.issued + 1 }
+    ensures spare { refs.old.spare ≤ refs.new.spare + 1 }
+    ensures len { vec_len brought.new ≤ vec_len brought.old + 1 }
+{
+    if !is_few(refs) {
+        return Err(unproved_fact());
+    }
+    unmarshal(refs, brought, apartment, number);
+    Ok(())
+}
+
+/// A packet ends; one that has ended stays so.
+pub fn drop_packet(refs: &mut Refs, touched: &mut Vec<u32>, number: u32)
+    requires room { vec_len touched.old < vec_capacity touched.old }
+    ensures row { Taken (Drops number) refs.old refs.new }
+    ensures touched { TouchesCounted refs.old refs.new touched.old.items touched.new.items }
+    ensures climbs { Climbs 0 touched.old.items → Climbs 0 touched.new.items }
+    ensures len { vec_len touched.new ≤ vec_len touched.old + 1 }
+    ensures capacity { vec_capacity touched.old ≤ vec_capacity touched.new }
+{
+    refs.rests();
+    refs.tells();
+    match refs.drop_packet(number) {
+        Ok(lost) => {
+            refs.tells();
+            touch_if(touched, lost);
+        }
+        Err(_) => {}
+    }
+}
+
+/// A cookie of a reference; what is not connected gets none.
+pub fn register(refs: &mut Refs, held: RefValue) -> Result<(), Memory>
+    ensures row { OnOk result (Rowed refs.old refs.new (Registers held.object held.iface)) }
+    ensures more { OnOk result (HoldsMore refs.old refs.new) }
+    ensures places { OnOk result (SamePlaces refs.old refs.new) }
+    ensures err { OnErr result (refs.new ≡ refs.old) }
+    ensures offers { (x j : ℕ) → offers refs.new x j ≡ offers refs.old x j }
+    ensures issued { refs.new.issued ≤ refs.old.issued + 1 }
+    ensures spare { refs.old.spare ≤ refs.new.spare + 1 }
+{
+    if !refs.connected(held.object) {
+        return Ok(());
+    }
+    if !can_give(refs, held) {
+        return Err(unproved_fact());
+    }
+    match refs.register(held) {
+        Ok(_) => Ok(()),
+        Err(_) => Err(unproved_fact()),
+    }
+}
+
+/// The reference of a cookie, which is this one.
+pub fn get(
+    refs: &mut Refs,
+    brought: &mut Vec<Move>,
+    apartment: u32,
+    cookie: i64,
+    held: RefValue,
+) -> Result<(), Memory>
+    requires place { vec_len brought.old < vec_capacity brought.old }
+    ensures row { OnOk result (Gained apartment
+        (Takes apartment held.object held.iface ∷ []) refs.old refs.new brought.old.items brought.new.items) }
+    ensures more { OnOk result (HoldsMore refs.old refs.new) }
+    ensures err { OnErr result (refs.new ≡ refs.old) }
+    ensures offers { (x j : ℕ) → offers refs.new x j ≡ offers refs.old x j }
+    ensures issued { refs.new.issued ≤ refs.old.issued + 1 }
+    ensures spare { refs.old.spare ≤ refs.new.spare + 1 }
+    ensures len { vec_len brought.new ≤ vec_len brought.old + 1 }
+    ensures capacity { vec_capacity brought.old ≤ vec_capacity brought.new }
+{
+    if !is_few(refs) {
+        return Err(unproved_fact());
+    }
+    let number = cookie_number(cookie);
+    let Some(kept) = refs.cookie(number) else {
+        return Err(unproved_fact());
+    };
+    if kept != held {
+        return Err(unproved_fact());
+    }
+    let Ok(found) = refs.get(apartment, number) else {
+        return Err(unproved_fact());
+    };
+    bring(brought, apartment, found);
+    Ok(())
+}
+
+/// A cookie ends; one that has ended stays so.
+pub fn revoke(refs: &mut Refs, touched: &mut Vec<u32>, cookie: i64)
+    requires room { vec_len touched.old < vec_capacity touched.old }
+    ensures row { Taken (Revokes (cookie_number cookie)) refs.old refs.new }
+    ensures touched { TouchesCounted refs.old refs.new touched.old.items touched.new.items }
+    ensures climbs { Climbs 0 touched.old.items → Climbs 0 touched.new.items }
+    ensures len { vec_len touched.new ≤ vec_len touched.old + 1 }
+    ensures capacity { vec_capacity touched.old ≤ vec_capacity touched.new }
+{
+    let _count = refs.cookies();
+    refs.rests();
+    refs.tells();
+    let number = cookie_number(cookie);
+    match refs.revoke(number) {
+        Ok(lost) => {
+            refs.tells();
+            touch_if(touched, lost);
+        }
+        Err(_) => {}
+    }
+}
+
+/// An object is disconnected: only its direct places hold it then.
+pub fn disconnect(refs: &mut Refs, touched: &mut Vec<u32>, object: u32)
+    requires room { vec_len touched.old < vec_capacity touched.old }
+    ensures cut { Cut (λ x. x == object) refs.old refs.new }
+    ensures touched { Touches refs.old refs.new touched.old.items touched.new.items }
+    ensures climbs { Climbs 0 touched.old.items → Climbs 0 touched.new.items }
+    ensures len { vec_len touched.new ≤ vec_len touched.old + 1 }
+    ensures capacity { vec_capacity touched.old ≤ vec_capacity touched.new }
+{
+    if !refs.connected(object) {
+        return;
+    }
+    refs.disconnect(object);
+    if refs.direct(object) > 0 {
+        return;
+    }
+    touch(touched, object);
+}
+
+/// An STA ends: nothing that it owns is connected any more.
+pub fn end_apartment(refs: &mut Refs, touched: &mut Vec<u32>, objects: &Objects, apartment: u32)
+    requires apartment { 0 < apartment }
+    requires room { vec_len touched.old + length objects.now.tables.makings ≤ vec_capacity touched.old }
+    ensures cut { Cut (λ x. named_at objects.now.tables x == apartment) refs.old refs.new }
+    ensures touched { Touches refs.old refs.new touched.old.items touched.new.items }
+    ensures climbs { Climbs 0 touched.old.items → Climbs 0 touched.new.items }
+    ensures len { vec_len touched.new ≤ vec_len touched.old + length objects.now.tables.makings }
+    ensures capacity { vec_capacity touched.old ≤ vec_capacity touched.new }
+{
+    for place in 0..objects.len() {
+        if objects.owner(place + 1) == apartment {
+            disconnect(refs, touched, place + 1);
+        }
+    }
+}
+
+/// The number of a cookie, and 0 where the value names none.
+pub fn cookie_number(number: i64) -> u32
+    ensures within { cookie_number number < 2 ^ 32 → result ≡ cookie_number number }
+    ensures past { 2 ^ 32 ≤ cookie_number number → result ≡ 0 }
+{
+    if number < 0 || number > 0xffff_ffff {
+        return 0;
+    }
+    number as u32
+}

@@ -1,5 +1,0 @@
-use Rattle.com_release.proofs.Orders.{legal-dying}
-use Rattle.com_release.proofs.dying_stays.Goals as goal
-
-pub returns : goal.returns
-returns c = legal-dying

@@ -1,5 +1,0 @@
-use Rattle.com_release.proofs.Orders.{legal-fallen}
-use Rattle.com_release.proofs.falls_in_order.Goals as goal
-
-pub returns : goal.returns
-returns c = legal-fallen

@@ -1,5 +1,0 @@
-use Rattle.com_safe.proofs.Whole.{legal-safe}
-use Rattle.com_safe.proofs.safe.Goals as goal
-
-pub returns : goal.returns
-returns c = legal-safe

@@ -1,5 +1,0 @@
-use Rattle.com_safe.proofs.Stricts.{legal-stricter}
-use Rattle.com_safe.proofs.stricter.Goals as goal
-
-pub returns : goal.returns
-returns c = legal-stricter

@@ -1,5 +1,0 @@
-use Rattle.com_safety.proofs.OnTop.{legal-on-top}
-use Rattle.com_safety.proofs.made_on_top.Goals as goal
-
-pub returns : goal.returns
-returns c = legal-on-top

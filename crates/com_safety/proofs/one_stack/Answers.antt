@@ -1,5 +1,0 @@
-use Rattle.com_safety.proofs.Ready.{legal-one-stack}
-use Rattle.com_safety.proofs.one_stack.Goals as goal
-
-pub returns : goal.returns
-returns c = legal-one-stack

@@ -1,5 +1,0 @@
-use Rattle.com_safety.proofs.Reentered.{legal-reentry}
-use Rattle.com_safety.proofs.reentry.Goals as goal
-
-pub returns : goal.returns
-returns c = legal-reentry

@@ -1,5 +1,0 @@
-use Rattle.com_safety.proofs.Released.{legal-released}
-use Rattle.com_safety.proofs.released_once.Goals as goal
-
-pub returns : goal.returns
-returns c = legal-released

@@ -1,5 +1,0 @@
-use Rattle.com_safety.proofs.Severed.{legal-severed}
-use Rattle.com_safety.proofs.stays_severed.Goals as goal
-
-pub returns : goal.returns
-returns c = legal-severed
