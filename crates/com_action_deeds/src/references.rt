@@ -13,9 +13,9 @@ ghost use Rattle.com_view.specs.Connected.{Says};
 
 use com_base::{HResult, RefValue};
 use com_body::Asked;
-use com_refs_books::{Cookie, Packet};
 use com_deeds::{Named, hold_refusal, route_to};
 use com_model::{Deed, Route};
+use com_refs_books::{Cookie, Packet};
 use com_view::View;
 
 /// The entry of `create` (CoCreateInstance).

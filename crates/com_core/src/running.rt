@@ -13,9 +13,9 @@ use com_base::Memory;
 use com_body::Outcome;
 use com_ledger::Ledger;
 use com_model::{ObjectState, Scenario};
-use com_reference_moves::Moves;
 use com_objects::{Entered, Fallen};
 use com_parts::Parts;
+use com_reference_moves::Moves;
 use com_view::{References, View};
 use std::alloc::Global;
 

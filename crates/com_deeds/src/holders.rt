@@ -16,8 +16,8 @@ ghost use Rattle.com_deeds.specs.declared.holders.Named.TheVariants as named;
 use crate::activation::object_in;
 use crate::target::Target;
 use com_base::{HResult, MarshalMode, RefValue};
-use com_refs_books::{Cookie, Packet};
 use com_model::Deed;
+use com_refs_books::{Cookie, Packet};
 
 /// The public references that a proxy is given at a time.
 pub const FIVE: u32 = 5;

@@ -11,8 +11,8 @@ ghost use Rattle.objref.specs.Grammar.{written_of};
 ghost use Rattle.com_model.specs.declared.scenario.Scenario.{Scenario};
 
 use com_base::{ByteList, Guid, HResult, MarshalMode, Memory, RefValue, StdFields};
-use com_refs_books::Packet;
 use com_model::{Deed, Scenario};
+use com_refs_books::Packet;
 use objref::{ObjRef, decode, encode};
 use std::alloc::Global;
 

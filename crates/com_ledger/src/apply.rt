@@ -23,15 +23,15 @@ use crate::keeping::Keeping;
 use crate::ledger::Ledger;
 use com_base::{Memory, RefValue};
 use com_body::Asked;
+use com_deeds::number_or_zero;
+use com_model::{Deed, Entry};
+use com_objects::Objects;
+use com_reference_moves::{Move, Moves};
+use com_refs::Refs;
 use com_refs_rows::{
     MOST_GIVEN, enter_back, enter_get, enter_made, enter_marshal, enter_query, enter_register,
     enter_unmarshal, gain_all, is_left, issue, lose_all, read_all, reply, unproved_fact,
 };
-use com_deeds::number_or_zero;
-use com_model::{Deed, Entry};
-use com_reference_moves::{Move, Moves};
-use com_objects::Objects;
-use com_refs::Refs;
 
 // What is carried, where there are bytes.
 fn carried_in<'a>(carried: &'a [RefValue], is_marshalled: bool) -> &'a [RefValue]

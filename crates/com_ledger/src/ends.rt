@@ -7,9 +7,9 @@ ghost use Rattle.com_refs_rows.specs.Entries.{ClosesTables, GivesUp};
 ghost use Rattle.com_refs_rows.specs.Moving.{Climbs, TouchesCounted};
 
 use com_base::{HOST_STA, HResult};
-use com_refs_rows::{disconnect, drop_packet, end_apartment, revoke};
 use com_objects::Objects;
 use com_refs::Refs;
+use com_refs_rows::{disconnect, drop_packet, end_apartment, revoke};
 
 /// The row of a packet that ends.
 pub fn end_packet(refs: &mut Refs, touched: &mut Vec<u32>, packet: Option<u32>)

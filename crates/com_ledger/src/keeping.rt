@@ -2,9 +2,9 @@
 
 ghost use Rattle.std.specs.Prelude.{◌≡◌, []};
 
-use com_refs_rows::CallTable;
 use com_reference_moves::Move;
 use com_refs::Refs;
+use com_refs_rows::CallTable;
 use std::alloc::Global;
 
 /// Who holds references, the packets of each call, the places that the row of the entry brought, the

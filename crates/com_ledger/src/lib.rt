@@ -17,8 +17,8 @@ mod ledger;
 mod reads;
 
 pub use com_base::Memory;
-pub use com_refs_rows::CallPackets;
 pub use com_refs::Numbers;
+pub use com_refs_rows::CallPackets;
 pub use context::Context;
 pub use laws::{
     applied_ties, entries_reach, entries_tie, holders_tie, losses_touched, new_ledger_ties,

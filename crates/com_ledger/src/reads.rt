@@ -8,10 +8,10 @@ ghost use Rattle.com_refs_rows.specs.Calls.{arguments_of};
 ghost use Rattle.com_refs_holders.specs.Tables.{books_of};
 
 use crate::ledger::Ledger;
-use com_refs_rows::{CallPackets, cookie_number};
-use com_refs_books::{Cookie, Packet};
 use com_exchange::Connections;
 use com_refs::Refs;
+use com_refs_books::{Cookie, Packet};
+use com_refs_rows::{CallPackets, cookie_number};
 use com_rules::Found;
 use com_view::References;
 

@@ -31,8 +31,8 @@ ghost use Rattle.com_refs.specs.Numbers.{Within};
 ghost use Rattle.com_refs.specs.Totals.{Totals};
 
 use com_base::{Guid, MarshalMode, RefValue, StdFields};
-use com_refs_holders::Holders;
 use com_packets::Packet;
+use com_refs_holders::Holders;
 use std::alloc::Global;
 use std::marker::Model;
 

@@ -11,8 +11,8 @@ ghost use Rattle.com_refs_rows.specs.Moving.{Climbs, HoldsMore, Touches, Touches
 
 use crate::touching::{touch, touch_if};
 use com_base::{MarshalMode, Memory, RefValue};
-use com_reference_moves::Move;
 use com_objects::Objects;
+use com_reference_moves::Move;
 use com_refs::Refs;
 use std::alloc::AllocError;
 

@@ -14,12 +14,12 @@ ghost use Rattle.com_view.specs.Seen.{bare, sight_by, running_seen};
 use crate::alone::is_connected;
 use crate::asking::Found;
 use com_base::{HResult, MarshalMode, Memory, RefValue, StdFields};
-use com_refs_books::Packet;
 use com_deeds::{
     FIVE, hold_refusal, marshal_deed, number_or_zero, packet_fields, refused_marshal_deed,
 };
 use com_exchange::{Outgoing, packet_refs};
 use com_model::Deed;
+use com_refs_books::Packet;
 use com_view::View;
 use std::alloc::{AllocError, Global};
 

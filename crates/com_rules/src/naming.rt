@@ -12,9 +12,9 @@ ghost use Rattle.com_view.specs.Seen.{sight_by};
 use crate::asking::Found;
 use com_action_deeds::unmarshal_deed;
 use com_base::{HResult, StdFields};
-use com_refs_books::Packet;
 use com_deeds::{Named, drop_deed, packet_fields, standard_fields};
 use com_model::Deed;
+use com_refs_books::Packet;
 use com_view::View;
 
 fn same_fields(left: &StdFields, right: &StdFields) -> bool

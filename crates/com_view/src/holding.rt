@@ -13,9 +13,9 @@ ghost use Rattle.com_view.specs.Given.{gone_in};
 
 use crate::view::View;
 use com_base::{HResult, Memory};
-use com_refs_books::Cookie;
 use com_deeds::is_leave;
 use com_model::Deed;
+use com_refs_books::Cookie;
 use std::alloc::Global;
 
 /// Who holds references, as the rules ask for it.
