@@ -49,7 +49,7 @@ use std::alloc::Global;
 /// caller's lane of the call of a Verdict has a message filter, the home of the lane, and the apartment in
 /// which it runs.
 #[derive(Debug, Clone, Copy)]
-struct Glance {
+struct Basis {
     after: Actor,
     has_filter: bool,
     home: Option<u32>,
@@ -81,7 +81,7 @@ fn clock_after(deed: &Deed, clock: u64) -> u64
 
 impl Running {
     // What an entry's change rests on.
-    fn glance(&self, scenario: &Scenario, entry: &Entry) -> Glance
+    fn basis(&self, scenario: &Scenario, entry: &Entry) -> Basis
         ensures home { result.home ≡ home_seen
             (seen_by scenario.now self.now.parts self.now.fallen.objects self.now.clock) entry.now.lane }
         ensures running { result.running
@@ -97,7 +97,7 @@ impl Running {
             (lane_of (issue_at self.now.parts.calls.tables c)))) entry.now.deed }
     {
         let view = self.view(scenario);
-        Glance {
+        Basis {
             after: actor_after(&view, entry.lane, &entry.deed),
             has_filter: is_filtered(&view, &entry.deed),
             home: view.home(entry.lane),
@@ -137,7 +137,7 @@ impl Running {
     #[tactic(auto, using(crate::proofs::Whole::bodies_whole, crate::proofs::Whole::frame_whole))]
     fn prepare(
         &mut self,
-        glance: Glance,
+        basis: Basis,
         acting: Actor,
         outcome: &Option<Outcome>,
         entry: &Entry,
@@ -146,8 +146,8 @@ impl Running {
         requires deed { FitsDeed entry.now.deed }
         requires whole { IsWhole outcome.now }
         ensures moves { OnOk result (self.new.moves ≡ moves_stepped
-            (ground_at glance.home self.old.parts.objects self.old.parts.calls.tables) self.old.parts.scene
-            (acting_of acting) outcome.now (acting_of glance.after) entry.now) }
+            (ground_at basis.home self.old.parts.objects self.old.parts.calls.tables) self.old.parts.scene
+            (acting_of acting) outcome.now (acting_of basis.after) entry.now) }
         ensures body { OnOk result (0 < self.new.entered.spare) }
         ensures dying { OnOk result (most_left self.old.ledger.calls self.old.parts.objects entry.now.deed
             self.new.moves + 1 ≤ self.new.fallen.spare) }
@@ -160,13 +160,13 @@ impl Running {
         ensures clock { self.new.clock ≡ self.old.clock }
     {
         self.moves.fill(
-            glance.home,
+            basis.home,
             self.parts.objects(),
             self.parts.calls(),
             self.parts.scene(),
             acting,
             outcome,
-            glance.after,
+            basis.after,
             entry,
         )?;
         self.make_room(entry)
@@ -178,12 +178,12 @@ impl Running {
     fn book(
         &mut self,
         scenario: &Scenario,
-        glance: Glance,
+        basis: Basis,
         carried: &[RefValue],
         entry: &Entry,
     ) -> Result<(), Memory>
         ensures booked { OnOk result (Booked (around self.old.parts.calls.tables self.old.parts.objects
-            scenario.now.classes carried.now (number_or_zero glance.running)) entry.now.deed self.old.moves
+            scenario.now.classes carried.now (number_or_zero basis.running)) entry.now.deed self.old.moves
             self.old.ledger self.new.ledger) }
         ensures few { OnOk result (length self.new.ledger.touched ≤ most_left self.old.ledger.calls
             self.old.parts.objects entry.now.deed self.old.moves) }
@@ -195,8 +195,8 @@ impl Running {
         ensures clock { self.new.clock ≡ self.old.clock }
     {
         let context = Context {
-            home: glance.home,
-            running: glance.running,
+            home: basis.home,
+            running: basis.running,
             objects: self.parts.objects(),
             calls: self.parts.calls(),
             classes: &scenario.classes,
@@ -212,7 +212,7 @@ impl Running {
     #[tactic(auto, using(crate::proofs::Whole::frame_fits, crate::proofs::Shown::parts_alike))]
     fn begin_parts(
         &mut self,
-        glance: Glance,
+        basis: Basis,
         acting: Actor,
         outcome: &Option<Outcome>,
         issued: Option<Issued>,
@@ -220,9 +220,9 @@ impl Running {
     ) -> Result<Begun, Memory>
         requires whole { IsWhole outcome.now }
         ensures begun { IfOk result (λ begun. IsBegun self.new.parts (acting_of acting) outcome.now
-            (acting_of glance.after) entry.now.lane entry.now.deed begun) }
+            (acting_of basis.after) entry.now.lane entry.now.deed begun) }
         ensures issued { IfOk result (λ begun. begun.calling.issued ≡ sent_by issued) }
-        ensures has_filter { IfOk result (λ begun. begun.calling.has_filter ≡ glance.has_filter) }
+        ensures has_filter { IfOk result (λ begun. begun.calling.has_filter ≡ basis.has_filter) }
         ensures time { IfOk result (λ begun. begun.calling.clock ≡ self.old.clock) }
         ensures same { parts_shown self.new.parts ≡ parts_shown self.old.parts }
         ensures entered { self.new.entered ≡ self.old.entered }
@@ -236,8 +236,8 @@ impl Running {
             lane: entry.lane,
             deed: &entry.deed,
             acting,
-            after: glance.after,
-            has_filter: glance.has_filter,
+            after: basis.after,
+            has_filter: basis.has_filter,
             clock: self.clock,
             issued: sent_of(issued),
         };
@@ -248,7 +248,7 @@ impl Running {
     #[tactic(auto, using(crate::proofs::Whole::frame_fits))]
     fn finish_parts(
         &mut self,
-        glance: Glance,
+        basis: Basis,
         acting: Actor,
         outcome: &mut Option<Outcome>,
         entry: &Entry,
@@ -257,10 +257,10 @@ impl Running {
         requires bodies { All HasSlots self.old.parts.scene.bodies }
         requires deed { FitsDeed entry.now.deed }
         requires whole { IsWhole outcome.old }
-        requires begun { IsBegun self.old.parts (acting_of acting) outcome.old (acting_of glance.after)
+        requires begun { IsBegun self.old.parts (acting_of acting) outcome.old (acting_of basis.after)
             entry.now.lane entry.now.deed begun }
         ensures becomes { Becomes self.old.parts self.new.parts entry.now (acting_of acting) outcome.old
-            (acting_of glance.after) begun.calling.has_filter begun.calling.issued begun.calling.clock }
+            (acting_of basis.after) begun.calling.has_filter begun.calling.issued begun.calling.clock }
         ensures bodies { All HasSlots self.new.parts.scene.bodies }
         ensures entered { self.new.entered ≡ self.old.entered }
         ensures ledger { self.new.ledger ≡ self.old.ledger }
@@ -268,14 +268,7 @@ impl Running {
         ensures fresh { self.new.fresh ≡ self.old.fresh }
         ensures clock { self.new.clock ≡ self.old.clock }
     {
-        self.parts.finish(
-            entry.lane,
-            &entry.deed,
-            acting,
-            glance.after,
-            outcome,
-            begun,
-        );
+        self.parts.finish(entry.lane, &entry.deed, acting, basis.after, outcome, begun);
     }
 
     // The running bodies and the dying objects after the entry, whose parts and books are those after it.
@@ -316,7 +309,7 @@ impl Running {
     fn change(
         &mut self,
         scenario: &Scenario,
-        glance: Glance,
+        basis: Basis,
         acting: Actor,
         outcome: &mut Option<Outcome>,
         issued: Option<Issued>,
@@ -330,7 +323,7 @@ impl Running {
         requires whole { IsWhole outcome.old }
         ensures becomes { OnOk result (Becomes self.old.parts self.new.parts entry.now
             (acting_of acting) outcome.old
-            (acting_of glance.after) glance.has_filter (sent_by issued) self.old.clock) }
+            (acting_of basis.after) basis.has_filter (sent_by issued) self.old.clock) }
         ensures bodies { OnOk result (All HasSlots self.new.parts.scene.bodies) }
         ensures runs { OnOk result ((n : ℕ) → Most n self.old.entered.counts
             → Most (n + 1) self.new.entered.counts) }
@@ -341,16 +334,16 @@ impl Running {
             self.old.fallen.objects self.new.ledger.touched entry.now.deed (acting_of acting)
             self.new.fallen.objects) }
         ensures clock { OnOk result (self.new.clock ≡ ticked entry.now.deed self.old.clock) }
-        ensures booked { OnOk result (BookedBy scenario.now self.old.parts glance.home glance.running
-            carried.now entry.now (acting_of acting) outcome.old (acting_of glance.after) self.old.ledger
+        ensures booked { OnOk result (BookedBy scenario.now self.old.parts basis.home basis.running
+            carried.now entry.now (acting_of acting) outcome.old (acting_of basis.after) self.old.ledger
             self.new.ledger) }
         ensures err { OnErr result (IsAsBefore self.old self.new) }
         ensures step { OnErr result (outcome.new ≡ outcome.old) }
     {
-        self.prepare(glance, acting, outcome, entry)?;
-        let begun = self.begin_parts(glance, acting, outcome, issued, entry)?;
-        self.book(scenario, glance, carried, entry)?;
-        self.finish_parts(glance, acting, outcome, entry, begun);
+        self.prepare(basis, acting, outcome, entry)?;
+        let begun = self.begin_parts(basis, acting, outcome, issued, entry)?;
+        self.book(scenario, basis, carried, entry)?;
+        self.finish_parts(basis, acting, outcome, entry, begun);
         self.settle(&entry.deed, acting);
         self.clock = clock_after(&entry.deed, self.clock);
         Ok(())
@@ -395,8 +388,8 @@ impl Running {
         ensures err { OnErr result (IsAsBefore self.old self.new) }
         ensures step { OnErr result (outcome.new ≡ outcome.old) }
     {
-        let glance = self.glance(scenario, entry);
-        self.change(scenario, glance, acting, outcome, issued, carried, entry)
+        let basis = self.basis(scenario, entry);
+        self.change(scenario, basis, acting, outcome, issued, carried, entry)
     }
 
     // The entry of a turn of a lane.

@@ -13,7 +13,7 @@ use com_base::Memory;
 use com_body::Outcome;
 use com_ledger::Ledger;
 use com_model::{ObjectState, Scenario};
-use com_objects::{Entered, Fallen};
+use com_objects::{DyingQueue, Entered};
 use com_parts::Parts;
 use com_reference_moves::Moves;
 use com_view::{References, View};
@@ -27,7 +27,7 @@ pub struct Running {
     pub parts: Parts,
     pub ledger: Ledger,
     pub entered: Entered,
-    pub fallen: Fallen,
+    pub fallen: DyingQueue,
     pub moves: Moves,
     pub fresh: Vec<u32>,
     pub clock: u64,
@@ -77,7 +77,7 @@ impl Running {
             parts,
             ledger: Ledger::new(alloc),
             entered,
-            fallen: Fallen::new(alloc),
+            fallen: DyingQueue::new(alloc),
             moves: Moves::new(alloc),
             fresh: Vec::new(alloc),
             clock: 0,

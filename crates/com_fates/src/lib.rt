@@ -14,7 +14,7 @@ ghost use Rattle.com_scene.specs.Actors.{acting_of};
 
 use com_ledger::Ledger;
 use com_model::Deed;
-use com_objects::{Entered, Fallen, Objects};
+use com_objects::{DyingQueue, Entered, Objects};
 use com_scene::Actor;
 
 /// What says whether an object is dying: the objects, who holds references, how many bodies of each object
@@ -28,7 +28,7 @@ pub struct Fates<'a> {
     /// How many bodies of each object run.
     pub entered: &'a Entered,
     /// The objects that were dying before.
-    pub fallen: &'a Fallen,
+    pub fallen: &'a DyingQueue,
 }
 
 // The object whose body an entry ends.

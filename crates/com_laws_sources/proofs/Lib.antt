@@ -21,4 +21,4 @@ mod Around
 mod Acts
 mod Passing
 mod Stepping
-mod Delivered
+pub mod Delivered

@@ -17,9 +17,9 @@ ghost use Rattle.com_refs_rows.specs.Entries.{most_left, row_steps};
 ghost use Rattle.com_refs_rows.specs.Moving.{plus, AllBelow, AllOffered, Climbs, HoldsMore, Touches};
 ghost use Rattle.com_refs_rows.specs.Moving.{TouchesCounted};
 
+use crate::books::Books;
 use crate::context::Context;
 use crate::ends::{end_connection, end_cookie, end_home, end_packet, give_up};
-use crate::keeping::Keeping;
 use crate::ledger::Ledger;
 use com_base::{Memory, RefValue};
 use com_body::Asked;
@@ -155,7 +155,7 @@ fn most_noted(deed: &Deed, objects: &Objects, arguments: usize, lost: &[Move]) -
     lost.len() + arguments + 3 + ended
 }
 
-impl Keeping {
+impl Books {
     // The packets of a call's arguments that an Enter reads.
     fn arguments_of(&self, deed: &Deed) -> u32
         ensures { result ≡ asked_packets self.now.calls deed.now }
@@ -440,7 +440,7 @@ impl Ledger {
     pub fn most_left(&self, deed: &Deed, objects: &Objects, moves: &Moves) -> usize
         ensures { result ≡ most_left self.now.calls objects.now.tables deed.now moves.now }
     {
-        let arguments = self.keeping.arguments_of(deed) as usize;
+        let arguments = self.books.arguments_of(deed) as usize;
         most_noted(deed, objects, arguments, moves.losses())
     }
 
@@ -478,6 +478,6 @@ impl Ledger {
         ensures err_calls { OnErr result (self.new.calls ≡ self.old.calls) }
         ensures err_touched { OnErr result (self.new.touched ≡ self.old.touched) }
     {
-        self.keeping.change(entry, context, moves)
+        self.books.change(entry, context, moves)
     }
 }

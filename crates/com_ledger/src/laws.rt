@@ -37,7 +37,7 @@ impl Ledger {
         ensures { (n : ℕ) (places : ℕ → ℕ → ℕ) → Counts n places self.now.tables
             → Totals n places self.now.tables }
     {
-        self.keeping.refs.tells();
+        self.books.refs.tells();
     }
 }
 

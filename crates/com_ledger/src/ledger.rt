@@ -6,7 +6,7 @@ ghost use Rattle.com_refs_holders.specs.Tables.{books_of, direct_in};
 ghost use Rattle.com_refs.specs.Counts.{holders_of};
 ghost use Rattle.com_refs.specs.Numbers.{Within};
 
-use crate::keeping::Keeping;
+use crate::books::Books;
 use com_refs::Numbers;
 use std::alloc::Global;
 use std::marker::Model;
@@ -15,8 +15,8 @@ use std::marker::Model;
 /// lost their last holder in the last entry.
 #[derive(Debug, Drop)]
 pub struct Ledger {
-    /// The books, and what is kept beside them.
-    pub keeping: Keeping,
+    /// All that it keeps.
+    pub books: Books,
 }
 
 impl Model for Ledger {
@@ -25,10 +25,10 @@ impl Model for Ledger {
     ghost Value = { Held };
 
     ghost view = { λ a. record {
-      tables = a.keeping.refs;
-      calls = a.keeping.calls;
+      tables = a.books.refs;
+      calls = a.books.calls;
       touched =
-          a.keeping.touched.items;
+          a.books.touched.items;
     } };
 }
 
@@ -45,7 +45,7 @@ impl Ledger {
         ensures touched { result.touched ≡ [] }
     {
         Ledger {
-            keeping: Keeping::new(alloc),
+            books: Books::new(alloc),
         }
     }
 
@@ -53,7 +53,7 @@ impl Ledger {
     pub fn touched_objects(&self) -> &[u32]
         ensures { result.now ≡ self.now.touched }
     {
-        self.keeping.touched.as_slice()
+        self.books.touched.as_slice()
     }
 
     /// Something holds the object: a direct place, or where it is connected a place elsewhere, a packet or a
@@ -61,7 +61,7 @@ impl Ledger {
     pub fn is_held(&self, object: u32) -> bool
         ensures { IsTrue result ↔ (0 < holders_of self.now.tables object) }
     {
-        self.keeping.refs.is_held(object)
+        self.books.refs.is_held(object)
     }
 
     /// The numbers of a report for an object, over all apartments with a place and all interfaces of all
@@ -77,6 +77,6 @@ impl Ledger {
         ensures stub { (n m : ℕ) → Within n m self.now.tables
             → result.stub ≡ sum_below m ((books_of self.now.tables).stub object) }
     {
-        self.keeping.refs.numbers(object)
+        self.books.refs.numbers(object)
     }
 }

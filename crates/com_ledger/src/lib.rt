@@ -9,9 +9,9 @@
 #![tactic(auto)]
 
 mod apply;
+mod books;
 mod context;
 mod ends;
-mod keeping;
 mod laws;
 mod ledger;
 mod reads;

@@ -70,7 +70,7 @@ impl Connections for Ledger {
 
     #[tactic(auto, unfolding(com_refs_holders::specs::Tables::books_of))]
     fn is_connected(&self, object: u32) -> bool {
-        self.keeping.refs.connected(object)
+        self.books.refs.connected(object)
     }
 }
 
@@ -79,46 +79,46 @@ impl References for Ledger {
 
     #[tactic(auto, unfolding(com_refs_holders::specs::Tables::books_of))]
     fn is_connected(&self, object: u32) -> bool {
-        self.keeping.refs.connected(object)
+        self.books.refs.connected(object)
     }
 
     #[tactic(auto, using(crate::proofs::Reading::cookie_same))]
     fn cookie(&self, number: i64) -> Cookie {
-        cookie_at(&self.keeping.refs, number)
+        cookie_at(&self.books.refs, number)
     }
 
     fn cookies(&self) -> u32 {
-        self.keeping.refs.cookies()
+        self.books.refs.cookies()
     }
 
     fn lost_argument(&self, call: u32) -> bool {
-        lost_one(&self.keeping.refs, self.keeping.calls.get(call))
+        lost_one(&self.books.refs, self.books.calls.get(call))
     }
 
     fn left_argument(&self, call: u32) -> Option<u32> {
-        left_one(&self.keeping.refs, self.keeping.calls.get(call))
+        left_one(&self.books.refs, self.books.calls.get(call))
     }
 
     fn lost_result(&self, call: u32) -> bool {
-        let number = self.keeping.calls.get(call).result;
+        let number = self.books.calls.get(call).result;
         if number == 0 {
             return false;
         }
-        is_gone(&self.keeping.refs, number)
+        is_gone(&self.books.refs, number)
     }
 }
 
 impl Found for Ledger {
     fn packets(&self) -> u32 {
-        self.keeping.refs.packets()
+        self.books.refs.packets()
     }
 
     #[tactic(auto, using(crate::proofs::Reading::packet_same))]
     fn packet(&self, number: u32) -> Packet {
-        self.keeping.refs.packet_row(number)
+        self.books.refs.packet_row(number)
     }
 
     fn public(&self, apartment: u32, object: u32, iface: u16) -> u64 {
-        self.keeping.refs.public(apartment, object, iface)
+        self.books.refs.public(apartment, object, iface)
     }
 }

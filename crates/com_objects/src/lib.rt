@@ -2,12 +2,12 @@
 //! each run, and which of them wait for their Final.
 #![tactic(auto)]
 
+mod dying;
 mod entered;
-mod fallen;
 mod objects;
 
+pub use dying::DyingQueue;
 pub use entered::Entered;
-pub use fallen::Fallen;
 pub use objects::Objects;
 
 #[cfg(test)]

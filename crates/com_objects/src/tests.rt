@@ -1,5 +1,5 @@
+use crate::dying::DyingQueue;
 use crate::entered::Entered;
-use crate::fallen::Fallen;
 use std::test::Fail;
 
 #[test]
@@ -21,7 +21,7 @@ fn a_body_runs_until_the_last_has_left(rt: HostRuntime) -> Result<(), Fail> {
 
 #[test]
 fn the_dying_wait_in_the_order_of_their_falls(rt: HostRuntime) -> Result<(), Fail> {
-    let mut fallen = Fallen::new(rt.alloc());
+    let mut fallen = DyingQueue::new(rt.alloc());
     fallen.reserve(2)?;
     fallen.settle(None, &[2, 5]);
     fallen.reserve(2)?;

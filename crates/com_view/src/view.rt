@@ -3,7 +3,7 @@
 use com_calls::Calls;
 use com_lanes::Lanes;
 use com_model::Scenario;
-use com_objects::{Fallen, Objects};
+use com_objects::{DyingQueue, Objects};
 use com_scene::Scene;
 use std::marker::Model;
 
@@ -21,7 +21,7 @@ pub struct View<'a> {
     /// What frames, cells and buffers hold.
     pub scene: &'a Scene,
     /// The objects that wait for their Final.
-    pub fallen: &'a Fallen,
+    pub fallen: &'a DyingQueue,
     /// The clock, in milliseconds.
     pub clock: u64,
 }

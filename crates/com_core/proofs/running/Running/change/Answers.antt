@@ -33,11 +33,11 @@ returns-clause-becomes c =
     let v = a.self.now in
     let b = c.in_ok-begun in
     let same : parts_shown c.book.new.self.parts ≡ parts_shown v.parts = ap parts_shown c.book.ensures.parts ∙ c.begin_parts.ensures.same ∙ ap parts_shown c.prepare.ensures.parts in
-    let made : Becomes v.parts c.finish_parts.new.self.parts a.entry.now (acting_of a.acting) a.outcome.now (acting_of a.glance.after) a.glance.has_filter (sent_by a.issued) v.clock =
-    becomes_finished v.parts c.book.new.self.parts c.finish_parts.new.self.parts a.entry.now (acting_of a.acting) a.outcome.now (acting_of a.glance.after)
-    a.glance.has_filter b.begun.calling.has_filter (sent_by a.issued) b.begun.calling.issued v.clock b.begun.calling.clock
+    let made : Becomes v.parts c.finish_parts.new.self.parts a.entry.now (acting_of a.acting) a.outcome.now (acting_of a.basis.after) a.basis.has_filter (sent_by a.issued) v.clock =
+    becomes_finished v.parts c.book.new.self.parts c.finish_parts.new.self.parts a.entry.now (acting_of a.acting) a.outcome.now (acting_of a.basis.after)
+    a.basis.has_filter b.begun.calling.has_filter (sent_by a.issued) b.begun.calling.issued v.clock b.begun.calling.clock
     same b.ensures.has_filter b.ensures.issued (b.ensures.time ∙ c.prepare.ensures.clock) c.finish_parts.ensures.becomes in
-    subst (λ (t : PartTables). Becomes v.parts t a.entry.now (acting_of a.acting) a.outcome.now (acting_of a.glance.after) a.glance.has_filter (sent_by a.issued) v.clock) (sym c.settle.ensures.parts) made
+    subst (λ (t : PartTables). Becomes v.parts t a.entry.now (acting_of a.acting) a.outcome.now (acting_of a.basis.after) a.basis.has_filter (sent_by a.issued) v.clock) (sym c.settle.ensures.parts) made
 
 -- ---- the running bodies and the dying objects
 
@@ -106,8 +106,8 @@ returns-clause-booked c =
     let p = c.begin_parts.new.self in
     let b = c.book.new.self in
     let d = a.entry.now.deed in
-    let g : PartTables → Around = λ t. around t.calls.tables t.objects a.scenario.now.classes a.carried.now (number_or_zero a.glance.running) in
-    let m : Moves = moves_stepped (ground_at a.glance.home v.parts.objects v.parts.calls.tables) v.parts.scene (acting_of a.acting) a.outcome.now (acting_of a.glance.after) a.entry.now in
+    let g : PartTables → Around = λ t. around t.calls.tables t.objects a.scenario.now.classes a.carried.now (number_or_zero a.basis.running) in
+    let m : Moves = moves_stepped (ground_at a.basis.home v.parts.objects v.parts.calls.tables) v.parts.scene (acting_of a.acting) a.outcome.now (acting_of a.basis.after) a.entry.now in
     let same : parts_shown p.parts ≡ parts_shown v.parts = c.begin_parts.ensures.same ∙ ap parts_shown c.prepare.ensures.parts in
     subst (λ (h : Held). Booked (g v.parts) d m v.ledger h) (sym (c.settle.ensures.ledger ∙ c.finish_parts.ensures.ledger))
     (subst (λ (h : Held). Booked (g v.parts) d m h b.ledger) (c.begin_parts.ensures.ledger ∙ c.prepare.ensures.ledger)

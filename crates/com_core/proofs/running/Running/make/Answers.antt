@@ -19,7 +19,7 @@ returns-clause-entries c = entries_made c.change.result c.args.self.now.parts c.
 
 pub returns-clause-changed : goal.returns-clause-changed
 returns-clause-changed c =
-    let before = c.glance-glance in
+    let before = c.basis-basis in
     let m = c.change.ensures in
     changed_made c.change.result c.args.scenario.now c.args.self.now c.change.new.self c.args.entry.now (acting_of c.args.acting) _ (acting_of before.result.after)
     before.result.has_filter before.result.home before.result.running c.args.carried.now _ before.ensures.after before.ensures.has_filter before.ensures.home before.ensures.running

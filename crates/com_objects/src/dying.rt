@@ -10,11 +10,11 @@ use std::marker::Model;
 /// The numbers of the objects that are dying, in the order of the entries after which each was, and by number
 /// where one entry made several so; and for how many more there is room.
 #[derive(Debug, Drop)]
-pub struct Fallen {
+pub struct DyingQueue {
     objects: Vec<u32>,
 }
 
-impl Model for Fallen {
+impl Model for DyingQueue {
     ghost use Rattle.std.specs.Prelude.{◌-◌, vec_len, vec_capacity};
     ghost use Rattle.com_objects.specs.Lists.{DyingList};
 
@@ -26,12 +26,12 @@ impl Model for Fallen {
     } };
 }
 
-impl Fallen {
+impl DyingQueue {
     /// No object is dying. It takes no memory.
-    pub fn new(alloc: Global) -> Fallen
+    pub fn new(alloc: Global) -> DyingQueue
         ensures { result.objects ≡ [] }
     {
-        Fallen {
+        DyingQueue {
             objects: Vec::new(alloc),
         }
     }

@@ -2,7 +2,7 @@ use Rattle.std.proofs.Common.{ℕ, Option, rules, not, ◌==◌, ◌∙◌, ap, 
 use Rattle.std.proofs.lemmas.Fn.{filter_same}
 use Rattle.com_objects.specs.Settled.{without}
 use Rattle.com_objects.proofs.Settling.{without_none}
-use Rattle.com_objects.proofs.fallen.take_out.Goals as goal
+use Rattle.com_objects.proofs.dying.take_out.Goals as goal
 
 pub returns-in-Some-clause-items : goal.returns-in-Some-clause-items
 returns-in-Some-clause-items c =

@@ -9,7 +9,7 @@ use Rattle.com_refs_rows.specs.Moving.{Climbs}
 use Rattle.com_refs_rows.proofs.Changing.{applies_whole}
 use Rattle.com_ledger.proofs.Kept.{held_made, loses_kept}
 use Rattle.com_refs_rows.proofs.Unholding.{loses_whole}
-use Rattle.com_ledger.proofs.keeping.Keeping.change.Goals as goal
+use Rattle.com_ledger.proofs.books.Books.change.Goals as goal
 
 pub take-requires-clause-known : goal.take-requires-clause-known
 take-requires-clause-known c = λ k h. c.in_ok-enter_reference.ensures.offers _ _ (c.in_ok-prepare.ensures.known k h)

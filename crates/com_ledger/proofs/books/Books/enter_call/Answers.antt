@@ -7,7 +7,7 @@ use Rattle.com_refs_rows.specs.Entries.{Gives, around, tally}
 use Rattle.com_ledger.proofs.Giving.{given_out, given_leave, given_enter, gives_back, gives_later, gives_other}
 use Rattle.com_refs_rows.proofs.Losing.{on_ok, on_ok_three}
 use Rattle.com_refs_rows.specs.Entries.{asked_packets}
-use Rattle.com_ledger.proofs.keeping.Keeping.enter_call.Goals as goal
+use Rattle.com_ledger.proofs.books.Books.enter_call.Goals as goal
 
 pub returns-in-Out-clause-gives : goal.returns-in-Out-clause-gives
 returns-in-Out-clause-gives c = on_ok_three c.issue.result (λ packed books many. λ other.

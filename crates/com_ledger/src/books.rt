@@ -10,7 +10,7 @@ use std::alloc::Global;
 /// Who holds references, the packets of each call, the places that the row of the entry brought, the
 /// interfaces of a new object, and the objects that lost their last holder in the entry.
 #[derive(Debug, Drop)]
-pub struct Keeping {
+pub struct Books {
     pub refs: Refs,
     pub calls: CallTable,
     pub brought: Vec<Move>,
@@ -18,9 +18,9 @@ pub struct Keeping {
     pub touched: Vec<u32>,
 }
 
-impl Keeping {
+impl Books {
     /// Nothing is held. It takes no memory.
-    pub fn new(alloc: Global) -> Keeping
+    pub fn new(alloc: Global) -> Books
         ensures refs { result.refs.objects ≡ [] }
         ensures proxies { result.refs.proxies ≡ [] }
         ensures packets { result.refs.packets ≡ [] }
@@ -30,7 +30,7 @@ impl Keeping {
         ensures calls { result.calls ≡ [] }
         ensures touched { result.touched.items ≡ [] }
     {
-        Keeping {
+        Books {
             refs: Refs::new(alloc),
             calls: CallTable::new(alloc),
             brought: Vec::new(alloc),

@@ -4,7 +4,7 @@ use Rattle.com_model.specs.declared.deeds.Deed.TheVariants as deed
 use Rattle.com_refs_rows.specs.declared.calls.CallPackets.{CallPackets}
 use Rattle.com_refs_rows.specs.Entries.{Closes, around, tally, left_by}
 use Rattle.com_ledger.proofs.Closing.{closes_tables, closes_nothing, closes_back, not_ender}
-use Rattle.com_ledger.proofs.keeping.Keeping.enter_end.Goals as goal
+use Rattle.com_ledger.proofs.books.Books.enter_end.Goals as goal
 
 pub returns-in-DropPacket-clause-closes : goal.returns-in-DropPacket-clause-closes
 returns-in-DropPacket-clause-closes c = (

@@ -6,7 +6,7 @@ use Rattle.com_refs_rows.specs.Entries.{Gives, around, brings_to, is_made_by, ta
 use Rattle.com_ledger.proofs.Giving.{gives_made, gives_query, gives_marshal, gives_unmarshal, gives_register, gives_get, not_of_reference}
 use Rattle.com_refs_rows.proofs.Losing.{on_ok}
 use Rattle.com_ledger.proofs.Offered.{or_left, unmade}
-use Rattle.com_ledger.proofs.keeping.Keeping.enter_reference.Goals as goal
+use Rattle.com_ledger.proofs.books.Books.enter_reference.Goals as goal
 
 pub returns-in-Made-clause-gives : goal.returns-in-Made-clause-gives
 returns-in-Made-clause-gives c = on_ok_weaker c.enter_made.result (λ m.
