@@ -23,7 +23,7 @@ use Rattle.com_drive.specs.Standings.{ended_now, turn_now, Reached}
 use Rattle.com_drive.specs.Turns.{IsNext}
 use Rattle.com_drive.proofs.Counting.{all-counted}
 use Rattle.com_drive.proofs.Resting.{reached_by}
-use Rattle.com_drive.proofs.Turning.{below_limit, one_entry}
+use Rattle.com_drive.proofs.Limits.{below_limit, one_entry}
 use Rattle.com_check.specs.declared.judged.Judged.{Judged}
 use Rattle.com_check.specs.declared.judged.Judged.TheVariants as judged
 use Rattle.com_check.specs.Fronts.{named, IsNoLane}

@@ -30,7 +30,7 @@ fn last_after(lane: u32, last: u32) -> u32
 }
 
 /// Makes the clock's entry, where the clock goes on. The only error is want of memory.
-#[tactic(auto, using(crate::proofs::Entries::no_tick, com_drive::proofs::Turning::not_finished, com_drive::proofs::Turning::not_stuck))]
+#[tactic(auto, using(crate::proofs::Entries::no_tick, com_drive::proofs::Limits::not_finished, com_drive::proofs::Limits::not_stuck))]
 fn clock_entry<C: Runtime>(runtime: &mut C, standing: Standing) -> Result<Option<Entry>, Memory>
     requires standing { standing ≡ standing_of (C.scenario runtime.old) (C.state runtime.old) }
     requires goes_on { ended_now (C.scenario runtime.old) (C.state runtime.old) ≡ None }
@@ -86,7 +86,7 @@ fn next_of<C: Runtime>(
 
 /// Makes the entry of the schedule without picks: of the first lane that can step from the one behind `last`
 /// on, or of the clock where no lane can. The only error is want of memory.
-#[tactic(auto, using(crate::proofs::Entries::lane_scheduled, crate::proofs::Entries::clock_scheduled, com_drive::proofs::Choices::not_runs, com_drive::proofs::Turning::not_finished, com_drive::proofs::Turning::not_stuck))]
+#[tactic(auto, using(crate::proofs::Entries::lane_scheduled, crate::proofs::Entries::clock_scheduled, com_drive::proofs::Choices::not_runs, com_drive::proofs::Limits::not_finished, com_drive::proofs::Limits::not_stuck))]
 fn step_schedule<C: Runtime>(
     alloc: Global,
     runtime: &mut C,

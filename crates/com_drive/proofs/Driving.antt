@@ -28,7 +28,7 @@ use Rattle.com_drive.specs.declared.stream.Step.TheVariants.{Made, Over}
 use Rattle.com_drive.specs.Steps.{Moment, IsMade, Fails, StepsTo, over_of}
 use Rattle.com_drive.specs.Reports.{all_counts_in}
 use Rattle.com_drive.specs.Replays.{whole_text, whole_history, whole_served, IsReplay}
-use Rattle.com_drive.proofs.Turning.{below_limit, one_entry}
+use Rattle.com_drive.proofs.Limits.{below_limit, one_entry}
 use Rattle.com_drive.proofs.Counting.{all-counted}
 use Rattle.com_drive.proofs.Resting.{reached_by}
 use Rattle.com_servant.specs.Rows.{one_served}
@@ -287,9 +287,6 @@ driving_within s start from m p = let c = p.count in let k = p.stands.entries in
 
 -- ---- for the loop
 
-abbrev pub mapped : {A : Type 0} → {B : Type 0} → List A → (A → B) → List B
-mapped xs f = map f xs
-
 pub driving_start_at : (s : Scenario) (start : Option (List ℕ)) (from : List ℕ) (st : State) (tried last : ℕ) (lines : List ℕ) → st ≡ first_tables s → tried ≡ 0 → last ≡ 0 → lines ≡ [] → Driving s start from (record { state = st; picks = drop tried s.picks; last = last; lines = lines; held = start; steps = from })
 driving_start_at s start from st tried last lines e t l none =
     driving_start s start from (record { state = st; picks = drop tried s.picks; last = last; lines = lines; held = start; steps = from }) e (ap (λ (n : ℕ). drop n s.picks) t) l none refl refl
@@ -321,7 +318,3 @@ reached_over_step s start from m n (Over y) x f p q is =
 pub on-ok : {A E : Type 0} (r : Result A E) (P : Type 0) → P → OnOk r P
 on-ok (Ok x) P p = p
 on-ok (Err e) P p = tt
-
-pub not-some : {A : Type 0} (o : Option A) → ((x : A) → o ≡ Some x → ⊥) → o ≡ None
-not-some None p = refl
-not-some (Some x) p = absurd (p x refl)

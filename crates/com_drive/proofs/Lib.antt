@@ -4,3 +4,4 @@ pub mod Turning
 pub mod Counting
 pub mod Driving
 pub mod Resting
+pub mod Limits

@@ -17,7 +17,7 @@ use Rattle.com_drive.specs.declared.runtime.Standing.TheVariants as standing
 use Rattle.com_drive.specs.Standings.{standing_of, ended_now, turn_now, Reached}
 use Rattle.com_drive.specs.Turns.{IsNext, IsTurn, GoesOn, next_line, served_in}
 use Rattle.com_drive.specs.Steps.{Moment, IsMade, IsOver, Fails}
-use Rattle.com_drive.proofs.Choices.{turn_ticks, ended_finished, ended_stuck}
+use Rattle.com_drive.proofs.Choices.{turn_ticks}
 
 last-same : (l last : ℕ) → l ≡ 0 → last ≡ last_after l last
 last-same zero last e = refl
@@ -49,35 +49,9 @@ turn_of_lane s st new picks left last l e goes t low p = record {
     at : ℕ → Option Turn
     at k = Some (record { lane = k; picks = left })
 
-not-yet : (f k n : Bool) → cond f (Some ended.Ok) (cond k (Some ended.Stuck) (cond n (Some ended.Budget) None)) ≡ None → n ≡ false
-not-yet true k n e = cc
-not-yet false true n e = cc
-not-yet false false true e = cc
-not-yet false false false e = refl
-
-below : (a b : ℕ) → (a == b) ≡ false → a ≤ b → a < b
-below a b e p = grind (arith, common_steps, e, p)
-
-pub below_limit : (s : Scenario) (st : State) → ended_now s st ≡ None → st.entries ≤ limit s → st.entries < limit s
-unfolding ended_now
-below_limit s st e p = below st.entries (limit s) (not-yet (finished_by s (sight_of s st)) (stuck_by s (sight_of s st)) (st.entries == limit s) e) p
-
 pub clock_serves : (s : Scenario) (st new : State) (e : Entry) (steps : List ℕ) → IsNext s st 0 e new → steps ≡ served_in s st e.lane steps
 unfolding served_in
 clock_serves s st new e steps p = ap (λ (l : ℕ). served_in s st l steps) (sym p.by)
-
-no-end : (x : Option Ended) (y : Ended) → Some y ≡ x → x ≡ None → ⊥
-no-end None y p e = cc
-no-end (Some z) y p e = cc
-
-pub not_finished : (s : Scenario) (st : State) → standing.Finished ≡ standing_of s st → ended_now s st ≡ None → ⊥
-not_finished s st e n = no-end (ended_now s st) ended.Ok (ended_finished s st e) n
-
-pub not_stuck : (s : Scenario) (st : State) → standing.Stuck ≡ standing_of s st → ended_now s st ≡ None → ⊥
-not_stuck s st e n = no-end (ended_now s st) ended.Stuck (ended_stuck s st e) n
-
-pub one_entry : (s : Scenario) (st new : State) (l : ℕ) (e : Entry) → IsNext s st l e new → new.entries ≡ st.entries + 1
-one_entry s st new l e p = ap (λ (x : State). x.entries) p.becomes
 
 line-is : (s : Scenario) (st new : State) (picks picks_new : List ℕ) (last last_new place : ℕ) (e : Entry) → IsTurn s st picks last e new picks_new last_new → place ≡ new.entries → line_text s.version place e ≡ next_line s st e
 unfolding next_line

@@ -7,33 +7,14 @@ ghost use Rattle.com_drive.specs.declared.lines.ReplayError.TheVariants as repla
 ghost use Rattle.com_drive.specs.Reports.{all_counts_in};
 ghost use Rattle.com_drive.specs.Standings.{Reached};
 
+use crate::counts::all_counts;
 use crate::lines::{ReplayError, tell};
 use crate::replayed::Replayed;
 use crate::runtime::Runtime;
-use com_base::{ByteList, Memory};
+use com_base::ByteList;
 use com_io::Sink;
-use com_model::{Counts, Ended, Scenario};
+use com_model::{Ended, Scenario};
 use std::alloc::Global;
-
-/// What a report counts of each object, in order of making. The only error is want of memory.
-#[tactic(auto, using(crate::proofs::Counting::one_more_counted_at, crate::proofs::Resting::same_reached))]
-pub fn all_counts<C: Runtime>(
-    alloc: Global,
-    scenario: &Scenario,
-    runtime: &C,
-) -> Result<Vec<Counts>, Memory>
-    requires scenario { C.scenario runtime.now ≡ scenario.now }
-    requires reached { Reached scenario.now (C.state runtime.now) }
-    ensures { IfOk result (λ all. all.items ≡ all_counts_in scenario.now (C.state runtime.now)) }
-{
-    let mut all = Vec::new(alloc);
-    let objects = runtime.objects();
-    for number in 0..objects {
-        let counts = runtime.counts(number + 1);
-        all.push(counts)?;
-    }
-    Ok(all)
-}
 
 /// Writes the lines that are kept, and the report of a runtime whose history has ended so.
 #[tactic(auto, using(com_io::proofs::Passing::prefix_of_none))]

@@ -58,7 +58,7 @@ impl Stream {
     }
 
     // Has the lane whose turn it is make its entry.
-    #[tactic(auto, using(crate::proofs::Turning::below_limit))]
+    #[tactic(auto, using(crate::proofs::Limits::below_limit))]
     fn lane_turn<C: Runtime>(
         &mut self,
         alloc: Global,
@@ -94,7 +94,7 @@ impl Stream {
     }
 
     // Has the lane whose turn it is make its entry, or the clock where no lane can step.
-    #[tactic(auto, using(crate::proofs::Turning::below_limit, crate::proofs::Turning::not_finished, crate::proofs::Turning::not_stuck, crate::proofs::Choices::not_runs))]
+    #[tactic(auto, using(crate::proofs::Limits::below_limit, crate::proofs::Limits::not_finished, crate::proofs::Limits::not_stuck, crate::proofs::Choices::not_runs))]
     fn turn<C: Runtime>(
         &mut self,
         alloc: Global,

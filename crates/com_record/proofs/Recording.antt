@@ -19,7 +19,7 @@ use Rattle.com_drive.specs.Replays.{whole_history}
 use Rattle.com_drive.specs.Standings.{Reached, ended_now, turn_now}
 use Rattle.com_drive.specs.Steps.{IsMade, IsOver, Moment, StepsTo}
 use Rattle.com_drive.proofs.Resting.{reached_by}
-use Rattle.com_drive.proofs.Turning.{below_limit, one_entry}
+use Rattle.com_drive.proofs.Limits.{below_limit, one_entry}
 use Rattle.com_record.specs.Recorded.{IsRecorded}
 
 -- What stands between two steps: the state is that of the entries so far, and the schedule comes from them to the whole history.

@@ -2,7 +2,8 @@ use Rattle.std.proofs.Common.{◌≡◌, ◌-◌, ◌≤◌, drop}
 use Rattle.com_model.specs.Tables.{lanes}
 use Rattle.com_model.specs.Ends.{limit}
 use Rattle.com_servant.specs.Rows.{row}
-use Rattle.com_drive.proofs.Driving.{Driving, mapped}
+use Rattle.com_drive.proofs.Driving.{Driving}
+use Rattle.com_drive.proofs.Limits.{mapped}
 use Rattle.com_record.proofs.Recording.{Recording}
 use Rattle.com_record.proofs.keep_by.Given as goal
 

@@ -1,6 +1,6 @@
 use Rattle.std.proofs.Common.{sym, ◌∙◌}
 use Rattle.std.proofs.lemmas.Result.{IfOk-weaker}
-use Rattle.com_drive.proofs.Driving.{not-some}
+use Rattle.com_drive.proofs.Limits.{not-some}
 use Rattle.com_agreed.proofs.Again.{goes_on, has_room, is_agreed, is_reached, line_left, names_next, starts}
 use Rattle.com_agreed.proofs.reading.read_by.Goals as goal
 

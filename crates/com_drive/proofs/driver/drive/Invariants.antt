@@ -2,8 +2,9 @@ use Rattle.std.proofs.Common.{◌≡◌, ◌-◌, ◌≤◌, drop}
 use Rattle.com_model.specs.Tables.{lanes}
 use Rattle.com_model.specs.Ends.{limit}
 use Rattle.com_servant.specs.Rows.{row}
-use Rattle.com_drive.proofs.Driving.{Driving, mapped}
-use Rattle.com_drive.proofs.drive.Given as goal
+use Rattle.com_drive.proofs.Driving.{Driving}
+use Rattle.com_drive.proofs.Limits.{mapped}
+use Rattle.com_drive.proofs.driver.drive.Given as goal
 
 abbrev pub invariant-turns : goal.invariant-turns
 invariant-turns g l = record {

@@ -1,9 +1,10 @@
 use Rattle.std.proofs.Common.{arith, subst, sym, ◌∙◌}
 use Rattle.std.proofs.lemmas.Result.{on_ok_weaker, IfOk-weaker}
 use Rattle.com_drive.specs.Replays.{IsReplay}
-use Rattle.com_drive.proofs.Driving.{driving_start_at, driving_on_step, driving_smaller, driving_over_step, driving_stopped, driving_within, reached_over_step, ended_gains, ended_prefix, on-ok, not-some}
+use Rattle.com_drive.proofs.Driving.{driving_start_at, driving_on_step, driving_smaller, driving_over_step, driving_stopped, driving_within, reached_over_step, ended_gains, ended_prefix, on-ok}
+use Rattle.com_drive.proofs.Limits.{not-some}
 use Rattle.com_drive.proofs.Resting.{reached_by}
-use Rattle.com_drive.proofs.drive.Goals as goal
+use Rattle.com_drive.proofs.driver.drive.Goals as goal
 
 pub turns-init : goal.turns-init
 turns-init g c = record {
