@@ -16,6 +16,10 @@ ghost use Rattle.com_laws_safe.specs.Broken.{unmarshalled_out_of_nothing, two_ap
 ghost use Rattle.com_laws_safe.specs.Broken.{held_by_a_script, without_a_cause};
 ghost use Rattle.com_laws_safe.specs.Stricter.{Stricter};
 
+mod written;
+
+pub use written::{one_history, scheduled_ends, text_fixes};
+
 /// Every legal history of a formed scenario is safe: apartments, the one stack of each lane, reentry, own
 /// replies, the balance of public references, release, and causes.
 pub fn safe()

@@ -2,7 +2,7 @@
 ghost use Rattle.std.specs.Prelude.{◌≡◌, IfOk, OnOk, map};
 ghost use Rattle.com_model.specs.Formed.{Formed};
 ghost use Rattle.com_servant.specs.Rows.{row};
-ghost use Rattle.com_drive.specs.Replays.{IsReplay, whole_served};
+ghost use Rattle.com_replay.specs.Replays.{IsReplay, whole_served};
 ghost use Rattle.com_laws_load.specs.LoadScenarios.{load_scenario};
 ghost use Rattle.com_commands.specs.declared.statuses.Status.TheVariants as status;
 ghost use Rattle.com_commands.specs.Responses.{Causes, FitsServed, GivesWhole, Responds, Serves};
@@ -14,7 +14,7 @@ use com_commands::{Reply, Status, push_number, read_scenario, say, share, status
 use com_gen::generate;
 use com_io::{Discard, Sink};
 use com_model::Scenario;
-use com_play::{Replayed, replay};
+use com_replay::{Replayed, replay};
 use com_report::report;
 use com_servant::Servant;
 use std::alloc::{AllocError, Global};

@@ -6,7 +6,7 @@ ghost use Rattle.com_scenario.proofs.Lengths.{longer_than_all};
 ghost use Rattle.com_scenario.specs.Scenarios.{reading};
 ghost use Rattle.com_scenario.specs.Sizes.{is_too_long};
 ghost use Rattle.com_servant.specs.Rows.{row};
-ghost use Rattle.com_drive.specs.Replays.{whole_served};
+ghost use Rattle.com_replay.specs.Replays.{whole_served};
 ghost use Rattle.com_commands.specs.Histories.{IsHistory, history_concludes};
 ghost use Rattle.com_commands.specs.Responses.{IsAnswered, Responds, Serves};
 ghost use Rattle.com_commands.specs.Statuses.{IsEnd, sides_of};
@@ -17,7 +17,7 @@ use com_base::{ByteList, Memory, TEXT_2_LIMIT};
 use com_commands::{Input, InputReader, PlayingCommand, Status, perform, share, status_at};
 use com_io::{Sink, Source};
 use com_model::Scenario;
-use com_play::{ReplayError, replay};
+use com_replay::{ReplayError, replay};
 use com_servant::Servant;
 use std::alloc::Global;
 

@@ -3,7 +3,7 @@
 use com_base::{ByteList, Guid, HResult, Kind, MarshalMode, Mode, Rows, Value};
 use com_body::{Arg, Asked, Code, Destination, Given, Op, Place, Stmt};
 use com_classes::{Interface, Method};
-use com_print_statements::{write_statement, written_is_read};
+use com_print::statements::{write_statement, written_is_read};
 use com_read_statements::Names;
 use std::alloc::Global;
 use std::test::*;
