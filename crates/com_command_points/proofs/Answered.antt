@@ -9,11 +9,11 @@ use Rattle.com_commands.specs.declared.statuses.Status.{Status}
 use Rattle.com_commands.specs.declared.statuses.Status.TheVariants as status
 use Rattle.com_commands.specs.Responses.{IsAnswered, GainsFront}
 use Rattle.com_commands.specs.Statuses.{Says, status_at}
-use Rattle.com_command_points.specs.declared.tallies.Delivery.{Delivery}
-use Rattle.com_command_points.specs.Book.{told, deliveries_in}
-use Rattle.com_command_points.specs.Delivered.{AreDeliveries}
-use Rattle.com_command_points.specs.Tables.{AreSources}
-use Rattle.com_command_points.proofs.Lawful.{told-deliveries}
+use Rattle.com_deliveries.specs.declared.Delivery.{Delivery}
+use Rattle.com_deliveries.specs.Book.{told, deliveries_in}
+use Rattle.com_deliveries.specs.Delivered.{AreDeliveries}
+use Rattle.com_deliveries.specs.Tables.{AreSources}
+use Rattle.com_deliveries.proofs.Lawful.{told-deliveries}
 use Rattle.com_replay.specs.Replays.{whole_text}
 use Rattle.com_model.specs.declared.counts.Ended.{Ended}
 use Rattle.com_model.specs.declared.scenario.Scenario.{Scenario}

@@ -1,10 +1,1 @@
 pub mod Answered
-pub mod EventRows
-pub mod Lawful
-pub mod Leaving
-pub mod Listing
-pub mod Removing
-pub mod RowReads
-pub mod Stacked
-pub mod Standing
-pub mod Stepping

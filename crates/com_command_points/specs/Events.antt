@@ -1,6 +1,6 @@
 -- What is printed of the events of sources.
 use Rattle.std.specs.Prelude.{ℕ, List, [], ◌∷◌, ◌++◌, codes, decimal}
-use Rattle.com_command_points.specs.declared.tallies.Delivery.{Delivery}
+use Rattle.com_deliveries.specs.declared.Delivery.{Delivery}
 
 -- Cookies, each behind a space.
 abbrev pub cookie_words : List ℕ → List ℕ

@@ -1,7 +1,2 @@
 pub mod Events
 pub mod Playing
-pub mod Book
-pub mod Delivered
-pub mod Indices
-pub mod Rows
-pub mod Tables

@@ -5,8 +5,6 @@
 mod command;
 mod events;
 mod playing;
-mod tallies;
 
 pub use com_base::Memory;
 pub use command::{points_completeness, points_main};
-pub use tallies::{Delivery, deliveries, deliveries_by, source_table};

@@ -2,7 +2,7 @@
 ghost use Rattle.std.specs.Prelude.{◌≡◌, ◌≤◌, ◌<◌, ◌^◌, Err, Some, IfOk, OnOk, length, map, reverse};
 ghost use Rattle.com_commands.specs.Responses.{IsAnswered};
 ghost use Rattle.com_commands.specs.Statuses.{IsEnd};
-ghost use Rattle.com_command_points.specs.Tables.{AreSources};
+ghost use Rattle.com_deliveries.specs.Tables.{AreSources};
 ghost use Rattle.com_io.specs.Faults.{Rose};
 ghost use Rattle.com_io.specs.Told.{Gains, GainsPrefix};
 ghost use Rattle.com_replay.specs.declared.lines.ReplayError.TheVariants as replay_error;
@@ -15,9 +15,9 @@ ghost use Rattle.com_command_points.specs.Playing.{IsPlayed, AreLines};
 ghost use Rattle.com_servant.specs.Rows.{row};
 
 use crate::events::event_lines;
-use crate::{deliveries_by, source_table};
 use com_base::{ByteList, Memory};
 use com_commands::{Status, say, share, status_at};
+use com_deliveries::{deliveries_by, source_table};
 use com_io::Sink;
 use com_model::{Ended, Entry, Scenario};
 use com_replay::{ReplayError, keep};

@@ -14,7 +14,7 @@ use crate::replayed::Replayed;
 use crate::stream::{Step, Stream};
 use com_io::Sink;
 use com_model::{Ended, Scenario};
-use com_runtime::runtime::Runtime;
+use com_runtime::Runtime;
 use com_servant::Servant;
 use std::alloc::Global;
 

@@ -12,8 +12,7 @@ use crate::replayed::Replayed;
 use com_base::ByteList;
 use com_io::Sink;
 use com_model::{Ended, Scenario};
-use com_runtime::counts::all_counts;
-use com_runtime::runtime::Runtime;
+use com_runtime::{Runtime, all_counts};
 use std::alloc::Global;
 
 /// Writes the lines that are kept, and the report of a runtime whose history has ended so.

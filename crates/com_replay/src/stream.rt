@@ -20,8 +20,7 @@ use crate::replayed::Replayed;
 use com_base::{ByteList, Memory};
 use com_io::Sink;
 use com_model::{Ended, Entry, Scenario};
-use com_runtime::runtime::{Runtime, Standing};
-use com_runtime::schedule::{Chosen, choose, end_of, stand};
+use com_runtime::{Chosen, Runtime, Standing, choose, end_of, stand};
 use com_servant::Servant;
 use std::alloc::Global;
 

@@ -17,5 +17,5 @@ pub use errors::CommitError;
 pub use jobs::{Jobs, Next};
 pub use laws::{fitting_jobs_step, histories_go_on, taken_jobs_fit};
 pub use runtime::{Runtime, Standing};
-pub use schedule::{Chosen, choose, end_of};
+pub use schedule::{Chosen, choose, end_of, stand};
 pub use tables::by_tables;

@@ -1,6 +1,6 @@
 use Rattle.std.proofs.Common.{◌≡◌, Some, subst, sym}
 use Rattle.std.specs.Arc.{arc_value}
-use Rattle.com_command_points.specs.Tables.{AreSources}
+use Rattle.com_deliveries.specs.Tables.{AreSources}
 use Rattle.com_model.specs.declared.scenario.Scenario.{Scenario}
 use Rattle.com_model.specs.Ends.{ended_as, scheduled}
 use Rattle.com_model.specs.Formed.{Formed}

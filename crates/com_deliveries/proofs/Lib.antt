@@ -1,0 +1,9 @@
+pub mod Events
+pub mod Lawful
+pub mod Leaving
+pub mod Listing
+pub mod Removing
+pub mod RowReads
+pub mod Stacked
+pub mod Standing
+pub mod Stepping

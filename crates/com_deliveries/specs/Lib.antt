@@ -1,0 +1,5 @@
+pub mod Book
+pub mod Delivered
+pub mod Indices
+pub mod Rows
+pub mod Tables
