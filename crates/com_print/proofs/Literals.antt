@@ -1,5 +1,5 @@
 -- The words of literals are read as their values.
-use Rattle.std.proofs.Common.{◌≡◌, ℕ, suc, ◌+◌, ◌-◌, ◌^◌, ◌<◌, ◌≤◌, ◌==◌, List, [], ◌∷◌, ◌++◌, Some, None, Bool, true, false, nat_lt, if◌then◌else◌, refl, sym, ap, ◌∙◌, arith, length, length-append, take, slice_range, codes, decimal, option_and_then, Result, Ok, Err, bytes_eq, ℤ, pos, negsuc}
+use Rattle.std.proofs.Common.{◌≡◌, ℕ, suc, ◌+◌, ◌-◌, ◌^◌, ◌<◌, ◌≤◌, ◌==◌, List, [], ◌∷◌, ◌++◌, Option, Some, None, Bool, true, false, ◌&&◌, nat_lt, if◌then◌else◌, refl, sym, ap, ◌∙◌, arith, length, length-append, take, slice_range, codes, decimal, option_and_then, unwrap_or, Result, Ok, Err, bytes_eq, ℤ, pos, negsuc}
 use Rattle.std.specs.List.{list_all}
 use Rattle.std.specs.Char.{is_ascii}
 use Rattle.std.specs.Fmt.{signed_decimal}
@@ -10,7 +10,8 @@ use Rattle.com_base.specs.declared.guid.Guid.{Guid}
 use Rattle.com_base.specs.declared.value.Value.{Value}
 use Rattle.com_base.specs.declared.value.Value.TheVariants as values
 use Rattle.com_base.specs.Guids.{text_of}
-use Rattle.com_base.specs.HResults.{eight_digits, hresult_named}
+use Rattle.com_base.specs.HResults.{eight_digits, name_of, hresult_named}
+use Rattle.com_base.proofs.Names.{names_inverse}
 use Rattle.com_body.specs.declared.operands.Op.{Op}
 use Rattle.com_body.specs.declared.operands.Op.TheVariants as ops
 use Rattle.com_body.specs.declared.operands.Code.{Code}
@@ -28,10 +29,11 @@ use Rattle.com_read_operands.specs.Literals.{guid_of, are_pairs, unhexed}
 use Rattle.com_read_operands.specs.Reading.{◌>>=◌, word_at, fault_at}
 use Rattle.com_read_operands.specs.Operands.{plain_of, begins_number, numeric_of, numbered, braced, inner, operand_by, operand_of, text_literal, bytes_literal, as_bytes, written, literal_of, op_at, hex_word_of, or_named, hresult_of, begins_hex, as_code, as_code_register, code_at, as_given, given_at}
 use Rattle.com_print.specs.Spelled.{Spelled}
-use Rattle.com_print.specs.Words.{register_word, slot_word, value_word, op_word, code_word}
+use Rattle.com_print.specs.Words.{register_word, slot_word, value_word, op_word, hresult_bytes, code_word}
 use Rattle.com_print.specs.Ranges.{IsLiteral, TakesOp, TakesGiven, FitsValue, FitsOp, FitsCode, FitsGiven, AreBytes, IsWhole, IsGuid}
 use Rattle.com_print.proofs.Decimals.{decimal_digits, signed_again}
 use Rattle.com_print.proofs.Hexes.{eight_again, guid_again, pairs_again, unhexed_again, long_hex}
+use Rattle.com_print.proofs.Named.{name_said}
 use Rattle.com_print.proofs.Places.{at, StandsAt, stands, word_again, operand_again, read_by, present, missing, IsGood, register_operand, slot_operand}
 
 -- ---- numbers in digits
@@ -242,13 +244,38 @@ digits_code : (n : ℕ) → n < 2 ^ 32 → hresult_of (48 ∷ 120 ∷ eight_digi
 unfolding hresult_of
 digits_code n fits = ap (or_named (48 ∷ 120 ∷ eight_digits n)) (eight_again n fits)
 
+-- a word that does not begin with `0x` has no digits
+no_digits : (bs : List ℕ) → begins_hex bs ≡ false → hex_word_of bs ≡ None
+unfolding hex_word_of
+no_digits [] h = refl
+no_digits (a ∷ []) h = refl
+no_digits (a ∷ b ∷ bs) h = rw h refl
+
+-- a name of the table is read as what it names
+name_code : (n : ℕ) (bs : List ℕ) → name_of n ≡ Some bs → hresult_of bs ≡ Some (record { 0 = n })
+unfolding hresult_of
+name_code n bs e =
+    let s = name_said n bs e in
+    ap (or_named bs) (no_digits bs s.no_number)
+    ∙ ap (λ (b : Bool). option_and_then hresult_named (if b then Some bs else None)) s.ascii
+    ∙ (names_inverse (record { 0 = n }) bs).0 e
+
+by_name : (n : ℕ) → n < 2 ^ 32 → (name : Option (List ℕ)) → name_of n ≡ name
+    → hresult_of (unwrap_or name (48 ∷ 120 ∷ eight_digits n)) ≡ Some (record { 0 = n })
+by_name n fits None e = digits_code n fits
+by_name n fits (Some bs) e = name_code n bs e
+
+hresult_code : (n : ℕ) → n < 2 ^ 32 → hresult_of (hresult_bytes n) ≡ Some (record { 0 = n })
+unfolding hresult_bytes
+hresult_code n fits = by_name n fits (name_of n) refl
+
 pub code_again : (line : List WordAt) (k : ℕ) (c : Code) → at line k ≡ Some (code_word c) → IsCode c → FitsCode c → code_at line k ≡ Ok c
 unfolding code_at
 code_again line k (answers.Literal answer) h lt fits =
     let s = stands line k (code_word (answers.Literal answer)) h in
     ap (λ (r : Result WordAt Fault). r >>= λ w. as_code w (hresult_of w.bytes)) (word_again line k _ s tt)
     ∙ ap (λ (bs : List ℕ). as_code s.word (hresult_of bs)) s.bytes
-    ∙ ap (as_code s.word) (digits_code answer.0 fits)
+    ∙ ap (as_code s.word) (hresult_code answer.0 fits)
 code_again line k (answers.Register n) h lt fits =
     let s = stands line k (register_word n) h in
     ap (λ (r : Result WordAt Fault). r >>= λ w. as_code w (hresult_of w.bytes)) (word_again line k _ s tt)

@@ -1,12 +1,12 @@
 -- The words of operands are good words.
-use Rattle.std.proofs.Common.{◌≡◌, ℕ, zero, suc, ◌-◌, ◌/◌, ◌%◌, ◌<◌, ◌≤◌, ◌^◌, List, [], ◌∷◌, ◌++◌, Bool, true, false, nat_le, if◌then◌else◌, refl, ◌∙◌, arith, length, slice_index, decimal, pos, negsuc, ℤ}
+use Rattle.std.proofs.Common.{◌≡◌, ℕ, zero, suc, ◌-◌, ◌/◌, ◌%◌, ◌<◌, ◌≤◌, ◌^◌, List, [], ◌∷◌, ◌++◌, Option, Some, None, Bool, true, false, nat_le, if◌then◌else◌, refl, ◌∙◌, arith, length, slice_index, unwrap_or, decimal, pos, negsuc, ℤ}
 use Rattle.std.specs.List.{list_all}
 use Rattle.std.specs.Char.{is_ascii_alphabetic, is_ascii_hexdigit}
 use Rattle.std.specs.Fmt.{signed_decimal}
 use Rattle.std.proofs.lemmas.Bool.Decides.{nat_tests}
 use Rattle.std.proofs.lemmas.List.Folds.{list_all-append}
 use Rattle.hex.specs.Hex.{encode_lower, upper_digits}
-use Rattle.com_base.specs.HResults.{eight_digits}
+use Rattle.com_base.specs.HResults.{eight_digits, name_of}
 use Rattle.uuid.specs.Text.{by_index, hex_digit, upper, nibble, hyphenated_text, is_hyphen_place, digit_place}
 use Rattle.uuid.proofs.TextLemmas.{nibble_small}
 use Rattle.com_base.specs.declared.guid.Guid.{Guid}
@@ -33,11 +33,12 @@ use Rattle.com_body.specs.Bodies.{IsOp, IsPlace, IsCode, IsGiven, IsDestination}
 use Rattle.com_read_operands.specs.Numbers.{is_digit}
 use Rattle.com_read_operands.specs.Naming.{is_name, is_tail, are_tail}
 use Rattle.com_print.specs.Spelled.{plain, IsSpelled, AreSpelled, IsPlainWord, is_word_byte, is_text_byte}
-use Rattle.com_print.specs.Words.{register_word, slot_word, cell_word, buffer_word, place_word, value_word, op_word, code_word, given_words, destination_words, mode_word, marshal_mode_word, name_at, asked_word}
+use Rattle.com_print.specs.Words.{register_word, slot_word, cell_word, buffer_word, place_word, value_word, op_word, hresult_bytes, code_word, given_words, destination_words, mode_word, marshal_mode_word, name_at, asked_word}
 use Rattle.com_print.specs.Ranges.{IsLiteral, TakesOp, TakesGiven, FitsValue, FitsOp, FitsGiven, AreBytes, IsWhole, AreNames, IsNamed}
 use Rattle.com_print.proofs.Decimals.{decimal_digits}
 use Rattle.com_print.proofs.Hexes.{all_below, both, tried, all_hex, all_true, long_hex}
 use Rattle.com_print.proofs.Names.{is_name_at, name_parts, tail_parts}
+use Rattle.com_print.proofs.Named.{name_said}
 
 -- a test that a weaker one follows from
 pub all_weaker : (p q : ℕ → Bool) → ((b : ℕ) → p b ≡ true → q b ≡ true) → (xs : List ℕ) → list_all p xs ≡ true → list_all q xs ≡ true
@@ -150,9 +151,18 @@ eight_words : (n : ℕ) → list_all is_word_byte (eight_digits n) ≡ true
 eight_words n =
     rw (sixteenth (n / 2 ^ 28), sixteenth (n / 2 ^ 24), sixteenth (n / 2 ^ 20), sixteenth (n / 2 ^ 16), sixteenth (n / 2 ^ 12), sixteenth (n / 2 ^ 8), sixteenth (n / 2 ^ 4), sixteenth n) refl
 
+by_name : (n : ℕ) (name : Option (List ℕ)) → name_of n ≡ name → IsPlainWord (unwrap_or name (48 ∷ 120 ∷ eight_digits n))
+by_name n None e = (omega arith, eight_words n)
+by_name n (Some bs) e =
+    let s = name_said n bs e in
+    (s.long, s.word)
+
+hresult_spelled : (n : ℕ) → IsPlainWord (hresult_bytes n)
+unfolding hresult_bytes
+hresult_spelled n = by_name n (name_of n) refl
+
 pub code_spelled : (c : Code) → IsCode c → IsSpelled (code_word c)
-code_spelled (answers.Literal answer) lt =
-    (omega arith, eight_words answer.0)
+code_spelled (answers.Literal answer) lt = hresult_spelled answer.0
 code_spelled (answers.Register n) lt = register_spelled n lt
 
 pub given_spelled : (g : Given) → IsGiven g → TakesGiven g → FitsGiven g → AreSpelled (given_words g)

@@ -1,10 +1,10 @@
 -- Operands as words.
 use Rattle.std.specs.Prelude.{ℕ, ◌-◌, List, [], ◌∷◌, true, false, codes, decimal}
-use Rattle.std.specs.Prelude.{slice_index_or}
+use Rattle.std.specs.Prelude.{slice_index_or, unwrap_or}
 use Rattle.std.specs.Fmt.{signed_decimal}
 use Rattle.hex.specs.Hex.{encode_lower}
 use Rattle.com_base.specs.Guids.{text_of}
-use Rattle.com_base.specs.HResults.{eight_digits}
+use Rattle.com_base.specs.HResults.{eight_digits, name_of}
 use Rattle.com_base.specs.declared.value.Value.{Value}
 use Rattle.com_base.specs.declared.value.Value.TheVariants as values
 use Rattle.com_base.specs.declared.value.Mode.{Mode}
@@ -65,9 +65,13 @@ arg_word (args.Op op) = op_word op
 arg_word (args.Slot n) = slot_word n
 arg_word args.Null = plain (codes "null")
 
--- an HRESULT in digits, or a register
+-- an HRESULT by its name, or in digits where the table has none for it
+unfoldable pub hresult_bytes : ℕ → List ℕ
+hresult_bytes n = unwrap_or (name_of n) (48 ∷ 120 ∷ eight_digits n)
+
+-- an HRESULT, or a register
 abbrev pub code_word : Code → Spelled
-code_word (answers.Literal answer) = plain (48 ∷ 120 ∷ eight_digits answer.0)
+code_word (answers.Literal answer) = plain (hresult_bytes answer.0)
 code_word (answers.Register n) = register_word n
 
 abbrev pub given_words : Given → List Spelled

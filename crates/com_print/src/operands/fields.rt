@@ -45,7 +45,7 @@ pub fn push_arg(out: &mut ByteList, arg: &Arg) -> Result<(), Memory>
     }
 }
 
-/// Appends the HRESULT of a body's end, in digits, or a register.
+/// Appends the HRESULT of a body's end, by its name or in digits, or a register.
 pub fn push_code(out: &mut ByteList, code: Code) -> Result<(), Memory>
     ensures ok { OnOk result (out.new ≡ out.old ++ more_text (code_word code ∷ [])) }
     ensures fits { FitsCode code }

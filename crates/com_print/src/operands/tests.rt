@@ -59,7 +59,8 @@ fn places_are_written(rt: HostRuntime) -> Result<(), Fail> {
     push_place(&mut out, Place::Link(3))?;
     push_op(&mut out, &Op::Register(1))?;
     push_arg(&mut out, &Arg::Null)?;
-    push_code(&mut out, Code::Literal(HResult(0x8000_4005)))?;
+    push_code(&mut out, Code::Literal(HResult::E_FAIL))?;
+    push_code(&mut out, Code::Literal(HResult(0x8004_ABCD)))?;
     push_code(&mut out, Code::Register(15))?;
     push_given(&mut out, &Given::Slot(2))?;
     push_destination(&mut out, Destination::Register(1))?;
@@ -67,7 +68,7 @@ fn places_are_written(rt: HostRuntime) -> Result<(), Fail> {
     push_marshal_mode(&mut out, MarshalMode::Weak)?;
     push_decimal(&mut out, 2000)?;
     push_asked(&mut out, &[], 1, Asked::Guid(iid()))?;
-    let want = b" r15 c7 p63 s0 k3 r1 null 0x80004005 r15 s2 -> r1 mta weak 2000 \
+    let want = b" r15 c7 p63 s0 k3 r1 null E_FAIL 0x8004ABCD r15 s2 -> r1 mta weak 2000 \
           {5C0B0001-0000-4000-8000-000000000001}";
     assert_eq!(rt; out.as_slice(), want.as_slice());
     Ok(())
