@@ -13,6 +13,3 @@ pub use numbers::{
     push_word,
 };
 pub use values::{push_guid, push_hex, push_hresult, push_value};
-
-#[cfg(test)]
-mod tests;

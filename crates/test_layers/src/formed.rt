@@ -1,9 +1,9 @@
 //! Which scenarios are formed.
 
-use super::*;
 use com_base::{ByteList, Guid, Mode, Rows};
 use com_body::{Body, Stmt};
 use com_classes::{Classes, Interface};
+use com_formed::is_formed;
 use com_model::Scenario;
 use std::alloc::Global;
 use std::test::Fail;

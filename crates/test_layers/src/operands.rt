@@ -1,6 +1,12 @@
-use crate::*;
+//! How operands are written.
+
 use com_base::{ByteList, Guid, HResult, MarshalMode, Mode, Value};
 use com_body::{Arg, Asked, Code, Destination, Given, Op, Place};
+use com_print::operands::{
+    push_arg, push_asked, push_buffer, push_cell, push_code, push_decimal, push_destination,
+    push_given, push_hex, push_marshal_mode, push_mode, push_op, push_place, push_register,
+    push_value,
+};
 use std::alloc::Global;
 use std::test::*;
 
