@@ -1,7 +1,7 @@
 -- Books, and a history, that break the laws.
 use Rattle.std.proofs.Common.{arith}
 use Rattle.std.proofs.lemmas.Int.{ints}
-use Rattle.std.specs.Prelude.{◌≡◌, refl, ℕ, ◌≤◌, pos, negsuc, ◌≤ℤ◌, true, false, List, [], ◌∷◌}
+use Rattle.std.specs.Prelude.{◌≡◌, refl, ◌≤◌, pos, negsuc, ◌≤ℤ◌, true, false, [], ◌∷◌}
 use Rattle.com_refs_books.specs.Changes.{Drops, Join, Return, Split, Withdraw}
 use Rattle.com_model.specs.Cases.{direct_call, direct_call_2}
 use Rattle.com_model.specs.Rules.{legal}

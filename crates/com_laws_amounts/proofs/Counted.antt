@@ -1,10 +1,10 @@
 -- Over the integers the numbers are those of the books.
-use Rattle.std.proofs.Common.{ap, arith}
+use Rattle.std.proofs.Common.{arith}
 use Rattle.std.proofs.lemmas.Grind.{common_steps}
 use Rattle.std.proofs.lemmas.Int.{ints}
-use Rattle.std.specs.Prelude.{◌≡◌, refl, ℕ, zero, suc, ◌+◌, ◌-◌, ◌≤◌, ℤ, pos, ◌+ℤ◌, ◌-ℤ◌, ◌≤ℤ◌, Bool, true, false, cond, ◌==◌, ◌&&◌, List, [], ◌∷◌, sum_by}
+use Rattle.std.specs.Prelude.{◌≡◌, refl, ℕ, zero, suc, ◌+◌, ◌-◌, ◌≤◌, ℤ, pos, ◌+ℤ◌, ◌-ℤ◌, ◌≤ℤ◌, Bool, true, false, cond, ◌==◌, List, [], ◌∷◌, sum_by}
 use Rattle.com_refs_books.specs.Counting.{sum_below}
-use Rattle.com_refs_books.specs.Changes.{Books, packet, cookie, Change, ToProxy, ToPacket, Split, Join, Return, ToCookie, Withdraw, Same, at2, at3, changed, Row, change, entered_rows, given_back, cut, packet_holds_of, cookie_holds_of}
+use Rattle.com_refs_books.specs.Changes.{Books, packet, cookie, Change, ToProxy, ToPacket, Split, Join, Return, ToCookie, Withdraw, at2, at3, changed, Row, change, entered_rows, given_back, cut, packet_holds_of, cookie_holds_of}
 use Rattle.com_model.specs.declared.deeds.Deed.{Deed}
 use Rattle.com_model.specs.declared.deeds.Deed.TheVariants as deed
 use Rattle.com_model.specs.declared.deeds.Entry.{Entry}
@@ -17,7 +17,7 @@ use Rattle.com_model.specs.Safe.{EachPrefix, Balanced}
 use Rattle.com_laws_balance.proofs.Balances.{legal-balanced}
 use Rattle.com_laws_safety.proofs.Caused.{each-prefix}
 use Rattle.com_laws_amounts.specs.Amounts.{if_same, if_same_proxy, given_to_stub, taken_from_stub, given_to_proxy, taken_from_proxy, Covers, CoversRows, CoversReturns, rows_of, places_after, IsCovered}
-use Rattle.com_laws_amounts.specs.Integers.{Numbers, counted, counted_rows, int_sum_below, given_if, counted_back, counted_cut, numbers, AreEqual, NoneNegative, int_held, Balances}
+use Rattle.com_laws_amounts.specs.Integers.{Numbers, counted, counted_rows, int_sum_below, given_if, counted_back, counted_cut, numbers, AreEqual, NoneNegative, Balances}
 use Rattle.com_laws_amounts.proofs.Covered.{legal-covered}
 
 -- ---- one change, over the natural numbers
@@ -48,7 +48,7 @@ proxy-moves b (Split a o i n) p c k j = at3-lose a o i n b.proxy c k j (p.proxy 
 proxy-moves b (Join a q) p c k j = at3-gain a (packet b q).object (packet b q).iface (packet b q).refs b.proxy c k j
 proxy-moves b _ p c k j = refl
 
--- ---- the same over the integers
+-- ---- one change, over the integers
 
 moved : (z : ℤ) (x y given taken : ℕ) → z ≡ pos x → y + taken ≡ x + given → z +ℤ pos given -ℤ pos taken ≡ pos y
 moved z x y given taken e m = omega (arith, ints)
@@ -91,8 +91,8 @@ all-or-none false z x e = omega (arith, ints)
 back-equal : (n : ℕ) (places : ℕ → ℕ → ℕ) (b : Books) (z : Numbers) → CoversReturns n places b → AreEqual z b → AreEqual (counted_back n places z) (given_back n places b)
 back-equal n places b z p e = record {
   stub = λ o i. less (z.stub o i) (int_sum_below n (λ a. given_if (places a o == 0) (z.proxy a o i))) (b.stub o i) (sum_below n (λ a. cond (places a o == 0) (b.proxy a o i) 0)) (e.stub o i)
-    (int-sum-is n (λ a. given_if (places a o == 0) (z.proxy a o i)) (λ a. cond (places a o == 0) (b.proxy a o i) 0) (λ a. given-if-is (places a o == 0) (z.proxy a o i) (b.proxy a o i) (e.proxy a o i)))
-    (p o i);
+      (int-sum-is n (λ a. given_if (places a o == 0) (z.proxy a o i)) (λ a. cond (places a o == 0) (b.proxy a o i) 0) (λ a. given-if-is (places a o == 0) (z.proxy a o i) (b.proxy a o i) (e.proxy a o i)))
+      (p o i);
   proxy = λ a o i. all-or-none (places a o == 0) (z.proxy a o i) (b.proxy a o i) (e.proxy a o i);
 }
 

@@ -1,7 +1,6 @@
 -- No entry of a legal history takes what is not there.
 use Rattle.std.specs.Prelude.{◌≡◌, ℕ, Bool, false, List, [], ◌∷◌}
 use Rattle.com_refs_books.specs.Changes.{Books, cookie, Row, changed, change}
-use Rattle.com_model.specs.declared.deeds.Deed.{Deed}
 use Rattle.com_model.specs.declared.deeds.Entry.{Entry}
 use Rattle.com_model.specs.declared.scenario.Scenario.{Scenario}
 use Rattle.com_model.specs.Lists.{number_or_zero}
@@ -19,9 +18,10 @@ use Rattle.com_laws_amounts.proofs.Standing.{StandsIf, stands, StandAt, never-st
 
 covers-rows : (owned : ℕ → ℕ → Bool) (b : Books) (rs : List Row) → StandAt b rs → Enough b → CoversRows owned b rs
 covers-rows owned b [] t e = tt
-covers-rows owned b (r ∷ rs) t e =
-    (covers b (change owned b r) (change-sound (λ g. (cookie b g).is_revoked ≡ false) owned b r t.0) e,
-    covers-rows owned (changed b (change owned b r)) rs (never-stands (changed b (change owned b r)) rs t.1) (row-enough owned b r e))
+covers-rows owned b (r ∷ rs) t e = (
+  covers b (change owned b r) (change-sound (λ g. (cookie b g).is_revoked ≡ false) owned b r t.0) e,
+  covers-rows owned (changed b (change owned b r)) rs (never-stands (changed b (change owned b r)) rs t.1) (row-enough owned b r e),
+)
 
 covered : (s : Scenario) (h : List Entry) (e : Entry) → StandsIf (books s h) e.deed → IsCovered s h e
 covered s h e t = record {

@@ -1,12 +1,12 @@
 -- In every history, legal or not, a stub counts at least what is held of it, over any number of apartments. So no change takes
 -- more than is there.
-use Rattle.std.proofs.Common.{◌≡◌, ℕ, zero, suc, Bool, true, false, eqb, cond, not, ◌&&◌, ◌+◌, ◌-◌, ◌<◌, ◌≤◌, List, [], ◌∷◌, ◌++◌, length, refl, subst, ap, arith, add-zero, add-suc}
+use Rattle.std.proofs.Common.{◌≡◌, ℕ, zero, suc, Bool, true, false, eqb, cond, not, ◌&&◌, ◌+◌, ◌-◌, ◌<◌, ◌≤◌, List, [], ◌∷◌, ◌++◌, length, refl, subst, arith, add-zero, add-suc}
 use Rattle.std.proofs.lemmas.Grind.{common_steps}
 use Rattle.std.specs.Prelude.{slice_set, slice_index_or, map, sum_by, ◌/◌, ◌==◌, nat_le}
 use Rattle.com_base.specs.declared.value.MarshalMode.{MarshalMode}
 use Rattle.com_base.specs.declared.value.MarshalMode.TheVariants as marshal
 use Rattle.com_refs_books.specs.Counting.{sum_below}
-use Rattle.com_refs_books.specs.Changes.{Books, no_books, no_packet, no_cookie, packet, cookie, Change, ToProxy, ToPacket, Split, Join, Return, ToCookie, Withdraw, Same, at3, new_packet, changed, given_back, cut_packet, cut_cookie, cut, packet_holds_of, cookie_holds_of, held}
+use Rattle.com_refs_books.specs.Changes.{Books, no_packet, no_cookie, packet, cookie, Change, ToProxy, ToPacket, Split, Join, Return, ToCookie, Withdraw, Same, at3, new_packet, changed, given_back, cut_packet, cut_cookie, cut, packet_holds_of, cookie_holds_of, held}
 use Rattle.com_refs_books.specs.Changes.{Row, Makes, Takes, Asks, Marshals, Unmarshals, Drops, Registers, Revokes, marshal_change, unmarshal_change, change, entered_rows}
 use Rattle.com_refs_books.specs.declared.keeps.Packet.{Packet}
 use Rattle.com_refs_books.specs.declared.keeps.Cookie.{Cookie}
@@ -19,7 +19,7 @@ use Rattle.com_model.specs.Apartments.{apartments}
 use Rattle.com_model.specs.Objects.{owns}
 use Rattle.com_model.specs.Books.{books, kept}
 use Rattle.com_model.proofs.Fines.{cond-is}
-use Rattle.com_laws_amounts.specs.Amounts.{taken_from_stub, taken_from_proxy, Covers, IsThere, returned, CoversReturns, rows_of, after_rows, places_after}
+use Rattle.com_laws_amounts.specs.Amounts.{taken_from_stub, taken_from_proxy, Covers, IsThere, CoversReturns, rows_of, after_rows, places_after}
 
 -- The stub counts at least what is held, over however many apartments.
 pub record Enough (b : Books) : Type 0 where
@@ -190,10 +190,10 @@ covers-returns n places b p = λ o i. small _ _ _ _ _ _ (sum-split n (λ a. eqb 
 given-back-enough : (n : ℕ) (places : ℕ → ℕ → ℕ) (b : Books) → Enough b → Enough (given_back n places b)
 given-back-enough n places b p = record {
   backs = λ m o i. left _ _ _ _ _ _ _ _
-    (sum-split (m + n) (λ a. eqb (places a o) 0) (λ a. b.proxy a o i))
-    (sum-grow m n (λ a. cond (eqb (places a o) 0) 0 (b.proxy a o i)))
-    (subst (λ (k : ℕ). sum_below n (λ a. cond (eqb (places a o) 0) (b.proxy a o i) 0) ≤ sum_below k (λ a. cond (eqb (places a o) 0) (b.proxy a o i) 0)) (turned n m) (sum-grow n m (λ a. cond (eqb (places a o) 0) (b.proxy a o i) 0)))
-    (p.backs (m + n) o i);
+      (sum-split (m + n) (λ a. eqb (places a o) 0) (λ a. b.proxy a o i))
+      (sum-grow m n (λ a. cond (eqb (places a o) 0) 0 (b.proxy a o i)))
+      (subst (λ (k : ℕ). sum_below n (λ a. cond (eqb (places a o) 0) (b.proxy a o i) 0) ≤ sum_below k (λ a. cond (eqb (places a o) 0) (b.proxy a o i) 0)) (turned n m) (sum-grow n m (λ a. cond (eqb (places a o) 0) (b.proxy a o i) 0)))
+      (p.backs (m + n) o i);
 }
   where
     turned : (n m : ℕ) → n + m ≡ m + n

@@ -24,9 +24,9 @@ pub fn nothing_overdrawn()
     ensures { (s : Scenario) (h : List Entry) → legal s h → EachEntry (NothingOverdrawn s) h }
 {}
 
-/// The same rows counted over the integers, with their subtraction, give after every prefix of a legal
-/// history the numbers of the books (`same`). So no stub and no proxy ever has less than none (`none`). What
-/// packets and cookies hold is never subtracted from: they are made with a number, and end.
+/// Counted over the integers by the same rows, with a subtraction that never stops, the numbers of stubs and
+/// proxies are after every prefix of a legal history those of the books (`same`). So none is ever below 0
+/// (`none`). What packets and cookies hold is never subtracted from: they are made with a number, and end.
 pub fn none_negative()
     ensures same { (s : Scenario) (h : List Entry) → legal s h
         → EachPrefix (λ h. AreEqual (numbers s h) (books s h)) h }
