@@ -142,13 +142,11 @@ in-one-to (suc n) l e =
 
 pub one-to-has : (n l : ℕ) → 1 ≤ l → l ≤ n → is_member l (one_to n) ≡ true
 one-to-has zero l p q = absurd (omega (arith, p, q))
-one-to-has (suc n) l p q =
-    member-append l (one_to n) (suc n ∷ [])
-    ∙ by-test (l == suc n) refl
+one-to-has (suc n) l p q = member-append l (one_to n) (suc n ∷ []) ∙ by-test (l == suc n) refl (one-to-has n l p)
   where
     below : (l == suc n) ≡ false → l ≤ n
     below z = grind (arith, common_steps, z, q)
 
-    by-test : (b : Bool) → (l == suc n) ≡ b → (is_member l (one_to n) || (b || false)) ≡ true
-    by-test true z = or-right (is_member l (one_to n)) (true || false) refl
-    by-test false z = or-left (is_member l (one_to n)) (false || false) (one-to-has n l p (below z))
+    by-test : (b : Bool) → (l == suc n) ≡ b → (l ≤ n → is_member l (one_to n) ≡ true) → (is_member l (one_to n) || (b || false)) ≡ true
+    by-test true z f = or-right (is_member l (one_to n)) (true || false) refl
+    by-test false z f = or-left (is_member l (one_to n)) (false || false) (f (below z))

@@ -106,10 +106,10 @@ turning x xs =
       least = l.below;
     }
 
-pub record Turned (next : ℕ → Option ℕ) (ring : List ℕ) : Type 0 where
-  pub ring : Ring next ring
-  pub once : AllDifferent ring
-  pub least : BeginsLeast ring
+pub record Turned (next : ℕ → Option ℕ) (xs : List ℕ) : Type 0 where
+  pub ring : Ring next xs
+  pub once : AllDifferent xs
+  pub least : BeginsLeast xs
 
 abbrev pub NoneOrTurned : (ℕ → Option ℕ) → List ℕ → Type 0
 NoneOrTurned next [] = Unit {0}

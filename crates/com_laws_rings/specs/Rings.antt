@@ -44,10 +44,10 @@ BeginsLeast [] = Unit {0}
 BeginsLeast (l ∷ ls) = (k : ℕ) → is_member k (l ∷ ls) ≡ true → l ≤ k
 
 -- Each lane waits for the next one, the last for the first; each stands once, the least first.
-pub record IsCycle (s : Scenario) (h : List Entry) (ring : List ℕ) : Type 0 where
-  pub ring : IsRing s h ring
-  pub once : AllDifferent ring
-  pub least : BeginsLeast ring
+pub record IsCycle (s : Scenario) (h : List Entry) (ls : List ℕ) : Type 0 where
+  pub ring : IsRing s h ls
+  pub once : AllDifferent ls
+  pub least : BeginsLeast ls
 
 abbrev pub IsNoneOrRing : Scenario → List Entry → List ℕ → Type 0
 IsNoneOrRing s h [] = Unit {0}
