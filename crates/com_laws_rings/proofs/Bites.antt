@@ -1,6 +1,6 @@
 -- What the laws refuse.
 use Rattle.std.proofs.Common.{arith}
-use Rattle.std.specs.Prelude.{◌≡◌, refl, ℕ, ◌≤◌, true, false, List, [], ◌∷◌, Option, Some, None}
+use Rattle.std.specs.Prelude.{◌≡◌, refl, ℕ, ◌≤◌, true, false, [], ◌∷◌, Option, Some, None}
 use Rattle.com_model.specs.Cases.{direct_call}
 use Rattle.com_waits.specs.Chains.{cycle_of, next_in}
 use Rattle.com_waits.specs.Laws.{IsRing, leads}

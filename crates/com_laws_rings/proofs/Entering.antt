@@ -1,13 +1,13 @@
 -- A chain comes back to one of its numbers: there is a ring, and the chain goes into it.
-use Rattle.std.proofs.Common.{subst, sym, ap, ◌∙◌, ◌⊎◌, inl, inr, eqb-true, arith}
+use Rattle.std.proofs.Common.{subst, sym, ap, inl, inr, eqb-true, arith}
 use Rattle.std.proofs.lemmas.List.{length-append}
 use Rattle.std.specs.Prelude.{◌≡◌, refl, ℕ, zero, suc, ◌+◌, ◌≤◌, Bool, true, false, cond, ◌==◌, List, [], ◌∷◌, ◌++◌, length, Option, Some, None, is_some}
 use Rattle.com_model.specs.Lists.{is_empty, is_member}
 use Rattle.com_waits.specs.Chains.{entered, from_lane, goes_on}
 use Rattle.com_laws_safety.proofs.Small.{not-both, or-second}
 use Rattle.com_laws_rings.specs.Rings.{AllDifferent}
-use Rattle.com_laws_rings.proofs.Lanes.{flip, member-head, no-member, one-member, member-end, different-end, within-length}
-use Rattle.com_laws_rings.proofs.Graphs.{Runs, Ring, Way, Comes, runs-end}
+use Rattle.com_laws_rings.proofs.Lanes.{flip, member-head, no-member, member-end, different-end, within-length}
+use Rattle.com_laws_rings.proofs.Graphs.{Runs, Comes, runs-end}
 use Rattle.com_laws_rings.proofs.Turns.{NoneOrRing}
 
 -- ---- the chain so far

@@ -1,6 +1,6 @@
 -- Where each number has at most one next one: runs, rings, and ways.
 use Rattle.std.proofs.Common.{subst, sym, ap, ◌∙◌, ◌⊎◌, inl, inr, eqb-true}
-use Rattle.std.specs.Prelude.{◌≡◌, refl, ℕ, Bool, true, false, ◌==◌, ◌||◌, List, [], ◌∷◌, ◌++◌, Option, Some}
+use Rattle.std.specs.Prelude.{◌≡◌, refl, ℕ, Bool, true, false, ◌==◌, List, [], ◌∷◌, ◌++◌, Option, Some}
 use Rattle.com_model.specs.Lists.{is_member}
 use Rattle.com_laws_safety.proofs.Small.{or-right, or-second, some-number}
 use Rattle.com_laws_rings.proofs.Lanes.{member-head, member-turned, no-member, one-member, nothing-behind}

@@ -1,5 +1,5 @@
 -- In a stuck history a lane that waits for another one leads to a lane that does so too.
-use Rattle.std.proofs.Common.{subst, sym, ap, ◌∙◌, inl, arith}
+use Rattle.std.proofs.Common.{subst, sym, ap, ◌∙◌, arith}
 use Rattle.std.proofs.lemmas.Grind.{common_steps}
 use Rattle.std.specs.Prelude.{◌≡◌, refl, ℕ, ◌+◌, ◌≤◌, Bool, true, false, cond, ◌==◌, ◌||◌, nat_le, List, [], ◌∷◌, Option, Some, None, is_some, option_and_then}
 use Rattle.com_model.specs.declared.deeds.Entry.{Entry}
@@ -17,13 +17,11 @@ use Rattle.com_model.specs.Formed.{Formed}
 use Rattle.com_model.specs.Rules.{legal}
 use Rattle.com_model.specs.Ends.{stuck}
 use Rattle.com_laws_balance.proofs.Bases.{first-among}
-use Rattle.com_laws_balance.proofs.Counts.{Among}
 use Rattle.com_laws_safety.proofs.Small.{not-both, or-left, or-right, same-number}
-use Rattle.com_waits.specs.declared.reasons.Why.{Why}
 use Rattle.com_waits.specs.declared.reasons.Why.TheVariants as reason
-use Rattle.com_waits.specs.Reasons.{pool_lane, why, why_at, why_at_call}
+use Rattle.com_waits.specs.Reasons.{pool_lane, why_at, why_at_call}
 use Rattle.com_waits.specs.Chains.{lane_named}
-use Rattle.com_waits.specs.Laws.{IsExhausted, IsOpen, IsRing, TopWaits, is_at_pool, is_pool, leads}
+use Rattle.com_waits.specs.Laws.{IsOpen, IsRing, TopWaits, is_at_pool, is_pool, leads}
 use Rattle.com_waits.proofs.Tops.{in-range, tops-wait, Later, step-later, rings-reach}
 use Rattle.com_waits.proofs.Seen.{pool-exhausts}
 use Rattle.com_waits.proofs.Served.{has-reasons}

@@ -1,7 +1,7 @@
 -- The lines of an explanation: of which lanes they are, and for which lane each waits.
 use Rattle.std.proofs.Common.{subst, sym, ap, ◌∙◌, eqb-true}
 use Rattle.std.specs.List.{cons_option}
-use Rattle.std.specs.Prelude.{◌≡◌, refl, ℕ, ◌≤◌, Bool, true, false, cond, ◌==◌, ◌||◌, List, [], ◌∷◌, map, filter, filter_map, Option, Some, None, is_some, option_and_then, option_map}
+use Rattle.std.specs.Prelude.{◌≡◌, refl, ℕ, Bool, true, false, cond, ◌==◌, ◌||◌, List, [], ◌∷◌, map, filter, filter_map, Option, Some, None, is_some, option_and_then, option_map}
 use Rattle.com_model.specs.declared.deeds.Entry.{Entry}
 use Rattle.com_model.specs.declared.keeps.Opener.{Opener}
 use Rattle.com_model.specs.declared.scenario.Scenario.{Scenario}

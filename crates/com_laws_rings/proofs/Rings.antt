@@ -4,21 +4,21 @@ use Rattle.std.proofs.lemmas.List.{length-map}
 use Rattle.std.specs.Prelude.{◌≡◌, refl, ℕ, ◌+◌, Bool, true, false, cond, ◌==◌, List, [], ◌∷◌, ◌++◌, length, map, Option, Some, None, is_some, option_and_then}
 use Rattle.com_model.specs.declared.deeds.Entry.{Entry}
 use Rattle.com_model.specs.declared.scenario.Scenario.{Scenario}
-use Rattle.com_model.specs.Lists.{is_empty, is_member}
+use Rattle.com_model.specs.Lists.{is_member}
 use Rattle.com_model.specs.Formed.{Formed}
 use Rattle.com_model.specs.Rules.{legal}
 use Rattle.com_model.specs.Ends.{stuck}
-use Rattle.com_laws_safety.proofs.Small.{not-both, or-left, or-right, same-number, some-number}
+use Rattle.com_laws_safety.proofs.Small.{not-both, or-left, or-right, some-number}
 use Rattle.com_waits.specs.declared.reasons.Why.{Why}
 use Rattle.com_waits.specs.declared.reasons.Why.TheVariants.{Message, Body, Pool}
 use Rattle.com_waits.specs.declared.reasons.Wait.{Wait}
-use Rattle.com_waits.specs.Reasons.{pool_lane, waits_of, why}
-use Rattle.com_waits.specs.Chains.{cycle_from, cycle_of, entered, first_in, from_least, is_message, lane_named, next_in}
+use Rattle.com_waits.specs.Reasons.{pool_lane, waits_of}
+use Rattle.com_waits.specs.Chains.{cycle_from, cycle_of, entered, first_in, is_message, lane_named, next_in}
 use Rattle.com_waits.specs.Laws.{IsRing, RunsTo, leads}
-use Rattle.com_laws_rings.specs.Rings.{EachNamesLanes, NamesLanes, EachLeadsInto, Goes, IsNoneOrRing, IsOnlyRing, LeadsInto, cycle}
+use Rattle.com_laws_rings.specs.Rings.{EachNamesLanes, EachLeadsInto, Goes, IsNoneOrRing, IsOnlyRing, LeadsInto, cycle}
 use Rattle.com_laws_rings.proofs.Lanes.{flip, no-member}
 use Rattle.com_laws_rings.proofs.Graphs.{Runs, Ring, Way, Comes, ring-comes, ring-next, way-inside, way-join}
-use Rattle.com_laws_rings.proofs.Turns.{NoneOrRing, NoneOrTurned, Turned, turned, turned-some}
+use Rattle.com_laws_rings.proofs.Turns.{NoneOrRing, NoneOrTurned, turned, turned-some}
 use Rattle.com_laws_rings.proofs.Entering.{Endless, HasSome, Into, NoneOrInto, entered-into, entered-ring, entered-some}
 use Rattle.com_laws_rings.proofs.Leading.{AtPool, leads-on, ring-pool}
 use Rattle.com_laws_rings.proofs.Lines.{names-lanes, next-is}
