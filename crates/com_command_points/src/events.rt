@@ -2,9 +2,9 @@
 ghost use Rattle.std.specs.Prelude.{◌≡◌, ◌++◌, IfOk, OnOk};
 ghost use Rattle.com_command_points.specs.Events.{cookie_words, event_line, event_lines};
 
-use crate::Delivery;
 use com_base::{ByteList, Memory};
 use com_commands::push_number;
+use com_deliveries::Delivery;
 use std::alloc::Global;
 
 // Appends cookies, each behind a space.
