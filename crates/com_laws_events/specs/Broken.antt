@@ -10,7 +10,6 @@ use Rattle.com_body.specs.declared.operands.Op.TheVariants as op
 use Rattle.com_body.specs.declared.statements.Stmt.TheVariants as stmt
 use Rattle.com_body.specs.declared.frame.Native.TheVariants as native
 use Rattle.com_classes.specs.declared.classes.Class.{Class}
-use Rattle.com_classes.specs.declared.classes.MethodBody.{MethodBody}
 use Rattle.com_classes.specs.declared.classes.ThreadingModel.TheVariants as model
 use Rattle.com_classes.specs.declared.interfaces.Interface.{Interface}
 use Rattle.com_classes.specs.BuiltIns.{built_in_interfaces}
