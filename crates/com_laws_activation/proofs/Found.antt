@@ -1,0 +1,67 @@
+-- What stands in a table without repeated GUIDs is found by its own.
+use Rattle.std.proofs.Common.{subst, sym, ap, ◌∙◌, arith, get_or}
+use Rattle.std.proofs.lemmas.Bool.{false_from_ne_true}
+use Rattle.std.proofs.lemmas.List.Sums.{position_or_len_is}
+use Rattle.std.proofs.lemmas.Option.{slice_get_within, get_or_from_slice_get}
+use Rattle.std.proofs.lemmas.Grind.{common_steps}
+use Rattle.std.specs.Prelude.{◌≡◌, refl, ℕ, zero, suc, ◌+◌, ◌-◌, ◌<◌, Bool, true, false, cond, ◌==◌, ◌||◌, List, [], ◌∷◌, Option, Some, None, All, length, option_map, position, slice_get}
+use Rattle.std.specs.Str.{bytes_eq}
+use Rattle.com_base.specs.declared.guid.Guid.{Guid}
+use Rattle.com_classes.specs.declared.classes.Class.{Class}
+use Rattle.com_classes.specs.declared.interfaces.Interface.{Interface}
+use Rattle.com_classes.specs.Lookups.{same_guid}
+use Rattle.com_formed.proofs.Same.{guids_same}
+use Rattle.com_model.specs.declared.scenario.Scenario.{Scenario}
+use Rattle.com_model.specs.Formed.{Distinct, same_class, same_interface, Formed}
+use Rattle.com_laws_activation.specs.Activations.{ClassesFound, InterfacesFound}
+
+-- ---- GUIDs
+
+own-guid : (g : Guid) → same_guid g g ≡ true
+own-guid g = (guids_same g g).1 refl
+
+not-both : (b : Bool) → b ≡ true → b ≡ false → ⊥
+not-both b p q = cc
+
+-- Two that are not the same are not the same the other way round.
+turned-guid : (g h : Guid) → same_guid g h ≡ false → same_guid h g ≡ false
+turned-guid g h e = false_from_ne_true (same_guid h g) (λ t. not-both (same_guid g h) ((guids_same g h).1 (sym ((guids_same h g).0 t))) e)
+
+-- ---- the first place of an entry
+
+or-off : (p q : Bool) → (p || q) ≡ false → q ≡ false
+or-off true q e = cc
+or-off false q e = e
+
+all-head : {X : Type 0} (P : X → Type 0) (x : X) (xs : List X) → All P (x ∷ xs) → P x
+all-head P x xs p = p 0 x (grind (arith, common_steps))
+
+-- Each later entry has another GUID.
+apart-later : {X : Type 0} (same : X → X → Bool) (xs : List X) (i : ℕ) (x : X) → Distinct same xs → slice_get xs i ≡ Some x → (k : ℕ) → k < i → same (get_or xs k x) x ≡ false
+apart-later same [] i x p e k h = cc
+apart-later same (y ∷ ys) zero x p e k h = absurd (omega (arith, h))
+apart-later same (y ∷ ys) (suc i) x p e zero h = subst (λ z. same y z ≡ false) (get_or_from_slice_get ys i x x e) (p.0 i x (slice_get_within ys i x e))
+apart-later same (y ∷ ys) (suc i) x p e (suc k) h = apart-later same ys i x p.1 e k (omega (arith, h))
+
+position-is : {X : Type 0} (test : X → Bool) (xs : List X) (i : ℕ) (x : X) → slice_get xs i ≡ Some x → test x ≡ true → ((k : ℕ) → k < i → test (get_or xs k x) ≡ false) → position test xs ≡ Some i
+position-is test xs i x e t f =
+    let h : i < length xs = slice_get_within xs i x e in
+    let z = position_or_len_is test xs i x (omega (arith, h)) f (λ m. subst (λ y. test y ≡ true) (sym (get_or_from_slice_get xs i x x e)) t) in
+    grind (arith, common_steps, z, h)
+
+-- ---- tables
+
+class-place : (c : ℕ) (ks : List Class) (k : Class) → (b : Bool) → (c == 0) ≡ b → cond b None (slice_get ks (c - 1)) ≡ Some k → (n : ℕ) × (c ≡ n + 1) × (slice_get ks n ≡ Some k)
+class-place c ks k true e p = cc
+class-place zero ks k false e p = cc
+class-place (suc n) ks k false e p = (n, (omega arith, p))
+
+pub classes-found : (s : Scenario) → Formed s → ClassesFound s
+classes-found s f c k e =
+    let z : (n : ℕ) × (c ≡ n + 1) × (slice_get s.classes.classes n ≡ Some k) = class-place c s.classes.classes k (c == 0) refl e in
+    let at : position (λ (j : Class). same_guid k.clsid j.clsid) s.classes.classes ≡ Some z.0 = position-is (λ (j : Class). same_guid k.clsid j.clsid) s.classes.classes z.0 k z.1.1 (own-guid k.clsid) (λ i h. turned-guid _ k.clsid (or-off (bytes_eq (get_or s.classes.classes i k).name k.name) _ (apart-later same_class s.classes.classes z.0 k f.classes.distinct z.1.1 i h))) in
+    ap (option_map (λ before. before + 1)) at ∙ ap Some (sym z.1.0)
+
+pub interfaces-found : (s : Scenario) → Formed s → InterfacesFound s
+interfaces-found s f i x e =
+    position-is (λ (j : Interface). same_guid x.iid j.iid) s.classes.interfaces i x e (own-guid x.iid) (λ k h. turned-guid _ x.iid (or-off (bytes_eq (get_or s.classes.interfaces k x).name x.name) _ (apart-later same_interface s.classes.interfaces i x f.interfaces.distinct e k h)))
