@@ -15,7 +15,7 @@ use Rattle.com_model.proofs.Cases.{whole-direct_call}
 use Rattle.com_laws_activation.specs.Activations.{Activates, in_the_host}
 
 pub legal-one : legal direct_call direct_call_1
-legal-one = whole-direct_call.0.0.0.0.0.0.0.0.0
+legal-one = whole-direct_call.0.0.0.0.0.0.0.0.0.0
 
 two-not-three : Some 2 ≡ Some 3 → ⊥
 two-not-three e = let z : 2 ≡ 3 = ap number_or_zero e in absurd (omega (arith, z))

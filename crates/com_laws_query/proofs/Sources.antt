@@ -19,7 +19,8 @@ use Rattle.com_model.specs.Answers.{S_OK, E_INVALIDARG, CO_E_OBJNOTCONNECTED, RP
 use Rattle.com_model.specs.Lists.{where_true}
 use Rattle.com_model.specs.Tables.{class_number, interface_number}
 use Rattle.com_model.specs.Openers.{running_call}
-use Rattle.com_model.specs.Calls.{Issue, object_of}
+use Rattle.com_model.specs.Calls.{object_of}
+use Rattle.com_model.specs.declared.keeps.Issue.{Issue}
 use Rattle.com_model.specs.Frames.{reference}
 use Rattle.com_model.specs.Endings.{Answer}
 use Rattle.com_refs_books.specs.declared.keeps.Cookie.{Cookie}

@@ -27,9 +27,12 @@ use Rattle.com_model.specs.Answers.{S_OK, E_INVALIDARG, E_NOINTERFACE, CO_E_OBJN
 use Rattle.com_model.specs.Lists.{one_to, first_that, where_true}
 use Rattle.com_model.specs.Tables.{class_number, interface_number, shown}
 use Rattle.com_model.specs.Openers.{running_call}
-use Rattle.com_model.specs.Calls.{Issue, object_of}
+use Rattle.com_model.specs.Calls.{object_of}
+use Rattle.com_model.specs.declared.keeps.Issue.{Issue}
 use Rattle.com_model.specs.Frames.{reference}
-use Rattle.com_model.specs.Endings.{Ending, AtIssue, AtAdmission, ByVerdict, ByRetry, ByCancel, ByDisconnection, ByLeave, Answer, answer_of, without_value}
+use Rattle.com_model.specs.Endings.{Answer, answer_of, without_value}
+use Rattle.com_model.specs.declared.keeps.Ending.{Ending}
+use Rattle.com_model.specs.declared.keeps.Ending.TheVariants.{AtIssue, AtAdmission, ByVerdict, ByRetry, ByCancel, ByDisconnection, ByLeave}
 use Rattle.com_refs_books.specs.declared.keeps.Packet.{Packet}
 use Rattle.com_refs_books.specs.declared.keeps.Cookie.{Cookie}
 use Rattle.com_refs_books.specs.Changes.{packet, cookie}
@@ -126,14 +129,14 @@ Outstanding v (Refuses hr) = Unit {0}
 
 first-test : (test : ℕ → Bool) (xs : List ℕ) (p : ℕ) → first_that test xs ≡ Some p → test p ≡ true
 first-test test [] p e = cc
-first-test test (x ∷ xs) p e = by-test (test x) refl e
+first-test test (x ∷ xs) p e = by-test (test x) refl e (first-test test xs p)
   where
     same : (x p : ℕ) → Some x ≡ Some p → x ≡ p
     same x p u = cc
 
-    by-test : (t : Bool) → test x ≡ t → cond t (Some x) (first_that test xs) ≡ Some p → test p ≡ true
-    by-test true z u = subst (λ (k : ℕ). test k ≡ true) (same x p u) z
-    by-test false z u = first-test test xs p u
+    by-test : (t : Bool) → test x ≡ t → cond t (Some x) (first_that test xs) ≡ Some p → (first_that test xs ≡ Some p → test p ≡ true) → test p ≡ true
+    by-test true z u f = subst (λ (k : ℕ). test k ≡ true) (same x p u) z
+    by-test false z u f = f u
 
 and-first : (p q : Bool) → (p && q) ≡ true → p ≡ true
 and-first true q e = refl

@@ -23,10 +23,15 @@ use Rattle.com_model.specs.declared.scenario.Scenario.{Scenario}
 use Rattle.com_model.specs.Answers.{is_S_OK}
 use Rattle.com_model.specs.Lists.{or_else, where_true, number_or_zero}
 use Rattle.com_model.specs.Apartments.{running, next_sta, ends_sta}
-use Rattle.com_model.specs.Objects.{Making, asked_number, makes, made_or, making, one_more, objects, named, class_of, disconnects}
-use Rattle.com_model.specs.Calls.{Issue, Admission, issues, issue, target, admitted}
+use Rattle.com_model.specs.Objects.{asked_number, makes, made_or, making, one_more, objects, named, class_of, disconnects}
+use Rattle.com_model.specs.declared.keeps.Making.{Making}
+use Rattle.com_model.specs.Calls.{issues, issue, target, admitted}
+use Rattle.com_model.specs.declared.keeps.Issue.{Issue}
+use Rattle.com_model.specs.declared.keeps.Admission.{Admission}
 use Rattle.com_model.specs.Frames.{Scene, scene, taken_in, outcome, action_of, unless_over, actor_in, reference, act}
-use Rattle.com_model.specs.Endings.{Ending, ByVerdict, ByLeave, EndEffect, EndsCall, CutsObject, CutsSta, EndsNone, cuts_object, cuts_sta, end_effect, ends, filtered, can_be_cut, ending, is_leave}
+use Rattle.com_model.specs.Endings.{EndEffect, EndsCall, CutsObject, CutsSta, EndsNone, cuts_object, cuts_sta, end_effect, ends, filtered, can_be_cut, ending, is_leave}
+use Rattle.com_model.specs.declared.keeps.Ending.{Ending}
+use Rattle.com_model.specs.declared.keeps.Ending.TheVariants.{ByVerdict, ByLeave}
 use Rattle.com_model.specs.Places.{ground}
 use Rattle.com_model.specs.Books.{books}
 use Rattle.com_model.specs.Issue.{own_values, values_or, sent, unread_values}

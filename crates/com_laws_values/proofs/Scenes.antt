@@ -22,7 +22,7 @@ use Rattle.com_model.specs.Answers.{S_OK}
 use Rattle.com_model.specs.Lists.{put}
 use Rattle.com_model.specs.Tables.{script}
 use Rattle.com_model.specs.Apartments.{ends_sta}
-use Rattle.com_model.specs.Calls.{Issue}
+use Rattle.com_model.specs.declared.keeps.Issue.{Issue}
 use Rattle.com_model.specs.Frames.{Scene, Actor, Body, Script, Nobody, issued_body, outcome, taken_in, Write, ToRegister, ToSlot, ToLink, ToBuffer, to_place, to_answer, marshalled_in, writes, value_reference, to_destination, written, with_frame, wants, acted, arrived, cut_links, acting, scene_after}
 use Rattle.com_model.specs.Formed.{Formed}
 use Rattle.com_model.proofs.Fines.{cond-is}

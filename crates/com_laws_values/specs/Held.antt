@@ -16,7 +16,9 @@ use Rattle.com_model.specs.declared.scenario.Scenario.{Scenario}
 use Rattle.com_model.specs.Answers.{is_S_OK}
 use Rattle.com_model.specs.Objects.{asked_number, objects, class_of}
 use Rattle.com_model.specs.Frames.{scene, reference}
-use Rattle.com_model.specs.Endings.{Ending, ByLeave, ending}
+use Rattle.com_model.specs.Endings.{ending}
+use Rattle.com_model.specs.declared.keeps.Ending.{Ending}
+use Rattle.com_model.specs.declared.keeps.Ending.TheVariants.{ByLeave}
 use Rattle.com_model.specs.Books.{books}
 use Rattle.com_model.specs.Issue.{sent}
 use Rattle.com_model.specs.Formed.{is_text_byte}
