@@ -1,6 +1,9 @@
 -- What stands in a table without repeated GUIDs is found by its own.
 use Rattle.std.proofs.Common.{subst, sym, ap, ◌∙◌, arith, get_or}
 use Rattle.std.proofs.lemmas.Bool.{false_from_ne_true}
+use Rattle.std.proofs.lemmas.Bool.Decides.{Decides-and, Decides-eqb, Decides-like}
+use Rattle.std.proofs.lemmas.Slice.Eq.{bytes_eq-Decides}
+use Rattle.std.specs.Bool.{Decides}
 use Rattle.std.proofs.lemmas.List.Sums.{position_or_len_is}
 use Rattle.std.proofs.lemmas.Option.{slice_get_within, get_or_from_slice_get}
 use Rattle.std.proofs.lemmas.Grind.{common_steps}
@@ -10,22 +13,36 @@ use Rattle.com_base.specs.declared.guid.Guid.{Guid}
 use Rattle.com_classes.specs.declared.classes.Class.{Class}
 use Rattle.com_classes.specs.declared.interfaces.Interface.{Interface}
 use Rattle.com_classes.specs.Lookups.{same_guid}
-use Rattle.com_formed.proofs.Same.{guids_same}
 use Rattle.com_model.specs.declared.scenario.Scenario.{Scenario}
 use Rattle.com_model.specs.Formed.{Distinct, same_class, same_interface, Formed}
 use Rattle.com_laws_activation.specs.Activations.{ClassesFound, InterfacesFound}
 
 -- ---- GUIDs
 
+abbrev guid_of : ℕ → ℕ → ℕ → List ℕ → Guid
+guid_of a b c d = record { data1 = a; data2 = b; data3 = c; data4 = d }
+
+guid-is : (g h : Guid) → g.data1 ≡ h.data1 → g.data2 ≡ h.data2 → g.data3 ≡ h.data3 → g.data4 ≡ h.data4 → g ≡ h
+guid-is g h e1 e2 e3 e4 =
+    ap (λ x. guid_of x g.data2 g.data3 g.data4) e1 ∙ ap (λ x. guid_of h.data1 x g.data3 g.data4) e2
+    ∙ ap (λ x. guid_of h.data1 h.data2 x g.data4) e3 ∙ ap (λ x. guid_of h.data1 h.data2 h.data3 x) e4
+
+guids-same : (g h : Guid) → Decides (same_guid g h) (g ≡ h)
+guids-same g h =
+    Decides-like (same_guid g h)
+    (λ e. guid-is g h e.0.0.0 e.0.0.1 e.0.1 e.1)
+    (λ e. (((ap (λ (x : Guid). x.data1) e, ap (λ (x : Guid). x.data2) e), ap (λ (x : Guid). x.data3) e), ap (λ (x : Guid). x.data4) e))
+    (Decides-and _ _ (Decides-and _ _ (Decides-and _ _ (Decides-eqb g.data1 h.data1) (Decides-eqb g.data2 h.data2)) (Decides-eqb g.data3 h.data3)) (bytes_eq-Decides g.data4 h.data4))
+
 own-guid : (g : Guid) → same_guid g g ≡ true
-own-guid g = (guids_same g g).1 refl
+own-guid g = (guids-same g g).1 refl
 
 not-both : (b : Bool) → b ≡ true → b ≡ false → ⊥
 not-both b p q = cc
 
 -- Two that are not the same are not the same the other way round.
 turned-guid : (g h : Guid) → same_guid g h ≡ false → same_guid h g ≡ false
-turned-guid g h e = false_from_ne_true (same_guid h g) (λ t. not-both (same_guid g h) ((guids_same g h).1 (sym ((guids_same h g).0 t))) e)
+turned-guid g h e = false_from_ne_true (same_guid h g) (λ t. not-both (same_guid g h) ((guids-same g h).1 (sym ((guids-same h g).0 t))) e)
 
 -- ---- the first place of an entry
 
