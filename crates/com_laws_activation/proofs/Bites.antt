@@ -1,6 +1,6 @@
 -- The law of activation fails of an entry that makes an object in another apartment.
 use Rattle.std.proofs.Common.{ap, sym, ◌∙◌, arith}
-use Rattle.std.specs.Prelude.{◌≡◌, refl, ℕ, [], ◌∷◌, Some}
+use Rattle.std.specs.Prelude.{◌≡◌, refl, ℕ, [], ◌∷◌, Option, Some}
 use Rattle.com_base.specs.declared.guid.Guid.{Guid}
 use Rattle.com_body.specs.declared.operands.Asked.{Asked}
 use Rattle.com_body.specs.declared.operands.Asked.TheVariants as asked
@@ -17,7 +17,7 @@ use Rattle.com_laws_activation.specs.Activations.{Activates, in_the_host}
 pub legal-one : legal direct_call direct_call_1
 legal-one = whole-direct_call.0.0.0.0.0.0.0.0.0.0
 
-two-not-three : Some 2 ≡ Some 3 → ⊥
+two-not-three : ◌≡◌ {A = Option ℕ} (Some 2) (Some 3) → ⊥
 two-not-three e = let z : 2 ≡ 3 = ap number_or_zero e in absurd (omega (arith, z))
 
 -- The GUIDs of the counter's class and interface.

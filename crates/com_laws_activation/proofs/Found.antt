@@ -71,13 +71,13 @@ position-is test xs i x e t f =
 class-place : (c : ℕ) (ks : List Class) (k : Class) → (b : Bool) → (c == 0) ≡ b → cond b None (slice_get ks (c - 1)) ≡ Some k → (n : ℕ) × (c ≡ n + 1) × (slice_get ks n ≡ Some k)
 class-place c ks k true e p = cc
 class-place zero ks k false e p = cc
-class-place (suc n) ks k false e p = (n, (omega arith, p))
+class-place (suc n) ks k false e p = (n, omega arith, p)
 
 pub classes-found : (s : Scenario) → Formed s → ClassesFound s
 classes-found s f c k e =
     let z : (n : ℕ) × (c ≡ n + 1) × (slice_get s.classes.classes n ≡ Some k) = class-place c s.classes.classes k (c == 0) refl e in
-    let at : position (λ (j : Class). same_guid k.clsid j.clsid) s.classes.classes ≡ Some z.0 = position-is (λ (j : Class). same_guid k.clsid j.clsid) s.classes.classes z.0 k z.1.1 (own-guid k.clsid) (λ i h. turned-guid _ k.clsid (or-off (bytes_eq (get_or s.classes.classes i k).name k.name) _ (apart-later same_class s.classes.classes z.0 k f.classes.distinct z.1.1 i h))) in
-    ap (option_map (λ before. before + 1)) at ∙ ap Some (sym z.1.0)
+    let at : position (λ (j : Class). same_guid k.clsid j.clsid) s.classes.classes ≡ Some z.0 = position-is (λ (j : Class). same_guid k.clsid j.clsid) s.classes.classes z.0 k z.2 (own-guid k.clsid) (λ i h. turned-guid _ k.clsid (or-off (bytes_eq (get_or s.classes.classes i k).name k.name) _ (apart-later same_class s.classes.classes z.0 k f.classes.distinct z.2 i h))) in
+    ap (option_map (λ before. before + 1)) at ∙ ap Some (sym z.1)
 
 pub interfaces-found : (s : Scenario) → Formed s → InterfacesFound s
 interfaces-found s f i x e =

@@ -1,6 +1,6 @@
 -- Each Made entry is what the factory answers.
 use Rattle.std.proofs.Common.{subst, sym, ap, ◌∙◌}
-use Rattle.std.specs.Prelude.{◌≡◌, refl, ℕ, ◌==◌, List, [], ◌∷◌, Option, Some, None, Result, Ok, Err}
+use Rattle.std.specs.Prelude.{◌≡◌, refl, ℕ, Bool, true, false, not, ◌==◌, ◌&&◌, nat_le, length, List, [], ◌∷◌, Option, Some, None, Result, Ok, Err}
 use Rattle.com_base.specs.declared.guid.Guid.{Guid}
 use Rattle.com_base.specs.declared.hresult.HResult.{HResult}
 use Rattle.com_body.specs.declared.operands.Asked.{Asked}
@@ -19,20 +19,22 @@ use Rattle.com_model.specs.declared.scenario.Scenario.{Scenario}
 use Rattle.com_model.specs.Answers.{REGDB_E_CLASSNOTREG, RPC_E_OUT_OF_RESOURCES, RPC_E_SERVER_CANTUNMARSHAL_DATA}
 use Rattle.com_model.specs.Tables.{class_number, interface_number}
 use Rattle.com_model.specs.Apartments.{home}
+use Rattle.com_model.specs.Lists.{where_true}
 use Rattle.com_model.specs.Objects.{objects}
+use Rattle.com_model.specs.Calls.{object_of}
 use Rattle.com_model.specs.Frames.{act}
 use Rattle.com_model.specs.Endings.{Answer}
 use Rattle.com_model.specs.Sight.{Sight, sight}
 use Rattle.com_model.specs.Deeds.{deed_of, creator, placing, made_as, created_of, created, uninitialised}
-use Rattle.com_model.specs.Rules.{admission, answered, packet_left, next, legal}
+use Rattle.com_model.specs.Rules.{posted_to_sta, call_sort, verdict_on, is_handled_in, arguments_gone, admission, answered, packet_left, next, legal}
 use Rattle.com_model.specs.Safe.{EachEntry}
 use Rattle.com_model.proofs.Given.{cond-of}
 use Rattle.com_laws_safety.proofs.Sources.{IsRest, Source, by_body, by_script, by_end, by_final, by_own, by_answer, by_inbox, by_retry, by_again, by_rest, next-source}
-use Rattle.com_laws_safety.proofs.Acted.{Making, action_sort, OfAction, deed-acted}
+use Rattle.com_laws_safety.proofs.Acted.{ActionSort, Making, action_sort, OfAction, deed-acted}
 use Rattle.com_laws_activation.specs.Activations.{creator_in, IsMade, Activates}
 
 -- The factory's answer by the numbers that were found.
-placed_by : Tables → Creator → (class iface : Option ℕ) → Result Placed HResult
+abbrev placed_by : Tables → Creator → (class iface : Option ℕ) → Result Placed HResult
 placed_by t x None j = Err REGDB_E_CLASSNOTREG
 placed_by t x (Some c) j = placing x c j (class_at t c)
 
@@ -101,21 +103,46 @@ created-activates s h l slot k i (Some a) e p = activated s h l slot a k i _ e p
 
 -- ---- every entry
 
+false-true : false ≡ true → ⊥
+false-true e = cc
+
+abbrev is_making : ActionSort → Bool
+is_making Making = true
+is_making _ = false
+
+-- An action that makes an object is a Create.
 making-create : (P : Action → Type 0) (x : Action) → ((slot : ℕ) (k i : Asked) → x ≡ action.Create slot k i → P (action.Create slot k i)) → action_sort x ≡ Making → P x
 making-create P (action.Create slot k i) f e = f slot k i refl
-making-create P (action.Init m) f e = cc
-making-create P action.Uninit f e = cc
-making-create P (action.SetFilter x) f e = cc
-making-create P (action.Pump n) f e = cc
-making-create P (action.Call held i m args to) f e = cc
-making-create P _ f e = cc
+making-create P (action.Init m) f e = absurd (false-true (ap is_making e))
+making-create P action.Uninit f e = absurd (false-true (ap is_making e))
+making-create P (action.SetFilter y) f e = absurd (false-true (ap is_making e))
+making-create P (action.Pump n) f e = absurd (false-true (ap is_making e))
+making-create P (action.Call held i m args to) f e = absurd (false-true (ap is_making e))
+making-create P (action.Query to held i) f e = absurd (false-true (ap is_making e))
+making-create P (action.Copy to held) f e = absurd (false-true (ap is_making e))
+making-create P (action.Release from held) f e = absurd (false-true (ap is_making e))
+making-create P (action.Marshal b held m) f e = absurd (false-true (ap is_making e))
+making-create P (action.Unmarshal slot b) f e = absurd (false-true (ap is_making e))
+making-create P (action.Drop b) f e = absurd (false-true (ap is_making e))
+making-create P (action.Raw b bytes) f e = absurd (false-true (ap is_making e))
+making-create P (action.Register to held) f e = absurd (false-true (ap is_making e))
+making-create P (action.Get slot g) f e = absurd (false-true (ap is_making e))
+making-create P (action.Revoke g) f e = absurd (false-true (ap is_making e))
+making-create P (action.Disconnect held) f e = absurd (false-true (ap is_making e))
+making-create P (action.Post m w) f e = absurd (false-true (ap is_making e))
+making-create P (action.Quit m) f e = absurd (false-true (ap is_making e))
+making-create P (action.Leave hr v) f e = absurd (false-true (ap is_making e))
 
 acted-activates : (s : Scenario) (h : List Entry) (l : ℕ) (x : Action) (d : Deed) → act s h l ≡ Some x → deed_of s (sight s h) l x ≡ d → OfAction (action_sort x) d → Activates s h l d
 acted-activates s h l x (deed.Made o a k i hr) p e m = subst (Activates s h l) e (making-create (λ y. Activates s h l (deed_of s (sight s h) l y)) x (λ slot c j u. created-activates s h l slot c j (home s h l) (subst (λ (y : Action). act s h l ≡ Some y) u p) refl) m)
 acted-activates s h l x _ p e m = tt
 
 admission-activates : (s : Scenario) (h : List Entry) (l c : ℕ) → Activates s h l (admission s (sight s h) l c)
-admission-activates s h l c = cond-of (Activates s h l) _ (deed.Refuse c RPC_E_OUT_OF_RESOURCES) _ tt (cond-of (Activates s h l) _ (deed.Verdict c _ _) _ tt (cond-of (Activates s h l) _ (deed.Refuse c RPC_E_SERVER_CANTUNMARSHAL_DATA) (deed.Enter c _ _ _ _) tt tt))
+admission-activates s h l c =
+    let v : Sight = sight s h in
+    cond-of (Activates s h l) (nat_le 256 (length (v.openers l))) (deed.Refuse c RPC_E_OUT_OF_RESOURCES) _ tt
+    (cond-of (Activates s h l) (posted_to_sta v c && not (is_handled_in s v l c)) (deed.Verdict c (call_sort v l c) (verdict_on s v l c)) _ tt
+    (cond-of (Activates s h l) (arguments_gone v c) (deed.Refuse c RPC_E_SERVER_CANTUNMARSHAL_DATA) (deed.Enter c (object_of (v.issue c)) (v.owner (object_of (v.issue c)) l) (where_true (posted_to_sta v c) (call_sort v l c)) (v.unread c)) tt tt))
 
 answered-activates : (s : Scenario) (h : List Entry) (l c : ℕ) (x : Answer) (p : Option ℕ) → Activates s h l (answered (sight s h) c x p)
 answered-activates s h l c x (Some p) = tt

@@ -62,18 +62,21 @@ ends-behind xs ys e = record {
   plain = e.plain;
 }
 
-end-ends : (x : Ended) → Ends (codes "\nend " ++ ended_text x ++ codes "\n")
-end-ends ended.Ok = record { front = codes "\nend o"; last = 107; is = refl; plain = refl }
-end-ends ended.Stuck = record { front = codes "\nend stuc"; last = 107; is = refl; plain = refl }
-end-ends ended.Budget = record { front = codes "\nend budge"; last = 116; is = refl; plain = refl }
+ends-with : (front w : List ℕ) (b : ℕ) → (b == 10) ≡ false → Ends ((front ++ (w ++ b ∷ [])) ++ codes "\n")
+ends-with front w b p = record {
+  front = front ++ w;
+  last = b;
+  is = append_assoc front (w ++ b ∷ []) (10 ∷ []) ∙ ap (λ (y : List ℕ). front ++ y) (append_assoc w (b ∷ []) (10 ∷ [])) ∙ sym (append_assoc front w (b ∷ 10 ∷ []));
+  plain = p;
+}
+
+end-ends : (front : List ℕ) (x : Ended) → Ends ((front ++ ended_text x) ++ codes "\n")
+end-ends front ended.Ok = ends-with front (codes "o") 107 refl
+end-ends front ended.Stuck = ends-with front (codes "stuc") 107 refl
+end-ends front ended.Budget = ends-with front (codes "budge") 116 refl
 
 report-ends : (cs : List Counts) (n t : ℕ) (x : Ended) → Ends (report_text cs n t x)
-report-ends cs n t x =
-    ends-behind (object_lines 1 cs) (codes "entries " ++ decimal n ++ codes " clock " ++ decimal t ++ codes "\nend " ++ ended_text x ++ codes "\n")
-    (ends-behind (codes "entries ") (decimal n ++ codes " clock " ++ decimal t ++ codes "\nend " ++ ended_text x ++ codes "\n")
-    (ends-behind (decimal n) (codes " clock " ++ decimal t ++ codes "\nend " ++ ended_text x ++ codes "\n")
-    (ends-behind (codes " clock ") (decimal t ++ codes "\nend " ++ ended_text x ++ codes "\n")
-    (ends-behind (decimal t) (codes "\nend " ++ ended_text x ++ codes "\n") (end-ends x)))))
+report-ends cs n t x = end-ends (object_lines 1 cs ++ codes "entries " ++ decimal n ++ codes " clock " ++ decimal t ++ codes "\nend ") x
 
 ended-ends : (s : Scenario) (h : List Entry) (o : Option Ended) → is_some o ≡ true → Ends (report_as s h o)
 ended-ends s h None p = cc

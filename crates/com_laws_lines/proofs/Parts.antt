@@ -2,7 +2,7 @@
 use Rattle.std.proofs.Common.{subst, ap, ◌∙◌, eqb-true, arith}
 use Rattle.std.proofs.lemmas.Bool.{false_from_ne_true, ltb-false}
 use Rattle.std.proofs.lemmas.Grind.{common_steps}
-use Rattle.std.specs.Prelude.{◌≡◌, refl, ℕ, ℤ, zero, suc, ◌+◌, ◌-◌, ◌/◌, ◌%◌, ◌<◌, ◌≤◌, pos, negsuc, Bool, true, false, cond, not, ◌==◌, ◌&&◌, List, [], ◌∷◌, ◌++◌, Option, Some, None, All, nat_lt, slice_index, unwrap_or, codes, decimal}
+use Rattle.std.specs.Prelude.{◌≡◌, refl, ℕ, ℤ, zero, suc, ◌+◌, ◌-◌, ◌/◌, ◌%◌, ◌^◌, ◌<◌, ◌≤◌, pos, negsuc, Bool, true, false, cond, not, ◌==◌, ◌&&◌, List, [], ◌∷◌, ◌++◌, Option, Some, None, All, nat_lt, slice_index, unwrap_or, codes, decimal}
 use Rattle.std.specs.Fmt.{digit_glyph, digits_onto, digits, signed_decimal}
 use Rattle.std.specs.List.{flat_map}
 use Rattle.hex.specs.Hex.{lower_digits, upper_digits, encode_with, encode_lower}
@@ -27,11 +27,16 @@ use Rattle.com_model.specs.declared.deeds.Route.TheVariants as route
 use Rattle.com_model.specs.Formed.{is_text_byte}
 use Rattle.com_model.specs.Text.{hresult_text, named, held_text, asked_text, bytes_text, mode_text, marshal_mode_text, route_text, verdict_text, filter_text, call_type_text, value_text, one_value_text, later_value_text, values_text}
 use Rattle.com_laws_values.specs.Held.{IsCharacters, ValueBy, ResultBy}
+use Rattle.com_laws_values.proofs.Walks.{all-head, all-tail}
 use Rattle.com_laws_lines.specs.Breaks.{no_break}
+
+-- A text without the byte 10.
+pub record Plain (xs : List ℕ) : Type 0 where
+  pub is : no_break xs ≡ true
 
 -- ---- texts behind one another
 
-pub over : (xs ys : List ℕ) → no_break xs ≡ true → no_break ys ≡ true → no_break (xs ++ ys) ≡ true
+over : (xs ys : List ℕ) → no_break xs ≡ true → no_break ys ≡ true → no_break (xs ++ ys) ≡ true
 over [] ys p q = q
 over (x ∷ xs) ys p q = by-first (x == 10) p (λ r. over xs ys r q)
   where
@@ -39,8 +44,19 @@ over (x ∷ xs) ys p q = by-first (x == 10) p (λ r. over xs ys r q)
     by-first true p f = cc
     by-first false p f = f p
 
-pub one-more : (b : ℕ) (bs : List ℕ) → (b == 10) ≡ false → no_break bs ≡ true → no_break (b ∷ bs) ≡ true
-one-more b bs p q = ap (λ (t : Bool). not t && no_break bs) p ∙ q
+pub both : {xs ys : List ℕ} → Plain xs → Plain ys → Plain (xs ++ ys)
+both {xs = xs} {ys = ys} p q = record { is = over xs ys p.is q.is }
+
+-- A word.
+pub word : (xs : List ℕ) → no_break xs ≡ true → Plain xs
+word xs p = record { is = p }
+
+one-more : (b : ℕ) (bs : List ℕ) → (b == 10) ≡ false → Plain bs → Plain (b ∷ bs)
+one-more b bs p q = record { is = ap (λ (t : Bool). not t && no_break bs) p ∙ q.is }
+
+either-plain : (b : Bool) (x y : List ℕ) → Plain x → Plain y → Plain (cond b x y)
+either-plain true x y p q = p
+either-plain false x y p q = q
 
 -- ---- numbers
 
@@ -54,48 +70,52 @@ glyph-plain : (t : Bool) (d : ℕ) → (cond t (48 + d) (87 + d) == 10) ≡ fals
 glyph-plain true d = not-ten (48 + d) (high 48 d (omega arith))
 glyph-plain false d = not-ten (87 + d) (high 87 d (omega arith))
 
-either-plain : (b : Bool) (x y : List ℕ) → no_break x ≡ true → no_break y ≡ true → no_break (cond b x y) ≡ true
-either-plain true x y p q = p
-either-plain false x y p q = q
-
-digits-plain : (k n : ℕ) (acc : List ℕ) → no_break acc ≡ true → no_break (digits_onto k 10 false n acc) ≡ true
+digits-plain : (k n : ℕ) (acc : List ℕ) → Plain acc → Plain (digits_onto k 10 false n acc)
 digits-plain zero n acc p = p
 digits-plain (suc k) n acc p =
-    let more : no_break (digit_glyph false (n % 10) ∷ acc) ≡ true = one-more (digit_glyph false (n % 10)) acc (glyph-plain (nat_lt (n % 10) 10) (n % 10)) p in
+    let more : Plain (digit_glyph false (n % 10) ∷ acc) = one-more (digit_glyph false (n % 10)) acc (glyph-plain (nat_lt (n % 10) 10) (n % 10)) p in
     either-plain (n / 10 == 0) (digit_glyph false (n % 10) ∷ acc) (digits_onto k 10 false (n / 10) (digit_glyph false (n % 10) ∷ acc)) more (digits-plain k (n / 10) (digit_glyph false (n % 10) ∷ acc) more)
 
-pub decimal-plain : (n : ℕ) → no_break (decimal n) ≡ true
+pub decimal-plain : (n : ℕ) → Plain (decimal n)
 unfolding digits
-decimal-plain n = digits-plain 64 n [] refl
+decimal-plain n = digits-plain 64 n [] (word [] refl)
 
-pub signed-plain : (z : ℤ) → no_break (signed_decimal z) ≡ true
+pub signed-plain : (z : ℤ) → Plain (signed_decimal z)
 signed-plain (pos n) = decimal-plain n
-signed-plain (negsuc n) = decimal-plain (suc n)
+signed-plain (negsuc n) = one-more 45 (decimal (suc n)) refl (decimal-plain (suc n))
 
 -- ---- tables of digits
 
+plain-first : (x : ℕ) (xs : List ℕ) (b : Bool) → (not b && no_break xs) ≡ true → (b ≡ false) × (no_break xs ≡ true)
+plain-first x xs true p = cc
+plain-first x xs false p = (refl, p)
+
 got-plain : (xs : List ℕ) (k : ℕ) → no_break xs ≡ true → (slice_index xs k == 10) ≡ false
 got-plain [] k p = refl
-got-plain (x ∷ xs) zero p = by-first (x == 10) p
-  where
-    by-first : (b : Bool) → (not b && no_break xs) ≡ true → b ≡ false
-    by-first true p = cc
-    by-first false p = refl
-got-plain (x ∷ xs) (suc k) p = got-plain xs k (by-first (x == 10) p)
-  where
-    by-first : (b : Bool) → (not b && no_break xs) ≡ true → no_break xs ≡ true
-    by-first true p = cc
-    by-first false p = p
+got-plain (x ∷ xs) zero p = (plain-first x xs (x == 10) p).0
+got-plain (x ∷ xs) (suc k) p = got-plain xs k (plain-first x xs (x == 10) p).1
 
-hex-plain : (bytes : List ℕ) → no_break (encode_with lower_digits bytes) ≡ true
+hex-plain : (bytes : List ℕ) → Plain (encode_with lower_digits bytes)
 unfolding encode_with
-hex-plain [] = refl
-hex-plain (b ∷ bytes) = one-more (slice_index lower_digits (b / 16)) _ (got-plain lower_digits (b / 16) refl) (one-more (slice_index lower_digits (b % 16)) _ (got-plain lower_digits (b % 16) refl) (hex-plain bytes))
+hex-plain [] = word [] refl
+hex-plain (b ∷ bytes) =
+    one-more (slice_index lower_digits (b / 16)) (slice_index lower_digits (b % 16) ∷ encode_with lower_digits bytes) (got-plain lower_digits (b / 16) refl)
+    (one-more (slice_index lower_digits (b % 16)) (encode_with lower_digits bytes) (got-plain lower_digits (b % 16) refl) (hex-plain bytes))
 
-eight-plain : (n : ℕ) → no_break (eight_digits n) ≡ true
-eight-plain n =
-    one-more _ _ (got-plain upper_digits _ refl) (one-more _ _ (got-plain upper_digits _ refl) (one-more _ _ (got-plain upper_digits _ refl) (one-more _ _ (got-plain upper_digits _ refl)
-    (one-more _ _ (got-plain upper_digits _ refl) (one-more _ _ (got-plain upper_digits _ refl) (one-more _ _ (got-plain upper_digits _ refl) (one-more _ [] (got-plain upper_digits _ refl) refl)))))))
+digit : (k : ℕ) (bs : List ℕ) → Plain bs → Plain (slice_index upper_digits k ∷ bs)
+digit k bs p = one-more (slice_index upper_digits k) bs (got-plain upper_digits k refl) p
+
+-- Digits of the numbers of a list.
+abbrev digits_of : List ℕ → List ℕ
+digits_of [] = []
+digits_of (k ∷ ks) = slice_index upper_digits k ∷ digits_of ks
+
+table-plain : (ks : List ℕ) → Plain (digits_of ks)
+table-plain [] = word [] refl
+table-plain (k ∷ ks) = digit k (digits_of ks) (table-plain ks)
+
+eight-plain : (n : ℕ) → Plain (eight_digits n)
+eight-plain n = table-plain (n / 2 ^ 28 % 16 ∷ n / 2 ^ 24 % 16 ∷ n / 2 ^ 20 % 16 ∷ n / 2 ^ 16 % 16 ∷ n / 2 ^ 12 % 16 ∷ n / 2 ^ 8 % 16 ∷ n / 2 ^ 4 % 16 ∷ n % 16 ∷ [])
 
 -- ---- GUIDs
 
@@ -110,15 +130,16 @@ place-plain : (b : Bool) (d : ℕ) → (cond b hyphen (hex_digit upper d) == 10)
 place-plain true d = refl
 place-plain false d = digit-plain d (nat_lt d 10) refl
 
-index-plain : (n : ℕ) (f : ℕ → ℕ) → ((k : ℕ) → (f k == 10) ≡ false) → no_break (by_index n f) ≡ true
+index-plain : (n : ℕ) (f : ℕ → ℕ) → ((k : ℕ) → (f k == 10) ≡ false) → Plain (by_index n f)
 unfolding by_index
-index-plain zero f p = refl
-index-plain (suc n) f p = over (by_index n f) (f n ∷ []) (index-plain n f p) (one-more (f n) [] (p n) refl)
+index-plain zero f p = word [] refl
+index-plain (suc n) f p = both (index-plain n f p) (one-more (f n) [] (p n) (word [] refl))
 
-pub guid-plain : (g : Guid) → no_break (text_of g) ≡ true
+pub guid-plain : (g : Guid) → Plain (text_of g)
 guid-plain g =
-    over (hyphenated_text upper (reading_order_of g)) _
-    (index-plain 36 (λ k. cond (is_hyphen_place k) hyphen (hex_digit upper (nibble (reading_order_of g) (digit_place k)))) (λ k. place-plain (is_hyphen_place k) (nibble (reading_order_of g) (digit_place k)))) refl
+    let text : List ℕ = hyphenated_text upper (reading_order_of g) in
+    let plain : Plain text = index-plain 36 (λ k. cond (is_hyphen_place k) hyphen (hex_digit upper (nibble (reading_order_of g) (digit_place k)))) (λ k. place-plain (is_hyphen_place k) (nibble (reading_order_of g) (digit_place k))) in
+    record { is = over text (125 ∷ []) plain.is refl }
 
 -- ---- HRESULTs
 
@@ -158,58 +179,58 @@ name-plain n =
     (one-name (n == 0x80020006) (codes "DISP_E_UNKNOWNNAME") _ refl
     (one-name (n == 0x8002000e) (codes "DISP_E_BADPARAMCOUNT") _ refl tt))))))))))))))))))))))))
 
-pub hresult-plain : (version : ℕ) (hr : HResult) → no_break (hresult_text version hr) ≡ true
-hresult-plain version hr = by-version (version == 2) (name_of hr.0) (name-plain hr.0)
-  where
-    by-version : (b : Bool) (o : Option (List ℕ)) → PlainName o → no_break (cond b (eight_digits hr.0) (unwrap_or o (eight_digits hr.0))) ≡ true
-    by-version true o p = eight-plain hr.0
-    by-version false None p = eight-plain hr.0
-    by-version false (Some t) p = p
+text-or-digits : (b : Bool) (n : ℕ) (o : Option (List ℕ)) → PlainName o → Plain (cond b (eight_digits n) (unwrap_or o (eight_digits n)))
+text-or-digits true n o p = eight-plain n
+text-or-digits false n None p = eight-plain n
+text-or-digits false n (Some t) p = word t p
+
+pub hresult-plain : (version : ℕ) (hr : HResult) → Plain (hresult_text version hr)
+hresult-plain version hr = text-or-digits (version == 2) hr.0 (name_of hr.0) (name-plain hr.0)
 
 -- ---- words
 
-pub named-plain : (letter : List ℕ) (x : Option ℕ) → no_break letter ≡ true → no_break (named letter x) ≡ true
-named-plain letter None p = refl
-named-plain letter (Some n) p = over letter (decimal n) p (decimal-plain n)
+pub named-plain : (letter : List ℕ) (x : Option ℕ) → no_break letter ≡ true → Plain (named letter x)
+named-plain letter None p = word (codes "-") refl
+named-plain letter (Some n) p = both (word letter p) (decimal-plain n)
 
-pub held-plain : (x : Option RefValue) → no_break (held_text x) ≡ true
-held-plain None = refl
-held-plain (Some r) = over (decimal r.object) _ (decimal-plain r.object) (decimal-plain r.iface)
+pub held-plain : (x : Option RefValue) → Plain (held_text x)
+held-plain None = word (codes "- -") refl
+held-plain (Some r) = both (both (both (word (codes "o") refl) (decimal-plain r.object)) (word (codes " I") refl)) (decimal-plain r.iface)
 
-pub asked-plain : (letter : List ℕ) (x : Asked) → no_break letter ≡ true → no_break (asked_text letter x) ≡ true
-asked-plain letter (asked.Number n) p = over letter (decimal n) p (decimal-plain n)
+pub asked-plain : (letter : List ℕ) (x : Asked) → no_break letter ≡ true → Plain (asked_text letter x)
+asked-plain letter (asked.Number n) p = both (word letter p) (decimal-plain n)
 asked-plain letter (asked.Guid g) p = guid-plain g
 
-pub bytes-plain : (x : Option (List ℕ)) → no_break (bytes_text x) ≡ true
-bytes-plain None = refl
+pub bytes-plain : (x : Option (List ℕ)) → Plain (bytes_text x)
+bytes-plain None = word (codes "-") refl
 bytes-plain (Some bytes) = hex-plain bytes
 
-pub mode-plain : (m : Mode) → no_break (mode_text m) ≡ true
-mode-plain mode.Sta = refl
-mode-plain mode.Mta = refl
+pub mode-plain : (m : Mode) → Plain (mode_text m)
+mode-plain mode.Sta = word (codes "sta") refl
+mode-plain mode.Mta = word (codes "mta") refl
 
-pub marshal-plain : (m : MarshalMode) → no_break (marshal_mode_text m) ≡ true
-marshal-plain marshal_mode.Normal = refl
-marshal-plain marshal_mode.Strong = refl
-marshal-plain marshal_mode.Weak = refl
+pub marshal-plain : (m : MarshalMode) → Plain (marshal_mode_text m)
+marshal-plain marshal_mode.Normal = word (codes "normal") refl
+marshal-plain marshal_mode.Strong = word (codes "strong") refl
+marshal-plain marshal_mode.Weak = word (codes "weak") refl
 
-pub route-plain : (r : Route) → no_break (route_text r) ≡ true
-route-plain route.Direct = refl
-route-plain route.Switch = refl
-route-plain route.Post = refl
-route-plain route.Refused = refl
+pub route-plain : (r : Route) → Plain (route_text r)
+route-plain route.Direct = word (codes "direct") refl
+route-plain route.Switch = word (codes "switch") refl
+route-plain route.Post = word (codes "post") refl
+route-plain route.Refused = word (codes "none") refl
 
-pub verdict-plain : (v : Verdict) → no_break (verdict_text v) ≡ true
-verdict-plain verdict.Handled = refl
-verdict-plain verdict.Rejected = refl
-verdict-plain verdict.Later = refl
+pub verdict-plain : (v : Verdict) → Plain (verdict_text v)
+verdict-plain verdict.Handled = word (codes "handled") refl
+verdict-plain verdict.Rejected = word (codes "rejected") refl
+verdict-plain verdict.Later = word (codes "later") refl
 
-pub filter-plain : (x : Option ℕ) → no_break (filter_text x) ≡ true
-filter-plain None = refl
-filter-plain (Some n) = decimal-plain n
+pub filter-plain : (x : Option ℕ) → Plain (filter_text x)
+filter-plain None = word (codes "none") refl
+filter-plain (Some n) = both (word (codes "F") refl) (decimal-plain n)
 
-pub call-type-plain : (x : Option ℕ) → no_break (call_type_text x) ≡ true
-call-type-plain None = refl
+pub call-type-plain : (x : Option ℕ) → Plain (call_type_text x)
+call-type-plain None = word (codes "-") refl
 call-type-plain (Some n) = decimal-plain n
 
 -- ---- values
@@ -220,34 +241,28 @@ byte-plain c p = not-ten c (λ e. wrong (subst (λ (x : ℕ). is_text_byte x ≡
     wrong : false ≡ true → ⊥
     wrong e = cc
 
-all-head : {X : Type 0} (P : X → Type 0) (x : X) (xs : List X) → All P (x ∷ xs) → P x
-all-head P x xs p = p 0 x (grind (arith, common_steps))
-
-all-tail : {X : Type 0} (P : X → Type 0) (x : X) (xs : List X) → All P (x ∷ xs) → All P xs
-all-tail P x xs p = λ k d h. p (suc k) d (grind (arith, common_steps, h))
-
-characters-plain : (t : List ℕ) → IsCharacters t → no_break t ≡ true
-characters-plain [] p = refl
+characters-plain : (t : List ℕ) → IsCharacters t → Plain t
+characters-plain [] p = word [] refl
 characters-plain (c ∷ t) p = one-more c t (byte-plain c (all-head (λ c. is_text_byte c ≡ true) c t p)) (characters-plain t (all-tail (λ c. is_text_byte c ≡ true) c t p))
 
-pub value-plain : (R : RefValue → Type 0) (v : Value) → ValueBy R v → no_break (value_text v) ≡ true
+pub value-plain : (R : RefValue → Type 0) (v : Value) → ValueBy R v → Plain (value_text v)
 value-plain R (value.Int n) p = signed-plain n
-value-plain R (value.Bool true) p = refl
-value-plain R (value.Bool false) p = refl
-value-plain R (value.Text t) p = over t _ (characters-plain t p) refl
-value-plain R (value.Bytes t) p = over (encode_lower t) _ (hex-plain t) refl
+value-plain R (value.Bool true) p = word (codes "true") refl
+value-plain R (value.Bool false) p = word (codes "false") refl
+value-plain R (value.Text t) p = both (both (word (codes "\"") refl) (characters-plain t p)) (word (codes "\"") refl)
+value-plain R (value.Bytes t) p = both (both (word (codes "x\"") refl) (hex-plain t)) (word (codes "\"") refl)
 value-plain R (value.Guid g) p = guid-plain g
-value-plain R (value.Ref None) p = refl
-value-plain R (value.Ref (Some r)) p = over (decimal r.object) _ (decimal-plain r.object) (decimal-plain r.iface)
+value-plain R (value.Ref None) p = word (codes "null") refl
+value-plain R (value.Ref (Some r)) p = both (both (both (word (codes "o") refl) (decimal-plain r.object)) (word (codes ":I") refl)) (decimal-plain r.iface)
 
-pub result-plain : (R : RefValue → Type 0) (v : Option Value) → ResultBy R v → no_break (one_value_text v) ≡ true
-result-plain R None p = refl
+pub result-plain : (R : RefValue → Type 0) (v : Option Value) → ResultBy R v → Plain (one_value_text v)
+result-plain R None p = word [] refl
 result-plain R (Some v) p = value-plain R v p
 
-later-plain : (R : RefValue → Type 0) (vs : List Value) → All (ValueBy R) vs → no_break (flat_map later_value_text vs) ≡ true
-later-plain R [] p = refl
-later-plain R (v ∷ vs) p = over (value_text v) _ (value-plain R v (all-head (ValueBy R) v vs p)) (later-plain R vs (all-tail (ValueBy R) v vs p))
+later-plain : (R : RefValue → Type 0) (vs : List Value) → All (ValueBy R) vs → Plain (flat_map later_value_text vs)
+later-plain R [] p = word [] refl
+later-plain R (v ∷ vs) p = both (both (word (codes ",") refl) (value-plain R v (all-head (ValueBy R) v vs p))) (later-plain R vs (all-tail (ValueBy R) v vs p))
 
-pub values-plain : (R : RefValue → Type 0) (vs : List Value) → All (ValueBy R) vs → no_break (values_text vs) ≡ true
-values-plain R [] p = refl
-values-plain R (v ∷ vs) p = over (value_text v) _ (value-plain R v (all-head (ValueBy R) v vs p)) (later-plain R vs (all-tail (ValueBy R) v vs p))
+pub values-plain : (R : RefValue → Type 0) (vs : List Value) → All (ValueBy R) vs → Plain (values_text vs)
+values-plain R [] p = word [] refl
+values-plain R (v ∷ vs) p = both (value-plain R v (all-head (ValueBy R) v vs p)) (later-plain R vs (all-tail (ValueBy R) v vs p))

@@ -50,7 +50,7 @@ passed false false c e = cc
 
 offered-number : (s : Scenario) (k : ℕ) (j : Option ℕ) → offers s k j ≡ true → (n : ℕ) × (j ≡ Some n) × (has_interface s.classes k n ≡ true)
 offered-number s k None e = absurd (false-true e)
-offered-number s k (Some n) e = (n, (refl, e))
+offered-number s k (Some n) e = (n, refl, e)
 
 lacks-of : (s : Scenario) (k : ℕ) (j : Option ℕ) → offers s k j ≡ false → Lacks s k j
 lacks-of s k None e = tt
@@ -80,7 +80,7 @@ success-of s h l None wanted (Some a) j p k e = absurd (false-true e)
 success-of s h l (Some r) wanted (Some a) j p k e =
     let t : (((owns s h r.object (number_or_zero (running s h l)) ≡ true) ⊎ ((books s h).live r.object ≡ true)) × (offers s (class_of h r.object) j ≡ true)) = passed (owns s h r.object (number_or_zero (running s h l))) ((books s h).live r.object) (offers s (class_of h r.object) j) e in
     let n : (n : ℕ) × (j ≡ Some n) × (has_interface s.classes (class_of h r.object) n ≡ true) = offered-number s (class_of h r.object) j t.1 in
-    succeeded s h l a r wanted j n.0 p k t.0 n.1.0 n.1.1
+    succeeded s h l a r wanted j n.0 p k t.0 n.1 n.2
 
 query-answers : (s : Scenario) (h : List Entry) (l to : ℕ) (held : Option RefValue) (wanted : Asked) → act s h l ≡ Some (action.Query to held wanted) → QueryAnswers s h l (queried s (sight s h) l held wanted)
 query-answers s h l to held wanted e = record {
@@ -132,17 +132,17 @@ none-taken (Some o) (asked.Number i) hr e = ap (λ (b : Bool). cond b (Some (ref
 none-taken (Some o) (asked.Guid g) hr e = refl
 none-taken None i hr e = refl
 
+-- What is said of the query that acts is said of each that is known to act.
+reasoned : (s : Scenario) (h : List Entry) (l : ℕ) (held holding : Option RefValue) (wanted want : Asked) → (held ≡ holding) × (wanted ≡ want) → is_S_OK (query_answer s (sight s h) l (home s h l) held (interface_number s wanted)) ≡ false → Refusal s h l holding want (query_answer s (sight s h) l (home s h l) held (interface_number s wanted))
+reasoned s h l held holding wanted want p z =
+    let hr : HResult = query_answer s (sight s h) l (home s h l) held (interface_number s wanted) in
+    subst (λ (x : Option RefValue). Refusal s h l x want hr) p.0 (subst (λ (x : Asked). Refusal s h l held x hr) p.1 (refusal-of s h l held wanted (home s h l) hr refl refl z))
+
 query-refused : (s : Scenario) (h : List Entry) (l to : ℕ) (held : Option RefValue) (wanted : Asked) → act s h l ≡ Some (action.Query to held wanted) → QueryRefused s h l (queried s (sight s h) l held wanted)
-query-refused s h l to held wanted e z = record {
-  reason = λ too holding want u. reasoned too holding want (same-query to too held holding wanted want (sym e ∙ u));
+query-refused s h l to held wanted e = λ z. record {
+  reason = λ too holding want u. reasoned s h l held holding wanted want (same-query to too held holding wanted want (sym e ∙ u)) z;
   nothing = none-taken (object_in held) (shown (interface_number s wanted) wanted) _ z;
 }
-  where
-    abbrev hr : HResult
-    hr = query_answer s (sight s h) l (home s h l) held (interface_number s wanted)
-
-    reasoned : (too : ℕ) (holding : Option RefValue) (want : Asked) → (held ≡ holding) × (wanted ≡ want) → Refusal s h l holding want hr
-    reasoned too holding want p = subst (λ (x : Option RefValue). Refusal s h l x want hr) p.0 (subst (λ (x : Asked). Refusal s h l held x hr) p.1 (refusal-of s h l held wanted (home s h l) hr refl refl z))
 
 none-refused : (s : Scenario) (h : List Entry) (l : ℕ) (d : Deed) → NoQuery d → QueryRefused s h l d
 none-refused s h l (deed.Query o i hr) p = absurd p

@@ -6,6 +6,7 @@ use Rattle.com_base.specs.declared.value.RefValue.{RefValue}
 use Rattle.com_body.specs.declared.operands.Asked.{Asked}
 use Rattle.com_body.specs.declared.operands.Asked.TheVariants as asked
 use Rattle.com_body.specs.declared.actions.Action.TheVariants as action
+use Rattle.com_model.specs.declared.deeds.Deed.TheVariants as deed
 use Rattle.com_model.specs.declared.deeds.Entry.{Entry}
 use Rattle.com_model.specs.Answers.{S_OK, E_NOINTERFACE, RPC_E_DISCONNECTED}
 use Rattle.com_model.specs.Lists.{number_or_zero}
@@ -33,22 +34,22 @@ legal-four = (legal-three, refl)
 
 -- ---- the queries of these histories
 
-ask-unknown : Query asking without_identity
+abbrev ask-unknown : Query asking without_identity
 ask-unknown = record { later = []; before = asking_2; lane = 1; slot = 1; through = reference 1 1; wanted = asked.Number 0; number = 0; iface = asked.Number 0; answer = E_NOINTERFACE; stands = refl; acts = refl; known = refl }
 
-go-there : Query asking without_return
-go-there = record { later = record { lane = 1; deed = _ } ∷ []; before = asking_2; lane = 1; slot = 1; through = reference 1 1; wanted = asked.Number 0; number = 0; iface = asked.Number 0; answer = S_OK; stands = refl; acts = refl; known = refl }
+abbrev go-there : Query asking without_return
+go-there = record { later = record { lane = 1; deed = deed.Query (Some 1) (asked.Number 1) E_NOINTERFACE } ∷ []; before = asking_2; lane = 1; slot = 1; through = reference 1 1; wanted = asked.Number 0; number = 0; iface = asked.Number 0; answer = S_OK; stands = refl; acts = refl; known = refl }
 
-come-back : Query asking without_return
+abbrev come-back : Query asking without_return
 come-back = record { later = []; before = asking_3; lane = 1; slot = 2; through = reference 1 0; wanted = asked.Number 1; number = 1; iface = asked.Number 1; answer = E_NOINTERFACE; stands = refl; acts = refl; known = refl }
 
-first-asked : Query asking without_own
-first-asked = record { later = record { lane = 1; deed = _ } ∷ record { lane = 1; deed = _ } ∷ []; before = asking_2; lane = 1; slot = 1; through = reference 1 1; wanted = asked.Number 0; number = 0; iface = asked.Number 0; answer = S_OK; stands = refl; acts = refl; known = refl }
+abbrev first-asked : Query asking without_own
+first-asked = record { later = record { lane = 1; deed = deed.Query (Some 1) (asked.Number 1) E_NOINTERFACE } ∷ record { lane = 1; deed = deed.Query (Some 1) (asked.Number 1) S_OK } ∷ []; before = asking_2; lane = 1; slot = 1; through = reference 1 1; wanted = asked.Number 0; number = 0; iface = asked.Number 0; answer = S_OK; stands = refl; acts = refl; known = refl }
 
-then-asked : Query asking without_own
-then-asked = record { later = record { lane = 1; deed = _ } ∷ []; before = asking_3; lane = 1; slot = 2; through = reference 1 0; wanted = asked.Number 1; number = 1; iface = asked.Number 1; answer = S_OK; stands = refl; acts = refl; known = refl }
+abbrev then-asked : Query asking without_own
+then-asked = record { later = record { lane = 1; deed = deed.Query (Some 1) (asked.Number 1) E_NOINTERFACE } ∷ []; before = asking_3; lane = 1; slot = 2; through = reference 1 0; wanted = asked.Number 1; number = 1; iface = asked.Number 1; answer = S_OK; stands = refl; acts = refl; known = refl }
 
-last-asked : Query asking without_own
+abbrev last-asked : Query asking without_own
 last-asked = record { later = []; before = asking_4; lane = 1; slot = 3; through = reference 1 1; wanted = asked.Number 1; number = 1; iface = asked.Number 1; answer = E_NOINTERFACE; stands = refl; acts = refl; known = refl }
 
 -- ---- each law fails

@@ -138,8 +138,12 @@ class-unknown : (o : Option Class) (i : ℕ) → has_in o i ≡ true → has_in 
 class-unknown None i e = absurd (false-true e)
 class-unknown (Some k) i e = refl
 
+abbrev object_or : Option RefValue → ℕ
+object_or None = 0
+object_or (Some r) = r.object
+
 one-object : (o p : ℕ) → Some (reference o 0) ≡ Some (reference p 0) → o ≡ p
-one-object o p e = cc
+one-object o p e = ap object_or e
 
 taken-one : (x y : Option RefValue) (o p : ℕ) → x ≡ Some (reference o 0) → y ≡ Some (reference p 0) → (x ≡ y) ↔ (o ≡ p)
 taken-one x y o p e d = (λ z. one-object o p (sym e ∙ z ∙ d), λ z. e ∙ ap (λ (n : ℕ). Some (reference n 0)) z ∙ sym d)

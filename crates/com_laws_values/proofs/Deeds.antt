@@ -13,7 +13,6 @@ use Rattle.com_body.specs.declared.actions.Action.{Action}
 use Rattle.com_body.specs.declared.actions.Action.TheVariants as action
 use Rattle.com_classes.specs.declared.classes.Class.{Class}
 use Rattle.com_classes.specs.declared.factory.Creator.{Creator}
-use Rattle.com_classes.specs.declared.factory.Placed.{Placed}
 use Rattle.com_classes.specs.Activation.{owner_for, is_agile}
 use Rattle.com_classes.specs.Lookups.{class_at, class_has, has_interface}
 use Rattle.objref.specs.declared.decoding.RefFault.{RefFault}
@@ -33,16 +32,15 @@ use Rattle.com_model.specs.Frames.{reference}
 use Rattle.com_model.specs.Endings.{Answer, answer_of, without_value}
 use Rattle.com_model.specs.declared.keeps.Ending.{Ending}
 use Rattle.com_model.specs.declared.keeps.Ending.TheVariants.{AtIssue, AtAdmission, ByVerdict, ByRetry, ByCancel, ByDisconnection, ByLeave}
-use Rattle.com_refs_books.specs.declared.keeps.Packet.{Packet}
 use Rattle.com_refs_books.specs.declared.keeps.Cookie.{Cookie}
 use Rattle.com_refs_books.specs.Changes.{packet, cookie}
 use Rattle.com_model.specs.Issue.{call_refusal}
 use Rattle.com_model.specs.Sight.{Sight, sight}
-use Rattle.com_model.specs.Deeds.{deed_of, initialised, uninitialised, creator, placing, made_as, created_of, created, owned_by, offers, query_answer, queried, hold_refusal, marshalled, registered, is_named, named_packet, Named, NamesPacket, Refuses, named_or, named_in, named_by, gained_refs, unmarshalled, dropped, cookie_number, got_with, got_by, got, revoked, called, left_as, left_by}
-use Rattle.com_model.specs.Rules.{posted_to_sta, call_sort, verdict_on, is_handled_in, arguments_gone, admission, due_of, result_gone, packet_left, answered, after_script, next}
+use Rattle.com_model.specs.Deeds.{deed_of, initialised, uninitialised, creator, placing, made_as, created_of, created, owned_by, offers, query_answer, queried, hold_refusal, marshalled, registered, is_named, named_packet, Named, NamesPacket, Refuses, named_or, named_in, named_by, gained_refs, unmarshalled, dropped, cookie_number, got_with, got, revoked, called, left_as, left_by}
+use Rattle.com_model.specs.Rules.{posted_to_sta, call_sort, verdict_on, is_handled_in, arguments_gone, admission, result_gone, packet_left, answered, next}
 use Rattle.com_model.proofs.Fines.{cond-is}
 use Rattle.com_laws_safety.proofs.Sources.{IsRest, Source, by_body, by_script, by_end, by_final, by_own, by_answer, by_inbox, by_retry, by_again, by_rest, next-source}
-use Rattle.com_laws_values.specs.Held.{HeldBy, ValueBy, ResultBy, PacketBy, CookieBy, EndingBy, NamesBy}
+use Rattle.com_laws_values.specs.Held.{HeldBy, ValueBy, ResultBy, CookieBy, EndingBy, NamesBy}
 use Rattle.com_laws_values.proofs.Walks.{ActionBy}
 use Rattle.com_laws_values.proofs.Packets.{TablesBy, packet-by, cookie-by, result-by}
 

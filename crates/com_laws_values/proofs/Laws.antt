@@ -1,6 +1,6 @@
 -- Every legal history of a formed scenario holds and names but references by interfaces of their objects' classes, and texts of
 -- characters.
-use Rattle.std.proofs.Common.{subst, sym, ap, ◌∙◌, eqb-true, arith}
+use Rattle.std.proofs.Common.{subst, sym, ap, eqb-true, arith}
 use Rattle.std.proofs.lemmas.Bool.{false_from_ne_true}
 use Rattle.std.proofs.lemmas.List.Elements.{All-nil}
 use Rattle.std.proofs.lemmas.Grind.{common_steps}
@@ -11,7 +11,6 @@ use Rattle.com_base.specs.declared.value.Value.{Value}
 use Rattle.com_body.specs.declared.operands.Asked.{Asked}
 use Rattle.com_body.specs.declared.operands.Asked.TheVariants as asked
 use Rattle.com_body.specs.declared.actions.Action.{Action}
-use Rattle.com_body.specs.declared.actions.Action.TheVariants as action
 use Rattle.com_body.specs.declared.frame.Outcome.{Outcome}
 use Rattle.com_classes.specs.Lookups.{has_interface}
 use Rattle.com_filter.specs.declared.Verdict.{Verdict}
@@ -23,28 +22,28 @@ use Rattle.com_model.specs.declared.scenario.Scenario.{Scenario}
 use Rattle.com_model.specs.Answers.{is_S_OK}
 use Rattle.com_model.specs.Lists.{or_else, where_true, number_or_zero}
 use Rattle.com_model.specs.Apartments.{running, next_sta, ends_sta}
-use Rattle.com_model.specs.Objects.{asked_number, makes, made_or, making, one_more, objects, named, class_of, disconnects}
+use Rattle.com_model.specs.Objects.{asked_number, makes, made_or, making, objects, named, class_of, disconnects}
 use Rattle.com_model.specs.declared.keeps.Making.{Making}
 use Rattle.com_model.specs.Calls.{issues, issue, target, admitted}
 use Rattle.com_model.specs.declared.keeps.Issue.{Issue}
 use Rattle.com_model.specs.declared.keeps.Admission.{Admission}
-use Rattle.com_model.specs.Frames.{Scene, scene, taken_in, outcome, action_of, unless_over, actor_in, reference, act}
+use Rattle.com_model.specs.Frames.{scene, taken_in, outcome, action_of, unless_over, actor_in, reference, act}
 use Rattle.com_model.specs.Endings.{EndEffect, EndsCall, CutsObject, CutsSta, EndsNone, cuts_object, cuts_sta, end_effect, ends, filtered, can_be_cut, ending, is_leave}
 use Rattle.com_model.specs.declared.keeps.Ending.{Ending}
 use Rattle.com_model.specs.declared.keeps.Ending.TheVariants.{ByVerdict, ByLeave}
 use Rattle.com_model.specs.Places.{ground}
 use Rattle.com_model.specs.Books.{books}
 use Rattle.com_model.specs.Issue.{own_values, values_or, sent, unread_values}
-use Rattle.com_model.specs.Sight.{Sight, sight}
+use Rattle.com_model.specs.Sight.{sight}
 use Rattle.com_model.specs.Rules.{legal}
 use Rattle.com_model.specs.Safe.{EachEntry}
 use Rattle.com_model.specs.Formed.{Formed}
 use Rattle.com_model.proofs.Goods.{all-of}
-use Rattle.com_model.proofs.Fines.{cond-is, FineBy, next-fine}
+use Rattle.com_model.proofs.Fines.{FineBy, next-fine}
 use Rattle.com_model.proofs.Scenes.{faces}
 use Rattle.com_model.proofs.Kept.{legal-kept, sight-good, more-objects}
-use Rattle.com_laws_values.specs.Held.{IsDeclared, HeldBy, ValueBy, ResultBy, FrameBy, EndingBy, HoldsDeclared, NamesBy, NamesDeclared}
-use Rattle.com_laws_values.proofs.Walks.{ActionBy, LinksBy, more-value, more-result, more-action}
+use Rattle.com_laws_values.specs.Held.{IsDeclared, HeldBy, ValueBy, EndingBy, HoldsDeclared, NamesBy, NamesDeclared}
+use Rattle.com_laws_values.proofs.Walks.{ActionBy, more-value, more-result, more-action}
 use Rattle.com_laws_values.proofs.Scenes.{SceneBy, more-scene, OutBy, Brings, outcome-by, scene-by, first-scene}
 use Rattle.com_laws_values.proofs.Packets.{TablesBy, more-tables, ActBy, values-by, closed-by}
 use Rattle.com_laws_values.proofs.Deeds.{SeesBy, next-names}

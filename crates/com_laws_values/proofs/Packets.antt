@@ -22,7 +22,6 @@ use Rattle.com_model.specs.Values.{if_live, sent_value, sent_values, sent_result
 use Rattle.com_model.specs.Frames.{Scene, reference}
 use Rattle.com_model.specs.Places.{Ground}
 use Rattle.com_refs_books.specs.declared.keeps.Packet.{Packet}
-use Rattle.com_refs_books.specs.declared.keeps.Cookie.{Cookie}
 use Rattle.com_refs_books.specs.Changes.{Books, no_packet, no_cookie, packet, cookie, Change, ToProxy, ToPacket, Split, Join, Return, ToCookie, Withdraw, Same, set_from_one, changed, Row, Makes, Takes, Asks, Marshals, Unmarshals, Drops, Registers, Revokes, marshal_change, unmarshal_change, change, marshal_all, entered_rows, given_back, cut, cut_packet, cut_cookie}
 use Rattle.com_model.specs.Books.{out_values, reply_rows, back_rows, rows, kept, most, closed}
 use Rattle.com_model.proofs.Goods.{all-of, all-or}
