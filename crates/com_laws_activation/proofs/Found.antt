@@ -7,7 +7,8 @@ use Rattle.std.specs.Bool.{Decides}
 use Rattle.std.proofs.lemmas.List.Sums.{position_or_len_is}
 use Rattle.std.proofs.lemmas.Option.{slice_get_within, get_or_from_slice_get}
 use Rattle.std.proofs.lemmas.Grind.{common_steps}
-use Rattle.std.specs.Prelude.{◌≡◌, refl, ℕ, zero, suc, ◌+◌, ◌-◌, ◌<◌, Bool, true, false, cond, ◌==◌, ◌||◌, List, [], ◌∷◌, Option, Some, None, All, length, option_map, position, slice_get}
+use Rattle.std.specs.Prelude.{◌≡◌, refl, ℕ, zero, suc, ◌+◌, ◌-◌, ◌<◌, Bool, true, false, cond, ◌==◌, ◌||◌, List, [], ◌∷◌, Option, Some, None, All, length, option_map, position, slice_get, nat_lt}
+use Rattle.std.specs.List.{position_or_len}
 use Rattle.std.specs.Str.{bytes_eq}
 use Rattle.com_base.specs.declared.guid.Guid.{Guid}
 use Rattle.com_classes.specs.declared.classes.Class.{Class}
@@ -60,18 +61,27 @@ apart-later same (y ∷ ys) zero x p e k h = absurd (omega (arith, h))
 apart-later same (y ∷ ys) (suc i) x p e zero h = subst (λ z. same y z ≡ false) (get_or_from_slice_get ys i x x e) (p.0 i x (slice_get_within ys i x e))
 apart-later same (y ∷ ys) (suc i) x p e (suc k) h = apart-later same ys i x p.1 e k (omega (arith, h))
 
+below : (i n : ℕ) → i < n → nat_lt i n ≡ true
+below i n h = grind (arith, common_steps, h)
+
 position-is : {X : Type 0} (test : X → Bool) (xs : List X) (i : ℕ) (x : X) → slice_get xs i ≡ Some x → test x ≡ true → ((k : ℕ) → k < i → test (get_or xs k x) ≡ false) → position test xs ≡ Some i
 position-is test xs i x e t f =
     let h : i < length xs = slice_get_within xs i x e in
-    let z = position_or_len_is test xs i x (omega (arith, h)) f (λ m. subst (λ y. test y ≡ true) (sym (get_or_from_slice_get xs i x x e)) t) in
-    grind (arith, common_steps, z, h)
+    let z : position_or_len test xs ≡ i = position_or_len_is test xs i x (omega (arith, h)) f (λ m. subst (λ y. test y ≡ true) (sym (get_or_from_slice_get xs i x x e)) t) in
+    subst (λ (n : ℕ). cond (nat_lt n (length xs)) (Some n) None ≡ Some i) (sym z) (ap (λ (b : Bool). cond b (Some i) None) (below i (length xs) h))
 
 -- ---- tables
 
-class-place : (c : ℕ) (ks : List Class) (k : Class) → (b : Bool) → (c == 0) ≡ b → cond b None (slice_get ks (c - 1)) ≡ Some k → (n : ℕ) × (c ≡ n + 1) × (slice_get ks n ≡ Some k)
-class-place c ks k true e p = cc
-class-place zero ks k false e p = cc
-class-place (suc n) ks k false e p = (n, omega arith, p)
+none-some : (k : Class) → None ≡ Some k → ⊥
+none-some k e = cc
+
+true-false : true ≡ false → ⊥
+true-false e = cc
+
+class-place : (c : ℕ) (ks : List Class) (k : Class) (b : Bool) → (c == 0) ≡ b → cond b None (slice_get ks (c - 1)) ≡ Some k → (n : ℕ) × (c ≡ n + 1) × (slice_get ks n ≡ Some k)
+class-place c ks k true e p = absurd (none-some k p)
+class-place zero ks k false e p = absurd (true-false e)
+class-place (suc n) ks k false e p = let z : suc n - 1 ≡ n = omega arith in (n, omega arith, subst (λ (m : ℕ). slice_get ks m ≡ Some k) z p)
 
 pub classes-found : (s : Scenario) → Formed s → ClassesFound s
 classes-found s f c k e =

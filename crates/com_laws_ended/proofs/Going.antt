@@ -133,9 +133,11 @@ at-limit : (n m : ℕ) → n < m → (n == m) ≡ true → ⊥
 at-limit n m p e = let z : n ≡ m = eqb-true n m e in omega (arith, p, z)
 
 pub goes-on : (s : Scenario) (h : List Entry) (e : Entry) → Formed s → legal s (e ∷ h) → length h < limit s → GoesOn s h e.lane e.deed
-goes-on s h e f q p =
-    (p, by-tests (nat_le (length h) (limit s)) (finished_by s (sight s h)) (stuck_by s (sight s h)) (length h == limit s)
-    (λ z. finished-rests s h e.lane e.deed f q.0 z q.1) (λ z. stuck-rests s h e.lane e.deed z q.1) (at-limit (length h) (limit s) p))
+goes-on s h e f q p = (
+  p,
+  by-tests (nat_le (length h) (limit s)) (finished_by s (sight s h)) (stuck_by s (sight s h)) (length h == limit s)
+      (λ z. finished-rests s h e.lane e.deed f q.0 z q.1) (λ z. stuck-rests s h e.lane e.deed z q.1) (at-limit (length h) (limit s) p),
+)
 
 below : (n m : ℕ) → n + 1 ≤ m → n < m
 below n m p = omega (arith, p)

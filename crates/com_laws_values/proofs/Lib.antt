@@ -4,3 +4,4 @@ pub mod Scenes
 pub mod Packets
 pub mod Deeds
 pub mod Laws
+pub mod Bites
