@@ -18,28 +18,31 @@ use Rattle.com_model.specs.Books.{books, kept, rows}
 abbrev pub if_same : (object iface o i n : ℕ) → ℕ
 if_same k j o i n = if k == o && j == i then n else 0
 
+-- So many where the keys of a proxy are the same, else none.
 abbrev pub if_same_proxy : (apartment object iface a o i n : ℕ) → ℕ
 if_same_proxy c k j a o i n = if c == a && (k == o && j == i) then n else 0
 
--- What a change gives to the stub of an object, for an interface, and what it takes from it.
+-- What a change gives to the stub of an object, for an interface.
 abbrev pub given_to_stub : Change → (object iface : ℕ) → ℕ
 given_to_stub (ToProxy a o i n) k j = if_same k j o i n
 given_to_stub (ToPacket m o i n) k j = if_same k j o i n
 given_to_stub (ToCookie o i n) k j = if_same k j o i n
 given_to_stub _ k j = 0
 
+-- What it takes from the stub: all that a packet has that goes back, or a cookie that is revoked.
 abbrev pub taken_from_stub : Books → Change → (object iface : ℕ) → ℕ
 taken_from_stub b (Return p) k j = if_same k j (packet b p).object (packet b p).iface (packet b p).refs
 taken_from_stub b (Withdraw g) k j = if_same k j (cookie b g).object (cookie b g).iface (cookie b g).refs
 taken_from_stub b _ k j = 0
 
--- What a change gives to the proxy of an apartment, and what it takes from it.
+-- What a change gives to the proxy of an apartment.
 abbrev pub given_to_proxy : Books → Change → (apartment object iface : ℕ) → ℕ
 given_to_proxy b (ToProxy a o i n) c k j = if_same_proxy c k j a o i n
 given_to_proxy b (Join a p) c k j =
     if_same_proxy c k j a (packet b p).object (packet b p).iface (packet b p).refs
 given_to_proxy b _ c k j = 0
 
+-- What it takes from the proxy: what a packet gets that is made of the proxy's own references.
 abbrev pub taken_from_proxy : Change → (apartment object iface : ℕ) → ℕ
 taken_from_proxy (Split a o i n) c k j = if_same_proxy c k j a o i n
 taken_from_proxy _ c k j = 0
@@ -63,19 +66,21 @@ CoversRows owned b [] = Unit {0}
 CoversRows owned b (r ∷ rs) =
     Covers b (change owned b r) × CoversRows owned (changed b (change owned b r)) rs
 
--- What so many apartments give back to a stub where they have no place, and that the stub has it.
+-- What so many apartments give back to a stub where they have no place.
 abbrev pub returned : ℕ → (places : ℕ → ℕ → ℕ) → Books → (object iface : ℕ) → ℕ
 returned n places b o i = sum_below n (λ a. if places a o == 0 then b.proxy a o i else 0)
 
+-- The stub of each object has it.
 abbrev pub CoversReturns : ℕ → (places : ℕ → ℕ → ℕ) → Books → Type 0
 CoversReturns n places b = (o i : ℕ) → returned n places b o i ≤ b.stub o i
 
--- The rows of an entry, and the books after them, before anything is given back.
+-- The rows of an entry.
 abbrev pub rows_of : Scenario → List Entry → Entry → List Row
 rows_of s h e =
     rows s (act s h e.lane) (λ c. is_leave (ending s h c)) (books s h) (number_or_zero (running s h e.lane))
     e.deed
 
+-- The books after them, before anything is given back.
 abbrev pub after_rows : Scenario → List Entry → Entry → Books
 after_rows s h e =
     kept (books s h) e.deed (entered_rows (owns s (e ∷ h)) (books s h) (rows_of s h e))
@@ -89,5 +94,6 @@ pub record IsCovered (s : Scenario) (h : List Entry) (e : Entry) : Type 0 where
   pub rows : CoversRows (owns s (e ∷ h)) (books s h) (rows_of s h e)
   pub returns : CoversReturns (apartments (e ∷ h)) (places_after s (e ∷ h)) (after_rows s h e)
 
+-- The law of an entry and what stood before it.
 abbrev pub NothingOverdrawn : Scenario → List Entry → ℕ → Deed → Type 0
 NothingOverdrawn s h l d = IsCovered s h (record { lane = l; deed = d })

@@ -20,9 +20,11 @@ stub_alone = record no_books { stub = λ o i. 5 }
 abbrev pub proxy_alone : Books
 proxy_alone = record no_books { proxy = λ a o i. if a == 3 then 5 else 0 }
 
+-- No apartment owns any object.
 abbrev pub nobody_owns : ℕ → ℕ → Bool
 nobody_owns o a = false
 
+-- No apartment has a place for any object.
 abbrev pub no_places : ℕ → ℕ → ℕ
 no_places a o = 0
 

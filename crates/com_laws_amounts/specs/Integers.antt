@@ -17,6 +17,7 @@ pub record Numbers : Type 0 where
   pub stub : ℕ → ℕ → ℤ
   pub proxy : ℕ → ℕ → ℕ → ℤ
 
+-- Where nobody holds a reference.
 abbrev pub no_numbers : Numbers
 no_numbers = record { stub = λ o i. pos 0; proxy = λ a o i. pos 0 }
 
@@ -42,6 +43,7 @@ int_sum_below (suc n) f = int_sum_below n f +ℤ f n
 abbrev pub given_if : Bool → ℤ → ℤ
 given_if b z = if b then z else pos 0
 
+-- What the proxies of so many apartments give back is subtracted at the stub.
 abbrev pub counted_back : ℕ → (places : ℕ → ℕ → ℕ) → Numbers → Numbers
 counted_back n places z = record {
   stub = λ o i. z.stub o i -ℤ int_sum_below n (λ a. given_if (places a o == 0) (z.proxy a o i));
@@ -68,6 +70,7 @@ pub record AreEqual (z : Numbers) (b : Books) : Type 0 where
   pub stub : (o i : ℕ) → z.stub o i ≡ pos (b.stub o i)
   pub proxy : (a o i : ℕ) → z.proxy a o i ≡ pos (b.proxy a o i)
 
+-- None of them is below 0.
 pub record NoneNegative (z : Numbers) : Type 0 where
   pub stub : (o i : ℕ) → pos 0 ≤ℤ z.stub o i
   pub proxy : (a o i : ℕ) → pos 0 ≤ℤ z.proxy a o i
@@ -78,5 +81,6 @@ int_held n b z o i =
     int_sum_below n (λ a. z.proxy a o i) +ℤ pos (sum_by (packet_holds_of o i) b.packets)
     +ℤ pos (sum_by (cookie_holds_of o i) b.cookies)
 
+-- The number of a stub is what is held of it, of every object and interface.
 abbrev pub Balances : ℕ → Books → Numbers → Type 0
 Balances n b z = (o i : ℕ) → z.stub o i ≡ int_held n b z o i

@@ -14,6 +14,7 @@ use Rattle.com_laws_events.proofs.Sources.{is-source}
 pub legal-firing : legal source firing
 legal-firing = ((((tt, refl), refl), refl), refl)
 
+-- The number that a result is.
 abbrev number_of : Option Value → ℕ
 number_of (Some (value.Int (pos n))) = n
 number_of _ = 0
@@ -21,6 +22,7 @@ number_of _ = 0
 pub sentence-bites : EachEntry (Delivered source) another_number → ⊥
 sentence-bites p = let z : 5 ≡ 0 = ap number_of (p.1 1 4 1 is-source refl refl).1 in absurd (omega (arith, z))
 
+-- The null sink with a cookie.
 abbrev sink : ℕ → Sink
 sink n = record { cookie = n; held = None }
 

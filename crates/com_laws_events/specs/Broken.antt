@@ -21,10 +21,11 @@ use Rattle.com_model.specs.Answers.{S_OK}
 use Rattle.com_laws_sources.specs.Bodies.{advise_body, unadvise_body, fire_body}
 use Rattle.com_laws_sources.specs.Sources.{point_iid, point_methods}
 
--- Interface 4, and the class.
+-- Interface 4.
 abbrev pub point : Interface
 point = record { name = codes "IPoint"; iid = point_iid; methods = point_methods }
 
+-- Class 1, whose bodies are those of a source.
 abbrev pub source_class : Class
 source_class = record {
   name = codes "Src";
@@ -56,20 +57,23 @@ source = record {
   picks = [];
 }
 
+-- The thread has an STA, and the source is made in it.
 abbrev pub made : List Entry
 made =
     record { lane = 1; deed = deed.Made (Some 1) (Some 3) (asked.Number 1) (asked.Number 4) S_OK }
     ∷ record { lane = 1; deed = deed.Init mode.Sta 3 S_OK } ∷ []
 
--- The Out and the Enter of a call of the source's method, and the Leave and the Back behind these.
+-- A call of a method of the source goes out and is entered.
 abbrev pub entered : (call method : ℕ) → List Value → List Entry → List Entry
 entered c m vs h =
     record { lane = 1; deed = deed.Enter c 1 3 None vs }
     ∷ record { lane = 1; deed = deed.Out c (Some 1) 4 m route.Direct 1 None } ∷ h
 
+-- The body leaves with a number.
 abbrev pub left : (call number : ℕ) → List Entry → List Entry
 left c n h = record { lane = 1; deed = deed.Leave c S_OK (Some (value.Int (pos n))) None } ∷ h
 
+-- It leaves so, and the call comes back.
 abbrev pub back : (call number : ℕ) → List Entry → List Entry
 back c n h = record { lane = 1; deed = deed.Back c S_OK (Some (value.Int (pos n))) } ∷ left c n h
 

@@ -11,7 +11,8 @@ ghost use Rattle.com_model.specs.Rules.{legal};
 ghost use Rattle.com_model.specs.Safe.{EachEntry};
 ghost use Rattle.com_laws_sources.specs.Deliveries.{AllGot, NonePassed, TakesNext};
 ghost use Rattle.com_laws_sources.specs.Histories.{Delivered};
-ghost use Rattle.com_laws_events.specs.Broken.{another_cookie, another_number, firing, left_out, passed_over, source};
+ghost use Rattle.com_laws_events.specs.Broken.{another_cookie, another_number, firing, left_out};
+ghost use Rattle.com_laws_events.specs.Broken.{passed_over, source};
 
 /// One event of a source, whatever reenters it, in every legal history of a formed scenario that has no more
 /// entries than its limit: so in every history that the program makes, and in each that has ended.

@@ -12,6 +12,7 @@ use Rattle.com_laws_rings.proofs.Turns.{NoneOrRing}
 
 -- ---- the chain so far
 
+-- The chain so far runs to the number at which it goes on.
 abbrev pub Path : (ℕ → Option ℕ) → List ℕ → ℕ → Type 0
 Path next [] l = Unit {0}
 Path next (x ∷ xs) l = Runs next (x ∷ xs) l
@@ -78,11 +79,13 @@ entered-ring next (suc n) chain l p d =
 
 -- ---- the chain goes into it
 
+-- The chain of a number comes to one of the ring.
 pub record Into (next : ℕ → Option ℕ) (l : ℕ) (ring : List ℕ) : Type 0 where
   pub to : ℕ
   pub comes : Comes next l to
   pub inside : is_member to ring ≡ true
 
+-- So it does, if there is a ring.
 abbrev pub NoneOrInto : (ℕ → Option ℕ) → ℕ → List ℕ → Type 0
 NoneOrInto next l [] = Unit {0}
 NoneOrInto next l (x ∷ xs) = Into next l (x ∷ xs)
@@ -109,6 +112,7 @@ pub record Endless (next : ℕ → Option ℕ) (ys : List ℕ) : Type 0 where
   pub goes : (l m : ℕ) → next l ≡ Some m → is_some (next m) ≡ true
   pub listed : (l : ℕ) → is_some (next l) ≡ true → is_member l ys ≡ true
 
+-- A list that is not empty.
 abbrev pub HasSome : List ℕ → Type 0
 HasSome xs = is_empty xs ≡ false
 

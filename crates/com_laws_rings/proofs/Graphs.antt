@@ -11,14 +11,17 @@ Runs next [] m = ⊥
 Runs next (l ∷ []) m = next l ≡ Some m
 Runs next (l ∷ k ∷ ls) m = (next l ≡ Some k) × Runs next (k ∷ ls) m
 
+-- A run whose last number leads to its first.
 abbrev pub Ring : (ℕ → Option ℕ) → List ℕ → Type 0
 Ring next [] = ⊥
 Ring next (l ∷ ls) = Runs next (l ∷ ls) l
 
+-- From a number through these to the last of them.
 abbrev pub Way : (ℕ → Option ℕ) → ℕ → List ℕ → ℕ → Type 0
 Way next l [] m = l ≡ m
 Way next l (k ∷ ks) m = (next l ≡ Some k) × Way next k ks m
 
+-- There is a way from a number to another one.
 pub record Comes (next : ℕ → Option ℕ) (l m : ℕ) : Type 0 where
   pub through : List ℕ
   pub goes : Way next l through m

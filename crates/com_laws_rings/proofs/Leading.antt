@@ -159,11 +159,13 @@ led-lane s h l m f p t e = leading-lane s h m p (leads-on s h l m f p t e)
 
 -- ---- every ring leads to the pool's lane
 
+-- One of the lanes waits for the pool.
 pub record AtPool (s : Scenario) (h : List Entry) (ls : List ℕ) : Type 0 where
   pub lane : ℕ
   pub inside : is_member lane ls ≡ true
   pub pool : leads s h lane ≡ Some (pool_lane s)
 
+-- One of the lanes passes the test.
 record Found (test : ℕ → Bool) (ls : List ℕ) : Type 0 where
   lane : ℕ
   inside : is_member lane ls ≡ true

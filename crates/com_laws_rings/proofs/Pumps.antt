@@ -19,6 +19,7 @@ use Rattle.com_laws_safety.proofs.Acted.{ActionSort, action_sort, is_of_script, 
 use Rattle.com_laws_safety.proofs.Bodies.{not-scripts}
 use Rattle.com_laws_safety.proofs.Facts.{IsRuled, admission-ruled, answered-ruled, rest-ruled}
 
+-- The deed that opens a pump.
 abbrev pub is_pump : Deed → Bool
 is_pump (deed.Pump n) = true
 is_pump _ = false

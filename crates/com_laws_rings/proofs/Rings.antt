@@ -25,6 +25,7 @@ use Rattle.com_laws_rings.proofs.Lines.{names-lanes, next-is}
 
 -- ---- the relation of the lines is that of the lanes
 
+-- Each number leads where the lane with this number does.
 abbrev Same : Scenario → List Entry → (ℕ → Option ℕ) → Type 0
 Same s h next = (l : ℕ) → next l ≡ leads s h l
 
@@ -101,6 +102,7 @@ chain-ring ws l = entered-ring (next_in ws) (length ws + 1) [] l tt tt
 chain-into : (ws : List Wait) (l : ℕ) → NoneOrInto (next_in ws) l (chain ws l)
 chain-into ws l = entered-into (next_in ws) (length ws + 1) [] l tt
 
+-- No chain of the lines ends, and all its lanes have lines.
 abbrev Lasting : List Wait → Type 0
 Lasting ws = Endless (next_in ws) (map (λ (w : Wait). w.lane) ws)
 

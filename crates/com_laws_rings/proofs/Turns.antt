@@ -11,6 +11,7 @@ use Rattle.com_laws_rings.proofs.Graphs.{Ring, turned-ring}
 
 -- ---- the least
 
+-- The least number of a list.
 pub record Least (xs : List ℕ) : Type 0 where
   pub number : ℕ
   pub is : least xs ≡ Some number
@@ -67,6 +68,7 @@ least-of x (y ∷ ys) = least-more x (y ∷ ys) (least-of y ys)
 
 -- ---- a list, parted where it is turned
 
+-- What a list has from a number on, and what stands before that.
 pub record FromAt (m : ℕ) (lanes before xs : List ℕ) : Type 0 where
   pub rest : List ℕ
   pub is : lanes ≡ m ∷ rest
@@ -85,6 +87,7 @@ from-of m (x ∷ xs) e =
 
 -- ---- the turn
 
+-- How a list is parted and turned, so that its least number comes first.
 pub record Turning (xs : List ℕ) : Type 0 where
   pub before : List ℕ
   pub head : ℕ
@@ -106,15 +109,18 @@ turning x xs =
       least = l.below;
     }
 
+-- A ring without repetition that begins with its least number.
 pub record Turned (next : ℕ → Option ℕ) (xs : List ℕ) : Type 0 where
   pub ring : Ring next xs
   pub once : AllDifferent xs
   pub least : BeginsLeast xs
 
+-- Such a ring, or nothing.
 abbrev pub NoneOrTurned : (ℕ → Option ℕ) → List ℕ → Type 0
 NoneOrTurned next [] = Unit {0}
 NoneOrTurned next (x ∷ xs) = Turned next (x ∷ xs)
 
+-- A ring without repetition, or nothing.
 abbrev pub NoneOrRing : (ℕ → Option ℕ) → List ℕ → Type 0
 NoneOrRing next [] = Unit {0}
 NoneOrRing next (x ∷ xs) = Ring next (x ∷ xs) × AllDifferent (x ∷ xs)

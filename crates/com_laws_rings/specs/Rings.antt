@@ -20,6 +20,7 @@ pub record NamesLanes (s : Scenario) (h : List Entry) (w : Wait) : Type 0 where
   pub reason : why s h w.lane ≡ Some w.why
   pub other : (m : ℕ) → lane_named w.why ≡ Some m → IsLane s m
 
+-- Each of these lines does.
 abbrev pub EachNamesLanes : Scenario → List Entry → List Wait → Type 0
 EachNamesLanes s h [] = Unit {0}
 EachNamesLanes s h (w ∷ ws) = NamesLanes s h w × EachNamesLanes s h ws
@@ -49,6 +50,7 @@ pub record IsCycle (s : Scenario) (h : List Entry) (ls : List ℕ) : Type 0 wher
   pub once : AllDifferent ls
   pub least : BeginsLeast ls
 
+-- The cycle that is printed: empty, or such a ring.
 abbrev pub IsNoneOrRing : Scenario → List Entry → List ℕ → Type 0
 IsNoneOrRing s h [] = Unit {0}
 IsNoneOrRing s h (l ∷ ls) = IsCycle s h (l ∷ ls)
