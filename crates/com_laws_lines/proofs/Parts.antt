@@ -48,8 +48,8 @@ pub both : {xs ys : List ℕ} → Plain xs → Plain ys → Plain (xs ++ ys)
 both {xs = xs} {ys = ys} p q = record { is = over xs ys p.is q.is }
 
 -- A word.
-pub word : (xs : List ℕ) → no_break xs ≡ true → Plain xs
-word xs p = record { is = p }
+pub spelled : (xs : List ℕ) → no_break xs ≡ true → Plain xs
+spelled xs p = record { is = p }
 
 one-more : (b : ℕ) (bs : List ℕ) → (b == 10) ≡ false → Plain bs → Plain (b ∷ bs)
 one-more b bs p q = record { is = ap (λ (t : Bool). not t && no_break bs) p ∙ q.is }
@@ -78,7 +78,7 @@ digits-plain (suc k) n acc p =
 
 pub decimal-plain : (n : ℕ) → Plain (decimal n)
 unfolding digits
-decimal-plain n = digits-plain 64 n [] (word [] refl)
+decimal-plain n = digits-plain 64 n [] (spelled [] refl)
 
 pub signed-plain : (z : ℤ) → Plain (signed_decimal z)
 signed-plain (pos n) = decimal-plain n
@@ -97,7 +97,7 @@ got-plain (x ∷ xs) (suc k) p = got-plain xs k (plain-first x xs (x == 10) p).1
 
 hex-plain : (bytes : List ℕ) → Plain (encode_with lower_digits bytes)
 unfolding encode_with
-hex-plain [] = word [] refl
+hex-plain [] = spelled [] refl
 hex-plain (b ∷ bytes) =
     one-more (slice_index lower_digits (b / 16)) (slice_index lower_digits (b % 16) ∷ encode_with lower_digits bytes) (got-plain lower_digits (b / 16) refl)
     (one-more (slice_index lower_digits (b % 16)) (encode_with lower_digits bytes) (got-plain lower_digits (b % 16) refl) (hex-plain bytes))
@@ -111,7 +111,7 @@ digits_of [] = []
 digits_of (k ∷ ks) = slice_index upper_digits k ∷ digits_of ks
 
 table-plain : (ks : List ℕ) → Plain (digits_of ks)
-table-plain [] = word [] refl
+table-plain [] = spelled [] refl
 table-plain (k ∷ ks) = digit k (digits_of ks) (table-plain ks)
 
 eight-plain : (n : ℕ) → Plain (eight_digits n)
@@ -132,8 +132,8 @@ place-plain false d = digit-plain d (nat_lt d 10) refl
 
 index-plain : (n : ℕ) (f : ℕ → ℕ) → ((k : ℕ) → (f k == 10) ≡ false) → Plain (by_index n f)
 unfolding by_index
-index-plain zero f p = word [] refl
-index-plain (suc n) f p = both (index-plain n f p) (one-more (f n) [] (p n) (word [] refl))
+index-plain zero f p = spelled [] refl
+index-plain (suc n) f p = both (index-plain n f p) (one-more (f n) [] (p n) (spelled [] refl))
 
 pub guid-plain : (g : Guid) → Plain (text_of g)
 guid-plain g =
@@ -182,7 +182,7 @@ name-plain n =
 text-or-digits : (b : Bool) (n : ℕ) (o : Option (List ℕ)) → PlainName o → Plain (cond b (eight_digits n) (unwrap_or o (eight_digits n)))
 text-or-digits true n o p = eight-plain n
 text-or-digits false n None p = eight-plain n
-text-or-digits false n (Some t) p = word t p
+text-or-digits false n (Some t) p = spelled t p
 
 pub hresult-plain : (version : ℕ) (hr : HResult) → Plain (hresult_text version hr)
 hresult-plain version hr = text-or-digits (version == 2) hr.0 (name_of hr.0) (name-plain hr.0)
@@ -190,47 +190,47 @@ hresult-plain version hr = text-or-digits (version == 2) hr.0 (name_of hr.0) (na
 -- ---- words
 
 pub named-plain : (letter : List ℕ) (x : Option ℕ) → no_break letter ≡ true → Plain (named letter x)
-named-plain letter None p = word (codes "-") refl
-named-plain letter (Some n) p = both (word letter p) (decimal-plain n)
+named-plain letter None p = spelled (codes "-") refl
+named-plain letter (Some n) p = both (spelled letter p) (decimal-plain n)
 
 pub held-plain : (x : Option RefValue) → Plain (held_text x)
-held-plain None = word (codes "- -") refl
-held-plain (Some r) = both (both (both (word (codes "o") refl) (decimal-plain r.object)) (word (codes " I") refl)) (decimal-plain r.iface)
+held-plain None = spelled (codes "- -") refl
+held-plain (Some r) = both (both (both (spelled (codes "o") refl) (decimal-plain r.object)) (spelled (codes " I") refl)) (decimal-plain r.iface)
 
 pub asked-plain : (letter : List ℕ) (x : Asked) → no_break letter ≡ true → Plain (asked_text letter x)
-asked-plain letter (asked.Number n) p = both (word letter p) (decimal-plain n)
+asked-plain letter (asked.Number n) p = both (spelled letter p) (decimal-plain n)
 asked-plain letter (asked.Guid g) p = guid-plain g
 
 pub bytes-plain : (x : Option (List ℕ)) → Plain (bytes_text x)
-bytes-plain None = word (codes "-") refl
+bytes-plain None = spelled (codes "-") refl
 bytes-plain (Some bytes) = hex-plain bytes
 
 pub mode-plain : (m : Mode) → Plain (mode_text m)
-mode-plain mode.Sta = word (codes "sta") refl
-mode-plain mode.Mta = word (codes "mta") refl
+mode-plain mode.Sta = spelled (codes "sta") refl
+mode-plain mode.Mta = spelled (codes "mta") refl
 
 pub marshal-plain : (m : MarshalMode) → Plain (marshal_mode_text m)
-marshal-plain marshal_mode.Normal = word (codes "normal") refl
-marshal-plain marshal_mode.Strong = word (codes "strong") refl
-marshal-plain marshal_mode.Weak = word (codes "weak") refl
+marshal-plain marshal_mode.Normal = spelled (codes "normal") refl
+marshal-plain marshal_mode.Strong = spelled (codes "strong") refl
+marshal-plain marshal_mode.Weak = spelled (codes "weak") refl
 
 pub route-plain : (r : Route) → Plain (route_text r)
-route-plain route.Direct = word (codes "direct") refl
-route-plain route.Switch = word (codes "switch") refl
-route-plain route.Post = word (codes "post") refl
-route-plain route.Refused = word (codes "none") refl
+route-plain route.Direct = spelled (codes "direct") refl
+route-plain route.Switch = spelled (codes "switch") refl
+route-plain route.Post = spelled (codes "post") refl
+route-plain route.Refused = spelled (codes "none") refl
 
 pub verdict-plain : (v : Verdict) → Plain (verdict_text v)
-verdict-plain verdict.Handled = word (codes "handled") refl
-verdict-plain verdict.Rejected = word (codes "rejected") refl
-verdict-plain verdict.Later = word (codes "later") refl
+verdict-plain verdict.Handled = spelled (codes "handled") refl
+verdict-plain verdict.Rejected = spelled (codes "rejected") refl
+verdict-plain verdict.Later = spelled (codes "later") refl
 
 pub filter-plain : (x : Option ℕ) → Plain (filter_text x)
-filter-plain None = word (codes "none") refl
-filter-plain (Some n) = both (word (codes "F") refl) (decimal-plain n)
+filter-plain None = spelled (codes "none") refl
+filter-plain (Some n) = both (spelled (codes "F") refl) (decimal-plain n)
 
 pub call-type-plain : (x : Option ℕ) → Plain (call_type_text x)
-call-type-plain None = word (codes "-") refl
+call-type-plain None = spelled (codes "-") refl
 call-type-plain (Some n) = decimal-plain n
 
 -- ---- values
@@ -242,27 +242,27 @@ byte-plain c p = not-ten c (λ e. wrong (subst (λ (x : ℕ). is_text_byte x ≡
     wrong e = cc
 
 characters-plain : (t : List ℕ) → IsCharacters t → Plain t
-characters-plain [] p = word [] refl
+characters-plain [] p = spelled [] refl
 characters-plain (c ∷ t) p = one-more c t (byte-plain c (all-head (λ c. is_text_byte c ≡ true) c t p)) (characters-plain t (all-tail (λ c. is_text_byte c ≡ true) c t p))
 
 pub value-plain : (R : RefValue → Type 0) (v : Value) → ValueBy R v → Plain (value_text v)
 value-plain R (value.Int n) p = signed-plain n
-value-plain R (value.Bool true) p = word (codes "true") refl
-value-plain R (value.Bool false) p = word (codes "false") refl
-value-plain R (value.Text t) p = both (both (word (codes "\"") refl) (characters-plain t p)) (word (codes "\"") refl)
-value-plain R (value.Bytes t) p = both (both (word (codes "x\"") refl) (hex-plain t)) (word (codes "\"") refl)
+value-plain R (value.Bool true) p = spelled (codes "true") refl
+value-plain R (value.Bool false) p = spelled (codes "false") refl
+value-plain R (value.Text t) p = both (both (spelled (codes "\"") refl) (characters-plain t p)) (spelled (codes "\"") refl)
+value-plain R (value.Bytes t) p = both (both (spelled (codes "x\"") refl) (hex-plain t)) (spelled (codes "\"") refl)
 value-plain R (value.Guid g) p = guid-plain g
-value-plain R (value.Ref None) p = word (codes "null") refl
-value-plain R (value.Ref (Some r)) p = both (both (both (word (codes "o") refl) (decimal-plain r.object)) (word (codes ":I") refl)) (decimal-plain r.iface)
+value-plain R (value.Ref None) p = spelled (codes "null") refl
+value-plain R (value.Ref (Some r)) p = both (both (both (spelled (codes "o") refl) (decimal-plain r.object)) (spelled (codes ":I") refl)) (decimal-plain r.iface)
 
 pub result-plain : (R : RefValue → Type 0) (v : Option Value) → ResultBy R v → Plain (one_value_text v)
-result-plain R None p = word [] refl
+result-plain R None p = spelled [] refl
 result-plain R (Some v) p = value-plain R v p
 
 later-plain : (R : RefValue → Type 0) (vs : List Value) → All (ValueBy R) vs → Plain (flat_map later_value_text vs)
-later-plain R [] p = word [] refl
-later-plain R (v ∷ vs) p = both (both (word (codes ",") refl) (value-plain R v (all-head (ValueBy R) v vs p))) (later-plain R vs (all-tail (ValueBy R) v vs p))
+later-plain R [] p = spelled [] refl
+later-plain R (v ∷ vs) p = both (both (spelled (codes ",") refl) (value-plain R v (all-head (ValueBy R) v vs p))) (later-plain R vs (all-tail (ValueBy R) v vs p))
 
 pub values-plain : (R : RefValue → Type 0) (vs : List Value) → All (ValueBy R) vs → Plain (values_text vs)
-values-plain R [] p = word [] refl
+values-plain R [] p = spelled [] refl
 values-plain R (v ∷ vs) p = both (value-plain R v (all-head (ValueBy R) v vs p)) (later-plain R vs (all-tail (ValueBy R) v vs p))
