@@ -18,6 +18,7 @@ use Rattle.com_runtime.specs.Standings.{standing_of, ended_now, turn_now, Reache
 use Rattle.com_runtime.specs.Turns.{IsNext, IsTurn, GoesOn, next_line, served_in}
 use Rattle.com_replay.specs.Steps.{Moment, IsMade, IsOver, Fails}
 use Rattle.com_runtime.proofs.Choices.{turn_ticks}
+use Rattle.com_runtime.proofs.Limits.{below_limit, one_entry}
 
 last-same : (l last : ℕ) → l ≡ 0 → last ≡ last_after l last
 last-same zero last e = refl
