@@ -1,9 +1,12 @@
 -- Numbers, escaped texts, and links to calls.
 use Rattle.std.specs.Prelude.{ℕ, Bool, true, not, ◌==◌, ◌&&◌, nat_le, if◌then◌else◌, List, [], ◌∷◌, ◌++◌, codes, decimal}
 
--- A word and a number in decimal digits.
+-- A word and a number in decimal digits, and with a word behind them.
 abbrev pub word_and_number : List ℕ → ℕ → List ℕ
 word_and_number word n = word ++ decimal n
+
+abbrev pub words_around : (before : List ℕ) → ℕ → (behind : List ℕ) → List ℕ
+words_around before n behind = word_and_number before n ++ behind
 
 -- Whether a byte stands for itself in a text.
 abbrev pub is_plain : ℕ → Bool

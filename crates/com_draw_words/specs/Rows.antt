@@ -2,7 +2,7 @@
 use Rattle.std.specs.Prelude.{ℕ, Bool, true, false, List, [], ◌++◌, Option, Some, None, codes, decimal}
 use Rattle.com_draw_words.specs.declared.rows.Mark.{Mark}
 use Rattle.com_draw_words.specs.declared.rows.Mark.TheVariants as mark
-use Rattle.com_draw_words.specs.Escapes.{escaped, word_and_number}
+use Rattle.com_draw_words.specs.Escapes.{escaped, words_around}
 
 -- By what an entry is found: its place.
 abbrev pub entry_ident : ℕ → List ℕ
@@ -10,7 +10,7 @@ entry_ident n = codes "<p id=\"e" ++ decimal n ++ codes "\" data-entry=\"" ++ de
 
 abbrev pub entry_call : Option ℕ → List ℕ
 entry_call None = []
-entry_call (Some c) = word_and_number (codes " data-call=\"c") c ++ codes "\""
+entry_call (Some c) = words_around (codes " data-call=\"c") c (codes "\"")
 
 abbrev pub mark_text : Mark → List ℕ
 mark_text mark.Plain = []

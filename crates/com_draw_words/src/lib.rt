@@ -29,5 +29,5 @@ pub use sections::{
     LaneKind, push_column, push_columns_end, push_lane_name, push_objects_name, push_section_back,
     push_section_end, push_section_front,
 };
-pub use texts::{push_escaped, push_link, push_number, push_word_and_number};
+pub use texts::{push_around, push_escaped, push_link, push_number, push_word_and_number};
 pub use widths::{push_event_style, push_lane_widths, push_main_width, push_page_size};

@@ -3,7 +3,7 @@ ghost use Rattle.std.specs.Prelude.{◌≡◌, ◌++◌, OnOk};
 ghost use Rattle.com_draw_words.specs.Rows.{entry_call, entry_front_text, entry_ident, entry_number, entry_title};
 ghost use Rattle.com_draw_words.specs.Rows.{gap_text, mark_text, reason_front_text, row_end_text, row_middle_text};
 
-use crate::texts::{push_escaped, push_number, push_word_and_number};
+use crate::texts::{push_around, push_escaped, push_number};
 use com_base::{ByteList, Memory};
 
 /// What an entry's line is marked by.
@@ -32,10 +32,7 @@ fn push_call(out: &mut ByteList, call: Option<u32>) -> Result<(), Memory>
 {
     match call {
         None => Ok(()),
-        Some(call) => {
-            push_word_and_number(out, b" data-call=\"c", call)?;
-            out.push_all(b"\"")
-        }
+        Some(call) => push_around(out, b" data-call=\"c", call, b"\""),
     }
 }
 

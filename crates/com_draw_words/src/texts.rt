@@ -1,7 +1,7 @@
 //! Numbers, escaped texts, and links to calls.
 ghost use Rattle.std.specs.Prelude.{◌≡◌, ◌++◌, ◌↔◌, All, IsTrue, OnOk, decimal};
 ghost use Rattle.com_draw_words.specs.Escapes.{escaped, escaped_byte, is_plain, are_plain, link_text};
-ghost use Rattle.com_draw_words.specs.Escapes.{word_and_number};
+ghost use Rattle.com_draw_words.specs.Escapes.{word_and_number, words_around};
 
 use com_base::{ByteList, Memory};
 use itoa::Buffer;
@@ -20,6 +20,14 @@ pub fn push_word_and_number(out: &mut ByteList, word: &[u8], number: u32) -> Res
 {
     out.push_all(word)?;
     push_number(out, number as u64)
+}
+
+/// Appends a word, a number in decimal digits, and a word. The only error is want of memory.
+pub fn push_around(out: &mut ByteList, before: &[u8], number: u32, behind: &[u8]) -> Result<(), Memory>
+    ensures { OnOk result (out.new ≡ out.old ++ words_around before.now number behind.now) }
+{
+    push_word_and_number(out, before, number)?;
+    out.push_all(behind)
 }
 
 // Whether a byte stands for itself.
