@@ -7,7 +7,9 @@ ghost use Rattle.com_draw_stories.specs.Labels.{spaced_hresult, verdict_label};
 
 use crate::call_stories::{push_later, push_verb};
 use crate::contexts::Caller;
-use crate::names::{has_failed, push_called, push_hresult, push_hresult_behind, push_method, push_object};
+use crate::names::{
+    has_failed, push_called, push_hresult, push_hresult_behind, push_method, push_object,
+};
 use crate::phrases::{push_failed, push_words_signed};
 use crate::values::{push_given, push_passed};
 use com_base::{ByteList, HResult, Memory, Value};
@@ -100,7 +102,12 @@ pub(crate) fn push_verdict(out: &mut ByteList, verdict: Verdict, call: u32) -> R
     push_word_and_number(out, b" c", call)
 }
 
-pub(crate) fn push_refuse(out: &mut ByteList, version: u8, call: u32, hr: HResult) -> Result<(), Memory>
+pub(crate) fn push_refuse(
+    out: &mut ByteList,
+    version: u8,
+    call: u32,
+    hr: HResult,
+) -> Result<(), Memory>
     ensures { OnOk result (out.new ≡ out.old ++ refuse_label version call hr) }
 {
     push_word_and_number(out, b"refuses c", call)?;
@@ -190,7 +197,12 @@ pub(crate) fn push_retry(out: &mut ByteList, call: u32, answer: i64) -> Result<(
     push_later_label(out, call, answer)
 }
 
-pub(crate) fn push_pending(out: &mut ByteList, call: u32, word: i64, answer: u8) -> Result<(), Memory>
+pub(crate) fn push_pending(
+    out: &mut ByteList,
+    call: u32,
+    word: i64,
+    answer: u8,
+) -> Result<(), Memory>
     ensures { OnOk result (out.new ≡ out.old ++ pending_label call word answer) }
 {
     if answer == 0 {

@@ -10,7 +10,8 @@ ghost use Rattle.com_draw_stories.specs.Calls.{unwaited, verdict_story, verdict_
 
 use crate::contexts::{Caller, Speaker};
 use crate::names::{
-    has_failed, push_failure, push_object, push_place, push_shown_called, push_shown_method, push_signed,
+    has_failed, push_failure, push_object, push_place, push_shown_called, push_shown_method,
+    push_signed,
 };
 use crate::phrases::{push_at, push_does, push_does_link, push_does_signed, push_signed_fails};
 use crate::values::push_shown_given;
@@ -74,7 +75,12 @@ fn push_told(out: &mut ByteList, lane: u32, to: i64) -> Result<(), Memory>
     out.push_all(b" to end its pump")
 }
 
-pub(crate) fn push_quit(out: &mut ByteList, speaker: Speaker, to: i64, hr: HResult) -> Result<(), Memory>
+pub(crate) fn push_quit(
+    out: &mut ByteList,
+    speaker: Speaker,
+    to: i64,
+    hr: HResult,
+) -> Result<(), Memory>
     ensures { OnOk result (out.new ≡ out.old ++ quit_story speaker to hr) }
 {
     if has_failed(hr) {
@@ -86,7 +92,12 @@ pub(crate) fn push_quit(out: &mut ByteList, speaker: Speaker, to: i64, hr: HResu
 fn push_bound(out: &mut ByteList, lane: u32, bound: u32) -> Result<(), Memory>
     ensures { OnOk result (out.new ≡ out.old ++ bound_story lane bound) }
 {
-    push_at(out, lane, b" pumps: it lets calls and words in, until ", bound)?;
+    push_at(
+        out,
+        lane,
+        b" pumps: it lets calls and words in, until ",
+        bound,
+    )?;
     out.push_all(b" served")
 }
 
@@ -358,7 +369,12 @@ fn push_sends_again(out: &mut ByteList, lane: u32, call: u32, answer: i64) -> Re
     push_again_words(out, answer)
 }
 
-pub(crate) fn push_retry(out: &mut ByteList, lane: u32, call: u32, answer: i64) -> Result<(), Memory>
+pub(crate) fn push_retry(
+    out: &mut ByteList,
+    lane: u32,
+    call: u32,
+    answer: i64,
+) -> Result<(), Memory>
     ensures { OnOk result (out.new ≡ out.old ++ retry_story lane call answer) }
 {
     if answer < 0 {
@@ -374,7 +390,13 @@ fn push_cancels(out: &mut ByteList, lane: u32, call: u32, word: i64) -> Result<(
     push_signed(out, word)
 }
 
-fn push_waits_on(out: &mut ByteList, lane: u32, words: &[u8], call: u32, word: i64) -> Result<(), Memory>
+fn push_waits_on(
+    out: &mut ByteList,
+    lane: u32,
+    words: &[u8],
+    call: u32,
+    word: i64,
+) -> Result<(), Memory>
     ensures { OnOk result (out.new ≡ out.old ++ waits_on lane words.now call word) }
 {
     push_does_signed(out, lane, words, word)?;

@@ -160,7 +160,12 @@ fn push_summary_front(out: &mut ByteList, ended: Ended) -> Result<(), Memory>
 
 /// Appends how many entries a history has, where its clock stands, and how it ended. The only error is want
 /// of memory.
-pub fn push_summary(out: &mut ByteList, ended: Ended, entries: u64, clock: u64) -> Result<(), Memory>
+pub fn push_summary(
+    out: &mut ByteList,
+    ended: Ended,
+    entries: u64,
+    clock: u64,
+) -> Result<(), Memory>
     ensures { OnOk result (out.new ≡ out.old ++ summary_text ended entries clock) }
 {
     push_summary_front(out, ended)?;

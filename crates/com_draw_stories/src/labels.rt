@@ -2,11 +2,10 @@
 ghost use Rattle.std.specs.Prelude.{◌≡◌, ◌++◌, OnOk};
 ghost use Rattle.com_draw_stories.specs.Labels.{deed_label, label};
 
-use crate::call_labels as calls;
 use crate::contexts::Context;
 use crate::phrases::push_words_signed;
-use crate::reference_labels as references;
 use crate::stories::object_in;
+use crate::{call_labels as calls, reference_labels as references};
 use com_base::{ByteList, Memory};
 use com_classes::Classes;
 use com_draw_words::push_word_and_number;
@@ -23,30 +22,49 @@ fn push_deed(
     ensures { OnOk result (out.new ≡ out.old ++ deed_label classes.now version context deed.now) }
 {
     match deed {
-        Deed::Init { home, hr, .. } => references::push_init(out, version, *home, context.has_home, *hr),
+        Deed::Init { home, hr, .. } => references::push_init(
+            out,
+            version,
+            *home,
+            context.has_home,
+            *hr,
+        ),
         Deed::Uninit { home, count } => references::push_uninit(out, *home, *count),
-        Deed::Made { object, apartment, class, hr, .. } => {
-            references::push_create(out, classes, version, *object, *apartment, class, *hr)
-        }
+        Deed::Made {
+            object,
+            apartment,
+            class,
+            hr,
+            ..
+        } => { references::push_create(out, classes, version, *object, *apartment, class, *hr) }
         Deed::Query { object, iface, hr } => {
             references::push_query(out, classes, version, *object, iface, *hr)
         }
         Deed::Copy { held } => references::push_copy(out, *held),
         Deed::Release { held } => references::push_release(out, *held),
-        Deed::Marshal { packet, held, hr, .. } => {
-            references::push_marshal(out, version, *packet, object_in(*held), *hr)
-        }
-        Deed::Unmarshal { packet, held, hr, .. } => {
-            references::push_unmarshal(out, version, *packet, object_in(*held), *hr)
-        }
+        Deed::Marshal {
+            packet,
+            held,
+            hr,
+            ..
+        } => { references::push_marshal(out, version, *packet, object_in(*held), *hr) }
+        Deed::Unmarshal {
+            packet,
+            held,
+            hr,
+            ..
+        } => { references::push_unmarshal(out, version, *packet, object_in(*held), *hr) }
         Deed::DropPacket { packet, hr } => references::push_drop(out, version, *packet, *hr),
         Deed::Raw { buffer, .. } => push_word_and_number(out, b"bytes in p", *buffer as u32),
         Deed::Register { cookie, held, hr } => {
             references::push_register(out, version, *cookie, object_in(*held), *hr)
         }
-        Deed::Get { cookie, held, hr, .. } => {
-            references::push_get(out, version, *cookie, object_in(*held), *hr)
-        }
+        Deed::Get {
+            cookie,
+            held,
+            hr,
+            ..
+        } => { references::push_get(out, version, *cookie, object_in(*held), *hr) }
         Deed::Revoke { cookie, hr } => references::push_revoke(out, version, *cookie, *hr),
         Deed::SetFilter { filter, hr } => calls::push_filter(out, version, *filter, *hr),
         Deed::Post { lane, word, hr } => calls::push_post(out, version, *lane, *word, *hr),
@@ -54,7 +72,12 @@ fn push_deed(
         Deed::Pump { bound } => calls::push_pump(out, *bound),
         Deed::EndPump => out.push_all(b"pump ends"),
         Deed::Word { word } => push_words_signed(out, b"takes word ", *word),
-        Deed::Out { object, iface, method, .. } => calls::push_out(out, classes, *object, *iface, *method),
+        Deed::Out {
+            object,
+            iface,
+            method,
+            ..
+        } => calls::push_out(out, classes, *object, *iface, *method),
         Deed::Verdict { call, verdict, .. } => calls::push_verdict(out, *verdict, *call),
         Deed::Refuse { call, hr } => calls::push_refuse(out, version, *call, *hr),
         Deed::Enter { object, values, .. } => {
@@ -82,5 +105,11 @@ pub fn push_label_words(
 ) -> Result<(), Memory>
     ensures { OnOk result (out.new ≡ out.old ++ label scenario.now context entry.now) }
 {
-    push_deed(out, &scenario.classes, scenario.version, context, &entry.deed)
+    push_deed(
+        out,
+        &scenario.classes,
+        scenario.version,
+        context,
+        &entry.deed,
+    )
 }

@@ -17,8 +17,8 @@ mod values;
 pub use com_base::Memory;
 pub use contexts::{Caller, Context};
 pub use ends::{
-    push_body_label, push_body_story, push_event, push_message_label, push_message_story, push_pool_label,
-    push_pool_story, push_ring, push_summary,
+    push_body_label, push_body_story, push_event, push_message_label, push_message_story,
+    push_pool_label, push_pool_story, push_ring, push_summary,
 };
 pub use labels::push_label_words;
 pub use looks::{call_of, has_label, is_bad, look, mark_of};

@@ -26,7 +26,11 @@ pub(crate) fn push_signed(out: &mut ByteList, number: i64) -> Result<(), Memory>
 }
 
 // Appends a number behind its letters, or a dash where there is none.
-pub(crate) fn push_named(out: &mut ByteList, letters: &[u8], number: Option<u32>) -> Result<(), Memory>
+pub(crate) fn push_named(
+    out: &mut ByteList,
+    letters: &[u8],
+    number: Option<u32>,
+) -> Result<(), Memory>
     ensures { OnOk result (out.new ≡ out.old ++ named letters.now number) }
 {
     match number {
@@ -98,7 +102,11 @@ pub(crate) fn push_class(out: &mut ByteList, classes: &Classes, class: &Asked) -
 }
 
 // Appends the escaped name of a class, or its GUID.
-pub(crate) fn push_shown_class(out: &mut ByteList, classes: &Classes, class: &Asked) -> Result<(), Memory>
+pub(crate) fn push_shown_class(
+    out: &mut ByteList,
+    classes: &Classes,
+    class: &Asked,
+) -> Result<(), Memory>
     ensures { OnOk result (out.new ≡ out.old ++ escaped (class_words classes.now class.now)) }
 {
     match class {
@@ -108,7 +116,11 @@ pub(crate) fn push_shown_class(out: &mut ByteList, classes: &Classes, class: &As
 }
 
 // Appends the name of an interface, or its GUID.
-pub(crate) fn push_interface(out: &mut ByteList, classes: &Classes, iface: &Asked) -> Result<(), Memory>
+pub(crate) fn push_interface(
+    out: &mut ByteList,
+    classes: &Classes,
+    iface: &Asked,
+) -> Result<(), Memory>
     ensures { OnOk result (out.new ≡ out.old ++ interface_words classes.now iface.now) }
 {
     match iface {
@@ -123,7 +135,11 @@ pub(crate) fn push_interface(out: &mut ByteList, classes: &Classes, iface: &Aske
 }
 
 // Appends the escaped name of an interface, or its GUID.
-pub(crate) fn push_shown_interface(out: &mut ByteList, classes: &Classes, iface: &Asked) -> Result<(), Memory>
+pub(crate) fn push_shown_interface(
+    out: &mut ByteList,
+    classes: &Classes,
+    iface: &Asked,
+) -> Result<(), Memory>
     ensures { OnOk result (out.new ≡ out.old ++ escaped (interface_words classes.now iface.now)) }
 {
     match iface {
@@ -138,7 +154,12 @@ pub(crate) fn push_shown_interface(out: &mut ByteList, classes: &Classes, iface:
 }
 
 // Appends the name of a method, or its number where there is no such method.
-pub(crate) fn push_method(out: &mut ByteList, classes: &Classes, iface: u16, method: u16) -> Result<(), Memory>
+pub(crate) fn push_method(
+    out: &mut ByteList,
+    classes: &Classes,
+    iface: u16,
+    method: u16,
+) -> Result<(), Memory>
     ensures { OnOk result (out.new ≡ out.old ++ method_words classes.now iface method) }
 {
     match classes.method(iface, method) {
@@ -163,7 +184,11 @@ pub(crate) fn push_shown_method(
 }
 
 // Appends the method that a caller called.
-pub(crate) fn push_called(out: &mut ByteList, classes: &Classes, caller: Option<Caller>) -> Result<(), Memory>
+pub(crate) fn push_called(
+    out: &mut ByteList,
+    classes: &Classes,
+    caller: Option<Caller>,
+) -> Result<(), Memory>
     ensures { OnOk result (out.new ≡ out.old ++ called_words classes.now caller) }
 {
     match caller {
@@ -261,7 +286,11 @@ pub(crate) fn push_failure_if(out: &mut ByteList, version: u8, hr: HResult) -> R
 }
 
 // Appends an HRESULT behind a colon.
-pub(crate) fn push_hresult_behind(out: &mut ByteList, version: u8, hr: HResult) -> Result<(), Memory>
+pub(crate) fn push_hresult_behind(
+    out: &mut ByteList,
+    version: u8,
+    hr: HResult,
+) -> Result<(), Memory>
     ensures { OnOk result (out.new ≡ out.old ++ hresult_behind version hr) }
 {
     out.push_all(b": ")?;

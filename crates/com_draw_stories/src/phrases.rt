@@ -5,7 +5,9 @@ ghost use Rattle.com_draw_stories.specs.Names.{lane_place, lane_signed, object_f
 ghost use Rattle.com_draw_stories.specs.Names.{words_place, words_signed};
 
 use crate::contexts::Speaker;
-use crate::names::{push_failure, push_hresult_behind, push_named, push_object, push_place, push_signed};
+use crate::names::{
+    push_failure, push_hresult_behind, push_named, push_object, push_place, push_signed,
+};
 use com_base::{ByteList, HResult, Memory};
 use com_draw_words::{push_link, push_number, push_word_and_number};
 
@@ -31,7 +33,11 @@ pub(crate) fn push_words_signed(out: &mut ByteList, words: &[u8], number: i64) -
 }
 
 // Appends words and an apartment.
-pub(crate) fn push_words_place(out: &mut ByteList, words: &[u8], apartment: u32) -> Result<(), Memory>
+pub(crate) fn push_words_place(
+    out: &mut ByteList,
+    words: &[u8],
+    apartment: u32,
+) -> Result<(), Memory>
     ensures { OnOk result (out.new ≡ out.old ++ words_place words.now apartment) }
 {
     out.push_all(words)?;
@@ -39,7 +45,12 @@ pub(crate) fn push_words_place(out: &mut ByteList, words: &[u8], apartment: u32)
 }
 
 // Appends what failed, and the HRESULT.
-pub(crate) fn push_failed(out: &mut ByteList, words: &[u8], version: u8, hr: HResult) -> Result<(), Memory>
+pub(crate) fn push_failed(
+    out: &mut ByteList,
+    words: &[u8],
+    version: u8,
+    hr: HResult,
+) -> Result<(), Memory>
     ensures { OnOk result (out.new ≡ out.old ++ failed_label words.now version hr) }
 {
     out.push_all(words)?;
@@ -55,7 +66,12 @@ pub(crate) fn push_does(out: &mut ByteList, lane: u32, words: &[u8]) -> Result<(
 }
 
 // Appends a lane, what it does, and a number.
-pub(crate) fn push_at(out: &mut ByteList, lane: u32, words: &[u8], number: u32) -> Result<(), Memory>
+pub(crate) fn push_at(
+    out: &mut ByteList,
+    lane: u32,
+    words: &[u8],
+    number: u32,
+) -> Result<(), Memory>
     ensures { OnOk result (out.new ≡ out.old ++ lane_at lane words.now number) }
 {
     push_does(out, lane, words)?;
@@ -63,7 +79,12 @@ pub(crate) fn push_at(out: &mut ByteList, lane: u32, words: &[u8], number: u32) 
 }
 
 // Appends a lane, what it does, and a signed number.
-pub(crate) fn push_does_signed(out: &mut ByteList, lane: u32, words: &[u8], number: i64) -> Result<(), Memory>
+pub(crate) fn push_does_signed(
+    out: &mut ByteList,
+    lane: u32,
+    words: &[u8],
+    number: i64,
+) -> Result<(), Memory>
     ensures { OnOk result (out.new ≡ out.old ++ lane_signed lane words.now number) }
 {
     push_does(out, lane, words)?;
@@ -115,7 +136,12 @@ pub(crate) fn push_does_link(
 }
 
 // Appends a lane, what it cannot do, and why.
-pub(crate) fn push_fails(out: &mut ByteList, speaker: Speaker, words: &[u8], hr: HResult) -> Result<(), Memory>
+pub(crate) fn push_fails(
+    out: &mut ByteList,
+    speaker: Speaker,
+    words: &[u8],
+    hr: HResult,
+) -> Result<(), Memory>
     ensures { OnOk result (out.new ≡ out.old ++ lane_fails speaker words.now hr) }
 {
     push_does(out, speaker.lane, words)?;

@@ -6,7 +6,8 @@ ghost use Rattle.com_draw_stories.specs.Labels.{query_label, register_label, reg
 ghost use Rattle.com_draw_stories.specs.Labels.{revoke_label, uninit_label, unmade_label, unmarshal_label};
 
 use crate::names::{
-    has_failed, push_class, push_hresult_behind, push_hresult_if, push_interface, push_named, push_object,
+    has_failed, push_class, push_hresult_behind, push_hresult_if, push_interface, push_named,
+    push_object,
 };
 use crate::phrases::{push_failed, push_words_named, push_words_place, push_words_signed};
 use com_base::{ByteList, HResult, Memory, RefValue};
@@ -183,7 +184,11 @@ pub(crate) fn push_drop(
     push_words_named(out, b"drops ", b"pk", packet)
 }
 
-fn push_registered(out: &mut ByteList, cookie: Option<u32>, object: Option<u32>) -> Result<(), Memory>
+fn push_registered(
+    out: &mut ByteList,
+    cookie: Option<u32>,
+    object: Option<u32>,
+) -> Result<(), Memory>
     ensures { OnOk result (out.new ≡ out.old ++ registered_label cookie object) }
 {
     push_named(out, b"o", object)?;
@@ -227,7 +232,12 @@ pub(crate) fn push_get(
     push_got(out, cookie, object)
 }
 
-pub(crate) fn push_revoke(out: &mut ByteList, version: u8, cookie: i64, hr: HResult) -> Result<(), Memory>
+pub(crate) fn push_revoke(
+    out: &mut ByteList,
+    version: u8,
+    cookie: i64,
+    hr: HResult,
+) -> Result<(), Memory>
     ensures { OnOk result (out.new ≡ out.old ++ revoke_label version cookie hr) }
 {
     if has_failed(hr) {

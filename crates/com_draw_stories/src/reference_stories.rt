@@ -9,12 +9,12 @@ ghost use Rattle.com_draw_stories.specs.Stories.{unpacked_story};
 
 use crate::contexts::Speaker;
 use crate::names::{
-    has_failed, push_failure, push_failure_if, push_named, push_object, push_place_at, push_shown_class,
-    push_shown_interface, push_signed,
+    has_failed, push_failure, push_failure_if, push_named, push_object, push_place_at,
+    push_shown_class, push_shown_interface, push_signed,
 };
 use crate::phrases::{
-    push_at, push_does, push_does_named, push_does_place, push_does_signed, push_fails, push_object_fails,
-    push_signed_fails,
+    push_at, push_does, push_does_named, push_does_place, push_does_signed, push_fails,
+    push_object_fails, push_signed_fails,
 };
 use com_base::{ByteList, HResult, MarshalMode, Memory, RefValue};
 use com_body::Asked;
@@ -47,7 +47,12 @@ fn push_leaves_once(out: &mut ByteList, lane: u32, home: u32, count: u32) -> Res
     out.push_all(b" to go")
 }
 
-pub(crate) fn push_uninit(out: &mut ByteList, lane: u32, home: Option<u32>, count: u32) -> Result<(), Memory>
+pub(crate) fn push_uninit(
+    out: &mut ByteList,
+    lane: u32,
+    home: Option<u32>,
+    count: u32,
+) -> Result<(), Memory>
     ensures { OnOk result (out.new ≡ out.old ++ uninit_story lane home count) }
 {
     let Some(home) = home else {
@@ -134,7 +139,11 @@ pub(crate) fn push_copy(out: &mut ByteList, lane: u32, held: Option<RefValue>) -
     }
 }
 
-pub(crate) fn push_release(out: &mut ByteList, lane: u32, held: Option<RefValue>) -> Result<(), Memory>
+pub(crate) fn push_release(
+    out: &mut ByteList,
+    lane: u32,
+    held: Option<RefValue>,
+) -> Result<(), Memory>
     ensures { OnOk result (out.new ≡ out.old ++ release_story lane held) }
 {
     match held {
@@ -179,7 +188,14 @@ pub(crate) fn push_marshal(
     ensures { OnOk result (out.new ≡ out.old ++ marshal_story speaker packet mode object hr) }
 {
     if has_failed(hr) {
-        return push_object_fails(out, speaker, b" cannot pack a reference to ", object, b"", hr);
+        return push_object_fails(
+            out,
+            speaker,
+            b" cannot pack a reference to ",
+            object,
+            b"",
+            hr,
+        );
     }
     push_packed(out, speaker.lane, packet, mode, object)
 }
@@ -256,7 +272,14 @@ pub(crate) fn push_register(
     ensures { OnOk result (out.new ≡ out.old ++ register_story speaker cookie object hr) }
 {
     if has_failed(hr) {
-        return push_object_fails(out, speaker, b" cannot put ", object, b" into the global table", hr);
+        return push_object_fails(
+            out,
+            speaker,
+            b" cannot put ",
+            object,
+            b" into the global table",
+            hr,
+        );
     }
     push_registered(out, speaker.lane, cookie, object)
 }

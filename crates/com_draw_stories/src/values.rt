@@ -137,7 +137,11 @@ fn push_shown_value(alloc: Global, out: &mut ByteList, value: &Value) -> Result<
 }
 
 // Appends such a value; nothing where there is none.
-pub(crate) fn push_shown_given(alloc: Global, out: &mut ByteList, given: &Option<Value>) -> Result<(), Memory>
+pub(crate) fn push_shown_given(
+    alloc: Global,
+    out: &mut ByteList,
+    given: &Option<Value>,
+) -> Result<(), Memory>
     ensures { OnOk result (out.new ≡ out.old ++ shown_given given.now) }
 {
     match given {

@@ -13,7 +13,8 @@ pub const HEAD_FRONT: &[u8] = br#"<!DOCTYPE html>
 "#;
 
 /// The colours, of light and of dark, with a hue for each apartment.
-pub const COLOURS: &[u8] = br#":root{--bg:#fff;--ink:#1b2230;--dim:#5d6675;--line:#d4d9e1;--bad:#c2141b;--n:14px;--r:22px;--s:min(37em,44vw)}
+pub const COLOURS: &[u8] =
+    br#":root{--bg:#fff;--ink:#1b2230;--dim:#5d6675;--line:#d4d9e1;--bad:#c2141b;--n:14px;--r:22px;--s:min(37em,44vw)}
 .k0{--c:#8a6d00;--f:#faf3c8}.k1{--c:#b45f06;--f:#fdeedb}.k2{--c:#0b7a75;--f:#d9f1ef}
 .k3{--c:#1f5fd0;--f:#e0eafc}.k4{--c:#7a3fb8;--f:#f0e6fa}.k5{--c:#2f7d32;--f:#e2f2e2}
 .k6{--c:#b0306f;--f:#fae3ee}.k7{--c:#7a4a2b;--f:#f3e6dc}.k8{--c:#2b6f8f;--f:#dceff6}.k9{--c:#5d6675;--f:#e9ecf1}
@@ -51,7 +52,8 @@ section>.z{position:relative;height:0;width:0}
 "#;
 
 /// The line of an entry, and the columns beside it.
-pub const ENTRY_STYLE: &[u8] = br#"section p{position:relative;height:var(--r);line-height:var(--r);margin:0;white-space:nowrap;scroll-margin-top:60px}
+pub const ENTRY_STYLE: &[u8] =
+    br#"section p{position:relative;height:var(--r);line-height:var(--r);margin:0;white-space:nowrap;scroll-margin-top:60px}
 section p:hover,section p:target,p.on{background:var(--line)}
 section p>b{position:sticky;left:0;z-index:60;display:inline-block;width:4em;padding-right:8px;text-align:right;font-weight:400;color:var(--dim);background:var(--bg)}
 section p>span{position:sticky;left:4em;z-index:60;display:inline-block;width:calc(var(--s) - 4em);height:var(--r);overflow:hidden;text-overflow:ellipsis;vertical-align:top;background:var(--bg)}
@@ -63,7 +65,8 @@ p>i>*,section>div>i{position:absolute;font-style:normal;text-decoration:none;poi
 "#;
 
 /// Boxes and labels.
-pub const BOX_STYLE: &[u8] = br#".home,.body,.wait,.call,.none,.pump,.live,.cut{--t:1px;--u:1px;bottom:var(--u);height:calc(var(--h)*var(--r) - var(--t) - var(--u));z-index:var(--d);background:var(--f);border:1px solid var(--c);font-size:9px;line-height:9px;color:var(--c);writing-mode:vertical-lr;overflow:hidden;padding-top:3px;border-radius:4px}
+pub const BOX_STYLE: &[u8] =
+    br#".home,.body,.wait,.call,.none,.pump,.live,.cut{--t:1px;--u:1px;bottom:var(--u);height:calc(var(--h)*var(--r) - var(--t) - var(--u));z-index:var(--d);background:var(--f);border:1px solid var(--c);font-size:9px;line-height:9px;color:var(--c);writing-mode:vertical-lr;overflow:hidden;padding-top:3px;border-radius:4px}
 .home,.body,.wait,.call,.none,.pump{left:calc(var(--a) + var(--d)*var(--n));width:calc(var(--w) - 26px - var(--d)*(var(--n) + 3px));border-left-width:4px}
 .home{border-width:0 0 0 3px;border-radius:0;opacity:.55}
 .wait,.pump,.none{background:repeating-linear-gradient(135deg,var(--bg) 0 5px,var(--f) 5px 9px);border-style:dashed;border-left-style:solid}
@@ -81,7 +84,8 @@ section u{left:calc(var(--a) + var(--d)*var(--n) + 20px);max-width:calc(var(--w)
 "#;
 
 /// Arrows, and the marks of objects that are touched.
-pub const ARROW_STYLE: &[u8] = br#"s{height:0;bottom:10px;z-index:40;border-top:2px solid var(--e);--e:var(--ink)}
+pub const ARROW_STYLE: &[u8] =
+    br#"s{height:0;bottom:10px;z-index:40;border-top:2px solid var(--e);--e:var(--ink)}
 .r{left:calc(var(--a) + var(--i)*var(--n) + 2px);width:calc(var(--b) - var(--a) + (var(--j) - var(--i))*var(--n) - 2px)}
 .l{left:calc(var(--b) + var(--v) - 26px - var(--j)*3px);width:calc(var(--a) + var(--i)*var(--n) + 28px - var(--b) - var(--v) + var(--j)*3px)}
 s::after{content:"";position:absolute;top:-6px;border:5px solid transparent}
@@ -116,13 +120,16 @@ pub const BODY_FRONT: &[u8] = br#"</style>
 "#;
 
 /// The key of the boxes of lanes.
-pub const KEY_OF_BOXES: &[u8] = br#"<div class="key"><span><i class="home k3"></i>a thread is in an apartment</span><span><i class="body k3"></i>a method runs</span><span><i class="call k9"></i>a call in the same thread</span><span><i class="wait k9"></i>a call that waits for another thread</span><span><i class="pump k9"></i>a thread pumps</span><span><i class="body k3 ring"></i>it waits in a ring</span>"#;
+pub const KEY_OF_BOXES: &[u8] =
+    br#"<div class="key"><span><i class="home k3"></i>a thread is in an apartment</span><span><i class="body k3"></i>a method runs</span><span><i class="call k9"></i>a call in the same thread</span><span><i class="wait k9"></i>a call that waits for another thread</span><span><i class="pump k9"></i>a thread pumps</span><span><i class="body k3 ring"></i>it waits in a ring</span>"#;
 
 /// The key of objects and of arrows.
-pub const KEY_OF_MARKS: &[u8] = br#"<span><i class="live k1"></i>an object lives</span><span><i class="cut k1"></i>it is cut off</span><span><s class="go r"></s>a call</span><span><s class="re r"></s>its answer</span><span><s class="to l"></s>a word</span><span><s class="no r"></s>refused</span>"#;
+pub const KEY_OF_MARKS: &[u8] =
+    br#"<span><i class="live k1"></i>an object lives</span><span><i class="cut k1"></i>it is cut off</span><span><s class="go r"></s>a call</span><span><s class="re r"></s>its answer</span><span><s class="to l"></s>a word</span><span><s class="no r"></s>refused</span>"#;
 
 /// The key of the colours.
-pub const KEY_OF_COLOURS: &[u8] = br#"<br/><span>The colour is the apartment: <b class="k0">a0 NTA</b>, neutral: its methods run in the caller's thread; <b class="k1">a1 MTA</b>, of many threads; <b class="k2">a2 host STA</b>, <b class="k3">a3</b> <b class="k4">a4</b> <b class="k5">a5</b> .. STA, of one thread each</span></div>
+pub const KEY_OF_COLOURS: &[u8] =
+    br#"<br/><span>The colour is the apartment: <b class="k0">a0 NTA</b>, neutral: its methods run in the caller's thread; <b class="k1">a1 MTA</b>, of many threads; <b class="k2">a2 host STA</b>, <b class="k3">a3</b> <b class="k4">a4</b> <b class="k5">a5</b> .. STA, of one thread each</span></div>
 "#;
 
 /// The start of the drawing, and of the lanes' names.

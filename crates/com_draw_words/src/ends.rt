@@ -4,8 +4,10 @@ ghost use Rattle.com_draw_words.specs.Ends.{body_text, colours_text, drawing_end
 ghost use Rattle.com_draw_words.specs.Ends.{item_front_text, list_end_text, list_front_text, report_end_text};
 ghost use Rattle.com_draw_words.specs.Ends.{report_front_text, shapes_text, styles_end_text, tail_text};
 
-use crate::constants::{ARROW_STYLE, BODY_BACK, BODY_FRONT, BOX_STYLE, COLOURS, ENTRY_STYLE, HEAD_FRONT};
-use crate::constants::{KEY_OF_BOXES, KEY_OF_COLOURS, KEY_OF_MARKS, PAGE_STYLE, PRINT_STYLE, TAIL};
+use crate::constants::{
+    ARROW_STYLE, BODY_BACK, BODY_FRONT, BOX_STYLE, COLOURS, ENTRY_STYLE, HEAD_FRONT, KEY_OF_BOXES,
+    KEY_OF_COLOURS, KEY_OF_MARKS, PAGE_STYLE, PRINT_STYLE, TAIL,
+};
 use com_base::{ByteList, Memory};
 
 fn push_colours(out: &mut ByteList) -> Result<(), Memory>

@@ -23,7 +23,12 @@ pub fn push_word_and_number(out: &mut ByteList, word: &[u8], number: u32) -> Res
 }
 
 /// Appends a word, a number in decimal digits, and a word. The only error is want of memory.
-pub fn push_around(out: &mut ByteList, before: &[u8], number: u32, behind: &[u8]) -> Result<(), Memory>
+pub fn push_around(
+    out: &mut ByteList,
+    before: &[u8],
+    number: u32,
+    behind: &[u8],
+) -> Result<(), Memory>
     ensures { OnOk result (out.new ≡ out.old ++ words_around before.now number behind.now) }
 {
     push_word_and_number(out, before, number)?;
