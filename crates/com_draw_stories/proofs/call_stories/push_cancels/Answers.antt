@@ -1,5 +1,8 @@
-use Rattle.std.proofs.Common.{append_assoc}
+use Rattle.std.proofs.Common.{append_assoc, w64}
+use Rattle.std.proofs.lemmas.Int.{to_z-of_z}
 use Rattle.com_draw_stories.proofs.call_stories.push_cancels.Goals as goal
 
 pub returns : goal.returns
-returns c = simp append_assoc (simp append_assoc at (rw c.in_ok-push_does_link.ensures at c.push_signed.ensures))
+returns c =
+    let same_word = to_z-of_z w64 c.args.word c.ranges.word in
+    simp append_assoc (simp (append_assoc, same_word) at (rw c.in_ok-push_does_link.ensures at c.push_signed.ensures))

@@ -1,6 +1,8 @@
-use Rattle.std.proofs.Common.{append_assoc}
+use Rattle.std.proofs.Common.{append_assoc, w64}
+use Rattle.std.proofs.lemmas.Int.{to_z-of_z}
 use Rattle.com_draw_stories.proofs.call_stories.push_sends_again.Goals as goal
 
 pub returns : goal.returns
 returns c =
-    simp append_assoc (simp append_assoc at (rw (c.in_ok-push_link.ensures, c.in_ok-push_does.ensures) at c.push_again_words.ensures))
+    let same_answer = to_z-of_z w64 c.args.answer c.ranges.answer in
+    simp append_assoc (simp (append_assoc, same_answer) at (rw (c.in_ok-push_link.ensures, c.in_ok-push_does.ensures) at c.push_again_words.ensures))

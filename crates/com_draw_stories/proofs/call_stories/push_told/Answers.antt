@@ -1,5 +1,8 @@
-use Rattle.std.proofs.Common.{append_assoc}
+use Rattle.std.proofs.Common.{append_assoc, w64}
+use Rattle.std.proofs.lemmas.Int.{to_z-of_z}
 use Rattle.com_draw_stories.proofs.call_stories.push_told.Goals as goal
 
 pub returns : goal.returns
-returns c = simp append_assoc (simp append_assoc at (rw c.in_ok-push_does_signed.ensures at c.push_all.ensures.ok))
+returns c =
+    let same_to = to_z-of_z w64 c.args.to c.ranges.to in
+    simp append_assoc (simp (append_assoc, same_to) at (rw c.in_ok-push_does_signed.ensures at c.push_all.ensures.ok))
