@@ -57,6 +57,9 @@ abbrev pub pump_story : (lane bound : ℕ) → List ℕ
 pump_story l n =
     if n == 0 then lane_does l (codes " pumps: it lets calls and words in") else bound_story l n
 
+unfoldable pub took_story : (lane : ℕ) → (word : ℤ) → List ℕ
+took_story l w = lane_signed l (codes " takes word ") w
+
 -- ---- calls
 
 abbrev pub route_words : Route → List ℕ
@@ -187,7 +190,7 @@ deed_story t s x (deed.Post to word hr) = post_story s to word hr
 deed_story t s x (deed.Quit to hr) = quit_story s to hr
 deed_story t s x (deed.Pump bound) = pump_story s.lane bound
 deed_story t s x deed.EndPump = lane_does s.lane (codes " ends its pump")
-deed_story t s x (deed.Word word) = lane_signed s.lane (codes " takes word ") word
+deed_story t s x (deed.Word word) = took_story s.lane word
 deed_story t s x (deed.Out call object iface method r cause bytes) =
     out_story t s.lane call object iface method r
 deed_story t s x (deed.Verdict call call_type v) = verdict_story s.lane (caller_lane x.caller) call call_type v

@@ -5,8 +5,8 @@ ghost use Rattle.com_draw_stories.specs.Calls.{cancels_story, enter_story, enter
 ghost use Rattle.com_draw_stories.specs.Calls.{filter_plain, filter_story, for_lane, later_words, leave_story};
 ghost use Rattle.com_draw_stories.specs.Calls.{out_story, outcome, pending_story, post_story, pump_story};
 ghost use Rattle.com_draw_stories.specs.Calls.{quit_story, refuse_story, retry_story, route_words, sends_again};
-ghost use Rattle.com_draw_stories.specs.Calls.{sent_story, tick_story, told_story, type_reason, type_words};
-ghost use Rattle.com_draw_stories.specs.Calls.{unwaited, verdict_story, verdict_verb, waits_on};
+ghost use Rattle.com_draw_stories.specs.Calls.{sent_story, tick_story, told_story, took_story, type_reason};
+ghost use Rattle.com_draw_stories.specs.Calls.{type_words, unwaited, verdict_story, verdict_verb, waits_on};
 
 use crate::contexts::{Caller, Speaker};
 use crate::names::{
@@ -108,6 +108,12 @@ pub(crate) fn push_pump(out: &mut ByteList, lane: u32, bound: u32) -> Result<(),
         return push_does(out, lane, b" pumps: it lets calls and words in");
     }
     push_bound(out, lane, bound)
+}
+
+pub(crate) fn push_took(out: &mut ByteList, lane: u32, word: i64) -> Result<(), Memory>
+    ensures { OnOk result (out.new ≡ out.old ++ took_story lane word) }
+{
+    push_does_signed(out, lane, b" takes word ", word)
 }
 
 fn push_route(out: &mut ByteList, route: Route) -> Result<(), Memory>

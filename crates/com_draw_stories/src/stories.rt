@@ -4,7 +4,7 @@ ghost use Rattle.com_draw_stories.specs.Calls.{deed_story, story};
 ghost use Rattle.com_model.specs.Deeds.{object_in};
 
 use crate::contexts::{Context, Speaker};
-use crate::phrases::{push_does, push_does_link, push_does_signed};
+use crate::phrases::{push_does, push_does_link};
 use crate::{call_stories as calls, reference_stories as references};
 use com_base::{ByteList, Memory, RefValue};
 use com_classes::Classes;
@@ -85,7 +85,7 @@ fn push_deed(
         Deed::Quit { lane: to, hr } => calls::push_quit(out, speaker, *to, *hr),
         Deed::Pump { bound } => calls::push_pump(out, lane, *bound),
         Deed::EndPump => push_does(out, lane, b" ends its pump"),
-        Deed::Word { word } => push_does_signed(out, lane, b" takes word ", *word),
+        Deed::Word { word } => calls::push_took(out, lane, *word),
         Deed::Out {
             call,
             object,
