@@ -1,5 +1,5 @@
 -- Lists whose first elements were changed, one after another.
-use Rattle.std.proofs.Common.{◌≡◌, ℕ, zero, suc, List, [], ◌∷◌, ◌++◌, ◌+◌, ◌-◌, ◌<◌, ◌≤◌, length, set, get_or}
+use Rattle.std.proofs.Common.{◌≡◌, ℕ, zero, suc, List, [], ◌∷◌, ◌++◌, ◌+◌, ◌-◌, ◌<◌, ◌≤◌, length, length-append, set, get_or}
 use Rattle.std.proofs.Common.{refl, ap, sym, subst, ◌∙◌, arith, add-one, append_assoc, append-nil}
 use Rattle.std.specs.Prelude.{map}
 use Rattle.com_draw_state.specs.Board.{copies}
@@ -14,13 +14,13 @@ pub mapped_none : {X : Type 0} (f : X → X) (xs : List X) → mapped f 0 xs ≡
 unfolding mapped
 mapped_none f xs = refl
 
-step : {X : Type 0} (f : X → X) (n : ℕ) (xs : List X) (x : X) → n < length xs → x ≡ get_or (mapped f n xs) n x
-    → set (mapped f n xs) n (f x) ≡ mapped f (suc n) xs
+step : {X : Type 0} (f : X → X) (n : ℕ) (xs : List X) (d : X) → n < length xs
+    → set (mapped f n xs) n (f (get_or (mapped f n xs) n d)) ≡ mapped f (suc n) xs
 unfolding mapped
-step f zero [] x h e = absurd (omega arith)
-step f zero (y ∷ xs) x h e = ap (λ z. f z ∷ xs) e
-step f (suc n) [] x h e = absurd (omega arith)
-step f (suc n) (y ∷ xs) x h e = ap (λ rest. f y ∷ rest) (step f n xs x (omega arith) e)
+step f zero [] d h = absurd (omega arith)
+step f zero (y ∷ xs) d h = refl
+step f (suc n) [] d h = absurd (omega arith)
+step f (suc n) (y ∷ xs) d h = ap (λ rest. f y ∷ rest) (step f n xs d (omega arith))
 
 same_length : {X : Type 0} (f : X → X) (n : ℕ) (xs : List X) → length (mapped f n xs) ≡ length xs
 unfolding mapped
@@ -29,11 +29,11 @@ same_length f (suc n) [] = refl
 same_length f (suc n) (x ∷ xs) = ap suc (same_length f n xs)
 
 -- one element more
-pub mapped_next : {X : Type 0} (f : X → X) (n : ℕ) (xs now : List X) (x : X) → now ≡ mapped f n xs → n < length now → x ≡ get_or now n x
-    → set now n (f x) ≡ mapped f (n + 1) xs
-mapped_next {X} f n xs now x e h i =
-    let P : List X → Type 0 = λ v. n < length v → x ≡ get_or v n x → set v n (f x) ≡ mapped f (n + 1) xs in
-    subst P (sym e) (λ lt is. rw add-one (step f n xs x (omega (arith, same_length f n xs)) is)) h i
+pub mapped_next : {X : Type 0} (f : X → X) (n : ℕ) (xs now : List X) (d new : X) → now ≡ mapped f n xs → n < length now → new ≡ f (get_or now n d)
+    → set now n new ≡ mapped f (n + 1) xs
+mapped_next {X} f n xs now d new e h is =
+    let P : List X → Type 0 = λ v. n < length v → new ≡ f (get_or v n d) → set v n new ≡ mapped f (n + 1) xs in
+    subst P (sym e) (λ lt i. rw (add-one, i) (step f n xs d (omega (arith, same_length f n xs)))) h is
 
 all_of : {X : Type 0} (f : X → X) (n : ℕ) (xs : List X) → length xs ≤ n → mapped f n xs ≡ map f xs
 unfolding mapped
@@ -61,3 +61,9 @@ copies_none xs x (suc n) h = absurd (omega arith)
 pub length_copies : {X : Type 0} (x : X) (n : ℕ) → length (copies n x) ≡ n
 length_copies x zero = refl
 length_copies x (suc n) = ap suc (length_copies x n)
+
+-- the lanes before the first entry are few
+pub few_lanes : {X : Type 0} (none a b d : List X) (x y z : X) (t p : ℕ) → none ≡ [] → a ≡ none ++ copies t x → b ≡ a ++ copies 1 y → d ≡ b ++ copies p z
+    → t + p < 64 → length d ≤ 64
+few_lanes none a b d x y z t p en ea eb ed h =
+    rw (ed, eb, ea, en) (simp (length-append, length_copies) (omega arith))

@@ -6,7 +6,7 @@ use Rattle.com_draw_state.specs.declared.lanes.Waiter.{Waiter}
 use Rattle.com_draw_state.specs.declared.lanes.Home.{Home}
 use Rattle.com_draw_state.specs.declared.lanes.Lane.{Lane}
 use Rattle.com_draw_state.specs.declared.stacks.Opened.{Opened}
-use Rattle.com_draw_state.specs.declared.stacks.Opened.TheVariants as opened
+use Rattle.com_draw_state.specs.declared.stacks.Opened.TheVariants as what
 use Rattle.com_draw_state.specs.declared.stacks.Opening.{Opening}
 use Rattle.com_draw_state.specs.Stacks.{outer}
 
@@ -45,18 +45,18 @@ abbrev pub homed : Option Home → Lane → Lane
 homed home row = record row { home = home }
 
 -- Something more stands open in the lane, or what is innermost is closed.
-abbrev pub opened : Opening → Lane → Lane
-opened o row = record row { openings = row.openings ++ o ∷ [] }
+abbrev pub with_opening : Opening → Lane → Lane
+with_opening o row = record row { openings = row.openings ++ o ∷ [] }
 
-abbrev pub closed : Lane → Lane
-closed row = record row { openings = outer row.openings }
+abbrev pub without_innermost : Lane → Lane
+without_innermost row = record row { openings = outer row.openings }
 
 -- Who waits for a call: the opening of a lane that is this call, which is at most one in all lanes.
 abbrev pub waiter_by : (lane depth : ℕ) → Opened → (call : ℕ) → Option Waiter
-waiter_by l d opened.Pumps c = None
-waiter_by l d (opened.Waits own manner iface method) c =
+waiter_by l d what.Pumps c = None
+waiter_by l d (what.Waits own manner iface method) c =
     if own == c then Some (record { lane = l; depth = d; iface = iface; method = method }) else None
-waiter_by l d (opened.Runs call apartment) c = None
+waiter_by l d (what.Runs call apartment) c = None
 
 abbrev pub waiter_at : (lane depth : ℕ) → List Opening → (call : ℕ) → Option Waiter
 waiter_at l d [] c = None

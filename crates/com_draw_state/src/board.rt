@@ -1,8 +1,8 @@
 //! The lanes and the tracks of a picture together.
-ghost use Rattle.std.specs.Prelude.{◌≡◌, ◌+◌, ◌<◌, ◌^◌, ◌++◌, ◌∷◌, [], IfOk, MatchOption, OnOk, length, map};
+ghost use Rattle.std.specs.Prelude.{◌≡◌, ◌+◌, ◌<◌, ◌≤◌, ◌^◌, ◌++◌, ◌∷◌, [], IfOk, MatchOption, OnOk, length, map};
 ghost use Rattle.com_draw_state.specs.Board.{copies, first_board, home_from_above, with_lanes, with_tracks};
-ghost use Rattle.com_draw_state.specs.Lanes.{acted, closed, depth_of, homed, lane_at, new_lane, opened};
-ghost use Rattle.com_draw_state.specs.Lanes.{waiter_in, widened, with_lane};
+ghost use Rattle.com_draw_state.specs.Lanes.{acted, depth_of, homed, lane_at, new_lane, waiter_in};
+ghost use Rattle.com_draw_state.specs.Lanes.{widened, with_lane, with_opening, without_innermost};
 ghost use Rattle.com_draw_state.specs.Tracks.{cut_of_apartment, cut_of_object, freed, taken};
 
 use crate::lanes::{Home, Lane, Waiter};
@@ -21,21 +21,21 @@ pub struct Board {
 }
 
 impl Model for Board {
-    ghost use Rattle.std.specs.Prelude.{◌<◌, ◌^◌, length};
+    ghost use Rattle.std.specs.Prelude.{◌≤◌, length};
     ghost use Rattle.com_draw_state.specs.Board.{State};
 
     ghost Value = { State };
 
     ghost view = { λ b. record { lanes = b.lanes.items; tracks = b.tracks } };
 
-    ghost invariant = { λ b. length b.lanes.items < 2 ^ 31 };
+    ghost invariant = { λ b. length b.lanes.items ≤ 64 };
 }
 
 impl Board {
     /// The board before the first entry: so many threads without home, the host's lane, and so many lanes of
     /// the pool. No track was used. The only error is want of memory.
     pub fn begin(alloc: Global, threads: u32, pool: u32) -> Result<Board, Memory>
-        requires { threads + pool < 2 ^ 30 }
+        requires { threads + pool < 64 }
         ensures { IfOk result (λ board. board ≡ first_board threads pool) }
     {
         let mut lanes = Vec::new(alloc);
@@ -51,7 +51,7 @@ impl Board {
     /// The lanes, from lane 1 on.
     pub fn lanes(&self) -> &[Lane]
         ensures value { result.now ≡ self.now.lanes }
-        ensures few { length result.now < 2 ^ 31 }
+        ensures few { length result.now ≤ 64 }
     {
         self.lanes.as_slice()
     }
@@ -94,7 +94,7 @@ impl Board {
     }
 
     /// The lane has to be so wide.
-    pub fn widen(&mut self, lane: u32, width: u32)
+    pub fn widen(&mut self, lane: u32, width: u16)
         ensures { self.new ≡ with_lanes (with_lane (widened width) lane self.old.lanes) self.old }
     {
         widen(self.lanes.as_mut_slice(), lane, width);
@@ -110,14 +110,14 @@ impl Board {
     /// Something more stands open in the lane. The only error is want of memory.
     pub fn open(&mut self, lane: u32, what: Opened, start: Start) -> Result<(), Memory>
         ensures { OnOk result (self.new ≡ with_lanes
-            (with_lane (opened (record { what = what; start = start })) lane self.old.lanes) self.old) }
+            (with_lane (with_opening (record { what = what; start = start })) lane self.old.lanes) self.old) }
     {
         open(self.lanes.as_mut_slice(), lane, Opening { what, start })
     }
 
     /// What is innermost in the lane is closed.
     pub fn close(&mut self, lane: u32)
-        ensures { self.new ≡ with_lanes (with_lane closed lane self.old.lanes) self.old }
+        ensures { self.new ≡ with_lanes (with_lane without_innermost lane self.old.lanes) self.old }
     {
         close(self.lanes.as_mut_slice(), lane);
     }

@@ -1,7 +1,8 @@
 //! The lanes of a picture: the home of each, what stands open in it, and how wide it has to be.
-ghost use Rattle.std.specs.Prelude.{◌≡◌, ◌<◌, ◌^◌, MatchOption, OnOk, length};
-ghost use Rattle.com_draw_state.specs.Lanes.{acted, closed, homed, lane_at};
-ghost use Rattle.com_draw_state.specs.Lanes.{depth_of, new_lane, opened, waiter_at, waiter_by, waiter_in, widened, with_lane};
+ghost use Rattle.std.specs.Prelude.{◌≡◌, ◌<◌, ◌≤◌, ◌^◌, MatchOption, OnOk, length};
+ghost use Rattle.com_draw_state.specs.Lanes.{acted, depth_of, homed, lane_at, new_lane, waiter_at};
+ghost use Rattle.com_draw_state.specs.Lanes.{waiter_by, waiter_in, widened, with_lane, with_opening};
+ghost use Rattle.com_draw_state.specs.Lanes.{without_innermost};
 
 use crate::stacks::{Opened, Opening, Openings, Start};
 use com_base::Memory;
@@ -26,7 +27,7 @@ pub struct Lane {
     /// Whether it made an entry.
     pub has_acted: bool,
     /// How wide its labels are, with what stands before them.
-    pub width: u32,
+    pub width: u16,
 }
 
 /// Who waits for a call: the lane, the depth at which the call stands open in it, and the method that it names.
@@ -89,7 +90,7 @@ pub(crate) fn act(lanes: &mut [Lane], lane: u32)
 }
 
 /// The lane has to be so wide.
-pub(crate) fn widen(lanes: &mut [Lane], lane: u32, width: u32)
+pub(crate) fn widen(lanes: &mut [Lane], lane: u32, width: u16)
     ensures { lanes.new ≡ with_lane (widened width) lane lanes.old }
 {
     if lane == 0 || lane as usize > lanes.len() {
@@ -111,7 +112,7 @@ pub(crate) fn settle(lanes: &mut [Lane], lane: u32, home: Option<Home>)
 
 /// Something more stands open in the lane.
 pub(crate) fn open(lanes: &mut [Lane], lane: u32, opening: Opening) -> Result<(), Memory>
-    ensures { OnOk result (lanes.new ≡ with_lane (opened opening) lane lanes.old) }
+    ensures { OnOk result (lanes.new ≡ with_lane (with_opening opening) lane lanes.old) }
 {
     if lane == 0 || lane as usize > lanes.len() {
         return Ok(());
@@ -121,7 +122,7 @@ pub(crate) fn open(lanes: &mut [Lane], lane: u32, opening: Opening) -> Result<()
 
 /// What is innermost in the lane is closed.
 pub(crate) fn close(lanes: &mut [Lane], lane: u32)
-    ensures { lanes.new ≡ with_lane closed lane lanes.old }
+    ensures { lanes.new ≡ with_lane without_innermost lane lanes.old }
 {
     if lane == 0 || lane as usize > lanes.len() {
         return;
@@ -174,7 +175,7 @@ fn waiter_at(openings: &[Opening], lane: u32, call: u32) -> Option<Waiter>
 
 /// Who waits for a call, where somebody does.
 pub(crate) fn waiter_among(lanes: &[Lane], call: u32) -> Option<Waiter>
-    requires { length lanes.now < 2 ^ 31 }
+    requires { length lanes.now ≤ 64 }
     ensures { result ≡ waiter_in 1 lanes.now call }
 {
     let mut rest = lanes;

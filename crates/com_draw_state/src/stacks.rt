@@ -13,7 +13,7 @@ pub struct Start {
     /// The section, from 1, or 0 for what was there before.
     pub section: u64,
     /// The row of the section, from 0.
-    pub row: u64,
+    pub row: u32,
 }
 
 /// How a call is waited for.
@@ -66,6 +66,7 @@ pub struct Openings {
 
 impl Model for Openings {
     ghost use Rattle.std.specs.Prelude.{List, ◌<◌, ◌^◌, length};
+    ghost use Rattle.com_draw_state.specs.declared.stacks.Opening.{Opening};
 
     ghost Value = { List Opening };
 

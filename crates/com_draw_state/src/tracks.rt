@@ -32,6 +32,7 @@ pub struct Tracks {
 
 impl Model for Tracks {
     ghost use Rattle.std.specs.Prelude.{List, Option, ◌≤◌, length};
+    ghost use Rattle.com_draw_state.specs.declared.tracks.Track.{Track};
 
     ghost Value = { List (Option Track) };
 
@@ -60,7 +61,8 @@ impl Tracks {
 
     /// The number of the track of an object, from 0.
     pub fn track_of(&self, object: u32) -> Option<u32>
-        ensures { result ≡ track_of 0 object self.now }
+        ensures value { result ≡ track_of 0 object self.now }
+        ensures few { IfSome result (λ number. number < 16) }
     {
         find(self.tracks.as_slice(), object)
     }
@@ -158,7 +160,8 @@ pub fn is_live_in(track: &Option<Track>, apartment: u32) -> bool
 /// The number of the track of an object among these, which are counted from 0.
 fn find(tracks: &[Option<Track>], object: u32) -> Option<u32>
     requires { length tracks.now ≤ 16 }
-    ensures { result ≡ track_of 0 object tracks.now }
+    ensures value { result ≡ track_of 0 object tracks.now }
+    ensures few { IfSome result (λ number. number < 16) }
 {
     let mut rest = tracks;
     let mut number = 0u32;
@@ -242,7 +245,7 @@ fn freed(track: Option<Track>, object: u32) -> Option<Track>
     }
 }
 
-#[tactic(auto, using(crate::proofs::Mapped::mapped_next, crate::proofs::Mapped::mapped_none, crate::proofs::Mapped::mapped_all))]
+#[tactic(auto, using(crate::proofs::Mapped::mapped_none))]
 fn cut_object(tracks: &mut [Option<Track>], object: u32, start: Start)
     ensures { tracks.new ≡ map (cut_of_object object start) tracks.old }
 {
@@ -253,7 +256,7 @@ fn cut_object(tracks: &mut [Option<Track>], object: u32, start: Start)
     }
 }
 
-#[tactic(auto, using(crate::proofs::Mapped::mapped_next, crate::proofs::Mapped::mapped_none, crate::proofs::Mapped::mapped_all))]
+#[tactic(auto, using(crate::proofs::Mapped::mapped_none))]
 fn cut_apartment(tracks: &mut [Option<Track>], apartment: u32, start: Start)
     ensures { tracks.new ≡ map (cut_of_apartment apartment start) tracks.old }
 {
@@ -264,7 +267,7 @@ fn cut_apartment(tracks: &mut [Option<Track>], apartment: u32, start: Start)
     }
 }
 
-#[tactic(auto, using(crate::proofs::Mapped::mapped_next, crate::proofs::Mapped::mapped_none, crate::proofs::Mapped::mapped_all))]
+#[tactic(auto, using(crate::proofs::Mapped::mapped_none))]
 fn free(tracks: &mut [Option<Track>], object: u32)
     ensures { tracks.new ≡ map (freed object) tracks.old }
 {
