@@ -1,6 +1,6 @@
 -- What stands behind the entries: the gap, why the history is stuck, the last section's end, and what the whole
 -- was.
-use Rattle.std.specs.Prelude.{ℕ, ◌+◌, ◌-◌, ◌==◌, nat_le, if◌then◌else◌, List, [], ◌∷◌, ◌++◌, length}
+use Rattle.std.specs.Prelude.{ℕ, ◌+◌, ◌-◌, ◌==◌, ◌&&◌, nat_le, if◌then◌else◌, List, [], ◌∷◌, ◌++◌, length}
 use Rattle.com_model.specs.declared.counts.Counts.{Counts}
 use Rattle.com_model.specs.declared.counts.Ended.{Ended}
 use Rattle.com_model.specs.Text.{report_text}
@@ -53,8 +53,7 @@ reason_items [] = []
 reason_items (w ∷ ws) = reason_item w ++ reason_items ws
 
 unfoldable pub ring_item : (cycle : List ℕ) → List ℕ
-ring_item [] = []
-ring_item (l ∷ ls) = item_front_text ++ ring_text (l ∷ ls) ++ item_end_text
+ring_item cycle = if length cycle == 0 then [] else item_front_text ++ ring_text cycle ++ item_end_text
 
 unfoldable pub event_item : Delivery → List ℕ
 event_item d = item_front_text ++ event_text d.call d.cookies ++ item_end_text
@@ -69,9 +68,7 @@ items_text ws cycle ds =
 
 -- The reasons and the events, where there are some.
 unfoldable pub list_text : List Wait → (cycle : List ℕ) → List Delivery → List ℕ
-list_text [] cycle [] = []
-list_text [] cycle (d ∷ ds) = items_text [] cycle (d ∷ ds)
-list_text (w ∷ ws) cycle ds = items_text (w ∷ ws) cycle ds
+list_text ws cycle ds = if length ws == 0 && length ds == 0 then [] else items_text ws cycle ds
 
 unfoldable pub styles_text : State → List Delivery → List ℕ
 styles_text b ds = drawing_end_text ++ widths_text b ++ event_styles ds ++ styles_end_text

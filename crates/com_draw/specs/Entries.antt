@@ -15,7 +15,7 @@ use Rattle.com_draw_stories.specs.declared.contexts.Caller.{Caller}
 use Rattle.com_draw_stories.specs.declared.contexts.Context.{Context}
 use Rattle.com_draw_stories.specs.Labels.{label}
 use Rattle.com_draw_stories.specs.Looks.{call_of, has_label, look, mark_of}
-use Rattle.com_draw_stories.specs.Stories.{story}
+use Rattle.com_draw_stories.specs.Calls.{story}
 use Rattle.com_draw_shapes.specs.declared.effects.Opens.{Opens}
 use Rattle.com_draw_shapes.specs.declared.effects.Opens.TheVariants as open
 use Rattle.com_draw_shapes.specs.Arrows.{pointing_text, touched_text}

@@ -59,7 +59,7 @@ fn words_of(
     ensures { IfOk result (λ words. words ≡ label scenario.now context entry.now) }
 {
     let mut words = ByteList::new(alloc);
-    push_label_words(alloc, &mut words, scenario, context, entry)?;
+    push_label_words(&mut words, scenario, context, entry)?;
     Ok(words)
 }
 
