@@ -17,7 +17,7 @@ use Rattle.com_draw_stories.specs.Labels.{label}
 use Rattle.com_draw_stories.specs.Looks.{call_of, has_label, look, mark_of}
 use Rattle.com_draw_stories.specs.Calls.{story}
 use Rattle.com_draw_shapes.specs.declared.effects.Opens.{Opens}
-use Rattle.com_draw_shapes.specs.declared.effects.Opens.TheVariants as open
+use Rattle.com_draw_shapes.specs.declared.effects.Opens.TheVariants as opens
 use Rattle.com_draw_shapes.specs.Arrows.{pointing_text, touched_text}
 use Rattle.com_draw_shapes.specs.Boxes.{closing_boxes}
 use Rattle.com_draw_shapes.specs.Changes.{changed, own_home}
@@ -40,10 +40,10 @@ caller_of (Some w) = Some (record { lane = w.lane; iface = w.iface; method = w.m
 
 -- By how much an entry makes its lane deeper.
 abbrev pub rise : Opens → ℕ
-rise open.Nothing = 0
-rise (open.Home a) = 0
-rise (open.Life o a) = 0
-rise (open.Level w) = 1
+rise opens.Nothing = 0
+rise (opens.Home a) = 0
+rise (opens.Life o a) = 0
+rise (opens.Level w) = 1
 
 -- The words of an entry stand at the greater of the depths of its lane before it and after it.
 unfoldable pub seen : State → Entry → Seen

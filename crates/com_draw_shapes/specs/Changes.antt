@@ -7,7 +7,7 @@ use Rattle.com_draw_state.specs.Board.{State, with_lanes, with_tracks}
 use Rattle.com_draw_state.specs.Lanes.{acted, homed, lane_at, with_lane, with_opening, without_innermost}
 use Rattle.com_draw_state.specs.Tracks.{cut_of_apartment, cut_of_object, freed, taken}
 use Rattle.com_draw_shapes.specs.declared.effects.Opens.{Opens}
-use Rattle.com_draw_shapes.specs.declared.effects.Opens.TheVariants as open
+use Rattle.com_draw_shapes.specs.declared.effects.Opens.TheVariants as opens
 use Rattle.com_draw_shapes.specs.declared.effects.Closing.{Closing}
 use Rattle.com_draw_shapes.specs.declared.effects.Closing.TheVariants as close
 use Rattle.com_draw_shapes.specs.Effects.{closed_by, opened_by}
@@ -15,12 +15,12 @@ use Rattle.com_draw_shapes.specs.Places.{below}
 
 -- What opens in a lane begins here.
 abbrev pub opened_on : Start → (lane : ℕ) → Opens → State → State
-opened_on here l open.Nothing b = b
-opened_on here l (open.Home a) b =
+opened_on here l opens.Nothing b = b
+opened_on here l (opens.Home a) b =
     with_lanes (with_lane (homed (Some (record { apartment = a; start = here }))) l b.lanes) b
-opened_on here l (open.Life o a) b =
+opened_on here l (opens.Life o a) b =
     with_tracks (taken (record { object = o; apartment = a; is_live = true; start = here }) b.tracks) b
-opened_on here l (open.Level w) b =
+opened_on here l (opens.Level w) b =
     with_lanes (with_lane (with_opening (record { what = w; start = here })) l b.lanes) b
 
 -- A lane leaves its home, and with an STA that a thread made the objects of that are cut off: from the next row

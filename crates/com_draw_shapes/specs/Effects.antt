@@ -12,7 +12,7 @@ use Rattle.com_draw_state.specs.declared.stacks.Manner.{Manner}
 use Rattle.com_draw_state.specs.declared.stacks.Manner.TheVariants as manner
 use Rattle.com_draw_state.specs.declared.stacks.Opened.TheVariants as what
 use Rattle.com_draw_shapes.specs.declared.effects.Opens.{Opens}
-use Rattle.com_draw_shapes.specs.declared.effects.Opens.TheVariants as open
+use Rattle.com_draw_shapes.specs.declared.effects.Opens.TheVariants as opens
 use Rattle.com_draw_shapes.specs.declared.effects.Closing.{Closing}
 use Rattle.com_draw_shapes.specs.declared.effects.Closing.TheVariants as close
 use Rattle.com_draw_shapes.specs.declared.effects.Points.{Points}
@@ -21,10 +21,10 @@ use Rattle.com_draw_shapes.specs.declared.effects.Points.TheVariants as point
 -- ---- what opens
 
 abbrev pub opens_home : (has_home : Bool) → (home : ℕ) → HResult → Opens
-opens_home has_home a hr = if has_home || is_failure hr then open.Nothing else open.Home a
+opens_home has_home a hr = if has_home || is_failure hr then opens.Nothing else opens.Home a
 
 abbrev pub opens_life : (object apartment : ℕ) → HResult → Opens
-opens_life o a hr = if is_failure hr then open.Nothing else open.Life o a
+opens_life o a hr = if is_failure hr then opens.Nothing else opens.Life o a
 
 abbrev pub manner_of : Route → Manner
 manner_of route.Refused = manner.Refused
@@ -35,11 +35,11 @@ manner_of _ = manner.Within
 abbrev pub opened_by : (has_home : Bool) → Deed → Opens
 opened_by has_home (deed.Init mode home hr) = opens_home has_home home hr
 opened_by has_home (deed.Made (Some o) (Some a) class iface hr) = opens_life o a hr
-opened_by has_home (deed.Pump bound) = open.Level what.Pumps
+opened_by has_home (deed.Pump bound) = opens.Level what.Pumps
 opened_by has_home (deed.Out call object iface method r cause bytes) =
-    open.Level (what.Waits call (manner_of r) iface method)
-opened_by has_home (deed.Enter call object apartment call_type values) = open.Level (what.Runs call apartment)
-opened_by has_home _ = open.Nothing
+    opens.Level (what.Waits call (manner_of r) iface method)
+opened_by has_home (deed.Enter call object apartment call_type values) = opens.Level (what.Runs call apartment)
+opened_by has_home _ = opens.Nothing
 
 -- ---- what closes
 
