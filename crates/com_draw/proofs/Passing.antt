@@ -46,3 +46,12 @@ page_of s es x before begun now last p eb ep en el =
     ∙ append_assoc before (written s []) (text_of s es (drawn s [])) ∙ ap (λ (t : List ℕ). before ++ t) (wrote s es))
     ∙ append_assoc before (written s (reverse es)) (end_text p x)
     ∙ ap (λ (q : Picture). before ++ (written s (reverse es) ++ end_text q x)) (ep ∙ passed s es)
+
+-- the same where the entries that are left are none
+pub page_ends : (s : Scenario) (es rest : List Entry) (x : Beside) (before begun now last : List ℕ) (p : Picture)
+    → begun ≡ before ++ written s [] → rest ≡ [] → goes_on s rest p ≡ goes_on s es (drawn s [])
+    → now ++ text_of s rest p ≡ begun ++ text_of s es (drawn s []) → last ≡ now ++ end_text p x
+    → last ≡ before ++ page s (reverse es) x
+page_ends s es [] x before begun now last p eb er ep en el =
+    page_of s es x before begun now last p eb ep (sym (append-nil now) ∙ en) el
+page_ends s es (e ∷ rest) x before begun now last p eb er ep en el = cc
