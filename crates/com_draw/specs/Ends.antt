@@ -62,25 +62,35 @@ abbrev pub event_items : List Delivery → List ℕ
 event_items [] = []
 event_items (d ∷ ds) = event_item d ++ event_items ds
 
+unfoldable pub all_items : List Wait → (cycle : List ℕ) → List Delivery → List ℕ
+all_items ws cycle ds = reason_items ws ++ ring_item cycle ++ event_items ds
+
 unfoldable pub items_text : List Wait → (cycle : List ℕ) → List Delivery → List ℕ
-items_text ws cycle ds =
-    list_front_text ++ reason_items ws ++ ring_item cycle ++ event_items ds ++ list_end_text
+items_text ws cycle ds = list_front_text ++ all_items ws cycle ds ++ list_end_text
 
 -- The reasons and the events, where there are some.
 unfoldable pub list_text : List Wait → (cycle : List ℕ) → List Delivery → List ℕ
 list_text ws cycle ds = if length ws == 0 && length ds == 0 then [] else items_text ws cycle ds
 
+unfoldable pub last_styles : State → List Delivery → List ℕ
+last_styles b ds = widths_text b ++ event_styles ds
+
 unfoldable pub styles_text : State → List Delivery → List ℕ
-styles_text b ds = drawing_end_text ++ widths_text b ++ event_styles ds ++ styles_end_text
+styles_text b ds = drawing_end_text ++ last_styles b ds ++ styles_end_text
 
 unfoldable pub report_part : List Counts → (entries clock : ℕ) → Ended → List ℕ
-report_part counts n clock ended =
-    report_front_text ++ report_text counts n clock ended ++ report_end_text ++ tail_text
+report_part counts n clock ended = report_front_text ++ report_text counts n clock ended ++ report_end_text
+
+-- How it ended, why it is stuck, and the events.
+unfoldable pub told_text : (entries : ℕ) → Beside → List ℕ
+told_text n x =
+    summary_text x.ended n x.clock ++ list_text (waits_in x.waits) (cycle_in x.waits) x.events
+
+unfoldable pub said_text : (entries : ℕ) → Beside → List ℕ
+said_text n x = told_text n x ++ report_part x.counts n x.clock x.ended
 
 unfoldable pub footer_text : (entries : ℕ) → State → Beside → List ℕ
-footer_text n b x =
-    styles_text b x.events ++ summary_text x.ended n x.clock
-    ++ list_text (waits_in x.waits) (cycle_in x.waits) x.events ++ report_part x.counts n x.clock x.ended
+footer_text n b x = styles_text b x.events ++ said_text n x ++ tail_text
 
 -- All that stands behind the entries.
 unfoldable pub end_text : Picture → Beside → List ℕ

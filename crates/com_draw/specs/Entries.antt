@@ -78,11 +78,14 @@ entry_marks n b v e =
     pointing_text (points_of e.deed) e.lane v.depth v.waiter b ++ touched_text (touched_by e.deed) b
     ++ closing_boxes (start_of n) e.lane (closed_by e.deed) b
 
+-- All that is drawn of it.
+unfoldable pub entry_drawing : Scenario → (place : ℕ) → State → Seen → Entry → List ℕ
+entry_drawing s n b v e =
+    entry_label v.level (label s v.context e) e ++ entry_marks n b v e ++ row_end_text
+
 -- The row of an entry, before which a section may end and another begin.
 unfoldable pub entry_row : Scenario → (place : ℕ) → State → Seen → Entry → List ℕ
-entry_row s n b v e =
-    row_begins n b ++ entry_lead s n v.context e ++ entry_label v.level (label s v.context e) e
-    ++ entry_marks n b v e ++ row_end_text
+entry_row s n b v e = row_begins n b ++ entry_lead s n v.context e ++ entry_drawing s n b v e
 
 -- Each entry up to the limit has a row. Before the first one behind it the section ends.
 abbrev pub entry_at : Scenario → (place : ℕ) → State → Seen → Entry → List ℕ

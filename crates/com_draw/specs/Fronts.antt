@@ -19,15 +19,20 @@ abbrev pub names_of : LaneKind → (lane count : ℕ) → List ℕ
 names_of k l zero = []
 names_of k l (suc n) = lane_name_text l k ++ names_of k (l + 1) n
 
--- The styles, with the width of each lane and of the objects' lane, for a number of these.
+-- The width of each lane and of the objects' lane, for a number of these, and that of all.
+unfoldable pub front_widths : (count : ℕ) → List ℕ
+front_widths m = first_widths 1 m ++ main_width_text (m * FULL)
+
 unfoldable pub front_styles : (count : ℕ) → List ℕ
-front_styles m = head_text ++ first_widths 1 m ++ main_width_text (m * FULL) ++ body_text
+front_styles m = head_text ++ front_widths m ++ body_text
 
 -- The names of the threads' lanes, of the host's, of the pool's, and of the objects.
-unfoldable pub front_names : (threads pool : ℕ) → List ℕ
-front_names t p =
+unfoldable pub lane_names : (threads pool : ℕ) → List ℕ
+lane_names t p =
     names_of lane.Thread 1 t ++ lane_name_text (t + 1) lane.Host ++ names_of lane.Pool (t + 2) p
-    ++ objects_name_text (t + 1 + p + 1)
+
+unfoldable pub front_names : (threads pool : ℕ) → List ℕ
+front_names t p = lane_names t p ++ objects_name_text (t + 1 + p + 1)
 
 unfoldable pub front : Scenario → List ℕ
 front s = front_styles (threads s + 1 + s.pool + 1) ++ front_names (threads s) s.pool

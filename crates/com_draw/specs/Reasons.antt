@@ -70,11 +70,14 @@ unfoldable pub reason_label : (cycle : List ℕ) → State → Wait → List ℕ
 reason_label cycle b w =
     label_text w.lane (depth_in b w.lane) (reason_look (is_member w.lane cycle)) (reason_words w.why)
 
+-- All that is drawn of it.
+unfoldable pub reason_drawing : (cycle : List ℕ) → State → Wait → List ℕ
+reason_drawing cycle b w =
+    reason_label cycle b w ++ reason_arrow cycle b w.lane w.why ++ row_end_text
+
 -- The row of a lane that waits, before which a section may end and another begin.
 unfoldable pub reason_row : (row : ℕ) → (cycle : List ℕ) → State → Wait → List ℕ
-reason_row m cycle b w =
-    row_begins m b ++ reason_lead cycle w ++ reason_label cycle b w ++ reason_arrow cycle b w.lane w.why
-    ++ row_end_text
+reason_row m cycle b w = row_begins m b ++ reason_lead cycle w ++ reason_drawing cycle b w
 
 -- The rows of lanes that wait, of which the first is this row of the page.
 abbrev pub reason_rows : (row : ℕ) → (cycle : List ℕ) → State → List Wait → List ℕ

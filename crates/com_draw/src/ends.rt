@@ -1,8 +1,8 @@
 //! What stands behind the entries of a page.
 ghost use Rattle.std.specs.Prelude.{◌≡◌, ◌+◌, ◌<◌, ◌≤◌, ◌^◌, ◌++◌, OnOk, length};
-ghost use Rattle.com_draw.specs.Ends.{event_item, event_items, event_styles, footer_text, gap_row, items_text};
-ghost use Rattle.com_draw.specs.Ends.{last_back, last_rows, list_text, reason_item, reason_items, report_part};
-ghost use Rattle.com_draw.specs.Ends.{ring_item, rows_of, styles_text};
+ghost use Rattle.com_draw.specs.Ends.{all_items, event_item, event_items, event_styles, footer_text, gap_row};
+ghost use Rattle.com_draw.specs.Ends.{items_text, last_back, last_rows, last_styles, list_text, reason_item};
+ghost use Rattle.com_draw.specs.Ends.{reason_items, report_part, ring_item, rows_of, said_text, styles_text, told_text};
 ghost use Rattle.com_draw.specs.Reasons.{cycle_in, waits_in};
 
 use crate::beside::Beside;
@@ -154,6 +154,20 @@ fn push_event_items(out: &mut ByteList, events: &[Delivery]) -> Result<(), Memor
     Ok(())
 }
 
+#[tactic(auto, unfolding(crate::specs::Ends::all_items))]
+fn push_all_items(
+    out: &mut ByteList,
+    waits: &[Wait],
+    cycle: &[u32],
+    events: &[Delivery],
+) -> Result<(), Memory>
+    ensures { OnOk result (out.new ≡ out.old ++ all_items waits.now cycle.now events.now) }
+{
+    push_reason_items(out, waits)?;
+    push_ring_item(out, cycle)?;
+    push_event_items(out, events)
+}
+
 #[tactic(auto, unfolding(crate::specs::Ends::items_text))]
 fn push_items(
     out: &mut ByteList,
@@ -164,9 +178,7 @@ fn push_items(
     ensures { OnOk result (out.new ≡ out.old ++ items_text waits.now cycle.now events.now) }
 {
     push_list_front(out)?;
-    push_reason_items(out, waits)?;
-    push_ring_item(out, cycle)?;
-    push_event_items(out, events)?;
+    push_all_items(out, waits, cycle, events)?;
     push_list_end(out)
 }
 
@@ -186,13 +198,20 @@ fn push_list(
     push_items(out, waits, cycle, events)
 }
 
+#[tactic(auto, unfolding(crate::specs::Ends::last_styles))]
+fn push_last_styles(out: &mut ByteList, board: &Board, events: &[Delivery]) -> Result<(), Memory>
+    ensures { OnOk result (out.new ≡ out.old ++ last_styles board.now events.now) }
+{
+    push_widths(out, board)?;
+    push_event_styles(out, events)
+}
+
 #[tactic(auto, unfolding(crate::specs::Ends::styles_text))]
 fn push_styles(out: &mut ByteList, board: &Board, events: &[Delivery]) -> Result<(), Memory>
     ensures { OnOk result (out.new ≡ out.old ++ styles_text board.now events.now) }
 {
     push_drawing_end(out)?;
-    push_widths(out, board)?;
-    push_event_styles(out, events)?;
+    push_last_styles(out, board, events)?;
     push_styles_end(out)
 }
 
@@ -209,8 +228,36 @@ fn push_report_part(
 {
     push_report_front(out)?;
     report(alloc, counts, entries, clock, ended, out)?;
-    push_report_end(out)?;
-    push_tail(out)
+    push_report_end(out)
+}
+
+// Appends how the history ended, why it is stuck, and the events.
+#[tactic(auto, unfolding(crate::specs::Ends::told_text))]
+fn push_told(out: &mut ByteList, entries: u64, beside: &Beside) -> Result<(), Memory>
+    ensures { OnOk result (out.new ≡ out.old ++ told_text entries beside.now) }
+{
+    push_summary(out, beside.ended, entries, beside.clock)?;
+    push_list(
+        out,
+        waits_in(&beside.waits),
+        cycle_in(&beside.waits),
+        beside.events.as_slice(),
+    )
+}
+
+#[tactic(auto, unfolding(crate::specs::Ends::said_text))]
+fn push_said(alloc: Global, out: &mut ByteList, entries: u64, beside: &Beside) -> Result<(), Memory>
+    ensures { OnOk result (out.new ≡ out.old ++ said_text entries beside.now) }
+{
+    push_told(out, entries, beside)?;
+    push_report_part(
+        alloc,
+        out,
+        beside.counts.as_slice(),
+        entries,
+        beside.clock,
+        beside.ended,
+    )
 }
 
 /// Appends what stands behind the drawing: the second widths, how the history ended, why it is stuck, the events
@@ -226,19 +273,6 @@ pub(crate) fn push_footer(
     ensures { OnOk result (out.new ≡ out.old ++ footer_text entries board.now beside.now) }
 {
     push_styles(out, board, beside.events.as_slice())?;
-    push_summary(out, beside.ended, entries, beside.clock)?;
-    push_list(
-        out,
-        waits_in(&beside.waits),
-        cycle_in(&beside.waits),
-        beside.events.as_slice(),
-    )?;
-    push_report_part(
-        alloc,
-        out,
-        beside.counts.as_slice(),
-        entries,
-        beside.clock,
-        beside.ended,
-    )
+    push_said(alloc, out, entries, beside)?;
+    push_tail(out)
 }

@@ -1,8 +1,8 @@
 //! The row of an entry.
 ghost use Rattle.std.specs.Prelude.{◌≡◌, ◌+◌, ◌<◌, ◌≤◌, ◌^◌, ◌++◌, IfOk, OnOk};
 ghost use Rattle.com_draw_stories.specs.Labels.{label};
-ghost use Rattle.com_draw.specs.Entries.{caller_of, entry_at, entry_label, entry_lead, entry_marks, entry_row};
-ghost use Rattle.com_draw.specs.Entries.{rise, seen, title_of, waiter_of};
+ghost use Rattle.com_draw.specs.Entries.{caller_of, entry_at, entry_drawing, entry_label, entry_lead, entry_marks};
+ghost use Rattle.com_draw.specs.Entries.{entry_row, rise, seen, title_of, waiter_of};
 
 use com_base::{ByteList, Memory};
 use com_draw_shapes::{Opens, begin_row, close_section, closed_by, has_home, opened_by, points_of};
@@ -172,6 +172,20 @@ pub(crate) struct Told<'a> {
     pub words: &'a [u8],
 }
 
+// Appends all that is drawn of an entry.
+#[tactic(auto, unfolding(crate::specs::Entries::entry_drawing))]
+fn push_drawing(told: &Told<'_>, board: &Board, seen: &Seen, out: &mut ByteList) -> Result<(), Memory>
+    requires place { 1 ≤ told.now.place }
+    requires depth { seen.now.depth < 2 ^ 31 }
+    requires words { told.now.words.now ≡ label told.now.scenario.now seen.now.context told.now.entry.now }
+    ensures { OnOk result (out.new ≡ out.old
+        ++ entry_drawing told.now.scenario.now told.now.place board.now seen.now told.now.entry.now) }
+{
+    push_entry_label(out, seen.level, told.words, told.entry)?;
+    push_marks(out, told.place, board, seen, told.entry)?;
+    push_row_end(out)
+}
+
 // Appends the row of an entry, before which a section may end and another begin.
 #[tactic(auto, unfolding(crate::specs::Entries::entry_row))]
 fn push_row(
@@ -189,9 +203,7 @@ fn push_row(
 {
     begin_row(out, told.place, board)?;
     push_lead(alloc, told.scenario, told.place, seen.context, told.entry, out)?;
-    push_entry_label(out, seen.level, told.words, told.entry)?;
-    push_marks(out, told.place, board, seen, told.entry)?;
-    push_row_end(out)
+    push_drawing(told, board, seen, out)
 }
 
 /// Appends what stands of an entry in the page: a row for each up to the limit, and before the first one behind

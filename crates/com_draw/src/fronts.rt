@@ -1,6 +1,6 @@
 //! What stands before the first row of a page.
 ghost use Rattle.std.specs.Prelude.{◌≡◌, ◌+◌, ◌<◌, ◌≤◌, ◌++◌, OnOk};
-ghost use Rattle.com_draw.specs.Fronts.{first_widths, front_names, front_styles, names_of};
+ghost use Rattle.com_draw.specs.Fronts.{first_widths, front_names, front_styles, front_widths, lane_names, names_of};
 
 use com_base::{ByteList, Memory};
 use com_draw_words::{FULL, LaneKind, push_body, push_head, push_lane_name, push_lane_widths};
@@ -39,6 +39,15 @@ fn push_names(out: &mut ByteList, kind: LaneKind, first: u32, count: u32) -> Res
     Ok(())
 }
 
+#[tactic(auto, unfolding(crate::specs::Fronts::front_widths))]
+fn push_front_widths(out: &mut ByteList, count: u32) -> Result<(), Memory>
+    requires { count ≤ 66 }
+    ensures { OnOk result (out.new ≡ out.old ++ front_widths count) }
+{
+    push_first_widths(out, count)?;
+    push_main_width(out, count * FULL)
+}
+
 /// Appends the styles of a page with the first widths of so many lanes, up to the names of these.
 #[tactic(auto, unfolding(crate::specs::Fronts::front_styles))]
 pub(crate) fn push_front_styles(out: &mut ByteList, count: u32) -> Result<(), Memory>
@@ -46,9 +55,18 @@ pub(crate) fn push_front_styles(out: &mut ByteList, count: u32) -> Result<(), Me
     ensures { OnOk result (out.new ≡ out.old ++ front_styles count) }
 {
     push_head(out)?;
-    push_first_widths(out, count)?;
-    push_main_width(out, count * FULL)?;
+    push_front_widths(out, count)?;
     push_body(out)
+}
+
+#[tactic(auto, unfolding(crate::specs::Fronts::lane_names))]
+fn push_lane_names(out: &mut ByteList, threads: u32, pool: u32) -> Result<(), Memory>
+    requires { threads + pool < 64 }
+    ensures { OnOk result (out.new ≡ out.old ++ lane_names threads pool) }
+{
+    push_names(out, LaneKind::Thread, 1, threads)?;
+    push_lane_name(out, threads + 1, LaneKind::Host)?;
+    push_names(out, LaneKind::Pool, threads + 2, pool)
 }
 
 /// Appends the names of the lanes of so many threads, of the host's, of the pool's, and of the objects.
@@ -57,8 +75,6 @@ pub(crate) fn push_front_names(out: &mut ByteList, threads: u32, pool: u32) -> R
     requires { threads + pool < 64 }
     ensures { OnOk result (out.new ≡ out.old ++ front_names threads pool) }
 {
-    push_names(out, LaneKind::Thread, 1, threads)?;
-    push_lane_name(out, threads + 1, LaneKind::Host)?;
-    push_names(out, LaneKind::Pool, threads + 2, pool)?;
+    push_lane_names(out, threads, pool)?;
     push_objects_name(out, threads + 1 + pool + 1)
 }

@@ -1,8 +1,8 @@
 //! Why a history is stuck: a row for each lane that waits.
 ghost use Rattle.std.specs.Prelude.{◌≡◌, ◌+◌, ◌<◌, ◌≤◌, ◌^◌, ◌++◌, IfOk, OnOk, length};
-ghost use Rattle.com_draw.specs.Reasons.{all_labelled, arrow_to, reason_arrow, reason_label, reason_labelled};
-ghost use Rattle.com_draw.specs.Reasons.{reason_lead, reason_look, reason_row, reason_rows, reason_story};
-ghost use Rattle.com_draw.specs.Reasons.{reason_words, ring_kind};
+ghost use Rattle.com_draw.specs.Reasons.{all_labelled, arrow_to, reason_arrow, reason_drawing, reason_label};
+ghost use Rattle.com_draw.specs.Reasons.{reason_labelled, reason_lead, reason_look, reason_row, reason_rows};
+ghost use Rattle.com_draw.specs.Reasons.{reason_story, reason_words, ring_kind};
 
 use com_base::{ByteList, Memory};
 use com_draw_shapes::{begin_row, is_in_cycle};
@@ -124,6 +124,22 @@ fn push_reason_label(
     push_label(out, wait.lane, board.depth(wait.lane), look, words.as_slice())
 }
 
+// Appends all that is drawn of a lane that waits.
+#[tactic(auto, unfolding(crate::specs::Reasons::reason_drawing))]
+fn push_drawing(
+    alloc: Global,
+    out: &mut ByteList,
+    cycle: &[u32],
+    board: &Board,
+    wait: Wait,
+) -> Result<(), Memory>
+    ensures { OnOk result (out.new ≡ out.old ++ reason_drawing cycle.now board.now wait) }
+{
+    push_reason_label(alloc, out, cycle, board, wait)?;
+    push_arrow_of(out, cycle, board, wait.lane, wait.why)?;
+    push_row_end(out)
+}
+
 // Appends the row of a lane that waits, before which a section may end and another begin.
 #[tactic(auto, unfolding(crate::specs::Reasons::reason_row))]
 fn push_row(
@@ -139,9 +155,7 @@ fn push_row(
 {
     begin_row(out, row, board)?;
     push_lead(out, cycle, wait)?;
-    push_reason_label(alloc, out, cycle, board, wait)?;
-    push_arrow_of(out, cycle, board, wait.lane, wait.why)?;
-    push_row_end(out)
+    push_drawing(alloc, out, cycle, board, wait)
 }
 
 /// Appends the rows of lanes that wait, of which the first is this row of the page.

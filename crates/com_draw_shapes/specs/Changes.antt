@@ -32,11 +32,15 @@ left_on here l a b =
     (with_lanes (with_lane (homed None) l b.lanes) b)
     else with_lanes (with_lane (homed None) l b.lanes) b
 
+-- An object is cut off: from the next row on it is drawn so.
+abbrev pub cut_on : Start → (object : ℕ) → State → State
+cut_on here o b = with_tracks (map (cut_of_object o (below here)) b.tracks) b
+
 abbrev pub closed_on : Start → (lane : ℕ) → Closing → State → State
 closed_on here l close.Nothing b = b
 closed_on here l (close.Home a) b = left_on here l a b
 closed_on here l close.Innermost b = with_lanes (with_lane without_innermost l b.lanes) b
-closed_on here l (close.Cut o) b = with_tracks (map (cut_of_object o (below here)) b.tracks) b
+closed_on here l (close.Cut o) b = cut_on here o b
 closed_on here l (close.Life o) b = with_tracks (map (freed o) b.tracks) b
 
 abbrev pub own_home : Option Lane → Bool

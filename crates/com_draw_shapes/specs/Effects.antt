@@ -1,6 +1,6 @@
 -- What an entry opens, closes, points at and touches: each by an effect of its own. An entry that a definition
 -- does not name does nothing to what it speaks of.
-use Rattle.std.specs.Prelude.{ℕ, zero, suc, ◌^◌, ℤ, pos, negsuc, Bool, ◌||◌, nat_lt, if◌then◌else◌, Option, Some, None}
+use Rattle.std.specs.Prelude.{ℕ, ◌^◌, ℤ, pos, negsuc, Bool, ◌||◌, ◌==◌, nat_lt, if◌then◌else◌, Option, Some, None}
 use Rattle.com_base.specs.declared.hresult.HResult.{HResult}
 use Rattle.com_base.specs.declared.value.RefValue.{RefValue}
 use Rattle.com_model.specs.declared.deeds.Deed.{Deed}
@@ -44,8 +44,7 @@ opened_by has_home _ = opens.Nothing
 -- ---- what closes
 
 abbrev pub closes_home : (apartment count : ℕ) → Closing
-closes_home a zero = close.Home a
-closes_home a (suc n) = close.Nothing
+closes_home a count = if count == 0 then close.Home a else close.Nothing
 
 abbrev pub closes_object : (object : ℕ) → HResult → Closing
 closes_object o hr = if is_failure hr then close.Nothing else close.Cut o

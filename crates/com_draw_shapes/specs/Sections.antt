@@ -35,11 +35,14 @@ abbrev pub lanes_boxes : Start → (cycle : List ℕ) → (lane : ℕ) → List 
 lanes_boxes here cycle l [] = []
 lanes_boxes here cycle l (row ∷ rows) = lane_boxes here cycle l row ++ lanes_boxes here cycle (l + 1) rows
 
--- The end of a section, whose last row is here: the boxes of all that goes on below it.
+-- The boxes of all that goes on below the section: those of lanes, and those of objects.
+unfoldable pub boxes_below : Start → (cycle : List ℕ) → State → List ℕ
+boxes_below here cycle b =
+    lanes_boxes here cycle 1 b.lanes ++ track_boxes here (objects_lane b) foot.Down chosen.All 0 b.tracks
+
+-- The end of a section, whose last row is here.
 unfoldable pub back_of_section : Start → (cycle : List ℕ) → State → List ℕ
-back_of_section here cycle b =
-    section_back_text ++ lanes_boxes here cycle 1 b.lanes
-    ++ track_boxes here (objects_lane b) foot.Down chosen.All 0 b.tracks ++ section_end_text
+back_of_section here cycle b = section_back_text ++ boxes_below here cycle b ++ section_end_text
 
 -- What stands before a row of the page: where a section begins with it, the end of the section above, and the
 -- front of this one.

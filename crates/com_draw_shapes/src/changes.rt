@@ -1,6 +1,6 @@
 //! What an entry changes of a picture's board.
 ghost use Rattle.std.specs.Prelude.{◌≡◌, ◌<◌, OnOk};
-ghost use Rattle.com_draw_shapes.specs.Changes.{changed, closed_on, left_on, opened_on, own_home};
+ghost use Rattle.com_draw_shapes.specs.Changes.{changed, closed_on, cut_on, left_on, opened_on, own_home};
 ghost use Rattle.com_draw_state.specs.Lanes.{lane_at};
 
 use crate::effects::{Closing, Opens, closed_by, opened_by};
@@ -44,6 +44,14 @@ fn leave(board: &mut Board, here: Start, lane: u32, apartment: u32)
     board.cut_apartment(apartment, below(here));
 }
 
+/// An object is cut off.
+fn cut(board: &mut Board, here: Start, object: u32)
+    requires { here.row < 40 }
+    ensures { board.new ≡ cut_on here object board.old }
+{
+    board.cut_object(object, below(here));
+}
+
 /// What closes in a lane.
 fn close(board: &mut Board, here: Start, lane: u32, closing: Closing)
     requires { here.row < 40 }
@@ -53,7 +61,7 @@ fn close(board: &mut Board, here: Start, lane: u32, closing: Closing)
         Closing::Nothing => {}
         Closing::Home { apartment } => leave(board, here, lane, apartment),
         Closing::Innermost => board.close(lane),
-        Closing::Cut { object } => board.cut_object(object, below(here)),
+        Closing::Cut { object } => cut(board, here, object),
         Closing::Life { object } => board.free(object),
     }
 }

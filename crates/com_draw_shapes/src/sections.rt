@@ -1,8 +1,7 @@
 //! The fronts and the ends of sections.
 ghost use Rattle.std.specs.Prelude.{◌≡◌, ◌<◌, ◌≤◌, ◌^◌, ◌++◌, [], OnOk, length};
 ghost use Rattle.com_model.specs.Lists.{is_member};
-ghost use Rattle.com_draw_shapes.specs.Boxes.{objects_lane, track_boxes};
-ghost use Rattle.com_draw_shapes.specs.Sections.{back_of_section, columns, foot_in, front_of_section, lane_boxes};
+ghost use Rattle.com_draw_shapes.specs.Sections.{back_of_section, boxes_below, columns, foot_in, front_of_section, lane_boxes};
 ghost use Rattle.com_draw_shapes.specs.Sections.{lanes_boxes, row_begins, row_before};
 
 use crate::boxes::{Chosen, objects_lane, push_home, push_openings, push_tracks};
@@ -104,17 +103,17 @@ pub fn close_section(
     ensures { OnOk result (out.new ≡ out.old ++ back_of_section here cycle.now board.now) }
 {
     push_section_back(out)?;
-    push_lanes(out, here, cycle, board.lanes())?;
-    push_lives(out, here, board)?;
+    push_below(out, here, cycle, board)?;
     push_section_end(out)
 }
 
-/// Appends the boxes of all objects, which go on below the section.
-fn push_lives(out: &mut ByteList, here: Start, board: &Board) -> Result<(), Memory>
+/// Appends the boxes of all that goes on below the section: those of lanes, and those of objects.
+#[tactic(auto, unfolding(crate::specs::Sections::boxes_below))]
+fn push_below(out: &mut ByteList, here: Start, cycle: &[u32], board: &Board) -> Result<(), Memory>
     requires { here.row < 40 }
-    ensures { OnOk result (out.new ≡ out.old
-        ++ track_boxes here (objects_lane board.now) Foot.Down Chosen.All 0 board.now.tracks) }
+    ensures { OnOk result (out.new ≡ out.old ++ boxes_below here cycle.now board.now) }
 {
+    push_lanes(out, here, cycle, board.lanes())?;
     let lane = objects_lane(board);
     push_tracks(out, here, lane, Foot::Down, Chosen::All, board.tracks().as_slice())
 }
