@@ -124,7 +124,12 @@ impl Drawing {
     /// Appends what stands behind the entries of a history that has ended, and ends the page. The only error is
     /// want of memory.
     #[tactic(auto, unfolding(crate::specs::Ends::end_text))]
-    pub fn push_end(&mut self, alloc: Global, beside: &Beside, out: &mut ByteList) -> Result<(), Memory>
+    pub fn push_end(
+        &mut self,
+        alloc: Global,
+        beside: &Beside,
+        out: &mut ByteList,
+    ) -> Result<(), Memory>
         ensures { OnOk result (out.new ≡ out.old ++ end_text self.old beside.now) }
     {
         let waits = waits_in(&beside.waits);

@@ -13,9 +13,10 @@ use com_deliveries::Delivery;
 use com_draw_shapes::{close_section, open_section, row_at};
 use com_draw_state::Board;
 use com_draw_stories::{push_event, push_ring, push_summary};
-use com_draw_words::{LIMIT, push_drawing_end, push_event_style, push_gap, push_item_end, push_item_front};
-use com_draw_words::{push_list_end, push_list_front, push_report_end, push_report_front, push_styles_end};
-use com_draw_words::push_tail;
+use com_draw_words::{
+    LIMIT, push_drawing_end, push_event_style, push_gap, push_item_end, push_item_front,
+    push_list_end, push_list_front, push_report_end, push_report_front, push_styles_end, push_tail,
+};
 use com_model::{Counts, Ended};
 use com_report::report;
 use com_waits::{Wait, Waits};

@@ -5,8 +5,10 @@ ghost use Rattle.com_draw.specs.Entries.{caller_of, entry_at, entry_drawing, ent
 ghost use Rattle.com_draw.specs.Entries.{entry_row, rise, seen, title_of, waiter_of};
 
 use com_base::{ByteList, Memory};
-use com_draw_shapes::{Opens, begin_row, close_section, closed_by, has_home, opened_by, points_of};
-use com_draw_shapes::{push_closing, push_pointing, push_touched, row_at, start_of, touched_by};
+use com_draw_shapes::{
+    Opens, begin_row, close_section, closed_by, has_home, opened_by, points_of, push_closing,
+    push_pointing, push_touched, row_at, start_of, touched_by,
+};
 use com_draw_state::{Board, Waiter};
 use com_draw_stories::{Caller, Context, call_of, has_label, look, mark_of, push_story};
 use com_draw_words::{LIMIT, push_entry_front, push_label, push_row_end, push_row_middle};
@@ -119,7 +121,12 @@ fn push_lead(
 
 // Appends its label, where it has one.
 #[tactic(auto, unfolding(crate::specs::Entries::entry_label))]
-fn push_entry_label(out: &mut ByteList, level: u32, words: &[u8], entry: &Entry) -> Result<(), Memory>
+fn push_entry_label(
+    out: &mut ByteList,
+    level: u32,
+    words: &[u8],
+    entry: &Entry,
+) -> Result<(), Memory>
     ensures { OnOk result (out.new ≡ out.old ++ entry_label level words.now entry.now) }
 {
     if !has_label(&entry.deed) {
@@ -174,7 +181,12 @@ pub(crate) struct Told<'a> {
 
 // Appends all that is drawn of an entry.
 #[tactic(auto, unfolding(crate::specs::Entries::entry_drawing))]
-fn push_drawing(told: &Told<'_>, board: &Board, seen: &Seen, out: &mut ByteList) -> Result<(), Memory>
+fn push_drawing(
+    told: &Told<'_>,
+    board: &Board,
+    seen: &Seen,
+    out: &mut ByteList,
+) -> Result<(), Memory>
     requires place { 1 ≤ told.now.place }
     requires depth { seen.now.depth < 2 ^ 31 }
     requires words { told.now.words.now ≡ label told.now.scenario.now seen.now.context told.now.entry.now }
@@ -202,7 +214,14 @@ fn push_row(
         ++ entry_row told.now.scenario.now told.now.place board.now seen.now told.now.entry.now) }
 {
     begin_row(out, told.place, board)?;
-    push_lead(alloc, told.scenario, told.place, seen.context, told.entry, out)?;
+    push_lead(
+        alloc,
+        told.scenario,
+        told.place,
+        seen.context,
+        told.entry,
+        out,
+    )?;
     push_drawing(told, board, seen, out)
 }
 

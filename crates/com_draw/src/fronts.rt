@@ -3,8 +3,10 @@ ghost use Rattle.std.specs.Prelude.{◌≡◌, ◌+◌, ◌<◌, ◌≤◌, ◌+
 ghost use Rattle.com_draw.specs.Fronts.{first_widths, front_names, front_styles, front_widths, lane_names, names_of};
 
 use com_base::{ByteList, Memory};
-use com_draw_words::{FULL, LaneKind, push_body, push_head, push_lane_name, push_lane_widths};
-use com_draw_words::{push_main_width, push_objects_name};
+use com_draw_words::{
+    FULL, LaneKind, push_body, push_head, push_lane_name, push_lane_widths, push_main_width,
+    push_objects_name,
+};
 
 // Appends the first widths of so many lanes.
 #[tactic(auto, using(crate::proofs::Counted::next_width, crate::proofs::Counted::no_width))]

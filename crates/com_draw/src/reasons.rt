@@ -7,10 +7,14 @@ ghost use Rattle.com_draw.specs.Reasons.{reason_story, reason_words, ring_kind};
 use com_base::{ByteList, Memory};
 use com_draw_shapes::{begin_row, is_in_cycle};
 use com_draw_state::Board;
-use com_draw_stories::{push_body_label, push_body_story, push_message_label, push_message_story};
-use com_draw_stories::{push_pool_label, push_pool_story};
-use com_draw_words::{Arrow, ArrowKind, LabelClass, Look, label_width, push_arrow, push_label};
-use com_draw_words::{push_reason_front, push_row_end, push_row_middle};
+use com_draw_stories::{
+    push_body_label, push_body_story, push_message_label, push_message_story, push_pool_label,
+    push_pool_story,
+};
+use com_draw_words::{
+    Arrow, ArrowKind, LabelClass, Look, label_width, push_arrow, push_label, push_reason_front,
+    push_row_end, push_row_middle,
+};
 use com_waits::{Wait, Why};
 use std::alloc::Global;
 
@@ -59,7 +63,11 @@ fn look_of(is_bad: bool) -> Look
 fn ring_kind(is_ring: bool) -> ArrowKind
     ensures { result ≡ ring_kind is_ring }
 {
-    if is_ring { ArrowKind::Ring } else { ArrowKind::Word }
+    if is_ring {
+        ArrowKind::Ring
+    } else {
+        ArrowKind::Word
+    }
 }
 
 // Appends the arrow to the lane for which one waits.
@@ -74,13 +82,16 @@ fn push_arrow_to(
 {
     let from_ring = is_in_cycle(cycle, lane);
     let to_ring = is_in_cycle(cycle, to);
-    push_arrow(out, Arrow {
-        kind: ring_kind(from_ring && to_ring),
-        other: to,
-        other_level: board.depth(to),
-        lane,
-        level: board.depth(lane),
-    })
+    push_arrow(
+        out,
+        Arrow {
+            kind: ring_kind(from_ring && to_ring),
+            other: to,
+            other_level: board.depth(to),
+            lane,
+            level: board.depth(lane),
+        },
+    )
 }
 
 #[tactic(auto, unfolding(crate::specs::Reasons::reason_arrow))]
@@ -121,7 +132,13 @@ fn push_reason_label(
 {
     let words = words_of(alloc, wait.why)?;
     let look = look_of(is_in_cycle(cycle, wait.lane));
-    push_label(out, wait.lane, board.depth(wait.lane), look, words.as_slice())
+    push_label(
+        out,
+        wait.lane,
+        board.depth(wait.lane),
+        look,
+        words.as_slice(),
+    )
 }
 
 // Appends all that is drawn of a lane that waits.

@@ -6,8 +6,10 @@ ghost use Rattle.com_draw.specs.Widths.{widths_text};
 use com_base::{ByteList, Memory};
 use com_draw_shapes::objects_lane;
 use com_draw_state::{Board, Lane};
-use com_draw_words::{BESIDE, IDLE, LEAST, STORY_WIDTH, TRACK_WIDTH, push_lane_widths};
-use com_draw_words::{push_main_width, push_page_size};
+use com_draw_words::{
+    BESIDE, IDLE, LEAST, STORY_WIDTH, TRACK_WIDTH, push_lane_widths, push_main_width,
+    push_page_size,
+};
 
 // How wide a lane is: one that made an entry as its labels ask for.
 fn width_of(lane: &Lane) -> u32

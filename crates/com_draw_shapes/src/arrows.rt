@@ -20,13 +20,16 @@ fn push_called(
 {
     match waiter {
         None => Ok(()),
-        Some(waiter) => push_arrow(out, Arrow {
-            kind,
-            other: waiter.lane,
-            other_level: waiter.depth,
-            lane,
-            level,
-        }),
+        Some(waiter) => push_arrow(
+            out,
+            Arrow {
+                kind,
+                other: waiter.lane,
+                other_level: waiter.depth,
+                lane,
+                level,
+            },
+        ),
     }
 }
 
@@ -46,13 +49,16 @@ pub fn push_pointing(
 {
     match points {
         Points::Nowhere => Ok(()),
-        Points::Word { lane: other } => push_arrow(out, Arrow {
-            kind: ArrowKind::Word,
-            other,
-            other_level: board.depth(other),
-            lane,
-            level: depth,
-        }),
+        Points::Word { lane: other } => push_arrow(
+            out,
+            Arrow {
+                kind: ArrowKind::Word,
+                other,
+                other_level: board.depth(other),
+                lane,
+                level: depth,
+            },
+        ),
         Points::Refusal => push_called(out, ArrowKind::Refusal, lane, depth, waiter),
         Points::Go => push_called(out, ArrowKind::Go, lane, depth + 1, waiter),
         Points::Answer => push_called(out, ArrowKind::Answer, lane, depth, waiter),

@@ -10,8 +10,9 @@ ghost use Rattle.com_draw_shapes.specs.Boxes.{track_boxes};
 use crate::effects::Closing;
 use crate::places::{is_up, top_in};
 use com_base::{ByteList, Memory};
-use com_draw_state::{Board, Home, Manner, Opened, Opening, Openings, Start, Track};
-use com_draw_state::{is_live_in, is_live_of, is_of};
+use com_draw_state::{
+    Board, Home, Manner, Opened, Opening, Openings, Start, Track, is_live_in, is_live_of, is_of,
+};
 use com_draw_words::{BoxKind, BoxText, DrawnBox, Foot, hue_of, push_box};
 
 /// Which tracks are chosen.
@@ -256,7 +257,14 @@ fn push_lives(out: &mut ByteList, here: Start, chosen: Chosen, board: &Board) ->
         ++ track_boxes here (objects_lane board.now) Foot.Inner chosen 0 board.now.tracks) }
 {
     let lane = objects_lane(board);
-    push_tracks(out, here, lane, Foot::Inner, chosen, board.tracks().as_slice())
+    push_tracks(
+        out,
+        here,
+        lane,
+        Foot::Inner,
+        chosen,
+        board.tracks().as_slice(),
+    )
 }
 
 /// Appends the boxes of the objects that are cut off with an apartment.
@@ -309,12 +317,7 @@ fn push_innermost(out: &mut ByteList, here: Start, lane: u32, board: &Board) -> 
 }
 
 /// Appends the box of the last of these openings, which are all of a lane.
-fn push_last(
-    out: &mut ByteList,
-    here: Start,
-    lane: u32,
-    openings: &Openings,
-) -> Result<(), Memory>
+fn push_last(out: &mut ByteList, here: Start, lane: u32, openings: &Openings) -> Result<(), Memory>
     requires { here.row < 40 }
     ensures { OnOk result (out.new ≡ out.old
         ++ innermost_box here lane (length openings.now) (innermost openings.now)) }

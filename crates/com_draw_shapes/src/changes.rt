@@ -16,10 +16,13 @@ fn open(board: &mut Board, here: Start, lane: u32, opens: Opens) -> Result<(), M
     match opens {
         Opens::Nothing => Ok(()),
         Opens::Home { apartment } => {
-            board.settle(lane, Some(Home {
-                apartment,
-                start: here,
-            }));
+            board.settle(
+                lane,
+                Some(Home {
+                    apartment,
+                    start: here,
+                }),
+            );
             Ok(())
         }
         Opens::Life { object, apartment } => board.take(Track {

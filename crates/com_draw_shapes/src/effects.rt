@@ -14,14 +14,9 @@ pub enum Opens {
     /// Nothing.
     Nothing,
     /// Its lane's home.
-    Home {
-        apartment: u32,
-    },
+    Home { apartment: u32 },
     /// The life of an object.
-    Life {
-        object: u32,
-        apartment: u32,
-    },
+    Life { object: u32, apartment: u32 },
     /// A pump, a call or a body in its lane.
     Level(Opened),
 }
@@ -32,19 +27,13 @@ pub enum Closing {
     /// Nothing.
     Nothing,
     /// Its lane's home, which is an apartment.
-    Home {
-        apartment: u32,
-    },
+    Home { apartment: u32 },
     /// What is innermost in its lane.
     Innermost,
     /// An object is cut off.
-    Cut {
-        object: u32,
-    },
+    Cut { object: u32 },
     /// An object is no more.
-    Life {
-        object: u32,
-    },
+    Life { object: u32 },
 }
 
 /// Where the arrow of an entry leads to or comes from.
@@ -53,9 +42,7 @@ pub enum Points {
     /// There is none.
     Nowhere,
     /// To the lane to which a word or a quit is sent.
-    Word {
-        lane: u32,
-    },
+    Word { lane: u32 },
     /// From the caller, whose call is refused.
     Refusal,
     /// From the caller, whose call is taken in.
@@ -90,7 +77,9 @@ pub fn opened_by(deed: &Deed, has_home: bool) -> Opens
             method: *method,
         }),
         Deed::Enter {
-            call, apartment, ..
+            call,
+            apartment,
+            ..
         } => Opens::Level(Opened::Runs {
             call: *call,
             apartment: *apartment,

@@ -45,7 +45,11 @@ pub fn start_of(place: u64) -> Start
 pub(crate) fn top_in(here: Start, start: Start) -> u32
     ensures { result ≡ top_in here start }
 {
-    if start.section == here.section { start.row } else { 0 }
+    if start.section == here.section {
+        start.row
+    } else {
+        0
+    }
 }
 
 /// Whether something began above the section in which one is.

@@ -8,8 +8,9 @@ use crate::boxes::{Chosen, objects_lane, push_home, push_openings, push_tracks};
 use crate::places::{opens_section, row_at};
 use com_base::{ByteList, Memory};
 use com_draw_state::{Board, Lane, Start};
-use com_draw_words::{Foot, push_column, push_columns_end, push_section_back, push_section_end};
-use com_draw_words::push_section_front;
+use com_draw_words::{
+    Foot, push_column, push_columns_end, push_section_back, push_section_end, push_section_front,
+};
 
 /// Appends the columns of lanes.
 #[tactic(auto, using(crate::proofs::Joined::next_column, crate::proofs::Joined::no_column))]
@@ -55,7 +56,11 @@ pub fn is_in_cycle(cycle: &[u32], lane: u32) -> bool
 fn foot_in(cycle: &[u32], lane: u32) -> Foot
     ensures { result ≡ foot_in cycle.now lane }
 {
-    if is_in_cycle(cycle, lane) { Foot::Ring } else { Foot::Down }
+    if is_in_cycle(cycle, lane) {
+        Foot::Ring
+    } else {
+        Foot::Down
+    }
 }
 
 /// Appends the boxes of a lane that go on below the section.
@@ -71,7 +76,13 @@ fn push_lane(
     ensures { OnOk result (out.new ≡ out.old ++ lane_boxes here cycle.now number lane.now) }
 {
     push_home(out, here, number, Foot::Down, lane.home)?;
-    push_openings(out, here, number, foot_in(cycle, number), lane.openings.as_slice())
+    push_openings(
+        out,
+        here,
+        number,
+        foot_in(cycle, number),
+        lane.openings.as_slice(),
+    )
 }
 
 /// Appends the boxes of all lanes.
@@ -115,7 +126,14 @@ fn push_below(out: &mut ByteList, here: Start, cycle: &[u32], board: &Board) -> 
 {
     push_lanes(out, here, cycle, board.lanes())?;
     let lane = objects_lane(board);
-    push_tracks(out, here, lane, Foot::Down, Chosen::All, board.tracks().as_slice())
+    push_tracks(
+        out,
+        here,
+        lane,
+        Foot::Down,
+        Chosen::All,
+        board.tracks().as_slice(),
+    )
 }
 
 /// Appends the end of the section above a row of the page that begins a section; nothing above the first.

@@ -5,8 +5,9 @@ ghost use Rattle.com_draw_state.specs.Lanes.{acted, depth_of, homed, lane_at, ne
 ghost use Rattle.com_draw_state.specs.Lanes.{widened, with_lane, with_opening, without_innermost};
 ghost use Rattle.com_draw_state.specs.Tracks.{cut_of_apartment, cut_of_object, freed, taken};
 
-use crate::lanes::{Home, Lane, Waiter};
-use crate::lanes::{act, close, depth, lane_at, open, settle, waiter_among, widen};
+use crate::lanes::{
+    Home, Lane, Waiter, act, close, depth, lane_at, open, settle, waiter_among, widen,
+};
 use crate::stacks::{Opened, Opening, Start};
 use crate::tracks::{Track, Tracks};
 use com_base::Memory;
@@ -153,6 +154,7 @@ impl Board {
 
 /// The multithreaded apartment, whose lanes are the pool's, and the host's apartment.
 const MTA: u32 = 1;
+
 const HOST_STA: u32 = 2;
 
 /// A home that was entered above the first section.
