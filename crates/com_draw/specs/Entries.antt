@@ -63,10 +63,13 @@ seen b e = record {
 abbrev pub title_of : (version place : ℕ) → Entry → List ℕ
 title_of version n e = deed_line version (decimal n ++ codes " L" ++ decimal e.lane) e.deed
 
+-- The front of its row: its number, its call, its mark, and its line.
+unfoldable pub entry_front : (version place : ℕ) → Entry → List ℕ
+entry_front version n e = entry_front_text n (call_of e.deed) (mark_of e.deed) (title_of version n e)
+
 -- The entry in words.
 unfoldable pub entry_lead : Scenario → (place : ℕ) → Context → Entry → List ℕ
-entry_lead s n x e =
-    entry_front_text n (call_of e.deed) (mark_of e.deed) (title_of s.version n e) ++ story s x e ++ row_middle_text
+entry_lead s n x e = entry_front s.version n e ++ story s x e ++ row_middle_text
 
 -- Its label, where it has one.
 unfoldable pub entry_label : (level : ℕ) → (words : List ℕ) → Entry → List ℕ

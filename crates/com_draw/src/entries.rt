@@ -1,8 +1,8 @@
 //! The row of an entry.
 ghost use Rattle.std.specs.Prelude.{◌≡◌, ◌+◌, ◌<◌, ◌≤◌, ◌^◌, ◌++◌, IfOk, OnOk};
 ghost use Rattle.com_draw_stories.specs.Labels.{label};
-ghost use Rattle.com_draw.specs.Entries.{caller_of, entry_at, entry_drawing, entry_label, entry_lead, entry_marks};
-ghost use Rattle.com_draw.specs.Entries.{entry_row, rise, seen, title_of, waiter_of};
+ghost use Rattle.com_draw.specs.Entries.{caller_of, entry_at, entry_drawing, entry_front, entry_label, entry_lead};
+ghost use Rattle.com_draw.specs.Entries.{entry_marks, entry_row, rise, seen, title_of, waiter_of};
 
 use com_base::{ByteList, Memory};
 use com_draw_shapes::{
@@ -95,6 +95,42 @@ fn title_of(alloc: Global, version: u8, place: u64, entry: &Entry) -> Result<Byt
     Ok(title)
 }
 
+// Appends the front of its row, by its line.
+#[tactic(auto, unfolding(crate::specs::Entries::entry_front))]
+fn push_front_by(
+    out: &mut ByteList,
+    version: u8,
+    place: u64,
+    entry: &Entry,
+    title: &[u8],
+) -> Result<(), Memory>
+    requires { title.now ≡ title_of version place entry.now }
+    ensures { OnOk result (out.new ≡ out.old ++ entry_front version place entry.now) }
+{
+    push_entry_front(
+        out,
+        place,
+        call_of(&entry.deed),
+        mark_of(&entry.deed),
+        title,
+    )
+}
+
+// Appends the front of its row.
+fn push_front(
+    alloc: Global,
+    version: u8,
+    place: u64,
+    entry: &Entry,
+    out: &mut ByteList,
+) -> Result<(), Memory>
+    ensures { OnOk result (out.new ≡ out.old ++ entry_front version place entry.now) }
+{
+    let title = title_of(alloc, version, place, entry)?;
+    push_front_by(out, version, place, entry, title.as_slice())?;
+    Ok(())
+}
+
 // Appends the entry in words.
 #[tactic(auto, unfolding(crate::specs::Entries::entry_lead))]
 fn push_lead(
@@ -107,14 +143,7 @@ fn push_lead(
 ) -> Result<(), Memory>
     ensures { OnOk result (out.new ≡ out.old ++ entry_lead scenario.now place context entry.now) }
 {
-    let title = title_of(alloc, scenario.version, place, entry)?;
-    push_entry_front(
-        out,
-        place,
-        call_of(&entry.deed),
-        mark_of(&entry.deed),
-        title.as_slice(),
-    )?;
+    push_front(alloc, scenario.version, place, entry, out)?;
     push_story(alloc, out, scenario, context, entry)?;
     push_row_middle(out)
 }

@@ -1,7 +1,7 @@
 //! Why a history is stuck: a row for each lane that waits.
 ghost use Rattle.std.specs.Prelude.{◌≡◌, ◌+◌, ◌<◌, ◌≤◌, ◌^◌, ◌++◌, IfOk, OnOk, length};
 ghost use Rattle.com_draw.specs.Reasons.{all_labelled, arrow_to, reason_arrow, reason_drawing, reason_label};
-ghost use Rattle.com_draw.specs.Reasons.{reason_labelled, reason_lead, reason_look, reason_row, reason_rows};
+ghost use Rattle.com_draw.specs.Reasons.{reason_labelled, reason_lead, reason_row, reason_rows};
 ghost use Rattle.com_draw.specs.Reasons.{reason_story, reason_words, ring_kind};
 
 use com_base::{ByteList, Memory};
@@ -48,16 +48,6 @@ fn words_of(alloc: Global, why: Why) -> Result<ByteList, Memory>
     let mut words = ByteList::new(alloc);
     push_words(&mut words, why)?;
     Ok(words)
-}
-
-fn look_of(is_bad: bool) -> Look
-    ensures { result ≡ reason_look is_bad }
-{
-    Look {
-        class: LabelClass::Plain,
-        is_bad,
-        ident: None,
-    }
 }
 
 fn ring_kind(is_ring: bool) -> ArrowKind
@@ -120,7 +110,34 @@ fn push_lead(out: &mut ByteList, cycle: &[u32], wait: Wait) -> Result<(), Memory
     push_row_middle(out)
 }
 
+// Appends its label, by the words of that.
 #[tactic(auto, unfolding(crate::specs::Reasons::reason_label))]
+fn push_label_by(
+    out: &mut ByteList,
+    cycle: &[u32],
+    board: &Board,
+    wait: Wait,
+    words: &[u8],
+) -> Result<(), Memory>
+    requires { words.now ≡ reason_words wait.why }
+    ensures { OnOk result (out.new ≡ out.old ++ reason_label cycle.now board.now wait) }
+{
+    let is_bad = is_in_cycle(cycle, wait.lane);
+    let level = board.depth(wait.lane);
+    push_label(
+        out,
+        wait.lane,
+        level,
+        Look {
+            class: LabelClass::Plain,
+            is_bad,
+            ident: None,
+        },
+        words,
+    )
+}
+
+// Appends its label.
 fn push_reason_label(
     alloc: Global,
     out: &mut ByteList,
@@ -131,14 +148,8 @@ fn push_reason_label(
     ensures { OnOk result (out.new ≡ out.old ++ reason_label cycle.now board.now wait) }
 {
     let words = words_of(alloc, wait.why)?;
-    let look = look_of(is_in_cycle(cycle, wait.lane));
-    push_label(
-        out,
-        wait.lane,
-        board.depth(wait.lane),
-        look,
-        words.as_slice(),
-    )
+    push_label_by(out, cycle, board, wait, words.as_slice())?;
+    Ok(())
 }
 
 // Appends all that is drawn of a lane that waits.
