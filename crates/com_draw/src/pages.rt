@@ -11,7 +11,6 @@ use std::alloc::Global;
 
 /// Appends the page of a history of a formed scenario, which has ended, by its entries in the order of their
 /// making. The only error is want of memory; then the text has a part of it.
-#[tactic(auto, using(crate::proofs::Counted::one_more, crate::proofs::Passing::page_ends))]
 pub fn push_page(
     alloc: Global,
     scenario: &Scenario,
