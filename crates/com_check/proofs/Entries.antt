@@ -14,10 +14,10 @@ use Rattle.com_model.specs.State.{State, sight_of}
 use Rattle.com_model.specs.Tables.{LaneSort, Thread, Host, Pool, NoLane, lane_sort, lanes}
 use Rattle.com_model.proofs.Lanes.{lane-within}
 use Rattle.com_model.proofs.Sights.{same-next}
-use Rattle.com_drive.specs.declared.runtime.Standing.TheVariants as standing
-use Rattle.com_drive.specs.Standings.{can_step_in, none_can_in, standing_of, HasTurn, Reached}
-use Rattle.com_drive.specs.Turns.{IsNext}
-use Rattle.com_drive.proofs.Choices.{not_runs, turn_ticks}
+use Rattle.com_runtime.specs.declared.runtime.Standing.TheVariants as standing
+use Rattle.com_runtime.specs.Standings.{can_step_in, none_can_in, standing_of, HasTurn, Reached}
+use Rattle.com_runtime.specs.Turns.{IsNext}
+use Rattle.com_runtime.proofs.Choices.{not_runs, turn_ticks}
 use Rattle.com_check.specs.Judging.{lane_of_turn}
 use Rattle.com_check.specs.Turning.{entry_in, IsScheduled}
 

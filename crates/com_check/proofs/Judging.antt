@@ -17,13 +17,13 @@ use Rattle.com_model.specs.Text.{line_text, report_text}
 use Rattle.com_model.proofs.Lanes.{lane-within}
 use Rattle.com_model.proofs.Sights.{same-next, same-sight}
 use Rattle.com_model.proofs.Whole.{first-stands}
-use Rattle.com_schedule.proofs.Runs.{stands-later}
-use Rattle.com_drive.specs.Reports.{all_counts_in}
-use Rattle.com_drive.specs.Standings.{ended_now, turn_now, Reached}
-use Rattle.com_drive.specs.Turns.{IsNext}
-use Rattle.com_drive.proofs.Counting.{all-counted}
-use Rattle.com_drive.proofs.Resting.{reached_by}
-use Rattle.com_drive.proofs.Turning.{below_limit, one_entry}
+use Rattle.com_runtime.proofs.Runs.{stands-later}
+use Rattle.com_runtime.specs.Reports.{all_counts_in}
+use Rattle.com_runtime.specs.Standings.{ended_now, turn_now, Reached}
+use Rattle.com_runtime.specs.Turns.{IsNext}
+use Rattle.com_runtime.proofs.Counting.{all-counted}
+use Rattle.com_runtime.proofs.Resting.{reached_by}
+use Rattle.com_runtime.proofs.Limits.{below_limit, one_entry}
 use Rattle.com_check.specs.declared.judged.Judged.{Judged}
 use Rattle.com_check.specs.declared.judged.Judged.TheVariants as judged
 use Rattle.com_check.specs.Fronts.{named, IsNoLane}

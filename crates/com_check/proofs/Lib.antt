@@ -7,3 +7,6 @@ pub mod Joined
 pub mod Judging
 pub mod Names
 pub mod Values
+pub mod AgreedLines
+pub mod Again
+pub mod Agreeing

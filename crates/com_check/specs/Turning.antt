@@ -8,9 +8,9 @@ use Rattle.com_model.specs.Ends.{last_after}
 use Rattle.com_model.specs.Lists.{first}
 use Rattle.com_model.specs.State.{State, next_of}
 use Rattle.com_model.specs.Text.{report_text}
-use Rattle.com_drive.specs.Reports.{all_counts_in}
-use Rattle.com_drive.specs.Standings.{turn_now}
-use Rattle.com_drive.specs.Turns.{IsNext}
+use Rattle.com_runtime.specs.Reports.{all_counts_in}
+use Rattle.com_runtime.specs.Standings.{turn_now}
+use Rattle.com_runtime.specs.Turns.{IsNext}
 use Rattle.com_check.specs.declared.judged.Judged.{Judged}
 use Rattle.com_check.specs.declared.judged.Judged.TheVariants as judged
 use Rattle.com_check.specs.Fronts.{named}

@@ -5,7 +5,7 @@ ghost use Rattle.com_model.specs.Formed.{Formed};
 ghost use Rattle.com_model.specs.State.{first_tables};
 ghost use Rattle.com_model.specs.Tables.{lanes};
 ghost use Rattle.com_servant.specs.Rows.{row};
-ghost use Rattle.com_drive.specs.Standings.{ended_now, standing_of, Reached};
+ghost use Rattle.com_runtime.specs.Standings.{ended_now, standing_of, Reached};
 ghost use Rattle.com_check.specs.Judging.{entry_line, IsJudged};
 ghost use Rattle.com_check.specs.Turning.{IsCompared, IsNextOf, IsOther, IsScheduled, IsTold, IsTurn};
 ghost use Rattle.com_check.specs.declared.judged.Judged.TheVariants as judged;
@@ -15,9 +15,9 @@ use crate::judged::{Judged, differs};
 use crate::lines::split_line;
 use crate::reports::{NO_LINE, compare};
 use com_base::{ByteList, Memory};
-use com_drive::{Runtime, Standing, all_counts, choose, end_of};
 use com_model::{Ended, Entry, Scenario};
 use com_report::{line, report};
+use com_runtime::{Runtime, Standing, all_counts, choose, end_of};
 use com_servant::Servant;
 use std::alloc::Global;
 
@@ -30,7 +30,7 @@ fn last_after(lane: u32, last: u32) -> u32
 }
 
 /// Makes the clock's entry, where the clock goes on. The only error is want of memory.
-#[tactic(auto, using(crate::proofs::Entries::no_tick, com_drive::proofs::Turning::not_finished, com_drive::proofs::Turning::not_stuck))]
+#[tactic(auto, using(crate::proofs::Entries::no_tick, com_runtime::proofs::Limits::not_finished, com_runtime::proofs::Limits::not_stuck))]
 fn clock_entry<C: Runtime>(runtime: &mut C, standing: Standing) -> Result<Option<Entry>, Memory>
     requires standing { standing ≡ standing_of (C.scenario runtime.old) (C.state runtime.old) }
     requires goes_on { ended_now (C.scenario runtime.old) (C.state runtime.old) ≡ None }
@@ -86,7 +86,7 @@ fn next_of<C: Runtime>(
 
 /// Makes the entry of the schedule without picks: of the first lane that can step from the one behind `last`
 /// on, or of the clock where no lane can. The only error is want of memory.
-#[tactic(auto, using(crate::proofs::Entries::lane_scheduled, crate::proofs::Entries::clock_scheduled, com_drive::proofs::Choices::not_runs, com_drive::proofs::Turning::not_finished, com_drive::proofs::Turning::not_stuck))]
+#[tactic(auto, using(crate::proofs::Entries::lane_scheduled, crate::proofs::Entries::clock_scheduled, com_runtime::proofs::Choices::not_runs, com_runtime::proofs::Limits::not_finished, com_runtime::proofs::Limits::not_stuck))]
 fn step_schedule<C: Runtime>(
     alloc: Global,
     runtime: &mut C,

@@ -7,6 +7,7 @@ ghost use Rattle.std.specs.Prelude.{IfOk};
 ghost use Rattle.com_model.specs.Formed.{Formed};
 ghost use Rattle.com_check.specs.Judging.{IsJudged};
 
+mod agreement;
 mod cut;
 mod fronts;
 mod judge;
@@ -16,6 +17,7 @@ mod lines;
 mod reports;
 mod servants;
 
+pub use agreement::{Agreed, Trace, agreed, read_trace};
 pub use com_base::Memory;
 use com_core::Core;
 use com_model::Scenario;

@@ -7,9 +7,9 @@ ghost use Rattle.com_check.specs.Judging.{IsJudged};
 use crate::judge::judge_trace;
 use crate::judged::Judged;
 use com_base::Memory;
-use com_drive::Runtime;
 use com_model::Scenario;
-use com_retrace::fresh_row;
+use com_replay::fresh_row;
+use com_runtime::Runtime;
 use std::alloc::Global;
 
 /// Judges a trace of a formed scenario, on a runtime that has made no entry, by servants that have made no

@@ -1,11 +1,11 @@
 -- The lines that say what each late-bound call of a text is bound to.
 use Rattle.std.specs.Prelude.{ℕ, ◌+◌, List, [], ◌∷◌, ◌++◌, codes, decimal, unwrap_or}
 use Rattle.com_base.specs.HResults.{name_of}
-use Rattle.com_print_operands.specs.Words.{value_word}
-use Rattle.com_binding.specs.declared.members.DispArg.{DispArg}
-use Rattle.com_binding.specs.declared.members.DispArg.TheVariants as given
-use Rattle.com_invoke.specs.declared.BindOutcome.{BindOutcome}
-use Rattle.com_invoke.specs.declared.BindOutcome.TheVariants as outcomes
+use Rattle.com_print.specs.Words.{value_word}
+use Rattle.com_dispatch.specs.declared.members.DispArg.{DispArg}
+use Rattle.com_dispatch.specs.declared.members.DispArg.TheVariants as given
+use Rattle.com_dispatch.specs.declared.invoke.BindOutcome.{BindOutcome}
+use Rattle.com_dispatch.specs.declared.invoke.BindOutcome.TheVariants as outcomes
 use Rattle.com_dispatch.specs.declared.outcomes.Binding.{Binding}
 
 -- a literal or a slot as the language writes it, or null

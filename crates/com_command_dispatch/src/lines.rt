@@ -2,14 +2,14 @@
 
 ghost use Rattle.std.specs.Prelude.{◌≡◌, ◌++◌, [], OnOk, IfOk, unwrap_or};
 ghost use Rattle.com_base.specs.HResults.{name_of};
-ghost use Rattle.com_print_operands.specs.Words.{value_word};
+ghost use Rattle.com_print.specs.Words.{value_word};
 ghost use Rattle.com_command_dispatch.specs.Lines.{arg_text, later_arg_text, later_args_text, args_text};
 ghost use Rattle.com_command_dispatch.specs.Lines.{outcome_text, binding_text, bindings_text};
 
 use com_base::{ByteList, HResult, Memory, Value};
 use com_commands::push_number;
 use com_dispatch::{BindOutcome, Binding, DispArg};
-use com_print_operands::push_value;
+use com_print::operands::push_value;
 use std::alloc::Global;
 
 /// Appends a literal as the language writes it.

@@ -1,1 +1,5 @@
 pub mod Reading
+pub mod Long
+pub mod Moves
+pub mod Pushed
+pub mod Short

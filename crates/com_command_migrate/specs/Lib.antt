@@ -1,1 +1,4 @@
 pub mod Migrating
+pub mod Moving
+pub mod Inputs
+pub mod Answers

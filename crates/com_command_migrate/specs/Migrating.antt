@@ -3,10 +3,10 @@ use Rattle.std.specs.Prelude.{◌≡◌, ℕ, List, Bool, true, false}
 use Rattle.std.proofs.Common.{subst, sym}
 use Rattle.com_model.specs.Formed.{Formed}
 use Rattle.com_scenario.specs.Sizes.{is_too_long}
-use Rattle.com_moved.specs.declared.answers.Moved.{Moved}
-use Rattle.com_moved.specs.declared.inputs.Moving.{Moving}
-use Rattle.com_moved.specs.Answers.{IsMoved}
-use Rattle.com_moved.specs.Inputs.{IsShort, moving_of}
+use Rattle.com_command_migrate.specs.declared.answers.Moved.{Moved}
+use Rattle.com_command_migrate.specs.declared.inputs.Moving.{Moving}
+use Rattle.com_command_migrate.specs.Answers.{IsMoved}
+use Rattle.com_command_migrate.specs.Inputs.{IsShort, moving_of}
 use Rattle.com_commands.specs.declared.inputs.Input.{Input}
 use Rattle.com_commands.specs.declared.statuses.Status.{Status}
 use Rattle.com_commands.specs.declared.statuses.Status.TheVariants as status

@@ -5,14 +5,14 @@ ghost use Rattle.com_commands.specs.Responses.{Responds};
 ghost use Rattle.com_commands.specs.Statuses.{sides_of};
 ghost use Rattle.com_scenario.specs.Sizes.{is_too_long};
 ghost use Rattle.com_scenario.proofs.Lengths.{longer_than_all};
-ghost use Rattle.com_moved.specs.Inputs.{moving_of};
+ghost use Rattle.com_command_migrate.specs.Inputs.{moving_of};
 ghost use Rattle.com_command_migrate.specs.Migrating.{IsMigrated, IsReady, migrated_concludes};
 ghost use Rattle.com_command_migrate.specs.Migrating.{migrating, status_of};
 
+use crate::{Moving, move_input, read_moving};
 use com_base::{ByteList, Memory, TEXT_2_LIMIT};
 use com_commands::{Input, InputReader, Reply, ReplyingCommand, Status, respond};
 use com_io::{Sink, Source};
-use com_moved::{Moving, move_input, read_moving};
 use com_scenario::is_too_long;
 use std::alloc::Global;
 

@@ -14,7 +14,7 @@ use Rattle.com_deliveries.specs.Book.{told, deliveries_in}
 use Rattle.com_deliveries.specs.Delivered.{AreDeliveries}
 use Rattle.com_deliveries.specs.Tables.{AreSources}
 use Rattle.com_deliveries.proofs.Lawful.{told-deliveries}
-use Rattle.com_drive.specs.Replays.{whole_text}
+use Rattle.com_replay.specs.Replays.{whole_text}
 use Rattle.com_model.specs.declared.counts.Ended.{Ended}
 use Rattle.com_model.specs.declared.scenario.Scenario.{Scenario}
 use Rattle.com_model.specs.Ends.{limit, ended_by, ended_as, scheduled}
@@ -22,8 +22,8 @@ use Rattle.com_model.specs.Formed.{Formed}
 use Rattle.com_model.specs.Rules.{legal}
 use Rattle.com_model.specs.Sight.{sight}
 use Rattle.com_model.specs.declared.deeds.Entry.{Entry}
-use Rattle.com_record.specs.Recorded.{IsRecorded}
-use Rattle.com_written.proofs.Schedule.{legal-end}
+use Rattle.com_replay.specs.Recorded.{IsRecorded}
+use Rattle.com_laws_safe.proofs.Schedule.{legal-end}
 use Rattle.com_command_points.specs.Events.{event_lines}
 use Rattle.com_command_points.specs.Playing.{AreLines, IsPlayed}
 

@@ -5,7 +5,7 @@ use Rattle.com_commands.specs.declared.statuses.Status.{Status}
 use Rattle.com_commands.specs.Statuses.{Concludes, end_concludes, status_at}
 use Rattle.com_deliveries.specs.declared.Delivery.{Delivery}
 use Rattle.com_deliveries.specs.Delivered.{AreDeliveries}
-use Rattle.com_drive.specs.Replays.{whole_text}
+use Rattle.com_replay.specs.Replays.{whole_text}
 use Rattle.com_model.specs.declared.deeds.Entry.{Entry}
 use Rattle.com_model.specs.declared.counts.Ended.{Ended}
 use Rattle.com_model.specs.declared.scenario.Scenario.{Scenario}

@@ -1,7 +1,7 @@
 -- What a command writes and answers that replays a scenario.
 use Rattle.std.specs.Prelude.{◌≡◌, ℕ, List, Some}
 use Rattle.std.proofs.Common.{subst, sym}
-use Rattle.com_drive.specs.Replays.{whole_text}
+use Rattle.com_replay.specs.Replays.{whole_text}
 use Rattle.com_model.specs.declared.counts.Ended.{Ended}
 use Rattle.com_model.specs.declared.scenario.Scenario.{Scenario}
 use Rattle.com_model.specs.Ends.{ended_as, scheduled}

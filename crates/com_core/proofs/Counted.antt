@@ -9,7 +9,7 @@ use Rattle.com_model.specs.Ends.{over_interfaces, state_of}
 use Rattle.com_model.specs.Lists.{is_member}
 use Rattle.com_model.specs.Places.{direct_places}
 use Rattle.com_model.specs.State.{State, books_in, class_in, ground_in, named_in, next_sta_in, scene_in}
-use Rattle.com_drive.specs.Reports.{counts_in}
+use Rattle.com_runtime.specs.Reports.{counts_in}
 use Rattle.com_refs_rows.specs.Books.{Held, books_held}
 use Rattle.com_ledger.specs.Ties.{Ties}
 

@@ -21,12 +21,12 @@ use Rattle.com_model.specs.Objects.{finals}
 use Rattle.com_model.specs.State.{State, StandsFor, SameBooks, first_tables, openers_in, next_of, after, book_tables, books_in, dies_in, objects_in, grown, admissions_by, leavings_by, returned_by, phases_by, scene_tables, scene_in}
 use Rattle.com_model.specs.Waiting.{post_effect, posted_last}
 use Rattle.com_model.proofs.Sights.{same-next}
-use Rattle.com_dying.proofs.Losing.{members, stay}
+use Rattle.com_laws_dying.proofs.Losing.{members, stay}
 use Rattle.com_objects.specs.Settled.{DieBut, Falls}
 use Rattle.com_parts.specs.declared.change.Sent.{Sent}
 use Rattle.com_parts.specs.Changes.{issuing_of, moment_at}
 use Rattle.com_parts.specs.Tables.{PartTables}
-use Rattle.com_schedule.proofs.Runs.{stands-later}
+use Rattle.com_runtime.proofs.Runs.{stands-later}
 use Rattle.com_state.specs.After.{acting_in, issuing_in, moment_in}
 use Rattle.com_state.specs.Parts.{LaneTables, ObjectTables, CallTables, Issuing, Moment, lanes_of, objects_of, calls_of, state_of, lanes_after, objects_after, calls_after, endings_after, unread_after, end_effect_at, named_at}
 use Rattle.com_state.specs.SceneParts.{rows_after}
@@ -36,7 +36,7 @@ use Rattle.com_view.specs.Reads.{Reads}
 use Rattle.com_core.specs.Stands.{Stands, state_by, state_read, IsReached, IsSent, IsGiven, seen_by}
 use Rattle.com_refs_books.proofs.Sums.{sum-nothing}
 use Rattle.com_core.specs.Beginning.{BeginsParts}
-use Rattle.com_fates.specs.Bodies.{bodies_among, entered_after, CountsBodies}
+use Rattle.com_ledger.specs.Bodies.{bodies_among, entered_after, CountsBodies}
 use Rattle.com_model.specs.declared.keeps.Opener.{Opener}
 use Rattle.com_model.specs.Tables.{lanes}
 use Rattle.com_model.proofs.Tabled.{tabulated-row}
@@ -46,7 +46,7 @@ use Rattle.com_refs.specs.Counts.{holders_of}
 use Rattle.com_core.specs.Making.{BooksLater, IsCore, MakesNext}
 use Rattle.com_core.specs.Seen.{CoreView, IsWhole, Steps, core_state}
 use Rattle.com_core.specs.Changes.{Becomes, Settles, fresh_by}
-use Rattle.com_fates.specs.Falling.{placed_in, other_object, Touches, CountsHolders}
+use Rattle.com_ledger.specs.Falling.{placed_in, other_object, Touches, CountsHolders}
 use Rattle.com_core.proofs.Fallen.{fallen_found, dies_as}
 use Rattle.com_core.proofs.OpenBodies.{bodies_counted}
 

@@ -23,10 +23,10 @@ use Rattle.com_model.specs.State.{State, StandsFor, openers_in, objects_in, dies
 use Rattle.com_objects.specs.Settled.{Rise, Falls}
 use Rattle.com_state.specs.After.{acting_in}
 use Rattle.com_state.specs.Parts.{objects_of}
-use Rattle.com_dying.specs.Falling.{holders_of, LeavesBody, MayFall}
-use Rattle.com_dying.proofs.Losing.{fresh}
-use Rattle.com_fates.specs.Bodies.{CountsBodies, left_object}
-use Rattle.com_fates.specs.Falling.{dies_by, placed, placed_in, other_object, Touches, CountsHolders}
+use Rattle.com_laws_dying.specs.Falling.{holders_of, LeavesBody, MayFall}
+use Rattle.com_laws_dying.proofs.Losing.{fresh}
+use Rattle.com_ledger.specs.Bodies.{CountsBodies, left_object}
+use Rattle.com_ledger.specs.Falling.{dies_by, placed, placed_in, other_object, Touches, CountsHolders}
 use Rattle.com_core.proofs.OpenBodies.{entered_counted, body_acts, objects_grow, top_made, entry_fits}
 
 -- ---- members and order of a list of which some are kept

@@ -8,9 +8,9 @@ use Rattle.com_model.specs.Formed.{Formed}
 use Rattle.com_model.specs.State.{State, after}
 use Rattle.com_model.specs.Tables.{lanes}
 use Rattle.com_ledger.specs.Ties.{Ties}
-use Rattle.com_drive.specs.declared.runtime.Standing.TheVariants as standing
-use Rattle.com_drive.specs.Standings.{Reached, standing_of}
-use Rattle.com_drive.specs.Turns.{IsNext}
+use Rattle.com_runtime.specs.declared.runtime.Standing.TheVariants as standing
+use Rattle.com_runtime.specs.Standings.{Reached, standing_of}
+use Rattle.com_runtime.specs.Turns.{IsNext}
 use Rattle.com_core.specs.declared.running.Running.{Running}
 use Rattle.com_core.specs.Making.{TiesLater}
 use Rattle.com_core.specs.Seen.{CoreView, IsAsBefore, IsFirst, IsKept, IsKeptIfFormed, IsWhole, Steps, core_of, core_state, kept_of}

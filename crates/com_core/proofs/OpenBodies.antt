@@ -28,9 +28,9 @@ use Rattle.com_model.proofs.Stacks.{next-fits}
 use Rattle.com_laws_balance.proofs.Bases.{open-made}
 use Rattle.com_laws_balance.proofs.Counts.{Among}
 use Rattle.com_laws_safety.proofs.Small.{same-number}
-use Rattle.com_schedule.proofs.Runs.{stands-later}
+use Rattle.com_runtime.proofs.Runs.{stands-later}
 use Rattle.com_state.specs.After.{acting_in}
-use Rattle.com_fates.specs.Bodies.{bodies_among, bodies_over, CountsBodies, left_object, without_body, entered_after}
+use Rattle.com_ledger.specs.Bodies.{bodies_among, bodies_over, CountsBodies, left_object, without_body, entered_after}
 
 -- ---- whether a body runs, by how many do
 

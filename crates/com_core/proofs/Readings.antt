@@ -14,13 +14,13 @@ use Rattle.com_model.specs.Openers.{is_body}
 use Rattle.com_parts.specs.Tables.{PartTables}
 use Rattle.com_view.specs.Seen.{sight_by}
 use Rattle.com_view.proofs.Sights.{reads_state as sight_read}
-use Rattle.com_drive.specs.declared.runtime.Standing.{Standing}
-use Rattle.com_drive.specs.declared.runtime.Standing.TheVariants as standing
-use Rattle.com_drive.specs.Standings.{can_step_in, standing_of}
-use Rattle.com_jobs.specs.Jobs.{next_by, next_in}
+use Rattle.com_runtime.specs.declared.runtime.Standing.{Standing}
+use Rattle.com_runtime.specs.declared.runtime.Standing.TheVariants as standing
+use Rattle.com_runtime.specs.Standings.{can_step_in, standing_of}
+use Rattle.com_runtime.specs.Jobs.{next_by, next_in}
 use Rattle.com_view.specs.declared.next.Next.{Next as Seeing}
 use Rattle.com_view.specs.Nexts.{kind_of}
-use Rattle.com_standing.specs.Standings.{standing_by}
+use Rattle.com_view.specs.Standings.{standing_by}
 use Rattle.com_core.specs.Nexts.{next_as}
 use Rattle.com_core.specs.Stands.{IsReached, seen_by, state_read}
 use Rattle.com_core.proofs.Entries.{reads_state}

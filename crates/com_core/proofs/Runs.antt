@@ -10,7 +10,7 @@ use Rattle.com_state.specs.Parts.{LaneTables, lanes_after}
 use Rattle.com_scene.specs.Kept.{HasSlots}
 use Rattle.com_parts.specs.declared.change.Sent.{Sent}
 use Rattle.com_parts.specs.Tables.{PartTables}
-use Rattle.com_fates.specs.Most.{Most}
+use Rattle.com_ledger.specs.Most.{Most}
 use Rattle.com_core.specs.declared.running.Running.{Running}
 use Rattle.com_core.specs.Changes.{Becomes}
 use Rattle.com_core.specs.Seen.{IsAsBefore}

@@ -4,7 +4,7 @@ use Rattle.std.specs.Prelude.{List, Result, Ok, Err, OnOk}
 use Rattle.com_model.specs.declared.scenario.Scenario.{Scenario}
 use Rattle.com_model.specs.Lists.{first}
 use Rattle.com_model.specs.State.{State, class_in, openers_in}
-use Rattle.com_drive.specs.Turns.{body_kind, served_in}
+use Rattle.com_runtime.specs.Turns.{body_kind, served_in}
 use Rattle.com_turns.specs.Turns.{kind_seen}
 use Rattle.com_core.specs.Seen.{CoreView, core_state}
 use Rattle.com_core.specs.Stands.{seen_by}

@@ -13,7 +13,7 @@ use Rattle.com_model.specs.State.{State}
 use Rattle.com_parts.specs.declared.change.Sent.{Sent}
 use Rattle.com_parts.specs.Changes.{IsSame}
 use Rattle.com_parts.specs.Tables.{PartTables}
-use Rattle.com_fates.specs.Most.{Most}
+use Rattle.com_ledger.specs.Most.{Most}
 use Rattle.com_scene.specs.Kept.{HasSlots}
 use Rattle.com_core.specs.declared.running.Running.{Running}
 use Rattle.com_core.specs.Beginning.{BeginsParts}

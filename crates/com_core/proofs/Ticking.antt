@@ -17,8 +17,8 @@ use Rattle.com_model.specs.State.{State, openers_in, next_of, sight_of, class_in
 use Rattle.com_model.specs.Tables.{lane_sort}
 use Rattle.com_parts.specs.Tables.{PartTables}
 use Rattle.com_state.specs.After.{acting_in, actor_after}
-use Rattle.com_drive.specs.declared.runtime.Standing.TheVariants as standing
-use Rattle.com_drive.specs.Standings.{standing_of}
+use Rattle.com_runtime.specs.declared.runtime.Standing.TheVariants as standing
+use Rattle.com_runtime.specs.Standings.{standing_of}
 use Rattle.com_core.specs.Stands.{IsReached, Stands, IsGiven}
 use Rattle.com_core.proofs.OpenBodies.{IsTick, clock_ticks}
 

@@ -12,8 +12,8 @@ use Rattle.com_model.specs.Books.{out_values}
 use Rattle.com_model.specs.Calls.{issues, lane_of}
 use Rattle.com_model.specs.Frames.{Actor, Nobody}
 use Rattle.com_calls.specs.Waits.{next_wait}
-use Rattle.com_drive.specs.declared.runtime.Standing.TheVariants as standing
-use Rattle.com_drive.specs.Standings.{standing_of}
+use Rattle.com_runtime.specs.declared.runtime.Standing.TheVariants as standing
+use Rattle.com_runtime.specs.Standings.{standing_of}
 use Rattle.com_core.proofs.Ticking.{clock_given, tick_next}
 use Rattle.com_model.specs.Issue.{action_refusal, or_ok}
 use Rattle.com_model.specs.Sight.{Sight}

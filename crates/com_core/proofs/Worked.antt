@@ -16,15 +16,15 @@ use Rattle.com_scene.specs.Kept.{HasSlots}
 use Rattle.com_servant.specs.Steps.{job_step, native_at}
 use Rattle.com_state.specs.Parts.{class_at, issue_at, openers_at}
 use Rattle.com_state.specs.SceneParts.{body_at, cells_at}
-use Rattle.com_drive.specs.Standings.{can_step_in}
-use Rattle.com_jobs.specs.declared.jobs.Next.TheVariants as next
-use Rattle.com_jobs.specs.Jobs.{Fits, job_above, job_by, job_of, kept_above, kept_in, next_by, next_in}
-use Rattle.com_jobs.proofs.Taken.{fitting-job}
+use Rattle.com_runtime.specs.Standings.{can_step_in}
+use Rattle.com_runtime.specs.declared.jobs.Next.TheVariants as next
+use Rattle.com_runtime.specs.Jobs.{Fits, job_above, job_by, job_of, kept_above, kept_in, next_by, next_in}
+use Rattle.com_runtime.proofs.Taken.{fitting-job}
 use Rattle.com_turns.specs.Turns.{body_seen}
 use Rattle.com_turns.proofs.Bodies.{job_steps}
 use Rattle.com_turns.proofs.Whole.{job_whole}
 use Rattle.com_view.specs.Seen.{Seen}
-use Rattle.com_work.specs.Work.{IsWork, work_seen}
+use Rattle.com_turns.specs.Work.{IsWork, work_seen}
 use Rattle.com_core.specs.declared.running.Running.{Running}
 use Rattle.com_core.specs.Nexts.{FitsTop, kept_top}
 use Rattle.com_core.specs.Seen.{core_state, kept_of}

@@ -13,7 +13,7 @@ use Rattle.com_parts.specs.Changes.{issuing_of, moment_at}
 use Rattle.com_parts.specs.Tables.{PartTables}
 use Rattle.com_state.specs.Parts.{ObjectTables, lanes_after, objects_after, calls_after, named_at}
 use Rattle.com_state.specs.SceneParts.{rows_after}
-use Rattle.com_fates.specs.Falling.{begins_by, other_object, placed_in}
+use Rattle.com_ledger.specs.Falling.{begins_by, other_object, placed_in}
 
 -- What the parts are told of the call that an entry issues.
 abbrev pub sent_by : Option Issued → Option Sent

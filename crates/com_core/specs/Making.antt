@@ -27,9 +27,9 @@ use Rattle.com_state.specs.After.{filtered_by}
 use Rattle.com_state.specs.Parts.{issue_at, openers_at}
 use Rattle.com_turns.specs.Turns.{actor_later}
 use Rattle.com_view.specs.Seen.{filter_seen, home_seen, running_seen}
-use Rattle.com_fates.specs.Bodies.{CountsBodies, entered_after}
+use Rattle.com_ledger.specs.Bodies.{CountsBodies, entered_after}
 use Rattle.com_core.specs.Changes.{Becomes, Settles}
-use Rattle.com_fates.specs.Falling.{CountsHolders, Touches}
+use Rattle.com_ledger.specs.Falling.{CountsHolders, Touches}
 use Rattle.com_core.specs.Stands.{IsGiven, IsReached, Stands, seen_by}
 
 -- What the parts of a core are between entries: those of a state that a legal history comes to, with the

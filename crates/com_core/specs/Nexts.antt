@@ -3,8 +3,8 @@ use Rattle.std.specs.Prelude.{Option, Some}
 use Rattle.com_body.specs.declared.frame.Cells.{Cells}
 use Rattle.com_body.specs.declared.frame.Job.{Job}
 use Rattle.com_body.specs.Operands.{new_cells}
-use Rattle.com_jobs.specs.declared.jobs.Next.{Next}
-use Rattle.com_jobs.specs.declared.jobs.Next.TheVariants as next
+use Rattle.com_runtime.specs.declared.jobs.Next.{Next}
+use Rattle.com_runtime.specs.declared.jobs.Next.TheVariants as next
 use Rattle.com_view.specs.declared.next.Next.{Next as Seeing}
 use Rattle.com_view.specs.declared.next.Next.TheVariants as seeing
 use Rattle.com_model.specs.declared.keeps.Opener.{Opener}
@@ -12,7 +12,7 @@ use Rattle.com_model.specs.declared.keeps.Opener.TheVariants.{Enters}
 use Rattle.com_model.specs.State.{SceneTables}
 use Rattle.com_state.specs.SceneParts.{cells_at}
 use Rattle.com_view.specs.Seen.{Seen}
-use Rattle.com_work.specs.Work.{IsWork}
+use Rattle.com_turns.specs.Work.{IsWork}
 
 -- In the words of the jobs.
 abbrev pub next_as : Seeing → Next

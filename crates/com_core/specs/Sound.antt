@@ -2,7 +2,7 @@
 use Rattle.std.specs.Prelude.{ℕ, ◌≤◌, List, All, length}
 use Rattle.com_scene.specs.Kept.{HasSlots}
 use Rattle.com_parts.specs.Tables.{PartTables}
-use Rattle.com_fates.specs.Most.{Most}
+use Rattle.com_ledger.specs.Most.{Most}
 
 -- The frame of each body has 8 slots, and an object runs at most as many bodies as there were entries.
 pub record Sound (parts : PartTables) (entered : List ℕ) : Type 0 where

@@ -10,10 +10,10 @@ ghost use Rattle.com_core.specs.Seen.{core_state, kept_of};
 ghost use Rattle.com_core.specs.Shown.{held_shown, parts_shown};
 ghost use Rattle.com_core.specs.Sound.{Few, Sound};
 ghost use Rattle.com_core.specs.Stands.{seen_by};
-ghost use Rattle.com_drive.specs.declared.runtime.Standing.TheVariants as standing;
-ghost use Rattle.com_drive.specs.Standings.{standing_of};
-ghost use Rattle.com_fates.specs.Bodies.{entered_after};
-ghost use Rattle.com_fates.specs.Most.{Most};
+ghost use Rattle.com_runtime.specs.declared.runtime.Standing.TheVariants as standing;
+ghost use Rattle.com_runtime.specs.Standings.{standing_of};
+ghost use Rattle.com_ledger.specs.Bodies.{entered_after};
+ghost use Rattle.com_ledger.specs.Most.{Most};
 ghost use Rattle.com_refs_rows.specs.Books.{books_held};
 ghost use Rattle.com_refs_rows.specs.Entries.{around, most_left};
 ghost use Rattle.com_model.specs.Calls.{lane_of};
@@ -35,8 +35,7 @@ ghost use Rattle.com_view.specs.Seen.{filter_seen, home_seen, running_seen};
 use crate::running::{Running, forget, unproved_fact};
 use com_base::{Memory, RefValue};
 use com_body::Outcome;
-use com_fates::{Fates, count_bodies, other_by, released_by};
-use com_ledger::Context;
+use com_ledger::{Context, DyingScan, count_bodies, other_by, released_by};
 use com_model::{Deed, Entry, Scenario};
 use com_parts::{Begun, Change, Sent};
 use com_rules::{Doing, Issued};
@@ -290,14 +289,14 @@ impl Running {
         ensures clock { self.new.clock ≡ self.old.clock }
     {
         count_bodies(&mut self.entered, deed, acting);
-        let fates = Fates {
+        let scan = DyingScan {
             objects: self.parts.objects(),
             ledger: &self.ledger,
             entered: &self.entered,
             fallen: &self.fallen,
         };
         let other = other_by(deed, acting, self.parts.objects().len());
-        fates.find_dying(&mut self.fresh, other);
+        scan.find_dying(&mut self.fresh, other);
         self.fallen.settle(released_by(deed), self.fresh.as_slice());
     }
 

@@ -13,7 +13,6 @@ mod runtime;
 mod working;
 
 pub use com_base::Memory;
-pub use com_drive::Standing;
-pub use com_jobs::{CommitError, Next};
+pub use com_runtime::{CommitError, Next, Standing};
 pub use laws::{begins_first, steps_are_next};
 pub use runtime::Core;

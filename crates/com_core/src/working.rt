@@ -7,7 +7,7 @@ ghost use Rattle.com_core.specs.Nexts.{FitsTop, kept_top};
 ghost use Rattle.com_core.specs.Seen.{IsAsBefore, TurnsTo, core_state, kept_of};
 ghost use Rattle.com_core.specs.Sound.{Few, Sound};
 ghost use Rattle.com_core.specs.Stands.{seen_by};
-ghost use Rattle.com_jobs.specs.Jobs.{Fits, HasShape, IsGivenBack, IsRefused, job_of, kept_in};
+ghost use Rattle.com_runtime.specs.Jobs.{Fits, HasShape, IsGivenBack, IsRefused, job_of, kept_in};
 ghost use Rattle.com_refs_rows.specs.Books.{books_held};
 ghost use Rattle.com_model.specs.declared.keeps.Opener.TheVariants.{Enters};
 ghost use Rattle.com_model.specs.Clock.{ticked};
@@ -23,10 +23,9 @@ ghost use Rattle.com_turns.specs.Turns.{IsTurn, body_seen};
 use crate::running::{Running, forget, unproved_fact};
 use com_base::Memory;
 use com_body::{Cells, Job, Outcome};
-use com_jobs::CommitError;
 use com_model::{Entry, Opener, Scenario};
-use com_turns::{Turn, given_turn, own_turn};
-use com_work::{fits_work, same_cells, work_of};
+use com_runtime::CommitError;
+use com_turns::{Turn, fits_work, given_turn, own_turn, same_cells, work_of};
 use std::alloc::Global;
 
 // The step of an entry that found no memory. It has a function of its own, since it is wide.

@@ -19,7 +19,7 @@ mod tally;
 pub use com_base::Memory;
 use com_base::{CLASS_LIMIT, Rows};
 use com_model::{Entry, Scenario};
-use com_sources::source_interface;
+use com_points::source_interface;
 use std::alloc::Global;
 use tally::Tally;
 

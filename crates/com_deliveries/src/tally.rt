@@ -17,7 +17,7 @@ use crate::stacks::{Open, pop, push, top};
 use com_base::{HResult, Memory, Value};
 use com_body::Asked;
 use com_model::{Deed, Entry};
-use com_sources::{ADVISE, FIRE, UNADVISE};
+use com_points::{ADVISE, FIRE, UNADVISE};
 use std::alloc::Global;
 use std::marker::Model;
 

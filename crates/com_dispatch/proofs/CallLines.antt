@@ -3,9 +3,9 @@ use Rattle.std.proofs.Common.{◌≡◌, ℕ, Bool, true, false, List, ◌∷◌
 use Rattle.std.specs.Prelude.{bytes_eq}
 use Rattle.com_body.specs.declared.statements.Stmt.{Stmt}
 use Rattle.com_classes.specs.declared.classes.Class.{Class}
-use Rattle.com_invoke.specs.declared.Invocation.{Invocation}
-use Rattle.com_invoke.specs.Invoking.{invocation_at}
-use Rattle.com_invoke.specs.Standing.{outcome_of, statement_of}
+use Rattle.com_dispatch.specs.declared.invoke.Invocation.{Invocation}
+use Rattle.com_dispatch.specs.Invoking.{invocation_at}
+use Rattle.com_dispatch.specs.Standing.{outcome_of, statement_of}
 use Rattle.com_text.specs.declared.word.Sort.TheVariants as sorts
 use Rattle.com_text.specs.Words.{WordAt}
 use Rattle.com_read_operands.specs.declared.faults.Fault.{Fault}

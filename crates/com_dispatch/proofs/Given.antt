@@ -9,8 +9,8 @@ use Rattle.com_base.specs.declared.value.Value.TheVariants as values
 use Rattle.com_body.specs.declared.operands.Op.TheVariants as ops
 use Rattle.com_body.specs.declared.operands.Destination.TheVariants as destinations
 use Rattle.com_body.specs.Bodies.{IsDestination}
-use Rattle.com_binding.specs.declared.members.DispArg.{DispArg}
-use Rattle.com_binding.specs.declared.members.DispArg.TheVariants as given
+use Rattle.com_dispatch.specs.declared.members.DispArg.{DispArg}
+use Rattle.com_dispatch.specs.declared.members.DispArg.TheVariants as given
 use Rattle.com_text.specs.declared.word.Sort.{Sort}
 use Rattle.com_text.specs.declared.word.Sort.TheVariants as sorts
 use Rattle.com_text.specs.Words.{WordAt}
@@ -27,8 +27,8 @@ use Rattle.com_laws_scenario.specs.Words.{IsWord}
 use Rattle.com_laws_scenario.specs.Holds.{Holds}
 use Rattle.com_laws_scenario.proofs.Holds.{done, fails, anything, bind, either}
 use Rattle.com_laws_scenario.proofs.Fields.{word_formed, declared_formed, IsSaid, said, slot_formed, text_formed, bytes_formed}
-use Rattle.com_invoke.specs.declared.Invocation.{Invocation}
-use Rattle.com_invoke.specs.Invoking.{member_at, as_literal, as_given, Arguments, item_at, arguments_on, landing_of, destination_at, invocation_at}
+use Rattle.com_dispatch.specs.declared.invoke.Invocation.{Invocation}
+use Rattle.com_dispatch.specs.Invoking.{member_at, as_literal, as_given, Arguments, item_at, arguments_on, landing_of, destination_at, invocation_at}
 
 -- ---- numbers of 64 bits
 

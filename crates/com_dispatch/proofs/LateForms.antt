@@ -9,15 +9,15 @@ use Rattle.com_classes.specs.declared.interfaces.Method.{Method}
 use Rattle.com_classes.specs.declared.classes.Class.{Class}
 use Rattle.com_classes.specs.BuiltIns.{built_in_interfaces}
 use Rattle.com_classes.specs.Lookups.{method_at}
-use Rattle.com_binding.specs.declared.members.Bound.{Bound}
-use Rattle.com_binding.specs.declared.members.DispArg.{DispArg}
-use Rattle.com_binding.specs.declared.members.DispArg.TheVariants as given
-use Rattle.com_binding.specs.Binding.{bound_among, methods_of}
-use Rattle.com_binding.specs.Ranges.{IsDispArg}
-use Rattle.com_binding.proofs.InRange.{bound_to, bound_stays}
-use Rattle.com_invoke.specs.declared.Invocation.{Invocation}
-use Rattle.com_invoke.specs.Invoking.{invocation_at}
-use Rattle.com_invoke.specs.Standing.{sort_of, outcome_by, outcome_of, argument_of, statement_of}
+use Rattle.com_dispatch.specs.declared.members.Bound.{Bound}
+use Rattle.com_dispatch.specs.declared.members.DispArg.{DispArg}
+use Rattle.com_dispatch.specs.declared.members.DispArg.TheVariants as given
+use Rattle.com_dispatch.specs.Binding.{bound_among, methods_of}
+use Rattle.com_dispatch.specs.Ranges.{IsDispArg}
+use Rattle.com_dispatch.proofs.InRange.{bound_to, bound_stays}
+use Rattle.com_dispatch.specs.declared.invoke.Invocation.{Invocation}
+use Rattle.com_dispatch.specs.Invoking.{invocation_at}
+use Rattle.com_dispatch.specs.Standing.{sort_of, outcome_by, outcome_of, argument_of, statement_of}
 use Rattle.com_text.specs.Words.{WordAt, LineAt}
 use Rattle.com_text.specs.Scanning.{lines_of}
 use Rattle.com_read_operands.specs.declared.faults.ScenarioError.{ScenarioError}

@@ -15,12 +15,12 @@ use Rattle.com_body.specs.declared.operands.Arg.TheVariants as args
 use Rattle.com_body.specs.declared.operands.Destination.{Destination}
 use Rattle.com_body.specs.declared.operands.Destination.TheVariants as destinations
 use Rattle.com_classes.specs.declared.interfaces.Method.{Method}
-use Rattle.com_binding.specs.declared.members.Bound.{Bound}
-use Rattle.com_binding.specs.declared.members.DispArg.{DispArg}
-use Rattle.com_binding.specs.declared.members.DispArg.TheVariants as given
-use Rattle.com_binding.specs.Coercing.{to_int, to_bool, to_text, to_bytes, to_guid, word_of, coerced_value, coerced, coerced_on}
-use Rattle.com_binding.specs.Binding.{is_for, matched, signed, bad_parameter_count}
-use Rattle.com_invoke.specs.Standing.{sort_of, argument_of}
+use Rattle.com_dispatch.specs.declared.members.Bound.{Bound}
+use Rattle.com_dispatch.specs.declared.members.DispArg.{DispArg}
+use Rattle.com_dispatch.specs.declared.members.DispArg.TheVariants as given
+use Rattle.com_dispatch.specs.Coercing.{to_int, to_bool, to_text, to_bytes, to_guid, word_of, coerced_value, coerced, coerced_on}
+use Rattle.com_dispatch.specs.Binding.{is_for, matched, signed, bad_parameter_count}
+use Rattle.com_dispatch.specs.Standing.{sort_of, argument_of}
 use Rattle.com_model.specs.Formed.{is_text_byte, IsLiteral, FitsKind, FitKinds, FitsResult, FitsMethod}
 use Rattle.com_dispatch.proofs.Given.{IsWhole, IsGivenValue, IsGiven}
 

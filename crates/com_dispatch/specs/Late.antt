@@ -5,10 +5,10 @@ use Rattle.std.specs.Prelude.{Bool, true, false, length, All, nat_le, ifâ—Œthenâ
 use Rattle.std.specs.Str.{bytes_eq}
 use Rattle.com_classes.specs.declared.interfaces.Interface.{Interface}
 use Rattle.com_classes.specs.BuiltIns.{built_in_interfaces}
-use Rattle.com_invoke.specs.declared.BindOutcome.{BindOutcome}
-use Rattle.com_invoke.specs.declared.Invocation.{Invocation}
-use Rattle.com_invoke.specs.Invoking.{invocation_at}
-use Rattle.com_invoke.specs.Standing.{outcome_of, statement_of}
+use Rattle.com_dispatch.specs.declared.invoke.BindOutcome.{BindOutcome}
+use Rattle.com_dispatch.specs.declared.invoke.Invocation.{Invocation}
+use Rattle.com_dispatch.specs.Invoking.{invocation_at}
+use Rattle.com_dispatch.specs.Standing.{outcome_of, statement_of}
 use Rattle.com_text.specs.declared.word.Sort.TheVariants as sorts
 use Rattle.com_text.specs.Words.{WordAt, LineAt}
 use Rattle.com_text.specs.Scanning.{lines_of}

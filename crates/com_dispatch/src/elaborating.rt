@@ -8,9 +8,9 @@ ghost use Rattle.com_dispatch.specs.Late.{invoke_line, is_invoke, late_line, lat
 ghost use Rattle.com_dispatch.specs.Late.{late_read, late_begun, late};
 
 use crate::outcomes::{Binding, Late};
+use crate::{outcome, read_invoke, statement};
 use com_base::{BODY_LIMIT, Rows, SCRIPT_LIMIT};
 use com_classes::{Interface, built_in_interfaces};
-use com_invoke::{outcome, read_invoke, statement};
 use com_read_operands::{Fault, ScenarioError, fault};
 use com_read_sections::{Code, Outline, Section, State, finish, start, step};
 use com_read_statements::Names;

@@ -3,14 +3,19 @@
 //! the language.
 #![tactic(auto)]
 
+mod binding;
+mod coercing;
 mod elaborating;
+mod invoke;
 mod laws;
+mod members;
 mod outcomes;
 
+pub use binding::{bind, bind_among};
 pub use com_base::Memory;
-pub use com_binding::{BindError, Bound, DispArg, Member, Sort, bind};
-pub use com_invoke::BindOutcome;
 pub use com_read_operands::ScenarioError;
 pub use elaborating::elaborate;
+pub use invoke::{BindOutcome, Invocation, outcome, read_invoke, statement};
 pub use laws::{calls_by_name_are_calls, late_scenarios_are_formed, other_texts_stay};
+pub use members::{BindError, Bound, DispArg, Member, Sort};
 pub use outcomes::{Binding, Late};

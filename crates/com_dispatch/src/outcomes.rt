@@ -1,7 +1,7 @@
 //! A scenario with what its late-bound calls are bound to.
 
+use crate::BindOutcome;
 use com_base::Rows;
-use com_invoke::BindOutcome;
 use com_model::Scenario;
 
 /// What one `invoke` statement is bound to.

@@ -12,6 +12,3 @@ mod tables;
 mod words;
 
 pub use scenarios::is_formed;
-
-#[cfg(test)]
-mod tests;

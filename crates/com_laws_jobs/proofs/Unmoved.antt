@@ -28,10 +28,10 @@ use Rattle.com_laws_balance.proofs.Directs.{openers-other}
 use Rattle.com_laws_sources.proofs.Framed.{frames-stay}
 use Rattle.com_laws_sources.proofs.Runs.{Same, fresh, named-in, no-begin, one-call, other-frame, other-scene, stays-same}
 use Rattle.com_servant.specs.Steps.{native_at}
-use Rattle.com_drive.specs.Standings.{can_step_in}
-use Rattle.com_jobs.specs.declared.jobs.Next.TheVariants as next
-use Rattle.com_jobs.specs.Jobs.{next_by, next_in, job_by, job_above, job_of, kept_above, kept_in, Fits}
-use Rattle.com_jobs.proofs.Taken.{by-moved, taken-fresh}
+use Rattle.com_runtime.specs.Standings.{can_step_in}
+use Rattle.com_runtime.specs.declared.jobs.Next.TheVariants as next
+use Rattle.com_runtime.specs.Jobs.{next_by, next_in, job_by, job_above, job_of, kept_above, kept_in, Fits}
+use Rattle.com_runtime.proofs.Taken.{by-moved, taken-fresh}
 use Rattle.com_laws_jobs.specs.Fresh.{AreOfOthers}
 
 -- ---- one entry of another lane

@@ -4,7 +4,7 @@
 ghost use Rattle.std.specs.Prelude.{◌≡◌, ℕ, ◌++◌, false, List, Some, true};
 ghost use Rattle.com_body.specs.declared.frame.Job.{Job};
 ghost use Rattle.com_laws_jobs.specs.Fresh.{AreOfOthers};
-ghost use Rattle.com_jobs.specs.Jobs.{Fits, job_of, kept_in};
+ghost use Rattle.com_runtime.specs.Jobs.{Fits, job_of, kept_in};
 ghost use Rattle.com_model.specs.declared.deeds.Entry.{Entry};
 ghost use Rattle.com_model.specs.declared.keeps.Opener.TheVariants.{Enters};
 ghost use Rattle.com_model.specs.declared.scenario.Scenario.{Scenario};

@@ -27,7 +27,7 @@ use Rattle.com_model.specs.declared.scenario.Scenario.{Scenario}
 use Rattle.com_model.specs.Formed.{Distinct, is_name_byte, IsName, IsStatement, FormedBody, in_script}
 use Rattle.com_model.specs.Formed.{in_class, IsBody, IsClass, same_class, FormedInterfaces, FormedClasses}
 use Rattle.com_model.specs.Formed.{IsFilter, Formed}
-use Rattle.com_print_operands.specs.Ranges.{AreBytes, FitsArg, Fits}
+use Rattle.com_print.specs.Ranges.{AreBytes, FitsArg, Fits}
 use Rattle.com_print_scenario.specs.Ranges.{FitsInterface, FitsClass, FitsProgram, FitsTypes}
 use Rattle.com_gen.specs.Loads.{seeded, word, behind, behind_rounds, behind_scripts}
 use Rattle.com_laws_load.specs.LoadScenarios.{counter, first, second, third, fourth, fifth, counters}

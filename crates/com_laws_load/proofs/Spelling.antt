@@ -12,9 +12,9 @@ use Rattle.com_base.specs.declared.value.Mode.TheVariants as modes
 use Rattle.com_body.specs.declared.statements.Stmt.{Stmt}
 use Rattle.com_classes.specs.BuiltIns.{built_in_interfaces}
 use Rattle.com_read_statements.specs.declared.names.Names.{Names}
-use Rattle.com_print_words.specs.Spelled.{Spelled, plain, line_text, text_of}
-use Rattle.com_print_operands.specs.Words.{mode_word, name_at}
-use Rattle.com_print_statements.specs.Words.{statement_words}
+use Rattle.com_print.specs.Spelled.{Spelled, plain, line_text, text_of}
+use Rattle.com_print.specs.Words.{mode_word, name_at}
+use Rattle.com_print.specs.StatementWords.{statement_words}
 use Rattle.com_print_scenario.specs.Printed.{program_lines, thread_words, threads_lines}
 use Rattle.com_print_scenario.specs.Printed.{scenario_lines, printed}
 use Rattle.com_print_scenario.proofs.Pieces.{all_text}

@@ -4,3 +4,5 @@ pub mod Standing
 pub mod Writing
 pub mod Fitting
 pub mod Times
+pub mod Takes
+pub mod Shapes

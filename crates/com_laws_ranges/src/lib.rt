@@ -14,6 +14,12 @@ ghost use Rattle.com_laws_ranges.specs.Bounds.{Counted, HasPlace, FitsParts, Ste
 ghost use Rattle.com_scene.specs.Ranges.{FitsDeed};
 ghost use Rattle.com_state.specs.After.{step_in};
 
+mod frames;
+mod taken;
+
+pub use frames::frames_have_shape;
+pub use taken::entries_are_taken;
+
 /// Where a state stands for a history of a formed scenario, there are no more calls, objects, STAs, cookies,
 /// causalities, openers of a lane, initialisations and words than entries, and no more than four times as
 /// many packets (`few`). So within the limit of entries one more of each can be counted (`place`).

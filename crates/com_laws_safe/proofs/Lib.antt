@@ -3,3 +3,6 @@ pub mod Strict
 pub mod Reports
 pub mod Stricts
 pub mod Bites
+pub mod Fixes
+pub mod Schedule
+pub mod One

@@ -1,6 +1,6 @@
 -- Seven histories that are legal but for their last entry, and each breaks one of the clauses of `Safe` by
--- it.
-use Rattle.std.specs.Prelude.{List, [], ◌∷◌, Some, pos}
+-- it. The last entries were chosen so that the other clauses have nothing against them, which is not proved.
+use Rattle.std.specs.Prelude.{List, [], ◌∷◌, Some, None, pos}
 use Rattle.com_base.specs.declared.value.Value.TheVariants as value
 use Rattle.com_base.specs.declared.value.Mode.TheVariants as mode
 use Rattle.com_body.specs.declared.operands.Asked.TheVariants as asked
@@ -9,26 +9,26 @@ use Rattle.com_model.specs.declared.deeds.Deed.TheVariants as deed
 use Rattle.com_model.specs.declared.deeds.Entry.{Entry}
 use Rattle.com_model.specs.declared.scenario.Scenario.{Scenario}
 use Rattle.com_model.specs.Answers.{S_OK, RPC_E_OUT_OF_RESOURCES}
-use Rattle.com_model.specs.Cases.{direct_call, direct_call_3, direct_call_4, direct_call_5, direct_call_6}
+use Rattle.com_model.specs.Cases.{direct_call, direct_call_3, direct_call_6, pumped_words_3}
 use Rattle.com_model.specs.Cases.{into_the_host_3, answer_first_10}
 
--- A body of the host STA's object runs in the caller's lane.
-abbrev pub in_foreign_lane : List Entry
-in_foreign_lane =
-    record { lane = 1; deed = deed.Enter 1 1 2 (Some 1) (value.Int (pos 7) ∷ []) } ∷ into_the_host_3
+-- The host's thread enters an object of its STA as if that were in the MTA, apartment 1.
+abbrev pub in_foreign_apartment : List Entry
+in_foreign_apartment =
+    record { lane = 2; deed = deed.Enter 1 1 1 (Some 1) (value.Int (pos 7) ∷ []) } ∷ into_the_host_3
 
--- A call comes back while its body still runs above it.
-abbrev pub under_a_body : List Entry
-under_a_body = record { lane = 1; deed = deed.Back 1 S_OK (Some (value.Int (pos 5))) } ∷ direct_call_4
+-- A script makes its next action while its pump is still open.
+abbrev pub above_a_pump : List Entry
+above_a_pump = record { lane = 1; deed = deed.Raw 0 4 } ∷ pumped_words_3
 
 -- A lane admits a call above a call that has its answer.
 abbrev pub above_an_answer : List Entry
 above_an_answer =
     record { lane = 1; deed = deed.Enter 2 1 3 (Some 1) (value.Int (pos 2) ∷ []) } ∷ answer_first_10
 
--- A call comes back with another value than its body gave.
+-- A body is entered with another value than its caller gave.
 abbrev pub another_value : List Entry
-another_value = record { lane = 1; deed = deed.Back 1 S_OK (Some (value.Int (pos 6))) } ∷ direct_call_5
+another_value = record { lane = 1; deed = deed.Enter 1 1 3 None (value.Int (pos 6) ∷ []) } ∷ direct_call_3
 
 -- A packet is unmarshalled that nobody made: the STA has a place of the object and no proxy for it.
 abbrev pub unmarshalled_out_of_nothing : Scenario

@@ -1,2 +1,3 @@
 pub mod Stricter
 pub mod Broken
+pub mod OneHistory

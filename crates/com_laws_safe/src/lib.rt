@@ -5,16 +5,20 @@
 ghost use Rattle.std.specs.Prelude.{List};
 ghost use Rattle.com_model.specs.declared.deeds.Entry.{Entry};
 ghost use Rattle.com_model.specs.declared.scenario.Scenario.{Scenario};
-ghost use Rattle.com_model.specs.Cases.{direct_call, direct_call_3, direct_call_4, direct_call_5};
-ghost use Rattle.com_model.specs.Cases.{direct_call_6, into_the_host, into_the_host_3, answer_first};
+ghost use Rattle.com_model.specs.Cases.{direct_call, direct_call_3, direct_call_6, pumped_words};
+ghost use Rattle.com_model.specs.Cases.{pumped_words_3, into_the_host, into_the_host_3, answer_first};
 ghost use Rattle.com_model.specs.Cases.{answer_first_10};
 ghost use Rattle.com_model.specs.Formed.{Formed};
 ghost use Rattle.com_model.specs.Rules.{legal};
 ghost use Rattle.com_model.specs.Safe.{Apartment, OneStack, Reentry, Replies, Balance, Release, Causes, Safe};
-ghost use Rattle.com_laws_safe.specs.Broken.{in_foreign_lane, under_a_body, above_an_answer, another_value};
+ghost use Rattle.com_laws_safe.specs.Broken.{in_foreign_apartment, above_a_pump, above_an_answer, another_value};
 ghost use Rattle.com_laws_safe.specs.Broken.{unmarshalled_out_of_nothing, two_apartments, out_of_nothing};
 ghost use Rattle.com_laws_safe.specs.Broken.{held_by_a_script, without_a_cause};
 ghost use Rattle.com_laws_safe.specs.Stricter.{Stricter};
+
+mod written;
+
+pub use written::{one_history, scheduled_ends, text_fixes};
 
 /// Every legal history of a formed scenario is safe: apartments, the one stack of each lane, reentry, own
 /// replies, the balance of public references, release, and causes.
@@ -34,10 +38,11 @@ pub fn stricter()
 
 /// No clause is empty: each fails of a history that is legal but for its last entry.
 pub fn clauses_bite()
-    ensures apartment { legal into_the_host into_the_host_3 × (Apartment into_the_host in_foreign_lane → ⊥) }
-    ensures one_stack { legal direct_call direct_call_4 × (OneStack direct_call under_a_body → ⊥) }
+    ensures apartment { legal into_the_host into_the_host_3
+        × (Apartment into_the_host in_foreign_apartment → ⊥) }
+    ensures one_stack { legal pumped_words pumped_words_3 × (OneStack pumped_words above_a_pump → ⊥) }
     ensures reentry { legal answer_first answer_first_10 × (Reentry answer_first above_an_answer → ⊥) }
-    ensures once { legal direct_call direct_call_5 × (Replies direct_call another_value → ⊥) }
+    ensures once { legal direct_call direct_call_3 × (Replies direct_call another_value → ⊥) }
     ensures balance { legal unmarshalled_out_of_nothing two_apartments
         × (Balance unmarshalled_out_of_nothing out_of_nothing → ⊥) }
     ensures release { legal direct_call direct_call_6 × (Release direct_call held_by_a_script → ⊥) }

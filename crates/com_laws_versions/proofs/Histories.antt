@@ -13,9 +13,9 @@ use Rattle.com_model.specs.Sight.{Sight, sight}
 use Rattle.com_model.specs.State.{State, StandsFor, after, first_tables, next_of, sight_of}
 use Rattle.com_model.proofs.Sights.{same-next, same-sight}
 use Rattle.com_model.proofs.Whole.{first-stands}
-use Rattle.com_schedule.proofs.Runs.{stands-later}
-use Rattle.com_drive.specs.Reports.{all_counts_in}
-use Rattle.com_drive.proofs.Counting.{all-counted}
+use Rattle.com_runtime.proofs.Runs.{stands-later}
+use Rattle.com_runtime.specs.Reports.{all_counts_in}
+use Rattle.com_runtime.proofs.Counting.{all-counted}
 use Rattle.com_laws_versions.specs.Moved.{moved}
 use Rattle.com_laws_versions.proofs.Formed.{moved_formed}
 
@@ -68,7 +68,7 @@ stands-moved : (s : Scenario) (h : List Entry) → Formed s → legal s h → St
 stands-moved s h f q = subst (λ (st : State). StandsFor (moved s) st h) (tables-moved s h) (tables-stand (moved s) h (moved_formed s f) (moved_legal s h f q))
 
 counts-moved : (s : Scenario) (st : State) → all_counts_in (moved s) st ≡ all_counts_in s st
-unfolding Rattle.com_drive.specs.Reports.counts_in
+unfolding Rattle.com_runtime.specs.Reports.counts_in
 counts-moved s st = refl
 
 pub moved_counts : (s : Scenario) (h : List Entry) → Formed s → legal s h → all_counts (moved s) h ≡ all_counts s h

@@ -11,3 +11,6 @@ pub mod Reading
 pub mod Rising
 pub mod Tied
 pub mod Within
+mod Begins
+mod Keeping
+mod Runs

@@ -1,1 +1,4 @@
 pub mod Ties
+pub mod Bodies
+pub mod Falling
+pub mod Most

@@ -11,6 +11,7 @@
 mod apply;
 mod books;
 mod context;
+mod dying;
 mod ends;
 mod laws;
 mod ledger;
@@ -20,6 +21,7 @@ pub use com_base::Memory;
 pub use com_refs::Numbers;
 pub use com_refs_rows::CallPackets;
 pub use context::Context;
+pub use dying::{DyingScan, count_bodies, other_by, released_by};
 pub use laws::{
     applied_ties, entries_reach, entries_tie, holders_tie, losses_touched, new_ledger_ties,
     owners_tie,

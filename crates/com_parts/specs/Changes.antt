@@ -21,7 +21,7 @@ abbrev pub issuing_of : Option Sent → Issuing
 issuing_of None = record { refusal = S_OK; values = [] }
 issuing_of (Some x) = record { refusal = x.refusal; values = x.values }
 
--- The step of a script goes on to a frame of 8 slots, as each step of `com_acting` does. Of a body's nothing
+-- The step of a script goes on to a frame of 8 slots, as each step of `com_turns` does. Of a body's nothing
 -- is asked.
 abbrev pub FitsFrame : Acting → Option Outcome → Type 0
 FitsFrame a None = Unit {0}

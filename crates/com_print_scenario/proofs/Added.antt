@@ -23,8 +23,8 @@ use Rattle.com_read_statements.specs.Calls.{method_of, in_methods}
 use Rattle.com_read_sections.specs.declared.state.State.{State}
 use Rattle.com_read_lines.specs.Tables.{guid_eq}
 use Rattle.com_read_sections.specs.Opened.{program_of}
-use Rattle.com_print_operands.specs.Ranges.{AreNames}
-use Rattle.com_print_statements.specs.Standing.{AreDeclared}
+use Rattle.com_print.specs.Ranges.{AreNames}
+use Rattle.com_print.specs.Standing.{AreDeclared}
 use Rattle.com_print_scenario.specs.Ranges.{FitsProgram, FitsBodies, FitsAs, FitsClass}
 use Rattle.com_print_scenario.proofs.Apart.{IsNew, new_of, new_map, new_append, same_guids, no_position, no_guid, either_left, either_right}
 use Rattle.com_print_scenario.proofs.Bodies.{CanGive}

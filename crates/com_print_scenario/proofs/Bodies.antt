@@ -23,12 +23,12 @@ use Rattle.com_read_sections.specs.declared.state.State.{State}
 use Rattle.com_read_sections.specs.declared.state.Section.TheVariants as sections
 use Rattle.com_read_lines.specs.Codes.{no_code}
 use Rattle.com_read_sections.specs.Opened.{step, has_body, body_head, class_ended, inner_class, program_of}
-use Rattle.com_print_words.specs.Spelled.{Spelled, plain, spelled_of}
-use Rattle.com_print_operands.specs.Words.{name_at}
-use Rattle.com_print_operands.proofs.Places.{at, end_again}
-use Rattle.com_print_statements.specs.Standing.{AreDeclared}
-use Rattle.com_print_statements.specs.Words.{statement_words, name_of}
-use Rattle.com_print_statements.proofs.Targets.{named_again}
+use Rattle.com_print.specs.Spelled.{Spelled, plain, spelled_of}
+use Rattle.com_print.specs.Words.{name_at}
+use Rattle.com_print.proofs.Places.{at, end_again}
+use Rattle.com_print.specs.Standing.{AreDeclared}
+use Rattle.com_print.specs.StatementWords.{statement_words, name_of}
+use Rattle.com_print.proofs.Targets.{named_again}
 use Rattle.com_print_scenario.specs.Printed.{end_words, body_words, program_lines, bodies_lines}
 use Rattle.com_print_scenario.proofs.Apart.{new_of, no_body}
 use Rattle.com_print_scenario.proofs.Places.{at_of, first_word}

@@ -19,10 +19,10 @@ use Rattle.com_read_sections.specs.declared.state.Section.TheVariants as section
 use Rattle.com_read_lines.specs.Tables.{has_guid}
 use Rattle.com_read_lines.specs.Declaring.{relay_of, native_at, natives_of}
 use Rattle.com_read_sections.specs.Opened.{program_of}
-use Rattle.com_print_words.specs.Spelled.{Spelled, plain}
-use Rattle.com_print_operands.specs.Ranges.{IsGuid}
-use Rattle.com_print_operands.proofs.Places.{at}
-use Rattle.com_print_statements.specs.Standing.{AreDeclared}
+use Rattle.com_print.specs.Spelled.{Spelled, plain}
+use Rattle.com_print.specs.Ranges.{IsGuid}
+use Rattle.com_print.proofs.Places.{at}
+use Rattle.com_print.specs.Standing.{AreDeclared}
 use Rattle.com_print_scenario.specs.Printed.{class_head, interface_name, bodies_lines, class_lines, classes_lines}
 use Rattle.com_print_scenario.proofs.Places.{at_of, counter_again, relay_again, latch_again}
 use Rattle.com_print_scenario.proofs.Bodies.{CanGive, class_read, bodies_on}

@@ -24,11 +24,11 @@ use Rattle.com_read_sections.specs.declared.state.Section.TheVariants as section
 use Rattle.com_read_lines.specs.Codes.{no_code}
 use Rattle.com_read_lines.specs.Rules.{rule_word_of}
 use Rattle.com_read_sections.specs.Opened.{step, filter_ended, ruled, inner_filter}
-use Rattle.com_print_words.specs.Spelled.{Spelled, plain, spelled_of}
-use Rattle.com_print_operands.specs.Ranges.{Distinct as Apart}
-use Rattle.com_print_operands.proofs.Decimals.{decimal_digits}
-use Rattle.com_print_operands.proofs.Places.{end_again}
-use Rattle.com_print_statements.specs.Standing.{AreDeclared}
+use Rattle.com_print.specs.Spelled.{Spelled, plain, spelled_of}
+use Rattle.com_print.specs.Ranges.{Distinct as Apart}
+use Rattle.com_print.proofs.Decimals.{decimal_digits}
+use Rattle.com_print.proofs.Places.{end_again}
+use Rattle.com_print.specs.Standing.{AreDeclared}
 use Rattle.com_print_scenario.specs.Printed.{end_words, filter_name, filter_names, rule_words, rules_lines, filter_words, filters_lines, thread_words, program_lines, threads_lines, number_word, picks_lines}
 use Rattle.com_print_scenario.proofs.Apart.{IsNew, new_append, no_position}
 use Rattle.com_print_scenario.proofs.Following.{differs}

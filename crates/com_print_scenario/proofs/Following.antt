@@ -8,11 +8,11 @@ use Rattle.com_text.specs.Words.{WordAt}
 use Rattle.com_read_operands.specs.declared.faults.Fault.{Fault}
 use Rattle.com_read_operands.specs.Reading.{◌>>=◌}
 use Rattle.com_read_lines.specs.Declaring.{listed_item, listed_on, listed_at, pick_at, picks_on}
-use Rattle.com_print_words.specs.Spelled.{Spelled, plain, spelled_of}
-use Rattle.com_print_operands.specs.Words.{name_at}
-use Rattle.com_print_operands.specs.Ranges.{AreNames}
-use Rattle.com_print_operands.proofs.Names.{declared_again}
-use Rattle.com_print_operands.proofs.Places.{at, stands, word_again, present, number_at_again}
+use Rattle.com_print.specs.Spelled.{Spelled, plain, spelled_of}
+use Rattle.com_print.specs.Words.{name_at}
+use Rattle.com_print.specs.Ranges.{AreNames}
+use Rattle.com_print.proofs.Names.{declared_again}
+use Rattle.com_print.proofs.Places.{at, stands, word_again, present, number_at_again}
 use Rattle.com_print_scenario.specs.Printed.{number_word}
 
 -- words that differ by a test

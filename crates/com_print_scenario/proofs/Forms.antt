@@ -6,7 +6,7 @@ use Rattle.std.proofs.lemmas.Bool.Decides.{nat_tests}
 use Rattle.com_model.specs.Formed.{is_letter, is_name_byte, IsName, Distinct, EachFrom}
 use Rattle.com_read_operands.specs.Naming.{is_tail, are_tail, is_name}
 use Rattle.com_read_lines.specs.Methods.{type_word_of}
-use Rattle.com_print_operands.specs.Ranges.{AreNames, Distinct as Apart}
+use Rattle.com_print.specs.Ranges.{AreNames, Distinct as Apart}
 use Rattle.com_print_scenario.proofs.Methods.{AreTypes}
 
 -- ---- names

@@ -31,14 +31,14 @@ use Rattle.com_read_statements.specs.declared.names.Names.{Names}
 use Rattle.com_read_sections.specs.declared.state.State.{State}
 use Rattle.com_read_sections.specs.Opened.{program_of}
 use Rattle.com_read_sections.specs.Outlines.{taken_iids}
-use Rattle.com_print_words.specs.Spelled.{Spelled, plain, is_word_byte, IsPlainWord, IsSpelled, AreSpelled, AreLines}
-use Rattle.com_print_operands.specs.Words.{name_at}
-use Rattle.com_print_operands.specs.Ranges.{AreNames}
-use Rattle.com_print_operands.proofs.Spellings.{decimal_spelled, guid_spelled, op_spelled, name_spelled, name_bytes}
-use Rattle.com_print_statements.specs.Standing.{AreDeclared}
-use Rattle.com_print_statements.specs.Words.{name_of}
-use Rattle.com_print_statements.proofs.Goods.{statement_spelled}
-use Rattle.com_print_statements.proofs.Targets.{is_method_name}
+use Rattle.com_print.specs.Spelled.{Spelled, plain, is_word_byte, IsPlainWord, IsSpelled, AreSpelled, AreLines}
+use Rattle.com_print.specs.Words.{name_at}
+use Rattle.com_print.specs.Ranges.{AreNames}
+use Rattle.com_print.proofs.Spellings.{decimal_spelled, guid_spelled, op_spelled, name_spelled, name_bytes}
+use Rattle.com_print.specs.Standing.{AreDeclared}
+use Rattle.com_print.specs.StatementWords.{name_of}
+use Rattle.com_print.proofs.Goods.{statement_spelled}
+use Rattle.com_print.proofs.Targets.{is_method_name}
 use Rattle.com_print_scenario.specs.Printed.{number_word, end_words, filter_name, filter_names, names_in, kind_word, result_words, method_words, interface_lines, model_word, class_head, interface_name, body_words, program_lines, bodies_lines, class_lines, classes_lines, type_word, verdict_word, refusal_word, kept_word, rule_words, rules_lines, filters_lines, threads_lines, picks_lines, scenario_lines}
 use Rattle.com_print_scenario.specs.Ranges.{FitsTypes}
 use Rattle.com_print_scenario.proofs.Bodies.{CanFollow, CanGive}

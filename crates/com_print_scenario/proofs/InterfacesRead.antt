@@ -23,8 +23,8 @@ use Rattle.com_read_lines.specs.Methods.{type_word_of, method_of}
 use Rattle.com_read_sections.specs.Beginning.{top_line}
 use Rattle.com_read_sections.specs.Opened.{step, method_line, inner_interface, interface_closed}
 use Rattle.com_read_sections.specs.Outlines.{finish, read, outlined}
-use Rattle.com_print_words.specs.Spelled.{Spelled, plain, spelled_of, shown}
-use Rattle.com_print_operands.specs.Ranges.{IsGuid}
+use Rattle.com_print.specs.Spelled.{Spelled, plain, spelled_of, shown}
+use Rattle.com_print.specs.Ranges.{IsGuid}
 use Rattle.com_print_scenario.specs.Printed.{kind_word, result_words, method_words, interface_words, interface_lines}
 use Rattle.com_print_scenario.proofs.Apart.{new_of, no_method}
 use Rattle.com_print_scenario.proofs.Methods.{AreTypes, IsKind, IsResult, CanRead, method_again}

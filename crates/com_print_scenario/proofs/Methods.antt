@@ -12,11 +12,11 @@ use Rattle.com_read_operands.specs.Reading.{◌>>=◌, fault_at, word_at, end_at
 use Rattle.com_read_operands.specs.Naming.{is_name}
 use Rattle.com_read_statements.specs.Calls.{method_position}
 use Rattle.com_read_lines.specs.Methods.{type_word_of, type_by, type_at, item_at, signature_on, method_of}
-use Rattle.com_print_words.specs.Spelled.{Spelled, plain, spelled_of}
-use Rattle.com_print_operands.specs.Words.{name_at}
-use Rattle.com_print_operands.specs.Ranges.{AreNames}
-use Rattle.com_print_operands.proofs.Names.{declared_again, name_word, is_name_at}
-use Rattle.com_print_operands.proofs.Places.{at, StandsAt, stands, word_bytes, present, end_again}
+use Rattle.com_print.specs.Spelled.{Spelled, plain, spelled_of}
+use Rattle.com_print.specs.Words.{name_at}
+use Rattle.com_print.specs.Ranges.{AreNames}
+use Rattle.com_print.proofs.Names.{declared_again, name_word, is_name_at}
+use Rattle.com_print.proofs.Places.{at, StandsAt, stands, word_bytes, present, end_again}
 use Rattle.com_print_scenario.specs.Printed.{kind_word, result_words, method_words}
 use Rattle.com_print_scenario.proofs.Following.{differs, Follows, follows, follows_next, here_is, rest_of}
 use Rattle.com_print_scenario.proofs.Places.{at_of}

@@ -13,10 +13,10 @@ use Rattle.com_filter.specs.declared.Rule.{Rule}
 use Rattle.com_classes.specs.Tables.{Tables}
 use Rattle.com_classes.specs.Lookups.{class_at}
 use Rattle.com_read_statements.specs.declared.names.Names.{Names}
-use Rattle.com_print_words.specs.Spelled.{Spelled, plain, more_text, words_text, line_text, text_of}
-use Rattle.com_print_operands.specs.Ranges.{Fits, IsGuid}
-use Rattle.com_print_statements.specs.Words.{statement_words}
-use Rattle.com_print_statements.proofs.Pieces.{both_texts, words_behind}
+use Rattle.com_print.specs.Spelled.{Spelled, plain, more_text, words_text, line_text, text_of}
+use Rattle.com_print.specs.Ranges.{Fits, IsGuid}
+use Rattle.com_print.specs.StatementWords.{statement_words}
+use Rattle.com_print.proofs.StatementPieces.{both_texts, words_behind}
 use Rattle.com_print_scenario.specs.Printed.{kind_word, method_words, interface_words, interface_lines, program_lines, body_words, bodies_lines, class_head, interface_name, class_lines, classes_lines, rule_words, rules_lines, filter_words, filters_lines, thread_words, threads_lines, number_word, kept_word, picks_lines, model_word}
 use Rattle.com_print_scenario.specs.Ranges.{FitsProgram, FitsBodies, FitsClass, FitsInterface}
 use Rattle.com_print_scenario.proofs.Lists.{next_class, no_class, all_dropped}

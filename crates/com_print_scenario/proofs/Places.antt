@@ -16,11 +16,11 @@ use Rattle.com_read_operands.specs.Naming.{is_name, position_of}
 use Rattle.com_read_lines.specs.Tables.{has_guid}
 use Rattle.com_read_lines.specs.Methods.{type_word_of}
 use Rattle.com_read_lines.specs.Declaring.{free_guid_at, free_name_at, interface_name_at, filter_name_at, model_at, native_at, relay_of}
-use Rattle.com_print_words.specs.Spelled.{Spelled, plain, spelled_of}
-use Rattle.com_print_operands.specs.Ranges.{IsGuid}
-use Rattle.com_print_operands.proofs.Hexes.{guid_again}
-use Rattle.com_print_operands.proofs.Names.{name_word}
-use Rattle.com_print_operands.proofs.Places.{at, StandsAt, stands, IsGood, word_bytes}
+use Rattle.com_print.specs.Spelled.{Spelled, plain, spelled_of}
+use Rattle.com_print.specs.Ranges.{IsGuid}
+use Rattle.com_print.proofs.Hexes.{guid_again}
+use Rattle.com_print.proofs.Names.{name_word}
+use Rattle.com_print.proofs.Places.{at, StandsAt, stands, IsGood, word_bytes}
 use Rattle.com_print_scenario.specs.Printed.{model_word}
 
 -- what stands at a place of a line that was written

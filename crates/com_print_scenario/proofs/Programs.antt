@@ -19,14 +19,14 @@ use Rattle.com_read_sections.specs.declared.state.Section.TheVariants as section
 use Rattle.com_read_lines.specs.Codes.{CodeAt, code_more, checked}
 use Rattle.com_read_lines.specs.Programs.{spot_at, allowed, stated, program_line}
 use Rattle.com_read_sections.specs.Opened.{step, program_of, with_body, inner_body, body_ended, inner_thread, thread_ended}
-use Rattle.com_print_words.specs.Spelled.{Spelled, plain, spelled_of}
-use Rattle.com_print_operands.specs.Ranges.{Fits}
-use Rattle.com_print_operands.proofs.Places.{end_again}
-use Rattle.com_print_statements.specs.Reads.{Reads}
-use Rattle.com_print_statements.specs.Standing.{Stands, AreDeclared}
-use Rattle.com_print_statements.specs.Words.{statement_words}
-use Rattle.com_print_statements.proofs.Firsts.{Written}
-use Rattle.com_print_statements.proofs.Whole.{statement_reads}
+use Rattle.com_print.specs.Spelled.{Spelled, plain, spelled_of}
+use Rattle.com_print.specs.Ranges.{Fits}
+use Rattle.com_print.proofs.Places.{end_again}
+use Rattle.com_print.specs.Reads.{Reads}
+use Rattle.com_print.specs.Standing.{Stands, AreDeclared}
+use Rattle.com_print.specs.StatementWords.{statement_words}
+use Rattle.com_print.proofs.Firsts.{Written}
+use Rattle.com_print.proofs.Whole.{statement_reads}
 use Rattle.com_print_scenario.specs.Printed.{end_words}
 use Rattle.com_print_scenario.proofs.Places.{at_of, first_word}
 use Rattle.com_print_scenario.proofs.Following.{differs}

@@ -14,10 +14,10 @@ use Rattle.com_read_operands.specs.Numbers.{signed_of}
 use Rattle.com_read_operands.specs.Reading.{◌>>=◌, fault_at}
 use Rattle.com_read_sections.specs.Opened.{ruled}
 use Rattle.com_read_lines.specs.Rules.{rule_word_of, call_type_at, verdict_at, refusal_at, in_answers, as_answer, answer_at, kept_at, rule_of}
-use Rattle.com_print_words.specs.Spelled.{Spelled, plain, spelled_of}
-use Rattle.com_print_operands.specs.Ranges.{IsWhole}
-use Rattle.com_print_operands.proofs.Decimals.{signed_again}
-use Rattle.com_print_operands.proofs.Places.{at, stands, word_bytes, end_again, number_at_again}
+use Rattle.com_print.specs.Spelled.{Spelled, plain, spelled_of}
+use Rattle.com_print.specs.Ranges.{IsWhole}
+use Rattle.com_print.proofs.Decimals.{signed_again}
+use Rattle.com_print.proofs.Places.{at, stands, word_bytes, end_again, number_at_again}
 use Rattle.com_print_scenario.specs.Printed.{number_word, type_word, verdict_word, refusal_word, kept_word, rule_words}
 use Rattle.com_print_scenario.proofs.Places.{at_of}
 

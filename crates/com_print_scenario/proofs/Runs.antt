@@ -15,8 +15,8 @@ use Rattle.com_read_lines.specs.Codes.{CodeAt, code_more, checked, checked_by}
 use Rattle.com_read_sections.specs.Opened.{by_section, step}
 use Rattle.com_read_sections.specs.Outlines.{finish, read}
 use Rattle.com_read_statements.specs.declared.names.Names.{Names}
-use Rattle.com_print_words.specs.Spelled.{Spelled, spelled_of, Shown}
-use Rattle.com_print_statements.specs.Words.{statement_words}
+use Rattle.com_print.specs.Spelled.{Spelled, spelled_of, Shown}
+use Rattle.com_print.specs.StatementWords.{statement_words}
 use Rattle.com_print_scenario.specs.Printed.{end_words, program_lines}
 
 -- However the lines stand, reading them from this state gives the outline.

@@ -28,11 +28,11 @@ use Rattle.com_read_statements.specs.declared.keywords.Program.{Program}
 use Rattle.com_read_statements.specs.declared.names.Names.{Names}
 use Rattle.com_read_statements.specs.Keywords.{has_cells, has_links}
 use Rattle.com_read_statements.specs.Calls.{method_of, in_methods}
-use Rattle.com_print_operands.specs.Words.{name_at, slot_word}
-use Rattle.com_print_operands.specs.Ranges.{TakesOp, TakesGiven, TakesPlace, IsNamed, IsLiteral as CanWrite}
-use Rattle.com_print_statements.specs.Standing.{IsFilter, TakesArg, TakesArgs, TakesResult, TakesMethod, Stands}
-use Rattle.com_print_statements.specs.Words.{statement_words, class_word, interface_word}
-use Rattle.com_print_words.specs.Spelled.{Spelled, plain}
+use Rattle.com_print.specs.Words.{name_at, slot_word}
+use Rattle.com_print.specs.Ranges.{TakesOp, TakesGiven, TakesPlace, IsNamed, IsLiteral as CanWrite}
+use Rattle.com_print.specs.Standing.{IsFilter, TakesArg, TakesArgs, TakesResult, TakesMethod, Stands}
+use Rattle.com_print.specs.StatementWords.{statement_words, class_word, interface_word}
+use Rattle.com_print.specs.Spelled.{Spelled, plain}
 
 literal : (v : Value) → IsLiteral v → CanWrite v
 literal (values.Int z) h = tt

@@ -4,7 +4,7 @@ use Rattle.std.proofs.lemmas.List.{length-append}
 use Rattle.com_model.specs.declared.scenario.Scenario.{Scenario}
 use Rattle.com_model.specs.Formed.{Formed}
 use Rattle.com_classes.specs.BuiltIns.{built_in_interfaces}
-use Rattle.com_print_words.specs.Spelled.{Spelled, line_text, text_of}
+use Rattle.com_print.specs.Spelled.{Spelled, line_text, text_of}
 use Rattle.com_print_scenario.specs.Printed.{header_words, pool_words, names_in, interface_lines, classes_lines, filters_lines, threads_lines, picks_lines, sections_lines, scenario_lines, printed}
 use Rattle.com_print_scenario.specs.Ranges.{FitsInterface, FitsClass, FitsProgram, FitsTypes}
 use Rattle.com_print_scenario.proofs.Pieces.{all_text}

@@ -18,9 +18,9 @@ use Rattle.com_read_lines.specs.Tables.{has_guid}
 use Rattle.com_read_lines.specs.Methods.{type_word_of}
 use Rattle.com_read_lines.specs.Declaring.{free_name_at, free_guid_at, interface_name_at, filter_name_at, listed_at, model_at, native_at, natives_of}
 use Rattle.com_read_sections.specs.Beginning.{section_word_of, pool_line, interface_line, class_line, native_line, filter_line, thread_line, picks_line, top_by, top_line}
-use Rattle.com_print_words.specs.Spelled.{Spelled, plain, spelled_of}
-use Rattle.com_print_operands.specs.Ranges.{IsGuid, AreNames}
-use Rattle.com_print_operands.proofs.Places.{StandsAt, stands, end_again, number_at_again}
+use Rattle.com_print.specs.Spelled.{Spelled, plain, spelled_of}
+use Rattle.com_print.specs.Ranges.{IsGuid, AreNames}
+use Rattle.com_print.proofs.Places.{StandsAt, stands, end_again, number_at_again}
 use Rattle.com_print_scenario.specs.Printed.{number_word, pool_words, interface_words, class_head, filter_name, filter_words, thread_words}
 use Rattle.com_print_scenario.proofs.Places.{at_of, first_word, free_guid_again, free_name_again, interface_name_again, filter_name_again, model_again}
 use Rattle.com_print_scenario.proofs.Following.{interface_word_of, listed_again, follows, rest_of, picks_on_again}

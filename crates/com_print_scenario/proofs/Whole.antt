@@ -30,10 +30,10 @@ use Rattle.com_read_lines.specs.Methods.{type_word_of}
 use Rattle.com_read_lines.specs.Header.{version_of, ended, version_by, version_at}
 use Rattle.com_read_sections.specs.Header.{header_line}
 use Rattle.com_read_sections.specs.Outlines.{begun, taken_iids, finish}
-use Rattle.com_print_words.specs.Spelled.{Spelled, plain, spelled_of}
-use Rattle.com_print_operands.specs.Ranges.{AreNames}
-use Rattle.com_print_operands.proofs.Places.{end_again}
-use Rattle.com_print_statements.specs.Standing.{AreDeclared, names_of}
+use Rattle.com_print.specs.Spelled.{Spelled, plain, spelled_of}
+use Rattle.com_print.specs.Ranges.{AreNames}
+use Rattle.com_print.proofs.Places.{end_again}
+use Rattle.com_print.specs.Standing.{AreDeclared, names_of}
 use Rattle.com_print_scenario.specs.Printed.{header_words, pool_words, number_word, filter_names, names_in, interface_lines, class_lines, classes_lines, filters_lines, threads_lines, picks_lines, sections_lines, scenario_lines, outline_of}
 use Rattle.com_print_scenario.specs.Ranges.{FitsTypes}
 use Rattle.com_print_scenario.proofs.Added.{add_all, can_read_all}

@@ -23,9 +23,9 @@ use Rattle.com_model.specs.declared.scenario.Scenario.{Scenario}
 use Rattle.com_read_sections.specs.declared.outline.Outline.{Outline}
 use Rattle.com_read_statements.specs.declared.names.Names.{Names}
 use Rattle.com_read_statements.specs.Calls.{method_of}
-use Rattle.com_print_words.specs.Spelled.{Spelled, plain, text_of}
-use Rattle.com_print_operands.specs.Words.{name_at}
-use Rattle.com_print_statements.specs.Words.{name_of, statement_words}
+use Rattle.com_print.specs.Spelled.{Spelled, plain, text_of}
+use Rattle.com_print.specs.Words.{name_at}
+use Rattle.com_print.specs.StatementWords.{name_of, statement_words}
 
 abbrev pub number_word : ℕ → Spelled
 number_word n = plain (decimal n)

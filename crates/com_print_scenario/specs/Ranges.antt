@@ -7,7 +7,7 @@ use Rattle.com_classes.specs.declared.interfaces.Interface.{Interface}
 use Rattle.com_classes.specs.declared.classes.Class.{Class}
 use Rattle.com_classes.specs.declared.classes.MethodBody.{MethodBody}
 use Rattle.com_model.specs.declared.scenario.Scenario.{Scenario}
-use Rattle.com_print_operands.specs.Ranges.{IsGuid, Fits}
+use Rattle.com_print.specs.Ranges.{IsGuid, Fits}
 
 abbrev pub FitsProgram : List Stmt → Type 0
 FitsProgram statements = All Fits statements

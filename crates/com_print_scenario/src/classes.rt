@@ -2,8 +2,8 @@
 
 ghost use Rattle.std.specs.Prelude.{◌≡◌, ◌≤◌, ◌++◌, ◌∷◌, [], OnOk, All, codes, length, map};
 ghost use Rattle.com_body.specs.declared.frame.Native.TheVariants as natives;
-ghost use Rattle.com_print_operands.specs.Ranges.{IsGuid};
-ghost use Rattle.com_print_words.specs.Spelled.{plain, words_text, more_text, line_text, text_of};
+ghost use Rattle.com_print.specs.Ranges.{IsGuid};
+ghost use Rattle.com_print.specs.Spelled.{plain, words_text, more_text, line_text, text_of};
 ghost use Rattle.com_print_scenario.specs.Printed.{program_lines, body_words, bodies_lines, class_head};
 ghost use Rattle.com_print_scenario.specs.Printed.{interface_name, class_lines, classes_lines, model_word};
 ghost use Rattle.com_print_scenario.specs.Ranges.{FitsProgram, FitsBodies, FitsClass};
@@ -11,9 +11,9 @@ ghost use Rattle.com_print_scenario.specs.Ranges.{FitsProgram, FitsBodies, FitsC
 use com_base::{ByteList, Memory};
 use com_body::{Native, Stmt};
 use com_classes::{Class, Classes, MethodBody, ThreadingModel};
-use com_print_operands::{name_at, push_guid, push_name, push_word};
-use com_print_statements::{method_name, write_statement};
-use com_print_words::push_end;
+use com_print::operands::{name_at, push_guid, push_name, push_word};
+use com_print::statements::{method_name, write_statement};
+use com_print::words::push_end;
 use com_read_statements::Names;
 
 /// Appends statements, each in its line, and the line that ends them.

@@ -2,7 +2,7 @@
 
 ghost use Rattle.std.specs.Prelude.{◌≡◌, ◌++◌, ◌∷◌, [], OnOk, All, map, codes};
 ghost use Rattle.std.specs.Fmt.{signed_decimal};
-ghost use Rattle.com_print_words.specs.Spelled.{plain, more_text, words_text, line_text, text_of};
+ghost use Rattle.com_print.specs.Spelled.{plain, more_text, words_text, line_text, text_of};
 ghost use Rattle.com_print_scenario.specs.Printed.{number_word, type_word, verdict_word, refusal_word};
 ghost use Rattle.com_print_scenario.specs.Printed.{kept_word, rule_words, rules_lines, filter_words};
 ghost use Rattle.com_print_scenario.specs.Printed.{filters_lines, threads_lines, picks_lines};
@@ -12,8 +12,8 @@ use crate::classes::push_program;
 use com_base::{ByteList, Memory};
 use com_body::Body;
 use com_filter::{Filter, Rule, Verdict};
-use com_print_operands::{push_decimal, push_signed, push_word};
-use com_print_words::push_end;
+use com_print::operands::{push_decimal, push_signed, push_word};
+use com_print::words::push_end;
 use com_read_statements::Names;
 use itoa::Buffer;
 

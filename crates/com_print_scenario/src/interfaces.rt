@@ -1,16 +1,16 @@
 //! Interfaces and their methods as lines.
 
 ghost use Rattle.std.specs.Prelude.{◌≡◌, ◌++◌, ◌∷◌, [], OnOk, All, map};
-ghost use Rattle.com_print_operands.specs.Ranges.{IsGuid};
-ghost use Rattle.com_print_words.specs.Spelled.{plain, words_text, more_text, line_text, text_of};
+ghost use Rattle.com_print.specs.Ranges.{IsGuid};
+ghost use Rattle.com_print.specs.Spelled.{plain, words_text, more_text, line_text, text_of};
 ghost use Rattle.com_print_scenario.specs.Printed.{kind_word, result_words, method_words, interface_words};
 ghost use Rattle.com_print_scenario.specs.Printed.{interface_lines};
 ghost use Rattle.com_print_scenario.specs.Ranges.{FitsInterface};
 
 use com_base::{ByteList, Kind, Memory};
 use com_classes::{Interface, Method};
-use com_print_operands::{push_guid, push_name, push_word};
-use com_print_words::push_end;
+use com_print::operands::{push_guid, push_name, push_word};
+use com_print::words::push_end;
 
 /// Appends a type: a word of the language, or an interface's name.
 fn push_kind(out: &mut ByteList, names: &[ByteList], kind: Kind) -> Result<(), Memory>

@@ -6,7 +6,7 @@ ghost use Rattle.com_model.specs.declared.scenario.Scenario.{Scenario};
 ghost use Rattle.com_model.specs.Formed.{Formed};
 ghost use Rattle.com_text.specs.Scanning.{lines_of};
 ghost use Rattle.com_read_sections.specs.Outlines.{begun, read};
-ghost use Rattle.com_print_words.specs.Spelled.{AreLines};
+ghost use Rattle.com_print.specs.Spelled.{AreLines};
 ghost use Rattle.com_print_scenario.specs.Printed.{scenario_lines, printed, outline_of};
 ghost use Rattle.com_print_scenario.specs.Ranges.{FitsTypes};
 

@@ -2,7 +2,7 @@
 
 ghost use Rattle.std.specs.Prelude.{◌≡◌, ◌≤◌, ◌++◌, OnOk, IfOk, drop, length};
 ghost use Rattle.com_model.specs.Formed.{Formed};
-ghost use Rattle.com_print_words.specs.Spelled.{line_text};
+ghost use Rattle.com_print.specs.Spelled.{line_text};
 ghost use Rattle.com_print_scenario.specs.Printed.{header_words, pool_words, printed};
 ghost use Rattle.com_print_scenario.specs.Ranges.{FitsTypes};
 
@@ -13,8 +13,8 @@ use crate::names::names_of;
 use com_base::{BUILT_IN_COUNT, ByteList, Memory};
 use com_classes::Interface;
 use com_model::Scenario;
-use com_print_operands::push_decimal;
-use com_print_words::push_end;
+use com_print::operands::push_decimal;
+use com_print::words::push_end;
 use std::alloc::Global;
 
 /// The interfaces beside the built-in ones.

@@ -3,3 +3,5 @@ pub mod Numbers
 pub mod Quiets
 pub mod Chains
 pub mod Outs
+pub mod Words
+pub mod Says

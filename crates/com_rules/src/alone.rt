@@ -8,7 +8,7 @@ ghost use Rattle.com_view.specs.Seen.{sight_by};
 ghost use Rattle.com_view.specs.Connected.{Says};
 ghost use Rattle.com_rules.specs.Fits.{FitsAction, IsOnLane, IsOnObject};
 
-use com_action_deeds::{
+use crate::deeds::{
     create_deed, disconnect_deed, filter_deed, get_deed, init_deed, post_deed, query_deed,
     quit_deed, register_deed, revoke_deed,
 };

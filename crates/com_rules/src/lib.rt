@@ -6,6 +6,7 @@ mod actions;
 mod alone;
 mod asking;
 mod chain;
+mod deeds;
 mod making;
 mod naming;
 mod room;

@@ -10,7 +10,7 @@ ghost use Rattle.com_model.specs.Deeds.{deed_of, is_named, named_by, named_packe
 ghost use Rattle.com_view.specs.Seen.{sight_by};
 
 use crate::asking::Found;
-use com_action_deeds::unmarshal_deed;
+use crate::deeds::unmarshal_deed;
 use com_base::{HResult, StdFields};
 use com_deeds::{Named, drop_deed, packet_fields, standard_fields};
 use com_model::Deed;

@@ -20,8 +20,8 @@ ghost use Rattle.com_view.specs.Seen.{bare, sight_by};
 use crate::actions::Doing;
 use crate::alone::is_connected;
 use crate::asking::Found;
+use crate::deeds::{call_refusal, next_cause};
 use crate::making::fields_made;
-use com_action_deeds::{call_refusal, next_cause};
 use com_base::{ByteList, HResult, Kind, Memory, RefValue, Rows, Value};
 use com_calls::Issued;
 use com_deeds::{number_or_zero, object_in, out, refusal_or_ok};
@@ -141,7 +141,7 @@ fn route(view: &View<'_>, lane: u32, target: Option<RefValue>, refusal: Option<H
 {
     match refusal {
         Some(_) => Route::Refused,
-        None => com_action_deeds::route(view, lane, target),
+        None => crate::deeds::route(view, lane, target),
     }
 }
 

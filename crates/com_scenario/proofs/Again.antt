@@ -7,7 +7,7 @@ use Rattle.com_text.specs.Scanning.{lines_of}
 use Rattle.com_read_operands.specs.declared.faults.Fault.{Fault}
 use Rattle.com_read_operands.specs.Reading.{◌>>=◌}
 use Rattle.com_read_sections.specs.declared.outline.Outline.{Outline}
-use Rattle.com_print_words.proofs.Scanned.{lines_again}
+use Rattle.com_print.proofs.Scanned.{lines_again}
 use Rattle.com_print_scenario.specs.Printed.{scenario_lines, printed}
 use Rattle.com_print_scenario.specs.Ranges.{FitsTypes}
 use Rattle.com_print_scenario.proofs.Goods.{scenario_good}

@@ -8,12 +8,14 @@ ghost use Rattle.com_servant.specs.Rows.{one_more, index_of, row};
 ghost use Rattle.com_servant.specs.Steps.{IsOfItsClass, job_step};
 
 mod built_ins;
+mod crew;
 mod interpreter;
 
 pub use built_ins::{Counter, Latch, Relay};
 pub use com_base::Memory;
 use com_body::{Job, Native, Outcome};
 use com_classes::Classes;
+pub use crew::{ROWS, is_manned};
 pub use interpreter::Interpreter;
 use std::alloc::Global;
 

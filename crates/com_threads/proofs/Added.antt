@@ -14,12 +14,12 @@ use Rattle.com_model.specs.State.{State, StandsFor, first_tables, sight_of}
 use Rattle.com_model.specs.Tables.{lanes}
 use Rattle.com_model.proofs.Sights.{same-sight}
 use Rattle.com_model.proofs.Whole.{first-stands}
-use Rattle.com_jobs.proofs.Taken.{stands-next}
-use Rattle.com_drive.specs.Reports.{all_counts_in}
-use Rattle.com_drive.specs.Standings.{ended_now, Reached}
-use Rattle.com_drive.specs.Turns.{IsNext}
-use Rattle.com_drive.proofs.Counting.{all-counted}
-use Rattle.com_drive.proofs.Resting.{reached_by}
+use Rattle.com_runtime.proofs.Taken.{stands-next}
+use Rattle.com_runtime.specs.Reports.{all_counts_in}
+use Rattle.com_runtime.specs.Standings.{ended_now, Reached}
+use Rattle.com_runtime.specs.Turns.{IsNext}
+use Rattle.com_runtime.proofs.Counting.{all-counted}
+use Rattle.com_runtime.proofs.Resting.{reached_by}
 use Rattle.com_threads.specs.Histories.{Adds, newest_first, Written, UpToDate}
 
 -- ---- what was added

@@ -1,9 +1,9 @@
 -- What the driver cannot find.
 use Rattle.std.proofs.Common.{◌≡◌, ◌∙◌, ap, true, None}
-use Rattle.com_drive.specs.declared.runtime.Standing.TheVariants as standing
-use Rattle.com_drive.specs.Standings.{standing_of, ended_now, none_can_in}
-use Rattle.com_drive.proofs.Choices.{not_runs}
-use Rattle.com_drive.proofs.Turning.{not_finished, not_stuck}
+use Rattle.com_runtime.specs.declared.runtime.Standing.TheVariants as standing
+use Rattle.com_runtime.specs.Standings.{standing_of, ended_now, none_can_in}
+use Rattle.com_runtime.proofs.Choices.{not_runs}
+use Rattle.com_runtime.proofs.Limits.{not_finished, not_stuck}
 use Rattle.com_model.specs.declared.scenario.Scenario.{Scenario}
 use Rattle.com_model.specs.State.{State}
 

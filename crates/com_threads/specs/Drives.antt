@@ -1,6 +1,6 @@
 -- What a turn of the driver did.
 use Rattle.std.specs.Prelude.{◌≡◌, ℕ, ◌+◌, ◌≤◌, Some}
-use Rattle.com_drive.specs.Standings.{ended_now}
+use Rattle.com_runtime.specs.Standings.{ended_now}
 use Rattle.com_model.specs.declared.scenario.Scenario.{Scenario}
 use Rattle.com_model.specs.State.{State}
 use Rattle.com_model.specs.Tables.{lanes}

@@ -1,7 +1,7 @@
 -- What a lane does next, and what a worker has between two turns.
 use Rattle.std.specs.Prelude.{◌≡◌, ◌<◌, ℕ, IfOk, IfSome, MatchOption, None}
-use Rattle.com_jobs.specs.declared.jobs.Next.TheVariants as next
-use Rattle.com_jobs.specs.Jobs.{HasShape, next_in}
+use Rattle.com_runtime.specs.declared.jobs.Next.TheVariants as next
+use Rattle.com_runtime.specs.Jobs.{HasShape, next_in}
 use Rattle.com_model.specs.declared.scenario.Scenario.{Scenario}
 use Rattle.com_model.specs.Ends.{limit}
 use Rattle.com_model.specs.State.{State}

@@ -7,8 +7,8 @@ ghost use Rattle.com_threads.specs.Turns.{IsWork};
 
 use crate::desk::{Desk, Turn, Work};
 use com_base::Memory;
-use com_jobs::Jobs;
 use com_model::{Entry, Scenario};
+use com_runtime::Jobs;
 use com_turnstile::Grows;
 use std::alloc::Global;
 use std::marker::{Brand, Model, PhantomData};

@@ -1,9 +1,9 @@
 //! A runtime, and the history that it has made: what lies under the lock.
 ghost use Rattle.std.specs.Prelude.{◌≡◌, ◌+◌, ◌<◌, ◌≤◌, false, IfOk, OnOk, None, length};
-ghost use Rattle.com_drive.specs.Standings.{standing_of};
-ghost use Rattle.com_drive.specs.declared.runtime.Standing.TheVariants as standing;
-ghost use Rattle.com_jobs.specs.declared.jobs.Next.TheVariants as next;
-ghost use Rattle.com_jobs.specs.Jobs.{HasShape, next_in};
+ghost use Rattle.com_runtime.specs.Standings.{standing_of};
+ghost use Rattle.com_runtime.specs.declared.runtime.Standing.TheVariants as standing;
+ghost use Rattle.com_runtime.specs.declared.jobs.Next.TheVariants as next;
+ghost use Rattle.com_runtime.specs.Jobs.{HasShape, next_in};
 ghost use Rattle.com_model.specs.Ends.{limit};
 ghost use Rattle.com_model.specs.Tables.{lanes};
 ghost use Rattle.com_servant.specs.Steps.{job_step};
@@ -14,8 +14,8 @@ ghost use Rattle.com_threads.specs.Turns.{IsNextOf, IsWork};
 use crate::pages::Pages;
 use com_base::Memory;
 use com_body::{Job, Outcome};
-use com_jobs::{CommitError, Jobs, Next, Standing};
 use com_model::Scenario;
+use com_runtime::{CommitError, Jobs, Next, Standing};
 use std::alloc::Global;
 
 // How many entries of its own a lane makes at most before its worker leaves the lock, beside the one whose

@@ -1,7 +1,7 @@
 //! What is left when the workers have ended: the calling thread makes the rest of the entries.
 ghost use Rattle.std.specs.Prelude.{◌≡◌, ◌+◌, ◌≤◌, ◌<◌, Some, All, IfOk, IfSome, OnOk, length, map};
 ghost use Rattle.std.specs.Prelude.{vec_len};
-ghost use Rattle.com_drive.specs.Standings.{ended_now, standing_of, CanGo, Reached};
+ghost use Rattle.com_runtime.specs.Standings.{ended_now, standing_of, CanGo, Reached};
 ghost use Rattle.com_model.specs.Ends.{limit};
 ghost use Rattle.com_model.specs.Tables.{lanes};
 ghost use Rattle.com_servant.specs.Rows.{row};
@@ -11,9 +11,8 @@ ghost use Rattle.com_threads.specs.Histories.{UpToDate};
 use crate::desk::Desk;
 use crate::worker::Row;
 use com_base::Memory;
-use com_drive::{Chosen, Standing, choose, end_of};
-use com_jobs::Jobs;
 use com_model::{Ended, Scenario};
+use com_runtime::{Chosen, Jobs, Standing, choose, end_of};
 use std::alloc::Global;
 
 // What a turn of the driver did.
@@ -26,7 +25,7 @@ pub(crate) enum Driven {
 }
 
 // How a runtime stands, whose lanes were tried: it runs where one of them can step.
-#[tactic(auto, using(com_drive::proofs::Resting::runs_reached))]
+#[tactic(auto, using(com_runtime::proofs::Resting::runs_reached))]
 fn stand<C: Jobs>(runtime: &C, chosen: Option<Chosen>) -> Standing
     requires goes { IfSome chosen (λ chosen. CanGo (C.scenario runtime.now)
         (C.state runtime.now) chosen.lane) }

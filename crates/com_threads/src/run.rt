@@ -1,6 +1,6 @@
 //! A run on threads: the workers, and what is left for the calling thread.
 ghost use Rattle.std.specs.Prelude.{◌≡◌, ◌+◌, ◌≤◌, All, IfOk, Some, map, vec_len};
-ghost use Rattle.com_drive.specs.Standings.{ended_now};
+ghost use Rattle.com_runtime.specs.Standings.{ended_now};
 ghost use Rattle.com_model.specs.Clock.{clock};
 ghost use Rattle.com_model.specs.Ends.{all_counts, ended_as};
 ghost use Rattle.com_model.specs.Formed.{Formed};
@@ -20,9 +20,8 @@ use crate::gate::Gate;
 use crate::pages::Pages;
 use crate::worker::{Row, Worker, deal, in_threads, work};
 use com_base::{Memory, Rows};
-use com_drive::all_counts;
-use com_jobs::Jobs;
 use com_model::{Counts, Ended, Entry, Scenario};
+use com_runtime::{Jobs, all_counts};
 use com_turnstile::{Guard, Turnstile};
 use std::alloc::Global;
 use std::marker::Brand;

@@ -6,9 +6,9 @@ use Rattle.com_io.specs.Told.{Gains, GainsPrefix}
 use Rattle.com_model.specs.declared.counts.Ended.{Ended}
 use Rattle.com_model.specs.declared.scenario.Scenario.{Scenario}
 use Rattle.com_model.specs.Ends.{ended_as, scheduled}
-use Rattle.com_drive.specs.declared.replayed.Replayed.{Replayed}
-use Rattle.com_drive.specs.Replays.{IsReplay, whole_text}
-use Rattle.com_written.proofs.Schedule.{legal-end}
+use Rattle.com_replay.specs.declared.replayed.Replayed.{Replayed}
+use Rattle.com_replay.specs.Replays.{IsReplay, whole_text}
+use Rattle.com_laws_safe.proofs.Schedule.{legal-end}
 use Rattle.com_commands.specs.declared.statuses.Status.{Status}
 use Rattle.com_commands.specs.declared.statuses.Status.TheVariants as status
 use Rattle.com_commands.specs.Histories.{IsHistory}

@@ -10,7 +10,7 @@ use Rattle.com_laws_scenario.specs.Holds.{Holds}
 use Rattle.com_commands.specs.declared.inputs.Input.{Input}
 use Rattle.com_commands.specs.declared.inputs.Input.TheVariants as input
 use Rattle.com_commands.specs.Inputs.{IsSound, input_of, read_as}
-use Rattle.com_written.proofs.One.{scheduled-one}
+use Rattle.com_laws_safe.proofs.One.{scheduled-one}
 use Rattle.com_top.specs.Scenarios.{ScenariosAreSafe, scenario_input}
 
 sound_read : (r : Result Scenario Fault) → Holds Formed r → IsSound Formed (read_as r)

@@ -5,10 +5,10 @@ use Rattle.com_io.specs.Told.{Gains}
 use Rattle.com_model.specs.declared.counts.Ended.{Ended}
 use Rattle.com_model.specs.declared.scenario.Scenario.{Scenario}
 use Rattle.com_model.specs.Ends.{ended_as, scheduled}
-use Rattle.com_drive.specs.Replays.{whole_text}
+use Rattle.com_replay.specs.Replays.{whole_text}
 use Rattle.com_scenario.specs.Scenarios.{reading}
 use Rattle.com_scenario.specs.Sizes.{is_too_long}
-use Rattle.com_written.specs.OneHistory.{OneHistory}
+use Rattle.com_laws_safe.specs.OneHistory.{OneHistory}
 use Rattle.com_commands.specs.declared.inputs.Input.{Input}
 use Rattle.com_commands.specs.declared.inputs.Input.TheVariants as input
 use Rattle.com_commands.specs.Histories.{IsHistory}

@@ -6,11 +6,11 @@ ghost use Rattle.com_top.specs.Commands.{Answered, CrewServed, IsUsage, ReadsNon
 ghost use Rattle.com_top.specs.declared.words.Command.TheVariants as command;
 ghost use Rattle.com_top.specs.Words.{command_of};
 
-use crate::checks::check_main;
-use crate::explaining::waits_main;
-use crate::loads::load_main;
-use crate::replays::replay_main;
-use crate::shows::objref_main;
+use crate::check::check_main;
+use crate::load::load_main;
+use crate::objref::objref_main;
+use crate::replay::replay_main;
+use crate::waits::waits_main;
 use crate::words::{Command, command_of};
 use com_command_dispatch::dispatch_main;
 use com_command_migrate::migrate_main;

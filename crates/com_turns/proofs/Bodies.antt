@@ -13,13 +13,13 @@ use Rattle.com_model.specs.declared.scenario.Scenario.{Scenario}
 use Rattle.com_model.specs.Frames.{issued_body}
 use Rattle.com_model.specs.Tables.{script}
 use Rattle.com_servant.specs.Rows.{index_of, one_more, one_served}
-use Rattle.com_jobs.specs.Jobs.{job_by}
+use Rattle.com_runtime.specs.Jobs.{job_by}
 use Rattle.com_servant.specs.Steps.{job_step, native_at}
 use Rattle.com_state.specs.Parts.{class_at, issue_at}
 use Rattle.com_state.specs.SceneParts.{body_at, cells_at, script_at}
 use Rattle.com_view.specs.Seen.{Seen}
 use Rattle.com_turns.specs.Turns.{body_seen, script_seen}
-use Rattle.com_work.specs.Work.{work_seen}
+use Rattle.com_turns.specs.Work.{work_seen}
 
 -- A job that is the work of a body has its kind, and its step is that of the body.
 by-kind : (n : ℕ) (k : Option Native) (i : Option Issue) (f : FrameView) (c : Cells) (job : Job) → job_by n k i f c ≡ Some job → k ≡ Some job.kind

@@ -26,7 +26,7 @@ use Rattle.com_view.specs.Reads.{Reads}
 use Rattle.com_view.specs.Seen.{Seen, filter_seen, sight_by}
 use Rattle.com_view.proofs.Sights.{reads_state}
 use Rattle.com_turns.specs.declared.turns.Turn.{Turn}
-use Rattle.com_drive.specs.Turns.{body_kind}
+use Rattle.com_runtime.specs.Turns.{body_kind}
 use Rattle.com_turns.specs.Turns.{IsIssued, IsNext, acting_seen, actor_later, carried_seen, carried_with, deed_made, issuing_seen, kind_seen, outcome_seen, step_seen, told_of}
 
 sorted_lane : (s : Scenario) (v : Sight) (l : ℕ) (a b c e : Bool) → a ≡ false → e ≡ true

@@ -26,7 +26,7 @@ use Rattle.com_model.specs.State.{is_marshalled_by, scene_read}
 use Rattle.com_model.specs.Values.{carried, result_list}
 use Rattle.com_model.specs.Tables.{LaneSort, lane_sort, script}
 use Rattle.com_scene.specs.Actors.{acting_of}
-use Rattle.com_drive.specs.Turns.{body_kind}
+use Rattle.com_runtime.specs.Turns.{body_kind}
 use Rattle.com_state.specs.Parts.{Issuing, class_at, issue_at, named_at, openers_at, lanes_after}
 use Rattle.com_state.specs.SceneParts.{body_at, cells_at, script_at}
 use Rattle.com_view.specs.Seen.{Seen, home_seen, running_seen, sight_by}

@@ -16,7 +16,7 @@ ghost use Rattle.com_state.specs.After.{acting_in, actor_after, filtered_by, iss
 ghost use Rattle.com_state.specs.Parts.{CallTables, Moment, ObjectTables, calls_after, issue_at, openers_at};
 ghost use Rattle.com_view.specs.Reads.{Reads};
 ghost use Rattle.com_view.specs.Seen.{Seen, filter_seen, sight_by};
-ghost use Rattle.com_drive.specs.Turns.{body_kind};
+ghost use Rattle.com_runtime.specs.Turns.{body_kind};
 ghost use Rattle.com_turns.specs.Turns.{IsIssued, acting_seen, actor_later, carried_seen, carried_with};
 ghost use Rattle.com_turns.specs.Turns.{issuing_seen, kind_seen, step_seen, told_of};
 

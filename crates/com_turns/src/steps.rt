@@ -7,13 +7,12 @@ ghost use Rattle.com_state.specs.Parts.{class_at};
 ghost use Rattle.com_turns.specs.Turns.{body_seen, script_seen};
 ghost use Rattle.com_reference_moves.specs.Steps.{BodiesWhole, IsWhole};
 
-use com_acting::step_of;
+use crate::{step_of, work_of};
 use com_base::Memory;
 use com_body::Outcome;
 use com_scene::Actor;
 use com_servant::{Servant, serve};
 use com_view::View;
-use com_work::work_of;
 use std::alloc::Global;
 
 /// The answer where the parts are none that the rules give: a lane without script, or numbers beyond their

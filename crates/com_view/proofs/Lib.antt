@@ -6,3 +6,5 @@ pub mod Gone
 pub mod Chosen
 pub mod Any
 pub mod Stepping
+mod Each
+pub mod Timed

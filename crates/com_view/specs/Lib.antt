@@ -6,3 +6,4 @@ pub mod Connected
 pub mod Opened
 pub mod Given
 pub mod Times
+pub mod Standings

@@ -4,6 +4,7 @@
 mod admission;
 mod answering;
 mod entering;
+mod going_on;
 mod holding;
 mod lanes;
 mod laws;
@@ -14,6 +15,7 @@ mod sorts;
 mod standing;
 mod view;
 
+pub use going_on::standing_of;
 pub use holding::References;
 pub use laws::reads_the_state;
 pub use next::Next;

@@ -76,7 +76,7 @@ pub fn explain_by(
 /// Why a history that has ended so is stuck, by its entries in the order of their making; nothing where it is
 /// not stuck. The only error is want of memory.
 ///
-/// It is for callers that made the history and know its end. `com_explain::explain` finds the end by itself.
+/// It is for callers that made the history and know its end. `com_replay::explain` finds the end by itself.
 pub fn waits_at(
     alloc: Global,
     scenario: &Scenario,

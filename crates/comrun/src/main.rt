@@ -7,10 +7,9 @@ ghost use Rattle.com_top.specs.Commands.{Answered, ReadsNone};
 ghost use Rattle.com_top.specs.Words.{command_of};
 
 use com_base::Memory;
-use com_crew::{ROWS, is_manned};
 use com_io::{Sink, Source, StdSink, StdSource};
-use com_retrace::fresh_row;
-use com_servant::Servant;
+use com_replay::fresh_row;
+use com_servant::{ROWS, Servant, is_manned};
 use com_threads::OpenGate;
 use com_top::com_main;
 use std::alloc::{AllocError, Global};

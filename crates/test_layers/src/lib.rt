@@ -11,6 +11,10 @@ mod classes;
 #[cfg(test)]
 mod fields;
 #[cfg(test)]
+mod formed;
+#[cfg(test)]
+mod operands;
+#[cfg(test)]
 mod outlines;
 #[cfg(test)]
 mod statements;

@@ -3,7 +3,7 @@
 use com_base::{ByteList, Guid, HResult, Kind, MarshalMode, Mode, Rows, Value};
 use com_body::{Arg, Asked, Code, Destination, Given, Op, Place, Stmt};
 use com_classes::{Interface, Method};
-use com_print_statements::{write_statement, written_is_read};
+use com_print::statements::{write_statement, written_is_read};
 use com_read_statements::Names;
 use std::alloc::Global;
 use std::test::*;
@@ -102,7 +102,7 @@ fn statements_are_written(rt: HostRuntime) -> Result<(), Fail> {
         write_statement(&names, statement, &mut out)?;
     }
     let want = b"create s0 Counter ICounter\ncall s0 ICounter.add 5 -> r1\ncall s0 ICounter.#0\n\
-        copy k0 s0\nleave 0x00000000 r1\nmarshal p0 s0 strong\nraw p3 4d454f57\n\
+        copy k0 s0\nleave S_OK r1\nmarshal p0 s0 strong\nraw p3 4d454f57\n\
         skipz r1 2000\nsetfilter Patient\nsetfilter none\ninit sta\nuninit\n";
     assert_eq!(rt; out.as_slice(), want.as_slice());
     written_is_read();

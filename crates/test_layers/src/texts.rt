@@ -54,7 +54,7 @@ fn sections_are_printed_in_their_order(rt: HostRuntime) -> Result<(), Fail> {
         written.as_slice(),
         b"scenario 2\npool 3\ninterface A {5C0B0001-0000-4000-8000-000000000009}\n\
         method go A int -> A\nclass D {5C0B0001-0000-4000-8000-000000000002} none A\n\
-        body A.go\nleave 0x00000000 s0\nend\nend\nfilter F1\npending 5 wait\n\
+        body A.go\nleave S_OK s0\nend\nend\nfilter F1\npending 5 wait\n\
         retry * 0 -1\nend\nthread\nsetfilter F1\nend\npicks 1 2 3\n"
             .as_slice()
     );

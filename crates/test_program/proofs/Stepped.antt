@@ -5,8 +5,8 @@ use Rattle.com_model.specs.Ends.{limit}
 use Rattle.com_model.specs.Formed.{Formed}
 use Rattle.com_model.specs.State.{State, first_tables}
 use Rattle.com_model.proofs.Whole.{first-stands}
-use Rattle.com_drive.specs.Standings.{Reached}
-use Rattle.com_drive.proofs.Resting.{reached_by}
+use Rattle.com_runtime.specs.Standings.{Reached}
+use Rattle.com_runtime.proofs.Resting.{reached_by}
 
 pub reached_first : (s : Scenario) (st : State) → Formed s → st ≡ first_tables s → Reached s st
 reached_first s st f first =

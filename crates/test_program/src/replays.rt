@@ -3,7 +3,7 @@
 use crate::add_each_kind;
 use com_io::MemorySink;
 use com_model::Ended;
-use com_play::replay;
+use com_replay::replay;
 use com_scenario::parse;
 use com_servant::Servant;
 use std::sync::Arc;

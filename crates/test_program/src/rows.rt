@@ -1,10 +1,9 @@
 //! Calls of the top with a crew of servants that have made no step.
 
 use com_base::Memory;
-use com_crew::{ROWS, is_manned};
 use com_io::{MemorySink, MemorySource};
-use com_retrace::fresh_row;
-use com_servant::Servant;
+use com_replay::fresh_row;
+use com_servant::{ROWS, Servant, is_manned};
 use com_threads::OpenGate;
 use com_top::com_main;
 use std::alloc::{AllocError, Global};

@@ -6,7 +6,7 @@ use com_body::Native;
 use com_servant::Servant;
 
 /// Puts one servant more behind a row. Its kind is told to the proof alone, which finds it here at once: in a
-/// test that makes all four before the row (`com_retrace::row_of`) the search for it ends at its limits.
+/// test that makes all four before the row (`com_replay::row_of`) the search for it ends at its limits.
 pub fn add(
     servants: &mut Vec<Box<dyn Servant + Send>>,
     servant: Box<dyn Servant + Send>,

@@ -3,8 +3,7 @@ ghost use Rattle.std.specs.Prelude.{◌≡◌};
 
 use com_body::{Job, Native, Outcome};
 use com_classes::Classes;
-use com_crew::ROWS;
-use com_servant::{Memory, Servant};
+use com_servant::{Memory, ROWS, Servant};
 use std::alloc::Global;
 use std::array;
 use std::sync::Arc;

@@ -3,10 +3,9 @@
 use crate::counted::{Counted, Steps};
 use crate::meeting::Meeting;
 use com_base::ByteList;
-use com_crew::{ROWS, is_manned};
 use com_io::{MemorySink, MemorySource};
-use com_retrace::{box_of, row_of};
-use com_servant::{Counter, Interpreter, Latch, Memory, Relay, Servant};
+use com_replay::{box_of, row_of};
+use com_servant::{Counter, Interpreter, Latch, Memory, ROWS, Relay, Servant, is_manned};
 use com_top::com_main;
 use std::alloc::{AllocError, Global};
 use std::sync::{Arc, Wait};

@@ -2,7 +2,7 @@ use Rattle.std.proofs.Common.{◌≡◌, [], None, Some, arith, rules, subst, sy
 use Rattle.std.proofs.lemmas.Grind.{common_steps}
 use Rattle.std.proofs.lemmas.Result.{IfOk-weaker}
 use Rattle.com_model.specs.declared.scenario.Scenario.{Scenario}
-use Rattle.com_drive.proofs.Driving.{not-some}
+use Rattle.com_runtime.proofs.Limits.{not-some}
 use Rattle.com_check.specs.Turning.{IsOther}
 use Rattle.com_check.proofs.Judging.{below_at, fewer, first_sofar, judged_early, judged_other, judged_told, last_at, more_sofar, reached_at, sofar_reached, when_on}
 use Rattle.com_check.proofs.judge.judge_trace.Goals as goal

@@ -1,6 +1,6 @@
 use Rattle.std.proofs.Common.{◌≡◌, ◌++◌, ◌∙◌, map, codes}
-use Rattle.com_print_words.specs.Spelled.{more_text}
-use Rattle.com_print_statements.proofs.Pieces.{on_ok}
+use Rattle.com_print.specs.Spelled.{more_text}
+use Rattle.com_print.proofs.StatementPieces.{on_ok}
 use Rattle.com_print_scenario.specs.Printed.{interface_name}
 use Rattle.com_print_scenario.proofs.Pieces.{class_behind}
 use Rattle.com_print_scenario.proofs.classes.push_class_line.Goals as goal

@@ -1,5 +1,5 @@
 use Rattle.std.proofs.Common.{◌≡◌, ◌++◌, ◌≤◌, ◌-◌, length, All, drop}
-use Rattle.com_print_words.specs.Spelled.{text_of}
+use Rattle.com_print.specs.Spelled.{text_of}
 use Rattle.com_print_scenario.specs.Printed.{classes_lines}
 use Rattle.com_print_scenario.specs.Ranges.{FitsClass}
 use Rattle.com_print_scenario.proofs.classes.push_classes.Given as goal

@@ -1,5 +1,5 @@
 use Rattle.std.proofs.Common.{◌≡◌, ◌++◌, length, map}
-use Rattle.com_print_words.specs.Spelled.{more_text}
+use Rattle.com_print.specs.Spelled.{more_text}
 use Rattle.com_print_scenario.specs.Printed.{interface_name}
 use Rattle.com_print_scenario.proofs.classes.push_listed.Given as goal
 

@@ -1,6 +1,6 @@
 use Rattle.std.proofs.Common.{◌∙◌, [], ◌∷◌, codes}
-use Rattle.com_print_words.specs.Spelled.{plain}
-use Rattle.com_print_statements.proofs.Pieces.{on_ok}
+use Rattle.com_print.specs.Spelled.{plain}
+use Rattle.com_print.proofs.StatementPieces.{on_ok}
 use Rattle.com_print_scenario.proofs.Pieces.{class_behind}
 use Rattle.com_print_scenario.proofs.classes.push_native.Goals as goal
 

@@ -1,5 +1,5 @@
 use Rattle.std.proofs.Common.{◌≡◌, ◌++◌, length, map}
-use Rattle.com_print_words.specs.Spelled.{more_text}
+use Rattle.com_print.specs.Spelled.{more_text}
 use Rattle.com_print_scenario.specs.Printed.{number_word}
 use Rattle.com_print_scenario.proofs.filters.push_numbers.Given as goal
 

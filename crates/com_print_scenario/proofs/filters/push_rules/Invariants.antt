@@ -1,5 +1,5 @@
 use Rattle.std.proofs.Common.{◌≡◌, ◌++◌, length}
-use Rattle.com_print_words.specs.Spelled.{text_of}
+use Rattle.com_print.specs.Spelled.{text_of}
 use Rattle.com_print_scenario.specs.Printed.{rules_lines}
 use Rattle.com_print_scenario.proofs.filters.push_rules.Given as goal
 

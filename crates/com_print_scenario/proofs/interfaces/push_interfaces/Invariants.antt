@@ -1,5 +1,5 @@
 use Rattle.std.proofs.Common.{◌≡◌, ◌++◌, length, All}
-use Rattle.com_print_words.specs.Spelled.{text_of}
+use Rattle.com_print.specs.Spelled.{text_of}
 use Rattle.com_print_scenario.specs.Printed.{interface_lines}
 use Rattle.com_print_scenario.specs.Ranges.{FitsInterface}
 use Rattle.com_print_scenario.proofs.interfaces.push_interfaces.Given as goal

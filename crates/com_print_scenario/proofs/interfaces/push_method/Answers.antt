@@ -1,6 +1,6 @@
 use Rattle.std.proofs.Common.{◌≡◌, ◌++◌, ◌∷◌, [], ◌∙◌, map, codes}
-use Rattle.com_print_words.specs.Spelled.{plain, words_text, more_text}
-use Rattle.com_print_statements.proofs.Pieces.{on_ok}
+use Rattle.com_print.specs.Spelled.{plain, words_text, more_text}
+use Rattle.com_print.proofs.StatementPieces.{on_ok}
 use Rattle.com_print_scenario.specs.Printed.{kind_word, result_words}
 use Rattle.com_print_scenario.proofs.Pieces.{method_behind}
 use Rattle.com_print_scenario.proofs.interfaces.push_method.Goals as goal

@@ -1,5 +1,5 @@
 use Rattle.std.proofs.Common.{◌≡◌, ◌++◌, length, map}
-use Rattle.com_print_words.specs.Spelled.{text_of}
+use Rattle.com_print.specs.Spelled.{text_of}
 use Rattle.com_print_scenario.specs.Printed.{method_words}
 use Rattle.com_print_scenario.proofs.interfaces.push_methods.Given as goal
 

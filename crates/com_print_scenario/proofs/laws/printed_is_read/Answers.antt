@@ -1,4 +1,4 @@
-use Rattle.com_print_words.proofs.Scanned.{lines_again}
+use Rattle.com_print.proofs.Scanned.{lines_again}
 use Rattle.com_text.specs.Scanning.{lines_of}
 use Rattle.com_print_scenario.specs.Printed.{scenario_lines, printed}
 use Rattle.com_print_scenario.proofs.Goods.{scenario_good}

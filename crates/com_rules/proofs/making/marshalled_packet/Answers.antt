@@ -3,7 +3,7 @@ use Rattle.com_base.specs.declared.hresult.HResult.{HResult}
 use Rattle.com_base.specs.declared.value.RefValue.{RefValue}
 use Rattle.com_model.specs.Deeds.{hold_refusal, marshalled}
 use Rattle.com_view.specs.Seen.{sight_by, home_seen}
-use Rattle.com_action_deeds.proofs.Says.{says_all}
+use Rattle.com_rules.proofs.Says.{says_all}
 use Rattle.com_rules.proofs.Chains.{live_held}
 use Rattle.com_rules.proofs.making.marshalled_packet.Goals as goal
 

@@ -1,6 +1,6 @@
 use Rattle.std.proofs.Common.{◌≡◌, ◌+◌, ◌≤◌, ℕ, arith, ap, ◌∙◌, length}
 use Rattle.std.proofs.lemmas.List.Elements.{All-same, All-push}
-use Rattle.com_drive.proofs.Driving.{mapped}
+use Rattle.com_runtime.proofs.Limits.{mapped}
 use Rattle.com_model.specs.Tables.{lanes}
 use Rattle.com_servant.specs.Rows.{row}
 use Rattle.com_threads.proofs.Dealt.{all_taken, length_taken, all_popped, one_less, each_before, last_of_each}

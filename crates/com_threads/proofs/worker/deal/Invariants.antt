@@ -1,6 +1,6 @@
 use Rattle.std.proofs.Common.{◌≡◌, ◌≤◌, ◌+◌, ℕ, All, Some, length, vec_len}
 use Rattle.std.specs.Prelude.{slice_get}
-use Rattle.com_drive.proofs.Driving.{mapped}
+use Rattle.com_runtime.proofs.Limits.{mapped}
 use Rattle.com_model.specs.Tables.{lanes}
 use Rattle.com_servant.specs.Rows.{row}
 use Rattle.com_turnstile.specs.Passes.{IsPassOf, lane_of}

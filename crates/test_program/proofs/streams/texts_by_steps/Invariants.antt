@@ -2,7 +2,7 @@ use Rattle.std.proofs.Common.{◌≡◌, ◌≤◌, map}
 use Rattle.com_model.specs.Ends.{limit}
 use Rattle.com_model.specs.Tables.{lanes}
 use Rattle.com_servant.specs.Rows.{row}
-use Rattle.com_drive.specs.Standings.{Reached}
+use Rattle.com_runtime.specs.Standings.{Reached}
 use Rattle.test_program.proofs.streams.texts_by_steps.Given as goal
 
 abbrev pub invariant-loop-place : goal.invariant-loop-place

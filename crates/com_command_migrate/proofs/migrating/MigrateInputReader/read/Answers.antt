@@ -3,8 +3,8 @@ use Rattle.std.proofs.Common.{◌∙◌, arith, rules, sym}
 use Rattle.std.proofs.lemmas.Grind.{common_steps}
 use Rattle.com_scenario.specs.Sizes.{is_too_long}
 use Rattle.com_commands.proofs.Asking.{reads_input}
-use Rattle.com_moved.specs.Inputs.{moving_of}
-use Rattle.com_moved.proofs.Short.{short_trace}
+use Rattle.com_command_migrate.specs.Inputs.{moving_of}
+use Rattle.com_command_migrate.proofs.Short.{short_trace}
 use Rattle.com_command_migrate.proofs.Reading.{is_formed}
 use Rattle.com_command_migrate.proofs.migrating.MigrateInputReader.read.Goals as goal
 

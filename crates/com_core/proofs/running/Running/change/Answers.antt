@@ -1,6 +1,6 @@
 -- What holds of a core after an entry.
 use Rattle.std.proofs.Common.{◌≡◌, ℕ, List, All, ap, arith, length, vec_capacity, ◌∙◌, subst, sym}
-use Rattle.com_fates.specs.Most.{Most}
+use Rattle.com_ledger.specs.Most.{Most}
 use Rattle.com_model.specs.Lists.{number_or_zero}
 use Rattle.com_reference_moves.specs.Steps.{moves_stepped}
 use Rattle.com_reference_moves.specs.Tables.{ground_at}

@@ -1,7 +1,7 @@
 -- A job that fits is stale where the object's cells are others than its own; else its step is that of the body.
 use Rattle.std.proofs.Common.{◌≡◌, sym, ◌∙◌}
 use Rattle.std.specs.Prelude.{true, false}
-use Rattle.com_jobs.specs.Jobs.{kept_in}
+use Rattle.com_runtime.specs.Jobs.{kept_in}
 use Rattle.com_core.specs.Seen.{kept_of, core_state}
 use Rattle.com_core.proofs.Whole.{body_whole}
 use Rattle.com_core.proofs.Worked.{given_step, given_whole, kept_same, unlike}

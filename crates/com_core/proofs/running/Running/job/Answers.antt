@@ -7,8 +7,8 @@ use Rattle.com_model.specs.declared.keeps.Opener.TheVariants.{Enters}
 use Rattle.com_model.specs.Lists.{first}
 use Rattle.com_state.specs.Parts.{openers_at}
 use Rattle.com_view.specs.Seen.{Seen}
-use Rattle.com_jobs.specs.Jobs.{job_of}
-use Rattle.com_work.specs.Work.{work_seen}
+use Rattle.com_runtime.specs.Jobs.{job_of}
+use Rattle.com_turns.specs.Work.{work_seen}
 use Rattle.com_core.specs.Seen.{kept_of, core_state}
 use Rattle.com_core.specs.Stands.{seen_by}
 use Rattle.com_core.proofs.Worked.{job_read}

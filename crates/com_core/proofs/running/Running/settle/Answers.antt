@@ -1,6 +1,6 @@
 -- The dying objects are settled with those that begin to die.
 use Rattle.std.proofs.Common.{◌≡◌, ℕ, List, Option, ap, filter, length, ◌∙◌, subst, sym}
-use Rattle.com_fates.specs.Falling.{begins_by, other_object, placed_in}
+use Rattle.com_ledger.specs.Falling.{begins_by, other_object, placed_in}
 use Rattle.com_objects.specs.Settled.{DieBut, Falls}
 use Rattle.com_refs.specs.Counts.{holders_of}
 use Rattle.com_scene.specs.Actors.{acting_of}

@@ -2,7 +2,7 @@
 use Rattle.std.proofs.Common.{ℕ, IfOk, subst, sym}
 use Rattle.com_model.specs.declared.deeds.Entry.{Entry}
 use Rattle.com_model.specs.Formed.{Formed}
-use Rattle.com_drive.specs.Turns.{IsNext}
+use Rattle.com_runtime.specs.Turns.{IsNext}
 use Rattle.com_core.specs.Seen.{core_state}
 use Rattle.com_core.proofs.runtime.Core.advance.Goals as goal
 

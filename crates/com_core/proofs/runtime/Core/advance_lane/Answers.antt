@@ -4,9 +4,9 @@ use Rattle.std.specs.Arc.{arc_value}
 use Rattle.com_model.specs.declared.deeds.Entry.{Entry}
 use Rattle.com_model.specs.Formed.{Formed}
 use Rattle.com_model.specs.Tables.{lanes}
-use Rattle.com_drive.specs.Turns.{IsNext}
-use Rattle.com_jobs.specs.declared.jobs.Next.TheVariants as next
-use Rattle.com_jobs.specs.Jobs.{next_in}
+use Rattle.com_runtime.specs.Turns.{IsNext}
+use Rattle.com_runtime.specs.declared.jobs.Next.TheVariants as next
+use Rattle.com_runtime.specs.Jobs.{next_in}
 use Rattle.com_core.specs.Seen.{CoreView, IsWhole, Steps, core_of, core_state}
 use Rattle.com_core.proofs.Kept.{kept_stepped, next_stepped, same_core, step_taken}
 use Rattle.com_core.proofs.Shown.{as_kept}

@@ -2,7 +2,7 @@
 use Rattle.std.proofs.Common.{◌≡◌, ap, ◌∙◌}
 use Rattle.std.specs.Arc.{arc_value}
 use Rattle.com_refs_rows.specs.Books.{books_held}
-use Rattle.com_drive.specs.Standings.{can_step_in}
+use Rattle.com_runtime.specs.Standings.{can_step_in}
 use Rattle.com_model.specs.declared.scenario.Scenario.{Scenario}
 use Rattle.com_model.specs.Rules.{can_step}
 use Rattle.com_view.specs.Seen.{Seen, sight_by}

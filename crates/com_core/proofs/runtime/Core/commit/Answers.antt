@@ -7,8 +7,8 @@ use Rattle.com_model.specs.declared.scenario.Scenario.{Scenario}
 use Rattle.com_model.specs.Formed.{Formed}
 use Rattle.com_model.specs.Tables.{lanes}
 use Rattle.com_servant.specs.Steps.{job_step}
-use Rattle.com_drive.specs.Turns.{IsNext}
-use Rattle.com_jobs.specs.Jobs.{Fits, IsRefused, kept_in}
+use Rattle.com_runtime.specs.Turns.{IsNext}
+use Rattle.com_runtime.specs.Jobs.{Fits, IsRefused, kept_in}
 use Rattle.com_core.specs.Seen.{CoreView, IsWhole, Steps, core_of, core_state, kept_of}
 use Rattle.com_core.proofs.Kept.{kept_stepped, next_stepped, same_core, step_taken}
 use Rattle.com_model.specs.State.{State}

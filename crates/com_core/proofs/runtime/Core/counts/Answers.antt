@@ -1,7 +1,7 @@
 -- What is counted of an object by the parts and the ledger is what the state counts.
 use Rattle.std.proofs.Common.{◌≡◌, ap, subst, ◌∙◌}
 use Rattle.std.specs.Arc.{arc_value}
-use Rattle.com_drive.specs.Reports.{counts_in}
+use Rattle.com_runtime.specs.Reports.{counts_in}
 use Rattle.com_refs_rows.specs.Books.{Held}
 use Rattle.com_ledger.specs.Ties.{Ties}
 use Rattle.com_ledger.proofs.Counted.{direct_counted, packets_counted, proxies_counted, stub_counted, tables_counted}

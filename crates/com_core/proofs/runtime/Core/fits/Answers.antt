@@ -7,9 +7,9 @@ use Rattle.com_model.specs.declared.scenario.Scenario.{Scenario}
 use Rattle.com_model.specs.Lists.{first}
 use Rattle.com_state.specs.Parts.{openers_at}
 use Rattle.com_state.specs.SceneParts.{body_at}
-use Rattle.com_drive.proofs.Resting.{reached_by}
-use Rattle.com_jobs.specs.Jobs.{Fits, HasShape}
-use Rattle.com_shapes.proofs.Shapes.{reached-shape}
+use Rattle.com_runtime.proofs.Resting.{reached_by}
+use Rattle.com_runtime.specs.Jobs.{Fits, HasShape}
+use Rattle.com_laws_ranges.proofs.Shapes.{reached-shape}
 use Rattle.com_core.specs.Nexts.{FitsTop}
 use Rattle.com_core.specs.Seen.{core_state, kept_of}
 use Rattle.com_core.specs.Stands.{IsReached, seen_by}

@@ -4,7 +4,7 @@ use Rattle.std.specs.Prelude.{Some}
 use Rattle.com_body.specs.declared.frame.Job.{Job}
 use Rattle.com_model.specs.declared.scenario.Scenario.{Scenario}
 use Rattle.com_servant.specs.Steps.{IsOfItsClass}
-use Rattle.com_jobs.specs.Jobs.{job_of}
+use Rattle.com_runtime.specs.Jobs.{job_of}
 use Rattle.std.specs.Arc.{arc_value}
 use Rattle.com_core.specs.Seen.{CoreView, core_state, kept_of}
 use Rattle.com_core.proofs.Shown.{as_shown}

@@ -3,9 +3,9 @@ use Rattle.std.proofs.Common.{◌≡◌, IfOk, OnErr, refl, subst}
 use Rattle.std.specs.Arc.{arc_value}
 use Rattle.com_model.specs.declared.deeds.Entry.{Entry}
 use Rattle.com_model.specs.Formed.{Formed}
-use Rattle.com_drive.specs.declared.runtime.Standing.TheVariants as standing
-use Rattle.com_drive.specs.Standings.{standing_of}
-use Rattle.com_drive.specs.Turns.{IsNext}
+use Rattle.com_runtime.specs.declared.runtime.Standing.TheVariants as standing
+use Rattle.com_runtime.specs.Standings.{standing_of}
+use Rattle.com_runtime.specs.Turns.{IsNext}
 use Rattle.com_core.specs.Seen.{CoreView, IsWhole, Steps, core_of, core_state, kept_of}
 use Rattle.com_core.specs.Stands.{IsReached}
 use Rattle.com_core.proofs.Kept.{kept_stepped, next_stepped, same_core, tick_taken}

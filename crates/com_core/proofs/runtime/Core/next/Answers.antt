@@ -2,7 +2,7 @@
 use Rattle.std.proofs.Common.{◌≡◌, ap, ◌∙◌, is_some}
 use Rattle.std.specs.Arc.{arc_value}
 use Rattle.com_refs_rows.specs.Books.{books_held}
-use Rattle.com_jobs.specs.Jobs.{next_in}
+use Rattle.com_runtime.specs.Jobs.{next_in}
 use Rattle.com_model.specs.declared.scenario.Scenario.{Scenario}
 use Rattle.com_model.specs.Rules.{ruled, top}
 use Rattle.com_model.specs.Openers.{is_body}

@@ -2,10 +2,10 @@
 use Rattle.std.proofs.Common.{◌≡◌, ap, ◌∙◌}
 use Rattle.std.specs.Arc.{arc_value}
 use Rattle.com_refs_rows.specs.Books.{books_held}
-use Rattle.com_drive.specs.Standings.{standing_of}
+use Rattle.com_runtime.specs.Standings.{standing_of}
 use Rattle.com_model.specs.declared.scenario.Scenario.{Scenario}
 use Rattle.com_view.specs.Seen.{Seen, sight_by}
-use Rattle.com_standing.specs.Standings.{standing_by}
+use Rattle.com_view.specs.Standings.{standing_by}
 use Rattle.com_core.specs.Stands.{IsReached, seen_by}
 use Rattle.com_core.proofs.Shown.{as_shown}
 use Rattle.com_core.proofs.Readings.{standing_read}

@@ -4,7 +4,7 @@ use Rattle.std.specs.Arc.{arc_value}
 use Rattle.com_model.specs.declared.deeds.Entry.{Entry}
 use Rattle.com_model.specs.Formed.{Formed}
 use Rattle.com_model.specs.Tables.{lanes}
-use Rattle.com_drive.specs.Turns.{IsNext}
+use Rattle.com_runtime.specs.Turns.{IsNext}
 use Rattle.com_core.specs.Seen.{CoreView, IsWhole, Steps, core_of, core_state}
 use Rattle.com_core.proofs.Kept.{kept_stepped, next_stepped, same_core, step_taken}
 use Rattle.com_core.proofs.Served.{served_core}

@@ -1,7 +1,7 @@
 -- The clock's entry of a core of a formed scenario is the next one, where the clock goes on.
 use Rattle.std.proofs.lemmas.Result.{IfOk-weaker, on_err_weaker}
 use Rattle.com_model.specs.declared.deeds.Entry.{Entry}
-use Rattle.com_drive.specs.Turns.{IsNext}
+use Rattle.com_runtime.specs.Turns.{IsNext}
 use Rattle.com_core.specs.Seen.{core_state}
 use Rattle.com_core.proofs.Kept.{is_formed, same_state}
 use Rattle.com_core.proofs.runtime.CoreRuntime.tick.Goals as goal

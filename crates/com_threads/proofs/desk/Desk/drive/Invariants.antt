@@ -1,5 +1,5 @@
 use Rattle.std.proofs.Common.{◌≡◌, ◌≤◌, ◌-◌, All, length, vec_len}
-use Rattle.com_drive.proofs.Driving.{mapped}
+use Rattle.com_runtime.proofs.Limits.{mapped}
 use Rattle.com_model.specs.Ends.{limit}
 use Rattle.com_model.specs.Tables.{lanes}
 use Rattle.com_servant.specs.Rows.{row}

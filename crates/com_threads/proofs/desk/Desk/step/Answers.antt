@@ -1,7 +1,7 @@
 use Rattle.std.proofs.Common.{◌≡◌, ◌-◌}
 use Rattle.std.proofs.lemmas.List.Elements.{All-set}
 use Rattle.std.proofs.lemmas.Result.{on_ok_weaker}
-use Rattle.com_drive.proofs.Driving.{mapped}
+use Rattle.com_runtime.proofs.Limits.{mapped}
 use Rattle.com_servant.specs.Rows.{row}
 use Rattle.com_threads.proofs.Added.{one_later}
 use Rattle.com_threads.proofs.desk.Desk.step.Goals as goal

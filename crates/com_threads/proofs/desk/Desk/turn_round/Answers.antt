@@ -1,5 +1,5 @@
 use Rattle.std.proofs.Common.{sym, ◌∙◌}
-use Rattle.com_drive.proofs.Turning.{below_limit}
+use Rattle.com_runtime.proofs.Limits.{below_limit}
 use Rattle.com_threads.proofs.Added.{reached_at, entries_within}
 use Rattle.com_threads.proofs.Driven.{no_finish, no_stuck, no_runs}
 use Rattle.com_threads.proofs.desk.Desk.turn_round.Goals as goal

@@ -1,6 +1,0 @@
-use Rattle.std.proofs.Common.{sym}
-use Rattle.com_view.specs.Seen.{sight_by}
-use Rattle.com_action_deeds.proofs.actions.filter_deed.Goals as goal
-
-pub returns : goal.returns
-returns c = λ b. c.filter_deed.ensures (sight_by c.args.view.now b) c.args.lane (sym c.home.ensures)

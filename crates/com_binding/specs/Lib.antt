@@ -1,3 +1,0 @@
-pub mod Coercing
-pub mod Binding
-pub mod Ranges

@@ -1,0 +1,14 @@
+use Rattle.std.proofs.Common.{◌≡◌, length, map}
+use Rattle.com_servant.specs.Rows.{row}
+use Rattle.com_check.proofs.Again.{Again}
+use Rattle.com_check.proofs.agreement.reading.read_by.Given as goal
+
+abbrev pub invariant-lines : goal.invariant-lines
+invariant-lines g l = record {
+  again : Again l.scenario l.trace (g.C.Runtime.state l.runtime) l.entries.items l.rest;
+  same : g.C.Runtime.scenario l.runtime ≡ l.scenario;
+  kinds : map (λ b. (goal.Servant-dyn g (b.vtable, b.value)).kind_of b.value) l.servants.items ≡ row;
+}
+
+abbrev pub decreases-lines : goal.decreases-lines
+decreases-lines g l = length l.rest

@@ -1,6 +1,0 @@
-pub mod Choices
-pub mod Kept
-pub mod Turning
-pub mod Counting
-pub mod Driving
-pub mod Resting

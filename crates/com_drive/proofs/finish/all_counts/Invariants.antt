@@ -1,7 +1,0 @@
-use Rattle.std.proofs.Common.{◌≡◌, map}
-use Rattle.com_model.specs.Lists.{one_to}
-use Rattle.com_drive.specs.Reports.{counts_in}
-use Rattle.com_drive.proofs.finish.all_counts.Given as goal
-
-abbrev pub invariant-loop-number : goal.invariant-loop-number
-invariant-loop-number g l = l.all.items ≡ map (counts_in l.scenario (g.C.Runtime.state l.runtime)) (one_to l.number)

@@ -1,6 +1,0 @@
-use Rattle.com_drive.specs.Standings.{can_step_in}
-use Rattle.com_drive.proofs.Choices.{Scanning}
-use Rattle.com_drive.proofs.schedule.scan.Given as goal
-
-abbrev pub invariant-loop-step : goal.invariant-loop-step
-invariant-loop-step g l = Scanning (can_step_in (g.C.Runtime.scenario l.runtime) (g.C.Runtime.state l.runtime)) l.last l.count l.step

@@ -1,2 +1,0 @@
-pub mod Invoking
-pub mod Standing

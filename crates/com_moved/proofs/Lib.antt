@@ -1,4 +1,0 @@
-pub mod Long
-pub mod Moves
-pub mod Pushed
-pub mod Short

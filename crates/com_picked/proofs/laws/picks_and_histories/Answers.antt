@@ -1,8 +1,0 @@
-use Rattle.com_picked.proofs.Histories.{history_picked, picked_legal}
-use Rattle.com_picked.proofs.laws.picks_and_histories.Goals as goal
-
-pub returns-clause-lawful : goal.returns-clause-lawful
-returns-clause-lawful c = picked_legal
-
-pub returns-clause-all : goal.returns-clause-all
-returns-clause-all c = history_picked

@@ -1,0 +1,4 @@
+pub mod CutFaults
+pub mod Behind
+pub mod Found
+pub mod Missed

@@ -1,0 +1,21 @@
+pub mod Scanned
+pub mod Decimals
+pub mod Hexes
+pub mod Places
+pub mod Literals
+pub mod Names
+pub mod Spellings
+pub mod Pieces
+pub mod Firsts
+pub mod Raws
+pub mod Locals
+pub mod Objects
+pub mod Lanes
+pub mod Targets
+pub mod Arguments
+pub mod Calls
+pub mod Whole
+pub mod Goods
+pub mod Prefixes
+pub mod StatementPieces
+mod Named

@@ -1,8 +1,0 @@
-use Rattle.com_print_words.proofs.Scanned.{lines_again, words_again}
-use Rattle.com_print_words.proofs.laws.written_is_read.Goals as goal
-
-pub returns-clause-words : goal.returns-clause-words
-returns-clause-words c = words_again
-
-pub returns-clause-whole : goal.returns-clause-whole
-returns-clause-whole c = lines_again

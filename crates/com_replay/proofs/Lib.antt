@@ -1,0 +1,11 @@
+pub mod Kept
+pub mod Turning
+pub mod Driving
+pub mod Recording
+pub mod Ticking
+pub mod Nexts
+pub mod Histories
+pub mod Between
+pub mod StuckStates
+pub mod Retraced
+pub mod Whether

@@ -1,0 +1,101 @@
+//! The lines of entries and the report: they are gathered, and written to the sink in large pieces.
+ghost use Rattle.std.specs.Prelude.{◌≡◌, ◌≤◌, ◌++◌, [], OnOk, OnErr, Err};
+ghost use Rattle.com_io.specs.Faults.{Rose};
+ghost use Rattle.com_io.specs.Told.{Gains, GainsPrefix};
+ghost use Rattle.com_model.specs.Text.{line_text, report_text};
+ghost use Rattle.com_runtime.specs.Turns.{GoesOn};
+ghost use Rattle.com_replay.specs.declared.lines.ReplayError.TheVariants as replay_error;
+
+use com_base::ByteList;
+use com_io::{Sink, write_all};
+use com_model::{Counts, Ended, Entry};
+use com_report::{line, report};
+use std::alloc::{AllocError, Global};
+
+/// Why a replay stopped.
+#[derive(Debug, Clone, Copy, PartialEq, Eq)]
+pub enum ReplayError {
+    /// A write failed: the sink's count of faults rose in this call.
+    WriteFault,
+    /// Want of memory.
+    Memory,
+}
+
+impl From<AllocError> for ReplayError {
+    ghost use Rattle.std.specs.Prelude.{◌≡◌};
+    ghost use Rattle.com_replay.specs.declared.lines.ReplayError.TheVariants as replay_error;
+
+    ghost from_gives = { λ _ e. e ≡ replay_error.Memory };
+
+    fn from(_error: AllocError) -> ReplayError {
+        ReplayError::Memory
+    }
+}
+
+/// Lines are written together once they have this many bytes.
+const PIECE: usize = 32_768;
+
+/// Adds the line of an entry to those that are kept, and writes them once they are many.
+#[tactic(auto, using(com_io::proofs::Passing::prefix_of_none, crate::proofs::Kept::goes_on_kept, crate::proofs::Kept::goes_on_sent, crate::proofs::Kept::sent_prefix))]
+pub fn show<K: Sink>(
+    alloc: Global,
+    version: u8,
+    place: u64,
+    entry: &Entry,
+    kept: &mut ByteList,
+    sink: &mut K,
+) -> Result<(), ReplayError>
+    ensures ok { OnOk result (GoesOn (K.held sink.old) (K.held sink.new) kept.old kept.new
+        (line_text version place entry.now)) }
+    ensures prefix { GainsPrefix (K.held sink.old) (K.held sink.new)
+        (kept.old ++ line_text version place entry.now) }
+    ensures fault { result ≡ Err replay_error.WriteFault
+        → Rose (K.faults_of sink.old) (K.faults_of sink.new) }
+    ensures counts { K.faults_of sink.old ≤ K.faults_of sink.new }
+{
+    line(alloc, version, place, entry, kept)?;
+    if kept.len() < PIECE {
+        return Ok(());
+    }
+    send(kept, sink)
+}
+
+/// Writes what is kept.
+fn send<K: Sink>(kept: &mut ByteList, sink: &mut K) -> Result<(), ReplayError>
+    ensures ok { OnOk result (Gains (K.held sink.old) (K.held sink.new) kept.old) }
+    ensures empty { OnOk result (kept.new ≡ []) }
+    ensures prefix { GainsPrefix (K.held sink.old) (K.held sink.new) kept.old }
+    ensures fault { OnErr result (Rose (K.faults_of sink.old) (K.faults_of sink.new)) }
+    ensures counts { K.faults_of sink.old ≤ K.faults_of sink.new }
+{
+    match write_all(sink, kept.as_slice()) {
+        Ok(()) => {
+            kept.clear();
+            Ok(())
+        }
+        Err(_) => Err(ReplayError::WriteFault),
+    }
+}
+
+/// Writes what is kept and the report.
+#[tactic(auto, using(com_io::proofs::Passing::prefix_of_none, crate::proofs::Kept::sent_prefix))]
+pub fn tell<K: Sink>(
+    alloc: Global,
+    counts: &[Counts],
+    entries: u64,
+    clock: u64,
+    ended: Ended,
+    kept: &mut ByteList,
+    sink: &mut K,
+) -> Result<(), ReplayError>
+    ensures ok { OnOk result (Gains (K.held sink.old) (K.held sink.new)
+        (kept.old ++ report_text counts.now entries clock ended)) }
+    ensures prefix { GainsPrefix (K.held sink.old) (K.held sink.new)
+        (kept.old ++ report_text counts.now entries clock ended) }
+    ensures fault { result ≡ Err replay_error.WriteFault
+        → Rose (K.faults_of sink.old) (K.faults_of sink.new) }
+    ensures counts { K.faults_of sink.old ≤ K.faults_of sink.new }
+{
+    report(alloc, counts, entries, clock, ended, kept)?;
+    send(kept, sink)
+}

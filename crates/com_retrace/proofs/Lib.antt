@@ -1,2 +1,0 @@
-pub mod Ticking
-pub mod Nexts

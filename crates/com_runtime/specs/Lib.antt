@@ -1,0 +1,5 @@
+pub mod Schedule
+pub mod Jobs
+pub mod Standings
+pub mod Turns
+pub mod Reports

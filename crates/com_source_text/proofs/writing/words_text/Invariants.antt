@@ -1,6 +1,0 @@
-use Rattle.std.proofs.Common.{◌≡◌, ◌++◌, drop}
-use Rattle.com_source_text.specs.Writing.{words_text}
-use Rattle.com_source_text.proofs.writing.words_text.Given as goal
-
-abbrev pub invariant-loop-word : goal.invariant-loop-word
-invariant-loop-word l = l.text ++ words_text (drop l.word-index l.words) ≡ words_text l.words

@@ -1,4 +1,0 @@
-pub mod Bodies
-pub mod Heads
-pub mod Writing
-pub mod Placing

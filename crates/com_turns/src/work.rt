@@ -1,0 +1,106 @@
+//! The job of a body.
+
+ghost use Rattle.std.specs.Prelude.{◌≡◌, ◌↔◌, IfOk, IsTrue, Some};
+ghost use Rattle.com_runtime.specs.Jobs.{HasShape};
+ghost use Rattle.com_reference_moves.specs.Steps.{BodiesWhole};
+ghost use Rattle.com_scene.specs.Kept.{HasSlots};
+ghost use Rattle.com_servant.specs.Steps.{IsOfItsClass};
+ghost use Rattle.com_state.specs.SceneParts.{body_at};
+ghost use Rattle.com_turns.specs.Work.{IsWork, work_seen};
+
+use crate::frames::{is_first_frame, same_frame};
+use com_base::Memory;
+use com_body::{Cells, Frame, Job};
+use com_scene::Actor;
+use com_view::View;
+use std::alloc::Global;
+
+// The answer where a call has no issue, or an object no class. No core comes to such parts; that is not
+// proved.
+fn unproved_fact() -> Memory {
+    Memory
+}
+
+// A copy of the frame of a body.
+fn frame_of(view: &View<'_>, alloc: Global, call: u32, object: u32) -> Result<Frame, Memory>
+    requires bodies { BodiesWhole view.now.scene }
+    ensures whole { IfOk result (λ frame. HasSlots frame) }
+    ensures frame { IfOk result (λ frame. frame ≡ body_at view.now.scene call) }
+{
+    match view.scene.frame(Actor::Body { call, object }) {
+        Some(frame) => frame.copy(alloc),
+        None => Frame::enter(alloc, &[]),
+    }
+}
+
+/// The job of the body of a call on an object: on copies of the body's frame and the object's cells. The only
+/// error is want of memory.
+pub fn work_of(view: &View<'_>, alloc: Global, call: u32, object: u32) -> Result<Job, Memory>
+    requires bodies { BodiesWhole view.now.scene }
+    ensures job { IfOk result (λ job. work_seen view.now call object ≡ Some job) }
+    ensures class { IfOk result (λ job. IsOfItsClass view.now.scenario.classes job) }
+    ensures whole { IfOk result (λ job. HasSlots job.frame) }
+{
+    let class = view.objects.class(object);
+    let Some(declared) = view.scenario.classes.class(class) else {
+        return Err(unproved_fact());
+    };
+    let Some(issue) = view.calls.issue(call) else {
+        return Err(unproved_fact());
+    };
+    let frame = frame_of(view, alloc, call, object)?;
+    Ok(Job {
+        kind: declared.native,
+        class,
+        iface: issue.iface,
+        method: issue.method,
+        frame,
+        cells: view.scene.cells(object),
+    })
+}
+
+// Whether a frame is that of a body.
+fn fits_frame(view: &View<'_>, call: u32, object: u32, frame: &Frame) -> bool
+    ensures { HasShape (body_at view.now.scene call) → HasShape frame.now
+        → (IsTrue result ↔ (body_at view.now.scene call ≡ frame.now)) }
+{
+    match view.scene.frame(Actor::Body { call, object }) {
+        Some(own) => same_frame(own, frame),
+        None => is_first_frame(frame),
+    }
+}
+
+/// Whether a job is that of the body of a call on an object, but for its cells. The frames of both have 16
+/// registers and 8 slots, as each frame has.
+pub fn fits_work(view: &View<'_>, call: u32, object: u32, job: &Job) -> bool
+    ensures { HasShape (body_at view.now.scene call) → HasShape job.now.frame
+        → (IsTrue result ↔ IsWork view.now call object job.now) }
+{
+    let class = view.objects.class(object);
+    if job.class != class {
+        return false;
+    }
+    let Some(declared) = view.scenario.classes.class(class) else {
+        return false;
+    };
+    if job.kind != declared.native {
+        return false;
+    }
+    let Some(issue) = view.calls.issue(call) else {
+        return false;
+    };
+    if job.iface != issue.iface {
+        return false;
+    }
+    if job.method != issue.method {
+        return false;
+    }
+    fits_frame(view, call, object, &job.frame)
+}
+
+/// Whether two objects have the same cells.
+pub fn same_cells(left: &Cells, right: &Cells) -> bool
+    ensures { IsTrue result ↔ (left.now ≡ right.now) }
+{
+    *left == *right
+}

@@ -1,0 +1,7 @@
+use Rattle.std.proofs.Common.{◌≡◌, true}
+use Rattle.com_model.specs.Lists.{each_of, one_to}
+use Rattle.com_view.specs.Standings.{over_at}
+use Rattle.com_view.proofs.going_on.are_over.Given as goal
+
+abbrev pub invariant-loop-before : goal.invariant-loop-before
+invariant-loop-before l = each_of (over_at l.view.lanes) (one_to l.before) ≡ true

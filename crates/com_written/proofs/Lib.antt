@@ -1,3 +1,0 @@
-pub mod Fixes
-pub mod Schedule
-pub mod One
