@@ -1,9 +1,9 @@
 -- What is answered, from what the calls below answer.
 use Rattle.std.proofs.Common.{◌≡◌, ℕ, List, [], refl, ap, sym, subst, ◌∙◌, drop, Option, Some}
-use Rattle.com_agreed.specs.declared.traces.Agreed.{Agreed}
-use Rattle.com_agreed.specs.declared.traces.Trace.{Trace}
-use Rattle.com_agreed.specs.declared.traces.Trace.TheVariants as traces
-use Rattle.com_agreed.specs.Agreeing.{IsAgreed, IsOther, IsRead}
+use Rattle.com_check.specs.declared.agreement.traces.Agreed.{Agreed}
+use Rattle.com_check.specs.declared.agreement.traces.Trace.{Trace}
+use Rattle.com_check.specs.declared.agreement.traces.Trace.TheVariants as traces
+use Rattle.com_check.specs.Agreeing.{IsAgreed, IsOther, IsRead}
 use Rattle.com_check.specs.declared.judged.Judged.{Judged}
 use Rattle.com_check.specs.Judging.{IsJudged, judged_text}
 use Rattle.com_commands.specs.declared.statuses.Status.{Status}
@@ -22,35 +22,33 @@ use Rattle.com_command_draw.specs.Begun.{IsBegun}
 use Rattle.com_command_draw.specs.Pages.{ArePointsDrawn, IsDrawn, page_of}
 use Rattle.com_command_draw.specs.Traces.{IsTraceAnswer, IsTraceDrawn, IsTraceRefuted}
 
--- What the end of a page answers, of a scenario that is looked at.
-abbrev pub Draws : Scenario → Begun → Option Waits → List Delivery → List ℕ → Type 0
-Draws s b w events text =
-    IsBegun s b → w ≡ explanation_of s (scheduled s) → text ≡ page_of s (scheduled s) b.ended events
+-- What the end of a page answers.
+abbrev pub Draws : Begun → Option Waits → List Delivery → List ℕ → Type 0
+Draws b w events text =
+    (s : Scenario) → IsBegun s b → w ≡ explanation_of s (scheduled s) → text ≡ page_of s (scheduled s) b.ended events
 
--- A scenario is shared, and looked at.
-pub drawn_at : (s shared seen : Scenario) (b : Begun) (w : Option Waits) (events : List Delivery) (st : Status) (text : List ℕ)
-    → shared ≡ s → seen ≡ shared → IsBegun shared b → w ≡ explanation_of shared (scheduled shared) → events ≡ [] → Draws seen b w events text → st ≡ status_at b.ended
+-- A scenario is shared.
+pub drawn_at : (s shared : Scenario) (b : Begun) (w : Option Waits) (events : List Delivery) (st : Status) (text : List ℕ)
+    → shared ≡ s → IsBegun shared b → w ≡ explanation_of shared (scheduled shared) → events ≡ [] → Draws b w events text → st ≡ status_at b.ended
     → IsDrawn s st text
-drawn_at s shared seen b w events st text is_shared is_seen begun explains none draws is =
-    let own : Draws shared b w events text = subst (λ (y : Scenario). Draws y b w events text) is_seen draws in
+drawn_at s shared b w events st text is_shared begun explains none draws is =
     subst (λ (y : Scenario). IsDrawn y st text) is_shared (record {
       ends = b.ended;
       ended_is = begun.ended;
-      written = own begun explains ∙ ap (λ (ds : List Delivery). page_of shared (scheduled shared) b.ended ds) none;
+      written = draws shared begun explains ∙ ap (λ (ds : List Delivery). page_of shared (scheduled shared) b.ended ds) none;
       status_is = is;
     })
 
-pub points_at : (s shared seen : Scenario) (b : Begun) (w : Option Waits) (found events : List Delivery) (st : Status) (text : List ℕ)
-    → shared ≡ s → seen ≡ shared → IsBegun shared b → w ≡ explanation_of shared (scheduled shared) → AreDeliveries shared (scheduled shared) found → events ≡ found
-    → Draws seen b w events text → st ≡ status_at b.ended → ArePointsDrawn s st text
-points_at s shared seen b w found events st text is_shared is_seen begun explains delivered same draws is =
-    let own : Draws shared b w events text = subst (λ (y : Scenario). Draws y b w events text) is_seen draws in
+pub points_at : (s shared : Scenario) (b : Begun) (w : Option Waits) (found events : List Delivery) (st : Status) (text : List ℕ)
+    → shared ≡ s → IsBegun shared b → w ≡ explanation_of shared (scheduled shared) → AreDeliveries shared (scheduled shared) found → events ≡ found
+    → Draws b w events text → st ≡ status_at b.ended → ArePointsDrawn s st text
+points_at s shared b w found events st text is_shared begun explains delivered same draws is =
     subst (λ (y : Scenario). ArePointsDrawn y st text) is_shared (record {
       ends = b.ended;
       ended_is = begun.ended;
       events = events;
       delivered = subst (λ (ds : List Delivery). AreDeliveries shared (scheduled shared) ds) (sym same) delivered;
-      written = own begun explains;
+      written = draws shared begun explains;
       status_is = is;
     })
 

@@ -2,8 +2,8 @@
 use Rattle.std.proofs.Common.{◌≡◌, ℕ, ◌≤◌, ◌<◌, List, [], ◌++◌, length, refl, ap, sym, subst, ◌∙◌, arith, Option, Some}
 use Rattle.std.proofs.lemmas.Grind.{common_steps}
 use Rattle.std.specs.Prelude.{◌^◌, ◌==◌, Bool, true, false, cond, is_some, nat_le, reverse, None}
-use Rattle.com_agreed.specs.declared.traces.Agreed.{Agreed}
-use Rattle.com_agreed.specs.Agreeing.{IsAgreed}
+use Rattle.com_check.specs.declared.agreement.traces.Agreed.{Agreed}
+use Rattle.com_check.specs.Agreeing.{IsAgreed}
 use Rattle.com_deliveries.specs.declared.Delivery.{Delivery}
 use Rattle.com_deliveries.specs.Delivered.{AreDeliveries}
 use Rattle.com_model.specs.declared.counts.Ended.{Ended}
@@ -14,10 +14,10 @@ use Rattle.com_model.specs.Ends.{all_counts, ended_as, ended_by, limit, schedule
 use Rattle.com_model.specs.Formed.{Formed}
 use Rattle.com_model.specs.Rules.{legal}
 use Rattle.com_model.specs.Sight.{sight}
-use Rattle.com_record.specs.Recorded.{IsRecorded}
+use Rattle.com_replay.specs.Recorded.{IsRecorded}
 use Rattle.com_waits.specs.Chains.{explanation_of}
 use Rattle.com_waits.specs.declared.reasons.Waits.{Waits}
-use Rattle.com_written.proofs.Schedule.{legal-end}
+use Rattle.com_laws_safe.proofs.Schedule.{legal-end}
 use Rattle.com_draw.specs.declared.beside.Beside.{Beside}
 use Rattle.com_draw.specs.Ends.{end_text}
 use Rattle.com_draw.specs.Entries.{drawn}
@@ -44,21 +44,21 @@ explained_at s seen entries slice x w is_seen is_slice f r explains =
 -- ---- the page that was begun
 
 -- The page is what was written of the entries, and the end.
-page_parts : (s : Scenario) (h : List Entry) (x : Beside) → page s h x ≡ written s h ++ end_text s (drawn s h) x
+page_parts : (s : Scenario) (h : List Entry) (x : Beside) → page s h x ≡ written s h ++ end_text (drawn s h) x
 page_parts s h x = refl
 
 pub ended_page : (s : Scenario) (b : Begun) (w : Option Waits) (events : List Delivery) (text : List ℕ)
-    → text ≡ b.text ++ end_text s b.drawing (record { counts = b.counts; clock = b.clock; ended = b.ended; waits = w; events = events })
+    → text ≡ b.text ++ end_text b.drawing (record { counts = b.counts; clock = b.clock; ended = b.ended; waits = w; events = events })
     → IsBegun s b → w ≡ explanation_of s (scheduled s) → text ≡ page_of s (scheduled s) b.ended events
 unfolding page_of
 ended_page s b w events text is begun explains =
     let h : List Entry = scheduled s in
     is
-    ∙ ap (λ (t : List ℕ). t ++ end_text s b.drawing (record { counts = b.counts; clock = b.clock; ended = b.ended; waits = w; events = events })) begun.text
-    ∙ ap (λ (d : Picture). written s h ++ end_text s d (record { counts = b.counts; clock = b.clock; ended = b.ended; waits = w; events = events })) begun.drawing
-    ∙ ap (λ c. written s h ++ end_text s (drawn s h) (record { counts = c; clock = b.clock; ended = b.ended; waits = w; events = events })) begun.counts
-    ∙ ap (λ (t : ℕ). written s h ++ end_text s (drawn s h) (record { counts = all_counts s h; clock = t; ended = b.ended; waits = w; events = events })) begun.clock
-    ∙ ap (λ (y : Option Waits). written s h ++ end_text s (drawn s h) (record { counts = all_counts s h; clock = clock h; ended = b.ended; waits = y; events = events })) explains
+    ∙ ap (λ (t : List ℕ). t ++ end_text b.drawing (record { counts = b.counts; clock = b.clock; ended = b.ended; waits = w; events = events })) begun.text
+    ∙ ap (λ (d : Picture). written s h ++ end_text d (record { counts = b.counts; clock = b.clock; ended = b.ended; waits = w; events = events })) begun.drawing
+    ∙ ap (λ c. written s h ++ end_text (drawn s h) (record { counts = c; clock = b.clock; ended = b.ended; waits = w; events = events })) begun.counts
+    ∙ ap (λ (t : ℕ). written s h ++ end_text (drawn s h) (record { counts = all_counts s h; clock = t; ended = b.ended; waits = w; events = events })) begun.clock
+    ∙ ap (λ (y : Option Waits). written s h ++ end_text (drawn s h) (record { counts = all_counts s h; clock = clock h; ended = b.ended; waits = y; events = events })) explains
     ∙ sym (page_parts s h (record { counts = all_counts s h; clock = clock h; ended = b.ended; waits = explanation_of s h; events = events }))
 
 -- ---- the page of an agreed trace

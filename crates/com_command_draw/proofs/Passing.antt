@@ -8,16 +8,16 @@ use Rattle.com_model.specs.declared.scenario.Scenario.{Scenario}
 use Rattle.com_model.specs.Ends.{ended_as, limit, scheduled}
 use Rattle.com_model.specs.Formed.{Formed}
 use Rattle.com_model.specs.State.{State, StandsFor, first_tables}
-use Rattle.com_drive.specs.Reports.{all_counts_in}
-use Rattle.com_drive.specs.Standings.{Reached}
-use Rattle.com_drive.specs.Steps.{IsMade, IsOver, Moment}
-use Rattle.com_drive.proofs.Counting.{all-counted}
-use Rattle.com_record.specs.Recorded.{IsRecorded}
-use Rattle.com_record.proofs.Recording.{Recording, recording_ends, recording_goes_on, recording_reached, recording_smaller, recording_starts, recording_within}
+use Rattle.com_runtime.specs.Reports.{all_counts_in}
+use Rattle.com_runtime.specs.Standings.{Reached}
+use Rattle.com_replay.specs.Steps.{IsMade, IsOver, Moment}
+use Rattle.com_runtime.proofs.Counting.{all-counted}
+use Rattle.com_replay.specs.Recorded.{IsRecorded}
+use Rattle.com_replay.proofs.Recording.{Recording, recording_ends, recording_goes_on, recording_reached, recording_smaller, recording_starts, recording_within}
 use Rattle.com_draw.specs.Entries.{after, drawn, entry_text}
 use Rattle.com_draw.specs.Pages.{written}
 use Rattle.com_draw.specs.Pictures.{Picture}
-use Rattle.com_draw.proofs.Entered.{drawn_entries}
+use Rattle.com_draw.proofs.Counted.{drawn_entries}
 use Rattle.com_command_draw.specs.declared.beginning.Begun.{Begun}
 use Rattle.com_command_draw.specs.Begun.{IsBegun}
 

@@ -2,11 +2,11 @@
 use Rattle.std.specs.Prelude.{◌≡◌, ℕ, ◌⊎◌, List, codes, ⊤}
 use Rattle.com_io.specs.Faults.{Rose}
 use Rattle.com_io.specs.Told.{Gains, GainsPrefix}
-use Rattle.com_drive.specs.Replays.{whole_served}
+use Rattle.com_replay.specs.Replays.{whole_served}
 use Rattle.com_commands.specs.Inputs.{input_of}
 use Rattle.com_commands.specs.Responses.{Responds, Serves}
 use Rattle.com_commands.specs.Statuses.{Sides}
-use Rattle.com_read_points.specs.Sources.{reading_points}
+use Rattle.com_points.specs.Sources.{reading_points}
 use Rattle.com_scenario.specs.Sizes.{is_too_long}
 use Rattle.com_top.specs.Checking.{question_input}
 use Rattle.com_top.specs.Scenarios.{scenario_input}

@@ -1,6 +1,6 @@
 -- What is drawn of a scenario with a trace.
 use Rattle.std.specs.Prelude.{◌≡◌, ℕ, List, [], Some, drop}
-use Rattle.com_agreed.specs.Agreeing.{IsOther}
+use Rattle.com_check.specs.Agreeing.{IsOther}
 use Rattle.com_check.specs.declared.judged.Judged.{Judged}
 use Rattle.com_check.specs.Judging.{IsJudged, IsText, judged_text}
 use Rattle.com_model.specs.declared.counts.Ended.{Ended}

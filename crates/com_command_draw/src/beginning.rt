@@ -1,9 +1,9 @@
 //! A page that is begun: the one history of a scenario is made, and each entry is drawn as it is made.
 ghost use Rattle.std.specs.Arc.{arc_value};
 ghost use Rattle.std.specs.Prelude.{◌≡◌, ◌≤◌, ◌∷◌, ◌++◌, [], true, IfOk, OnOk, map, reverse};
-ghost use Rattle.com_drive.specs.Replays.{whole_served};
-ghost use Rattle.com_drive.specs.Reports.{all_counts_in};
-ghost use Rattle.com_drive.specs.Standings.{Reached};
+ghost use Rattle.com_replay.specs.Replays.{whole_served};
+ghost use Rattle.com_runtime.specs.Reports.{all_counts_in};
+ghost use Rattle.com_runtime.specs.Standings.{Reached};
 ghost use Rattle.com_model.specs.Ends.{scheduled};
 ghost use Rattle.com_model.specs.Formed.{Formed};
 ghost use Rattle.com_model.specs.State.{first_tables};
@@ -13,7 +13,8 @@ ghost use Rattle.com_command_draw.specs.Begun.{IsBegun};
 use com_base::{ByteList, Memory, Rows};
 use com_core::Core;
 use com_draw::Drawing;
-use com_drive::{ReplayError, Runtime, Step, Stream, all_counts};
+use com_replay::{ReplayError, Step, Stream};
+use com_runtime::{Runtime, all_counts};
 use com_io::{Discard, Sink};
 use com_model::{Counts, Ended, Entry, Scenario};
 use com_servant::Servant;

@@ -1,5 +1,6 @@
 //! The end of a page that was begun.
 ghost use Rattle.std.specs.Prelude.{◌≡◌, IfOk};
+ghost use Rattle.com_model.specs.declared.scenario.Scenario.{Scenario};
 ghost use Rattle.com_model.specs.Ends.{scheduled};
 ghost use Rattle.com_waits.specs.Chains.{explanation_of};
 ghost use Rattle.com_command_draw.specs.Begun.{IsBegun};
@@ -9,7 +10,6 @@ use crate::beginning::Begun;
 use com_base::{ByteList, Memory, Rows};
 use com_deliveries::Delivery;
 use com_draw::Beside;
-use com_model::Scenario;
 use com_waits::Waits;
 use std::alloc::Global;
 
@@ -17,14 +17,12 @@ use std::alloc::Global;
 /// these events marked. The only error is want of memory.
 pub fn end_page(
     alloc: Global,
-    scenario: &Scenario,
     begun: Begun,
     waits: Option<Waits>,
     events: Rows<Delivery>,
 ) -> Result<ByteList, Memory>
-    ensures { IfOk result (λ page. IsBegun scenario.now begun
-        → waits ≡ explanation_of scenario.now (scheduled scenario.now)
-        → page ≡ page_of scenario.now (scheduled scenario.now) begun.ended events) }
+    ensures { IfOk result (λ page. (s : Scenario) → IsBegun s begun → waits ≡ explanation_of s (scheduled s)
+        → page ≡ page_of s (scheduled s) begun.ended events) }
 {
     let Begun {
         mut drawing,
@@ -40,6 +38,6 @@ pub fn end_page(
         waits,
         events,
     };
-    drawing.push_end(alloc, scenario, &beside, &mut text)?;
+    drawing.push_end(alloc, &beside, &mut text)?;
     Ok(text)
 }

@@ -1,7 +1,7 @@
 //! What follows from the causes of the statuses.
 ghost use Rattle.com_commands.specs.Inputs.{input_of};
 ghost use Rattle.com_commands.specs.Responses.{RespondsWhole};
-ghost use Rattle.com_read_points.specs.Sources.{reading_points};
+ghost use Rattle.com_points.specs.Sources.{reading_points};
 ghost use Rattle.com_scenario.specs.Sizes.{is_too_long};
 ghost use Rattle.com_top.specs.Checking.{question_input};
 ghost use Rattle.com_top.specs.Scenarios.{scenario_input};

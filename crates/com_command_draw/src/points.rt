@@ -4,9 +4,9 @@ ghost use Rattle.std.proofs.Common.{lit<};
 ghost use Rattle.com_commands.specs.Inputs.{input_of};
 ghost use Rattle.com_commands.specs.Responses.{Responds, Serves};
 ghost use Rattle.com_commands.specs.Statuses.{sides_of};
-ghost use Rattle.com_drive.specs.Replays.{whole_served};
+ghost use Rattle.com_replay.specs.Replays.{whole_served};
 ghost use Rattle.com_model.specs.Formed.{Formed};
-ghost use Rattle.com_read_points.specs.Sources.{reading_points};
+ghost use Rattle.com_points.specs.Sources.{reading_points};
 ghost use Rattle.com_scenario.proofs.Lengths.{longer_than_all};
 ghost use Rattle.com_scenario.specs.Sizes.{is_too_long};
 ghost use Rattle.com_servant.specs.Rows.{row};
@@ -21,7 +21,7 @@ use com_commands::{Input, InputReader, Reply, first_fault, read_as, share, statu
 use com_deliveries::deliveries;
 use com_io::{Sink, Source};
 use com_model::Scenario;
-use com_read_points::read_points;
+use com_points::read_points;
 use com_scenario::is_too_long;
 use com_servant::Servant;
 use std::alloc::Global;
@@ -91,7 +91,7 @@ fn draw_points(
     let events = deliveries(alloc, &*scenario, entries.as_slice())?;
     let ended = begun.ended;
     let waits = explain_end(alloc, &scenario, ended)?;
-    let text = end_page(alloc, &*scenario, begun, waits, Rows::from_vec(events))?;
+    let text = end_page(alloc, begun, waits, Rows::from_vec(events))?;
     Ok(Reply {
         status: status_at(ended),
         text,

@@ -2,7 +2,7 @@
 ghost use Rattle.std.specs.Prelude.{◌≡◌, IfOk, OnOk, map};
 ghost use Rattle.com_commands.specs.Responses.{Responds, Serves};
 ghost use Rattle.com_commands.specs.Statuses.{sides_of};
-ghost use Rattle.com_drive.specs.Replays.{whole_served};
+ghost use Rattle.com_replay.specs.Replays.{whole_served};
 ghost use Rattle.com_model.specs.Formed.{Formed};
 ghost use Rattle.com_servant.specs.Rows.{row};
 ghost use Rattle.com_top.specs.Scenarios.{scenario_input};
@@ -53,7 +53,7 @@ fn draw_replay(
     let (begun, _) = begin(alloc, &scenario, servants, false)?;
     let ended = begun.ended;
     let waits = explain_end(alloc, &scenario, ended)?;
-    let text = end_page(alloc, &*scenario, begun, waits, Rows::new(alloc))?;
+    let text = end_page(alloc, begun, waits, Rows::new(alloc))?;
     Ok(Reply {
         status: status_at(ended),
         text,

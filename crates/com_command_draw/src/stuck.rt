@@ -3,14 +3,13 @@ ghost use Rattle.std.specs.Arc.{arc_value};
 ghost use Rattle.std.specs.Prelude.{◌≡◌, IfOk, Some};
 ghost use Rattle.com_model.specs.Ends.{ended_as, scheduled};
 ghost use Rattle.com_model.specs.Formed.{Formed};
-ghost use Rattle.com_record.specs.Recorded.{IsRecorded};
+ghost use Rattle.com_replay.specs.Recorded.{IsRecorded};
 ghost use Rattle.com_waits.specs.Chains.{explanation_of};
 
 use com_base::Memory;
 use com_io::Discard;
 use com_model::{Ended, Scenario};
-use com_record::{Recorded, keep};
-use com_retrace::fresh_row;
+use com_replay::{Recorded, fresh_row, keep};
 use com_waits::{Waits, waits_at};
 use std::alloc::{AllocError, Global};
 use std::sync::Arc;

@@ -1,7 +1,7 @@
 //! The page of the history that a trace is.
 ghost use Rattle.std.specs.Prelude.{◌≡◌, [], IfOk, List, ℕ};
 ghost use Rattle.std.proofs.Common.{lit<};
-ghost use Rattle.com_agreed.specs.Agreeing.{IsAgreed};
+ghost use Rattle.com_check.specs.Agreeing.{IsAgreed};
 ghost use Rattle.com_check.specs.Judging.{judged_text};
 ghost use Rattle.com_commands.specs.declared.statuses.Status.TheVariants as status;
 ghost use Rattle.com_commands.specs.Lengths.{long_text};
@@ -12,7 +12,7 @@ ghost use Rattle.com_top.specs.Checking.{IsAskable, is_long_trace, question_inpu
 ghost use Rattle.com_command_draw.specs.Pages.{page_of};
 ghost use Rattle.com_command_draw.specs.Traces.{IsTraceAnswer, trace_concludes};
 
-use com_agreed::{Agreed, Judged, Trace, read_trace};
+use com_check::{Agreed, Judged, Trace, read_trace};
 use com_base::{ByteList, Memory, Rows};
 use com_commands::{Input, InputReader, Reply, ReplyingCommand, Status, respond, share};
 use com_draw::{Beside, push_page};

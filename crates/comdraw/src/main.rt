@@ -9,7 +9,7 @@ ghost use Rattle.com_command_draw.specs.Words.{request_of};
 use com_base::Memory;
 use com_command_draw::draw_main;
 use com_io::{Sink, Source, StdSink, StdSource};
-use com_retrace::fresh_row;
+use com_replay::fresh_row;
 use std::alloc::{AllocError, Global};
 use std::env;
 use std::io::ErrorKind;

@@ -1,7 +1,7 @@
 use Rattle.std.proofs.Common.{arith, ap}
-use Rattle.com_drive.specs.Steps.{over_of as end_of}
-use Rattle.com_drive.proofs.Driving.{driving_on, driving_over_step, driving_start_at}
-use Rattle.com_record.proofs.Recording.{made_of, over_of}
+use Rattle.com_replay.specs.Steps.{over_of as end_of}
+use Rattle.com_replay.proofs.Driving.{driving_on, driving_over_step, driving_start_at}
+use Rattle.com_replay.proofs.Recording.{made_of, over_of}
 use Rattle.com_command_draw.proofs.Passing.{passing_ends, passing_kept, passing_on, passing_reached, passing_room, passing_smaller, passing_starts, passing_within}
 use Rattle.com_command_draw.proofs.beginning.begin_by.Goals as goal
 

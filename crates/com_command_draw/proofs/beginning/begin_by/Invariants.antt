@@ -2,7 +2,8 @@ use Rattle.std.proofs.Common.{◌≡◌, ◌-◌, ◌≤◌, drop}
 use Rattle.com_model.specs.Tables.{lanes}
 use Rattle.com_model.specs.Ends.{limit}
 use Rattle.com_servant.specs.Rows.{row}
-use Rattle.com_drive.proofs.Driving.{Driving, mapped}
+use Rattle.com_replay.proofs.Driving.{Driving}
+use Rattle.com_runtime.proofs.Limits.{mapped}
 use Rattle.com_command_draw.proofs.Passing.{Passing}
 use Rattle.com_command_draw.proofs.beginning.begin_by.Given as goal
 
