@@ -13,10 +13,10 @@ ghost use Rattle.com_command_draw.specs.Begun.{IsBegun};
 use com_base::{ByteList, Memory, Rows};
 use com_core::Core;
 use com_draw::Drawing;
-use com_replay::{ReplayError, Step, Stream};
-use com_runtime::{Runtime, all_counts};
 use com_io::{Discard, Sink};
 use com_model::{Counts, Ended, Entry, Scenario};
+use com_replay::{ReplayError, Step, Stream};
+use com_runtime::{Runtime, all_counts};
 use com_servant::Servant;
 use std::alloc::{AllocError, Global};
 use std::sync::Arc;
@@ -142,7 +142,14 @@ pub fn begin(
 {
     let mut core = Core::new(alloc, scenario.clone()?)?;
     let mut nowhere = Discard;
-    match begin_by(alloc, &**scenario, &mut core, servants, is_kept, &mut nowhere) {
+    match begin_by(
+        alloc,
+        &**scenario,
+        &mut core,
+        servants,
+        is_kept,
+        &mut nowhere,
+    ) {
         Ok(begun) => Ok(begun),
         Err(_) => Err(AllocError),
     }

@@ -76,10 +76,5 @@ fn usage<K: Sink>(sink: &mut K) -> u8
     ensures usage { IsUsage result (sides_without_source K.held K.faults_of sink.old sink.new) }
     ensures unwritten { result ≡ 9 → K.held sink.new ≡ K.held sink.old }
 {
-    say(
-        b"usage: comdraw replay|points|trace\n",
-        Status::Usage,
-        sink,
-    )
-    .code()
+    say(b"usage: comdraw replay|points|trace\n", Status::Usage, sink).code()
 }

@@ -12,8 +12,8 @@ ghost use Rattle.com_top.specs.Checking.{IsAskable, is_long_trace, question_inpu
 ghost use Rattle.com_command_draw.specs.Pages.{page_of};
 ghost use Rattle.com_command_draw.specs.Traces.{IsTraceAnswer, trace_concludes};
 
-use com_check::{Agreed, Judged, Trace, read_trace};
 use com_base::{ByteList, Memory, Rows};
+use com_check::{Agreed, Judged, Trace, read_trace};
 use com_commands::{Input, InputReader, Reply, ReplyingCommand, Status, respond, share};
 use com_draw::{Beside, push_page};
 use com_io::{Sink, Source};
