@@ -1,5 +1,5 @@
 -- What is answered, from what the calls below answer.
-use Rattle.std.proofs.Common.{◌≡◌, ℕ, List, [], refl, ap, sym, subst, ◌∙◌, drop, Option, Some}
+use Rattle.std.proofs.Common.{◌≡◌, ℕ, ◌⊎◌, inl, inr, List, [], refl, ap, sym, subst, ◌∙◌, drop, Option, Some}
 use Rattle.com_check.specs.declared.agreement.traces.Agreed.{Agreed}
 use Rattle.com_check.specs.declared.agreement.traces.Trace.{Trace}
 use Rattle.com_check.specs.declared.agreement.traces.Trace.TheVariants as traces
@@ -8,7 +8,7 @@ use Rattle.com_check.specs.declared.judged.Judged.{Judged}
 use Rattle.com_check.specs.Judging.{IsJudged, judged_text}
 use Rattle.com_commands.specs.declared.statuses.Status.{Status}
 use Rattle.com_commands.specs.declared.statuses.Status.TheVariants as status
-use Rattle.com_commands.specs.Statuses.{status_at}
+use Rattle.com_commands.specs.Statuses.{Says, status_at}
 use Rattle.com_deliveries.specs.declared.Delivery.{Delivery}
 use Rattle.com_deliveries.specs.Delivered.{AreDeliveries}
 use Rattle.com_model.specs.declared.counts.Ended.{Ended}
@@ -88,3 +88,11 @@ refuted_at q shared slice trace j st text is_shared is_slice is_trace judged is 
       differs = judged.1;
       written = writes;
     }
+
+-- The line of the usage goes with no want of memory.
+pub usage_unwritten : (result : Status) (text : List ℕ) (held held_after : Option (List ℕ)) (faults faults_after : ℕ)
+    → Says result status.Usage text held held_after faults faults_after → result ≡ status.Memory → held_after ≡ held
+usage_unwritten result text held held_after faults faults_after (inl whole) is =
+    let no : status.Usage ≡ status.Memory = sym whole.0 ∙ is in absurd (cc)
+usage_unwritten result text held held_after faults faults_after (inr part) is =
+    let no : status.WriteFault ≡ status.Memory = sym part.0 ∙ is in absurd (cc)

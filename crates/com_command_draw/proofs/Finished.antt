@@ -6,6 +6,7 @@ use Rattle.com_check.specs.declared.agreement.traces.Agreed.{Agreed}
 use Rattle.com_check.specs.Agreeing.{IsAgreed}
 use Rattle.com_deliveries.specs.declared.Delivery.{Delivery}
 use Rattle.com_deliveries.specs.Delivered.{AreDeliveries}
+use Rattle.com_model.specs.declared.counts.Counts.{Counts}
 use Rattle.com_model.specs.declared.counts.Ended.{Ended}
 use Rattle.com_model.specs.declared.deeds.Entry.{Entry}
 use Rattle.com_model.specs.declared.scenario.Scenario.{Scenario}
@@ -56,7 +57,7 @@ ended_page s b w events text is begun explains =
     is
     ∙ ap (λ (t : List ℕ). t ++ end_text b.drawing (record { counts = b.counts; clock = b.clock; ended = b.ended; waits = w; events = events })) begun.text
     ∙ ap (λ (d : Picture). written s h ++ end_text d (record { counts = b.counts; clock = b.clock; ended = b.ended; waits = w; events = events })) begun.drawing
-    ∙ ap (λ c. written s h ++ end_text (drawn s h) (record { counts = c; clock = b.clock; ended = b.ended; waits = w; events = events })) begun.counts
+    ∙ ap (λ (c : List Counts). written s h ++ end_text (drawn s h) (record { counts = c; clock = b.clock; ended = b.ended; waits = w; events = events })) begun.counts
     ∙ ap (λ (t : ℕ). written s h ++ end_text (drawn s h) (record { counts = all_counts s h; clock = t; ended = b.ended; waits = w; events = events })) begun.clock
     ∙ ap (λ (y : Option Waits). written s h ++ end_text (drawn s h) (record { counts = all_counts s h; clock = clock h; ended = b.ended; waits = y; events = events })) explains
     ∙ sym (page_parts s h (record { counts = all_counts s h; clock = clock h; ended = b.ended; waits = explanation_of s h; events = events }))
@@ -76,7 +77,7 @@ agreed_page s a slice w events text is_slice f explains none written trace is =
     let waits : w ≡ explanation_of s h = explains f lawful ends ∙ ap (λ (y : List Entry). explanation_of s y) told in
     written
     ∙ ap (λ (y : List Entry). page s y (record { counts = a.counts; clock = a.clock; ended = a.ended; waits = w; events = events })) told
-    ∙ ap (λ c. page s h (record { counts = c; clock = a.clock; ended = a.ended; waits = w; events = events })) is.counts
+    ∙ ap (λ (c : List Counts). page s h (record { counts = c; clock = a.clock; ended = a.ended; waits = w; events = events })) is.counts
     ∙ ap (λ (t : ℕ). page s h (record { counts = all_counts s h; clock = t; ended = a.ended; waits = w; events = events })) is.clock
     ∙ ap (λ (y : Option Waits). page s h (record { counts = all_counts s h; clock = clock h; ended = a.ended; waits = y; events = events })) waits
     ∙ ap (λ (ds : List Delivery). page s h (record { counts = all_counts s h; clock = clock h; ended = a.ended; waits = explanation_of s h; events = ds })) none

@@ -1,8 +1,9 @@
 //! What the words ask for is done.
 ghost use Rattle.std.specs.Prelude.{◌≡◌, map, string_bytes};
-ghost use Rattle.com_commands.specs.Statuses.{sides_of, sides_without_source};
+ghost use Rattle.com_commands.specs.declared.statuses.Status.TheVariants as status;
+ghost use Rattle.com_commands.specs.Statuses.{Says, sides_of, sides_without_source};
 ghost use Rattle.com_servant.specs.Rows.{row};
-ghost use Rattle.com_command_draw.specs.Commands.{Answered, IsUsage, ReadsNone, Served};
+ghost use Rattle.com_command_draw.specs.Commands.{Answered, IsUsage, ReadsNone, Served, usage_line};
 ghost use Rattle.com_command_draw.specs.Words.{request_of};
 
 use crate::points::draw_points_main;
@@ -71,10 +72,20 @@ fn answer<S: Source, K: Sink>(
     }
 }
 
-// Writes the line of the usage.
+// Writes the line of the usage, and answers its status, or that it could not be written.
+#[tactic(auto, using(crate::proofs::Answered::usage_unwritten))]
+fn say_usage<K: Sink>(sink: &mut K) -> Status
+    ensures said { Says result status.Usage usage_line (K.held sink.old) (K.held sink.new)
+        (K.faults_of sink.old) (K.faults_of sink.new) }
+    ensures unwritten { result ≡ status.Memory → K.held sink.new ≡ K.held sink.old }
+{
+    say(b"usage: comdraw replay|points|trace\n", Status::Usage, sink)
+}
+
+// The usage, by the number of its status.
 fn usage<K: Sink>(sink: &mut K) -> u8
     ensures usage { IsUsage result (sides_without_source K.held K.faults_of sink.old sink.new) }
     ensures unwritten { result ≡ 9 → K.held sink.new ≡ K.held sink.old }
 {
-    say(b"usage: comdraw replay|points|trace\n", Status::Usage, sink).code()
+    say_usage(sink).code()
 }

@@ -50,7 +50,7 @@ fn draw_replay(
     ensures row { map kind_of servants.new.items ≡ row }
 {
     let scenario = share(alloc, scenario)?;
-    let (begun, _) = begin(alloc, &scenario, servants, false)?;
+    let (begun, _entries) = begin(alloc, &scenario, servants, false)?;
     let ended = begun.ended;
     let waits = explain_end(alloc, &scenario, ended)?;
     let text = end_page(alloc, begun, waits, Rows::new(alloc))?;

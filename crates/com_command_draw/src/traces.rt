@@ -84,8 +84,8 @@ fn draw_agreed(alloc: Global, scenario: &Scenario, agreed: Agreed) -> Result<Byt
 
 // The line of a trace that differs. The only error is want of memory.
 fn refute(alloc: Global, judged: &Judged) -> Result<Reply, Memory>
-    ensures status { IfOk result (λ reply. reply.status ≡ status.Differs) }
-    ensures text { IfOk result (λ reply. reply.text ≡ judged_text judged.now) }
+    ensures { IfOk result (λ reply. (reply.status ≡ status.Differs)
+        × (reply.text ≡ judged_text judged.now)) }
 {
     let text = judged.text(alloc)?;
     Ok(Reply {
