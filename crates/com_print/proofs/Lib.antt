@@ -18,4 +18,4 @@ pub mod Whole
 pub mod Goods
 pub mod Prefixes
 pub mod StatementPieces
-mod Named
+pub mod Named

@@ -1,11 +1,12 @@
 -- Each name of the table of HRESULTs is a word that begins no number.
-use Rattle.std.proofs.Common.{◌≡◌, ℕ, ◌≤◌, ◌==◌, List, Option, Some, None, Bool, true, false, not, ◌&&◌, nat_le, if◌then◌else◌, refl, sym, ap, ◌∙◌, arith, length, codes}
+use Rattle.std.proofs.Common.{◌≡◌, ℕ, ◌≤◌, ◌==◌, List, Option, Some, None, Bool, true, false, not, ◌&&◌, nat_le, if◌then◌else◌, refl, sym, ap, ◌∙◌, arith, length, codes, unwrap_or, ◌∷◌}
 use Rattle.std.specs.List.{list_all}
 use Rattle.std.specs.Char.{is_ascii}
 use Rattle.std.proofs.lemmas.Bool.Decides.{nat_tests}
-use Rattle.com_base.specs.HResults.{name_of}
+use Rattle.com_base.specs.HResults.{name_of, eight_digits}
 use Rattle.com_read_operands.specs.Operands.{begins_hex}
 use Rattle.com_print.specs.Spelled.{is_word_byte}
+use Rattle.com_print.specs.Words.{hresult_bytes}
 use Rattle.com_print.proofs.Hexes.{both}
 
 abbrev is_said : List ℕ → Bool
@@ -57,11 +58,11 @@ pub record IsSaid (bs : List ℕ) : Type 0 where
 
 parts : (bs : List ℕ) → is_said bs ≡ true → IsSaid bs
 parts bs h =
-    let a = both (list_all is_ascii bs) (list_all is_word_byte bs && nat_le 1 (length bs) && not (begins_hex bs)) h in
-    let b = both (list_all is_word_byte bs) (nat_le 1 (length bs) && not (begins_hex bs)) a.1 in
-    let c = both (nat_le 1 (length bs)) (not (begins_hex bs)) b.1 in
-    let d = c.0 in
-    record { ascii = a.0; word = b.0; long = grind (arith, nat_tests, d); no_number = opposite (begins_hex bs) c.1 }
+    let front = both (list_all is_ascii bs && list_all is_word_byte bs && nat_le 1 (length bs)) (not (begins_hex bs)) h in
+    let words = both (list_all is_ascii bs && list_all is_word_byte bs) (nat_le 1 (length bs)) front.0 in
+    let letters = both (list_all is_ascii bs) (list_all is_word_byte bs) words.0 in
+    let long = words.1 in
+    record { ascii = letters.0; word = letters.1; long = grind (arith, nat_tests, long); no_number = opposite (begins_hex bs) front.1 }
   where
     opposite : (b : Bool) → not b ≡ true → b ≡ false
     opposite true h = absurd cc
@@ -69,3 +70,8 @@ parts bs h =
 
 pub name_said : (n : ℕ) (bs : List ℕ) → name_of n ≡ Some bs → IsSaid bs
 name_said n bs e = parts bs (ap are_said (sym e) ∙ table_said n)
+
+-- an HRESULT that the table has no name for is written in digits
+pub unnamed : (n : ℕ) → name_of n ≡ None → hresult_bytes n ≡ 48 ∷ 120 ∷ eight_digits n
+unfolding hresult_bytes
+unnamed n e = ap (λ (x : Option (List ℕ)). unwrap_or x (48 ∷ 120 ∷ eight_digits n)) e

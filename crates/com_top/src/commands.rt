@@ -8,7 +8,7 @@ ghost use Rattle.com_top.specs.Words.{command_of};
 
 use crate::check::check_main;
 use crate::load::load_main;
-use crate::objref::objref_main;
+use crate::objrefs::objref_main;
 use crate::replay::replay_main;
 use crate::waits::waits_main;
 use crate::words::{Command, command_of};

@@ -5,7 +5,7 @@ mod check;
 mod commands;
 mod laws;
 mod load;
-mod objref;
+mod objrefs;
 mod questions;
 mod replay;
 mod scenarios;
@@ -25,7 +25,7 @@ pub use laws::{
     scenarios_replay, waits_completeness,
 };
 pub use load::load_main;
-pub use objref::{ObjRefCommand, objref_main};
+pub use objrefs::{ObjRefCommand, objref_main};
 pub use questions::Question;
 pub use replay::{ReplayCommand, replay_main};
 pub use scenarios::scenario_input;

@@ -3,6 +3,7 @@
 ghost use Rattle.std.specs.Prelude.{◌≡◌, ◌++◌, ◌∷◌, ◌≤◌, [], OnOk, length};
 ghost use Rattle.hex.specs.Hex.{encode_lower};
 ghost use Rattle.com_base.specs.Guids.{text_of};
+ghost use Rattle.com_base.specs.HResults.{eight_digits};
 ghost use Rattle.com_print.specs.Spelled.{plain, more_text, text_word, bytes_word};
 ghost use Rattle.com_print.specs.Words.{value_word, hresult_bytes};
 ghost use Rattle.com_print.specs.Ranges.{AreBytes, FitsValue, IsGuid};
@@ -75,17 +76,25 @@ pub fn push_guid(out: &mut ByteList, guid: Guid) -> Result<(), Memory>
     push_word(out, &guid.text())
 }
 
+// Appends an HRESULT in digits: `0x` and eight of them, in upper case.
+fn push_hresult_digits(out: &mut ByteList, answer: HResult) -> Result<(), Memory>
+    ensures { OnOk result (out.new ≡ out.old
+        ++ more_text (plain (48 ∷ 120 ∷ eight_digits answer.0) ∷ [])) }
+{
+    let [a, b, c, d, e, f, g, h] = answer.digits();
+    push_word(out, &[b'0', b'x', a, b, c, d, e, f, g, h])
+}
+
 /// Appends an HRESULT: its name, or `0x` and eight upper-case hexadecimal digits where the table has none
 /// for it.
 #[tactic(auto, unfolding(crate::specs::Words::hresult_bytes))]
 pub fn push_hresult(out: &mut ByteList, answer: HResult) -> Result<(), Memory>
     ensures { OnOk result (out.new ≡ out.old ++ more_text (plain (hresult_bytes answer.0) ∷ [])) }
 {
-    if let Some(name) = answer.name() {
-        return push_word(out, name.as_bytes());
+    match answer.name() {
+        Some(name) => push_word(out, name.as_bytes()),
+        None => push_hresult_digits(out, answer),
     }
-    let [a, b, c, d, e, f, g, h] = answer.digits();
-    push_word(out, &[b'0', b'x', a, b, c, d, e, f, g, h])
 }
 
 /// Appends a literal: a number, `true` or `false`, a text or bytes in quotation marks, or a GUID. No literal
