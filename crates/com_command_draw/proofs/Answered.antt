@@ -64,6 +64,13 @@ drawn_trace q a text is draws = record {
   written = draws (drop q.from q.text) is;
 }
 
+-- What was read of a trace, where it is known what it is.
+pub agreed_of : (s : Scenario) (trace : List ℕ) (t : Trace) (a : Agreed) → t ≡ traces.Agrees a → IsRead s trace t → IsAgreed s trace a
+agreed_of s trace t a is read = subst (λ (y : Trace). IsRead s trace y) is read
+
+pub differs_of : (s : Scenario) (trace : List ℕ) (t : Trace) (j : Judged) → t ≡ traces.Differs j → IsRead s trace t → IsJudged s trace j × IsOther j
+differs_of s trace t j is read = subst (λ (y : Trace). IsRead s trace y) is read
+
 -- A scenario is shared, and looked at; and so is a text.
 pub traced_at : (q : Question) (shared seen : Scenario) (slice trace : List ℕ) (a : Agreed) (text : List ℕ)
     → shared ≡ q.scenario → seen ≡ shared → slice ≡ q.text → trace ≡ drop q.from slice → IsAgreed shared trace a → DrawsTrace seen a text → IsTraceDrawn q text

@@ -64,19 +64,21 @@ ended_page s b w events text is begun explains =
 
 -- ---- the page of an agreed trace
 
-pub agreed_page : (s : Scenario) (a : Agreed) (slice : List Entry) (w : Option Waits) (events : List Delivery) (text : List ℕ)
-    → slice ≡ a.history → Formed s → Explains s slice a.ended w → events ≡ []
-    → text ≡ page s (reverse slice) (record { counts = a.counts; clock = a.clock; ended = a.ended; waits = w; events = events })
+pub agreed_page : (s : Scenario) (a : Agreed) (slice seen : List Entry) (w : Option Waits) (events : List Delivery) (old text : List ℕ)
+    → slice ≡ a.history → seen ≡ a.history → old ≡ [] → Formed s → Explains s slice a.ended w → events ≡ []
+    → text ≡ old ++ page s (reverse seen) (record { counts = a.counts; clock = a.clock; ended = a.ended; waits = w; events = events })
     → (trace : List ℕ) (is : IsAgreed s trace a) → text ≡ page_of s is.text.history a.ended []
 unfolding page_of
-agreed_page s a slice w events text is_slice f explains none written trace is =
+agreed_page s a slice seen w events old text is_slice is_seen empty f explains none writes trace is =
     let h : List Entry = is.text.history in
     let told : reverse slice ≡ h = ap (λ (es : List Entry). reverse es) is_slice ∙ is.history in
     let lawful : legal s (reverse slice) = subst (λ (y : List Entry). legal s y) (sym told) is.text.lawful in
     let ends : ended_as s (reverse slice) ≡ Some a.ended = ap (λ (y : List Entry). ended_as s y) told ∙ is.ended in
+    let shown : reverse seen ≡ h = ap (λ (es : List Entry). reverse es) is_seen ∙ is.history in
     let waits : w ≡ explanation_of s h = explains f lawful ends ∙ ap (λ (y : List Entry). explanation_of s y) told in
-    written
-    ∙ ap (λ (y : List Entry). page s y (record { counts = a.counts; clock = a.clock; ended = a.ended; waits = w; events = events })) told
+    writes
+    ∙ ap (λ (t : List ℕ). t ++ page s (reverse seen) (record { counts = a.counts; clock = a.clock; ended = a.ended; waits = w; events = events })) empty
+    ∙ ap (λ (y : List Entry). page s y (record { counts = a.counts; clock = a.clock; ended = a.ended; waits = w; events = events })) shown
     ∙ ap (λ (c : List Counts). page s h (record { counts = c; clock = a.clock; ended = a.ended; waits = w; events = events })) is.counts
     ∙ ap (λ (t : ℕ). page s h (record { counts = all_counts s h; clock = t; ended = a.ended; waits = w; events = events })) is.clock
     ∙ ap (λ (y : Option Waits). page s h (record { counts = all_counts s h; clock = clock h; ended = a.ended; waits = y; events = events })) waits

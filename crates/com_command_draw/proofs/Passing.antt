@@ -1,7 +1,7 @@
 -- A page that is begun, from the first state to the end of the history.
 use Rattle.std.proofs.Common.{sym, subst, ◌∙◌, ap, arith}
 use Rattle.std.proofs.lemmas.List.{reverse-append}
-use Rattle.std.specs.Prelude.{◌≡◌, refl, ℕ, ◌+◌, ◌≤◌, ◌<◌, ◌^◌, Bool, true, cond, ◌==◌, List, [], ◌∷◌, ◌++◌, length, Some, drop, reverse}
+use Rattle.std.specs.Prelude.{◌≡◌, refl, ℕ, ◌+◌, ◌-◌, ◌≤◌, ◌<◌, ◌^◌, Bool, true, false, cond, ◌==◌, List, [], ◌∷◌, ◌++◌, length, Some, drop, reverse}
 use Rattle.com_model.specs.declared.counts.Ended.{Ended}
 use Rattle.com_model.specs.declared.deeds.Entry.{Entry}
 use Rattle.com_model.specs.declared.scenario.Scenario.{Scenario}
@@ -32,12 +32,12 @@ pub record Passing (s : Scenario) (st : State) (picks : List ℕ) (last : ℕ) (
 pub passing_starts : (s : Scenario) (st : State) (tried last : ℕ) (d : Picture) (old text : List ℕ) (is_kept : Bool) (kept : List Entry)
     → st ≡ first_tables s → tried ≡ 0 → last ≡ 0 → d ≡ drawn s [] → old ≡ [] → text ≡ old ++ written s [] → kept ≡ []
     → Passing s st (drop tried s.picks) last d text is_kept kept
-passing_starts s st tried last d old text is_kept kept first t l is none begins no = record {
+passing_starts s st tried last d old text is_kept kept first t l is none begins empty = record {
   entries = [];
   recording = recording_starts s st tried last [] first t l refl;
   drawn_is = is;
   written_is = begins ∙ ap (λ (x : List ℕ). x ++ written s []) none;
-  kept_is = λ k. no;
+  kept_is = λ k. empty;
 }
 
 -- ---- one entry more

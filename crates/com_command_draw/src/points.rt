@@ -87,7 +87,8 @@ fn draw_points(
     ensures row { map kind_of servants.new.items ≡ row }
 {
     let scenario = share(alloc, scenario)?;
-    let (begun, entries) = begin(alloc, &scenario, servants, true)?;
+    let drawn = begin(alloc, &scenario, servants, true)?;
+    let (begun, entries) = drawn;
     let events = deliveries(alloc, &*scenario, entries.as_slice())?;
     let ended = begun.ended;
     let waits = explain_end(alloc, &scenario, ended)?;

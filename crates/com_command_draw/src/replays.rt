@@ -50,7 +50,8 @@ fn draw_replay(
     ensures row { map kind_of servants.new.items ≡ row }
 {
     let scenario = share(alloc, scenario)?;
-    let (begun, _entries) = begin(alloc, &scenario, servants, false)?;
+    let drawn = begin(alloc, &scenario, servants, false)?;
+    let (begun, _entries) = drawn;
     let ended = begun.ended;
     let waits = explain_end(alloc, &scenario, ended)?;
     let text = end_page(alloc, begun, waits, Rows::new(alloc))?;

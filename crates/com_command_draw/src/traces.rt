@@ -83,9 +83,9 @@ fn draw_agreed(alloc: Global, scenario: &Scenario, agreed: Agreed) -> Result<Byt
 }
 
 // The line of a trace that differs. The only error is want of memory.
-fn refute(alloc: Global, judged: &Judged) -> Result<Reply, Memory>
+fn refute(alloc: Global, judged: Judged) -> Result<Reply, Memory>
     ensures { IfOk result (λ reply. (reply.status ≡ status.Differs)
-        × (reply.text ≡ judged_text judged.now)) }
+        × (reply.text ≡ judged_text judged)) }
 {
     let text = judged.text(alloc)?;
     Ok(Reply {
@@ -105,7 +105,8 @@ fn draw_question(alloc: Global, question: Question) -> Result<Reply, Memory>
         from,
     } = question;
     let scenario = share(alloc, scenario)?;
-    match read_trace(alloc, &scenario, &text.as_slice()[from..])? {
+    let read = read_trace(alloc, &scenario, &text.as_slice()[from..])?;
+    match read {
         Trace::Agrees(agreed) => {
             let page = draw_agreed(alloc, &*scenario, agreed)?;
             Ok(Reply {
@@ -113,7 +114,7 @@ fn draw_question(alloc: Global, question: Question) -> Result<Reply, Memory>
                 text: page,
             })
         }
-        Trace::Differs(judged) => refute(alloc, &judged),
+        Trace::Differs(judged) => refute(alloc, judged),
     }
 }
 
