@@ -22,7 +22,7 @@ pub step-requires-clause-reached : goal.step-requires-clause-reached
 step-requires-clause-reached g c = passing_reached c.args.scenario.now _ _ _ _ _ _ _ c.requires.formed c.turns.invariant.passing
 
 pub push_entry-requires : goal.push_entry-requires
-push_entry-requires g c = passing_room c.args.scenario.now _ _ _ _ _ _ _ c.turns.invariant.passing
+push_entry-requires g c = record { room = passing_room c.args.scenario.now _ _ _ _ _ _ _ c.turns.invariant.passing }
 
 pub turns-preserved : goal.turns-preserved
 turns-preserved g c = record {

@@ -11,8 +11,8 @@ returns-in-Agrees c =
     c.in_ok-scenario.ensures c.deref.ensures c.as_slice.ensures (take_rest c.as_slice.result.now c.args.question.from)
     (agreed_of _ _ c.in_ok-read.read c.in-Agrees.agreed c.in-Agrees.is c.in_ok-read.ensures) c.in_ok-page-in-Agrees.ensures
 
-pub returns-in-Differs : goal.returns-in-Differs
-returns-in-Differs c =
+pub returns : goal.returns
+returns c =
     IfOk-weaker c.refute.result _ (λ reply. IsTraceAnswer c.args.question reply.status reply.text)
     (λ reply is. refuted_at c.args.question (arc_value c.in_ok-scenario.scenario) c.as_slice.result.now _ c.in-Differs.judged reply.status reply.text
     c.in_ok-scenario.ensures c.as_slice.ensures (take_rest c.as_slice.result.now c.args.question.from)
