@@ -1,0 +1,5 @@
+pub mod Enough
+pub mod Standing
+pub mod Covered
+pub mod Counted
+pub mod Bites

@@ -1,0 +1,3 @@
+pub mod Amounts
+pub mod Integers
+pub mod Broken

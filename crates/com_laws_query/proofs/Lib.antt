@@ -1,0 +1,4 @@
+pub mod Sources
+pub mod Answers
+pub mod Rules
+pub mod Bites

@@ -1,0 +1,3 @@
+pub mod Querying
+pub mod Rules
+pub mod Broken

@@ -1,0 +1,9 @@
+pub mod Lanes
+pub mod Graphs
+pub mod Turns
+pub mod Entering
+pub mod Pumps
+pub mod Leading
+pub mod Lines
+pub mod Rings
+pub mod Bites
