@@ -1,5 +1,5 @@
 -- What is answered, from what the calls below answer.
-use Rattle.std.proofs.Common.{◌≡◌, ℕ, ◌⊎◌, inl, inr, List, [], refl, ap, sym, subst, ◌∙◌, drop, Option, Some}
+use Rattle.std.proofs.Common.{◌≡◌, ℕ, inl, inr, List, [], ap, sym, subst, ◌∙◌, drop, Option}
 use Rattle.com_check.specs.declared.agreement.traces.Agreed.{Agreed}
 use Rattle.com_check.specs.declared.agreement.traces.Trace.{Trace}
 use Rattle.com_check.specs.declared.agreement.traces.Trace.TheVariants as traces
@@ -11,9 +11,8 @@ use Rattle.com_commands.specs.declared.statuses.Status.TheVariants as status
 use Rattle.com_commands.specs.Statuses.{Says, status_at}
 use Rattle.com_deliveries.specs.declared.Delivery.{Delivery}
 use Rattle.com_deliveries.specs.Delivered.{AreDeliveries}
-use Rattle.com_model.specs.declared.counts.Ended.{Ended}
 use Rattle.com_model.specs.declared.scenario.Scenario.{Scenario}
-use Rattle.com_model.specs.Ends.{ended_as, scheduled}
+use Rattle.com_model.specs.Ends.{scheduled}
 use Rattle.com_top.specs.declared.questions.Question.{Question}
 use Rattle.com_waits.specs.Chains.{explanation_of}
 use Rattle.com_waits.specs.declared.reasons.Waits.{Waits}

@@ -1,7 +1,7 @@
 -- The end of a page: what explains how a history ended, and what is drawn of it.
 use Rattle.std.proofs.Common.{◌≡◌, ℕ, ◌≤◌, ◌<◌, List, [], ◌++◌, length, refl, ap, sym, subst, ◌∙◌, arith, Option, Some}
 use Rattle.std.proofs.lemmas.Grind.{common_steps}
-use Rattle.std.specs.Prelude.{◌^◌, ◌==◌, Bool, true, false, cond, is_some, nat_le, reverse, None}
+use Rattle.std.specs.Prelude.{◌^◌, ◌==◌, true, false, cond, is_some, nat_le, reverse, None}
 use Rattle.com_check.specs.declared.agreement.traces.Agreed.{Agreed}
 use Rattle.com_check.specs.Agreeing.{IsAgreed}
 use Rattle.com_deliveries.specs.declared.Delivery.{Delivery}

@@ -1,6 +1,6 @@
 //! A page that is begun: the one history of a scenario is made, and each entry is drawn as it is made.
 ghost use Rattle.std.specs.Arc.{arc_value};
-ghost use Rattle.std.specs.Prelude.{◌≡◌, ◌≤◌, ◌∷◌, ◌++◌, [], true, IfOk, OnOk, map, reverse};
+ghost use Rattle.std.specs.Prelude.{◌≡◌, ◌∷◌, ◌++◌, [], true, IfOk, OnOk, map, reverse};
 ghost use Rattle.com_replay.specs.Replays.{whole_served};
 ghost use Rattle.com_runtime.specs.Reports.{all_counts_in};
 ghost use Rattle.com_runtime.specs.Standings.{Reached};

@@ -1,5 +1,5 @@
 -- The scenario that is shared is the one that is drawn.
-use Rattle.std.proofs.Common.{◌≡◌, List, reverse, subst, true}
+use Rattle.std.proofs.Common.{◌≡◌, reverse, subst, true}
 use Rattle.com_model.specs.declared.scenario.Scenario.{Scenario}
 use Rattle.com_model.specs.Ends.{scheduled}
 use Rattle.com_command_draw.specs.Begun.{IsBegun}
