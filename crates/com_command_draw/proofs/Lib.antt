@@ -1,3 +1,0 @@
-pub mod Passing
-pub mod Finished
-pub mod Answered

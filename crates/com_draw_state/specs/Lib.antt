@@ -1,4 +1,0 @@
-pub mod Board
-pub mod Lanes
-pub mod Stacks
-pub mod Tracks

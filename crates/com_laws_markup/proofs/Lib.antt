@@ -1,4 +1,0 @@
-pub mod Digits
-pub mod Passing
-pub mod Rows
-pub mod Words
