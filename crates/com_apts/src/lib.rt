@@ -18,7 +18,7 @@ use std::marker::Model;
 /// Want of memory.
 pub use com_base::Memory;
 
-/// What a thread's lane has: its home, and how often it is initialised.
+// What a thread's lane has: its home, and how often it is initialised.
 #[derive(Debug, Clone, Copy)]
 struct Seat {
     home: Option<u32>,
@@ -26,7 +26,7 @@ struct Seat {
 }
 
 impl Seat {
-    /// A lane that is not initialised.
+    // A lane that is not initialised.
     const FREE: Seat = Seat {
         home: None,
         count: 0,
@@ -189,7 +189,7 @@ impl Apartments {
     }
 }
 
-/// Whether an apartment is one of this mode.
+// Whether an apartment is one of this mode.
 fn is_home_of(mode: Mode, home: u32) -> bool
     ensures { result ≡ is_in_mode mode home }
 {
@@ -199,8 +199,8 @@ fn is_home_of(mode: Mode, home: u32) -> bool
     }
 }
 
-/// The home of a lane that is initialised in this mode: the multithreaded apartment, or one more of
-/// its own.
+// The home of a lane that is initialised in this mode: the multithreaded apartment, or one more of
+// its own.
 fn new_home(ended: &mut Vec<bool>, mode: Mode) -> Result<u32, Memory>
     requires { vec_len ended.old + 4 ≤ 2 ^ 32 }
     ensures home { IfOk result (λ home. home ≡ home_in mode ended.old.items) }
@@ -217,7 +217,7 @@ fn new_home(ended: &mut Vec<bool>, mode: Mode) -> Result<u32, Memory>
     }
 }
 
-/// The home, where it is a single-threaded apartment that a thread made.
+// The home, where it is a single-threaded apartment that a thread made.
 fn made_by_thread(home: Option<u32>) -> Option<u32>
     ensures { result ≡ sta_of home }
 {
@@ -228,7 +228,7 @@ fn made_by_thread(home: Option<u32>) -> Option<u32>
 }
 
 #[tactic(auto, using(crate::proofs::LaneLemmas::ended_first_le, crate::proofs::LaneLemmas::ended_first_more, crate::proofs::LaneLemmas::ended_first_here))]
-/// The first index from this one on that holds `false`, or the length. All before it hold `true`.
+// The first index from this one on that holds `false`, or the length. All before it hold `true`.
 fn oldest_from(ended: &[bool], from: usize) -> usize
     requires { from ≤ ended_first ended.now }
     ensures { result ≡ ended_first ended.now }

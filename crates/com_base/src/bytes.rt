@@ -99,7 +99,7 @@ impl ByteList {
         self.bytes.truncate(0);
     }
 
-    /// The same bytes as a slice.
+    /// The bytes as a slice.
     pub fn as_slice(&self) -> &[u8]
         ensures { result.now ≡ self.now }
     {

@@ -75,7 +75,7 @@ impl Guid {
         }
     }
 
-    // The same as the kit's type, whose sixteen bytes are in the order in which the text shows them: each
+    // The GUID as the kit's type, whose sixteen bytes are in the order in which the text shows them: each
     // field from its high byte down.
     #[tactic(auto, using(crate::proofs::Lengths::turned))]
     fn uuid(&self) -> Uuid

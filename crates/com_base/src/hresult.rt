@@ -9,7 +9,7 @@ ghost use Rattle.com_base.specs.HResults.{name_of, facility_of, code_of, eight_d
 #[derive(Debug, Clone, Copy, PartialEq, Eq)]
 pub struct HResult(pub u32);
 
-/// The upper-case hexadecimal digit of a number below 16.
+// The upper-case hexadecimal digit of a number below 16.
 fn upper_digit(number: u32) -> u8
     requires { number < 16 }
     ensures { result ≡ slice_index upper_digits number }

@@ -75,7 +75,7 @@ impl Reserved {
         self.bytes.truncate(count);
     }
 
-    // The same bytes. The only error is want of memory.
+    // A copy of the bytes. The only error is want of memory.
     pub(crate) fn copy(&self) -> Result<Reserved, AllocError>
         ensures { IfOk result (λ copy. copy.items ≡ self.now.items) }
     {

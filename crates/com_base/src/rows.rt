@@ -29,21 +29,21 @@ impl<T> Rows<T> {
         }
     }
 
-    /// The same list. It takes no memory.
+    /// The vector's values in its own memory. It takes no memory.
     pub fn from_vec(list: Vec<T>) -> Rows<T>
         ensures { result ≡ list.items }
     {
         Rows { rows: list }
     }
 
-    /// The same list as a slice.
+    /// The values as a slice.
     pub fn as_slice(&self) -> &[T]
         ensures { result.now ≡ self.now }
     {
         self.rows.as_slice()
     }
 
-    /// The same list as a vector. It takes no memory.
+    /// The values as a vector. It takes no memory.
     pub fn into_vec(self) -> Vec<T>
         ensures { result.items ≡ self }
     {

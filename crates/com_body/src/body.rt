@@ -71,7 +71,7 @@ impl Body {
         self.statements.is_empty()
     }
 
-    /// The same list.
+    /// The statements, in their order.
     #[inline]
     pub fn statements(&self) -> &[Stmt]
         ensures list { result.now ≡ self.now }

@@ -201,7 +201,8 @@ fn action_of(
     })
 }
 
-// The same of the statements on packets and cookies.
+// The action of a statement on packets or cookies, by the values in the frame. The only error is want of
+// memory.
 fn packet_action_of(statement: &Stmt, frame: &Frame) -> Result<Action, Memory>
     requires { IsInRange statement.now }
     ensures { IfOk result (λ action. action ≡ packet_action_of frame.now statement.now) }
@@ -236,7 +237,7 @@ fn packet_action_of(statement: &Stmt, frame: &Frame) -> Result<Action, Memory>
     })
 }
 
-// The same of the statements on lanes and apartments. No other one is an action.
+// The action of a statement on lanes or apartments, by the values in the frame. No other one is an action.
 fn lane_action_of(statement: &Stmt, frame: &Frame) -> Action
     requires { IsInRange statement.now }
     ensures { result ≡ lane_action_of frame.now statement.now }

@@ -20,7 +20,7 @@ with_late [] k x = alone x k
 with_late (y ∷ ys) zero x = x ∷ ys
 with_late (y ∷ ys) (suc k) x = y ∷ with_late ys k x
 
--- The same by the number of a call, from 1.
+-- What leaves, by the number of a call, from 1.
 abbrev pub with_late_call : List (Option Leaving) → (call : ℕ) → Option Leaving → List (Option Leaving)
 with_late_call ys zero x = ys
 with_late_call ys (suc k) x = with_late ys k x

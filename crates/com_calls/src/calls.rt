@@ -180,7 +180,7 @@ impl Calls {
         }
     }
 
-    /// A filter, or the want of one, judged a posted call.
+    // A filter, or the want of one, judged a posted call.
     fn judge(&mut self, call: u32, verdict: Verdict, has_filter: bool)
         ensures { self.new ≡ with_tables self.old (judged_at self.old.tables call verdict has_filter) }
     {
@@ -191,7 +191,7 @@ impl Calls {
         self.end(call, Ending::ByVerdict(verdict));
     }
 
-    /// A caller's filter said what to do after a verdict.
+    // A caller's filter said what to do after a verdict.
     fn retry(&mut self, call: u32, answer: i64, clock: u64)
         requires known { is_known self.old.tables (retries call answer) }
         requires time { clock + delay_of (deed.Retry call answer) < 2 ^ 64 }
@@ -209,7 +209,7 @@ impl Calls {
         self.delay(call, clock + answer as u64);
     }
 
-    /// A waiting caller's filter was asked about a word: 0 cancels the call.
+    // A waiting caller's filter was asked about a word: 0 cancels the call.
     fn ask(&mut self, call: u32, answer: u8)
         ensures { self.new ≡ with_tables self.old (asked_at self.old.tables call answer) }
     {
@@ -218,7 +218,7 @@ impl Calls {
         }
     }
 
-    /// An object was disconnected where the answer is S_OK.
+    // An object was disconnected where the answer is S_OK.
     fn disconnect(&mut self, object: Option<u32>, hr: HResult)
         ensures { (o : ObjectTables) → IsNamed o self.old
             → self.new ≡ with_tables self.old (cut_at o self.old.tables (cuts_object (disconnects
@@ -233,7 +233,7 @@ impl Calls {
         self.cut(Cut::Object(object));
     }
 
-    /// An STA ended where its lane has no initialisation left.
+    // An STA ended where its lane has no initialisation left.
     fn end_home(&mut self, home: Option<u32>, count: u32)
         ensures { (o : ObjectTables) → IsNamed o self.old
             → self.new ≡ with_tables self.old (cut_at o self.old.tables (cuts_sta (ends_sta
@@ -248,7 +248,7 @@ impl Calls {
         self.cut(Cut::Sta(home));
     }
 
-    /// The calls that a disconnection reaches are answered.
+    // The calls that a disconnection reaches are answered.
     fn cut(&mut self, cut: Cut)
         ensures { (o : ObjectTables) → IsNamed o self.old
             → self.new ≡ with_tables self.old (cut_at o self.old.tables (effect_of cut)) }
@@ -418,7 +418,7 @@ impl Calls {
         rows::take(&mut self.rows, alloc, call)
     }
 
-    /// A body is entered.
+    // A body is entered.
     fn enter(&mut self, admission: Admission)
         ensures { self.new ≡ with_tables self.old (entered_at self.old.tables admission) }
     {
@@ -426,7 +426,7 @@ impl Calls {
         self.waiting.remove(admission.call);
     }
 
-    /// An answer is fixed, unless one is fixed already.
+    // An answer is fixed, unless one is fixed already.
     fn end(&mut self, call: u32, ending: Ending)
         requires { is_leave (Some ending) ≡ false }
         ensures { self.new ≡ with_tables self.old (ended_at self.old.tables call ending) }
@@ -435,7 +435,7 @@ impl Calls {
         self.waiting.remove(call);
     }
 
-    /// A body leaves.
+    // A body leaves.
     fn leave_row(&mut self, call: u32, hr: HResult, value: Option<Value>)
         ensures { self.new ≡ with_tables self.old (left_at self.old.tables call hr value) }
     {
@@ -444,14 +444,14 @@ impl Calls {
         self.waiting.remove(call);
     }
 
-    /// A call comes back.
+    // A call comes back.
     fn give_back(&mut self, call: u32)
         ensures { self.new ≡ with_tables self.old (returned_at self.old.tables call) }
     {
         rows::give_back(&mut self.rows, call);
     }
 
-    /// A call waits until a time, in milliseconds.
+    // A call waits until a time, in milliseconds.
     fn delay(&mut self, call: u32, until: u64)
         requires { call ≤ length self.old.tables.issues }
         ensures { self.new ≡ with_tables self.old (phased_at self.old.tables call (Delayed until)) }
@@ -469,7 +469,7 @@ impl Calls {
         waits::least_wait(&self.rows, &self.delayed, now)
     }
 
-    /// A call comes into a phase in which it is in no inbox and waits for no time.
+    // A call comes into a phase in which it is in no inbox and waits for no time.
     fn set_phase(&mut self, call: u32, phase: Phase)
         requires { settles phase ≡ true }
         ensures { self.new ≡ with_tables self.old (phased_at self.old.tables call phase) }
@@ -478,7 +478,7 @@ impl Calls {
         self.waiting.remove(call);
     }
 
-    /// A call is posted at the end of the inbox of its target's apartment.
+    // A call is posted at the end of the inbox of its target's apartment.
     fn post(&mut self, call: u32)
         requires low { 1 ≤ call }
         requires high { call ≤ length self.old.tables.issues }
@@ -497,7 +497,7 @@ impl Calls {
         self.waiting.post(apartment, call);
     }
 
-    /// A call more, that is neither posted nor refused.
+    // A call more, that is neither posted nor refused.
     fn push(&mut self, issue: Issue, issued: Issued, is_outermost: bool, clock: u64)
         requires number { issue.call ≡ length self.old.tables.issues + 1 }
         requires room { length self.old.tables.issues < self.old.room }
@@ -510,14 +510,14 @@ impl Calls {
     }
 }
 
-/// How many causalities an Out draws.
+// How many causalities an Out draws.
 fn causalities_of(is_outermost: bool) -> u32
     ensures { result ≡ count_if is_outermost }
 {
     if is_outermost { 1 } else { 0 }
 }
 
-/// Room for one call more than there are: the same where there is such room, else twice as much.
+// Room for one call more than there are: the same where there is such room, else twice as much.
 fn room_for(room: u32, calls: u32) -> u32
     requires within { calls ≤ room }
     requires fewer { calls + 1 < 2 ^ 32 }

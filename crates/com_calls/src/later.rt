@@ -41,7 +41,7 @@ pub fn keep(later: &mut Vec<Option<Leaving>>, call: u32, leaving: Option<Leaving
     later.push_reserved(Some(leaving));
 }
 
-/// Adds rows without a Leave until there are so many. There is room for them.
+// Adds rows without a Leave until there are so many. There is room for them.
 fn fill(later: &mut Vec<Option<Leaving>>, count: usize)
     requires more { vec_len later.old ≤ count }
     requires room { count ≤ vec_capacity later.old }

@@ -15,8 +15,8 @@ use std::alloc::Global;
 use std::marker::Model;
 use std::mem;
 
-/// What has become of a call. What it sends is let go before its body can leave, so both lie in one field. A
-/// Leave that comes after the answer stands apart.
+// What has become of a call. What it sends is let go before its body can leave, so both lie in one field. A
+// Leave that comes after the answer stands apart.
 #[derive(Debug, Drop)]
 enum Fate {
     /// No answer is fixed, and these values are not read yet.
@@ -27,7 +27,7 @@ enum Fate {
     Answered(Ending),
 }
 
-/// Where a call was entered.
+// Where a call was entered.
 #[derive(Debug, Clone, Copy)]
 struct Entered {
     /// The lane in which its body runs.

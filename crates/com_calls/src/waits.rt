@@ -21,7 +21,7 @@ pub fn least_wait(rows: &[CallRow], delayed: &[u32], now: u64) -> Option<u64>
     least
 }
 
-/// The lesser of two times.
+// The lesser of two times.
 fn sooner(time: Option<u64>, other: Option<u64>) -> Option<u64>
     ensures { result ≡ sooner_of time other }
 {
@@ -32,7 +32,7 @@ fn sooner(time: Option<u64>, other: Option<u64>) -> Option<u64>
     }
 }
 
-/// The time later than `now` that a call waits for.
+// The time later than `now` that a call waits for.
 fn wait_of(rows: &[CallRow], call: u32, now: u64) -> Option<u64>
     ensures { result ≡ row_wait now (row_at rows.now call) }
 {
@@ -51,7 +51,7 @@ fn row_wait(row: &CallRow, now: u64) -> Option<u64>
     }
 }
 
-/// Whether a call waits for a time.
+// Whether a call waits for a time.
 fn is_delayed(rows: &[CallRow], call: u32) -> bool
     ensures { result ≡ row_delayed (row_at rows.now call) }
 {

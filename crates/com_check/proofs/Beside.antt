@@ -6,7 +6,7 @@ use Rattle.com_check.specs.declared.judged.Judged.TheVariants as judged
 use Rattle.com_check.specs.Lines.{lines_of}
 use Rattle.com_check.specs.Turning.{IsReported}
 
--- The same lines stand in front of what is left of both.
+-- In front of what is left of the report and of the trace stand equal lines.
 pub record Beside (before : ℕ) (report trace : List (List ℕ)) (line : ℕ) (legal found : List ℕ) : Type 0 where
   pub front : List (List ℕ)
   pub report_is : report ≡ front ++ lines_of legal

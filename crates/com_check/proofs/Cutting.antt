@@ -40,7 +40,7 @@ last_line_is [] rest n some all before none = absurd (omega arith)
 last_line_is (b ∷ bs) rest n some all before none =
     rw (none, no_line) (whole_line b bs (λ k below. before k (omega (arith, all, below))))
 
--- The same in the words of ranges.
+-- The first line and what follows, in the words of ranges.
 pub line_is_ranges : (text : List ℕ) (n : ℕ) → n < length text → ((k : ℕ) → k < n → get_or text k 0 ≢ 10) → (n < length text → get_or text n 0 ≡ 10)
     → lines_of text ≡ take n text ∷ lines_of (take (length text - (n + 1)) (drop (n + 1) text))
 line_is_ranges text n h before end = rw (take_rest text (n + 1)) (line_is_cut text n h before end)

@@ -96,7 +96,7 @@ turn_compared s st new last last_new lane n e found line (Some j) names p count 
       differ = λ same. other.0 (one_line found line (same ∙ sym legal));
     }
 
--- The same, where the last lane is known by an equation.
+-- A turn that was compared, where the last lane is known by an equation.
 pub turn_settled : (s : Scenario) (st new : State) (last old last_new lane n : ℕ) (e : Entry) (found line : List ℕ) (t : Option Judged) → named found ≡ Some lane
     → IsNext s st lane e new → n ≡ st.entries + 1 → line ≡ entry_line s.version n e → old ≡ last → IsCompared n lane found line old t last_new
     → IsTurn s st last found t new last_new

@@ -46,7 +46,7 @@ pub fn cut_text(alloc: Global, text: &[u8]) -> Result<Cut, Memory>
     }
 }
 
-/// Whether the only word of a line is `trace`. A comment may stand behind it.
+// Whether the only word of a line is `trace`. A comment may stand behind it.
 fn says_trace(line: &[Word]) -> bool
     ensures { result ≡ says_trace line.now }
 {

@@ -3,7 +3,7 @@ ghost use Rattle.std.specs.Prelude.{◌≡◌, ◌≤◌, ◌^◌, Some, None, I
 ghost use Rattle.std.specs.Char.{is_ascii_digit};
 ghost use Rattle.com_check.specs.Fronts.{front_length, named, value_of, IsNoLane};
 
-/// How many digits stand at the front of a text, where there is one and something stands behind them.
+// How many digits stand at the front of a text, where there is one and something stands behind them.
 fn front_length(text: &[u8]) -> Option<usize>
     ensures { result ≡ front_length text.now }
 {
@@ -13,14 +13,14 @@ fn front_length(text: &[u8]) -> Option<usize>
     }
 }
 
-/// Where the first byte stands that is no digit.
+// Where the first byte stands that is no digit.
 fn first_other(text: &[u8]) -> Option<usize>
     ensures { result ≡ position (λ b. not (is_ascii_digit b)) text.now }
 {
     text.iter().position(|byte| !byte.is_ascii_digit())
 }
 
-/// The number that digits spell, if a number of 32 bits holds it.
+// The number that digits spell, if a number of 32 bits holds it.
 fn value_of(digits: &[u8]) -> Option<u32>
     ensures some { IfSome result (λ n. n ≡ value_of digits.now) }
     ensures none { result ≡ None → 2 ^ 32 ≤ value_of digits.now }

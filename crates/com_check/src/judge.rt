@@ -21,7 +21,7 @@ use com_runtime::{Runtime, Standing, all_counts, choose, end_of};
 use com_servant::Servant;
 use std::alloc::Global;
 
-/// The last lane but the clock's, behind an entry of a lane.
+// The last lane but the clock's, behind an entry of a lane.
 #[tactic(auto, using(crate::proofs::Entries::last_clock, crate::proofs::Entries::last_other))]
 fn last_after(lane: u32, last: u32) -> u32
     ensures { result ≡ last_after lane last }
@@ -29,7 +29,7 @@ fn last_after(lane: u32, last: u32) -> u32
     if lane == 0 { last } else { lane }
 }
 
-/// Makes the clock's entry, where the clock goes on. The only error is want of memory.
+// Makes the clock's entry, where the clock goes on. The only error is want of memory.
 #[tactic(auto, using(crate::proofs::Entries::no_tick, com_runtime::proofs::Limits::not_finished, com_runtime::proofs::Limits::not_stuck))]
 fn clock_entry<C: Runtime>(runtime: &mut C, standing: Standing) -> Result<Option<Entry>, Memory>
     requires standing { standing ≡ standing_of (C.scenario runtime.old) (C.state runtime.old) }
@@ -51,8 +51,8 @@ fn clock_entry<C: Runtime>(runtime: &mut C, standing: Standing) -> Result<Option
     }
 }
 
-/// Makes the next entry of a lane, or of the clock as lane 0, where there is one. The only error is want of
-/// memory.
+// Makes the next entry of a lane, or of the clock as lane 0, where there is one. The only error is want of
+// memory.
 #[tactic(auto, using(crate::proofs::Entries::none_above, crate::proofs::Entries::none_still))]
 fn next_of<C: Runtime>(
     alloc: Global,
@@ -84,8 +84,8 @@ fn next_of<C: Runtime>(
     Ok(Some(entry))
 }
 
-/// Makes the entry of the schedule without picks: of the first lane that can step from the one behind `last`
-/// on, or of the clock where no lane can. The only error is want of memory.
+// Makes the entry of the schedule without picks: of the first lane that can step from the one behind `last`
+// on, or of the clock where no lane can. The only error is want of memory.
 #[tactic(auto, using(crate::proofs::Entries::lane_scheduled, crate::proofs::Entries::clock_scheduled, com_runtime::proofs::Choices::not_runs, com_runtime::proofs::Limits::not_finished, com_runtime::proofs::Limits::not_stuck))]
 fn step_schedule<C: Runtime>(
     alloc: Global,
@@ -120,8 +120,8 @@ fn step_schedule<C: Runtime>(
     }
 }
 
-/// That a found line names no lane that has a next entry, behind so many entries. The only error is want of
-/// memory.
+// That a found line names no lane that has a next entry, behind so many entries. The only error is want of
+// memory.
 fn no_entry(alloc: Global, entries: u64, found: &[u8]) -> Result<Option<Judged>, Memory>
     requires { entries ≤ 1_000_000 }
     ensures { IfOk result (λ turn. turn ≡ Some (judged.Differs (entries + 1) found.now (codes "none"))) }
@@ -130,8 +130,8 @@ fn no_entry(alloc: Global, entries: u64, found: &[u8]) -> Result<Option<Judged>,
     Ok(Some(judged))
 }
 
-/// Judges what a trace has left where the history has ended so: it is to be the report. The only error is
-/// want of memory.
+// Judges what a trace has left where the history has ended so: it is to be the report. The only error is
+// want of memory.
 fn judge_report<C: Runtime>(
     alloc: Global,
     scenario: &Scenario,
@@ -152,7 +152,7 @@ fn judge_report<C: Runtime>(
     compare(alloc, entries, text.as_slice(), rest)
 }
 
-/// What a judge keeps from line to line: the last lane but the clock's, or 0, and the line of the last entry.
+// What a judge keeps from line to line: the last lane but the clock's, or 0, and the line of the last entry.
 #[derive(Drop)]
 struct Judge {
     last: u32,
@@ -160,7 +160,7 @@ struct Judge {
 }
 
 impl Judge {
-    /// Before the first line.
+    // Before the first line.
     fn new(alloc: Global) -> Judge
         ensures { result.last ≡ 0 }
     {
@@ -170,7 +170,7 @@ impl Judge {
         }
     }
 
-    /// Writes the line of an entry that was just made, without its end. The only error is want of memory.
+    // Writes the line of an entry that was just made, without its end. The only error is want of memory.
     #[tactic(auto, using(crate::proofs::Judging::without_end))]
     fn write(&mut self, alloc: Global, version: u8, place: u64, entry: &Entry) -> Result<(), Memory>
         ensures last { self.new.last ≡ self.old.last }
@@ -183,8 +183,8 @@ impl Judge {
         Ok(())
     }
 
-    /// What a found line is beside the line that was written for an entry of this lane. The only error is
-    /// want of memory.
+    // What a found line is beside the line that was written for an entry of this lane. The only error is
+    // want of memory.
     fn compare_line(
         &mut self,
         alloc: Global,
@@ -203,8 +203,8 @@ impl Judge {
         Ok(Some(judged))
     }
 
-    /// Judges a found line in the place of an entry: makes the next entry of the lane that it names. Nothing,
-    /// where it is the line of that entry. The only error is want of memory.
+    // Judges a found line in the place of an entry: makes the next entry of the lane that it names. Nothing,
+    // where it is the line of that entry. The only error is want of memory.
     fn turn<C: Runtime>(
         &mut self,
         alloc: Global,
@@ -237,8 +237,8 @@ impl Judge {
         self.compare_line(alloc, entries + 1, lane, found)
     }
 
-    /// Judges the end of a trace in the place of an entry: the legal line is that of the schedule's entry.
-    /// The only error is want of memory.
+    // Judges the end of a trace in the place of an entry: the legal line is that of the schedule's entry.
+    // The only error is want of memory.
     fn early<C: Runtime>(
         &mut self,
         alloc: Global,

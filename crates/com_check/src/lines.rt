@@ -2,7 +2,7 @@
 ghost use Rattle.std.specs.Prelude.{◌≡◌, ℕ, ◌<◌, ◌≤◌, ◌≢◌, ◌∷◌, length, slice_index};
 ghost use Rattle.com_check.specs.Lines.{lines_of};
 
-/// How many bytes stand before the first line end, or all where there is none.
+// How many bytes stand before the first line end, or all where there is none.
 fn line_length(text: &[u8]) -> usize
     ensures within { result ≤ length text.now }
     ensures before { (k : ℕ) → k < result → slice_index text.now k ≢ 10 }

@@ -1,3 +1,4 @@
+-- What the tables of interfaces and classes hold.
 use Rattle.std.specs.Prelude.{List}
 use Rattle.com_classes.specs.declared.interfaces.Interface.{Interface}
 use Rattle.com_classes.specs.declared.classes.Class.{Class}

@@ -20,7 +20,7 @@ use com_scenario::is_too_long;
 use com_servant::Servant;
 use std::alloc::Global;
 
-/// The command `dispatch`.
+// The command `dispatch`.
 struct Dispatch;
 
 impl InputReader for Dispatch {

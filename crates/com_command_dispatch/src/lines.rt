@@ -12,7 +12,7 @@ use com_dispatch::{BindOutcome, Binding, DispArg};
 use com_print::operands::push_value;
 use std::alloc::Global;
 
-/// Appends a literal as the language writes it.
+// Appends a literal as the language writes it.
 #[tactic(auto, using(crate::proofs::Pieces::behind_space))]
 fn push_literal(alloc: Global, out: &mut ByteList, value: &Value) -> Result<(), Memory>
     ensures { OnOk result (out.new ≡ out.old ++ (value_word value.now).bytes) }
@@ -38,7 +38,7 @@ fn push_arg(alloc: Global, out: &mut ByteList, arg: &DispArg) -> Result<(), Memo
     }
 }
 
-/// Appends an argument behind a comma.
+// Appends an argument behind a comma.
 fn push_later_arg(alloc: Global, out: &mut ByteList, arg: &DispArg) -> Result<(), Memory>
     ensures { OnOk result (out.new ≡ out.old ++ later_arg_text arg.now) }
 {
@@ -46,7 +46,7 @@ fn push_later_arg(alloc: Global, out: &mut ByteList, arg: &DispArg) -> Result<()
     push_arg(alloc, out, arg)
 }
 
-/// Appends arguments with a comma before each.
+// Appends arguments with a comma before each.
 fn push_later(alloc: Global, out: &mut ByteList, args: &[DispArg]) -> Result<(), Memory>
     ensures { OnOk result (out.new ≡ out.old ++ later_args_text args.now) }
 {
@@ -116,7 +116,7 @@ fn push_binding(
     out.push_all(b"\n")
 }
 
-/// The lines of bindings, numbered from 1. The only error is want of memory.
+// The lines of bindings, numbered from 1. The only error is want of memory.
 #[tactic(auto, using(crate::proofs::Pieces::bindings_in_two), unfolding(crate::specs::Lines::bindings_text))]
 pub(crate) fn bindings_text(alloc: Global, bindings: &[Binding]) -> Result<ByteList, Memory>
     ensures { IfOk result (λ text. text ≡ bindings_text bindings.now) }

@@ -19,7 +19,7 @@ use com_servant::Servant;
 use std::alloc::Global;
 use std::sync::Arc;
 
-/// Writes the lines of a text's bindings, and then the history and the report of its scenario.
+// Writes the lines of a text's bindings, and then the history and the report of its scenario.
 #[tactic(auto, using(crate::proofs::Answering::lines_fault, crate::proofs::Answering::answered_behind))]
 pub(crate) fn play<K: Sink>(
     alloc: Global,
@@ -48,7 +48,7 @@ pub(crate) fn play<K: Sink>(
     }
 }
 
-/// Writes the history and the report of a scenario.
+// Writes the history and the report of a scenario.
 #[tactic(auto, using(crate::proofs::Answering::replay_done, crate::proofs::Answering::replay_faults, crate::proofs::Answering::replay_wants))]
 fn write_replay<K: Sink>(
     alloc: Global,

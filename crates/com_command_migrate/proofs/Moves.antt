@@ -60,7 +60,7 @@ carried s trace before a answer f short p agrees written =
           (m.written ∙ ap (λ (g : List Entry). text (moved s) g ++ report (moved s) g) p.history);
     })
 
--- The same of a scenario that is shared.
+-- An agreed trace is carried, where the scenario is shared.
 pub is_carried : (s shared : Scenario) (trace before : List ℕ) (a : Agreed) (answer : Moved) → shared ≡ s → Formed s
     → length trace ≤ 1_048_576 → IsAgreed shared trace a → answer.agrees ≡ true → answer.text ≡ (before ++ codes "trace\n") ++ trace_text a
     → IsMovedBy s trace before answer

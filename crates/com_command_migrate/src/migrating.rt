@@ -16,7 +16,7 @@ use com_io::{Sink, Source};
 use com_scenario::is_too_long;
 use std::alloc::Global;
 
-/// The command `migrate`.
+// The command `migrate`.
 struct Migrate;
 
 impl InputReader for Migrate {

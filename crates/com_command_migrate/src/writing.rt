@@ -9,7 +9,7 @@ use com_model::Entry;
 use com_report::{line, report};
 use std::alloc::Global;
 
-/// The version of the language in which it is written.
+// The version of the language in which it is written.
 const VERSION: u8 = 2;
 
 /// Puts the lines of a history behind a text, and its report, as version 2 of the language writes them: each

@@ -22,7 +22,7 @@ use com_scenario::is_too_long;
 use com_servant::Servant;
 use std::alloc::Global;
 
-/// The command `points`.
+// The command `points`.
 struct Points;
 
 impl InputReader for Points {

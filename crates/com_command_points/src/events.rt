@@ -42,8 +42,8 @@ fn push_events(out: &mut ByteList, events: &[Delivery]) -> Result<(), Memory>
     Ok(())
 }
 
-/// A line for each event: its call, and the cookies of the sinks that got it. The only error is want of
-/// memory.
+// A line for each event: its call, and the cookies of the sinks that got it. The only error is want of
+// memory.
 pub(crate) fn event_lines(alloc: Global, events: &[Delivery]) -> Result<ByteList, Memory>
     ensures { IfOk result (λ text. text ≡ event_lines events.now) }
 {

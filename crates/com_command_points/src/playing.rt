@@ -24,16 +24,16 @@ use com_replay::{ReplayError, keep};
 use com_servant::Servant;
 use std::alloc::Global;
 
-/// The lines of the events of a history that was written, and how it ended.
+// The lines of the events of a history that was written, and how it ended.
 #[derive(Drop)]
 struct Played {
     lines: ByteList,
     ended: Ended,
 }
 
-/// Writes the one history of a scenario and its report, and then a line for each event of a source.
-///
-/// Which classes are sources is found first, so that nothing is written where memory is short for that.
+// Writes the one history of a scenario and its report, and then a line for each event of a source.
+//
+// Which classes are sources is found first, so that nothing is written where memory is short for that.
 #[tactic(auto, using(crate::proofs::Answered::played_nothing, crate::proofs::Answered::sources_of))]
 pub(crate) fn play<K: Sink>(
     alloc: Global,
@@ -55,7 +55,7 @@ pub(crate) fn play<K: Sink>(
     }
 }
 
-// The same by the table of the scenario's sources.
+// Plays the scenario and writes its events, by the table of the scenario's sources.
 #[tactic(auto, using(crate::proofs::Answered::played_said, crate::proofs::Answered::played_fault, crate::proofs::Answered::played_memory))]
 fn play_by<K: Sink>(
     alloc: Global,

@@ -64,7 +64,7 @@ is_run s ran st written lawful safe ends counts time status is = record {
       ∙ ap (λ (x : Option Ended). report_as s (history_of ran) x) (sym ends));
 }
 
--- The same, where the run was of the scenario as it is shared.
+-- What was written of a run, where the run was of the scenario as it is shared.
 pub is_run_at : (s shared : Scenario) (ran : Ran) (st : Status) (written : List ℕ) → shared ≡ s → legal shared (history_of ran) → Safe shared (history_of ran)
     → ended_as shared (history_of ran) ≡ Some ran.ended → ran.counts ≡ all_counts shared (history_of ran) → ran.clock ≡ clock (history_of ran) → st ≡ status_at ran.ended
     → written ≡ history_text s.version (history_of ran) ++ report_text ran.counts (length ran.history) ran.clock ran.ended → IsRun s st written

@@ -22,7 +22,7 @@ fn lines(alloc: Global, version: u8, entries: &[Entry], out: &mut ByteList) -> R
     Ok(())
 }
 
-/// The lines of a run's history, and its report. The only error is want of memory.
+// The lines of a run's history, and its report. The only error is want of memory.
 pub(crate) fn write_history(alloc: Global, version: u8, ran: &Ran) -> Result<ByteList, Memory>
     ensures { IfOk result (λ text. text ≡ history_text version (history_of ran.now)
         ++ report_text ran.now.counts (length ran.now.history) ran.now.clock ran.now.ended) }

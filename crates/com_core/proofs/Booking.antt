@@ -124,7 +124,7 @@ booked_ties s st r l d g m w u n a e k t =
       books = books_later s st l d u later touched (subst (λ (k : ℕ). Rise 0 u.touched k) later.objects.number b.rise);
     }
 
--- The same of what is read of the parts.
+-- The ties after an entry that is booked by what is read of the parts.
 pub booked_later : (s : Scenario) (st : State) (p : PartTables) (b : Books) (fallen : List ℕ) (clock l : ℕ) (d : Deed) (acting : Actor) (r : Option Outcome) (follows : Actor) (filtered : Bool)
     (x : Option Sent) (home running : Option ℕ) (carried : List RefValue) (w u : Held) → IsReached s st → Stands st p b fallen clock → Reads (seen_by s p fallen clock) b st
     → next_of s st l ≡ Some d → IsGiven s st (record { lane = l; deed = d }) acting r follows filtered x

@@ -120,7 +120,7 @@ next_made s st p q b v u entered more fallen later clock l o t k n w m c low hig
           k.carried m.booked;
     }
 
--- The same of the clock's entry, where the clock goes on.
+-- The clock's entry is made, where the clock goes on.
 pub tick_made : (s : Scenario) (st : State) (p q : PartTables) (b : Books) (w u : Held) (entered more fallen later : List ℕ) (clock t : ℕ)
     → IsNamed p.objects p.calls → p.entries ≤ 1_000_000 → next_wait p.calls clock ≡ Some t
     → Changed s p q w u entered more fallen later clock (record { lane = 0; deed = deed.Tick t }) Nobody None [] None

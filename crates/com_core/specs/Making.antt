@@ -50,8 +50,8 @@ pub record Booked (g : Around) (d : Deed) (m : Moves) (w u : Held) : Type 0 wher
   pub rise : Rise 0 u.touched (length u.tables.objects)
   pub totals : (n : ℕ) (places : ℕ → ℕ → ℕ) → Counts n places u.tables → Totals n places u.tables
 
--- The same beside what the parts are: with the home of the lane and the apartment in which it runs, what the
--- entry carries, and the moves by who acts before and after it and by the step of whoever does.
+-- What is booked, beside what the parts are: with the home of the lane and the apartment in which it runs,
+-- what the entry carries, and the moves by who acts before and after it and by the step of whoever does.
 abbrev pub BookedBy : Scenario → PartTables → (home running : Option ℕ) → (carried : List RefValue) → Entry
     → (acting : Actor) → Option Outcome → (follows : Actor) → (before after : Held) → Type 0
 BookedBy s p home running carried e a r b w u =

@@ -44,9 +44,9 @@ use com_servant::Servant;
 use com_turns::{Turn, actor_after, is_filtered, next_turn};
 use std::alloc::Global;
 
-/// What an entry's change rests on of the parts before it: who acts in the lane after the entry, whether the
-/// caller's lane of the call of a Verdict has a message filter, the home of the lane, and the apartment in
-/// which it runs.
+// What an entry's change rests on of the parts before it: who acts in the lane after the entry, whether the
+// caller's lane of the call of a Verdict has a message filter, the home of the lane, and the apartment in
+// which it runs.
 #[derive(Debug, Clone, Copy)]
 struct Basis {
     after: Actor,
@@ -360,7 +360,7 @@ impl Running {
         fits_deed(deed)
     }
 
-    // The same, with what it rests on.
+    // Makes the entry of a deed, with what the deed rests on.
     fn make(
         &mut self,
         scenario: &Scenario,

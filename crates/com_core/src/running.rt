@@ -39,7 +39,7 @@ pub fn unproved_fact() -> Memory {
     Memory
 }
 
-/// The counts of running bodies before the first entry: object 0 is none, and has a row.
+// The counts of running bodies before the first entry: object 0 is none, and has a row.
 fn no_bodies(alloc: Global) -> Result<Entered, Memory>
     ensures { IfOk result (λ entered. entered.counts ≡ 0 ∷ []) }
 {

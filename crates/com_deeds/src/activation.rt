@@ -160,7 +160,7 @@ fn placing(
     })
 }
 
-/// Whether the object's class has the interface. None is an interface that is not declared.
+// Whether the object's class has the interface. None is an interface that is not declared.
 fn offers(scenario: &Scenario, class: u32, iface: Option<u16>) -> bool
     ensures { result ≡ offers scenario.now class iface }
 {

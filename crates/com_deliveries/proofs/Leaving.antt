@@ -21,7 +21,7 @@ use Rattle.com_laws_sources.specs.Sources.{advise, unadvise}
 abbrev pub change_by : Option Issue → Sink → ℤ → (object iface : ℕ) → Change
 change_by y x n o i = cond (is_on y o i advise) (Takes x) (cond (is_on y o i unadvise) (Loses n) Stays)
 
--- The same, of the row of the call's object.
+-- What such a Leave changes of the row of the call's object.
 abbrev changes : Bool → Bool → Bool → ℕ → ℤ → Source → Source
 changes a d u c n q = cond a (cond d (took c q) (cond u (lost n q) q)) q
 

@@ -8,7 +8,7 @@ use com_base::{Memory, Rows};
 use std::alloc::Global;
 use std::marker::Model;
 
-/// Cookies, seen as a list.
+// Cookies, seen as a list.
 #[derive(Debug, Drop)]
 pub(crate) struct Cookies {
     items: Vec<u64>,
@@ -65,21 +65,21 @@ impl Cookies {
         }
     }
 
-    /// The first index of a number, or how many there are.
+    // The first index of a number, or how many there are.
     fn index(&self, number: i64) -> usize
         ensures { result ≡ index_in number self.now }
     {
         index_of(self.items.as_slice(), number)
     }
 
-    /// How many there are.
+    // How many there are.
     fn len(&self) -> usize
         ensures { result ≡ length self.now }
     {
         self.items.len()
     }
 
-    /// The one at an index goes.
+    // The one at an index goes.
     fn take_out(&mut self, index: usize)
         requires { index < length self.old }
         ensures { self.new ≡ take index self.old ++ drop (index + 1) self.old }
@@ -87,7 +87,7 @@ impl Cookies {
         self.items.remove(index);
     }
 
-    /// The same cookies.
+    /// A copy of the cookies. The only error is want of memory.
     pub fn rows(&self) -> Result<Rows<u64>, Memory>
         ensures { IfOk result (λ rows. rows ≡ self.now) }
     {
@@ -116,14 +116,14 @@ fn next_of(cookies: &[u64], reached: u64, last: u64) -> Option<u64>
     None
 }
 
-/// Whether a number is a cookie, as numbers of 64 bits.
+// Whether a number is a cookie, as numbers of 64 bits.
 fn is_cookie(number: i64, cookie: u64) -> bool
     ensures { result ≡ is_cookie number cookie }
 {
     number.wrapping_sub_unsigned(cookie) == 0
 }
 
-/// The first index of a cookie, or how many there are.
+// The first index of a cookie, or how many there are.
 fn index_of(cookies: &[u64], number: i64) -> usize
     ensures { result ≡ index_in number cookies.now }
 {

@@ -47,7 +47,7 @@ pub fn source_table(alloc: Global, scenario: &Scenario) -> Result<Vec<Option<u16
     Ok(table)
 }
 
-/// Takes the next class up.
+// Takes the next class up.
 #[tactic(auto, using(crate::proofs::Listing::upto_next))]
 fn add_class(table: &mut Vec<Option<u16>>, scenario: &Scenario) -> Result<(), Memory>
     requires { vec_len table.old < 64 }
@@ -80,7 +80,7 @@ pub fn deliveries(
     Ok(events)
 }
 
-/// The same by the table of a scenario's sources.
+/// The deliveries of a history by the table of a scenario's sources. The only error is want of memory.
 #[tactic(auto, using(crate::proofs::Listing::delivered_by))]
 pub fn deliveries_by(
     alloc: Global,
@@ -96,7 +96,7 @@ pub fn deliveries_by(
     Ok(events)
 }
 
-/// What one pass over the entries keeps.
+// What one pass over the entries keeps.
 fn tally_of(alloc: Global, sources: &[Option<u16>], history: &[Entry]) -> Result<Tally, Memory>
     ensures { IfOk result (λ tally. tally ≡ goes_on sources.now history.now empty) }
 {

@@ -8,7 +8,7 @@ use crate::cookies::Cookies;
 use com_base::Memory;
 use std::alloc::Global;
 
-/// An object, which is a source or is none.
+// An object, which is a source or is none.
 #[derive(Debug, Drop)]
 pub(crate) struct Source {
     /// The number of its interface, if it is a source.
@@ -31,7 +31,7 @@ impl Source {
         }
     }
 
-    /// A sink was advised under a cookie.
+    // A sink was advised under a cookie.
     fn take(&mut self, cookie: u64) -> Result<(), Memory>
         ensures { OnOk result (self.new ≡ took cookie self.old) }
     {
@@ -39,7 +39,7 @@ impl Source {
         self.cookies.push(cookie)
     }
 
-    /// The sink with a cookie was unadvised.
+    // The sink with a cookie was unadvised.
     fn lose(&mut self, number: i64)
         ensures { self.new ≡ lost number self.old }
     {
@@ -47,7 +47,7 @@ impl Source {
     }
 }
 
-/// One more.
+// One more.
 #[tactic(auto, unfolding(crate::specs::Book::one_more))]
 fn one_more(advised: u64) -> u64
     ensures { result ≡ one_more advised }
@@ -55,7 +55,7 @@ fn one_more(advised: u64) -> u64
     advised.saturating_add(1)
 }
 
-/// The row of an object.
+// The row of an object.
 pub(crate) fn source_of(objects: &[Source], object: u32) -> Option<&Source>
     ensures { MatchOption result (row_at objects.now object ≡ None)
         (λ row. row_at objects.now object ≡ Some row.now) }
@@ -66,7 +66,7 @@ pub(crate) fn source_of(objects: &[Source], object: u32) -> Option<&Source>
     objects.get(object as usize - 1)
 }
 
-/// Whether an object is of a source with this interface.
+// Whether an object is of a source with this interface.
 pub(crate) fn has_iface(objects: &[Source], object: u32, iface: u16) -> bool
     ensures { result ≡ has_iface (row_at objects.now object) iface }
 {
@@ -79,7 +79,7 @@ pub(crate) fn has_iface(objects: &[Source], object: u32, iface: u16) -> bool
     }
 }
 
-/// How many sinks of an object were advised.
+// How many sinks of an object were advised.
 pub(crate) fn advised_of(objects: &[Source], object: u32) -> u64
     ensures { result ≡ advised_of (row_at objects.now object) }
 {
@@ -89,7 +89,7 @@ pub(crate) fn advised_of(objects: &[Source], object: u32) -> u64
     }
 }
 
-/// The first cookie that an object keeps above the one that was reached, and at most the last one.
+// The first cookie that an object keeps above the one that was reached, and at most the last one.
 pub(crate) fn next_cookie(objects: &[Source], object: u32, reached: u64, last: u64) -> Option<u64>
     ensures { result ≡ next_in reached last (cookies_of (row_at objects.now object)) }
 {
@@ -99,7 +99,7 @@ pub(crate) fn next_cookie(objects: &[Source], object: u32, reached: u64, last: u
     }
 }
 
-/// A sink was advised under a cookie.
+// A sink was advised under a cookie.
 pub(crate) fn advise(objects: &mut [Source], object: u32, cookie: u64) -> Result<(), Memory>
     ensures { OnOk result (objects.new ≡ with_row (took cookie) no_source object objects.old) }
 {
@@ -109,7 +109,7 @@ pub(crate) fn advise(objects: &mut [Source], object: u32, cookie: u64) -> Result
     objects[object as usize - 1].take(cookie)
 }
 
-/// The sink with a cookie was unadvised.
+// The sink with a cookie was unadvised.
 pub(crate) fn unadvise(objects: &mut [Source], object: u32, number: i64)
     ensures { objects.new ≡ with_row (lost number) no_source object objects.old }
 {

@@ -6,7 +6,7 @@ use com_base::Memory;
 use std::alloc::Global;
 use std::marker::Model;
 
-/// The calls of what stands open in a lane, the innermost first, 0 for what is no body.
+// The calls of what stands open in a lane, the innermost first, 0 for what is no body.
 #[derive(Debug, Drop)]
 pub(crate) struct Open {
     calls: Vec<u32>,
@@ -59,7 +59,7 @@ impl Open {
     }
 }
 
-/// The innermost in a lane, 0 where there is none.
+// The innermost in a lane, 0 where there is none.
 pub(crate) fn top(lanes: &[Open], lane: u32) -> u32
     ensures { result ≡ top_in (stack_in lanes.now lane) }
 {
@@ -69,7 +69,7 @@ pub(crate) fn top(lanes: &[Open], lane: u32) -> u32
     lanes[lane as usize].top()
 }
 
-/// Something more stands open in a lane.
+// Something more stands open in a lane.
 pub(crate) fn push(alloc: Global, lanes: &mut Vec<Open>, lane: u32, call: u32) -> Result<(), Memory>
     ensures { OnOk result (lanes.new.items ≡ opened_in lane call lanes.old.items) }
 {
@@ -112,7 +112,7 @@ fn push_row(lanes: &mut [Open], lane: usize, call: u32) -> Result<(), Memory>
     lanes[lane].push(call)
 }
 
-/// The innermost is closed.
+// The innermost is closed.
 #[tactic(auto, using(crate::proofs::Stacked::closed_to, crate::proofs::Stacked::closed_past))]
 pub(crate) fn pop(lanes: &mut [Open], lane: u32)
     ensures { lanes.new ≡ closed_in lane lanes.old }

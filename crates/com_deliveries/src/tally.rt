@@ -21,7 +21,7 @@ use com_points::{ADVISE, FIRE, UNADVISE};
 use std::alloc::Global;
 use std::marker::Model;
 
-/// A call, and what became of it.
+// A call, and what became of it.
 #[derive(Debug, Drop)]
 pub(crate) struct Call {
     /// Its number, from 1.
@@ -42,8 +42,8 @@ pub(crate) struct Call {
     pub has_left: bool,
 }
 
-/// What was read so far: the objects in the order of their making, the calls in the order of their issue, and
-/// what stands open in each lane.
+// What was read so far: the objects in the order of their making, the calls in the order of their issue, and
+// what stands open in each lane.
 #[derive(Drop)]
 pub(crate) struct Tally {
     objects: Vec<Source>,
@@ -126,7 +126,7 @@ impl Tally {
         events_of(alloc, self.objects.as_slice(), self.calls.as_slice())
     }
 
-    /// An object of a class was made.
+    // An object of a class was made.
     fn make(&mut self, alloc: Global, sources: &[Option<u16>], class: Asked) -> Result<(), Memory>
         ensures { OnOk result (self.new ≡ makes_in sources.now class self.old) }
     {
@@ -135,7 +135,7 @@ impl Tally {
         Ok(())
     }
 
-    /// A call was issued in a lane: where the body on top sends an event, to its next sink.
+    // A call was issued in a lane: where the body on top sends an event, to its next sink.
     fn issue(
         &mut self,
         alloc: Global,
@@ -155,7 +155,7 @@ impl Tally {
         push(alloc, &mut self.lanes, lane, 0)
     }
 
-    /// The body of a call was entered.
+    // The body of a call was entered.
     fn enter(&mut self, alloc: Global, lane: u32, call: u32, values: &[Value]) -> Result<(), Memory>
         ensures { OnOk result (self.new ≡ enters_in lane call values.now self.old) }
     {
@@ -168,7 +168,7 @@ impl Tally {
         push(alloc, &mut self.lanes, lane, call)
     }
 
-    /// The body of a call left.
+    // The body of a call left.
     fn leave(
         &mut self,
         lane: u32,
@@ -186,14 +186,14 @@ impl Tally {
         Ok(())
     }
 
-    /// What is no body was opened in a lane.
+    // What is no body was opened in a lane.
     fn open(&mut self, alloc: Global, lane: u32) -> Result<(), Memory>
         ensures { OnOk result (self.new ≡ opens_in lane self.old) }
     {
         push(alloc, &mut self.lanes, lane, 0)
     }
 
-    /// The innermost of a lane was closed.
+    // The innermost of a lane was closed.
     fn close(&mut self, lane: u32)
         ensures { self.new ≡ closes_in lane self.old }
     {
@@ -201,7 +201,7 @@ impl Tally {
     }
 }
 
-/// The number of the interface of a class, if that is a source.
+// The number of the interface of a class, if that is a source.
 fn interface_of(sources: &[Option<u16>], class: Asked) -> Option<u16>
     ensures { result ≡ source_at sources.now (asked_number class) }
 {
@@ -219,7 +219,7 @@ fn interface_of(sources: &[Option<u16>], class: Asked) -> Option<u16>
     }
 }
 
-/// A call that was issued.
+// A call that was issued.
 fn new_call(alloc: Global, call: u32, object: Option<u32>, iface: u16, method: u16) -> Call
     ensures { result ≡ called call object iface method }
 {
@@ -239,7 +239,7 @@ fn new_call(alloc: Global, call: u32, object: Option<u32>, iface: u16, method: u
     }
 }
 
-/// The row of a call.
+// The row of a call.
 fn row_of(calls: &[Call], call: u32) -> Option<&Call>
     ensures { MatchOption result (row_at calls.now call ≡ None)
         (λ row. row_at calls.now call ≡ Some row.now) }
@@ -250,21 +250,21 @@ fn row_of(calls: &[Call], call: u32) -> Option<&Call>
     calls.get(call as usize - 1)
 }
 
-/// Whether a call is on an object of a source, by the source's interface.
+// Whether a call is on an object of a source, by the source's interface.
 fn is_on_source(objects: &[Source], call: &Call) -> bool
     ensures { result ≡ on_source objects.now call.now }
 {
     has_iface(objects, call.object, call.iface)
 }
 
-/// Whether a call sends an event.
+// Whether a call sends an event.
 fn is_event(objects: &[Source], call: &Call) -> bool
     ensures { result ≡ is_event objects.now call.now }
 {
     is_on_source(objects, call) && call.method == FIRE
 }
 
-/// The cookie of the next sink of an event, where the call sends one.
+// The cookie of the next sink of an event, where the call sends one.
 fn next_of(objects: &[Source], calls: &[Call], call: u32) -> Option<u64>
     ensures { result ≡ next_of objects.now (row_at calls.now call) }
 {
@@ -279,7 +279,7 @@ fn next_of(objects: &[Source], calls: &[Call], call: u32) -> Option<u64>
     }
 }
 
-/// An event reached the sink with a cookie.
+// An event reached the sink with a cookie.
 fn reach(calls: &mut [Call], call: u32, next: Option<u64>) -> Result<(), Memory>
     ensures { OnOk result (calls.new ≡ reached_by call next calls.old) }
 {
@@ -298,7 +298,7 @@ fn reach_cookie(calls: &mut [Call], call: u32, cookie: u64) -> Result<(), Memory
     calls[call as usize - 1].cookies.push(cookie)
 }
 
-/// The body of a call begins.
+// The body of a call begins.
 fn begin(calls: &mut [Call], objects: &[Source], call: u32, number: i64)
     ensures { calls.new ≡ with_row (begun objects.now number) no_call call calls.old }
 {
@@ -315,7 +315,7 @@ fn begin_row(row: &mut Call, objects: &[Source], number: i64)
     row.number = number;
 }
 
-/// The body of a call left.
+// The body of a call left.
 fn finish(calls: &mut [Call], call: u32)
     ensures { calls.new ≡ with_row ended no_call call calls.old }
 {
@@ -325,7 +325,7 @@ fn finish(calls: &mut [Call], call: u32)
     calls[call as usize - 1].has_left = true;
 }
 
-/// What the Leave of a call with S_OK does to the sinks of its object.
+// What the Leave of a call with S_OK does to the sinks of its object.
 fn change(
     objects: &mut [Source],
     calls: &[Call],
@@ -355,7 +355,7 @@ fn change_by(objects: &mut [Source], row: &Call, value: &Option<Value>) -> Resul
     Ok(())
 }
 
-/// The first of the values, as a number.
+// The first of the values, as a number.
 fn first_number(values: &[Value]) -> i64
     ensures { result ≡ first_of values.now }
 {
@@ -365,7 +365,7 @@ fn first_number(values: &[Value]) -> i64
     }
 }
 
-/// The cookie that is a result.
+// The cookie that is a result.
 fn cookie_in(value: &Option<Value>) -> u64
     ensures { result ≡ result_cookie value.now }
 {
@@ -375,7 +375,7 @@ fn cookie_in(value: &Option<Value>) -> u64
     }
 }
 
-/// The event that a call was.
+// The event that a call was.
 fn delivery_of(call: &Call) -> Result<Delivery, Memory>
     ensures { IfOk result (λ d. d ≡ delivery call.now) }
 {
@@ -386,7 +386,7 @@ fn delivery_of(call: &Call) -> Result<Delivery, Memory>
     })
 }
 
-/// The events of these calls whose bodies left.
+// The events of these calls whose bodies left.
 fn events_of(alloc: Global, objects: &[Source], calls: &[Call]) -> Result<Vec<Delivery>, Memory>
     ensures { IfOk result (λ list. list.items ≡ events objects.now calls.now) }
 {
@@ -399,7 +399,7 @@ fn events_of(alloc: Global, objects: &[Source], calls: &[Call]) -> Result<Vec<De
     Ok(deliveries)
 }
 
-/// Takes a call up, if it is an event whose body left.
+// Takes a call up, if it is an event whose body left.
 fn add(deliveries: &mut Vec<Delivery>, objects: &[Source], call: &Call) -> Result<(), Memory>
     ensures { OnOk result (deliveries.new.items ≡ deliveries.old.items
         ++ events objects.now (call.now ∷ [])) }

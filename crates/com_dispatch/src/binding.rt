@@ -10,7 +10,7 @@ use com_base::{HResult, Kind};
 use com_classes::{Classes, Method};
 use std::alloc::Global;
 
-/// Whether two names are equal when the case of ASCII letters is passed over.
+// Whether two names are equal when the case of ASCII letters is passed over.
 fn same_name(a: &[u8], b: &[u8]) -> bool
     ensures { result ≡ same_name a.now b.now }
 {
@@ -54,7 +54,7 @@ fn index_of(methods: &[Method], member: &Member) -> Option<usize>
     }
 }
 
-/// Why a member names no method.
+// Why a member names no method.
 fn absence_of(member: &Member) -> HResult
     ensures { result ≡ absent member.now }
 {
@@ -64,7 +64,7 @@ fn absence_of(member: &Member) -> HResult
     }
 }
 
-/// Whether a result of a kind, or the want of one, goes to a destination.
+// Whether a result of a kind, or the want of one, goes to a destination.
 fn is_for(result_kind: Option<Kind>, destination: Option<Sort>) -> bool
     ensures { result ≡ is_for result_kind destination }
 {
@@ -78,7 +78,7 @@ fn is_for(result_kind: Option<Kind>, destination: Option<Sort>) -> bool
     }
 }
 
-/// A method with its arguments.
+// A method with its arguments.
 fn bind_arguments(
     alloc: Global,
     index: usize,

@@ -101,8 +101,8 @@ fn to_guid(value: &Value) -> Option<Guid>
     }
 }
 
-/// A value for a parameter of a kind, or none where the table has no cell for it. The only error is want of
-/// memory.
+// A value for a parameter of a kind, or none where the table has no cell for it. The only error is want of
+// memory.
 fn coerce_value(alloc: Global, kind: Kind, value: &Value) -> Result<Option<Value>, Memory>
     ensures { IfOk result (λ coerced. coerced ≡ coerced_value kind value.now) }
 {
@@ -116,8 +116,8 @@ fn coerce_value(alloc: Global, kind: Kind, value: &Value) -> Result<Option<Value
     }
 }
 
-/// An argument for a parameter of a kind, or none where the table has no cell for it. The only error is
-/// want of memory.
+// An argument for a parameter of a kind, or none where the table has no cell for it. The only error is
+// want of memory.
 fn coerce(alloc: Global, kind: Kind, arg: &DispArg) -> Result<Option<DispArg>, Memory>
     ensures { IfOk result (λ passed. passed ≡ coerced kind arg.now) }
 {
@@ -134,8 +134,8 @@ fn coerce(alloc: Global, kind: Kind, arg: &DispArg) -> Result<Option<DispArg>, M
     }
 }
 
-/// The arguments for as many parameters, each coerced to its parameter's kind, or none where one is not.
-/// The only error is want of memory.
+// The arguments for as many parameters, each coerced to its parameter's kind, or none where one is not.
+// The only error is want of memory.
 pub(crate) fn coerce_all(
     alloc: Global,
     params: &[Kind],

@@ -18,7 +18,7 @@ use com_scenario::scenario;
 use com_text::{TEXT_LIMIT, Word, line_at};
 use std::alloc::Global;
 
-/// A line that begins with `invoke` in a body or a script, whose statements are at most `limit`.
+// A line that begins with `invoke` in a body or a script, whose statements are at most `limit`.
 #[tactic(auto, unfolding(crate::specs::Late::invoke_line))]
 fn invoke_line(
     alloc: Global,
@@ -52,14 +52,14 @@ fn invoke_line(
     Ok(())
 }
 
-/// Whether a line begins with `invoke`.
+// Whether a line begins with `invoke`.
 fn is_invoke(word: &Word) -> bool
     ensures { result ≡ is_invoke word.now }
 {
     word.bytes == b"invoke".as_slice()
 }
 
-/// What a line that begins with a word makes of what was read so far.
+// What a line that begins with a word makes of what was read so far.
 fn late_line(
     alloc: Global,
     st: &mut State,
@@ -90,7 +90,7 @@ fn late_line(
     }
 }
 
-/// What a line makes of what was read so far.
+// What a line makes of what was read so far.
 #[tactic(auto, unfolding(crate::specs::Late::late_step))]
 fn late_step(
     alloc: Global,
@@ -110,7 +110,7 @@ fn late_step(
     }
 }
 
-/// What the lines of a text declare, and what its statements are bound to.
+// What the lines of a text declare, and what its statements are bound to.
 #[tactic(auto, unfolding(crate::specs::Late::late_read, com_text::specs::Scanning::lines_of))]
 fn late_outline(
     alloc: Global,
@@ -140,7 +140,7 @@ fn late_outline(
     }
 }
 
-/// The same, with the scenario of what is declared.
+// What a text of late calls says, with the scenario of what is declared.
 #[tactic(auto, unfolding(crate::specs::Late::late))]
 fn late_scenario(alloc: Global, text: &[u8]) -> Result<Late, ScenarioError>
     ensures { Gives (λ l. l) result (late text.now) }

@@ -68,7 +68,7 @@ impl Filter {
         Filter { rules }
     }
 
-    /// The same list.
+    /// The rules, in their order.
     pub fn rules(&self) -> &[Rule]
         ensures { result.now ≡ self.now }
     {

@@ -101,7 +101,7 @@ fn is_ilatch(interface: &Interface) -> bool
         && is_method(test, b"test", &[], Some(Kind::Bool))
 }
 
-/// Whether the interfaces begin with IUnknown, ICounter, IRelay and ILatch.
+// Whether the interfaces begin with IUnknown, ICounter, IRelay and ILatch.
 #[tactic(auto, using(crate::proofs::Same::four_at, crate::proofs::Same::four_there))]
 pub(crate) fn begins_built_in(classes: &Classes) -> bool
     ensures { IsTrue result ↔ (take 4 classes.now.interfaces ≡ built_in_interfaces) }

@@ -179,8 +179,8 @@ fn are_classes_few(classes: &Classes) -> bool
     class_at(classes, CLASS_LIMIT as u32).is_none()
 }
 
-/// Whether the classes are at most 64, keep their forms, name only what is declared, and repeat no name or
-/// CLSID.
+// Whether the classes are at most 64, keep their forms, name only what is declared, and repeat no name or
+// CLSID.
 #[tactic(auto, using(crate::proofs::Whole::formed_classes))]
 pub(crate) fn are_classes_formed(scenario: &Scenario) -> bool
     requires { length scenario.now.classes.interfaces ≤ 64 }

@@ -6,7 +6,7 @@ ghost use Rattle.com_model.specs.Formed.{IsType, IsAsked, IsRetryAnswer, IsRule,
 use com_base::{FILTER_LIMIT, RULE_LIMIT, Rows};
 use com_filter::{Filter, Rule, Verdict};
 
-/// The greatest time of a rule, in milliseconds.
+// The greatest time of a rule, in milliseconds.
 const LAST_MS: u32 = 2_147_483_647;
 
 // Whether a call type is one of the three that are asked about, or any.
@@ -61,7 +61,7 @@ fn is_filter(filter: &Filter) -> bool
     filter.rules().iter().all(|rule| is_rule(rule)) && filter.rules().len() <= RULE_LIMIT
 }
 
-/// Whether there are at most 16 filters, each of at most 32 rules that keep their ranges.
+// Whether there are at most 16 filters, each of at most 32 rules that keep their ranges.
 pub(crate) fn are_filters(filters: &Rows<Filter>) -> bool
     ensures { IsTrue result ↔ (All IsFilter filters.now × (length filters.now ≤ 16)) }
 {

@@ -182,8 +182,8 @@ fn are_interfaces_few(classes: &Classes) -> bool
     classes.interface(INTERFACE_LIMIT as u16).is_none()
 }
 
-/// Whether the interfaces begin with the four built-in ones, are at most 64, keep their forms, and repeat no
-/// name or IID.
+// Whether the interfaces begin with the four built-in ones, are at most 64, keep their forms, and repeat no
+// name or IID.
 #[tactic(auto, using(crate::proofs::Whole::formed_interfaces))]
 pub(crate) fn are_interfaces_formed(classes: &Classes) -> bool
     ensures { IsTrue result ↔ FormedInterfaces classes.now.interfaces }

@@ -15,8 +15,8 @@ use com_classes::Method;
 use com_model::Scenario;
 use std::marker::Model;
 
-/// Where a statement stands: in a body or a script, in a class whose objects keep links or not, and the last
-/// class that it may name.
+// Where a statement stands: in a body or a script, in a class whose objects keep links or not, and the last
+// class that it may name.
 #[derive(Debug, Drop)]
 pub(crate) struct Standing {
     pub(crate) body: bool,
@@ -188,7 +188,7 @@ fn is_statement(scenario: &Scenario, at: &Standing, statement: &Stmt) -> bool
     }
 }
 
-/// Whether a body or a script has at most so many statements, and each of them may stand there.
+// Whether a body or a script has at most so many statements, and each of them may stand there.
 #[tactic(auto, using(crate::proofs::Whole::formed_body, crate::proofs::Whole::short_body))]
 pub(crate) fn is_body(scenario: &Scenario, at: &Standing, limit: usize, body: &Body) -> bool
     requires { length scenario.now.classes.interfaces ≤ 64 }

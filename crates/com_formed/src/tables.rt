@@ -7,7 +7,7 @@ ghost use Rattle.com_classes.specs.Lookups.{same_guid};
 use com_base::{CLASS_LIMIT, Guid};
 use com_classes::{Class, Classes};
 
-/// Whether two GUIDs are the same.
+// Whether two GUIDs are the same.
 pub(crate) fn same_guid(left: &Guid, right: &Guid) -> bool
     ensures { result ≡ same_guid left.now right.now }
 {
@@ -17,14 +17,14 @@ pub(crate) fn same_guid(left: &Guid, right: &Guid) -> bool
         && left.data4.as_slice() == right.data4.as_slice()
 }
 
-/// Whether there is an interface with this number.
+// Whether there is an interface with this number.
 pub(crate) fn is_declared(classes: &Classes, iface: u16) -> bool
     ensures { IsTrue result ↔ (iface < length classes.now.interfaces) }
 {
     classes.interface(iface).is_some()
 }
 
-/// The class at an index of the table, from 0.
+// The class at an index of the table, from 0.
 #[tactic(auto, using(crate::proofs::Walks::class_place))]
 pub(crate) fn class_at(classes: &Classes, index: u32) -> Option<&Class>
     requires { index < 2 ^ 16 }
@@ -33,7 +33,7 @@ pub(crate) fn class_at(classes: &Classes, index: u32) -> Option<&Class>
     classes.class(index + 1)
 }
 
-/// How many classes there are.
+// How many classes there are.
 #[tactic(auto, using(crate::proofs::Walks::there, crate::proofs::Walks::past))]
 pub(crate) fn count_classes(classes: &Classes) -> u32
     requires { length classes.now.classes ≤ 64 }

@@ -20,7 +20,7 @@ fn is_name_byte(byte: u8) -> bool
     is_letter(byte) || matches!(byte, b'0'..=b'9' | b'_')
 }
 
-/// Whether bytes are a name: a letter, and up to 31 letters, digits and low lines behind it.
+// Whether bytes are a name: a letter, and up to 31 letters, digits and low lines behind it.
 pub(crate) fn is_name(name: &[u8]) -> bool
     ensures { IsTrue result ↔ IsName name.now }
 {
@@ -46,7 +46,7 @@ fn is_text(bytes: &[u8]) -> bool
     bytes.iter().all(|byte| is_text_byte(*byte)) && bytes.len() <= LITERAL_LIMIT
 }
 
-/// Whether a text can spell a value as a literal. A reference has no literal.
+// Whether a text can spell a value as a literal. A reference has no literal.
 pub(crate) fn is_literal(value: &Value) -> bool
     ensures { IsTrue result ↔ IsLiteral value.now }
 {
@@ -58,7 +58,7 @@ pub(crate) fn is_literal(value: &Value) -> bool
     }
 }
 
-/// Whether a text can spell an operand.
+// Whether a text can spell an operand.
 pub(crate) fn is_operand(operand: &Op) -> bool
     ensures { IsTrue result ↔ IsOperand operand.now }
 {

@@ -54,7 +54,7 @@ pub script_behind : (text : List ℕ) (w : ℕ) (rounds : List ℕ)
     → text ++ apartment_text w ++ rounds ++ codes "end\n" ≡ text ++ (apartment_text w ++ rounds ++ codes "end\n")
 script_behind text w rounds = simp append_assoc
 
--- The same where each piece makes a longer text, with words that were drawn.
+-- A round, where each piece makes a longer text, with words that were drawn.
 pub round_said : (text a b c d longer : List ℕ) (g h : Lcg) (class argument : ℕ) → class ≡ word g → h ≡ behind g → argument ≡ word h
     → a ≡ text ++ codes "create s0 N" → b ≡ a ++ decimal (1 + class % 5) → c ≡ b ++ codes " ICounter\ncall s0 ICounter.add "
     → d ≡ c ++ decimal (argument % 1000) → longer ≡ d ++ codes " -> r1\nrelease s0\n" → longer ≡ text ++ round_text g

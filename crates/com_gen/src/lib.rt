@@ -19,13 +19,13 @@ use rand_core::utils::NextWord;
 use rand_pcg::Lcg64Xsh32;
 use std::alloc::Global;
 
-/// How many scripts a text has.
+// How many scripts a text has.
 const SCRIPTS: u32 = 8;
 
-/// How many objects a script makes, calls and releases, one after another.
+// How many objects a script makes, calls and releases, one after another.
 const ROUNDS: u32 = 400;
 
-/// Room for a text in bytes, more than one takes; nothing rests on it but speed.
+// Room for a text in bytes, more than one takes; nothing rests on it but speed.
 const ROOM: usize = 400_000;
 
 /// The text of a number's scenario: five classes, one of each model, and eight threads. Each thread goes into
@@ -43,7 +43,7 @@ pub fn generate(alloc: Global, number: u32) -> Result<ByteList, Memory>
     Ok(text)
 }
 
-/// The generator of a number's words.
+// The generator of a number's words.
 #[tactic(auto, unfolding(crate::specs::Loads::seeded))]
 fn generator_of(number: u32) -> Lcg64Xsh32
     ensures { result ≡ seeded number }
@@ -51,7 +51,7 @@ fn generator_of(number: u32) -> Lcg64Xsh32
     Lcg64Xsh32::seed_from_u64(number as u64)
 }
 
-/// Draws a word.
+// Draws a word.
 #[tactic(auto, unfolding(crate::specs::Loads::word, crate::specs::Loads::behind))]
 fn draw(words: &mut Lcg64Xsh32) -> u32
     ensures word { result ≡ word words.old }
@@ -60,7 +60,7 @@ fn draw(words: &mut Lcg64Xsh32) -> u32
     words.next_word()
 }
 
-/// The header, the pool and the classes.
+// The header, the pool and the classes.
 fn head(alloc: Global) -> Result<ByteList, Memory>
     ensures { IfOk result (λ text. text ≡ head_text) }
 {
@@ -74,7 +74,7 @@ fn head(alloc: Global) -> Result<ByteList, Memory>
     Ok(text)
 }
 
-/// Appends the scripts.
+// Appends the scripts.
 fn push_scripts(words: &mut Lcg64Xsh32, text: &mut ByteList) -> Result<(), Memory>
     ensures { OnOk result (text.new ≡ text.old ++ scripts_text 8 words.old) }
 {
@@ -84,7 +84,7 @@ fn push_scripts(words: &mut Lcg64Xsh32, text: &mut ByteList) -> Result<(), Memor
     Ok(())
 }
 
-/// Appends a script.
+// Appends a script.
 fn push_script(words: &mut Lcg64Xsh32, text: &mut ByteList) -> Result<(), Memory>
     ensures text { OnOk result (text.new ≡ text.old ++ script_text words.old) }
     ensures behind { OnOk result (words.new ≡ behind_script words.old) }
@@ -95,7 +95,7 @@ fn push_script(words: &mut Lcg64Xsh32, text: &mut ByteList) -> Result<(), Memory
     text.push_all(b"end\n")
 }
 
-/// Appends the first two lines of a script.
+// Appends the first two lines of a script.
 fn push_opening(word: u32, text: &mut ByteList) -> Result<(), Memory>
     ensures { OnOk result (text.new ≡ text.old ++ apartment_text word) }
 {
@@ -106,7 +106,7 @@ fn push_opening(word: u32, text: &mut ByteList) -> Result<(), Memory>
     }
 }
 
-/// Appends the rounds of a script.
+// Appends the rounds of a script.
 fn push_rounds(words: &mut Lcg64Xsh32, text: &mut ByteList) -> Result<(), Memory>
     ensures text { OnOk result (text.new ≡ text.old ++ rounds_text 400 words.old) }
     ensures behind { OnOk result (words.new ≡ behind_rounds 400 words.old) }
@@ -117,7 +117,7 @@ fn push_rounds(words: &mut Lcg64Xsh32, text: &mut ByteList) -> Result<(), Memory
     Ok(())
 }
 
-/// Appends a round: an object is made, called and released.
+// Appends a round: an object is made, called and released.
 fn push_round(words: &mut Lcg64Xsh32, text: &mut ByteList) -> Result<(), Memory>
     ensures text { OnOk result (text.new ≡ text.old ++ round_text words.old) }
     ensures behind { words.new ≡ behind_round words.old }

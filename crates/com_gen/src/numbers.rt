@@ -2,10 +2,10 @@
 ghost use Rattle.std.specs.Prelude.{◌≡◌, ◌≤◌, IfSome};
 ghost use Rattle.com_gen.specs.Numbers.{number_of};
 
-/// No text has a greater number.
+// No text has a greater number.
 const GREATEST: u32 = 1_000_000;
 
-/// No word of a number has more digits.
+// No word of a number has more digits.
 const LONGEST: usize = 7;
 
 /// The number of a text that a word spells: one to seven decimal digits with a value of 1 to 1,000,000.

@@ -101,7 +101,7 @@ impl Source for MemorySource {
     }
 }
 
-/// Copies so many bytes from the front of `from` to the front of `into`.
+// Copies so many bytes from the front of `from` to the front of `into`.
 fn copy_front(from: &[u8], into: &mut [u8], count: usize)
     requires from { count ≤ length from.now }
     requires into { count ≤ length into.old }

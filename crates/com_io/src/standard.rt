@@ -146,7 +146,7 @@ impl Sink for StdSink {
     }
 }
 
-/// One read of standard input, made again where a signal broke it off.
+// One read of standard input, made again where a signal broke it off.
 fn read_once(stdin: &mut Stdin, into: &mut [u8]) -> Result<usize, Failed>
     ensures { IfOk result (λ n. n ≤ length into.new) }
 {
@@ -160,7 +160,7 @@ fn read_once(stdin: &mut Stdin, into: &mut [u8]) -> Result<usize, Failed>
     Err(Failed)
 }
 
-/// One write to standard output and its flush. The write is made again where a signal broke it off.
+// One write to standard output and its flush. The write is made again where a signal broke it off.
 fn write_once(stdout: &mut Stdout, from: &[u8]) -> Result<usize, Failed>
     ensures within { IfOk result (λ n. n ≤ length from.now) }
     ensures some { IfOk result (λ n. 0 < length from.now → 0 < n) }

@@ -12,7 +12,7 @@ use com_base::ByteList;
 use std::alloc::{AllocError, Global};
 use std::test::Fail;
 
-/// A caller over any sink: two texts, one after the other.
+// A caller over any sink: two texts, one after the other.
 #[tactic(auto, using(crate::proofs::Passing::gains_both, crate::proofs::Passing::gains_then_prefix, crate::proofs::Passing::prefix_of_more))]
 fn write_both<K: Sink>(sink: &mut K, first: &[u8], second: &[u8]) -> Result<(), Failed>
     ensures ok { OnOk result (Gains (K.held sink.old) (K.held sink.new) (first.now ++ second.now)) }

@@ -31,7 +31,7 @@ impl From<AllocError> for ReadAllError {
     }
 }
 
-/// The most bytes that one read asks for.
+// The most bytes that one read asks for.
 const PIECE: usize = 65_536;
 
 /// Reads an input to its end. The answer holds all bytes that came, at most `limit` of them.
@@ -70,8 +70,8 @@ pub fn read_all<S: Source>(
     }
 }
 
-/// Reads once, at most one byte more than the limit allows, and appends what came to `bytes`.
-/// Answers whether something came.
+// Reads once, at most one byte more than the limit allows, and appends what came to `bytes`.
+// Answers whether something came.
 fn read_within<S: Source>(
     source: &mut S,
     buffer: &mut [u8],
@@ -102,7 +102,7 @@ fn read_within<S: Source>(
     Ok(count > 0)
 }
 
-/// Reads once, and appends what came to `bytes`.
+// Reads once, and appends what came to `bytes`.
 #[tactic(auto, using(crate::proofs::Passing::loses_both, crate::proofs::Passing::loses_at_most))]
 fn read_piece<S: Source>(
     source: &mut S,

@@ -15,7 +15,7 @@ use std::alloc::Global;
 use std::collections::VecDeque;
 use std::marker::Model;
 
-/// PENDINGMSG_WAITDEFPROCESS: the word that a filter was asked about goes.
+// PENDINGMSG_WAITDEFPROCESS: the word that a filter was asked about goes.
 const WAIT_DEFAULT: u8 = 2;
 
 /// The words that were posted to a lane and not taken, and what each outgoing call was last asked about. Seen
@@ -128,7 +128,7 @@ impl Mail {
     }
 }
 
-/// The place of the first word with a number above this one, or the length.
+// The place of the first word with a number above this one, or the length.
 fn place_after(words: &VecDeque<Word>, mark: u64) -> usize
     requires { IsNonDecreasingBy number_of words.now.items }
     ensures { slice_get words.now.items result ≡ not_asked mark words.now.items }
@@ -136,14 +136,14 @@ fn place_after(words: &VecDeque<Word>, mark: u64) -> usize
     words.partition_point(|word| word.number <= mark)
 }
 
-/// The word at a place.
+// The word at a place.
 fn word_at(words: &VecDeque<Word>, place: usize) -> Option<Word>
     ensures { result ≡ slice_get words.now.items place }
 {
     words.get(place).copied()
 }
 
-/// Takes the word at a place out. All others keep their order.
+// Takes the word at a place out. All others keep their order.
 fn take_out(words: &mut VecDeque<Word>, place: usize)
     requires { place < length words.old.items }
     ensures { words.new.items ≡ remove words.old.items place }

@@ -11,7 +11,7 @@ use com_base::{FIRST_STA, HOST_STA, Memory};
 use std::alloc::Global;
 use std::marker::Model;
 
-/// An apartment that a thread made: the thread's lane, and whether the apartment has ended.
+// An apartment that a thread made: the thread's lane, and whether the apartment has ended.
 #[derive(Debug, Clone, Copy)]
 struct Sta {
     maker: u32,
@@ -151,7 +151,7 @@ impl Stas {
     }
 }
 
-/// So many empty lists. The only error is want of memory.
+// So many empty lists. The only error is want of memory.
 #[tactic(auto, using(crate::proofs::Rows::numbers_more))]
 fn no_numbers(alloc: Global, count: usize) -> Result<Vec<Numbers>, Memory>
     ensures { IfOk result (λ lists. numbers_in lists.items ≡ tabulated count (λ l. [])) }
@@ -163,7 +163,7 @@ fn no_numbers(alloc: Global, count: usize) -> Result<Vec<Numbers>, Memory>
     Ok(lists)
 }
 
-/// Makes room for one more in the list of a lane. The only error is want of memory.
+// Makes room for one more in the list of a lane. The only error is want of memory.
 #[tactic(auto, using(crate::proofs::Rows::numbers_same))]
 fn reserve_at(lists: &mut Vec<Numbers>, lane: u32) -> Result<(), Memory>
     ensures numbers { numbers_in lists.new.items ≡ numbers_in lists.old.items }
@@ -175,7 +175,7 @@ fn reserve_at(lists: &mut Vec<Numbers>, lane: u32) -> Result<(), Memory>
     }
 }
 
-/// Appends to the list of a lane; nothing where there is no such lane.
+// Appends to the list of a lane; nothing where there is no such lane.
 #[tactic(auto, using(crate::proofs::Rows::numbers_set, crate::proofs::Rows::numbers_at))]
 fn push_at(lists: &mut Vec<Numbers>, lane: u32, number: u32)
     requires room { HasRow (slice_index_or lists.old.items lane no_number) }
@@ -188,7 +188,7 @@ fn push_at(lists: &mut Vec<Numbers>, lane: u32, number: u32)
 }
 
 #[tactic(auto, using(crate::proofs::StasKept::gone_first_le, crate::proofs::StasKept::gone_first_more, crate::proofs::StasKept::gone_first_here))]
-/// The first index from this one on whose apartment has not ended, or the length. All before it have ended.
+// The first index from this one on whose apartment has not ended, or the length. All before it have ended.
 fn oldest_from(rows: &[Sta], from: usize) -> usize
     requires { from ≤ gone_first rows.now }
     ensures { result ≡ gone_first rows.now }

@@ -76,7 +76,7 @@ impl Lanes {
         }
     }
 
-    /// Opens a call that is waited for, or a body.
+    // Opens a call that is waited for, or a body.
     fn open(&mut self, lane: u32, opener: Opener)
         requires slot { HasSlot (slice_index_or self.old.openers lane no_opener) }
         ensures { self.new.tables ≡ record self.old.tables {
@@ -86,7 +86,7 @@ impl Lanes {
         push_opener(&mut self.openers, lane, opener);
     }
 
-    /// Opens a body.
+    // Opens a body.
     fn enter(&mut self, lane: u32, call: u32, object: u32, apartment: u32)
         requires slot { HasSlot (slice_index_or self.old.openers lane no_opener) }
         ensures { self.new.tables ≡ record self.old.tables {
@@ -103,7 +103,7 @@ impl Lanes {
         push_opener(&mut self.openers, lane, opener);
     }
 
-    /// Opens a pump.
+    // Opens a pump.
     fn pump(&mut self, lane: u32, bound: u32)
         requires slot { HasSlot (slice_index_or self.old.openers lane no_opener) }
         ensures { self.new.tables ≡ record self.old.tables {
@@ -117,7 +117,7 @@ impl Lanes {
         put(&mut self.served, lane, 0);
     }
 
-    /// Closes a pump, by the quit that stands where its bound is not reached.
+    // Closes a pump, by the quit that stands where its bound is not reached.
     fn end_pump(&mut self, lane: u32)
         ensures { self.new.tables ≡ record self.old.tables {
           openers = slice_set self.old.tables.openers lane (without_first (openers_at self.old.tables lane));
@@ -131,7 +131,7 @@ impl Lanes {
         end_quit(&mut self.quits, lane, by_quit);
     }
 
-    /// Closes the wait for a call, and forgets what the call was asked.
+    // Closes the wait for a call, and forgets what the call was asked.
     fn back(&mut self, lane: u32, call: u32)
         ensures { self.new.tables ≡ record self.old.tables {
           openers = slice_set self.old.tables.openers lane (without_first (openers_at self.old.tables lane));
@@ -144,7 +144,7 @@ impl Lanes {
         forget_at(&mut self.mail, lane, call);
     }
 
-    /// Closes a body.
+    // Closes a body.
     #[tactic(auto, using(crate::proofs::Rows::popped_row))]
     fn leave(&mut self, lane: u32, call: u32)
         requires { HasRoom self.old.tables }
@@ -159,7 +159,7 @@ impl Lanes {
         count_left(&mut self.served, &self.openers, lane, call);
     }
 
-    /// A lane is initialised, or refused.
+    // A lane is initialised, or refused.
     fn initialise(&mut self, lane: u32, mode: Mode, home: u32, hr: HResult)
         requires next { IsNumber (length self.old.tables.stas + 3) (makes_sta (Deed.Init mode home hr)) }
         requires room { HasRoom self.old.tables }
@@ -182,7 +182,7 @@ impl Lanes {
         name_filter(&mut self.filters, lane, None, hr);
     }
 
-    /// A lane is uninitialised.
+    // A lane is uninitialised.
     fn uninitialise(&mut self, lane: u32, home: Option<u32>, count: u32)
         requires below { IsBelow (length self.old.tables.stas + 3) (ends_sta (Deed.Uninit home count)) }
         requires space { HasEnd self.old.stas (ends_sta (Deed.Uninit home count)) }
@@ -203,7 +203,7 @@ impl Lanes {
         drop_filter(&mut self.filters, lane, home, count);
     }
 
-    /// A lane names its filter.
+    // A lane names its filter.
     fn set_filter(&mut self, lane: u32, filter: Option<u32>, hr: HResult)
         ensures { self.new.tables ≡ record self.old.tables {
           filters =
@@ -214,7 +214,7 @@ impl Lanes {
         name_filter(&mut self.filters, lane, filter, hr);
     }
 
-    /// A lane posts a word.
+    // A lane posts a word.
     #[tactic(auto, using(crate::proofs::Rows::posted_seen))]
     fn post(&mut self, lane: u32, to: i64, word: i64, hr: HResult)
         requires room { HasRoom self.old.tables }
@@ -228,7 +228,7 @@ impl Lanes {
         bring_at(&mut self.mail, to, word, hr);
     }
 
-    /// A lane takes its first word.
+    // A lane takes its first word.
     fn take_word(&mut self, lane: u32)
         ensures { self.new.tables ≡ record self.old.tables {
           mail =
@@ -239,7 +239,7 @@ impl Lanes {
         take_at(&mut self.mail, lane);
     }
 
-    /// A lane's filter is asked about a word.
+    // A lane's filter is asked about a word.
     fn ask(&mut self, lane: u32, call: u32, answer: u8)
         requires space { HasMark (slice_index_or self.old.mail lane no_word) }
         ensures { self.new.tables ≡ record self.old.tables {
@@ -251,7 +251,7 @@ impl Lanes {
         ask_at(&mut self.mail, lane, call, answer);
     }
 
-    /// A lane asks a pump to end.
+    // A lane asks a pump to end.
     #[tactic(auto, using(crate::proofs::Rows::quit_seen))]
     fn quit(&mut self, lane: u32, to: i64, hr: HResult)
         ensures { self.new.tables ≡ record self.old.tables {
@@ -265,7 +265,7 @@ impl Lanes {
         quit_at(&mut self.quits, to, hr);
     }
 
-    /// A lane ends.
+    // A lane ends.
     fn finish(&mut self, lane: u32)
         ensures { self.new.tables
             ≡ record self.old.tables { over = slice_set self.old.tables.over lane true } }

@@ -18,7 +18,7 @@ use com_base::{HOST_STA, HResult, Memory, Mode};
 use com_lane_lists::{Mail, Openers, Stas};
 use com_model::{Deed, Opener};
 
-/// Puts a value in a row.
+// Puts a value in a row.
 pub(crate) fn put<T: Copy>(column: &mut Vec<T>, lane: u32, value: T)
     ensures { column.new.items ≡ slice_set column.old.items lane value }
 {
@@ -27,7 +27,7 @@ pub(crate) fn put<T: Copy>(column: &mut Vec<T>, lane: u32, value: T)
     }
 }
 
-/// Makes room for one opener more in a lane. The only error is want of memory.
+// Makes room for one opener more in a lane. The only error is want of memory.
 #[tactic(auto, using(crate::proofs::Rows::openers_same))]
 pub(crate) fn reserve_opener(column: &mut Vec<Openers>, lane: u32) -> Result<(), Memory>
     ensures openers { openers_in column.new.items ≡ openers_in column.old.items }
@@ -39,7 +39,7 @@ pub(crate) fn reserve_opener(column: &mut Vec<Openers>, lane: u32) -> Result<(),
     }
 }
 
-/// Opens one more in a lane.
+// Opens one more in a lane.
 #[tactic(auto, using(crate::proofs::Rows::openers_set, crate::proofs::Rows::openers_at))]
 pub(crate) fn push_opener(column: &mut Vec<Openers>, lane: u32, opener: Opener)
     requires slot { HasSlot (slice_index_or column.old.items lane no_opener) }
@@ -51,7 +51,7 @@ pub(crate) fn push_opener(column: &mut Vec<Openers>, lane: u32, opener: Opener)
     }
 }
 
-/// Closes the innermost of a lane.
+// Closes the innermost of a lane.
 #[tactic(auto, using(crate::proofs::Rows::openers_set, crate::proofs::Rows::openers_at))]
 pub(crate) fn pop_opener(column: &mut Vec<Openers>, lane: u32)
     ensures { openers_in column.new.items ≡ slice_set (openers_in column.old.items) lane
@@ -63,7 +63,7 @@ pub(crate) fn pop_opener(column: &mut Vec<Openers>, lane: u32)
 }
 
 #[tactic(auto, using(crate::proofs::Rows::set_own, crate::proofs::Rows::left_one, crate::proofs::Rows::left_other))]
-/// A body has left a lane in which these are open, which counts where a pump alone is.
+// A body has left a lane in which these are open, which counts where a pump alone is.
 pub(crate) fn count_left(column: &mut Vec<u64>, openers: &Vec<Openers>, lane: u32, call: u32)
     requires { slice_index_or column.old.items lane 0 + 1 < 2 ^ 64 }
     ensures { column.new.items ≡ slice_set column.old.items lane
@@ -78,7 +78,7 @@ pub(crate) fn count_left(column: &mut Vec<u64>, openers: &Vec<Openers>, lane: u3
     }
 }
 
-/// Whether a pump alone is open in a lane.
+// Whether a pump alone is open in a lane.
 #[tactic(auto, using(crate::proofs::Rows::openers_some, crate::proofs::Rows::openers_none))]
 fn one_pump_at(openers: &Vec<Openers>, lane: u32) -> bool
     ensures { result ≡ is_one_pump (slice_index_or (openers_in openers.now.items) lane []) }
@@ -89,7 +89,7 @@ fn one_pump_at(openers: &Vec<Openers>, lane: u32) -> bool
     }
 }
 
-/// A lane is initialised, with this answer.
+// A lane is initialised, with this answer.
 #[tactic(auto, using(crate::proofs::Rows::set_own))]
 pub(crate) fn count_success(column: &mut Vec<u32>, lane: u32, home: u32, hr: HResult)
     requires { slice_index_or column.old.items lane 0 + 1 < 2 ^ 32 }
@@ -104,7 +104,7 @@ pub(crate) fn count_success(column: &mut Vec<u32>, lane: u32, home: u32, hr: HRe
     }
 }
 
-/// The home that a lane has after it is uninitialised, with its home before and the count after.
+// The home that a lane has after it is uninitialised, with its home before and the count after.
 pub(crate) fn home_left(home: Option<u32>, count: u32) -> Option<u32>
     ensures { (before : Option ℕ) → result ≡ home_after (Uninitialises home count) before }
 {
@@ -114,14 +114,14 @@ pub(crate) fn home_left(home: Option<u32>, count: u32) -> Option<u32>
     }
 }
 
-/// Whether an HRESULT is S_OK.
+// Whether an HRESULT is S_OK.
 fn is_s_ok(hr: HResult) -> bool
     ensures { result ≡ is_S_OK hr }
 {
     hr.0 == 0
 }
 
-/// Names a lane's filter, or none, where the answer is S_OK.
+// Names a lane's filter, or none, where the answer is S_OK.
 pub(crate) fn name_filter(
     column: &mut Vec<Option<u32>>,
     lane: u32,
@@ -137,7 +137,7 @@ pub(crate) fn name_filter(
     }
 }
 
-/// Ends a lane's filter where this is left of its initialisations.
+// Ends a lane's filter where this is left of its initialisations.
 pub(crate) fn drop_filter(column: &mut Vec<Option<u32>>, lane: u32, home: Option<u32>, count: u32)
     ensures { column.new.items
         ≡ changed_at (filters_change (filter_effect (Deed.Uninit home count))) lane None column.old.items }
@@ -148,7 +148,7 @@ pub(crate) fn drop_filter(column: &mut Vec<Option<u32>>, lane: u32, home: Option
     }
 }
 
-/// A whole number, where it is not below 0.
+// A whole number, where it is not below 0.
 fn natural(number: i64) -> Option<u64>
     ensures { result ≡ natural number }
 {
@@ -159,7 +159,7 @@ fn natural(number: i64) -> Option<u64>
     }
 }
 
-/// Makes room for a word to the lane that a Post names. The only error is want of memory.
+// Makes room for a word to the lane that a Post names. The only error is want of memory.
 #[tactic(auto, using(crate::proofs::Rows::mail_same))]
 pub(crate) fn reserve_word(column: &mut Vec<Mail>, to: i64) -> Result<(), Memory>
     ensures mail { mail_in column.new.items ≡ mail_in column.old.items }
@@ -174,7 +174,7 @@ pub(crate) fn reserve_word(column: &mut Vec<Mail>, to: i64) -> Result<(), Memory
     }
 }
 
-/// Brings a word to the lane that a Post names, where the answer is S_OK.
+// Brings a word to the lane that a Post names, where the answer is S_OK.
 #[tactic(auto, using(crate::proofs::Rows::posted_none, crate::proofs::Rows::posted_some, crate::proofs::Rows::posted_not, crate::proofs::Rows::set_past, crate::proofs::Rows::mail_set, crate::proofs::Rows::mail_at))]
 pub(crate) fn bring_at(column: &mut Vec<Mail>, to: i64, word: i64, hr: HResult)
     requires posted { (l : ℕ) → (slice_index_or column.old.items l no_word).mail.posted + 1 < 2 ^ 64 }
@@ -192,7 +192,7 @@ pub(crate) fn bring_at(column: &mut Vec<Mail>, to: i64, word: i64, hr: HResult)
     }
 }
 
-/// Takes the first word of a lane.
+// Takes the first word of a lane.
 #[tactic(auto, using(crate::proofs::Rows::mail_set, crate::proofs::Rows::mail_at))]
 pub(crate) fn take_at(column: &mut Vec<Mail>, lane: u32)
     ensures { mail_in column.new.items ≡ slice_set (mail_in column.old.items) lane
@@ -203,7 +203,7 @@ pub(crate) fn take_at(column: &mut Vec<Mail>, lane: u32)
     }
 }
 
-/// Makes room for a mark of a lane. The only error is want of memory.
+// Makes room for a mark of a lane. The only error is want of memory.
 #[tactic(auto, using(crate::proofs::Rows::mail_same))]
 pub(crate) fn reserve_mark(column: &mut Vec<Mail>, lane: u32) -> Result<(), Memory>
     ensures mail { mail_in column.new.items ≡ mail_in column.old.items }
@@ -215,7 +215,7 @@ pub(crate) fn reserve_mark(column: &mut Vec<Mail>, lane: u32) -> Result<(), Memo
     }
 }
 
-/// Asks a call of a lane about the next word.
+// Asks a call of a lane about the next word.
 #[tactic(auto, using(crate::proofs::Rows::mail_set, crate::proofs::Rows::mail_at))]
 pub(crate) fn ask_at(column: &mut Vec<Mail>, lane: u32, call: u32, answer: u8)
     requires room { HasMark (slice_index_or column.old.items lane no_word) }
@@ -227,7 +227,7 @@ pub(crate) fn ask_at(column: &mut Vec<Mail>, lane: u32, call: u32, answer: u8)
     }
 }
 
-/// A call of a lane came back.
+// A call of a lane came back.
 #[tactic(auto, using(crate::proofs::Rows::mail_set, crate::proofs::Rows::mail_at))]
 pub(crate) fn forget_at(column: &mut Vec<Mail>, lane: u32, call: u32)
     ensures { mail_in column.new.items ≡ slice_set (mail_in column.old.items) lane
@@ -238,7 +238,7 @@ pub(crate) fn forget_at(column: &mut Vec<Mail>, lane: u32, call: u32)
     }
 }
 
-/// A quit stands for the lane that a Quit names, where the answer is S_OK.
+// A quit stands for the lane that a Quit names, where the answer is S_OK.
 #[tactic(auto, using(crate::proofs::Rows::quit_none, crate::proofs::Rows::quit_some, crate::proofs::Rows::quit_not, crate::proofs::Rows::set_past))]
 pub(crate) fn quit_at(column: &mut Vec<bool>, to: i64, hr: HResult)
     ensures { column.new.items ≡ quit_to to hr column.old.items }
@@ -254,7 +254,7 @@ pub(crate) fn quit_at(column: &mut Vec<bool>, to: i64, hr: HResult)
     }
 }
 
-/// A pump of a lane ends by its quit, if it does.
+// A pump of a lane ends by its quit, if it does.
 pub(crate) fn end_quit(column: &mut Vec<bool>, lane: u32, by_quit: bool)
     ensures { column.new.items ≡ changed_at (where_true by_quit (λ b. false)) lane false column.old.items }
 {
@@ -263,8 +263,8 @@ pub(crate) fn end_quit(column: &mut Vec<bool>, lane: u32, by_quit: bool)
     }
 }
 
-/// Makes room for the apartment that a lane makes which is initialised, if it makes one. The only error is
-/// want of memory.
+// Makes room for the apartment that a lane makes which is initialised, if it makes one. The only error is
+// want of memory.
 pub(crate) fn reserve_sta(
     stas: &mut Stas,
     lane: u32,
@@ -287,7 +287,7 @@ pub(crate) fn reserve_sta(
     }
 }
 
-/// A lane that is initialised makes an apartment where it asks for one of its own and the answer is S_OK.
+// A lane that is initialised makes an apartment where it asks for one of its own and the answer is S_OK.
 pub(crate) fn make_sta(stas: &mut Stas, lane: u32, mode: Mode, home: u32, hr: HResult)
     requires next { IsNumber (length stas.old.tables.stas + 3) (makes_sta (Deed.Init mode home hr)) }
     requires number { length stas.old.tables.stas + 4 ≤ 2 ^ 32 }
@@ -304,8 +304,8 @@ pub(crate) fn make_sta(stas: &mut Stas, lane: u32, mode: Mode, home: u32, hr: HR
     }
 }
 
-/// Makes room for the end of the apartment of a lane, where this is left of the lane's initialisations. The
-/// only error is want of memory.
+// Makes room for the end of the apartment of a lane, where this is left of the lane's initialisations. The
+// only error is want of memory.
 pub(crate) fn reserve_end(stas: &mut Stas, home: Option<u32>, count: u32) -> Result<(), Memory>
     ensures tables { stas.new.tables ≡ stas.old.tables }
     ensures room { OnOk result (HasEnd stas.new (ends_sta (Deed.Uninit home count))) }
@@ -325,7 +325,7 @@ pub(crate) fn reserve_end(stas: &mut Stas, home: Option<u32>, count: u32) -> Res
     }
 }
 
-/// The apartment of a lane ends where this is left of the lane's initialisations.
+// The apartment of a lane ends where this is left of the lane's initialisations.
 pub(crate) fn end_sta(stas: &mut Stas, home: Option<u32>, count: u32)
     requires below { IsBelow (length stas.old.tables.stas + 3) (ends_sta (Deed.Uninit home count)) }
     requires room { HasEnd stas.old (ends_sta (Deed.Uninit home count)) }

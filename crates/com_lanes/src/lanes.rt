@@ -263,7 +263,7 @@ impl Lanes {
     }
 }
 
-/// A table of so many equal rows. The only error is want of memory.
+// A table of so many equal rows. The only error is want of memory.
 fn new_table<T: Copy>(alloc: Global, rows: usize, row: T) -> Result<Vec<T>, Memory>
     ensures { IfOk result (λ table. table.items ≡ tabulated rows (λ l. row)) }
 {
@@ -274,7 +274,7 @@ fn new_table<T: Copy>(alloc: Global, rows: usize, row: T) -> Result<Vec<T>, Memo
     Ok(table)
 }
 
-/// So many lanes with nothing open. The only error is want of memory.
+// So many lanes with nothing open. The only error is want of memory.
 #[tactic(auto, using(crate::proofs::Rows::openers_more))]
 fn no_openers(alloc: Global, rows: usize) -> Result<Vec<Openers>, Memory>
     ensures { IfOk result (λ table. openers_in table.items ≡ tabulated rows (λ l. [])) }
@@ -286,7 +286,7 @@ fn no_openers(alloc: Global, rows: usize) -> Result<Vec<Openers>, Memory>
     Ok(table)
 }
 
-/// So many lanes with no word. The only error is want of memory.
+// So many lanes with no word. The only error is want of memory.
 #[tactic(auto, using(crate::proofs::Rows::mail_more))]
 fn no_mails(alloc: Global, rows: usize) -> Result<Vec<Mail>, Memory>
     ensures { IfOk result (λ table. mail_in table.items ≡ tabulated rows (λ l. no_mail)) }

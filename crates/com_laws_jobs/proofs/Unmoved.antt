@@ -89,7 +89,7 @@ unmoved-cells s h (e ∷ more) l c o a os f q n top sta free =
 class-stands : (s : Scenario) (st : State) (h : List Entry) (o : ℕ) → StandsFor s st h → class_in st o ≡ class_of h o
 class-stands s st h o p = ap (λ (x : Option Making). number_or_zero (option_map (λ (m : Making). m.class) x)) (p.objects.makings o)
 
--- The same of two states.
+-- Two states with the call, its class and its frame in common.
 record Moved (st su : State) (c o : ℕ) : Type 0 where
   issued : issue_in su c ≡ issue_in st c
   class : class_in su o ≡ class_in st o

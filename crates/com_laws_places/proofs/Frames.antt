@@ -96,7 +96,7 @@ frames-put w a c b t f (Enters d x e ∷ os) p =
 frames-put w a c b t f (Pumps n ∷ os) p = passed-by w a c b t f (Pumps n) os refl (λ v. refl) (frames-put w a c b t f os p)
 frames-put w a c b t f (Waits n ∷ os) p = passed-by w a c b t f (Waits n) os refl (λ v. refl) (frames-put w a c b t f os p)
 
--- The same over all lanes, of which each has the call so often.
+-- A frame that is put, over all lanes, of which each has the call so often.
 lanes-put : (n : ℕ) (os : ℕ → List Opener) (w : Scene) (a c b : ℕ) (t : Test) (f : FrameView) → ((l : ℕ) → l < n → InApartment c b (os l))
     → sum_below n (λ l. sum_by (in_frame (with_body w c f) a t) (os l)) + times (sum_below n (λ l. open_of c (os l))) (slots_in b a t (w.bodies c).slots)
     ≡ sum_below n (λ l. sum_by (in_frame w a t) (os l)) + times (sum_below n (λ l. open_of c (os l))) (slots_in b a t f.slots)

@@ -1,4 +1,4 @@
--- The same by a state's tables: what the next entry of a lane takes from places and brings to places.
+-- Places by a state's tables: what the next entry of a lane takes from them and brings to them.
 use Rattle.std.specs.Prelude.{◌≡◌, ℕ, ◌+◌}
 use Rattle.com_model.specs.declared.deeds.Deed.{Deed}
 use Rattle.com_model.specs.declared.scenario.Scenario.{Scenario}

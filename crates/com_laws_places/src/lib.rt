@@ -22,7 +22,7 @@ pub fn places_move()
     ensures { (s : Scenario) (h : List Entry) (e : Entry) → Formed s → legal s (e ∷ h) → PlacesMove s h e }
 {}
 
-/// The same by tables: where a state stands for a history, the places by the tables after a lane's next
+/// The law by tables: where a state stands for a history, the places by the tables after a lane's next
 /// entry, with what it took, are those by the tables before it, with what it brought. The moves are read from
 /// the tables before the entry alone, but for who stands in the lane after it.
 pub fn tables_move()

@@ -1,4 +1,4 @@
--- The same of a state that stands for a history.
+-- How many of each there are, in a state that stands for a history.
 use Rattle.std.proofs.Common.{ap, ◌∙◌, arith, subst, sym}
 use Rattle.std.proofs.lemmas.Grind.{common_steps}
 use Rattle.std.specs.Prelude.{◌≡◌, ℕ, zero, suc, ◌+◌, ◌*◌, ◌^◌, ◌<◌, ◌≤◌, Bool, true, false, cond, ◌==◌, ◌&&◌, nat_le, List, ◌∷◌, length, Some, None, slice_index_or}

@@ -33,7 +33,7 @@ connected d named b = record b { live = connects d named b.live }
 abbrev pub books_entered : Scenario → (before after : State) → Entry → Books
 books_entered s st su e = connected e.deed (named_in su) (rows_entered s st su e)
 
--- The same over histories.
+-- The books before the entry ends, over histories.
 abbrev pub history_entered : Scenario → List Entry → Entry → Books
 history_entered s h e =
     connected e.deed (named (e ∷ h))

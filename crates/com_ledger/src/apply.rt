@@ -98,7 +98,7 @@ fn is_made(object: Option<u32>, iface: Asked, held: RefValue) -> bool
     held.object == object && u32::from(held.iface) == iface
 }
 
-// The same of the object that a deed makes.
+// Whether the reference is the one that a deed gives of the object that it makes.
 fn is_made_by(deed: &Deed, held: RefValue) -> bool
     ensures { result ≡ is_made_by deed.now held.object held.iface }
 {

@@ -16,7 +16,7 @@ use std::marker::Model;
 /// Want of memory.
 pub use std::alloc::AllocError as Memory;
 
-/// What is kept of a node: the head whose list has it, and its neighbours there.
+// What is kept of a node: the head whose list has it, and its neighbours there.
 #[derive(Debug, Clone, Copy)]
 struct Node {
     holder: Option<u32>,
@@ -25,7 +25,7 @@ struct Node {
 }
 
 impl Node {
-    /// A node in no list.
+    // A node in no list.
     const FREE: Node = Node {
         holder: None,
         before: None,
@@ -33,8 +33,8 @@ impl Node {
     };
 }
 
-/// What is kept of the nodes, seen as the list of it. Room is kept for all of them, and a node is written
-/// only when it, or one behind it, is first put into a list: those that are not written are in no list.
+// What is kept of the nodes, seen as the list of it. Room is kept for all of them, and a node is written
+// only when it, or one behind it, is first put into a list: those that are not written are in no list.
 #[derive(Debug, Drop)]
 struct Nodes {
     written: Vec<Node>,
@@ -54,7 +54,7 @@ impl Model for Nodes {
 }
 
 impl Nodes {
-    /// No nodes.
+    // No nodes.
     fn new(alloc: Global) -> Self
         ensures { result ≡ [] }
     {
@@ -64,14 +64,14 @@ impl Nodes {
         }
     }
 
-    /// How many nodes there are.
+    // How many nodes there are.
     fn len(&self) -> usize
         ensures { result ≡ length self.now }
     {
         self.count as usize
     }
 
-    /// Adds nodes in no list until there are so many. It writes none of them.
+    // Adds nodes in no list until there are so many. It writes none of them.
     fn grow(&mut self, count: u32) -> Result<(), Memory>
         requires { length self.old ≤ count }
         ensures nodes { OnOk result (self.new
@@ -83,7 +83,7 @@ impl Nodes {
         Ok(())
     }
 
-    /// What is kept of a node.
+    // What is kept of a node.
     fn at(&self, node: u32) -> Node
         ensures { result ≡ node_at self.now node }
     {
@@ -93,7 +93,7 @@ impl Nodes {
         }
     }
 
-    /// Lets this be kept of a node. It takes no memory.
+    // Lets this be kept of a node. It takes no memory.
     fn set(&mut self, node: u32, kept: Node)
         requires { node < length self.old }
         ensures { self.new ≡ slice_set self.old node kept }
@@ -108,7 +108,7 @@ impl Nodes {
     }
 }
 
-/// Writes nodes in no list until so many are written. There is room for them.
+// Writes nodes in no list until so many are written. There is room for them.
 fn fill(written: &mut Vec<Node>, count: usize)
     requires more { vec_len written.old ≤ count }
     requires room { count ≤ vec_capacity written.old }
@@ -122,7 +122,7 @@ fn fill(written: &mut Vec<Node>, count: usize)
     };
 }
 
-/// What is kept of a head: the ends of its list.
+// What is kept of a head: the ends of its list.
 #[derive(Debug, Clone, Copy)]
 struct Head {
     first: Option<u32>,
@@ -130,7 +130,7 @@ struct Head {
 }
 
 impl Head {
-    /// The head of an empty list.
+    // The head of an empty list.
     const EMPTY: Head = Head {
         first: None,
         last: None,
@@ -286,7 +286,7 @@ impl Lists {
     }
 }
 
-/// Lets `after` follow `before` in the list of `head`, or begin it where nothing stands before.
+// Lets `after` follow `before` in the list of `head`, or begin it where nothing stands before.
 fn set_next(
     heads: &mut Vec<Head>,
     nodes: &mut Nodes,
@@ -310,7 +310,7 @@ fn set_next(
     }
 }
 
-/// Lets `before` stand before `after` in the list of `head`, or end it where nothing stands behind.
+// Lets `before` stand before `after` in the list of `head`, or end it where nothing stands behind.
 fn set_previous(
     heads: &mut Vec<Head>,
     nodes: &mut Nodes,

@@ -116,7 +116,7 @@ tabulated-row n f x p k = by-size (nat_lt k n) refl
     by-size true h = within-tabulated n f k x (ltb-true k n h)
     by-size false h = let z : n ≤ k = ltb-false k n h in let m : length (tabulated n f) ≡ n = length-tabulated n f in get_or_past (tabulated n f) k x (omega (arith, z, m)) ∙ sym (p k z)
 
--- The same where the bound and the function are known in another form; and tables in one another.
+-- A row of a table, where the bound and the function are known in another form; and tables in one another.
 pub rows-of : {X : Type 0} (n m : ℕ) (f g : ℕ → X) (x : X) → n ≡ m → f ≡ g → ((k : ℕ) → m ≤ k → g k ≡ x) → (k : ℕ) → slice_index_or (tabulated n f) k x ≡ g k
 rows-of n m f g x e p q k = ap₂ (λ (y : ℕ) (z : ℕ → _). slice_index_or (tabulated y z) k x) e p ∙ tabulated-row m g x q k
 

@@ -286,7 +286,7 @@ abbrev pub changed_at : {X : Type 0} → Option (X → X) → ℕ → X → List
 changed_at None k d t = t
 changed_at (Some f) k d t = slice_set t k (f (slice_index_or t k d))
 
--- The same where the first row is that of number 1.
+-- The changed table, where the first row is that of number 1.
 abbrev pub changed_from_one : {X : Type 0} → Option (X → X) → ℕ → X → List X → List X
 changed_from_one None k d t = t
 changed_from_one (Some f) zero d t = t

@@ -65,7 +65,7 @@ impl DyingQueue {
     }
 }
 
-/// Takes out the one that was released, if one was.
+// Takes out the one that was released, if one was.
 fn take_out(objects: &mut Vec<u32>, gone: Option<u32>)
     ensures items { objects.new.items ≡ without gone objects.old.items }
     ensures len { vec_len objects.new ≤ vec_len objects.old }
@@ -77,7 +77,7 @@ fn take_out(objects: &mut Vec<u32>, gone: Option<u32>)
     }
 }
 
-/// Adds these at the end. There is room for them.
+// Adds these at the end. There is room for them.
 fn append(objects: &mut Vec<u32>, fresh: &[u32])
     requires { vec_len objects.old + length fresh.now ≤ vec_capacity objects.old }
     ensures { objects.new.items ≡ objects.old.items ++ fresh.now }

@@ -13,7 +13,7 @@ use com_model::{Deed, Making};
 use std::alloc::Global;
 use std::marker::Model;
 
-/// An object: its making, and whether it was released.
+// An object: its making, and whether it was released.
 #[derive(Debug, Clone, Copy)]
 struct Row {
     making: Making,
@@ -93,7 +93,7 @@ impl Objects {
         }
     }
 
-    /// Makes one more, if one is made.
+    // Makes one more, if one is made.
     fn make(&mut self, making: Option<Making>)
         requires number { length self.old.tables.makings + 1 < 2 ^ 32 }
         requires space { length self.old.tables.makings < self.old.made }
@@ -110,7 +110,7 @@ impl Objects {
         });
     }
 
-    /// Releases an object.
+    // Releases an object.
     fn release(&mut self, object: u32)
         requires made { IsMade (length self.old.tables.makings) (Some object) }
         requires space { length self.old.tables.finaled < self.old.gone }
@@ -173,7 +173,7 @@ impl Objects {
 }
 
 #[tactic(auto, using(crate::proofs::Kept::row_none, crate::proofs::Kept::row_some))]
-/// The row of an object.
+// The row of an object.
 fn row_at(rows: &[Row], object: u32) -> Option<Row>
     ensures { result ≡ row_of rows.now object }
 {
@@ -183,7 +183,7 @@ fn row_at(rows: &[Row], object: u32) -> Option<Row>
     rows.get(object as usize - 1).copied()
 }
 
-/// The making that a Made entry says.
+// The making that a Made entry says.
 fn making_of(object: Option<u32>, apartment: Option<u32>, class: &Asked) -> Option<Making>
     ensures { (iface : Asked) (hr : HResult)
         → result ≡ makes (Deed.Made object apartment class.now iface hr) }
@@ -201,7 +201,7 @@ fn making_of(object: Option<u32>, apartment: Option<u32>, class: &Asked) -> Opti
     })
 }
 
-/// The number of a class that was asked for by its number, and 0 for a CLSID.
+// The number of a class that was asked for by its number, and 0 for a CLSID.
 fn number_of(asked: &Asked) -> u32
     ensures { result ≡ asked_number asked.now }
 {

@@ -13,7 +13,7 @@ abbrev pub normal_of : Option Packet → ℕ
 normal_of None = 0
 normal_of (Some packet) = normal_refs packet.mode packet.refs
 
--- The same where it is a packet of the object.
+-- How many references a normal packet holds, where it is a packet of the object.
 abbrev pub normal_for : ℕ → Option Packet → ℕ
 normal_for object None = 0
 normal_for object (Some packet) = if packet.object == object then normal_refs packet.mode packet.refs else 0

@@ -27,17 +27,17 @@ use com_model::Deed;
 use com_objects::Objects;
 use com_scene::Actor;
 
-/// The most entries that change the parts, far above the limit of entries of a scenario.
+// The most entries that change the parts, far above the limit of entries of a scenario.
 const MOST_ENTRIES: u32 = 0x1000_0000;
 
-/// The answer where an entry is none that the rules give: one that names a call, an object or an apartment
-/// that there is not, or a number beyond its range. That no core asks for one is not proved here.
+// The answer where an entry is none that the rules give: one that names a call, an object or an apartment
+// that there is not, or a number beyond its range. That no core asks for one is not proved here.
 fn unproved_fact() -> Memory {
     Memory
 }
 
-/// Makes room for all rows that an entry brings, where a call that it issues goes to an object of this
-/// apartment. The only error is want of memory.
+// Makes room for all rows that an entry brings, where a call that it issues goes to an object of this
+// apartment. The only error is want of memory.
 fn reserve(
     lanes: &mut Lanes,
     objects: &mut Objects,
@@ -59,7 +59,7 @@ fn reserve(
     make_room(calls, deed, apartment)
 }
 
-/// The lanes and the objects after an entry: no entry changes both.
+// The lanes and the objects after an entry: no entry changes both.
 fn change_rows(lanes: &mut Lanes, objects: &mut Objects, lane: u32, deed: &Deed)
     requires stas { NamesStas lanes.old.tables deed.now }
     requires counts { HasRoom lanes.old.tables }
@@ -79,7 +79,7 @@ fn change_rows(lanes: &mut Lanes, objects: &mut Objects, lane: u32, deed: &Deed)
     }
 }
 
-/// Whether a lane runs no body.
+// Whether a lane runs no body.
 fn is_outermost(lanes: &Lanes, lane: u32) -> bool
     ensures { result ≡ is_none (running_call (openers_at lanes.now.tables lane)) }
 {

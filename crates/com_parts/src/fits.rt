@@ -17,7 +17,7 @@ use com_model::Deed;
 use com_objects::Objects;
 use com_scene::fits_deed;
 
-/// Whether the parts take the entry.
+// Whether the parts take the entry.
 pub(crate) fn fits(
     lanes: &Lanes,
     objects: &Objects,
@@ -94,8 +94,8 @@ fn names_call(calls: &Calls, deed: &Deed) -> bool
     }
 }
 
-// The same of a Retry: with 0 to 99 the call is posted, with more it waits for a time, and where it is given up
-// nothing is asked.
+// Whether the call of a Retry fits: with 0 to 99 it is posted, with more it waits for a time, and where it is
+// given up nothing is asked.
 fn names_retried(calls: &Calls, call: u32, answer: i64) -> bool
     ensures { IsTrue result ↔ is_known calls.now.tables (retries call answer) }
 {
@@ -138,7 +138,7 @@ fn has_time(deed: &Deed, clock: u64) -> bool
     }
 }
 
-/// Whether the numbers of registers, slots and links are in their ranges where the action of a step writes.
+// Whether the numbers of registers, slots and links are in their ranges where the action of a step writes.
 pub(crate) fn is_writing(outcome: &Option<Outcome>) -> bool
     ensures { IsTrue result ↔ IsWriting outcome.now }
 {

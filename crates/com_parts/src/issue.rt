@@ -15,7 +15,7 @@ use com_calls::{Calls, Issued};
 use com_model::{Deed, Issue};
 use com_objects::Objects;
 
-/// The apartment of the target of the call that an entry issues, and 0 where it issues none.
+// The apartment of the target of the call that an entry issues, and 0 where it issues none.
 pub(crate) fn target_of(objects: &Objects, deed: &Deed) -> u32
     ensures { (l : ℕ) → result ≡ named_at objects.now.tables (object_of (issues l deed.now)) }
 {
@@ -25,8 +25,8 @@ pub(crate) fn target_of(objects: &Objects, deed: &Deed) -> u32
     }
 }
 
-/// Room for the call that an entry issues, to an object of this apartment. The only error is want of memory,
-/// and then nothing has changed.
+// Room for the call that an entry issues, to an object of this apartment. The only error is want of memory,
+// and then nothing has changed.
 pub(crate) fn make_room(calls: &mut Calls, deed: &Deed, apartment: u32) -> Result<(), Memory>
     requires { length calls.old.tables.issues + 1 < 2 ^ 32 }
     ensures kept { calls.new ≡ with_room calls.old calls.new.room calls.new.inboxes }
@@ -50,7 +50,7 @@ fn room_for(calls: &mut Calls, apartment: u32) -> Result<(), Memory>
     calls.reserve(apartment)
 }
 
-/// Whether an Out comes with what it issues.
+// Whether an Out comes with what it issues.
 pub(crate) fn has_issued(deed: &Deed, issued: &Option<Sent>) -> bool
     ensures { IsTrue result ↔ HasIssued deed.now issued.now }
 {
@@ -60,7 +60,7 @@ pub(crate) fn has_issued(deed: &Deed, issued: &Option<Sent>) -> bool
     }
 }
 
-/// A copy of the value of a Leave. The only error is want of memory.
+// A copy of the value of a Leave. The only error is want of memory.
 pub(crate) fn left_value(deed: &Deed) -> Result<Option<Value>, Memory>
     ensures { IfOk result (λ value. value ≡ left_in deed.now) }
 {
@@ -73,7 +73,7 @@ pub(crate) fn left_value(deed: &Deed) -> Result<Option<Value>, Memory>
     }
 }
 
-/// The calls after an entry.
+// The calls after an entry.
 pub(crate) fn change_calls(calls: &mut Calls, lane: u32, deed: &Deed, calling: Calling)
     requires place { HasPlace deed.now calling.apartment calls.old }
     requires has { HasIssued deed.now calling.issued }

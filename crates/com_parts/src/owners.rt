@@ -9,8 +9,8 @@ use com_model::Deed;
 use com_objects::Objects;
 use std::alloc::Global;
 
-/// The apartment of each object, from 0, where an entry ends a single-threaded apartment; else none. The only
-/// error is want of memory.
+// The apartment of each object, from 0, where an entry ends a single-threaded apartment; else none. The only
+// error is want of memory.
 pub(crate) fn owners_for(alloc: Global, objects: &Objects, deed: &Deed) -> Result<Vec<u32>, Memory>
     ensures { IfOk result (λ owners.
         NamesOwners (named_at objects.now.tables) (ends_sta deed.now) owners.items) }

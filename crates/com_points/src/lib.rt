@@ -51,7 +51,7 @@ pub fn read_points(alloc: Global, text: &[u8]) -> Result<Scenario, ScenarioError
     }
 }
 
-/// A fault of the written text, where it stands in the text itself.
+// A fault of the written text, where it stands in the text itself.
 fn in_text(
     alloc: Global,
     text: &[u8],

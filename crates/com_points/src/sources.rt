@@ -40,7 +40,7 @@ pub fn source_interface(scenario: &Scenario, class: u32) -> Option<u16>
     None
 }
 
-/// Whether a class whose one interface is this one looks as a source.
+// Whether a class whose one interface is this one looks as a source.
 fn looks_as_source(
     classes: &Classes,
     class: u32,
@@ -59,7 +59,7 @@ fn looks_as_source(
         && has_fire(classes, class, iface)
 }
 
-/// The objects of a source live in an STA.
+// The objects of a source live in an STA.
 fn is_sta_model(model: ThreadingModel) -> bool
     ensures { IsTrue result ↔ IsStaModel model }
 {
@@ -89,7 +89,7 @@ fn only_interface(interfaces: &[u16]) -> Option<u16>
     }
 }
 
-/// Whether an interface has the IID and the methods of a source's.
+// Whether an interface has the IID and the methods of a source's.
 fn is_point(interface: &Interface) -> bool
     ensures { IsTrue result ↔ IsPoint interface.now }
 {
@@ -146,7 +146,7 @@ fn is_one_kind(kinds: &[Kind], kind: Kind) -> bool
     }
 }
 
-/// Whether all bodies are those of the interface's first three methods.
+// Whether all bodies are those of the interface's first three methods.
 fn are_own_bodies(bodies: &[MethodBody], iface: u16) -> bool
     ensures { result ≡ are_own_bodies iface bodies.now }
 {

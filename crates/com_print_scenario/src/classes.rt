@@ -16,7 +16,7 @@ use com_print::statements::{method_name, write_statement};
 use com_print::words::push_end;
 use com_read_statements::Names;
 
-/// Appends statements, each in its line, and the line that ends them.
+// Appends statements, each in its line, and the line that ends them.
 #[tactic(auto, using(crate::proofs::Pieces::statement_first, crate::proofs::Pieces::statements_fit))]
 pub(crate) fn push_program(
     out: &mut ByteList,
@@ -34,7 +34,7 @@ pub(crate) fn push_program(
     out.push_all(b"end\n")
 }
 
-/// Appends the line that opens a method's body.
+// Appends the line that opens a method's body.
 fn push_body_head(out: &mut ByteList, names: &Names, body: &MethodBody) -> Result<(), Memory>
     ensures { OnOk result (out.new ≡ out.old ++ line_text (body_words names.now body.now)) }
 {
@@ -45,7 +45,7 @@ fn push_body_head(out: &mut ByteList, names: &Names, body: &MethodBody) -> Resul
     push_end(out)
 }
 
-/// Appends bodies, and the line that ends their class.
+// Appends bodies, and the line that ends their class.
 #[tactic(auto, using(crate::proofs::Pieces::body_first, crate::proofs::Pieces::bodies_fit))]
 fn push_bodies(out: &mut ByteList, names: &Names, bodies: &[MethodBody]) -> Result<(), Memory>
     ensures ok { OnOk result (out.new ≡ out.old ++ text_of (bodies_lines names.now bodies.now)) }
@@ -73,7 +73,7 @@ fn push_model(out: &mut ByteList, model: ThreadingModel) -> Result<(), Memory>
     }
 }
 
-/// Appends the name, the CLSID and the model of a class.
+// Appends the name, the CLSID and the model of a class.
 fn push_class_head(out: &mut ByteList, keyword: &[u8], class: &Class) -> Result<(), Memory>
     ensures ok { OnOk result (out.new ≡ out.old ++ words_text (class_head keyword.now class.now [])) }
     ensures fits { OnOk result (IsGuid class.now.clsid) }
@@ -96,7 +96,7 @@ fn push_listed(out: &mut ByteList, names: &Names, interfaces: &[u16]) -> Result<
     Ok(())
 }
 
-/// Appends a class's first line.
+// Appends a class's first line.
 fn push_class_line(out: &mut ByteList, names: &Names, class: &Class) -> Result<(), Memory>
     ensures ok { OnOk result (out.new ≡ out.old
         ++ line_text (class_head (codes "class") class.now
@@ -108,7 +108,7 @@ fn push_class_line(out: &mut ByteList, names: &Names, class: &Class) -> Result<(
     push_end(out)
 }
 
-/// Appends a native's line.
+// Appends a native's line.
 fn push_native(out: &mut ByteList, class: &Class, kind: &[u8]) -> Result<(), Memory>
     ensures ok { OnOk result (out.new ≡ out.old
         ++ line_text (class_head (codes "native") class.now (plain kind.now ∷ []))) }
@@ -119,7 +119,7 @@ fn push_native(out: &mut ByteList, class: &Class, kind: &[u8]) -> Result<(), Mem
     push_end(out)
 }
 
-/// Appends a class with its bodies.
+// Appends a class with its bodies.
 fn push_bodied(out: &mut ByteList, names: &Names, class: &Class) -> Result<(), Memory>
     ensures ok { OnOk result (out.new ≡ out.old ++ text_of (class_lines names.now class.now natives.Bodies)) }
     ensures fits { OnOk result (FitsClass class.now) }
@@ -128,7 +128,7 @@ fn push_bodied(out: &mut ByteList, names: &Names, class: &Class) -> Result<(), M
     push_bodies(out, names, class.bodies.as_slice())
 }
 
-/// Appends a class or a native. A native has no bodies of its own.
+// Appends a class or a native. A native has no bodies of its own.
 fn push_class(out: &mut ByteList, names: &Names, class: &Class) -> Result<(), Memory>
     ensures ok { OnOk result (out.new ≡ out.old
         ++ text_of (class_lines names.now class.now class.now.native)) }
@@ -142,7 +142,7 @@ fn push_class(out: &mut ByteList, names: &Names, class: &Class) -> Result<(), Me
     }
 }
 
-/// Appends the classes and natives, in the order of their declaration.
+// Appends the classes and natives, in the order of their declaration.
 #[tactic(auto, using(crate::proofs::Pieces::class_first, crate::proofs::Pieces::classes_done, crate::proofs::Pieces::classes_fit, crate::proofs::Pieces::classes_fit_all, crate::proofs::Lists::class_there))]
 pub(crate) fn push_classes(
     out: &mut ByteList,

@@ -113,7 +113,7 @@ fn push_rule_words(out: &mut ByteList, rule: &Rule) -> Result<(), Memory>
     }
 }
 
-/// Appends a rule's line.
+// Appends a rule's line.
 fn push_rule(out: &mut ByteList, rule: &Rule) -> Result<(), Memory>
     ensures { OnOk result (out.new ≡ out.old ++ line_text (rule_words rule.now)) }
 {
@@ -121,7 +121,7 @@ fn push_rule(out: &mut ByteList, rule: &Rule) -> Result<(), Memory>
     push_end(out)
 }
 
-/// Appends rules, and the line that ends them.
+// Appends rules, and the line that ends them.
 #[tactic(auto, using(crate::proofs::Pieces::rule_first))]
 fn push_rules(out: &mut ByteList, rules: &[Rule]) -> Result<(), Memory>
     ensures { OnOk result (out.new ≡ out.old ++ text_of (rules_lines rules.now)) }
@@ -143,7 +143,7 @@ fn push_filter_head(out: &mut ByteList, number: usize) -> Result<(), Memory>
     push_end(out)
 }
 
-/// Appends filters, named `F1`, `F2` and on.
+// Appends filters, named `F1`, `F2` and on.
 #[tactic(auto, using(crate::proofs::Pieces::filter_first, crate::proofs::Pieces::filters_all))]
 pub(crate) fn push_filters(out: &mut ByteList, filters: &[Filter]) -> Result<(), Memory>
     ensures { OnOk result (out.new ≡ out.old ++ text_of (filters_lines 1 filters.now)) }
@@ -155,7 +155,7 @@ pub(crate) fn push_filters(out: &mut ByteList, filters: &[Filter]) -> Result<(),
     Ok(())
 }
 
-/// Appends the threads' scripts.
+// Appends the threads' scripts.
 #[tactic(auto, using(crate::proofs::Pieces::thread_first, crate::proofs::Pieces::threads_fit))]
 pub(crate) fn push_threads(
     out: &mut ByteList,
@@ -186,7 +186,7 @@ fn push_numbers(out: &mut ByteList, numbers: &[u32]) -> Result<(), Memory>
     Ok(())
 }
 
-/// Appends all picks in one line, and nothing where there are none.
+// Appends all picks in one line, and nothing where there are none.
 #[tactic(auto, using(crate::proofs::Pieces::picks_behind))]
 pub(crate) fn push_picks(out: &mut ByteList, picks: &[u32]) -> Result<(), Memory>
     ensures { OnOk result (out.new ≡ out.old ++ text_of (picks_lines picks.now)) }

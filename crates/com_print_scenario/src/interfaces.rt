@@ -12,7 +12,7 @@ use com_classes::{Interface, Method};
 use com_print::operands::{push_guid, push_name, push_word};
 use com_print::words::push_end;
 
-/// Appends a type: a word of the language, or an interface's name.
+// Appends a type: a word of the language, or an interface's name.
 fn push_kind(out: &mut ByteList, names: &[ByteList], kind: Kind) -> Result<(), Memory>
     ensures { OnOk result (out.new ≡ out.old ++ more_text (kind_word names.now kind ∷ [])) }
 {
@@ -50,7 +50,7 @@ fn push_result(out: &mut ByteList, names: &[ByteList], kind: Option<Kind>) -> Re
     }
 }
 
-/// Appends the word that opens a line, and a name.
+// Appends the word that opens a line, and a name.
 fn push_named(out: &mut ByteList, keyword: &[u8], name: &[u8]) -> Result<(), Memory>
     ensures { OnOk result (out.new ≡ out.old ++ words_text (plain keyword.now ∷ plain name.now ∷ [])) }
 {
@@ -58,7 +58,7 @@ fn push_named(out: &mut ByteList, keyword: &[u8], name: &[u8]) -> Result<(), Mem
     push_word(out, name)
 }
 
-/// Appends a method's line.
+// Appends a method's line.
 fn push_method(out: &mut ByteList, names: &[ByteList], method: &Method) -> Result<(), Memory>
     ensures { OnOk result (out.new ≡ out.old ++ line_text (method_words names.now method.now)) }
 {
@@ -89,7 +89,7 @@ fn push_interface_head(out: &mut ByteList, interface: &Interface) -> Result<(), 
     push_end(out)
 }
 
-/// Appends an interface's line and those of its methods.
+// Appends an interface's line and those of its methods.
 fn push_interface(
     out: &mut ByteList,
     names: &[ByteList],
@@ -104,7 +104,7 @@ fn push_interface(
     push_methods(out, names, interface.methods.as_slice())
 }
 
-/// Appends interfaces, each with its methods.
+// Appends interfaces, each with its methods.
 #[tactic(auto, using(crate::proofs::Pieces::interface_first, crate::proofs::Pieces::interfaces_fit))]
 pub(crate) fn push_interfaces(
     out: &mut ByteList,

@@ -47,7 +47,7 @@ fn copy_interface(alloc: Global, interface: &Interface) -> Result<Interface, Mem
     })
 }
 
-/// The interfaces, the built-in ones first.
+// The interfaces, the built-in ones first.
 #[tactic(auto, using(crate::proofs::Lists::interface_more, crate::proofs::Lists::interface_there, crate::proofs::Lists::interfaces_end))]
 fn tables(alloc: Global, classes: &Classes) -> Result<Rows<Interface>, Memory>
     requires { length classes.now.interfaces ≤ 64 }
@@ -86,7 +86,7 @@ fn class_names(alloc: Global, classes: &Classes) -> Result<Rows<ByteList>, Memor
     Ok(Rows::from_vec(names))
 }
 
-/// `F` and a number.
+// `F` and a number.
 fn filter_name(alloc: Global, number: usize) -> Result<ByteList, Memory>
     ensures { IfOk result (λ name. name ≡ filter_name number) }
 {
@@ -108,7 +108,7 @@ fn filter_names(alloc: Global, filters: &[Filter]) -> Result<Rows<ByteList>, Mem
     Ok(Rows::from_vec(names))
 }
 
-/// The names of a scenario. It keeps no filters' names, so these are `F1`, `F2` and on.
+// The names of a scenario. It keeps no filters' names, so these are `F1`, `F2` and on.
 pub(crate) fn names_of(alloc: Global, scenario: &Scenario) -> Result<Names, Memory>
     requires interfaces { length scenario.now.classes.interfaces ≤ 64 }
     requires classes { length scenario.now.classes.classes ≤ 64 }

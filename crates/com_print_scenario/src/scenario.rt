@@ -17,7 +17,7 @@ use com_print::operands::push_decimal;
 use com_print::words::push_end;
 use std::alloc::Global;
 
-/// The interfaces beside the built-in ones.
+// The interfaces beside the built-in ones.
 fn own(interfaces: &[Interface]) -> &[Interface]
     requires { 4 ≤ length interfaces.now }
     ensures { result.now ≡ drop 4 interfaces.now }

@@ -124,7 +124,7 @@ pub fn native(model: ThreadingModel, line: &[Word], index: usize) -> Result<Nati
     }
 }
 
-/// The number of the interface that a native class has.
+// The number of the interface that a native class has.
 fn native_interface(native: Native) -> u16
     ensures { result ≡ native_interface native }
 {
@@ -159,7 +159,7 @@ pub fn interface_list(
     listed_words(alloc, names, line)
 }
 
-/// One more interface of a class that has `count` already.
+// One more interface of a class that has `count` already.
 #[tactic(auto, unfolding(crate::specs::Declaring::listed_item))]
 fn listed_item(
     names: &[ByteList],
@@ -192,7 +192,7 @@ fn listed_words(
     Ok(Rows::from_vec(listed))
 }
 
-/// One number of a line of picks.
+// One number of a line of picks.
 #[tactic(auto, unfolding(crate::specs::Declaring::pick_at))]
 fn pick(line: &[Word], index: usize) -> Result<u32, ScenarioError>
     ensures { Gives (λ n. n) result (pick_at line.now index) }

@@ -14,7 +14,7 @@ pub const FIRST: Fault = Fault {
     column: 1,
 };
 
-/// The version that the header's second word names.
+// The version that the header's second word names.
 fn version_of(bytes: &[u8]) -> Option<u8>
     ensures { result ≡ version_of bytes.now }
 {

@@ -29,7 +29,7 @@ pub struct TypeWord {
     pub last: bool,
 }
 
-/// The kind that a word of the language names.
+// The kind that a word of the language names.
 pub(crate) fn type_word_of(bytes: &[u8]) -> Option<Kind>
     ensures { result ≡ type_word_of bytes.now }
 {
@@ -48,7 +48,7 @@ pub(crate) fn type_word_of(bytes: &[u8]) -> Option<Kind>
     }
 }
 
-/// A type: a word of the language, or an interface's name.
+// A type: a word of the language, or an interface's name.
 #[tactic(auto, unfolding(crate::specs::Methods::type_at))]
 fn kind(interfaces: &[ByteList], line: &[Word], index: usize) -> Result<Kind, ScenarioError>
     ensures { Gives (λ k. k) result (type_at interfaces.now line.now index) }
@@ -60,7 +60,7 @@ fn kind(interfaces: &[ByteList], line: &[Word], index: usize) -> Result<Kind, Sc
     }
 }
 
-/// A type of a method that has `count` parameters already: the next one's, or behind `->` the result's.
+// A type of a method that has `count` parameters already: the next one's, or behind `->` the result's.
 #[tactic(auto, unfolding(crate::specs::Methods::item_at))]
 fn item(
     interfaces: &[ByteList],
@@ -85,7 +85,7 @@ fn item(
     Ok(TypeWord { kind, last: false })
 }
 
-/// The types of a method's parameters, and behind `->` that of its result.
+// The types of a method's parameters, and behind `->` that of its result.
 #[tactic(auto, using(crate::proofs::Lines::signature_more))]
 fn signature_of(
     alloc: Global,

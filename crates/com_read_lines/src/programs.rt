@@ -11,7 +11,7 @@ use com_read_statements::{Keyword, LocalWord, Names, Program, keyword_of, statem
 use com_text::Word;
 use std::alloc::Global;
 
-/// The index of a skip's number in its line.
+// The index of a skip's number in its line.
 fn number_index(keyword: Keyword) -> usize
     ensures { result ≡ number_index keyword }
 {
@@ -22,7 +22,7 @@ fn number_index(keyword: Keyword) -> usize
     }
 }
 
-/// The fault that a statement is where its skip passes the end: at the skip's number.
+// The fault that a statement is where its skip passes the end: at the skip's number.
 fn spot(keyword: Keyword, line: &[Word]) -> Fault
     ensures { result ≡ spot_at keyword line.now }
 {

@@ -35,7 +35,7 @@ pub fn rule_word_of(bytes: &[u8]) -> Option<RuleWord>
     }
 }
 
-/// A call type: `1`, `2`, `4`, or `*` for any.
+// A call type: `1`, `2`, `4`, or `*` for any.
 #[tactic(auto, unfolding(crate::specs::Rules::call_type_at))]
 fn call_type(line: &[Word], index: usize) -> Result<Option<u8>, ScenarioError>
     ensures { Gives (λ t. t) result (call_type_at line.now index) }
@@ -54,7 +54,7 @@ fn call_type(line: &[Word], index: usize) -> Result<Option<u8>, ScenarioError>
     }
 }
 
-/// The answer to an incoming call.
+// The answer to an incoming call.
 #[tactic(auto, unfolding(crate::specs::Rules::verdict_at))]
 fn verdict(line: &[Word], index: usize) -> Result<Verdict, ScenarioError>
     ensures { Gives (λ v. v) result (verdict_at line.now index) }
@@ -71,7 +71,7 @@ fn verdict(line: &[Word], index: usize) -> Result<Verdict, ScenarioError>
     }
 }
 
-/// The verdict that a caller got, or `*` for either.
+// The verdict that a caller got, or `*` for either.
 #[tactic(auto, unfolding(crate::specs::Rules::refusal_at))]
 fn refusal(line: &[Word], index: usize) -> Result<Option<Verdict>, ScenarioError>
     ensures { Gives (λ v. v) result (refusal_at line.now index) }
@@ -88,7 +88,7 @@ fn refusal(line: &[Word], index: usize) -> Result<Option<Verdict>, ScenarioError
     }
 }
 
-/// The answer to a retry: -1 to 2,147,483,647.
+// The answer to a retry: -1 to 2,147,483,647.
 #[tactic(auto, unfolding(crate::specs::Rules::answer_at))]
 fn answer(line: &[Word], index: usize) -> Result<i64, ScenarioError>
     ensures { Gives (λ n. n) result (answer_at line.now index) }
@@ -100,7 +100,7 @@ fn answer(line: &[Word], index: usize) -> Result<i64, ScenarioError>
     }
 }
 
-/// The answer to a waiting caller: `cancel` 0, `wait` 1, `discard` 2.
+// The answer to a waiting caller: `cancel` 0, `wait` 1, `discard` 2.
 #[tactic(auto, unfolding(crate::specs::Rules::kept_at))]
 fn pending_answer(line: &[Word], index: usize) -> Result<u8, ScenarioError>
     ensures { Gives (λ n. n) result (kept_at line.now index) }

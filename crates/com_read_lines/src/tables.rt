@@ -14,7 +14,7 @@ fn same_guid(left: &Guid, right: &Guid) -> bool
         && left.data4.as_slice() == right.data4.as_slice()
 }
 
-/// Whether a GUID is among those that are declared.
+// Whether a GUID is among those that are declared.
 pub(crate) fn has_guid(guids: &[Guid], guid: &Guid) -> bool
     ensures { result ≡ has_guid guids.now guid.now }
 {

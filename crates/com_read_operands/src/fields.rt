@@ -19,7 +19,7 @@ pub fn fault(number: u8, word: &Word) -> ScenarioError
     }
 }
 
-/// A byte outside the characters.
+// A byte outside the characters.
 fn character(word: &Word, column: u32) -> ScenarioError
     ensures { result ≡ error_of (record { number = 2; line = word.now.line; column = column }) }
 {
@@ -30,7 +30,7 @@ fn character(word: &Word, column: u32) -> ScenarioError
     }
 }
 
-/// The line ends where a word is needed: behind the word before.
+// The line ends where a word is needed: behind the word before.
 fn missing(line: &[Word], index: usize) -> ScenarioError
     ensures { result ≡ error_of (missing_at (slice_get line.now (index - 1))) }
 {

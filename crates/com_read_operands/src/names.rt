@@ -12,7 +12,7 @@ use com_base::ByteList;
 use com_body::Asked;
 use com_text::Word;
 
-/// A letter, digit or `_`.
+// A letter, digit or `_`.
 fn is_tail(byte: u8) -> bool
     ensures { result ≡ is_tail byte }
 {

@@ -3,7 +3,7 @@
 ghost use Rattle.std.specs.Prelude.{◌≡◌};
 ghost use Rattle.com_read_operands.specs.Numbers.{number_of, negative, signed_of};
 
-/// 2^63.
+// 2^63.
 const HALF: u64 = 0x8000_0000_0000_0000;
 
 /// The number of 64 bits that decimal digits spell. Leading zeros are taken, a sign is not.
@@ -26,7 +26,7 @@ pub fn number_of(bytes: &[u8]) -> Option<u64>
     Some(number)
 }
 
-/// A number with a `-` before it.
+// A number with a `-` before it.
 fn negative(number: u64) -> Option<i64>
     ensures { result ≡ negative number }
 {

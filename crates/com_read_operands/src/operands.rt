@@ -48,7 +48,7 @@ pub enum Operand {
     Wrong(u8),
 }
 
-/// A number below 100 in one or two digits, without a needless zero.
+// A number below 100 in one or two digits, without a needless zero.
 #[tactic(auto, unfolding(crate::specs::Operands::small_of))]
 fn small_of(bytes: &[u8]) -> Option<u8>
     ensures { result ≡ small_of bytes.now }
@@ -62,7 +62,7 @@ fn small_of(bytes: &[u8]) -> Option<u8>
     }
 }
 
-/// A register, slot, cell, link or buffer by its letter and number.
+// A register, slot, cell, link or buffer by its letter and number.
 #[tactic(auto, unfolding(crate::specs::Operands::lettered))]
 fn operand_by(letter: u8, number: Option<u8>) -> Operand
     ensures value { result ≡ lettered letter number }
@@ -88,7 +88,7 @@ fn operand_by(letter: u8, number: Option<u8>) -> Operand
     }
 }
 
-/// A word that begins as a number does.
+// A word that begins as a number does.
 #[tactic(auto, unfolding(crate::specs::Operands::numeric_of))]
 fn numeric_of(bytes: &[u8]) -> Operand
     ensures value { result ≡ numeric_of bytes.now }
@@ -100,7 +100,7 @@ fn numeric_of(bytes: &[u8]) -> Operand
     }
 }
 
-/// A word that is no literal in quotation marks.
+// A word that is no literal in quotation marks.
 #[tactic(auto, unfolding(crate::specs::Operands::plain_of))]
 fn plain_of(bytes: &[u8]) -> Operand
     ensures value { result ≡ plain_of bytes.now }
@@ -132,7 +132,7 @@ fn plain_of(bytes: &[u8]) -> Operand
     }
 }
 
-/// What stands between the marks of a bytes literal.
+// What stands between the marks of a bytes literal.
 fn inner(bytes: &[u8]) -> &[u8]
     ensures { result.now ≡ inner bytes.now }
 {
@@ -243,7 +243,7 @@ pub fn place(links: bool, line: &[Word], at: usize) -> Result<Place, ScenarioErr
     }
 }
 
-/// A text literal's value: at most 256 bytes, or fault 12.
+// A text literal's value: at most 256 bytes, or fault 12.
 #[tactic(auto, unfolding(crate::specs::Operands::text_literal))]
 fn text_literal(alloc: Global, word: &Word) -> Result<Value, ScenarioError>
     ensures { Gives (λ v. v) result (text_literal word.now) }
@@ -256,7 +256,7 @@ fn text_literal(alloc: Global, word: &Word) -> Result<Value, ScenarioError>
     Ok(Value::Text(ByteList::from_slice(alloc, text)?))
 }
 
-/// A bytes literal's value: at most 256 bytes, or fault 12.
+// A bytes literal's value: at most 256 bytes, or fault 12.
 #[tactic(auto, unfolding(crate::specs::Operands::bytes_literal))]
 fn bytes_literal(alloc: Global, word: &Word) -> Result<Value, ScenarioError>
     ensures { Gives (λ v. v) result (bytes_literal word.now) }
@@ -300,7 +300,7 @@ pub fn op(alloc: Global, line: &[Word], index: usize) -> Result<Op, ScenarioErro
     literal(alloc, word, operand_of(word))
 }
 
-/// The number that eight hexadecimal digits behind `0x` spell.
+// The number that eight hexadecimal digits behind `0x` spell.
 #[tactic(auto, unfolding(crate::specs::Operands::hex_word_of))]
 fn hex_word_of(bytes: &[u8]) -> Option<u32>
     ensures { result ≡ hex_word_of bytes.now }
@@ -311,7 +311,7 @@ fn hex_word_of(bytes: &[u8]) -> Option<u32>
     }
 }
 
-/// The number of 32 bits that hexadecimal digits spell.
+// The number of 32 bits that hexadecimal digits spell.
 fn eight_of(digits: &[u8]) -> Option<u32>
     ensures { result ≡ hex_on (Some 0) digits.now }
 {
@@ -323,7 +323,7 @@ fn eight_of(digits: &[u8]) -> Option<u32>
     Some(number)
 }
 
-/// The value of a hexadecimal digit of either case.
+// The value of a hexadecimal digit of either case.
 fn hex_digit(byte: u8) -> Option<u32>
     ensures value { result ≡ hex_digit_value byte }
     ensures small { IfSome result (λ n. n < 16) }
@@ -347,7 +347,7 @@ pub fn hresult_of(bytes: &[u8]) -> Option<HResult>
     }
 }
 
-/// Whether a word begins with `0x`.
+// Whether a word begins with `0x`.
 fn begins_hex(bytes: &[u8]) -> bool
     ensures { result ≡ begins_hex bytes.now }
 {

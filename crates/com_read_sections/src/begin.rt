@@ -61,7 +61,7 @@ fn section_word_of(bytes: &[u8]) -> Option<SectionWord>
     }
 }
 
-/// Declares a name with its GUID, and gives the name once more.
+// Declares a name with its GUID, and gives the name once more.
 fn declare(
     alloc: Global,
     names: &mut Rows<ByteList>,
@@ -222,7 +222,7 @@ fn picks_line(alloc: Global, st: &mut State, line: &[Word]) -> Result<(), Scenar
     Ok(())
 }
 
-/// A line outside of sections.
+// A line outside of sections.
 #[tactic(auto, unfolding(crate::specs::Beginning::top_line))]
 pub(crate) fn top_line(alloc: Global, st: &mut State, line: &[Word]) -> Result<(), ScenarioError>
     ensures { Gives (λ u. st.new) result (top_line st.old line.now) }

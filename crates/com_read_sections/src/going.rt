@@ -16,7 +16,7 @@ use com_read_statements::{Names, Program};
 use com_text::Word;
 use std::alloc::Global;
 
-/// A `method` line.
+// A `method` line.
 #[tactic(auto, unfolding(crate::specs::Opened::method_line))]
 fn method_line(
     alloc: Global,
@@ -35,7 +35,7 @@ fn method_line(
     Ok(())
 }
 
-/// One more method of an interface. Answers whether the line is one.
+// One more method of an interface. Answers whether the line is one.
 #[tactic(auto, unfolding(crate::specs::Going::more_methods))]
 fn more_methods(
     alloc: Global,
@@ -54,7 +54,7 @@ fn more_methods(
     Ok(true)
 }
 
-/// One more statement of a body or a script. Answers whether the line is one: only `end` is none.
+// One more statement of a body or a script. Answers whether the line is one: only `end` is none.
 #[tactic(auto, unfolding(crate::specs::Going::more_statements))]
 fn more_statements(
     alloc: Global,
@@ -75,7 +75,7 @@ fn more_statements(
     Ok(true)
 }
 
-/// A line of a filter that does not end it.
+// A line of a filter that does not end it.
 fn rule_line(rules: &mut Rows<Rule>, word: &Word, line: &[Word]) -> Result<(), ScenarioError>
     ensures { Gives (λ u. rules.new) result
         (ruled rules.old word.now line.now (rule_word_of word.now.bytes)) }
@@ -93,7 +93,7 @@ fn rule_line(rules: &mut Rows<Rule>, word: &Word, line: &[Word]) -> Result<(), S
     }
 }
 
-/// One more rule of a filter. Answers whether the line is one: only `end` is none.
+// One more rule of a filter. Answers whether the line is one: only `end` is none.
 #[tactic(auto, unfolding(crate::specs::Going::more_rules))]
 fn more_rules(rules: &mut Rows<Rule>, line: &[Word]) -> Result<bool, ScenarioError>
     ensures { Gives (λ more. (rules.new, more)) result (more_rules rules.old line.now) }
@@ -106,7 +106,7 @@ fn more_rules(rules: &mut Rows<Rule>, line: &[Word]) -> Result<bool, ScenarioErr
     Ok(true)
 }
 
-/// What a body of a class is.
+// What a body of a class is.
 fn program_of(model: ThreadingModel) -> Program
     ensures { result ≡ program_of model }
 {
@@ -116,8 +116,8 @@ fn program_of(model: ThreadingModel) -> Program
     }
 }
 
-/// Goes on with the section that is open, where the line is one more method, statement or rule of it, and
-/// answers whether it is.
+// Goes on with the section that is open, where the line is one more method, statement or rule of it, and
+// answers whether it is.
 pub(crate) fn goes_on(
     alloc: Global,
     names: &Names,

@@ -22,7 +22,7 @@ use com_text::Word;
 use std::alloc::{AllocError, Global};
 use std::mem;
 
-/// Closes an interface.
+// Closes an interface.
 pub(crate) fn close_interface(st: &mut State, interface: Interface) -> Result<(), AllocError>
     ensures { OnOk result (st.new ≡ interface_closed st.old interface) }
 {
@@ -31,7 +31,7 @@ pub(crate) fn close_interface(st: &mut State, interface: Interface) -> Result<()
     Ok(())
 }
 
-/// Whether a class has a body for a method.
+// Whether a class has a body for a method.
 fn has_body(bodies: &[MethodBody], head: MethodNumber) -> bool
     ensures { result ≡ has_body bodies.now head }
 {
@@ -43,7 +43,7 @@ fn has_body(bodies: &[MethodBody], head: MethodNumber) -> bool
     false
 }
 
-/// A `body` line.
+// A `body` line.
 #[tactic(auto, unfolding(crate::specs::Opened::body_head))]
 fn body_head(
     alloc: Global,
@@ -66,7 +66,7 @@ fn body_head(
     Ok(())
 }
 
-/// The line that ends a class.
+// The line that ends a class.
 fn class_ended(st: &mut State, class: Class, line: &[Word]) -> Result<(), ScenarioError>
     ensures { Gives (λ u. st.new) result (class_ended st.old class line.now) }
 {
@@ -76,7 +76,7 @@ fn class_ended(st: &mut State, class: Class, line: &[Word]) -> Result<(), Scenar
     Ok(())
 }
 
-/// A line of a class between its bodies.
+// A line of a class between its bodies.
 #[tactic(auto, unfolding(crate::specs::Opened::inner_class))]
 fn inner_class(
     alloc: Global,
@@ -96,7 +96,7 @@ fn inner_class(
     Err(fault(Fault::UNEXPECTED, word))
 }
 
-/// The line that ends a body.
+// The line that ends a body.
 fn body_ended(
     st: &mut State,
     mut class: Class,
@@ -117,7 +117,7 @@ fn body_ended(
     Ok(())
 }
 
-/// The line that ends a script.
+// The line that ends a script.
 fn thread_ended(st: &mut State, code: Code, line: &[Word]) -> Result<(), ScenarioError>
     ensures { Gives (λ u. st.new) result (thread_ended st.old code line.now) }
 {
@@ -128,7 +128,7 @@ fn thread_ended(st: &mut State, code: Code, line: &[Word]) -> Result<(), Scenari
     Ok(())
 }
 
-/// The line that ends a filter.
+// The line that ends a filter.
 fn filter_ended(st: &mut State, rules: Rows<Rule>, line: &[Word]) -> Result<(), ScenarioError>
     ensures { Gives (λ u. st.new) result (filter_ended st.old rules line.now) }
 {
@@ -138,7 +138,7 @@ fn filter_ended(st: &mut State, rules: Rows<Rule>, line: &[Word]) -> Result<(), 
     Ok(())
 }
 
-/// The first line behind an interface.
+// The first line behind an interface.
 fn behind_interface(
     alloc: Global,
     st: &mut State,
@@ -151,8 +151,8 @@ fn behind_interface(
     top_line(alloc, st, line)
 }
 
-/// A line that opens or ends a section, or stands outside of sections. What was open is moved only here, so
-/// that a statement's line moves nothing.
+// A line that opens or ends a section, or stands outside of sections. What was open is moved only here, so
+// that a statement's line moves nothing.
 #[inline(never)]
 fn turns(alloc: Global, st: &mut State, line: &[Word]) -> Result<(), ScenarioError>
     ensures { Gives (λ u. st.new) result (turns (outside st.old) line.now st.old.section) }
@@ -168,7 +168,7 @@ fn turns(alloc: Global, st: &mut State, line: &[Word]) -> Result<(), ScenarioErr
     }
 }
 
-/// A line with words.
+// A line with words.
 #[tactic(auto, unfolding(crate::specs::Going::lined))]
 fn take_line(alloc: Global, st: &mut State, line: &[Word]) -> Result<(), ScenarioError>
     ensures { Gives (λ u. st.new) result (lined st.old line.now) }

@@ -61,7 +61,7 @@ pub fn finish(mut st: State, line: u32, column: u32) -> Result<Outline, Scenario
     }
 }
 
-/// What was read, outside of sections.
+// What was read, outside of sections.
 fn outline_outside(st: State) -> Outline
     ensures { result ≡ outlined st }
 {
@@ -94,7 +94,7 @@ fn outline_outside(st: State) -> Outline
     }
 }
 
-/// The names of interfaces.
+// The names of interfaces.
 fn names_of(alloc: Global, tables: &[Interface]) -> Result<Rows<ByteList>, AllocError>
     ensures { IfOk result (λ r. r ≡ names_of tables.now) }
 {
@@ -105,7 +105,7 @@ fn names_of(alloc: Global, tables: &[Interface]) -> Result<Rows<ByteList>, Alloc
     Ok(Rows::from_vec(names))
 }
 
-/// The IIDs of interfaces.
+// The IIDs of interfaces.
 fn iids_of(alloc: Global, tables: &[Interface]) -> Result<Vec<Guid>, AllocError>
     ensures { IfOk result (λ v. v.items ≡ iids_of tables.now) }
 {
@@ -116,8 +116,8 @@ fn iids_of(alloc: Global, tables: &[Interface]) -> Result<Vec<Guid>, AllocError>
     Ok(iids)
 }
 
-/// The IIDs that no text may declare: those of the built-in interfaces, and those of three documented
-/// interfaces of the runtime.
+// The IIDs that no text may declare: those of the built-in interfaces, and those of three documented
+// interfaces of the runtime.
 fn taken_iids(alloc: Global, tables: &[Interface]) -> Result<Rows<Guid>, AllocError>
     ensures { IfOk result (λ r. r ≡ taken_iids tables.now) }
 {

@@ -17,8 +17,8 @@ use com_read_operands::{
 use com_text::Word;
 use std::alloc::Global;
 
-/// The bytes of `raw`, in pairs of hexadecimal digits: other words are fault 3, and more than 4,096
-/// bytes are fault 12.
+// The bytes of `raw`, in pairs of hexadecimal digits: other words are fault 3, and more than 4,096
+// bytes are fault 12.
 #[tactic(auto, unfolding(crate::specs::Statements::raw_at))]
 fn raw_bytes(alloc: Global, line: &[Word], index: usize) -> Result<ByteList, ScenarioError>
     ensures { Gives (λ b. b) result (raw_at line.now index) }
@@ -36,7 +36,7 @@ fn raw_bytes(alloc: Global, line: &[Word], index: usize) -> Result<ByteList, Sce
     }
 }
 
-/// The action on references or packets that a line spells behind its keyword.
+// The action on references or packets that a line spells behind its keyword.
 #[tactic(auto, unfolding(crate::specs::Statements::object_of))]
 pub(crate) fn object(
     alloc: Global,

@@ -38,7 +38,7 @@ pub enum Target {
     Numbered(MethodNumber),
 }
 
-/// The index of the first dot.
+// The index of the first dot.
 fn dot_of(bytes: &[u8]) -> Option<usize>
     ensures value { result ≡ dot_of bytes.now }
     ensures within { IfSome result (λ n. n < length bytes.now) }
@@ -51,7 +51,7 @@ fn dot_of(bytes: &[u8]) -> Option<usize>
     None
 }
 
-/// The number of the method that an interface's table has by a name.
+// The number of the method that an interface's table has by a name.
 fn method_number(tables: &[Interface], iface: u16, name: &[u8]) -> Option<u16>
     ensures { result ≡ method_number tables.now iface name.now }
 {
@@ -81,7 +81,7 @@ pub fn target_at(names: &Names, line: &[Word], index: usize) -> Result<Target, S
     Ok(Target::Named(method_by_name(names, word, front, back)?))
 }
 
-/// A method by its name.
+// A method by its name.
 #[tactic(auto, unfolding(crate::specs::Calls::named_of))]
 fn method_by_name(
     names: &Names,
@@ -120,7 +120,7 @@ pub fn method_at(names: &Names, line: &[Word], index: usize) -> Result<MethodNum
     method_by_name(names, word, front, &word.bytes[dot + 1..])
 }
 
-/// A method by its number.
+// A method by its number.
 #[tactic(auto, unfolding(crate::specs::Calls::numbered_of))]
 fn method_by_number(
     names: &Names,
@@ -179,7 +179,7 @@ pub fn arguments(alloc: Global, params: &[Kind], line: &[Word]) -> Result<Rows<A
     Ok(Rows::from_vec(arguments))
 }
 
-/// A call's result at a destination's word.
+// A call's result at a destination's word.
 #[tactic(auto, unfolding(crate::specs::Calls::landing_of))]
 fn landing(kind: Option<Kind>, word: &Word, operand: Operand) -> Result<Destination, ScenarioError>
     requires { IsOperand operand }
@@ -224,7 +224,7 @@ pub fn destination(
     Ok(destination)
 }
 
-/// The call of a method by name, with its arguments and destination.
+// The call of a method by name, with its arguments and destination.
 #[tactic(auto, unfolding(crate::specs::Calls::call_of))]
 fn call_of(
     alloc: Global,
@@ -249,7 +249,7 @@ fn call_of(
     })
 }
 
-/// The method with a number, where the interface's table has it.
+// The method with a number, where the interface's table has it.
 fn signature(tables: &[Interface], number: MethodNumber) -> Option<&Method>
     ensures { option_copied result ≡ method_of tables.now number.iface number.method }
 {

@@ -15,7 +15,7 @@ use com_read_operands::{
 use com_text::Word;
 use std::alloc::Global;
 
-/// A filter's number from 1, or `none`.
+// A filter's number from 1, or `none`.
 #[tactic(auto, unfolding(crate::specs::Statements::filter_at))]
 fn filter(filters: &[ByteList], line: &[Word], index: usize) -> Result<Option<u32>, ScenarioError>
     ensures { Gives (λ f. f) result (filter_at filters.now line.now index) }
@@ -28,7 +28,7 @@ fn filter(filters: &[ByteList], line: &[Word], index: usize) -> Result<Option<u3
     Ok(Some(u32::from(number) + 1))
 }
 
-/// The action on cookies, lanes or apartments that a line spells behind its keyword.
+// The action on cookies, lanes or apartments that a line spells behind its keyword.
 #[tactic(auto, unfolding(crate::specs::Statements::lane_of))]
 pub(crate) fn lane(
     alloc: Global,

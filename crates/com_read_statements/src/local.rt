@@ -11,7 +11,7 @@ use com_read_operands::{ScenarioError, cell, end, number, op, register, slot};
 use com_text::Word;
 use std::alloc::Global;
 
-/// The local statement that a line spells behind its keyword.
+// The local statement that a line spells behind its keyword.
 #[tactic(auto, unfolding(crate::specs::Statements::local_of))]
 pub(crate) fn local(
     alloc: Global,

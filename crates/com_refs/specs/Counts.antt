@@ -36,7 +36,7 @@ pub record IsCounted (t : Tables) (holds : List ℕ) : Type 0 where
   pub as_many : length holds ≡ length t.objects
   pub small : (x : ℕ) → hold_of holds x ≤ t.issued
 
--- The same but for one object, which may have no holder any more.
+-- Holders are counted for all objects but one, which may have no holder any more.
 pub record IsCountedBut (t : Tables) (holds : List ℕ) (o : ℕ) : Type 0 where
   pub counted : (x : ℕ) → (books_of t).live x ≡ true → hold_of holds x ≡ outside_of t x
   pub others : (x : ℕ) → (x ≡ o → ⊥) → (books_of t).live x ≡ true → 0 < direct_in t x + outside_of t x

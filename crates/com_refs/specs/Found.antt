@@ -32,7 +32,7 @@ fields_by a iid k n = record {
   ipid = record { data1 = k.object; data2 = k.iface; data3 = a % 2 ^ 16; data4 = to_le_bytes w64 n };
 }
 
--- The same of the packet of a number.
+-- The fields of the packet of a number.
 abbrev pub fields_in : Tables → Guid → ℕ → StdFields
 fields_in t iid n =
     fields_by (object_in t.objects (packet (books_of t) n).object).owner iid (packet (books_of t) n) n

@@ -381,7 +381,7 @@ impl Refs {
         Ok(())
     }
 
-    // The same, where there is room.
+    // Books the object as made, where there is room for its row.
     fn hold_made(
         &mut self,
         object: u32,
@@ -933,7 +933,7 @@ impl Refs {
         self.numbers_of_connected(object, direct)
     }
 
-    // The same for a connected object: what proxies and normal packets leave of the stub's count is that of
+    // The numbers of a connected object: what proxies and normal packets leave of the stub's count is that of
     // the tables.
     fn numbers_of_connected(&self, object: u32, direct: u64) -> Numbers
         requires connected { is_connected self.now.stubs object ≡ true }

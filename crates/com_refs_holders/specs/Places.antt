@@ -51,7 +51,7 @@ pub record OneLess (t u : Tables) (a o : ℕ) (owned : Bool) : Type 0 where
   pub elsewhere : (c x : ℕ) → places_in u c x + count_if (not owned && (c == a && x == o)) ≡ places_in t c x
   pub all_elsewhere : (x : ℕ) → locals_of x u.proxies + count_if (not owned && x == o) ≡ locals_of x t.proxies
 
--- The same places.
+-- As many places as before.
 pub record SamePlaces (t u : Tables) : Type 0 where
   pub made : length u.objects ≡ length t.objects
   pub owns : (x c : ℕ) → owns_of u.objects x c ≡ owns_of t.objects x c

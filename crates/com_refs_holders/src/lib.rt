@@ -1331,7 +1331,7 @@ impl Holders {
         }
     }
 
-    // The same in an apartment that owns the object.
+    // Unmarshals the packet in an apartment that owns the object.
     fn unmarshal_here(&mut self, apartment: u32, number: u32, packet: Packet)
         requires outstanding { outstanding_in (is_connected self.old.stubs) self.old.packets number
             ≡ Some packet }
@@ -1354,7 +1354,7 @@ impl Holders {
         self.keep_direct(packet.object);
     }
 
-    // The same in an apartment that does not own the object.
+    // Unmarshals the packet in an apartment that does not own the object. The only error is want of memory.
     fn unmarshal_elsewhere(
         &mut self,
         apartment: u32,

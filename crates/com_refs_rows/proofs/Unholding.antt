@@ -38,7 +38,7 @@ more-same t u e o = let same : holders_of u o ≡ holders_of t o = ap (λ (v : T
 pub touches-same : (t u : Tables) (xs : List ℕ) → u ≡ t → Touches t u xs xs
 touches-same t u xs e = touches-more t u xs (more-same t u e)
 
--- The same places, and the same books.
+-- Where places and books stay, holders stay.
 more-kept : (t u : Tables) → SamePlaces t u → books_of u ≡ books_of t → HoldsMore t u
 more-kept t u same books x =
     let outside : held_outside (books_of u) x ≡ held_outside (books_of t) x = ap (λ (b : Books). held_outside b x) books in

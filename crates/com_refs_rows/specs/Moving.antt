@@ -31,7 +31,7 @@ AllOffered t ms = (k : ℕ) → k < length ms
     → offers t (slice_index_or ms k no_move).reference.object (slice_index_or ms k no_move).reference.iface
     ≡ true
 
--- The same of references without places.
+-- Each reference without a place is of an interface in its object's set.
 abbrev pub AllKnown : Tables → List RefValue → Type 0
 AllKnown t rs = (k : ℕ) → k < length rs
     → offers t (slice_index_or rs k no_move.reference).object (slice_index_or rs k no_move.reference).iface

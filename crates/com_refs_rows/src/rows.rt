@@ -166,7 +166,8 @@ pub fn unmarshal(refs: &mut Refs, brought: &mut Vec<Move>, apartment: u32, numbe
     }
 }
 
-/// The same, where one more reference may be given.
+/// Unmarshals the packet in the apartment and notes the reference that it brings, where one more reference may
+/// be given.
 pub fn read(
     refs: &mut Refs,
     brought: &mut Vec<Move>,

@@ -34,7 +34,7 @@ fn put(touched: &mut Vec<u32>, place: usize, object: u32)
     }
 }
 
-/// The same, where there is one.
+/// Notes the object as touched, where there is one.
 pub fn touch_if(touched: &mut Vec<u32>, object: Option<u32>)
     requires room { vec_len touched.old < vec_capacity touched.old }
     ensures members { (x : ℕ)
@@ -49,7 +49,7 @@ pub fn touch_if(touched: &mut Vec<u32>, object: Option<u32>)
     }
 }
 
-/// The same, where it did.
+/// Notes the object as touched, where its reference was lost.
 pub fn touch_where(touched: &mut Vec<u32>, is_lost: bool, object: u32)
     requires room { vec_len touched.old < vec_capacity touched.old }
     ensures members { (x : ℕ)

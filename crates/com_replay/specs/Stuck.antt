@@ -24,7 +24,7 @@ is_stuck standing.Runs = false
 is_stuck standing.Ticks = false
 is_stuck standing.Finished = false
 
--- The same words of a history's entries as they are for the history, but that no tactic unfolds them.
+-- Whether a history's entries are stuck, and why, in words that no tactic unfolds.
 unfoldable pub is_stuck_by : Scenario → List Entry → Bool
 is_stuck_by s entries = stuck s (told entries)
 

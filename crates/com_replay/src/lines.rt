@@ -32,7 +32,7 @@ impl From<AllocError> for ReplayError {
     }
 }
 
-/// Lines are written together once they have this many bytes.
+// Lines are written together once they have this many bytes.
 const PIECE: usize = 32_768;
 
 /// Adds the line of an entry to those that are kept, and writes them once they are many.
@@ -60,7 +60,7 @@ pub fn show<K: Sink>(
     send(kept, sink)
 }
 
-/// Writes what is kept.
+// Writes what is kept.
 fn send<K: Sink>(kept: &mut ByteList, sink: &mut K) -> Result<(), ReplayError>
     ensures ok { OnOk result (Gains (K.held sink.old) (K.held sink.new) kept.old) }
     ensures empty { OnOk result (kept.new ≡ []) }

@@ -66,7 +66,7 @@ pub fn keep<K: Sink>(
     keep_by(alloc, &**scenario, &mut core, servants, sink)
 }
 
-// The same of the history that a runtime makes which has made no entry.
+// Plays and writes the history of a runtime that has made no entry, and keeps it.
 fn keep_by<C: Runtime, K: Sink>(
     alloc: Global,
     scenario: &Scenario,

@@ -37,7 +37,7 @@ pub fn line(
     }
 }
 
-/// Writes an entry's line.
+// Writes an entry's line.
 fn entry_line(text: &mut Text, version: u8, place: u64, entry: &Entry) -> Result<(), Memory>
     requires { text.old.text ≡ [] }
     ensures front { text.new.front ≡ text.old.front }

@@ -36,7 +36,7 @@ pub fn report(
     }
 }
 
-/// Writes a report.
+// Writes a report.
 fn whole_report(
     text: &mut Text,
     counts: &[Counts],
@@ -56,7 +56,7 @@ fn whole_report(
     text.push(b"\n")
 }
 
-/// Appends the lines of objects, which are numbered from 1.
+// Appends the lines of objects, which are numbered from 1.
 #[tactic(auto, using(crate::proofs::Parts::objects_in_two))]
 fn objects(text: &mut Text, counts: &[Counts]) -> Result<(), Memory>
     ensures front { text.new.front ≡ text.old.front }
@@ -72,7 +72,7 @@ fn objects(text: &mut Text, counts: &[Counts]) -> Result<(), Memory>
     Ok(())
 }
 
-/// Appends the line of an object.
+// Appends the line of an object.
 fn object(text: &mut Text, number: u64, counts: &Counts) -> Result<(), Memory>
     ensures front { text.new.front ≡ text.old.front }
     ensures ok { OnOk result (text.new.text ≡ text.old.text ++ object_line number counts.now) }

@@ -20,7 +20,7 @@ pub fn values(text: &mut Text, values: &[Value]) -> Result<(), Memory>
     }
 }
 
-/// Appends values with a comma before each.
+// Appends values with a comma before each.
 #[tactic(auto, using(crate::proofs::Parts::pieces_in_two))]
 fn later_values(text: &mut Text, values: &[Value]) -> Result<(), Memory>
     ensures front { text.new.front ≡ text.old.front }
@@ -46,7 +46,7 @@ pub fn one_value(text: &mut Text, given: &Option<Value>) -> Result<(), Memory>
     }
 }
 
-/// Appends a value.
+// Appends a value.
 fn value(text: &mut Text, value: &Value) -> Result<(), Memory>
     ensures front { text.new.front ≡ text.old.front }
     ensures ok { OnOk result (text.new.text ≡ text.old.text ++ value_text value.now) }

@@ -130,7 +130,7 @@ impl Text {
         Ok(())
     }
 
-    /// Appends at most 64 bytes in lower-case hexadecimal digits.
+    // Appends at most 64 bytes in lower-case hexadecimal digits.
     fn hexadecimal_piece(&mut self, piece: &[u8]) -> Result<(), Memory>
         requires { length piece.now ≤ 64 }
         ensures front { self.new.front ≡ self.old.front }
@@ -209,16 +209,16 @@ impl Text {
     }
 }
 
-/// Two numbers of at most 20 digits, and the word of two bytes between them.
+// Two numbers of at most 20 digits, and the word of two bytes between them.
 const FRONT: usize = 42;
 
-/// How many bytes are turned into digits at a time.
+// How many bytes are turned into digits at a time.
 const PIECE: usize = 64;
 
-/// How many digits they have.
+// How many digits they have.
 const DIGITS: usize = 128;
 
-/// Writes the word before a lane's number.
+// Writes the word before a lane's number.
 fn lane_word(bytes: &mut [u8], at: usize)
     requires { at + 2 ≤ length bytes.old }
     ensures { drop at bytes.new ≡ 32 ∷ 76 ∷ drop (at + 2) bytes.old }

@@ -60,7 +60,7 @@ fn silent_deed<B: Found>(
     }
 }
 
-// The same, with nothing that goes with it.
+// The deed of an action, with nothing that goes with it.
 fn silent_doing<B: Found>(
     view: &View<'_>,
     books: &B,

@@ -19,7 +19,7 @@ pub struct Chosen {
     pub tried: usize,
 }
 
-/// Whether a number of the picks is that of a lane that can step.
+// Whether a number of the picks is that of a lane that can step.
 #[tactic(auto, using(crate::proofs::Choices::too_low, crate::proofs::Choices::too_high, crate::proofs::Choices::is_pick))]
 fn can_pick<C: Runtime>(runtime: &C, lane: u32) -> bool
     requires { Reached (C.scenario runtime.now) (C.state runtime.now) }
@@ -35,7 +35,7 @@ fn can_pick<C: Runtime>(runtime: &C, lane: u32) -> bool
     runtime.can_step(lane)
 }
 
-/// The first pick that can step, from the one at `from` on. Each is tried once.
+// The first pick that can step, from the one at `from` on. Each is tried once.
 #[tactic(auto, using(crate::proofs::Choices::pick_on, crate::proofs::Choices::pick_here, crate::proofs::Choices::pick_none))]
 fn pick<C: Runtime>(runtime: &C, picks: &[u32], from: usize) -> Option<Chosen>
     requires { Reached (C.scenario runtime.now) (C.state runtime.now) }
@@ -61,7 +61,7 @@ fn pick<C: Runtime>(runtime: &C, picks: &[u32], from: usize) -> Option<Chosen>
     None
 }
 
-/// The first lane that can step, of as many as `count` behind the lane `last`.
+// The first lane that can step, of as many as `count` behind the lane `last`.
 #[tactic(auto, using(crate::proofs::Choices::scan_start, crate::proofs::Choices::scan_on, crate::proofs::Choices::scan_here, crate::proofs::Choices::scan_none))]
 fn scan<C: Runtime>(runtime: &C, last: u32, count: u32, most: u32) -> Option<u32>
     requires most { most ≡ lanes (C.scenario runtime.now) }
@@ -80,7 +80,7 @@ fn scan<C: Runtime>(runtime: &C, last: u32, count: u32, most: u32) -> Option<u32
     None
 }
 
-/// The first lane that can step, from the one behind the lane `last` on, and then from 1 on.
+// The first lane that can step, from the one behind the lane `last` on, and then from 1 on.
 #[tactic(auto, using(crate::proofs::Choices::round_some, crate::proofs::Choices::round_rest))]
 fn in_round<C: Runtime>(runtime: &C, last: u32) -> Option<u32>
     requires reached { Reached (C.scenario runtime.now) (C.state runtime.now) }
@@ -135,7 +135,7 @@ pub fn stand<C: Runtime>(runtime: &C, chosen: Option<Chosen>) -> Standing
     }
 }
 
-/// The end of a history that is neither finished nor stuck, if it has ended.
+// The end of a history that is neither finished nor stuck, if it has ended.
 fn budget<C: Runtime>(scenario: &Scenario, runtime: &C) -> Option<Ended>
     requires { C.scenario runtime.now ≡ scenario.now }
     ensures { result ≡ budget_of scenario.now (C.state runtime.now) }

@@ -12,7 +12,7 @@ use com_read_operands::ScenarioError;
 use com_read_sections::{Outline, outline_of};
 use std::alloc::{AllocError, Global};
 
-/// The interfaces that a text declares itself.
+// The interfaces that a text declares itself.
 fn declared_interfaces(mut interfaces: Vec<Interface>) -> Result<Vec<Interface>, Memory>
     ensures { IfOk result (λ v. v.items ≡ drop 4 interfaces.items) }
 {
@@ -20,7 +20,7 @@ fn declared_interfaces(mut interfaces: Vec<Interface>) -> Result<Vec<Interface>,
     interfaces.split_off(from)
 }
 
-/// Adds an interface. One whose IID is there, and one too many, are refused where they are declared.
+// Adds an interface. One whose IID is there, and one too many, are refused where they are declared.
 fn add_interface(classes: &mut Classes, interface: Interface) -> Result<(), Memory>
     ensures { OnOk result (classes.new
         ≡ record classes.old { interfaces = classes.old.interfaces ++ interface ∷ [] }) }
@@ -31,7 +31,7 @@ fn add_interface(classes: &mut Classes, interface: Interface) -> Result<(), Memo
     }
 }
 
-/// Adds a class. One whose CLSID is there, and one too many, are refused where they are declared.
+// Adds a class. One whose CLSID is there, and one too many, are refused where they are declared.
 fn add_class(classes: &mut Classes, class: Class) -> Result<(), Memory>
     ensures { OnOk result (classes.new ≡ record classes.old { classes = classes.old.classes ++ class ∷ [] }) }
 {
@@ -41,7 +41,7 @@ fn add_class(classes: &mut Classes, class: Class) -> Result<(), Memory>
     }
 }
 
-/// The tables of an outline's interfaces and classes.
+// The tables of an outline's interfaces and classes.
 fn tables(alloc: Global, interfaces: Rows<Interface>, list: Rows<Class>) -> Result<Classes, Memory>
     ensures { IfOk result (λ t. t ≡ tables_of interfaces list) }
 {

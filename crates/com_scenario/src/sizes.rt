@@ -36,7 +36,7 @@ pub struct SecondVersion {
     pub ends: bool,
 }
 
-/// Whether the first line with words is `scenario 2`.
+// Whether the first line with words is `scenario 2`.
 fn begins_version_2(alloc: Global, text: &[u8]) -> Result<bool, Memory>
     requires { length text.now < 2 ^ 32 - 2 }
     ensures { IfOk result (λ answer. answer ≡ begins_version_2 (lines_of text.now)) }
@@ -70,7 +70,7 @@ pub fn second_version(alloc: Global, text: &[u8]) -> Result<Option<SecondVersion
     }
 }
 
-/// Where a line's first words are `scenario` and `2`. None for a line without words.
+// Where a line's first words are `scenario` and `2`. None for a line without words.
 fn says_version_2(line: &[Word]) -> Option<Option<SecondVersion>>
     ensures { result ≡ says_version_2 line.now }
 {
@@ -88,7 +88,7 @@ fn says_version_2(line: &[Word]) -> Option<Option<SecondVersion>>
     }
 }
 
-/// Where the first word is `2`.
+// Where the first word is `2`.
 fn second_word(line: &[Word]) -> Option<SecondVersion>
     ensures { result ≡ second_word line.now }
 {

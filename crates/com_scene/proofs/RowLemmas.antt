@@ -80,7 +80,7 @@ abbrev pub tables_of : List FrameView → List CallRow → List Cells → List (
 tables_of scripts rows cells buffers =
     record { scripts = scripts; bodies = map body_of rows; cells = cells; buffers = buffers; destinations = map destination_of rows }
 
--- The same on all tables.
+-- A body that changes is a row that is set, on all tables.
 pub row_changed : (g : FrameView → FrameView) (scripts : List FrameView) (rows : List CallRow) (cells : List Cells) (buffers : List (List ℕ)) (c : ℕ) (r d : CallRow) →
     c < length rows → body_of r ≡ g (body_of (slice_index_or rows c d)) → destination_of r ≡ destination_of (slice_index_or rows c d) →
     tables_of scripts (slice_set rows c r) cells buffers

@@ -22,7 +22,7 @@ WritesInRange (action.Register to held) = to < 16
 WritesInRange (action.Get slot g) = slot < 8
 WritesInRange _ = Unit {0}
 
--- The same of one write: the register, slot or link that it fills. Of a buffer nothing is asked.
+-- One write is in range: the register, slot or link that it fills. Of a buffer nothing is asked.
 abbrev pub IsInRange : Writing → Type 0
 IsInRange (ToRegister r v) = r < 16
 IsInRange (ToSlot k held) = k < 8
@@ -35,7 +35,7 @@ abbrev pub IsInterface : Asked → Type 0
 IsInterface (asked.Number i) = i < 2 ^ 16
 IsInterface (asked.Guid g) = Unit {0}
 
--- The same of the interface of an entry that names an object. Of an entry that names none nothing is asked.
+-- An entry that names an object has an interface that fits. Of an entry that names none nothing is asked.
 abbrev pub HasInterface : Option ℕ → Asked → Type 0
 HasInterface None i = Unit {0}
 HasInterface (Some o) i = IsInterface i

@@ -62,7 +62,7 @@ HasFrame own (Some f) = Unit {0}
 abbrev pub HasSeat : List Bool → (call : ℕ) → (spare : Option FrameView) → Type 0
 HasSeat seats c spare = HasFrame (slice_index_or seats c false) spare
 
--- The same for whoever acts, where it is a body.
+-- There is a frame for whoever acts, where it is a body.
 abbrev pub HasSeatFor : List Bool → Acting → (spare : Option FrameView) → Type 0
 HasSeatFor seats (Body c o) spare = HasSeat seats c spare
 HasSeatFor seats _ spare = Unit {0}

@@ -59,7 +59,7 @@ impl Tables {
         })
     }
 
-    /// The frame of a body, where it has one of its own.
+    // The frame of a body, where it has one of its own.
     fn body(&self, call: u32) -> Option<&Frame>
         ensures { MatchOption result (body_at (seen self.now) call ≡ entered [])
             (λ frame. frame.now ≡ body_at (seen self.now) call) }
@@ -73,7 +73,7 @@ impl Tables {
         }
     }
 
-    /// The frame of a script, where there is one.
+    // The frame of a script, where there is one.
     fn script(&self, lane: u32) -> Option<&Frame>
         requires { IsKept (seen self.now) }
         ensures frame { MatchOption result (script_at (seen self.now) lane ≡ entered [])

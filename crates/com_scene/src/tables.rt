@@ -112,7 +112,7 @@ impl CallRow {
         self.frame.is_some()
     }
 
-    /// Gives the body of the call a spare frame, where it has none of its own.
+    // Gives the body of the call a spare frame, where it has none of its own.
     fn sit(&mut self, spare: &mut Option<Seat>)
         ensures frame { self.new.frame ≡ own_or self.old.frame spare.old }
         ensures destination { self.new.destination ≡ self.old.destination }
@@ -122,7 +122,7 @@ impl CallRow {
         }
     }
 
-    /// Gives the body of the call another frame, and takes the one that it had, or the spare one.
+    // Gives the body of the call another frame, and takes the one that it had, or the spare one.
     fn place(&mut self, frame: &mut Frame, spare: &mut Option<Seat>)
         requires seat { IsSome (own_or self.old.frame spare.old) }
         ensures frame { self.new.frame ≡ Some frame.old }
@@ -136,7 +136,7 @@ impl CallRow {
         seat.swap(frame);
     }
 
-    /// The body of the call ends, and has no frame.
+    // The body of the call ends, and has no frame.
     fn leave(&mut self)
         ensures frame { seat_of self.new.frame ≡ entered [] }
         ensures destination { self.new.destination ≡ self.old.destination }
@@ -144,7 +144,7 @@ impl CallRow {
         self.frame = None;
     }
 
-    /// The body of the call begins with the frame that was taken for it.
+    // The body of the call begins with the frame that was taken for it.
     fn enter(&mut self, body: &mut Option<Seat>)
         ensures frame { self.new.frame ≡ body.old }
         ensures destination { self.new.destination ≡ self.old.destination }

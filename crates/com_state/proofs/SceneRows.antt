@@ -58,7 +58,7 @@ set-past [] k x h = refl
 set-past (y ∷ xs) zero x h = absurd (omega (arith, h))
 set-past (y ∷ xs) (suc k) x h = ap (λ (zs : List _). y ∷ zs) (set-past xs k x (omega (arith, h)))
 
--- The same where the new row is made of the old one.
+-- A row that is set, where the new row is made of the old one.
 pub changed-row : {X : Type 0} (n k : ℕ) (g : X → X) (f : ℕ → X) (d : X) → slice_set (tabulated n f) k (g (slice_index_or (tabulated n f) k d)) ≡ tabulated n (put k (g (f k)) f)
 changed-row n k g f d = by-size (nat_lt k n) refl ∙ sym (put-tabulated n k (g (f k)) f)
   where

@@ -90,7 +90,7 @@ pub struct LineEnd {
     pub last: bool,
 }
 
-/// What the scanner stands in behind a byte that ends no line.
+// What the scanner stands in behind a byte that ends no line.
 fn turn(within: Within, class: Class, bytes: &[u8]) -> Within
     ensures { result ≡ turn within class bytes.now }
 {
@@ -124,7 +124,7 @@ fn turn(within: Within, class: Class, bytes: &[u8]) -> Within
     }
 }
 
-/// The column of the first byte outside the characters, as far as this byte.
+// The column of the first byte outside the characters, as far as this byte.
 fn stray_after(stray: Option<u32>, class: Class, column: u32) -> Option<u32>
     ensures { result ≡ strayed stray class column }
 {
@@ -137,7 +137,7 @@ fn stray_after(stray: Option<u32>, class: Class, column: u32) -> Option<u32>
     }
 }
 
-/// The scanner behind a byte that ends no line.
+// The scanner behind a byte that ends no line.
 fn after(s: &Scanner, text: &[u8], at: usize, class: Class) -> Scanner
     requires at { at < length text.now }
     requires column { s.now.column < 2 ^ 32 - 1 }
@@ -170,7 +170,7 @@ fn after(s: &Scanner, text: &[u8], at: usize, class: Class) -> Scanner
     }
 }
 
-/// A word's kind, by whether it has a byte outside the characters.
+// A word's kind, by whether it has a byte outside the characters.
 fn kind_of(stray: Option<u32>, kind: Kind) -> Kind
     ensures { result ≡ kind_of stray kind }
 {
@@ -180,7 +180,7 @@ fn kind_of(stray: Option<u32>, kind: Kind) -> Kind
     }
 }
 
-/// The word of a kind from where the scanner's began up to an index.
+// The word of a kind from where the scanner's began up to an index.
 fn word_to<'a>(text: &'a [u8], s: &Scanner, end: usize, kind: Kind) -> Word<'a>
     requires size { length text.now < 2 ^ 32 - 2 }
     requires from { s.now.from ≤ end }
@@ -197,7 +197,7 @@ fn word_to<'a>(text: &'a [u8], s: &Scanner, end: usize, kind: Kind) -> Word<'a>
     }
 }
 
-/// The word that ends at a line's end or at the text's.
+// The word that ends at a line's end or at the text's.
 fn close<'a>(
     s: &Scanner,
     text: &'a [u8],
@@ -223,7 +223,7 @@ fn close<'a>(
     Ok(())
 }
 
-/// The words that end at a byte that ends no line.
+// The words that end at a byte that ends no line.
 fn give<'a>(
     s: &Scanner,
     text: &'a [u8],

@@ -3,7 +3,7 @@ use std::alloc::Global;
 use std::mem::size_of;
 use std::test::*;
 
-/// How many tokens a text has, or the fault's position behind 1000.
+// How many tokens a text has, or the fault's position behind 1000.
 fn count(alloc: Global, text: &[u8]) -> usize {
     match tokens(alloc, text) {
         Ok(list) => list.len(),

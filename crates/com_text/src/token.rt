@@ -66,7 +66,7 @@ impl<T: Drop> From<AllocFailed<T>> for TextError {
 /// A text has fewer bytes than this, so that its lines and columns are numbers of 32 bits.
 pub const TEXT_LIMIT: usize = 0xffff_0000;
 
-/// A word's sort as a token's.
+// A word's sort as a token's.
 fn token_sort(kind: Kind) -> TokenSort
     ensures { (column : ℕ) → (bytes : List ℕ) → result ≡ token_sort (sort_of kind column bytes) }
 {
@@ -78,7 +78,7 @@ fn token_sort(kind: Kind) -> TokenSort
     }
 }
 
-/// A word's token.
+// A word's token.
 fn token_of(word: &Word) -> Token
     ensures { result ≡ token_of word.now }
 {
@@ -90,7 +90,7 @@ fn token_of(word: &Word) -> Token
     }
 }
 
-/// Appends the tokens of a line's words.
+// Appends the tokens of a line's words.
 fn push_words(words: &[Word], tokens: &mut Vec<Token>) -> Result<(), AllocError>
     ensures { OnOk result (tokens.new.items ≡ tokens.old.items ++ map token_of words.now) }
 {
@@ -100,7 +100,7 @@ fn push_words(words: &[Word], tokens: &mut Vec<Token>) -> Result<(), AllocError>
     Ok(())
 }
 
-/// Appends a line end's token.
+// Appends a line end's token.
 fn push_end(end: &LineEnd, tokens: &mut Vec<Token>) -> Result<(), AllocError>
     requires { end.now.at < 2 ^ 32 }
     ensures { OnOk result (tokens.new.items ≡ tokens.old.items ++ end_token end.now.at ∷ []) }

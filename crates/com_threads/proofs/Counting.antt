@@ -66,7 +66,7 @@ one_more rows h commits e t less = record { one_each = length-set commits e.lane
     all : sum (set commits e.lane (get_or commits e.lane 0 + 1)) ≡ length (h ++ e ∷ [])
     all = let s = sum_by-set (λ (x : ℕ). x) commits e.lane (get_or commits e.lane 0 + 1) 0 there in let n = length-append h (e ∷ []) in let a = t.all in omega arith
 
--- The same where the row's number was read first.
+-- A commit is counted, where the row's number was read first.
 pub one_written : (h new : List Entry) (commits : List ℕ) (e : Entry) (v : ℕ) → Tallies (length commits) h commits → e.lane < length commits → new ≡ h ++ e ∷ [] → v ≡ get_or commits e.lane v
     → Tallies (length (set commits e.lane (v + 1))) new (set commits e.lane (v + 1))
 one_written h new commits e v t less is value =

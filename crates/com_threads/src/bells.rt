@@ -144,7 +144,7 @@ impl Bells {
         }
     }
 
-    // The same for all workers.
+    // Has every lane's worker look again, if it waits.
     pub(crate) fn ring_all(&self) {
         for lane in 0..BELLS as u32 {
             self.ring(lane);

@@ -1,4 +1,4 @@
-//! The same runtime on real threads: one worker for each lane makes the entries of its lane, on one core and
+//! The runtime on real threads: one worker for each lane makes the entries of its lane, on one core and
 //! one history behind a ticket lock.
 #![tactic(auto)]
 

@@ -33,7 +33,7 @@ unfolding explanation
 explained_is s entries x w text f r explains written =
     written ∙ ap text_of (explains f r.lawful r.ended_is) ∙ ap (λ (h : List Entry). text_of (explanation_of s h)) r.history
 
--- The same of a scenario that is looked at, and of entries that are looked at.
+-- What is explained, of a scenario and of entries that are looked at.
 pub explained_at : (s seen : Scenario) (entries slice : List Entry) (x : Ended) (w : Option Waits) (text : List ℕ)
     → seen ≡ s → slice ≡ entries → Formed s → IsRecorded s entries x → Explains seen slice x w → text ≡ text_of w → text ≡ explanation s
 explained_at s seen entries slice x w text is_seen is_slice f r explains written =

@@ -163,8 +163,8 @@ impl<'a> View<'a> {
         self.uninit_deed(lane)
     }
 
-    /// Whether a lane lets a posted call in. An STA's lane does while it pumps or waits for a posted call,
-    /// the host's also with nothing open; a lane of the pool only with nothing open.
+    // Whether a lane lets a posted call in. An STA's lane does while it pumps or waits for a posted call,
+    // the host's also with nothing open; a lane of the pool only with nothing open.
     fn is_open_to_calls(&self, lane: u32, sort: Sort) -> bool
         ensures { result ≡ is_open_to_calls (bare self.now) (sort_as sort) (top (bare self.now) lane) }
     {

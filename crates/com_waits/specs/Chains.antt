@@ -54,7 +54,7 @@ entered next zero chain l = []
 entered next (suc n) chain l =
     if is_member l chain then from_lane l chain else goes_on (entered next n) (chain ++ l ∷ []) (next l)
 
--- The same cycle, beginning with its least lane.
+-- The cycle turned so that it begins at its least lane.
 abbrev pub from_least_of : List ℕ → Option ℕ → List ℕ
 from_least_of xs None = []
 from_least_of xs (Some m) = from_lane m xs ++ before_lane m xs

@@ -85,7 +85,7 @@ fn from_lane(alloc: Global, lanes: &[u32], lane: u32) -> Result<Vec<u32>, Memory
     Ok(Vec::new(alloc))
 }
 
-// The same list. The only error is want of memory.
+// A copy of the lanes. The only error is want of memory.
 fn copy_of(alloc: Global, lanes: &[u32]) -> Result<Vec<u32>, Memory>
     ensures { IfOk result (λ copy. copy.items ≡ lanes.now) }
 {
@@ -153,7 +153,7 @@ fn least_of(lanes: &[u32]) -> Option<u32>
     least
 }
 
-// The same cycle, beginning with its least lane. The only error is want of memory.
+// The cycle turned so that it begins at its least lane. The only error is want of memory.
 fn from_least(alloc: Global, cycle: &[u32]) -> Result<Vec<u32>, Memory>
     ensures { IfOk result (λ turned. turned.items ≡ from_least cycle.now) }
 {

@@ -20,7 +20,7 @@ pub enum ObjRef<'a> {
         security: u16,
         strings: &'a [u8],
     },
-    /// The same with the class of a handler that the client makes.
+    /// A reference by standard marshalling, and the class of a handler that the client makes.
     Handler {
         fields: StdFields,
         flags: u32,

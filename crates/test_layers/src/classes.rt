@@ -8,7 +8,7 @@ use com_classes::{
 use std::alloc::Global;
 use std::test::*;
 
-/// The GUIDs of the built-in interfaces, by their first field.
+// The GUIDs of the built-in interfaces, by their first field.
 fn guid(data1: u32) -> Guid {
     Guid {
         data1,
@@ -18,7 +18,7 @@ fn guid(data1: u32) -> Guid {
     }
 }
 
-/// A class of one interface.
+// A class of one interface.
 fn class(
     alloc: Global,
     data1: u32,

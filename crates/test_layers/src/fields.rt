@@ -9,7 +9,7 @@ use com_text::{Word, line_at};
 use std::alloc::Global;
 use std::test::*;
 
-/// The words of one line.
+// The words of one line.
 fn words(alloc: Global, text: &[u8]) -> Result<Vec<Word<'_>>, Fail> {
     let mut words = Vec::new(alloc);
     if text.len() < 1000 {

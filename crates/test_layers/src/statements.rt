@@ -20,7 +20,7 @@ fn list_of(alloc: Global, names: &[&[u8]]) -> Result<Rows<ByteList>, Fail> {
     Ok(Rows::from_vec(list))
 }
 
-/// The interfaces IUnknown and ICounter, the class Counter and the filter Patient.
+// The interfaces IUnknown and ICounter, the class Counter and the filter Patient.
 fn names(alloc: Global) -> Result<Names, Fail> {
     let unknown = Interface {
         name: bytes(alloc, b"IUnknown")?,

@@ -51,9 +51,9 @@ fn keep(alloc: Global, texts: &mut Vec<ByteList>, text: &[u8]) -> Result<(), Mem
     Ok(())
 }
 
-/// The text after each step of the stream of a scenario's history, on a runtime that has made no entry: the
-/// lines of the entries that the steps answered. The history ends within twenty steps, and the stream then
-/// has written its own lines and the report.
+// The text after each step of the stream of a scenario's history, on a runtime that has made no entry: the
+// lines of the entries that the steps answered. The history ends within twenty steps, and the stream then
+// has written its own lines and the report.
 fn texts_by_steps<C: Runtime>(
     alloc: Global,
     scenario: &Scenario,

@@ -21,11 +21,11 @@ use com_read_operands::{
 use com_text::Word;
 use std::alloc::Global;
 
-/// The greatest number of a member.
+// The greatest number of a member.
 const MEMBER_LIMIT: u64 = 0x7fff_ffff;
 
-/// A member: a text literal, or a decimal number from 0 to 2,147,483,647. A number that is out of range or
-/// has a sign is fault 6, and another operand is fault 10.
+// A member: a text literal, or a decimal number from 0 to 2,147,483,647. A number that is out of range or
+// has a sign is fault 6, and another operand is fault 10.
 #[tactic(auto, unfolding(crate::specs::Invoking::member_at))]
 fn member(alloc: Global, line: &[Word], index: usize) -> Result<Member, ScenarioError>
     ensures { Gives (λ m. m) result (member_at line.now index) }
@@ -41,7 +41,7 @@ fn member(alloc: Global, line: &[Word], index: usize) -> Result<Member, Scenario
     }
 }
 
-/// A member's name at a text literal.
+// A member's name at a text literal.
 fn name(alloc: Global, word: &Word) -> Result<Member, ScenarioError>
     ensures { Gives (λ m. m) result (as_member word.now operands.Text) }
 {
@@ -51,7 +51,7 @@ fn name(alloc: Global, word: &Word) -> Result<Member, ScenarioError>
     }
 }
 
-/// An argument: a slot, `null` or a literal. Another operand, as a register, is fault 10.
+// An argument: a slot, `null` or a literal. Another operand, as a register, is fault 10.
 fn argument(alloc: Global, word: &Word, operand: Operand) -> Result<DispArg, ScenarioError>
     requires { IsOperand operand }
     ensures value { Gives (λ a. a) result (as_given word.now operand) }
@@ -67,7 +67,7 @@ fn argument(alloc: Global, word: &Word, operand: Operand) -> Result<DispArg, Sce
     }
 }
 
-/// What stands at an index where the line may end: an argument, or none at `->`.
+// What stands at an index where the line may end: an argument, or none at `->`.
 #[tactic(auto, unfolding(crate::specs::Invoking::item_at))]
 fn item(alloc: Global, line: &[Word], index: usize) -> Result<Option<DispArg>, ScenarioError>
     ensures value { Gives (λ o. o) result (item_at line.now index) }
@@ -81,7 +81,7 @@ fn item(alloc: Global, line: &[Word], index: usize) -> Result<Option<DispArg>, S
     Ok(Some(argument(alloc, word, operand_of(word))?))
 }
 
-/// The arguments from the fifth word on, and the index behind them: that of `->`, or of the line's end.
+// The arguments from the fifth word on, and the index behind them: that of `->`, or of the line's end.
 #[tactic(auto, using(crate::proofs::Lines::arguments_more))]
 fn arguments(alloc: Global, line: &[Word]) -> Result<(Rows<DispArg>, usize), ScenarioError>
     ensures value { Gives (λ r. record { args = r.0; index = r.1 }) result
@@ -99,7 +99,7 @@ fn arguments(alloc: Global, line: &[Word]) -> Result<(Rows<DispArg>, usize), Sce
     Ok((Rows::from_vec(arguments), line.len().max(4)))
 }
 
-/// A destination at its word.
+// A destination at its word.
 fn landing(word: &Word, operand: Operand) -> Result<Destination, ScenarioError>
     requires { IsOperand operand }
     ensures value { Gives (λ d. d) result (landing_of word.now operand) }
@@ -112,8 +112,8 @@ fn landing(word: &Word, operand: Operand) -> Result<Destination, ScenarioError>
     }
 }
 
-/// Where the result goes: nowhere where the line ends, else to the register or the slot behind the word at
-/// the index.
+// Where the result goes: nowhere where the line ends, else to the register or the slot behind the word at
+// the index.
 #[tactic(auto, unfolding(crate::specs::Invoking::destination_at))]
 fn destination(line: &[Word], index: usize) -> Result<Destination, ScenarioError>
     requires { index < 2 ^ 63 }

@@ -12,7 +12,7 @@ use com_body::{Arg, Destination, Op, Stmt};
 use com_classes::Interface;
 use std::alloc::{AllocError, Global};
 
-/// The register that shows a call's HRESULT.
+// The register that shows a call's HRESULT.
 const ANSWER: u8 = 15;
 
 fn sort_of(destination: Destination) -> Option<Sort>

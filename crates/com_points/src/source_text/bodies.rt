@@ -7,7 +7,7 @@ ghost use Rattle.com_points.specs.Bodies.{fire_text, rest_text};
 use com_base::{ByteList, Memory};
 use std::alloc::Global;
 
-/// The interface of a source, with its methods.
+// The interface of a source, with its methods.
 pub(crate) fn point(alloc: Global) -> Result<ByteList, Memory>
     ensures { IfOk result (λ text. text ≡ point_text) }
 {
@@ -17,7 +17,7 @@ pub(crate) fn point(alloc: Global) -> Result<ByteList, Memory>
     Ok(text)
 }
 
-/// The body of `advise`.
+// The body of `advise`.
 #[tactic(auto, unfolding(crate::specs::Bodies::advise_text))]
 fn advise(alloc: Global) -> Result<ByteList, Memory>
     ensures { IfOk result (λ text. text ≡ advise_text) }
@@ -42,7 +42,7 @@ fn advise(alloc: Global) -> Result<ByteList, Memory>
     Ok(text)
 }
 
-/// The body of `unadvise`.
+// The body of `unadvise`.
 #[tactic(auto, unfolding(crate::specs::Bodies::unadvise_text))]
 fn unadvise(alloc: Global) -> Result<ByteList, Memory>
     ensures { IfOk result (λ text. text ≡ unadvise_text) }
@@ -61,7 +61,7 @@ fn unadvise(alloc: Global) -> Result<ByteList, Memory>
     Ok(text)
 }
 
-/// One event in the body of `fire`.
+// One event in the body of `fire`.
 #[tactic(auto, unfolding(crate::specs::Bodies::round_text))]
 fn round(alloc: Global) -> Result<ByteList, Memory>
     ensures { IfOk result (λ text. text ≡ round_text) }
@@ -76,7 +76,7 @@ fn round(alloc: Global) -> Result<ByteList, Memory>
     Ok(text)
 }
 
-/// The body of `fire`.
+// The body of `fire`.
 #[tactic(auto, unfolding(crate::specs::Bodies::fire_text))]
 fn fire(alloc: Global) -> Result<ByteList, Memory>
     ensures { IfOk result (λ text. text ≡ fire_text) }
@@ -92,7 +92,7 @@ fn fire(alloc: Global) -> Result<ByteList, Memory>
     Ok(text)
 }
 
-/// What stands behind the name, the CLSID and the model of a source: its interface, its bodies and its end.
+// What stands behind the name, the CLSID and the model of a source: its interface, its bodies and its end.
 #[tactic(auto, unfolding(crate::specs::Bodies::rest_text))]
 pub(crate) fn rest(alloc: Global) -> Result<ByteList, Memory>
     ensures { IfOk result (λ text. text ≡ rest_text) }

@@ -30,7 +30,7 @@ pub struct Seen {
     pub point: bool,
 }
 
-/// Whether the word at an index is a text.
+// Whether the word at an index is a text.
 pub(crate) fn is_text(line: &[Word], index: usize, text: &[u8]) -> bool
     ensures { result ≡ is_text (slice_get line.now index) text.now }
 {
@@ -40,14 +40,14 @@ pub(crate) fn is_text(line: &[Word], index: usize, text: &[u8]) -> bool
     }
 }
 
-/// Whether a line begins with the word `source`.
+// Whether a line begins with the word `source`.
 pub(crate) fn is_source_line(line: &[Word]) -> bool
     ensures { result ≡ is_source_line line.now }
 {
     is_text(line, 0, b"source")
 }
 
-/// The model of a source: `none` or `Apartment`.
+// The model of a source: `none` or `Apartment`.
 #[tactic(auto, unfolding(crate::specs::Heads::model_at))]
 fn model(line: &[Word], index: usize) -> Result<bool, ScenarioError>
     ensures { Gives (λ b. b) result (model_at line.now index) }
@@ -59,8 +59,8 @@ fn model(line: &[Word], index: usize) -> Result<bool, ScenarioError>
     Err(fault(Fault::UNEXPECTED, word))
 }
 
-/// The fault that a reader met behind so many words. The only error is want of memory, which comes exactly
-/// where the reader met it.
+// The fault that a reader met behind so many words. The only error is want of memory, which comes exactly
+// where the reader met it.
 fn cut_at(words: usize, error: ScenarioError) -> Result<Option<Cut>, Memory>
     ensures cut { IfOk result (λ cut. IsCut words error cut) }
     ensures err { OnErr result (error ≡ errors.Memory) }
@@ -82,7 +82,7 @@ fn cut_at(words: usize, error: ScenarioError) -> Result<Option<Cut>, Memory>
     }
 }
 
-/// The first fault of a line's form: of its name, its GUID, its model, or a word behind them.
+// The first fault of a line's form: of its name, its GUID, its model, or a word behind them.
 #[tactic(auto, using(crate::proofs::CutFaults::cut_found))]
 pub(crate) fn cut_of(line: &[Word]) -> Result<Option<Cut>, Memory>
     ensures { IfOk result (λ cut. cut ≡ cut_of line.now) }
@@ -105,7 +105,7 @@ pub(crate) fn cut_of(line: &[Word]) -> Result<Option<Cut>, Memory>
     }
 }
 
-/// The IID of a source's interface.
+// The IID of a source's interface.
 fn is_point_iid(guid: Option<Guid>) -> bool
     ensures { result ≡ is_point_iid guid }
 {
@@ -120,14 +120,14 @@ fn is_point_iid(guid: Option<Guid>) -> bool
     }
 }
 
-/// Whether a line declares an interface with the name or the IID of a source's interface.
+// Whether a line declares an interface with the name or the IID of a source's interface.
 fn declares_point(line: &[Word]) -> bool
     ensures { result ≡ declares_point line.now }
 {
     is_text(line, 0, b"interface") && (is_text(line, 1, b"IPoint") || is_point_guid(line, 2))
 }
 
-/// Whether the word at an index is the IID of a source's interface.
+// Whether the word at an index is the IID of a source's interface.
 fn is_point_guid(line: &[Word], index: usize) -> bool
     ensures { result ≡ is_point_guid (slice_get line.now index) }
 {
@@ -138,7 +138,7 @@ fn is_point_guid(line: &[Word], index: usize) -> bool
 }
 
 impl Seen {
-    /// Above the first line.
+    // Above the first line.
     pub(crate) fn nothing() -> Seen
         ensures { result ≡ nothing_seen }
     {
@@ -148,7 +148,7 @@ impl Seen {
         }
     }
 
-    /// What the lines down to this one declare.
+    // What the lines down to this one declare.
     pub(crate) fn behind(self, line: &[Word]) -> Seen
         ensures { result ≡ seen_behind self line.now }
     {
@@ -158,7 +158,7 @@ impl Seen {
         }
     }
 
-    /// Whether the first source finds the name or the IID of its interface declared.
+    // Whether the first source finds the name or the IID of its interface declared.
     pub(crate) fn is_taken(self) -> bool
         ensures { result ≡ is_taken self }
     {

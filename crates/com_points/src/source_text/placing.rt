@@ -22,14 +22,14 @@ pub enum Found {
     Later(Fault),
 }
 
-/// How many lines a text has.
+// How many lines a text has.
 fn lines_in(text: &[u8]) -> usize
     ensures { result ≡ lines_in text.now }
 {
     text.iter().filter(|b| **b == 10).count()
 }
 
-/// A fault at the word at an index.
+// A fault at the word at an index.
 fn fault_in(number: u8, line: &[Word], index: usize) -> Fault
     ensures { result ≡ fault_in number (slice_get line.now index) }
 {
@@ -47,7 +47,7 @@ fn fault_in(number: u8, line: &[Word], index: usize) -> Fault
     }
 }
 
-/// The word of a class that stands at a column.
+// The word of a class that stands at a column.
 fn word_under(column: u32) -> usize
     ensures { result ≡ word_under column }
 {
@@ -60,14 +60,14 @@ fn word_under(column: u32) -> usize
     }
 }
 
-/// Whether a line is one of the interface's.
+// Whether a line is one of the interface's.
 fn is_opening(seen: Seen, line: u32) -> bool
     ensures { result ≡ is_opening seen line }
 {
     !seen.is_taken() && !seen.source && line <= 4
 }
 
-/// A fault of what a source line stands for, at a word of the line.
+// A fault of what a source line stands for, at a word of the line.
 fn position_in(seen: Seen, line: &[Word], fault: Fault) -> Fault
     ensures { result ≡ position_in seen line.now fault }
 {
@@ -79,7 +79,7 @@ fn position_in(seen: Seen, line: &[Word], fault: Fault) -> Fault
     fault_in(fault.number, line, index)
 }
 
-/// The fault of a source line itself.
+// The fault of a source line itself.
 fn own_fault(seen: Seen, line: &[Word]) -> Result<Option<Fault>, Memory>
     ensures { IfOk result (λ fault. fault ≡ own_fault seen line.now) }
 {
@@ -92,7 +92,7 @@ fn own_fault(seen: Seen, line: &[Word]) -> Result<Option<Fault>, Memory>
     }
 }
 
-/// The first of a line's own fault and a fault of what it stands for.
+// The first of a line's own fault and a fault of what it stands for.
 fn first_of(own: Option<Fault>, fault: Fault) -> Fault
     ensures { result ≡ first_of own fault }
 {
@@ -113,7 +113,7 @@ fn first_of(own: Option<Fault>, fault: Fault) -> Fault
     }
 }
 
-/// A fault of what a source line stands for, where it stands in the line.
+// A fault of what a source line stands for, where it stands in the line.
 fn source_fault(seen: Seen, line: &[Word], fault: Fault) -> Result<Fault, Memory>
     ensures { IfOk result (λ f. f ≡ source_fault seen line.now fault) }
 {
@@ -121,7 +121,7 @@ fn source_fault(seen: Seen, line: &[Word], fault: Fault) -> Result<Fault, Memory
     Ok(first_of(own, position_in(seen, line, fault)))
 }
 
-/// A fault in a line of so many written ones, or in a later one.
+// A fault in a line of so many written ones, or in a later one.
 fn within(size: usize, here: Fault, fault: Fault) -> Found
     ensures { result ≡ within size here fault }
 {
@@ -135,7 +135,7 @@ fn within(size: usize, here: Fault, fault: Fault) -> Found
     })
 }
 
-/// A fault in what a line stands for, or in a later line.
+// A fault in what a line stands for, or in a later line.
 #[tactic(auto, unfolding(crate::specs::Placing::found_in))]
 fn found_in(
     alloc: Global,

@@ -11,7 +11,7 @@ use com_base::{ByteList, Memory};
 use com_text::{LineEnd, TEXT_LIMIT, Word, line_at};
 use std::alloc::{AllocError, Global};
 
-/// Words as they stand, each behind a space.
+// Words as they stand, each behind a space.
 fn words_text(alloc: Global, words: &[Word]) -> Result<ByteList, Memory>
     ensures { IfOk result (λ text. text ≡ words_text words.now) }
 {
@@ -23,7 +23,7 @@ fn words_text(alloc: Global, words: &[Word]) -> Result<ByteList, Memory>
     Ok(text)
 }
 
-/// The first words of a source line, as those of a class.
+// The first words of a source line, as those of a class.
 fn class_text(alloc: Global, count: usize, line: &[Word]) -> Result<ByteList, Memory>
     requires { 1 ≤ count }
     ensures { IfOk result (λ text. text ≡ class_text count line.now) }
@@ -35,7 +35,7 @@ fn class_text(alloc: Global, count: usize, line: &[Word]) -> Result<ByteList, Me
     Ok(text)
 }
 
-/// So many words of a line, without its first one.
+// So many words of a line, without its first one.
 fn front<'l, 'a>(line: &'l [Word<'a>], count: usize) -> &'l [Word<'a>]
     requires { 1 ≤ count }
     ensures { result.now ≡ take (count - 1) (drop 1 line.now) }
@@ -45,7 +45,7 @@ fn front<'l, 'a>(line: &'l [Word<'a>], count: usize) -> &'l [Word<'a>]
     &line[from..to]
 }
 
-/// What a source line stands for.
+// What a source line stands for.
 #[tactic(auto, unfolding(crate::specs::Writing::source_text))]
 pub(crate) fn source_text(alloc: Global, seen: Seen, line: &[Word]) -> Result<ByteList, Memory>
     ensures { IfOk result (λ text. text ≡ source_text seen line.now) }
@@ -70,7 +70,7 @@ fn interface_text(alloc: Global, seen: Seen) -> Result<ByteList, Memory>
     point(alloc)
 }
 
-/// The class of a source, as far as its line is sound.
+// The class of a source, as far as its line is sound.
 fn declared_text(alloc: Global, line: &[Word]) -> Result<ByteList, Memory>
     ensures { IfOk result (λ text. text ≡ declared_text line.now (cut_in line.now)) }
 {
@@ -89,7 +89,7 @@ fn declared_text(alloc: Global, line: &[Word]) -> Result<ByteList, Memory>
     }
 }
 
-/// Appends what a line stands for.
+// Appends what a line stands for.
 #[tactic(auto, unfolding(crate::specs::Writing::line_text))]
 fn write_line(
     alloc: Global,

@@ -23,8 +23,8 @@ const CONNECT_E_NOCONNECTION: HResult = HResult(0x8004_0200);
 
 const CONNECT_E_ADVISELIMIT: HResult = HResult(0x8004_0201);
 
-/// What stands behind the first statements of `advise`: null is refused, and the new cookie is one more than
-/// the last one.
+// What stands behind the first statements of `advise`: null is refused, and the new cookie is one more than
+// the last one.
 fn behind_advise_head(body: &[Stmt]) -> Option<&[Stmt]>
     ensures some { IfSome result (λ rest. body.now ≡ (advise_head) ++ rest.now) }
     ensures none { IfNone result ((rest : List Stmt) → body.now ≡ (advise_head) ++ rest → ⊥) }
@@ -46,7 +46,7 @@ fn behind_advise_head(body: &[Stmt]) -> Option<&[Stmt]>
     }
 }
 
-/// What stands behind the statements that take the place with a number.
+// What stands behind the statements that take the place with a number.
 fn behind_take_place(body: &[Stmt], i: u8) -> Option<&[Stmt]>
     ensures some { IfSome result (λ rest. body.now ≡ (take_place i) ++ rest.now) }
     ensures none { IfNone result ((rest : List Stmt) → body.now ≡ (take_place i) ++ rest → ⊥) }
@@ -70,7 +70,7 @@ fn behind_take_place(body: &[Stmt], i: u8) -> Option<&[Stmt]>
     }
 }
 
-/// What stands behind a statement that leaves with this HRESULT.
+// What stands behind a statement that leaves with this HRESULT.
 fn behind_leave(body: &[Stmt], answer: HResult) -> Option<&[Stmt]>
     ensures some { IfSome result (λ rest. body.now ≡ (leave_with answer given_of.Nothing ∷ []) ++ rest.now) }
     ensures none { IfNone result ((rest : List Stmt)
@@ -104,7 +104,7 @@ fn behind_advise(body: &[Stmt]) -> Option<&[Stmt]>
     behind_leave(rest, CONNECT_E_ADVISELIMIT)
 }
 
-/// Whether a body is that of `advise`.
+// Whether a body is that of `advise`.
 pub(crate) fn is_advise(body: &[Stmt]) -> bool
     ensures { IsTrue result ↔ body.now ≡ advise_body }
 {
@@ -114,7 +114,7 @@ pub(crate) fn is_advise(body: &[Stmt]) -> bool
     }
 }
 
-/// Whether nothing stands behind.
+// Whether nothing stands behind.
 fn is_end(body: &[Stmt]) -> bool
     ensures { IsTrue result ↔ body.now ≡ [] }
 {
@@ -124,7 +124,7 @@ fn is_end(body: &[Stmt]) -> bool
     }
 }
 
-/// What stands behind the first statements of `unadvise`: a cookie is above 0.
+// What stands behind the first statements of `unadvise`: a cookie is above 0.
 fn behind_unadvise_head(body: &[Stmt]) -> Option<&[Stmt]>
     ensures some { IfSome result (λ rest. body.now ≡ (unadvise_head) ++ rest.now) }
     ensures none { IfNone result ((rest : List Stmt) → body.now ≡ (unadvise_head) ++ rest → ⊥) }
@@ -145,7 +145,7 @@ fn behind_unadvise_head(body: &[Stmt]) -> Option<&[Stmt]>
     }
 }
 
-/// What stands behind the statements that go on at the moves from a number on, if its cell is the argument.
+// What stands behind the statements that go on at the moves from a number on, if its cell is the argument.
 fn behind_look_in(body: &[Stmt], i: u8) -> Option<&[Stmt]>
     requires { i < 4 }
     ensures some { IfSome result (λ rest. body.now ≡ (look_in i) ++ rest.now) }
@@ -167,7 +167,7 @@ fn behind_look_in(body: &[Stmt], i: u8) -> Option<&[Stmt]>
     }
 }
 
-/// What stands behind the statements that put the next cookie and sink in the place with a number.
+// What stands behind the statements that put the next cookie and sink in the place with a number.
 fn behind_move_down(body: &[Stmt], i: u8) -> Option<&[Stmt]>
     requires { i < 3 }
     ensures some { IfSome result (λ rest. body.now ≡ (move_down i) ++ rest.now) }
@@ -228,7 +228,7 @@ fn is_unadvise_end(body: &[Stmt]) -> bool
     }
 }
 
-/// Whether a body is that of `unadvise`.
+// Whether a body is that of `unadvise`.
 pub(crate) fn is_unadvise(body: &[Stmt]) -> bool
     ensures { IsTrue result ↔ body.now ≡ unadvise_body }
 {
@@ -241,8 +241,8 @@ pub(crate) fn is_unadvise(body: &[Stmt]) -> bool
     }
 }
 
-/// What stands behind the statements that take the sink of the place with a number, if its cookie is above
-/// the one that was reached.
+// What stands behind the statements that take the sink of the place with a number, if its cookie is above
+// the one that was reached.
 fn behind_look_at(body: &[Stmt], i: u8) -> Option<&[Stmt]>
     requires { i < 4 }
     ensures some { IfSome result (λ rest. body.now ≡ (look_at i) ++ rest.now) }
@@ -265,7 +265,7 @@ fn behind_look_at(body: &[Stmt], i: u8) -> Option<&[Stmt]>
     }
 }
 
-/// What stands behind the statements that send an event, or leave.
+// What stands behind the statements that send an event, or leave.
 fn behind_send_event(body: &[Stmt]) -> Option<&[Stmt]>
     ensures some { IfSome result (λ rest. body.now ≡ (leave_register 6 ∷ send_event) ++ rest.now) }
     ensures none { IfNone result ((rest : List Stmt)
@@ -290,7 +290,7 @@ fn behind_send_event(body: &[Stmt]) -> Option<&[Stmt]>
     }
 }
 
-/// What stands behind one round of `fire`.
+// What stands behind one round of `fire`.
 fn behind_round(body: &[Stmt]) -> Option<&[Stmt]>
     ensures some { IfSome result (λ rest. body.now ≡ (event_round) ++ rest.now) }
     ensures none { IfNone result ((rest : List Stmt) → body.now ≡ (event_round) ++ rest → ⊥) }
@@ -302,7 +302,7 @@ fn behind_round(body: &[Stmt]) -> Option<&[Stmt]>
     behind_send_event(rest)
 }
 
-/// What stands behind the first statements of `fire`.
+// What stands behind the first statements of `fire`.
 fn behind_fire_head(body: &[Stmt]) -> Option<&[Stmt]>
     ensures some { IfSome result (λ rest. body.now ≡ (fire_head) ++ rest.now) }
     ensures none { IfNone result ((rest : List Stmt) → body.now ≡ (fire_head) ++ rest → ⊥) }
@@ -333,7 +333,7 @@ fn behind_rounds(body: &[Stmt]) -> Option<&[Stmt]>
     behind_round(rest)
 }
 
-/// Whether a body is that of `fire`.
+// Whether a body is that of `fire`.
 pub(crate) fn is_fire(body: &[Stmt]) -> bool
     ensures { IsTrue result ↔ body.now ≡ fire_body }
 {

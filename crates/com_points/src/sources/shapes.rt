@@ -201,7 +201,7 @@ fn is_one_register(args: &[Arg], number: u8) -> bool
     }
 }
 
-/// The call that brings an event to a sink: `ICounter.add` with one argument.
+// The call that brings an event to a sink: `ICounter.add` with one argument.
 pub(crate) fn is_event_call(statement: &Stmt) -> bool
     ensures { IsTrue result ↔ (statement.now
         ≡ stmt.Call 0 1 0 (arg.Op (register 0) ∷ []) (destination.Register 7)) }

@@ -16,7 +16,7 @@ const PIECE: usize = 64;
 
 const DIGITS: usize = 128;
 
-/// Appends at most 64 bytes in lower-case hexadecimal digits, with no space before them.
+// Appends at most 64 bytes in lower-case hexadecimal digits, with no space before them.
 fn push_piece(out: &mut ByteList, piece: &[u8]) -> Result<(), Memory>
     requires { length piece.now ≤ 64 }
     ensures { OnOk result (out.new ≡ out.old ++ encode_lower piece.now) }

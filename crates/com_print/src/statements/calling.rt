@@ -76,7 +76,7 @@ fn push_target(
     }
 }
 
-/// A slot, a method, arguments and where the result goes.
+// A slot, a method, arguments and where the result goes.
 #[tactic(auto, using(crate::proofs::StatementPieces::both_texts))]
 pub(crate) fn call(
     out: &mut ByteList,

@@ -15,7 +15,7 @@ use crate::operands::{
 use com_base::{ByteList, MarshalMode, Memory};
 use com_body::{Asked, Code, Given, Op, Place};
 
-/// A register and an operand.
+// A register and an operand.
 pub(crate) fn register_op(
     out: &mut ByteList,
     keyword: &[u8],
@@ -31,7 +31,7 @@ pub(crate) fn register_op(
     push_op(out, op)
 }
 
-/// A register and two operands.
+// A register and two operands.
 pub(crate) fn register_ops(
     out: &mut ByteList,
     keyword: &[u8],
@@ -48,7 +48,7 @@ pub(crate) fn register_ops(
     push_op(out, right)
 }
 
-/// A register and two slots.
+// A register and two slots.
 pub(crate) fn register_slots(
     out: &mut ByteList,
     keyword: &[u8],
@@ -64,7 +64,7 @@ pub(crate) fn register_slots(
     push_slot(out, right)
 }
 
-/// A register and a slot.
+// A register and a slot.
 pub(crate) fn register_slot(
     out: &mut ByteList,
     keyword: &[u8],
@@ -79,7 +79,7 @@ pub(crate) fn register_slot(
     push_slot(out, slot)
 }
 
-/// A register and a cell.
+// A register and a cell.
 pub(crate) fn register_cell(
     out: &mut ByteList,
     keyword: &[u8],
@@ -94,7 +94,7 @@ pub(crate) fn register_cell(
     push_cell(out, cell)
 }
 
-/// A cell and an operand.
+// A cell and an operand.
 pub(crate) fn cell_op(out: &mut ByteList, keyword: &[u8], cell: u8, op: &Op) -> Result<(), Memory>
     ensures ok { OnOk result (out.new ≡ out.old
         ++ words_text (plain keyword.now ∷ cell_word cell ∷ op_word op.now ∷ [])) }
@@ -105,7 +105,7 @@ pub(crate) fn cell_op(out: &mut ByteList, keyword: &[u8], cell: u8, op: &Op) -> 
     push_op(out, op)
 }
 
-/// A number.
+// A number.
 pub(crate) fn number(out: &mut ByteList, keyword: &[u8], number: u32) -> Result<(), Memory>
     ensures { OnOk result (out.new ≡ out.old
         ++ words_text (plain keyword.now ∷ plain (decimal number) ∷ [])) }
@@ -114,7 +114,7 @@ pub(crate) fn number(out: &mut ByteList, keyword: &[u8], number: u32) -> Result<
     push_decimal(out, number as u64)
 }
 
-/// A register and a number.
+// A register and a number.
 pub(crate) fn register_number(
     out: &mut ByteList,
     keyword: &[u8],
@@ -129,7 +129,7 @@ pub(crate) fn register_number(
     push_decimal(out, number as u64)
 }
 
-/// A slot.
+// A slot.
 pub(crate) fn one_slot(out: &mut ByteList, keyword: &[u8], slot: u8) -> Result<(), Memory>
     ensures { OnOk result (out.new ≡ out.old ++ words_text (plain keyword.now ∷ slot_word slot ∷ [])) }
 {
@@ -137,7 +137,7 @@ pub(crate) fn one_slot(out: &mut ByteList, keyword: &[u8], slot: u8) -> Result<(
     push_slot(out, slot)
 }
 
-/// A slot, a class and an interface.
+// A slot, a class and an interface.
 pub(crate) fn slot_class_interface(
     out: &mut ByteList,
     classes: &[ByteList],
@@ -156,7 +156,7 @@ pub(crate) fn slot_class_interface(
     push_asked(out, interfaces, 0, iface)
 }
 
-/// Two slots and an interface.
+// Two slots and an interface.
 pub(crate) fn slots_interface(
     out: &mut ByteList,
     interfaces: &[ByteList],
@@ -175,7 +175,7 @@ pub(crate) fn slots_interface(
     push_asked(out, interfaces, 0, iface)
 }
 
-/// A place.
+// A place.
 pub(crate) fn one_place(out: &mut ByteList, keyword: &[u8], place: Place) -> Result<(), Memory>
     ensures { OnOk result (out.new ≡ out.old ++ words_text (plain keyword.now ∷ place_word place ∷ [])) }
 {
@@ -183,7 +183,7 @@ pub(crate) fn one_place(out: &mut ByteList, keyword: &[u8], place: Place) -> Res
     push_place(out, place)
 }
 
-/// Two places.
+// Two places.
 pub(crate) fn two_places(
     out: &mut ByteList,
     keyword: &[u8],
@@ -197,7 +197,7 @@ pub(crate) fn two_places(
     push_place(out, from)
 }
 
-/// A buffer.
+// A buffer.
 pub(crate) fn one_buffer(out: &mut ByteList, keyword: &[u8], buffer: u8) -> Result<(), Memory>
     ensures { OnOk result (out.new ≡ out.old ++ words_text (plain keyword.now ∷ buffer_word buffer ∷ [])) }
 {
@@ -205,7 +205,7 @@ pub(crate) fn one_buffer(out: &mut ByteList, keyword: &[u8], buffer: u8) -> Resu
     push_buffer(out, buffer)
 }
 
-/// A buffer, a slot and what the packet is for.
+// A buffer, a slot and what the packet is for.
 pub(crate) fn buffer_slot_mode(
     out: &mut ByteList,
     keyword: &[u8],
@@ -222,7 +222,7 @@ pub(crate) fn buffer_slot_mode(
     push_marshal_mode(out, mode)
 }
 
-/// A slot and a buffer.
+// A slot and a buffer.
 pub(crate) fn slot_buffer(
     out: &mut ByteList,
     keyword: &[u8],
@@ -236,7 +236,7 @@ pub(crate) fn slot_buffer(
     push_buffer(out, buffer)
 }
 
-/// A buffer and bytes in digits.
+// A buffer and bytes in digits.
 pub(crate) fn buffer_bytes(
     out: &mut ByteList,
     keyword: &[u8],
@@ -252,7 +252,7 @@ pub(crate) fn buffer_bytes(
     push_hex(out, bytes.as_slice())
 }
 
-/// A slot and an operand.
+// A slot and an operand.
 pub(crate) fn slot_op(out: &mut ByteList, keyword: &[u8], slot: u8, op: &Op) -> Result<(), Memory>
     ensures ok { OnOk result (out.new ≡ out.old
         ++ words_text (plain keyword.now ∷ slot_word slot ∷ op_word op.now ∷ [])) }
@@ -262,7 +262,7 @@ pub(crate) fn slot_op(out: &mut ByteList, keyword: &[u8], slot: u8, op: &Op) -> 
     push_op(out, op)
 }
 
-/// An operand.
+// An operand.
 pub(crate) fn one_op(out: &mut ByteList, keyword: &[u8], op: &Op) -> Result<(), Memory>
     ensures ok { OnOk result (out.new ≡ out.old ++ words_text (plain keyword.now ∷ op_word op.now ∷ [])) }
     ensures fits { OnOk result (FitsOp op.now) }
@@ -271,7 +271,7 @@ pub(crate) fn one_op(out: &mut ByteList, keyword: &[u8], op: &Op) -> Result<(), 
     push_op(out, op)
 }
 
-/// Two operands.
+// Two operands.
 pub(crate) fn two_ops(
     out: &mut ByteList,
     keyword: &[u8],
@@ -286,7 +286,7 @@ pub(crate) fn two_ops(
     push_op(out, right)
 }
 
-/// An HRESULT and a result.
+// An HRESULT and a result.
 pub(crate) fn code_given(
     out: &mut ByteList,
     keyword: &[u8],

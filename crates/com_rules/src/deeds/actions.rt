@@ -90,7 +90,7 @@ fn lane_takes_words(view: &View<'_>, number: u64) -> bool
     !view.lanes.is_over(number as u32)
 }
 
-/// A whole number, where it is not below 0.
+// A whole number, where it is not below 0.
 fn natural(number: i64) -> Option<u64>
     ensures { result ≡ natural number }
 {
