@@ -32,7 +32,7 @@ pub record IsDrawn (scenario : Scenario) (s : Status) (text : List ℕ) : Type 0
   pub written : text ≡ page_of scenario (scheduled scenario) ends []
   pub status_is : s ≡ status_at ends
 
--- The same with the events of its sources, one for each call of `fire` that has its Leave.
+-- What is drawn with the events of its sources, one for each call of `fire` that has its Leave.
 pub record ArePointsDrawn (scenario : Scenario) (s : Status) (text : List ℕ) : Type 0 where
   pub ends : Ended
   pub ended_is : ended_as scenario (scheduled scenario) ≡ Some ends

@@ -53,7 +53,7 @@ fn push_last_back(out: &mut ByteList, rows: u64, cycle: &[u32], board: &Board) -
     close_section(out, row_at(rows), cycle, board)
 }
 
-/// The lanes that wait.
+// The lanes that wait.
 pub(crate) fn waits_in(waits: &Option<Waits>) -> &[Wait]
     ensures { result.now ≡ waits_in waits.now }
 {
@@ -63,7 +63,7 @@ pub(crate) fn waits_in(waits: &Option<Waits>) -> &[Wait]
     }
 }
 
-/// The cycle in which lanes wait for each other.
+// The cycle in which lanes wait for each other.
 pub(crate) fn cycle_in(waits: &Option<Waits>) -> &[u32]
     ensures { result.now ≡ cycle_in waits.now }
 {
@@ -73,7 +73,7 @@ pub(crate) fn cycle_in(waits: &Option<Waits>) -> &[u32]
     }
 }
 
-/// Appends the gap, the rows of lanes that wait, and the last section's end.
+// Appends the gap, the rows of lanes that wait, and the last section's end.
 #[tactic(auto, unfolding(crate::specs::Ends::last_rows))]
 pub(crate) fn push_last_rows(
     alloc: Global,
@@ -261,8 +261,8 @@ fn push_said(alloc: Global, out: &mut ByteList, entries: u64, beside: &Beside) -
     )
 }
 
-/// Appends what stands behind the drawing: the second widths, how the history ended, why it is stuck, the events
-/// and the report.
+// Appends what stands behind the drawing: the second widths, how the history ended, why it is stuck, the events
+// and the report.
 #[tactic(auto, unfolding(crate::specs::Ends::footer_text))]
 pub(crate) fn push_footer(
     alloc: Global,

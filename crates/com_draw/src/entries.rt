@@ -62,7 +62,7 @@ fn rise(opens: Opens) -> u32
     }
 }
 
-/// What is seen of the board before an entry.
+// What is seen of the board before an entry.
 #[tactic(auto, unfolding(crate::specs::Entries::seen))]
 pub(crate) fn see(board: &Board, entry: &Entry) -> Seen
     ensures value { result ≡ seen board.now entry.now }
@@ -195,7 +195,7 @@ fn push_marks(
     )
 }
 
-/// An entry of a history of a scenario, with its place and the words of its label.
+// An entry of a history of a scenario, with its place and the words of its label.
 #[derive(Drop)]
 pub(crate) struct Told<'a> {
     /// The scenario.
@@ -254,8 +254,8 @@ fn push_row(
     push_drawing(told, board, seen, out)
 }
 
-/// Appends what stands of an entry in the page: a row for each up to the limit, and before the first one behind
-/// it the section's end.
+// Appends what stands of an entry in the page: a row for each up to the limit, and before the first one behind
+// it the section's end.
 pub(crate) fn push_entry_at(
     alloc: Global,
     told: &Told<'_>,

@@ -50,7 +50,7 @@ fn push_front_widths(out: &mut ByteList, count: u32) -> Result<(), Memory>
     push_main_width(out, count * FULL)
 }
 
-/// Appends the styles of a page with the first widths of so many lanes, up to the names of these.
+// Appends the styles of a page with the first widths of so many lanes, up to the names of these.
 #[tactic(auto, unfolding(crate::specs::Fronts::front_styles))]
 pub(crate) fn push_front_styles(out: &mut ByteList, count: u32) -> Result<(), Memory>
     requires { count ≤ 66 }
@@ -71,7 +71,7 @@ fn push_lane_names(out: &mut ByteList, threads: u32, pool: u32) -> Result<(), Me
     push_names(out, LaneKind::Pool, threads + 2, pool)
 }
 
-/// Appends the names of the lanes of so many threads, of the host's, of the pool's, and of the objects.
+// Appends the names of the lanes of so many threads, of the host's, of the pool's, and of the objects.
 #[tactic(auto, unfolding(crate::specs::Fronts::front_names))]
 pub(crate) fn push_front_names(out: &mut ByteList, threads: u32, pool: u32) -> Result<(), Memory>
     requires { threads + pool < 64 }

@@ -18,7 +18,7 @@ use com_draw_words::{
 use com_waits::{Wait, Why};
 use std::alloc::Global;
 
-/// Appends why a lane waits.
+// Appends why a lane waits.
 #[tactic(auto, unfolding(crate::specs::Reasons::reason_story))]
 pub(crate) fn push_story_of(out: &mut ByteList, lane: u32, why: Why) -> Result<(), Memory>
     ensures { OnOk result (out.new ≡ out.old ++ reason_story lane why) }
@@ -186,7 +186,7 @@ fn push_row(
     push_drawing(alloc, out, cycle, board, wait)
 }
 
-/// Appends the rows of lanes that wait, of which the first is this row of the page.
+// Appends the rows of lanes that wait, of which the first is this row of the page.
 pub(crate) fn push_rows(
     alloc: Global,
     out: &mut ByteList,
@@ -219,7 +219,7 @@ fn widen(alloc: Global, board: &mut Board, wait: Wait) -> Result<(), Memory>
     Ok(())
 }
 
-/// The lanes have to be wide enough for the labels of the rows of these.
+// The lanes have to be wide enough for the labels of the rows of these.
 pub(crate) fn widen_all(alloc: Global, board: &mut Board, waits: &[Wait]) -> Result<(), Memory>
     ensures { OnOk result (board.new ≡ all_labelled waits.now board.old) }
 {

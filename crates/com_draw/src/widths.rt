@@ -67,7 +67,7 @@ fn objects_width(board: &Board) -> u32
     board.tracks().as_slice().len() as u32 * TRACK_WIDTH + BESIDE
 }
 
-/// Appends the second widths, the width of the whole, and that of the printed page.
+// Appends the second widths, the width of the whole, and that of the printed page.
 #[tactic(auto, unfolding(crate::specs::Widths::widths_text))]
 pub(crate) fn push_widths(out: &mut ByteList, board: &Board) -> Result<(), Memory>
     ensures { OnOk result (out.new ≡ out.old ++ widths_text board.now) }

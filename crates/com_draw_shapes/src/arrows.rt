@@ -8,7 +8,7 @@ use com_base::{ByteList, Memory};
 use com_draw_state::{Board, Waiter};
 use com_draw_words::{Arrow, ArrowKind, push_arrow, push_touch};
 
-/// Appends the arrow between a lane, at this level, and who waits for its call, where somebody does.
+// Appends the arrow between a lane, at this level, and who waits for its call, where somebody does.
 fn push_called(
     out: &mut ByteList,
     kind: ArrowKind,

@@ -28,7 +28,7 @@ pub enum Chosen {
     Of(u32),
 }
 
-/// The box of a lane's home.
+// The box of a lane's home.
 fn home_box(here: Start, lane: u32, foot: Foot, home: Home) -> DrawnBox
     ensures { result ≡ home_box here lane foot home }
 {
@@ -45,7 +45,7 @@ fn home_box(here: Start, lane: u32, foot: Foot, home: Home) -> DrawnBox
     }
 }
 
-/// Appends the box of a lane's home, where it has one.
+// Appends the box of a lane's home, where it has one.
 #[tactic(auto, unfolding(crate::specs::Boxes::home_boxes))]
 pub(crate) fn push_home(
     out: &mut ByteList,
@@ -84,7 +84,7 @@ fn kind_of(what: &Opened) -> BoxKind
     }
 }
 
-/// The hue of what is open: a body's is that of its apartment.
+// The hue of what is open: a body's is that of its apartment.
 fn hue_in(what: &Opened) -> u8
     ensures { result ≡ hue_in what.now }
 {
@@ -104,7 +104,7 @@ fn inner_of(what: &Opened) -> BoxText
     }
 }
 
-/// The box of what is open at a depth of a lane.
+// The box of what is open at a depth of a lane.
 fn opening_box(here: Start, lane: u32, foot: Foot, depth: u32, opening: &Opening) -> DrawnBox
     ensures { result ≡ opening_box here lane foot depth opening.now }
 {
@@ -121,7 +121,7 @@ fn opening_box(here: Start, lane: u32, foot: Foot, depth: u32, opening: &Opening
     }
 }
 
-/// Appends the box of what is open at a depth of a lane.
+// Appends the box of what is open at a depth of a lane.
 #[tactic(auto, unfolding(crate::specs::Boxes::opening_text))]
 fn push_opening(
     out: &mut ByteList,
@@ -137,7 +137,7 @@ fn push_opening(
     push_box(out, opening_box(here, lane, foot, depth, opening))
 }
 
-/// Appends the boxes of all that is open in a lane, the outermost first.
+// Appends the boxes of all that is open in a lane, the outermost first.
 pub(crate) fn push_openings(
     out: &mut ByteList,
     here: Start,
@@ -165,7 +165,7 @@ fn life_of(is_live: bool) -> BoxKind
     if is_live { BoxKind::Live } else { BoxKind::Cut }
 }
 
-/// The box of an object's life on a track.
+// The box of an object's life on a track.
 fn track_box(here: Start, lane: u32, foot: Foot, number: u32, track: Track) -> DrawnBox
     requires { number < 2 ^ 31 }
     ensures { result ≡ track_box here lane foot number track }
@@ -183,7 +183,7 @@ fn track_box(here: Start, lane: u32, foot: Foot, number: u32, track: Track) -> D
     }
 }
 
-/// Whether a track is chosen.
+// Whether a track is chosen.
 fn is_chosen(chosen: Chosen, track: &Option<Track>) -> bool
     ensures { result ≡ is_chosen chosen track.now }
 {
@@ -195,7 +195,7 @@ fn is_chosen(chosen: Chosen, track: &Option<Track>) -> bool
     }
 }
 
-/// Appends the box of an object's life, where there is one on the track and it is chosen.
+// Appends the box of an object's life, where there is one on the track and it is chosen.
 #[tactic(auto, unfolding(crate::specs::Boxes::chosen_boxes))]
 fn push_track(
     out: &mut ByteList,
@@ -219,7 +219,7 @@ fn push_track(
     }
 }
 
-/// Appends the boxes of the chosen tracks.
+// Appends the boxes of the chosen tracks.
 pub(crate) fn push_tracks(
     out: &mut ByteList,
     here: Start,
@@ -250,7 +250,7 @@ pub fn objects_lane(board: &Board) -> u32
     board.lanes().len() as u32 + 1
 }
 
-/// Appends the boxes of chosen tracks, which end here.
+// Appends the boxes of chosen tracks, which end here.
 fn push_lives(out: &mut ByteList, here: Start, chosen: Chosen, board: &Board) -> Result<(), Memory>
     requires { here.row < 40 }
     ensures { OnOk result (out.new ≡ out.old
@@ -267,7 +267,7 @@ fn push_lives(out: &mut ByteList, here: Start, chosen: Chosen, board: &Board) ->
     )
 }
 
-/// Appends the boxes of the objects that are cut off with an apartment.
+// Appends the boxes of the objects that are cut off with an apartment.
 fn push_cut(out: &mut ByteList, here: Start, apartment: u32, board: &Board) -> Result<(), Memory>
     requires { here.row < 40 }
     ensures { OnOk result (out.new ≡ out.old ++ cut_boxes here apartment board.now) }
@@ -278,7 +278,7 @@ fn push_cut(out: &mut ByteList, here: Start, apartment: u32, board: &Board) -> R
     push_lives(out, here, Chosen::LiveIn(apartment), board)
 }
 
-/// The home of a lane.
+// The home of a lane.
 fn home_of(board: &Board, lane: u32) -> Option<Home>
     ensures { result ≡ home_in (lane_at board.now.lanes lane) }
 {
@@ -288,7 +288,7 @@ fn home_of(board: &Board, lane: u32) -> Option<Home>
     }
 }
 
-/// Appends the box of a lane's home, which it leaves, and those of the objects that are cut off with it.
+// Appends the box of a lane's home, which it leaves, and those of the objects that are cut off with it.
 fn push_left(
     out: &mut ByteList,
     here: Start,
@@ -305,7 +305,7 @@ fn push_left(
     push_cut(out, here, apartment, board)
 }
 
-/// Appends the box of what is innermost in a lane.
+// Appends the box of what is innermost in a lane.
 fn push_innermost(out: &mut ByteList, here: Start, lane: u32, board: &Board) -> Result<(), Memory>
     requires { here.row < 40 }
     ensures { OnOk result (out.new ≡ out.old ++ innermost_boxes here lane (lane_at board.now.lanes lane)) }
@@ -316,7 +316,7 @@ fn push_innermost(out: &mut ByteList, here: Start, lane: u32, board: &Board) -> 
     }
 }
 
-/// Appends the box of the last of these openings, which are all of a lane.
+// Appends the box of the last of these openings, which are all of a lane.
 fn push_last(out: &mut ByteList, here: Start, lane: u32, openings: &Openings) -> Result<(), Memory>
     requires { here.row < 40 }
     ensures { OnOk result (out.new ≡ out.old

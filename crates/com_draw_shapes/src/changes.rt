@@ -9,7 +9,7 @@ use com_base::Memory;
 use com_draw_state::{Board, Home, Start, Track};
 use com_model::Entry;
 
-/// What opens in a lane.
+// What opens in a lane.
 fn open(board: &mut Board, here: Start, lane: u32, opens: Opens) -> Result<(), Memory>
     ensures { OnOk result (board.new ≡ opened_on here lane opens board.old) }
 {
@@ -35,7 +35,7 @@ fn open(board: &mut Board, here: Start, lane: u32, opens: Opens) -> Result<(), M
     }
 }
 
-/// A lane leaves its home, and with an STA that a thread made the objects of that are cut off.
+// A lane leaves its home, and with an STA that a thread made the objects of that are cut off.
 fn leave(board: &mut Board, here: Start, lane: u32, apartment: u32)
     requires { here.row < 40 }
     ensures { board.new ≡ left_on here lane apartment board.old }
@@ -47,7 +47,7 @@ fn leave(board: &mut Board, here: Start, lane: u32, apartment: u32)
     board.cut_apartment(apartment, below(here));
 }
 
-/// An object is cut off.
+// An object is cut off.
 fn cut(board: &mut Board, here: Start, object: u32)
     requires { here.row < 40 }
     ensures { board.new ≡ cut_on here object board.old }
@@ -55,7 +55,7 @@ fn cut(board: &mut Board, here: Start, object: u32)
     board.cut_object(object, below(here));
 }
 
-/// What closes in a lane.
+// What closes in a lane.
 fn close(board: &mut Board, here: Start, lane: u32, closing: Closing)
     requires { here.row < 40 }
     ensures { board.new ≡ closed_on here lane closing board.old }

@@ -106,7 +106,7 @@ fn opens_life(object: u32, apartment: u32, hr: HResult) -> Opens
     Opens::Life { object, apartment }
 }
 
-/// How a call by this route is waited for.
+// How a call by this route is waited for.
 fn manner_of(route: Route) -> Manner
     ensures { result ≡ manner_of route }
 {
@@ -182,7 +182,7 @@ fn points_to(lane: i64, hr: HResult) -> Points
     }
 }
 
-/// The number of a lane, and 0 where the value is none.
+// The number of a lane, and 0 where the value is none.
 fn lane_number(lane: i64) -> u32
     ensures { result ≡ lane_number lane }
 {

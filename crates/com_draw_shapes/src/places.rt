@@ -41,7 +41,7 @@ pub fn start_of(place: u64) -> Start
     }
 }
 
-/// The first row of something that began there, in the section in which one is.
+// The first row of something that began there, in the section in which one is.
 pub(crate) fn top_in(here: Start, start: Start) -> u32
     ensures { result ≡ top_in here start }
 {
@@ -52,14 +52,14 @@ pub(crate) fn top_in(here: Start, start: Start) -> u32
     }
 }
 
-/// Whether something began above the section in which one is.
+// Whether something began above the section in which one is.
 pub(crate) fn is_up(here: Start, start: Start) -> bool
     ensures { result ≡ is_up here start }
 {
     start.section != here.section
 }
 
-/// The row below.
+// The row below.
 pub(crate) fn below(here: Start) -> Start
     requires { here.row < 40 }
     ensures { result ≡ below here }

@@ -12,7 +12,7 @@ use com_draw_words::{
     Foot, push_column, push_columns_end, push_section_back, push_section_end, push_section_front,
 };
 
-/// Appends the columns of lanes.
+// Appends the columns of lanes.
 #[tactic(auto, using(crate::proofs::Joined::next_column, crate::proofs::Joined::no_column))]
 fn push_columns(out: &mut ByteList, count: u32) -> Result<(), Memory>
     requires { count < 2 ^ 31 }
@@ -52,7 +52,7 @@ pub fn is_in_cycle(cycle: &[u32], lane: u32) -> bool
     false
 }
 
-/// How the boxes of a lane end with the section.
+// How the boxes of a lane end with the section.
 fn foot_in(cycle: &[u32], lane: u32) -> Foot
     ensures { result ≡ foot_in cycle.now lane }
 {
@@ -63,7 +63,7 @@ fn foot_in(cycle: &[u32], lane: u32) -> Foot
     }
 }
 
-/// Appends the boxes of a lane that go on below the section.
+// Appends the boxes of a lane that go on below the section.
 #[tactic(auto, unfolding(crate::specs::Sections::lane_boxes))]
 fn push_lane(
     out: &mut ByteList,
@@ -85,7 +85,7 @@ fn push_lane(
     )
 }
 
-/// Appends the boxes of all lanes.
+// Appends the boxes of all lanes.
 fn push_lanes(out: &mut ByteList, here: Start, cycle: &[u32], lanes: &[Lane]) -> Result<(), Memory>
     requires here { here.row < 40 }
     requires few { length lanes.now ≤ 64 }
@@ -118,7 +118,7 @@ pub fn close_section(
     push_section_end(out)
 }
 
-/// Appends the boxes of all that goes on below the section: those of lanes, and those of objects.
+// Appends the boxes of all that goes on below the section: those of lanes, and those of objects.
 #[tactic(auto, unfolding(crate::specs::Sections::boxes_below))]
 fn push_below(out: &mut ByteList, here: Start, cycle: &[u32], board: &Board) -> Result<(), Memory>
     requires { here.row < 40 }
@@ -136,7 +136,7 @@ fn push_below(out: &mut ByteList, here: Start, cycle: &[u32], board: &Board) -> 
     )
 }
 
-/// Appends the end of the section above a row of the page that begins a section; nothing above the first.
+// Appends the end of the section above a row of the page that begins a section; nothing above the first.
 fn close_before(out: &mut ByteList, row: u64, board: &Board) -> Result<(), Memory>
     requires { 1 ≤ row }
     ensures { OnOk result (out.new ≡ out.old ++ row_before row board.now) }

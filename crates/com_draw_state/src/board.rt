@@ -152,12 +152,12 @@ impl Board {
     }
 }
 
-/// The multithreaded apartment, whose lanes are the pool's, and the host's apartment.
+// The multithreaded apartment, whose lanes are the pool's, and the host's apartment.
 const MTA: u32 = 1;
 
 const HOST_STA: u32 = 2;
 
-/// A home that was entered above the first section.
+// A home that was entered above the first section.
 fn home_from_above(apartment: u32) -> Home
     ensures { result ≡ home_from_above apartment }
 {
@@ -167,7 +167,7 @@ fn home_from_above(apartment: u32) -> Home
     }
 }
 
-/// Appends so many lanes with a home. The only error is want of memory.
+// Appends so many lanes with a home. The only error is want of memory.
 #[tactic(auto, using(crate::proofs::Mapped::copies_more, crate::proofs::Mapped::copies_none))]
 fn add_lanes(
     alloc: Global,

@@ -57,7 +57,7 @@ impl Lane {
     }
 }
 
-/// The lane with this number, from 1. `None` where there is none.
+// The lane with this number, from 1. `None` where there is none.
 pub(crate) fn lane_at(lanes: &[Lane], lane: u32) -> Option<&Lane>
     ensures { MatchOption result (lane_at lanes.now lane ≡ None)
         (λ row. lane_at lanes.now lane ≡ Some row.now) }
@@ -68,7 +68,7 @@ pub(crate) fn lane_at(lanes: &[Lane], lane: u32) -> Option<&Lane>
     lanes.get(lane as usize - 1)
 }
 
-/// How much stands open in a lane.
+// How much stands open in a lane.
 pub(crate) fn depth(lanes: &[Lane], lane: u32) -> u32
     ensures value { result ≡ depth_of (lane_at lanes.now lane) }
     ensures few { result < 2 ^ 31 }
@@ -79,7 +79,7 @@ pub(crate) fn depth(lanes: &[Lane], lane: u32) -> u32
     }
 }
 
-/// The lane made an entry.
+// The lane made an entry.
 pub(crate) fn act(lanes: &mut [Lane], lane: u32)
     ensures { lanes.new ≡ with_lane acted lane lanes.old }
 {
@@ -89,7 +89,7 @@ pub(crate) fn act(lanes: &mut [Lane], lane: u32)
     lanes[lane as usize - 1].has_acted = true;
 }
 
-/// The lane has to be so wide.
+// The lane has to be so wide.
 pub(crate) fn widen(lanes: &mut [Lane], lane: u32, width: u16)
     ensures { lanes.new ≡ with_lane (widened width) lane lanes.old }
 {
@@ -100,7 +100,7 @@ pub(crate) fn widen(lanes: &mut [Lane], lane: u32, width: u16)
     row.width = row.width.max(width);
 }
 
-/// The lane has this home from now on, or none.
+// The lane has this home from now on, or none.
 pub(crate) fn settle(lanes: &mut [Lane], lane: u32, home: Option<Home>)
     ensures { lanes.new ≡ with_lane (homed home) lane lanes.old }
 {
@@ -110,7 +110,7 @@ pub(crate) fn settle(lanes: &mut [Lane], lane: u32, home: Option<Home>)
     lanes[lane as usize - 1].home = home;
 }
 
-/// Something more stands open in the lane.
+// Something more stands open in the lane.
 pub(crate) fn open(lanes: &mut [Lane], lane: u32, opening: Opening) -> Result<(), Memory>
     ensures { OnOk result (lanes.new ≡ with_lane (with_opening opening) lane lanes.old) }
 {
@@ -120,7 +120,7 @@ pub(crate) fn open(lanes: &mut [Lane], lane: u32, opening: Opening) -> Result<()
     lanes[lane as usize - 1].openings.push(opening)
 }
 
-/// What is innermost in the lane is closed.
+// What is innermost in the lane is closed.
 pub(crate) fn close(lanes: &mut [Lane], lane: u32)
     ensures { lanes.new ≡ with_lane without_innermost lane lanes.old }
 {
@@ -130,7 +130,7 @@ pub(crate) fn close(lanes: &mut [Lane], lane: u32)
     lanes[lane as usize - 1].openings.pop();
 }
 
-/// Who waits for a call, where that is what stands open at a depth of a lane.
+// Who waits for a call, where that is what stands open at a depth of a lane.
 fn waiter_by(what: &Opened, lane: u32, depth: u32, call: u32) -> Option<Waiter>
     ensures { result ≡ waiter_by lane depth what.now call }
 {
@@ -155,7 +155,7 @@ fn waiter_by(what: &Opened, lane: u32, depth: u32, call: u32) -> Option<Waiter>
     }
 }
 
-/// Who waits for a call among what stands open in a lane.
+// Who waits for a call among what stands open in a lane.
 fn waiter_at(openings: &[Opening], lane: u32, call: u32) -> Option<Waiter>
     requires { length openings.now < 2 ^ 31 }
     ensures { result ≡ waiter_at lane 1 openings.now call }
@@ -173,7 +173,7 @@ fn waiter_at(openings: &[Opening], lane: u32, call: u32) -> Option<Waiter>
     None
 }
 
-/// Who waits for a call, where somebody does.
+// Who waits for a call, where somebody does.
 pub(crate) fn waiter_among(lanes: &[Lane], call: u32) -> Option<Waiter>
     requires { length lanes.now ≤ 64 }
     ensures { result ≡ waiter_in 1 lanes.now call }

@@ -55,7 +55,7 @@ pub struct Opening {
     pub start: Start,
 }
 
-/// How much may stand open in a lane, and one more.
+// How much may stand open in a lane, and one more.
 const DEPTHS: usize = 0x7fff_ffff;
 
 /// What stands open in a lane, the outermost first.

@@ -80,7 +80,7 @@ impl Tracks {
         }
     }
 
-    /// Takes a track that was not used yet, where one is. The only error is want of memory.
+    // Takes a track that was not used yet, where one is. The only error is want of memory.
     fn add(&mut self, track: Track) -> Result<(), Memory>
         ensures { OnOk result (self.new ≡ taken_at track self.old None) }
     {
@@ -114,7 +114,7 @@ impl Tracks {
 }
 
 impl Track {
-    /// The track of an object that was cut off here.
+    // The track of an object that was cut off here.
     fn cut(self, start: Start) -> Track
         ensures { result ≡ cut start self }
     {
@@ -157,7 +157,7 @@ pub fn is_live_in(track: &Option<Track>, apartment: u32) -> bool
     }
 }
 
-/// The number of the track of an object among these, which are counted from 0.
+// The number of the track of an object among these, which are counted from 0.
 fn find(tracks: &[Option<Track>], object: u32) -> Option<u32>
     requires { length tracks.now ≤ 16 }
     ensures value { result ≡ track_of 0 object tracks.now }
@@ -175,7 +175,7 @@ fn find(tracks: &[Option<Track>], object: u32) -> Option<u32>
     None
 }
 
-/// The number of the first free track among these, which are counted from 0.
+// The number of the first free track among these, which are counted from 0.
 fn first_free(tracks: &[Option<Track>]) -> Option<usize>
     ensures value { result ≡ free_in 0 tracks.now }
     ensures bound { IfSome result (λ number. number < length tracks.now) }
@@ -192,7 +192,7 @@ fn first_free(tracks: &[Option<Track>]) -> Option<usize>
     None
 }
 
-/// Puts a track in a place.
+// Puts a track in a place.
 fn put(tracks: &mut [Option<Track>], number: usize, track: Track)
     requires { number < length tracks.old }
     ensures { tracks.new ≡ slice_set tracks.old number (Some track) }
@@ -200,7 +200,7 @@ fn put(tracks: &mut [Option<Track>], number: usize, track: Track)
     tracks[number] = Some(track);
 }
 
-/// A track, cut off here if it is that of an object and was not.
+// A track, cut off here if it is that of an object and was not.
 fn cut_of_object(track: Option<Track>, object: u32, start: Start) -> Option<Track>
     ensures { result ≡ cut_of_object object start track }
 {
@@ -215,7 +215,7 @@ fn cut_of_object(track: Option<Track>, object: u32, start: Start) -> Option<Trac
     }
 }
 
-/// A track, cut off here if it is that of an object of an apartment and was not.
+// A track, cut off here if it is that of an object of an apartment and was not.
 fn cut_of_apartment(track: Option<Track>, apartment: u32, start: Start) -> Option<Track>
     ensures { result ≡ cut_of_apartment apartment start track }
 {
@@ -230,7 +230,7 @@ fn cut_of_apartment(track: Option<Track>, apartment: u32, start: Start) -> Optio
     }
 }
 
-/// A track, free if it was that of an object.
+// A track, free if it was that of an object.
 fn freed(track: Option<Track>, object: u32) -> Option<Track>
     ensures { result ≡ freed object track }
 {
