@@ -1,0 +1,87 @@
+//! The page of the one history of a scenario.
+ghost use Rattle.std.specs.Prelude.{◌≡◌, IfOk, OnOk, map};
+ghost use Rattle.com_commands.specs.Responses.{Responds, Serves};
+ghost use Rattle.com_commands.specs.Statuses.{sides_of};
+ghost use Rattle.com_replay.specs.Replays.{whole_served};
+ghost use Rattle.com_model.specs.Formed.{Formed};
+ghost use Rattle.com_servant.specs.Rows.{row};
+ghost use Rattle.com_top.specs.Scenarios.{scenario_input};
+ghost use Rattle.com_command_draw.specs.Pages.{IsDrawn, drawn_concludes};
+
+use crate::beginning::begin;
+use crate::ending::end_page;
+use crate::frame::{TellingCommand, answer_by_row};
+use crate::stuck::explain_end;
+use com_base::{Memory, Rows};
+use com_commands::{Reply, share, status_at};
+use com_io::{Sink, Source};
+use com_model::Scenario;
+use com_servant::Servant;
+use com_top::ReplayCommand;
+use std::alloc::Global;
+
+impl TellingCommand for ReplayCommand {
+    ghost fits = { IsDrawn };
+
+    ghost served = { whole_served };
+
+    fn tell(
+        alloc: Global,
+        read: Scenario,
+        servants: &mut Vec<Box<dyn Servant + Send>>,
+    ) -> Result<Reply, Memory> {
+        draw_replay(alloc, read, servants)
+    }
+
+    ghost concludes = { drawn_concludes };
+}
+
+// The page of a scenario's one history, and the status of its end. The only error is want of memory.
+fn draw_replay(
+    alloc: Global,
+    scenario: Scenario,
+    servants: &mut Vec<Box<dyn Servant + Send>>,
+) -> Result<Reply, Memory>
+    requires formed { Formed scenario }
+    requires row { map kind_of servants.old.items ≡ row }
+    ensures answer { IfOk result (λ reply. IsDrawn scenario reply.status reply.text) }
+    ensures served { OnOk result (map stepped servants.new.items
+        ≡ whole_served scenario (map stepped servants.old.items)) }
+    ensures row { map kind_of servants.new.items ≡ row }
+{
+    let scenario = share(alloc, scenario)?;
+    let drawn = begin(alloc, &scenario, servants, false)?;
+    let (begun, _entries) = drawn;
+    let ended = begun.ended;
+    let waits = explain_end(alloc, &scenario, ended)?;
+    let text = end_page(alloc, begun, waits, Rows::new(alloc))?;
+    Ok(Reply {
+        status: status_at(ended),
+        text,
+    })
+}
+
+/// Reads a scenario from the source, and writes the page of its one history to the sink: the history that
+/// `replay` of `com_top` writes, drawn, and where it is stuck, why. An input that is too long or whose text is
+/// no scenario is refused by a line with the line, the column and the number of the fault. The answer is the
+/// exit status: each has its cause (`answers`). Where want of memory comes, nothing was written (`unwritten`).
+///
+/// The row has one servant of each kind, in the order of the kinds, and keeps them so (`row`). Where the status
+/// is 0, 5 or 6, each has counted the entries that bodies of its kind made (`served`).
+pub fn draw_replay_main<S: Source, K: Sink>(
+    alloc: Global,
+    servants: &mut Vec<Box<dyn Servant + Send>>,
+    source: &mut S,
+    sink: &mut K,
+) -> u8
+    requires { map kind_of servants.old.items ≡ row }
+    ensures answers { Responds scenario_input IsDrawn result
+        (sides_of S.left S.faults_of K.held K.faults_of source.old source.new sink.old sink.new) }
+    ensures served { Serves scenario_input IsDrawn whole_served result
+        (sides_of S.left S.faults_of K.held K.faults_of source.old source.new sink.old sink.new)
+        (map stepped servants.old.items) (map stepped servants.new.items) }
+    ensures row { map kind_of servants.new.items ≡ row }
+    ensures unwritten { result ≡ 9 → K.held sink.new ≡ K.held sink.old }
+{
+    answer_by_row::<ReplayCommand, S, K>(alloc, servants, source, sink)
+}

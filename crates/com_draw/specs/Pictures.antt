@@ -1,0 +1,15 @@
+-- What is kept of a picture while it is drawn.
+use Rattle.std.specs.Prelude.{ℕ}
+use Rattle.com_model.specs.declared.scenario.Scenario.{Scenario}
+use Rattle.com_model.specs.Tables.{threads}
+use Rattle.com_draw_state.specs.Board.{State, first_board}
+
+pub record Picture : Type 0 where
+  -- the lanes and the tracks
+  pub board : State
+  -- how many entries were made
+  pub entries : ℕ
+
+-- Before the first entry.
+abbrev pub first : Scenario → Picture
+first s = record { board = first_board (threads s) s.pool; entries = 0 }

@@ -1,0 +1,6 @@
+pub mod Arrows
+pub mod Boxes
+pub mod Changes
+pub mod Effects
+pub mod Places
+pub mod Sections

@@ -1,0 +1,10 @@
+use Rattle.std.proofs.Common.{◌≡◌, ◌-◌, length}
+use Rattle.com_draw_state.specs.Tracks.{freed}
+use Rattle.com_draw_state.proofs.Mapped.{mapped}
+use Rattle.com_draw_state.proofs.tracks.free.Given as goal
+
+abbrev pub invariant-tracks : goal.invariant-tracks
+invariant-tracks l = l.tracks ≡ mapped (freed l.object) l.number l.initial.tracks
+
+abbrev pub decreases-tracks : goal.decreases-tracks
+decreases-tracks l = length l.tracks - l.number

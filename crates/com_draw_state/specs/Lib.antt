@@ -1,0 +1,4 @@
+pub mod Board
+pub mod Lanes
+pub mod Stacks
+pub mod Tracks

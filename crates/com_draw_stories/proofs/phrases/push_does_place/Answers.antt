@@ -1,0 +1,6 @@
+use Rattle.std.proofs.Common.{append_assoc}
+use Rattle.com_draw_stories.proofs.phrases.push_does_place.Goals as goal
+
+pub returns : goal.returns
+returns c =
+    simp append_assoc (simp append_assoc at (rw (c.in_ok-push_place.ensures, c.in_ok-push_does.ensures) at c.push_all.ensures.ok))

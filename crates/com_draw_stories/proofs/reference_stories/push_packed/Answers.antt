@@ -1,0 +1,6 @@
+use Rattle.std.proofs.Common.{append_assoc}
+use Rattle.com_draw_stories.proofs.reference_stories.push_packed.Goals as goal
+
+pub returns : goal.returns
+returns c =
+    simp append_assoc (simp append_assoc at (rw (c.in_ok-push_named.ensures, c.in_ok-push_all.ensures.ok, c.in_ok-push_does_named.ensures) at c.push_mode.ensures))

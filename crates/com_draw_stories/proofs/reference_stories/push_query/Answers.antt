@@ -1,0 +1,6 @@
+use Rattle.std.proofs.Common.{append_assoc}
+use Rattle.com_draw_stories.proofs.reference_stories.push_query.Goals as goal
+
+pub returns : goal.returns
+returns c =
+    simp append_assoc (simp append_assoc at (rw (c.in_ok-push_shown_interface.ensures, c.in_ok-push_all.ensures.ok, c.in_ok-push_object.ensures, c.in_ok-push_does.ensures) at c.push_failure_if.ensures))

@@ -1,0 +1,4 @@
+pub mod Digits
+pub mod Passing
+pub mod Rows
+pub mod Words
