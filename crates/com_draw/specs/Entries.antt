@@ -11,10 +11,10 @@ use Rattle.com_draw_state.specs.Lanes.{depth_of, lane_at, waiter_in, widened, wi
 use Rattle.com_draw_words.specs.declared.limits.TheConstants.{LIMIT}
 use Rattle.com_draw_words.specs.Labels.{label_text, label_width}
 use Rattle.com_draw_words.specs.Rows.{entry_front_text, row_end_text, row_middle_text}
-use Rattle.com_draw_stories.specs.declared.contexts.Caller.{Caller}
-use Rattle.com_draw_stories.specs.declared.contexts.Context.{Context}
-use Rattle.com_draw_stories.specs.Labels.{label}
-use Rattle.com_draw_stories.specs.Looks.{call_of, has_label, look, mark_of}
+use Rattle.com_draw_names.specs.declared.contexts.Caller.{Caller}
+use Rattle.com_draw_names.specs.declared.contexts.Context.{Context}
+use Rattle.com_draw_labels.specs.Labels.{label}
+use Rattle.com_draw_labels.specs.Looks.{call_of, has_label, look, mark_of}
 use Rattle.com_draw_stories.specs.Calls.{story}
 use Rattle.com_draw_shapes.specs.declared.effects.Opens.{Opens}
 use Rattle.com_draw_shapes.specs.declared.effects.Opens.TheVariants as opens

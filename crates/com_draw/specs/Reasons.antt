@@ -14,7 +14,8 @@ use Rattle.com_draw_words.specs.declared.labels.Look.{Look}
 use Rattle.com_draw_words.specs.Arrows.{arrow_text}
 use Rattle.com_draw_words.specs.Labels.{label_text, label_width}
 use Rattle.com_draw_words.specs.Rows.{reason_front_text, row_end_text, row_middle_text}
-use Rattle.com_draw_stories.specs.Ends.{body_label, body_story, message_label, message_story, pool_label, pool_story}
+use Rattle.com_draw_labels.specs.Reasons.{body_label, message_label, pool_label}
+use Rattle.com_draw_stories.specs.Ends.{body_story, message_story, pool_story}
 use Rattle.com_draw_shapes.specs.Sections.{row_begins}
 
 -- The lanes that wait, and the cycle in which lanes wait for each other.

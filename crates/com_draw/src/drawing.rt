@@ -1,7 +1,7 @@
 //! A picture that is drawn entry by entry.
 ghost use Rattle.std.specs.Prelude.{◌≡◌, ◌+◌, ◌<◌, ◌≤◌, ◌^◌, ◌++◌, [], IfOk, OnOk, length};
 ghost use Rattle.com_model.specs.Formed.{Formed};
-ghost use Rattle.com_draw_stories.specs.Labels.{label};
+ghost use Rattle.com_draw_labels.specs.Labels.{label};
 ghost use Rattle.com_draw.specs.Ends.{end_text};
 ghost use Rattle.com_draw.specs.Entries.{after, drawn, entry_text, labelled};
 ghost use Rattle.com_draw.specs.Fronts.{front, front_names, front_styles};
@@ -15,9 +15,10 @@ use crate::entries::{Told, push_entry_at, see};
 use crate::fronts::{push_front_names, push_front_styles};
 use crate::reasons::widen_all;
 use com_base::{ByteList, Memory};
+use com_draw_labels::{has_label, push_label_words};
+use com_draw_names::Context;
 use com_draw_shapes::{change, start_of};
 use com_draw_state::Board;
-use com_draw_stories::{Context, has_label, push_label_words};
 use com_draw_words::label_width;
 use com_model::{Entry, Scenario};
 use std::alloc::Global;

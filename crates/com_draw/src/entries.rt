@@ -1,16 +1,18 @@
 //! The row of an entry.
 ghost use Rattle.std.specs.Prelude.{◌≡◌, ◌+◌, ◌<◌, ◌≤◌, ◌^◌, ◌++◌, IfOk, OnOk};
-ghost use Rattle.com_draw_stories.specs.Labels.{label};
+ghost use Rattle.com_draw_labels.specs.Labels.{label};
 ghost use Rattle.com_draw.specs.Entries.{caller_of, entry_at, entry_drawing, entry_front, entry_label, entry_lead};
 ghost use Rattle.com_draw.specs.Entries.{entry_marks, entry_row, rise, seen, title_of, waiter_of};
 
 use com_base::{ByteList, Memory};
+use com_draw_labels::{call_of, has_label, look, mark_of};
+use com_draw_names::{Caller, Context};
 use com_draw_shapes::{
     Opens, begin_row, close_section, closed_by, has_home, opened_by, points_of, push_closing,
     push_pointing, push_touched, row_at, start_of, touched_by,
 };
 use com_draw_state::{Board, Waiter};
-use com_draw_stories::{Caller, Context, call_of, has_label, look, mark_of, push_story};
+use com_draw_stories::push_story;
 use com_draw_words::{LIMIT, push_entry_front, push_label, push_row_end, push_row_middle};
 use com_model::{Entry, Scenario};
 use com_report::line;

@@ -5,12 +5,10 @@ ghost use Rattle.com_draw.specs.Reasons.{reason_labelled, reason_lead, reason_ro
 ghost use Rattle.com_draw.specs.Reasons.{reason_story, reason_words, ring_kind};
 
 use com_base::{ByteList, Memory};
+use com_draw_labels::{push_body_label, push_message_label, push_pool_label};
 use com_draw_shapes::{begin_row, is_in_cycle};
 use com_draw_state::Board;
-use com_draw_stories::{
-    push_body_label, push_body_story, push_message_label, push_message_story, push_pool_label,
-    push_pool_story,
-};
+use com_draw_stories::{push_body_story, push_message_story, push_pool_story};
 use com_draw_words::{
     Arrow, ArrowKind, LabelClass, Look, label_width, push_arrow, push_label, push_reason_front,
     push_row_end, push_row_middle,

@@ -15,16 +15,17 @@ use Rattle.com_model.specs.declared.deeds.Route.{Route}
 use Rattle.com_model.specs.declared.deeds.Route.TheVariants as route
 use Rattle.com_model.specs.declared.scenario.Scenario.{Scenario}
 use Rattle.com_model.specs.Deeds.{object_in}
-use Rattle.com_draw_stories.specs.declared.contexts.Caller.{Caller}
-use Rattle.com_draw_stories.specs.declared.contexts.Context.{Context}
-use Rattle.com_draw_stories.specs.declared.contexts.Speaker.{Speaker}
-use Rattle.com_draw_stories.specs.Names.{failure_text, has_failed, lane_at, lane_does, lane_link, lane_signed}
-use Rattle.com_draw_stories.specs.Names.{object_text, place_text, shown_called, shown_method, signed_fails}
-use Rattle.com_draw_stories.specs.Stories.{copy_story, create_story, disconnect_story, drop_story, final_story}
-use Rattle.com_draw_stories.specs.Stories.{get_story, init_story, marshal_story, query_story, raw_story}
-use Rattle.com_draw_stories.specs.Stories.{register_story, release_story, revoke_story, uninit_story}
-use Rattle.com_draw_stories.specs.Stories.{unmarshal_story}
-use Rattle.com_draw_stories.specs.Values.{shown_given}
+use Rattle.com_draw_names.specs.declared.contexts.Caller.{Caller}
+use Rattle.com_draw_names.specs.declared.contexts.Context.{Context}
+use Rattle.com_draw_stories.specs.declared.speakers.Speaker.{Speaker}
+use Rattle.com_draw_names.specs.Failures.{failure_text, has_failed}
+use Rattle.com_draw_names.specs.Names.{object_text, place_text, shown_called, shown_method}
+use Rattle.com_draw_names.specs.Values.{shown_given}
+use Rattle.com_draw_stories.specs.Phrases.{lane_at, lane_does, lane_link, lane_signed, signed_fails}
+use Rattle.com_draw_stories.specs.Stories.{copy_story, create_story, disconnect_story, drop_story}
+use Rattle.com_draw_stories.specs.Stories.{final_story, get_story, init_story, marshal_story, query_story}
+use Rattle.com_draw_stories.specs.Stories.{raw_story, register_story, release_story, revoke_story}
+use Rattle.com_draw_stories.specs.Stories.{uninit_story, unmarshal_story}
 
 -- ---- filters, words and pumps
 
@@ -82,11 +83,6 @@ caller_lane (Some k) = k.lane
 abbrev pub call_of_lane : (call caller : ℕ) → List ℕ
 call_of_lane c m = codes " " ++ link_text c ++ word_and_number (codes " of L") m
 
-abbrev pub verdict_verb : Verdict → List ℕ
-verdict_verb verdict.Rejected = codes "rejects"
-verdict_verb verdict.Later = codes "puts off"
-verdict_verb verdict.Handled = codes "takes"
-
 -- Why the filter was asked, by the call's type.
 abbrev pub type_reason : ℕ → List ℕ
 type_reason n =
@@ -138,10 +134,6 @@ leave_story s x c hr v =
 
 abbrev pub back_story : Speaker → (call : ℕ) → HResult → Option Value → List ℕ
 back_story s c hr v = lane_does s.lane (codes " has the answer of ") ++ link_text c ++ outcome s.version hr v
-
--- When a call is sent again.
-abbrev pub later_words : ℤ → List ℕ
-later_words n = codes " again in " ++ signed_decimal n ++ codes " ms"
 
 abbrev pub again_words : ℤ → List ℕ
 again_words n = if int_lt n (pos 100) then codes " again at once" else later_words n

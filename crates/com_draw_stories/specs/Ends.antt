@@ -4,7 +4,7 @@ use Rattle.com_draw_words.specs.Escapes.{link_text, word_and_number}
 use Rattle.com_model.specs.declared.counts.Ended.{Ended}
 use Rattle.com_model.specs.declared.counts.Ended.TheVariants as ended
 use Rattle.com_model.specs.Text.{ended_text}
-use Rattle.com_draw_stories.specs.Names.{lane_at, lane_does}
+use Rattle.com_draw_stories.specs.Phrases.{lane_at, lane_does}
 
 -- ---- reasons
 
@@ -16,15 +16,6 @@ body_story l m c = lane_at l (codes " waits for L") m ++ codes ", which runs " +
 
 abbrev pub pool_story : (lane call : ℕ) → List ℕ
 pool_story l c = lane_does l (codes " waits for a free thread of the pool, for ") ++ link_text c
-
-abbrev pub message_label : List ℕ
-message_label = codes "waits for a message"
-
-abbrev pub body_label : (to : ℕ) → List ℕ
-body_label m = word_and_number (codes "waits for L") m
-
-abbrev pub pool_label : List ℕ
-pool_label = codes "waits for the pool"
 
 -- ---- the ring
 

@@ -1,7 +1,4 @@
 pub mod Calls
 pub mod Ends
-pub mod Labels
-pub mod Looks
-pub mod Names
+pub mod Phrases
 pub mod Stories
-pub mod Values

@@ -9,10 +9,11 @@ use Rattle.com_body.specs.declared.operands.Asked.{Asked}
 use Rattle.com_classes.specs.Tables.{Tables}
 use Rattle.com_draw_words.specs.Escapes.{escaped, word_and_number}
 use Rattle.com_model.specs.Text.{named}
-use Rattle.com_draw_stories.specs.declared.contexts.Speaker.{Speaker}
-use Rattle.com_draw_stories.specs.Names.{class_words, failure_if, failure_text, has_failed, interface_words}
-use Rattle.com_draw_stories.specs.Names.{lane_at, lane_does, lane_fails, lane_named, lane_place, lane_signed}
-use Rattle.com_draw_stories.specs.Names.{object_fails, object_text, place_at, signed_fails}
+use Rattle.com_draw_stories.specs.declared.speakers.Speaker.{Speaker}
+use Rattle.com_draw_names.specs.Failures.{failure_if, failure_text, has_failed}
+use Rattle.com_draw_names.specs.Names.{class_words, interface_words, object_text, place_at}
+use Rattle.com_draw_stories.specs.Phrases.{lane_at, lane_does, lane_fails, lane_named, lane_place}
+use Rattle.com_draw_stories.specs.Phrases.{lane_signed, object_fails, signed_fails}
 
 -- ---- apartments
 

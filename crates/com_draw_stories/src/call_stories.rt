@@ -1,22 +1,22 @@
 //! The stories of calls, of message filters and of words.
 ghost use Rattle.std.specs.Prelude.{◌≡◌, ◌++◌, OnOk};
-ghost use Rattle.com_draw_stories.specs.Calls.{again_words, back_story, bound_story, call_of_lane, caller_lane};
-ghost use Rattle.com_draw_stories.specs.Calls.{cancels_story, enter_story, entered_call, entered_method};
-ghost use Rattle.com_draw_stories.specs.Calls.{filter_plain, filter_story, for_lane, later_words, leave_story};
-ghost use Rattle.com_draw_stories.specs.Calls.{out_story, outcome, pending_story, post_story, pump_story};
-ghost use Rattle.com_draw_stories.specs.Calls.{quit_story, refuse_story, retry_story, route_words, sends_again};
-ghost use Rattle.com_draw_stories.specs.Calls.{sent_story, tick_story, told_story, took_story, type_reason};
-ghost use Rattle.com_draw_stories.specs.Calls.{type_words, unwaited, verdict_story, verdict_verb, waits_on};
+ghost use Rattle.com_draw_stories.specs.Calls.{again_words, back_story, bound_story, call_of_lane};
+ghost use Rattle.com_draw_stories.specs.Calls.{caller_lane, cancels_story, enter_story, entered_call};
+ghost use Rattle.com_draw_stories.specs.Calls.{entered_method, filter_plain, filter_story, for_lane};
+ghost use Rattle.com_draw_stories.specs.Calls.{leave_story, out_story, outcome, pending_story, post_story};
+ghost use Rattle.com_draw_stories.specs.Calls.{pump_story, quit_story, refuse_story, retry_story};
+ghost use Rattle.com_draw_stories.specs.Calls.{route_words, sends_again, sent_story, tick_story, told_story};
+ghost use Rattle.com_draw_stories.specs.Calls.{took_story, type_reason, type_words, unwaited, verdict_story};
+ghost use Rattle.com_draw_stories.specs.Calls.{waits_on};
 
-use crate::contexts::{Caller, Speaker};
-use crate::names::{
-    has_failed, push_failure, push_object, push_place, push_shown_called, push_shown_method,
-    push_signed,
-};
 use crate::phrases::{push_at, push_does, push_does_link, push_does_signed, push_signed_fails};
-use crate::values::push_shown_given;
+use crate::speakers::Speaker;
 use com_base::{ByteList, HResult, Memory, Value};
 use com_classes::Classes;
+use com_draw_names::{
+    Caller, has_failed, push_failure, push_later, push_object, push_place, push_shown_called,
+    push_shown_given, push_shown_method, push_signed, push_verb,
+};
 use com_draw_words::{push_link, push_number, push_word_and_number};
 use com_filter::Verdict;
 use com_model::Route;
@@ -164,16 +164,6 @@ fn push_call_of_lane(out: &mut ByteList, call: u32, caller: u32) -> Result<(), M
     out.push_all(b" ")?;
     push_link(out, call)?;
     push_word_and_number(out, b" of L", caller)
-}
-
-pub(crate) fn push_verb(out: &mut ByteList, verdict: Verdict) -> Result<(), Memory>
-    ensures { OnOk result (out.new ≡ out.old ++ verdict_verb verdict) }
-{
-    match verdict {
-        Verdict::Rejected => out.push_all(b"rejects"),
-        Verdict::Later => out.push_all(b"puts off"),
-        Verdict::Handled => out.push_all(b"takes"),
-    }
 }
 
 // Appends why the filter was asked, by the call's type.
@@ -347,15 +337,6 @@ pub(crate) fn push_back(
     push_does(out, speaker.lane, b" has the answer of ")?;
     push_link(out, call)?;
     push_outcome(alloc, out, speaker.version, hr, value)
-}
-
-// Appends after how many milliseconds a call is sent again.
-pub(crate) fn push_later(out: &mut ByteList, answer: i64) -> Result<(), Memory>
-    ensures { OnOk result (out.new ≡ out.old ++ later_words answer) }
-{
-    out.push_all(b" again in ")?;
-    push_signed(out, answer)?;
-    out.push_all(b" ms")
 }
 
 fn push_again_words(out: &mut ByteList, answer: i64) -> Result<(), Memory>

@@ -1,8 +1,8 @@
 //! What is said of the end of a history.
 ghost use Rattle.std.specs.Prelude.{◌≡◌, ◌++◌, OnOk};
-ghost use Rattle.com_draw_stories.specs.Ends.{body_label, body_story, ended_words, event_text, later_lanes};
-ghost use Rattle.com_draw_stories.specs.Ends.{later_sinks, message_label, message_story, pool_label, pool_story};
-ghost use Rattle.com_draw_stories.specs.Ends.{ring_lanes, ring_text, sinks_text, summary_front, summary_text};
+ghost use Rattle.com_draw_stories.specs.Ends.{body_story, ended_words, event_text, later_lanes, later_sinks};
+ghost use Rattle.com_draw_stories.specs.Ends.{message_story, pool_story, ring_lanes, ring_text, sinks_text};
+ghost use Rattle.com_draw_stories.specs.Ends.{summary_front, summary_text};
 ghost use Rattle.com_draw_words.specs.Escapes.{word_and_number};
 ghost use Rattle.com_model.specs.Text.{ended_text};
 
@@ -33,27 +33,6 @@ pub fn push_pool_story(out: &mut ByteList, lane: u32, call: u32) -> Result<(), M
 {
     push_does(out, lane, b" waits for a free thread of the pool, for ")?;
     push_link(out, call)
-}
-
-/// Appends the label of a lane that waits for a message. The only error is want of memory.
-pub fn push_message_label(out: &mut ByteList) -> Result<(), Memory>
-    ensures { OnOk result (out.new ≡ out.old ++ message_label) }
-{
-    out.push_all(b"waits for a message")
-}
-
-/// Appends the label of a lane that waits for a body. The only error is want of memory.
-pub fn push_body_label(out: &mut ByteList, to: u32) -> Result<(), Memory>
-    ensures { OnOk result (out.new ≡ out.old ++ body_label to) }
-{
-    push_word_and_number(out, b"waits for L", to)
-}
-
-/// Appends the label of a lane that waits for the pool. The only error is want of memory.
-pub fn push_pool_label(out: &mut ByteList) -> Result<(), Memory>
-    ensures { OnOk result (out.new ≡ out.old ++ pool_label) }
-{
-    out.push_all(b"waits for the pool")
 }
 
 fn push_later_lanes(out: &mut ByteList, lanes: &[u32]) -> Result<(), Memory>

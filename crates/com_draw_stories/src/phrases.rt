@@ -1,61 +1,12 @@
-//! A lane and what it does, and other phrases that stand in many rows.
+//! A lane and what it does, as many stories begin.
 ghost use Rattle.std.specs.Prelude.{◌≡◌, ◌++◌, OnOk};
-ghost use Rattle.com_draw_stories.specs.Names.{failed_label, lane_at, lane_does, lane_fails, lane_link, lane_named};
-ghost use Rattle.com_draw_stories.specs.Names.{lane_place, lane_signed, object_fails, signed_fails, words_named};
-ghost use Rattle.com_draw_stories.specs.Names.{words_place, words_signed};
+ghost use Rattle.com_draw_stories.specs.Phrases.{lane_at, lane_does, lane_fails, lane_link, lane_named};
+ghost use Rattle.com_draw_stories.specs.Phrases.{lane_place, lane_signed, object_fails, signed_fails};
 
-use crate::contexts::Speaker;
-use crate::names::{
-    push_failure, push_hresult_behind, push_named, push_object, push_place, push_signed,
-};
+use crate::speakers::Speaker;
 use com_base::{ByteList, HResult, Memory};
+use com_draw_names::{push_failure, push_named, push_object, push_place, push_signed};
 use com_draw_words::{push_link, push_number, push_word_and_number};
-
-// Appends words and a number behind its letters, or a dash where there is none.
-pub(crate) fn push_words_named(
-    out: &mut ByteList,
-    words: &[u8],
-    letters: &[u8],
-    number: Option<u32>,
-) -> Result<(), Memory>
-    ensures { OnOk result (out.new ≡ out.old ++ words_named words.now letters.now number) }
-{
-    out.push_all(words)?;
-    push_named(out, letters, number)
-}
-
-// Appends words and a signed number.
-pub(crate) fn push_words_signed(out: &mut ByteList, words: &[u8], number: i64) -> Result<(), Memory>
-    ensures { OnOk result (out.new ≡ out.old ++ words_signed words.now number) }
-{
-    out.push_all(words)?;
-    push_signed(out, number)
-}
-
-// Appends words and an apartment.
-pub(crate) fn push_words_place(
-    out: &mut ByteList,
-    words: &[u8],
-    apartment: u32,
-) -> Result<(), Memory>
-    ensures { OnOk result (out.new ≡ out.old ++ words_place words.now apartment) }
-{
-    out.push_all(words)?;
-    push_place(out, apartment)
-}
-
-// Appends what failed, and the HRESULT.
-pub(crate) fn push_failed(
-    out: &mut ByteList,
-    words: &[u8],
-    version: u8,
-    hr: HResult,
-) -> Result<(), Memory>
-    ensures { OnOk result (out.new ≡ out.old ++ failed_label words.now version hr) }
-{
-    out.push_all(words)?;
-    push_hresult_behind(out, version, hr)
-}
 
 // Appends a lane and what it does.
 pub(crate) fn push_does(out: &mut ByteList, lane: u32, words: &[u8]) -> Result<(), Memory>

@@ -1,24 +1,24 @@
 //! The stories of apartments, objects and references.
 ghost use Rattle.std.specs.Prelude.{◌≡◌, ◌++◌, OnOk};
-ghost use Rattle.com_draw_stories.specs.Stories.{copy_story, create_story, cut_story, disconnect_story, drop_story};
-ghost use Rattle.com_draw_stories.specs.Stories.{final_story, get_story, got_story, init_story, leaves_once};
-ghost use Rattle.com_draw_stories.specs.Stories.{made_story, marshal_story, mode_words, packed_story, query_story};
-ghost use Rattle.com_draw_stories.specs.Stories.{raw_story, register_story, registered_story, release_story};
-ghost use Rattle.com_draw_stories.specs.Stories.{revoke_story, uninit_story, unmade_story, unmarshal_story};
-ghost use Rattle.com_draw_stories.specs.Stories.{unpacked_story};
+ghost use Rattle.com_draw_stories.specs.Stories.{copy_story, create_story, cut_story, disconnect_story};
+ghost use Rattle.com_draw_stories.specs.Stories.{drop_story, final_story, get_story, got_story, init_story};
+ghost use Rattle.com_draw_stories.specs.Stories.{leaves_once, made_story, marshal_story, mode_words};
+ghost use Rattle.com_draw_stories.specs.Stories.{packed_story, query_story, raw_story, register_story};
+ghost use Rattle.com_draw_stories.specs.Stories.{registered_story, release_story, revoke_story, uninit_story};
+ghost use Rattle.com_draw_stories.specs.Stories.{unmade_story, unmarshal_story, unpacked_story};
 
-use crate::contexts::Speaker;
-use crate::names::{
-    has_failed, push_failure, push_failure_if, push_named, push_object, push_place_at,
-    push_shown_class, push_shown_interface, push_signed,
-};
 use crate::phrases::{
     push_at, push_does, push_does_named, push_does_place, push_does_signed, push_fails,
     push_object_fails, push_signed_fails,
 };
+use crate::speakers::Speaker;
 use com_base::{ByteList, HResult, MarshalMode, Memory, RefValue};
 use com_body::Asked;
 use com_classes::Classes;
+use com_draw_names::{
+    has_failed, push_failure, push_failure_if, push_named, push_object, push_place_at,
+    push_shown_class, push_shown_interface, push_signed,
+};
 use com_draw_words::{push_number, push_word_and_number};
 
 pub(crate) fn push_init(

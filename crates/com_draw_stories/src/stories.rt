@@ -1,25 +1,15 @@
 //! The story of an entry: what it says, in plain words.
 ghost use Rattle.std.specs.Prelude.{◌≡◌, ◌++◌, OnOk};
 ghost use Rattle.com_draw_stories.specs.Calls.{deed_story, story};
-ghost use Rattle.com_model.specs.Deeds.{object_in};
 
-use crate::contexts::{Context, Speaker};
 use crate::phrases::{push_does, push_does_link};
+use crate::speakers::Speaker;
 use crate::{call_stories as calls, reference_stories as references};
-use com_base::{ByteList, Memory, RefValue};
+use com_base::{ByteList, Memory};
 use com_classes::Classes;
+use com_draw_names::{Context, object_in};
 use com_model::{Deed, Entry, Scenario};
 use std::alloc::Global;
-
-// The object of a reference.
-pub(crate) fn object_in(held: Option<RefValue>) -> Option<u32>
-    ensures { result ≡ object_in held }
-{
-    match held {
-        None => None,
-        Some(held) => Some(held.object),
-    }
-}
 
 // Appends what was done, in plain words.
 fn push_deed(

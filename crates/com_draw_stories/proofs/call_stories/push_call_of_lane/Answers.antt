@@ -2,7 +2,7 @@ use Rattle.std.proofs.Common.{◌++◌}
 use Rattle.std.proofs.lemmas.Result.{on_ok_weaker}
 use Rattle.com_draw_words.specs.Escapes.{link_text, word_and_number}
 use Rattle.std.specs.Prelude.{codes}
-use Rattle.com_draw_stories.proofs.Joins.{join}
+use Rattle.com_draw_names.proofs.Joins.{join}
 use Rattle.com_draw_stories.proofs.call_stories.push_call_of_lane.Goals as goal
 
 pub returns : goal.returns

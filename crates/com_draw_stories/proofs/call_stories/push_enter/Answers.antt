@@ -1,7 +1,7 @@
 use Rattle.std.proofs.Common.{◌++◌}
 use Rattle.std.proofs.lemmas.Result.{on_ok_weaker}
 use Rattle.com_draw_stories.specs.Calls.{entered_call, entered_method}
-use Rattle.com_draw_stories.proofs.Joins.{join}
+use Rattle.com_draw_names.proofs.Joins.{join}
 use Rattle.com_draw_stories.proofs.call_stories.push_enter.Goals as goal
 
 pub returns : goal.returns

@@ -1,9 +1,10 @@
 use Rattle.std.proofs.Common.{◌++◌}
 use Rattle.std.proofs.lemmas.Result.{on_ok_weaker}
-use Rattle.com_draw_stories.specs.Names.{lane_does, place_text, shown_called}
+use Rattle.com_draw_names.specs.Names.{place_text, shown_called}
+use Rattle.com_draw_stories.specs.Phrases.{lane_does}
 use Rattle.com_draw_words.specs.Escapes.{word_and_number}
 use Rattle.std.specs.Prelude.{codes}
-use Rattle.com_draw_stories.proofs.Joins.{join}
+use Rattle.com_draw_names.proofs.Joins.{join}
 use Rattle.com_draw_stories.proofs.call_stories.push_entered_method.Goals as goal
 
 pub returns : goal.returns

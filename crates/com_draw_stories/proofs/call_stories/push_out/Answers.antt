@@ -1,10 +1,11 @@
 use Rattle.std.proofs.Common.{◌++◌}
 use Rattle.std.proofs.lemmas.Result.{on_ok_weaker}
+use Rattle.com_draw_names.specs.Names.{object_text, shown_method}
 use Rattle.com_draw_stories.specs.Calls.{route_words}
-use Rattle.com_draw_stories.specs.Names.{lane_does, object_text, shown_method}
+use Rattle.com_draw_stories.specs.Phrases.{lane_does}
 use Rattle.com_draw_words.specs.Escapes.{word_and_number}
 use Rattle.std.specs.Prelude.{codes}
-use Rattle.com_draw_stories.proofs.Joins.{join}
+use Rattle.com_draw_names.proofs.Joins.{join}
 use Rattle.com_draw_stories.proofs.call_stories.push_out.Goals as goal
 
 pub returns : goal.returns

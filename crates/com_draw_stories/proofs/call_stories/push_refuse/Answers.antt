@@ -1,9 +1,10 @@
 use Rattle.std.proofs.Common.{◌++◌}
 use Rattle.std.proofs.lemmas.Result.{on_ok_weaker}
+use Rattle.com_draw_names.specs.Failures.{failure_text}
 use Rattle.com_draw_stories.specs.Calls.{call_of_lane}
-use Rattle.com_draw_stories.specs.Names.{failure_text, lane_does}
+use Rattle.com_draw_stories.specs.Phrases.{lane_does}
 use Rattle.std.specs.Prelude.{codes}
-use Rattle.com_draw_stories.proofs.Joins.{join}
+use Rattle.com_draw_names.proofs.Joins.{join}
 use Rattle.com_draw_stories.proofs.call_stories.push_refuse.Goals as goal
 
 pub returns : goal.returns

@@ -1,9 +1,9 @@
 use Rattle.std.proofs.Common.{◌++◌, w64}
 use Rattle.std.proofs.lemmas.Int.{to_z-of_z}
 use Rattle.std.proofs.lemmas.Result.{on_ok_weaker}
-use Rattle.com_draw_stories.specs.Names.{lane_signed}
+use Rattle.com_draw_stories.specs.Phrases.{lane_signed}
 use Rattle.std.specs.Prelude.{codes}
-use Rattle.com_draw_stories.proofs.Joins.{join}
+use Rattle.com_draw_names.proofs.Joins.{join}
 use Rattle.com_draw_stories.proofs.call_stories.push_told.Goals as goal
 
 pub returns : goal.returns

@@ -3,7 +3,7 @@ use Rattle.std.proofs.lemmas.Result.{on_ok_weaker}
 use Rattle.com_draw_stories.specs.Ends.{sinks_text}
 use Rattle.com_draw_words.specs.Escapes.{link_text}
 use Rattle.std.specs.Prelude.{codes}
-use Rattle.com_draw_stories.proofs.Joins.{join}
+use Rattle.com_draw_names.proofs.Joins.{join}
 use Rattle.com_draw_stories.proofs.ends.push_event.Goals as goal
 
 pub returns : goal.returns

@@ -1,9 +1,9 @@
 use Rattle.std.proofs.Common.{◌++◌}
 use Rattle.std.proofs.lemmas.Result.{on_ok_weaker}
-use Rattle.com_draw_stories.specs.Names.{lane_does}
+use Rattle.com_draw_stories.specs.Phrases.{lane_does}
 use Rattle.com_draw_words.specs.Escapes.{link_text}
 use Rattle.std.specs.Prelude.{codes}
-use Rattle.com_draw_stories.proofs.Joins.{join}
+use Rattle.com_draw_names.proofs.Joins.{join}
 use Rattle.com_draw_stories.proofs.ends.push_pool_story.Goals as goal
 
 pub returns : goal.returns

@@ -1,8 +1,8 @@
 use Rattle.std.proofs.Common.{◌++◌}
 use Rattle.std.proofs.lemmas.Result.{on_ok_weaker}
-use Rattle.com_draw_stories.specs.Names.{lane_does}
+use Rattle.com_draw_stories.specs.Phrases.{lane_does}
 use Rattle.com_draw_words.specs.Escapes.{link_text}
-use Rattle.com_draw_stories.proofs.Joins.{join}
+use Rattle.com_draw_names.proofs.Joins.{join}
 use Rattle.com_draw_stories.proofs.phrases.push_does_link.Goals as goal
 
 pub returns : goal.returns

@@ -1,8 +1,9 @@
 use Rattle.std.proofs.Common.{◌++◌, w64}
 use Rattle.std.proofs.lemmas.Int.{to_z-of_z}
 use Rattle.std.proofs.lemmas.Result.{on_ok_weaker}
-use Rattle.com_draw_stories.specs.Names.{failure_text, lane_signed}
-use Rattle.com_draw_stories.proofs.Joins.{join}
+use Rattle.com_draw_names.specs.Failures.{failure_text}
+use Rattle.com_draw_stories.specs.Phrases.{lane_signed}
+use Rattle.com_draw_names.proofs.Joins.{join}
 use Rattle.com_draw_stories.proofs.phrases.push_signed_fails.Goals as goal
 
 pub returns : goal.returns

@@ -1,6 +1,6 @@
 use Rattle.std.proofs.Common.{◌≡◌, true, w64}
 use Rattle.std.proofs.lemmas.Int.{to_z-of_z}
-use Rattle.com_draw_stories.specs.Names.{has_failed}
+use Rattle.com_draw_names.specs.Failures.{has_failed}
 use Rattle.com_draw_stories.proofs.reference_stories.push_get.Goals as goal
 
 pub returns-then-has_failed : goal.returns-then-has_failed

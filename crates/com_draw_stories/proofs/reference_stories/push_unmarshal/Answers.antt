@@ -1,5 +1,5 @@
 use Rattle.std.proofs.Common.{◌≡◌, true}
-use Rattle.com_draw_stories.specs.Names.{has_failed}
+use Rattle.com_draw_names.specs.Failures.{has_failed}
 use Rattle.com_draw_stories.proofs.reference_stories.push_unmarshal.Goals as goal
 
 pub returns-then-has_failed : goal.returns-then-has_failed

@@ -1,0 +1,5 @@
+use Rattle.std.proofs.Common.{append_assoc}
+use Rattle.com_draw_labels.proofs.call_labels.push_verdict.Goals as goal
+
+pub returns : goal.returns
+returns c = simp append_assoc at (rw c.in_ok-push_verb.ensures at c.push_word_and_number.ensures)

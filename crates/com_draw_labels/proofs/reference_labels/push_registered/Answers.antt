@@ -1,0 +1,5 @@
+use Rattle.std.proofs.Common.{append_assoc}
+use Rattle.com_draw_labels.proofs.reference_labels.push_registered.Goals as goal
+
+pub returns : goal.returns
+returns c = simp append_assoc at (rw c.in_ok-push_named.ensures at c.push_words_named.ensures)

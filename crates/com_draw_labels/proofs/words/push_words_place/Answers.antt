@@ -1,0 +1,5 @@
+use Rattle.std.proofs.Common.{append_assoc}
+use Rattle.com_draw_labels.proofs.words.push_words_place.Goals as goal
+
+pub returns : goal.returns
+returns c = simp append_assoc at (rw c.in_ok-push_all.ensures.ok at c.push_place.ensures)

@@ -1,0 +1,4 @@
+pub mod Labels
+pub mod Looks
+pub mod Reasons
+pub mod Words

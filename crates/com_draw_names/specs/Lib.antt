@@ -1,0 +1,4 @@
+pub mod Failures
+pub mod Filters
+pub mod Names
+pub mod Values

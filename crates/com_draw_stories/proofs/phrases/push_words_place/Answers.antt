@@ -1,5 +1,0 @@
-use Rattle.std.proofs.Common.{append_assoc}
-use Rattle.com_draw_stories.proofs.phrases.push_words_place.Goals as goal
-
-pub returns : goal.returns
-returns c = simp append_assoc at (rw c.in_ok-push_all.ensures.ok at c.push_place.ensures)

@@ -1,6 +1,0 @@
-use Rattle.std.proofs.Common.{append_assoc}
-use Rattle.com_draw_stories.proofs.values.push_passed.Goals as goal
-
-pub returns : goal.returns
-returns c =
-    simp append_assoc at (rw (c.in_ok-push_values.ensures, c.in_ok-push_all.ensures.ok) at c.push_all-2.ensures.ok)
