@@ -1,5 +1,5 @@
 -- A statement's words are good words.
-use Rattle.std.proofs.Common.{◌≡◌, ℕ, ◌-◌, ◌<◌, ◌≤◌, ◌^◌, inl, inr, List, [], ◌∷◌, ◌++◌, map, Option, Some, None, true, All, length, length-append, decimal, refl, ap, ◌∙◌, arith}
+use Rattle.std.proofs.Common.{◌≡◌, ℕ, ◌-◌, ◌<◌, ◌≤◌, ◌^◌, inl, inr, List, [], ◌∷◌, ◌++◌, map, Option, Some, None, Bool, true, false, if◌then◌else◌, All, length, length-append, decimal, refl, ap, ◌∙◌, arith}
 use Rattle.std.specs.List.{list_all}
 use Rattle.std.proofs.lemmas.List.Elements.{All-head, All-tail}
 use Rattle.std.proofs.lemmas.List.Folds.{list_all-append}
@@ -20,7 +20,7 @@ use Rattle.com_print.specs.Spelled.{Spelled, plain, IsSpelled, AreSpelled, IsPla
 use Rattle.com_print.specs.Words.{arg_word, destination_words, name_at}
 use Rattle.com_print.specs.Ranges.{Fits, FitsArg}
 use Rattle.com_print.proofs.Spellings.{register_spelled, slot_spelled, cell_spelled, buffer_spelled, place_spelled, op_spelled, decimal_spelled, asked_spelled, name_spelled, name_bytes, decimal_word, raw_spelled, code_spelled, given_spelled, destination_spelled, mode_spelled, marshal_mode_spelled}
-use Rattle.com_print.specs.StatementWords.{statement_words, filter_word, method_text, name_of, target_word}
+use Rattle.com_print.specs.StatementWords.{statement_words, filter_word, takes_nothing, alone_text, method_text, name_of, target_word}
 use Rattle.com_print.specs.Standing.{AreDeclared, Stands, IsFilter, IsCall, TakesArg, TakesArgs, TakesMethod}
 use Rattle.com_print.proofs.Targets.{is_method_name}
 
@@ -75,11 +75,27 @@ by_table names iface method given to (Some m) are lt has text range there takes 
       args_spelled m.params given (destination_words to) range takes.0 fits (destination_spelled to there),
     )
 
+-- the method of a call that gives nothing and keeps no result is bytes of words
+alone_bytes : (names : Names) (iface method : ℕ) (o : Option Method) (none : Bool) → AreDeclared names → method < 2 ^ 16 → method_of names.tables iface method ≡ o → takes_nothing o ≡ none
+    → list_all is_word_byte (method_text names iface method [] destinations.Nowhere) ≡ true
+alone_bytes names iface method o false are lt has takes =
+    ap (λ (x : Option Method). list_all is_word_byte (alone_text method x)) has
+    ∙ ap (λ (b : Bool). list_all is_word_byte (if b then name_of o else 35 ∷ decimal method)) takes
+    ∙ decimal_word method (omega arith)
+alone_bytes names iface method None true are lt has takes = absurd cc
+alone_bytes names iface method (Some m) true are lt has takes =
+    ap (λ (x : Option Method). list_all is_word_byte (alone_text method x)) has
+    ∙ ap (λ (b : Bool). list_all is_word_byte (if b then m.name else 35 ∷ decimal method)) takes
+    ∙ (name_bytes m.name (is_method_name names iface method m are has)).1
+
 call_spelled : (names : Names) (iface method : ℕ) (given : List Arg) (to : Destination) → AreDeclared names → All IsArg given → IsDestination to → IsCall names iface method given to → (method < 2 ^ 16) × All FitsArg given
     → CallSpelled names iface method given to
 call_spelled names iface method [] destinations.Nowhere are range there is fits =
-    let small = fits.0 in
-    (dotted_spelled (name_at names.interfaces iface) (35 ∷ decimal method) (name_spelled names.interfaces iface are.interfaces is.0) (decimal_word method (omega arith)), tt)
+    let o = method_of names.tables iface method in (
+      dotted_spelled (name_at names.interfaces iface) (method_text names iface method [] destinations.Nowhere) (name_spelled names.interfaces iface are.interfaces is.0)
+          (alone_bytes names iface method o (takes_nothing o) are fits.0 refl refl),
+      tt,
+    )
 call_spelled names iface method [] (destinations.Register n) are range there is fits = elim is.1 [
   | inl none ↦ (let e : destinations.Register n ≡ destinations.Nowhere = none.1 in absurd cc)
   | inr takes ↦ by_table names iface method [] (destinations.Register n) (method_of names.tables iface method) are is.0 refl refl range there takes fits.1

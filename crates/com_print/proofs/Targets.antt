@@ -4,6 +4,7 @@ use Rattle.std.specs.Char.{is_ascii_alphabetic}
 use Rattle.std.proofs.lemmas.Bool.Decides.{nat_tests}
 use Rattle.std.proofs.lemmas.List.Elements.{All-get_or}
 use Rattle.std.proofs.lemmas.Option.{get_or_from_slice_get, slice_get_within}
+use Rattle.com_base.specs.declared.value.Kind.{Kind}
 use Rattle.com_classes.specs.declared.interfaces.Interface.{Interface}
 use Rattle.com_classes.specs.declared.interfaces.Method.{Method}
 use Rattle.com_text.specs.Words.{WordAt}
@@ -107,6 +108,15 @@ numbered_again names line k iface method h are lt fits =
     both_hold = grind (arith, nat_tests)
 
 -- ---- by name
+
+one_more : (n : ℕ) → (suc n == 0) ≡ false
+one_more n = grind (arith, nat_tests)
+
+pub no_params : (ks : List Kind) → (length ks == 0) ≡ true → ks ≡ []
+no_params [] h = refl
+no_params (k ∷ ks) h =
+    let e : (length (k ∷ ks) == 0) ≡ false = one_more (length ks) in
+    absurd cc
 
 same_position : (ms : List Method) (name : List ℕ) → method_position ms name ≡ position_of (names_of ms) name
 same_position [] name = refl

@@ -105,9 +105,9 @@ Stands p names (stmts.SetFilter filter) = (has_cells p ≡ false) × IsFilter na
 Stands p names (stmts.Pump bound) = (has_cells p ≡ false) × (bound ≤ 1000)
 Stands p names _ = Unit {0}
 
--- names behind which more may be declared
+-- Names behind which more may be declared: the interfaces that are named have the same tables.
 pub record Extends (few all : Names) : Type 0 where
   pub classes : take (length few.classes) all.classes ≡ few.classes
   pub interfaces : take (length few.interfaces) all.interfaces ≡ few.interfaces
   pub filters : take (length few.filters) all.filters ≡ few.filters
-  pub tables : take (length few.tables) all.tables ≡ few.tables
+  pub tables : take (length few.interfaces) all.tables ≡ take (length few.interfaces) few.tables

@@ -1,5 +1,6 @@
 -- Statements as words: the line of each.
-use Rattle.std.specs.Prelude.{ℕ, ◌-◌, List, [], ◌∷◌, ◌++◌, map, Option, Some, None, codes, decimal}
+use Rattle.std.specs.Prelude.{ℕ, ◌-◌, ◌==◌, if◌then◌else◌, Bool, false, List, [], ◌∷◌, ◌++◌, map, length}
+use Rattle.std.specs.Prelude.{Option, Some, None, codes, decimal}
 use Rattle.hex.specs.Hex.{encode_lower}
 use Rattle.com_body.specs.declared.operands.Asked.{Asked}
 use Rattle.com_body.specs.declared.operands.Arg.{Arg}
@@ -33,10 +34,20 @@ abbrev pub name_of : Option Method → List ℕ
 name_of None = []
 name_of (Some m) = m.name
 
--- A method by its name. A call that gives nothing and keeps no result names it by its number, so that a
--- number that the interface's table lacks is written too.
+-- whether the table has the method, and it has no parameters
+abbrev pub takes_nothing : Option Method → Bool
+takes_nothing None = false
+takes_nothing (Some m) = length m.params == 0
+
+-- The method of a call that gives nothing and keeps no result. A call by name gives each parameter an
+-- argument. So a method that has parameters is written as # and its number, which sends their defaults; and so
+-- is a number that the interface's table lacks.
+abbrev pub alone_text : ℕ → Option Method → List ℕ
+alone_text method o = if takes_nothing o then name_of o else 35 ∷ decimal method
+
 abbrev pub method_text : Names → ℕ → ℕ → List Arg → Destination → List ℕ
-method_text names iface method [] destinations.Nowhere = 35 ∷ decimal method
+method_text names iface method [] destinations.Nowhere =
+    alone_text method (method_of names.tables iface method)
 method_text names iface method given to = name_of (method_of names.tables iface method)
 
 abbrev pub target_word : Names → ℕ → ℕ → List Arg → Destination → Spelled

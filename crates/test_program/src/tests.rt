@@ -122,3 +122,16 @@ fn a_first_write_that_fails_leaves_nothing_written(rt: HostRuntime) -> Result<()
     assert_eq!(rt; sink.held(), b"".as_slice());
     Ok(())
 }
+
+#[test]
+fn a_last_write_that_fails_leaves_all_but_the_last_byte(rt: HostRuntime) -> Result<(), Fail> {
+    let bytes = ByteList::from_slice(rt.alloc(), DIRECT_CALL)?;
+    let mut source = MemorySource::new(bytes, 1000, Vec::new(rt.alloc()));
+    let mut sink = MemorySink::new(rt.alloc(), 306, 1000, Vec::new(rt.alloc()))?;
+    assert_eq!(rt; replay(&rt, rt.alloc(), &mut source, &mut sink)?, 4);
+    match DIRECT_CALL_TEXT.split_last() {
+        Some((_, front)) => assert_eq!(rt; sink.held(), front),
+        None => assert!(rt; false),
+    }
+    Ok(())
+}

@@ -5,7 +5,7 @@ ghost use Rattle.com_print.specs.Spelled.{plain, words_text, more_text};
 ghost use Rattle.com_print.specs.Words.{slot_word, arg_word, destination_words};
 ghost use Rattle.com_print.specs.Ranges.{FitsArg};
 ghost use Rattle.com_read_statements.specs.Calls.{method_of};
-ghost use Rattle.com_print.specs.StatementWords.{name_of, target_word};
+ghost use Rattle.com_print.specs.StatementWords.{name_of, takes_nothing, alone_text, target_word};
 
 use crate::operands::{name_at, push_arg, push_destination};
 use crate::statements::shapes::one_slot;
@@ -56,7 +56,37 @@ fn push_named(out: &mut ByteList, name: &[u8]) -> Result<(), Memory>
     out.push_all(name)
 }
 
-// A call that gives nothing and keeps no result names its method by number.
+// Whether the tables have the method, and it has no parameters.
+fn has_no_parameters(tables: &[Interface], iface: u16, method: u16) -> bool
+    ensures { result ≡ takes_nothing (method_of tables.now iface method) }
+{
+    let Some(table) = tables.get(iface as usize) else {
+        return false;
+    };
+    match table.methods.as_slice().get(method as usize) {
+        Some(method) => method.params.len() == 0,
+        None => false,
+    }
+}
+
+// Appends the method of a call that gives nothing and keeps no result: by its name where it takes nothing, so
+// that the name is read as this call.
+fn push_alone(
+    out: &mut ByteList,
+    tables: &[Interface],
+    iface: u16,
+    method: u16,
+) -> Result<(), Memory>
+    ensures { OnOk result (out.new ≡
+        out.old ++ 46 ∷ alone_text method (method_of tables.now iface method)) }
+{
+    if has_no_parameters(tables, iface, method) {
+        return push_named(out, method_name(tables, iface, method));
+    }
+    push_numbered(out, method)
+}
+
+// Appends a space, the interface's name, a dot and the method.
 fn push_target(
     out: &mut ByteList,
     names: &Names,
@@ -71,7 +101,7 @@ fn push_target(
     out.push(b' ')?;
     out.push_all(name_at(names.interfaces.as_slice(), iface as usize))?;
     match (args, destination) {
-        ([], Destination::Nowhere) => push_numbered(out, method),
+        ([], Destination::Nowhere) => push_alone(out, names.tables.as_slice(), iface, method),
         _ => push_named(out, method_name(names.tables.as_slice(), iface, method)),
     }
 }
