@@ -26,8 +26,8 @@ IsUsage code sides =
     ⊎ ((code ≡ 4) × Rose sides.write_faults sides.write_faults_after
     × GainsPrefix sides.held sides.held_after usage_line)
 
--- Each exit status has its cause. Status 1 is that of other words alone; they read nothing, and their sides are
--- those without a source (`alone`).
+-- Each exit status has its cause. Status 1 is that of other words alone; they read nothing, and their sides
+-- are those without a source (`alone`).
 abbrev pub Answered : Request → (code : ℕ) → (sides alone : Sides) → Type 0
 Answered request.Replay code sides alone = Responds scenario_input IsDrawn code sides
 Answered request.Points code sides alone =

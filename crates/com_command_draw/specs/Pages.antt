@@ -13,8 +13,8 @@ use Rattle.com_draw.specs.Pages.{page}
 use Rattle.com_commands.specs.declared.statuses.Status.{Status}
 use Rattle.com_commands.specs.Statuses.{Concludes, end_concludes, status_at}
 
--- The page of a history that has ended so, with its own report and, where it is stuck, with what explains it; and
--- with these events marked.
+-- The page of a history that has ended so, with its own report and, where it is stuck, with what explains it;
+-- and with these events marked.
 unfoldable pub page_of : Scenario → List Entry → Ended → List Delivery → List ℕ
 page_of s h ends events =
     page s h (record {
@@ -42,7 +42,8 @@ pub record ArePointsDrawn (scenario : Scenario) (s : Status) (text : List ℕ) :
   pub status_is : s ≡ status_at ends
 
 -- These statuses are those of texts that were written whole.
-pub drawn_concludes : (scenario : Scenario) (s : Status) (text : List ℕ) → IsDrawn scenario s text → Concludes s
+pub drawn_concludes : (scenario : Scenario) (s : Status) (text : List ℕ) → IsDrawn scenario s text
+    → Concludes s
 drawn_concludes scenario s text is =
     subst (λ (x : Status). Concludes x) (sym is.status_is) (end_concludes is.ends)
 

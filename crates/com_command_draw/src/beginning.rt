@@ -119,12 +119,12 @@ fn begin_by<C: Runtime, K: Sink>(
     }
 }
 
-/// Makes the one history of a scenario's schedule and draws each entry as it is made; the lines of the history
-/// are written nowhere. With it come the entries in the order of their making, where they are to be kept. The
-/// only error is want of memory.
+/// Makes the one history of a scenario's schedule and draws each entry as it is made; the lines of the
+/// history are written nowhere. With it come the entries in the order of their making, where they are to be
+/// kept. The only error is want of memory.
 ///
-/// The row has one servant of each kind, in the order of the kinds, and keeps them so (`row`). Each entry that
-/// a body made is a step of the servant of its class's kind (`served`).
+/// The row has one servant of each kind, in the order of the kinds, and keeps them so (`row`). Each entry
+/// that a body made is a step of the servant of its class's kind (`served`).
 pub fn begin(
     alloc: Global,
     scenario: &Arc<Scenario>,

@@ -15,15 +15,16 @@ use com_io::{Sink, Source};
 use com_servant::Servant;
 use std::alloc::Global;
 
-/// Does what the words ask for: `replay` reads a scenario and writes the page of its one history; `points` reads
-/// a scenario that may have event sources, and marks the events; `trace` reads a scenario, the line `trace` and a
-/// trace, and writes the page of the history that the trace is, or which line differs. The answer is the exit
-/// status: each has its cause (`answers`). Status 1 comes exactly for other words, unless the line that says so
-/// cannot be written; then nothing was read (`unread`). Where want of memory comes, nothing was written
-/// (`unwritten`).
+/// Does what the words ask for: `replay` reads a scenario and writes the page of its one history; `points`
+/// reads a scenario that may have event sources, and marks the events; `trace` reads a scenario, the line
+/// `trace` and a trace, and writes the page of the history that the trace is, or which line differs. The
+/// answer is the exit status: each has its cause (`answers`). Status 1 comes exactly for other words, unless
+/// the line that says so cannot be written; then nothing was read (`unread`). Where want of memory comes,
+/// nothing was written (`unwritten`).
 ///
 /// The row has one servant of each kind, in the order of the kinds, and keeps them so (`row`). A request that
-/// replays has had them count the steps of the bodies of its history, where the status is 0, 5 or 6 (`served`).
+/// replays has had them count the steps of the bodies of its history, where the status is 0, 5 or 6
+/// (`served`).
 pub fn draw_main<S: Source, K: Sink>(
     alloc: Global,
     words: &[String],

@@ -13,8 +13,8 @@ use com_draw::Beside;
 use com_waits::Waits;
 use std::alloc::Global;
 
-/// The page of the one history of a scenario, by what was begun of it: with what explains how it ended, and with
-/// these events marked. The only error is want of memory.
+/// The page of the one history of a scenario, by what was begun of it: with what explains how it ended, and
+/// with these events marked. The only error is want of memory.
 pub fn end_page(
     alloc: Global,
     begun: Begun,

@@ -39,11 +39,11 @@ pub trait TellingCommand: InputReader {
     ghost concludes: { (read : Self.Read) (s : AnyStatus) (text : List ℕ) → fits read s text → Concludes s };
 }
 
-/// Does a command that replays by a row of servants and answers with one text: reads the input within its limit,
-/// makes of it what the reader says, and writes the answer to the sink. The answer is the exit status: each has
-/// its cause (`answers`), and where want of memory comes nothing was written (`unwritten`). Where it is 0, 5 or
-/// 6, each servant's steps rose by those of its bodies in the history (`served`). The kind at each index of the
-/// row stays (`row`).
+/// Does a command that replays by a row of servants and answers with one text: reads the input within its
+/// limit, makes of it what the reader says, and writes the answer to the sink. The answer is the exit status:
+/// each has its cause (`answers`), and where want of memory comes nothing was written (`unwritten`). Where it
+/// is 0, 5 or 6, each servant's steps rose by those of its bodies in the history (`served`). The kind at each
+/// index of the row stays (`row`).
 pub fn answer_by_row<C: TellingCommand, S: Source, K: Sink>(
     alloc: Global,
     servants: &mut Vec<Box<dyn Servant + Send>>,

@@ -1,5 +1,5 @@
-//! The program `comdraw`: histories drawn as pages. The page of the one history of a scenario, with or without
-//! event sources, and that of the history which a trace is.
+//! The program `comdraw`: histories drawn as pages. The page of the one history of a scenario, with or
+//! without event sources, and that of the history which a trace is.
 #![tactic(auto)]
 
 mod beginning;

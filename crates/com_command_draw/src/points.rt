@@ -72,8 +72,8 @@ impl TellingCommand for PointsPage {
     ghost concludes = { points_concludes };
 }
 
-// The page of a scenario's one history with the events of its sources, and the status of its end. The only error
-// is want of memory.
+// The page of a scenario's one history with the events of its sources, and the status of its end. The only
+// error is want of memory.
 fn draw_points(
     alloc: Global,
     scenario: Scenario,
@@ -99,14 +99,14 @@ fn draw_points(
     })
 }
 
-/// Reads a scenario from the source, whose text may declare event sources by lines
-/// `source <name> <guid> <model>`, and writes the page of its one history to the sink, with each event marked and
-/// with the cookies of the sinks that got it. An input that is too long or whose text is no scenario is refused
-/// by a line with the line, the column and the number of the fault. The answer is the exit status: each has its
-/// cause (`answers`). Where want of memory comes, nothing was written (`unwritten`).
+/// Reads a scenario from the source, whose text may declare event sources by lines `source <name> <guid>
+/// <model>`, and writes the page of its one history to the sink, with each event marked and with the cookies
+/// of the sinks that got it. An input that is too long or whose text is no scenario is refused by a line with
+/// the line, the column and the number of the fault. The answer is the exit status: each has its cause
+/// (`answers`). Where want of memory comes, nothing was written (`unwritten`).
 ///
-/// The row has one servant of each kind, in the order of the kinds, and keeps them so (`row`). Where the status
-/// is 0, 5 or 6, each has counted the entries that bodies of its kind made (`served`).
+/// The row has one servant of each kind, in the order of the kinds, and keeps them so (`row`). Where the
+/// status is 0, 5 or 6, each has counted the entries that bodies of its kind made (`served`).
 pub fn draw_points_main<S: Source, K: Sink>(
     alloc: Global,
     servants: &mut Vec<Box<dyn Servant + Send>>,

@@ -62,12 +62,13 @@ fn draw_replay(
 }
 
 /// Reads a scenario from the source, and writes the page of its one history to the sink: the history that
-/// `replay` of `com_top` writes, drawn, and where it is stuck, why. An input that is too long or whose text is
-/// no scenario is refused by a line with the line, the column and the number of the fault. The answer is the
-/// exit status: each has its cause (`answers`). Where want of memory comes, nothing was written (`unwritten`).
+/// `replay` of `com_top` writes, drawn, and where it is stuck, why. An input that is too long or whose text
+/// is no scenario is refused by a line with the line, the column and the number of the fault. The answer is
+/// the exit status: each has its cause (`answers`). Where want of memory comes, nothing was written
+/// (`unwritten`).
 ///
-/// The row has one servant of each kind, in the order of the kinds, and keeps them so (`row`). Where the status
-/// is 0, 5 or 6, each has counted the entries that bodies of its kind made (`served`).
+/// The row has one servant of each kind, in the order of the kinds, and keeps them so (`row`). Where the
+/// status is 0, 5 or 6, each has counted the entries that bodies of its kind made (`served`).
 pub fn draw_replay_main<S: Source, K: Sink>(
     alloc: Global,
     servants: &mut Vec<Box<dyn Servant + Send>>,

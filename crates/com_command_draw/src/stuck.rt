@@ -14,8 +14,8 @@ use com_waits::{Waits, waits_at};
 use std::alloc::{AllocError, Global};
 use std::sync::Arc;
 
-// The entries of the one history of a scenario, made by servants that have made no step. The only error is want
-// of memory.
+// The entries of the one history of a scenario, made by servants that have made no step. The only error is
+// want of memory.
 fn record(alloc: Global, scenario: &Arc<Scenario>) -> Result<Recorded, Memory>
     requires { Formed (arc_value scenario.now) }
     ensures { IfOk result (λ recorded. IsRecorded
@@ -29,8 +29,8 @@ fn record(alloc: Global, scenario: &Arc<Scenario>) -> Result<Recorded, Memory>
     }
 }
 
-// What explains the one history of a scenario: it is made once more, and its entries are kept. The only error is
-// want of memory.
+// What explains the one history of a scenario: it is made once more, and its entries are kept. The only error
+// is want of memory.
 fn explain_again(alloc: Global, scenario: &Arc<Scenario>) -> Result<Option<Waits>, Memory>
     requires { Formed (arc_value scenario.now) }
     ensures { IfOk result (λ waits. waits
@@ -45,8 +45,8 @@ fn explain_again(alloc: Global, scenario: &Arc<Scenario>) -> Result<Option<Waits
     )
 }
 
-/// What explains the one history of a scenario, which has ended so: nothing where it is not stuck. Only a stuck
-/// history is made once more, to look at its entries. The only error is want of memory.
+/// What explains the one history of a scenario, which has ended so: nothing where it is not stuck. Only a
+/// stuck history is made once more, to look at its entries. The only error is want of memory.
 #[tactic(auto, using(com_waits::proofs::Explained::ended_ok, com_waits::proofs::Explained::ended_budget))]
 pub fn explain_end(
     alloc: Global,

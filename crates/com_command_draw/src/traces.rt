@@ -119,10 +119,10 @@ fn draw_question(alloc: Global, question: Question) -> Result<Reply, Memory>
 }
 
 /// Reads a scenario's text, the line `trace` and a trace from the source. Where the trace is the text and the
-/// report of a history, the page of this history is written; else the trace's first line that differs, with the
-/// only line that may stand there. An input that is too long, whose text is no scenario or that has no line
-/// `trace` is refused. The answer is the exit status, as of `check`: each has its cause (`answers`). Where want
-/// of memory comes, nothing was written (`unwritten`).
+/// report of a history, the page of this history is written; else the trace's first line that differs, with
+/// the only line that may stand there. An input that is too long, whose text is no scenario or that has no
+/// line `trace` is refused. The answer is the exit status, as of `check`: each has its cause (`answers`).
+/// Where want of memory comes, nothing was written (`unwritten`).
 pub fn draw_trace_main<S: Source, K: Sink>(alloc: Global, source: &mut S, sink: &mut K) -> u8
     ensures answers { Responds question_input IsTraceAnswer result
         (sides_of S.left S.faults_of K.held K.faults_of source.old source.new sink.old sink.new) }

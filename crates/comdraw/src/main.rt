@@ -31,8 +31,8 @@ fn main(rt: HostRuntime) -> ExitCode {
     }
 }
 
-// Does what the words ask for, with a row of servants that have made no step: the answer is the status. The only
-// error is want of memory for the row; then nothing was read or written.
+// Does what the words ask for, with a row of servants that have made no step: the answer is the status. The
+// only error is want of memory for the row; then nothing was read or written.
 fn serve<S: Source, K: Sink>(
     alloc: Global,
     words: &[String],
