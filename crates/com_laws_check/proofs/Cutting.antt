@@ -1,6 +1,7 @@
 -- The text and the report of a legal history are cut into its own lines and those of its report.
-use Rattle.std.proofs.Common.{ap, ap₂, subst, sym, ◌∙◌, ◌⊎◌, inl, inr, append_assoc}
-use Rattle.std.specs.Prelude.{◌≡◌, refl, ℕ, ◌+◌, Bool, true, false, cond, not, ◌==◌, ◌&&◌, List, [], ◌∷◌, ◌++◌, length, Option, Some, None, is_some, codes, decimal}
+use Rattle.std.proofs.Common.{ap, ap₂, subst, sym, arith, ◌∙◌, ◌⊎◌, inl, inr, append_assoc}
+use Rattle.std.proofs.lemmas.Grind.{common_steps}
+use Rattle.std.specs.Prelude.{◌≡◌, refl, ℕ, ◌+◌, Bool, true, false, cond, not, ◌==◌, ◌&&◌, ◌||◌, List, [], ◌∷◌, ◌++◌, length, Option, Some, None, is_some, codes, decimal}
 use Rattle.com_model.specs.declared.counts.Counts.{Counts}
 use Rattle.com_model.specs.declared.counts.Ended.{Ended}
 use Rattle.com_model.specs.declared.counts.Ended.TheVariants as ended
@@ -47,27 +48,31 @@ history-cut s (e ∷ h) w p =
 
 -- ---- the end of a report
 
--- A text that ends with a byte that is no break, and a break.
-record Ends (w : List ℕ) : Type 0 where
-  front : List ℕ
-  last : ℕ
-  is : w ≡ front ++ last ∷ 10 ∷ []
-  plain : (last == 10) ≡ false
+-- The last letter of a report: that of "ok" and "stuck", or of "budget".
+abbrev pub is_last : ℕ → Bool
+is_last b = b == 107 || b == 116
+
+-- A text that ends with the last letter of a report, and a break.
+pub record Ends (w : List ℕ) : Type 0 where
+  pub front : List ℕ
+  pub last : ℕ
+  pub is : w ≡ front ++ last ∷ 10 ∷ []
+  pub letter : is_last last ≡ true
 
 ends-behind : (xs ys : List ℕ) → Ends ys → Ends (xs ++ ys)
 ends-behind xs ys e = record {
   front = xs ++ e.front;
   last = e.last;
   is = ap (λ (y : List ℕ). xs ++ y) e.is ∙ sym (append_assoc xs e.front (e.last ∷ 10 ∷ []));
-  plain = e.plain;
+  letter = e.letter;
 }
 
-ends-with : (front w : List ℕ) (b : ℕ) → (b == 10) ≡ false → Ends ((front ++ (w ++ b ∷ [])) ++ codes "\n")
+ends-with : (front w : List ℕ) (b : ℕ) → is_last b ≡ true → Ends ((front ++ (w ++ b ∷ [])) ++ codes "\n")
 ends-with front w b p = record {
   front = front ++ w;
   last = b;
   is = append_assoc front (w ++ b ∷ []) (10 ∷ []) ∙ ap (λ (y : List ℕ). front ++ y) (append_assoc w (b ∷ []) (10 ∷ [])) ∙ sym (append_assoc front w (b ∷ 10 ∷ []));
-  plain = p;
+  letter = p;
 }
 
 end-ends : (front : List ℕ) (x : Ended) → Ends ((front ++ ended_text x) ++ codes "\n")
@@ -82,6 +87,9 @@ ended-ends : (s : Scenario) (h : List Entry) (o : Option Ended) → is_some o �
 ended-ends s h None p = cc
 ended-ends s h (Some x) p = report-ends (all_counts s h) (length h) (clock h) x
 
+pub whole-ends : (s : Scenario) (h : List Entry) → is_some (ended_as s h) ≡ true → Ends (text s h ++ report s h)
+whole-ends s h e = ends-behind (text s h) (report s h) (ended-ends s h (ended_as s h) e)
+
 -- ---- without the last break
 
 tail-same : (x y : ℕ) (xs ys : List ℕ) → x ∷ xs ≡ y ∷ ys → xs ≡ ys
@@ -90,15 +98,21 @@ tail-same x y xs ys e = cc
 head-same : (x y : ℕ) (xs ys : List ℕ) → x ∷ xs ≡ y ∷ ys → x ≡ y
 head-same x y xs ys e = cc
 
-not-empty : (xs : List ℕ) (b : ℕ) → [] ≡ xs ++ b ∷ [] → ⊥
+pub not-empty : (xs : List ℕ) (b : ℕ) → [] ≡ xs ++ b ∷ [] → ⊥
 not-empty [] b e = cc
 not-empty (x ∷ xs) b e = cc
 
-same-front : (xs ys : List ℕ) (b : ℕ) → xs ++ b ∷ [] ≡ ys ++ b ∷ [] → xs ≡ ys
-same-front [] [] b e = refl
-same-front [] (y ∷ ys) b e = absurd (not-empty ys b (tail-same b y [] (ys ++ b ∷ []) e))
-same-front (x ∷ xs) [] b e = absurd (not-empty xs b (sym (tail-same x b (xs ++ b ∷ []) [] e)))
-same-front (x ∷ xs) (y ∷ ys) b e = ap₂ (λ (z : ℕ) (zs : List ℕ). z ∷ zs) (head-same x y (xs ++ b ∷ []) (ys ++ b ∷ []) e) (same-front xs ys b (tail-same x y (xs ++ b ∷ []) (ys ++ b ∷ []) e))
+pub same-front : (xs ys : List ℕ) (a b : ℕ) → xs ++ a ∷ [] ≡ ys ++ b ∷ [] → xs ≡ ys
+same-front [] [] a b e = refl
+same-front [] (y ∷ ys) a b e = absurd (not-empty ys b (tail-same a y [] (ys ++ b ∷ []) e))
+same-front (x ∷ xs) [] a b e = absurd (not-empty xs a (sym (tail-same x b (xs ++ a ∷ []) [] e)))
+same-front (x ∷ xs) (y ∷ ys) a b e = ap₂ (λ (z : ℕ) (zs : List ℕ). z ∷ zs) (head-same x y (xs ++ a ∷ []) (ys ++ b ∷ []) e) (same-front xs ys a b (tail-same x y (xs ++ a ∷ []) (ys ++ b ∷ []) e))
+
+pub same-end : (xs ys : List ℕ) (a b : ℕ) → xs ++ a ∷ [] ≡ ys ++ b ∷ [] → a ≡ b
+same-end [] [] a b e = head-same a b [] [] e
+same-end [] (y ∷ ys) a b e = absurd (not-empty ys b (tail-same a y [] (ys ++ b ∷ []) e))
+same-end (x ∷ xs) [] a b e = absurd (not-empty xs a (sym (tail-same x b (xs ++ a ∷ []) [] e)))
+same-end (x ∷ xs) (y ∷ ys) a b e = same-end xs ys a b (tail-same x y (xs ++ a ∷ []) (ys ++ b ∷ []) e)
 
 one-line : (b : ℕ) (t : Bool) → t ≡ false → cond t ([] ∷ [] ∷ []) (onto b ([] ∷ [])) ≡ cond t ([] ∷ []) (onto b [])
 one-line b true e = cc
@@ -109,16 +123,19 @@ unfolding lines_of
 end-lines [] b p = one-line b (b == 10) p
 end-lines (x ∷ front) b p = ap (λ (ls : List (List ℕ)). cond (x == 10) ([] ∷ ls) (onto x ls)) (end-lines front b p)
 
+pub no-letter : (b : ℕ) → is_last b ≡ true → (b == 10) ≡ false
+no-letter b p = grind (arith, common_steps, p)
+
 up-to-end : (trace w : List ℕ) → Ends w → IsUpToEnd trace w → lines_of trace ≡ lines_of w
 up-to-end trace w e (inl p) = ap lines_of p
 up-to-end trace w e (inr p) =
-    let front : trace ≡ e.front ++ e.last ∷ [] = same-front trace (e.front ++ e.last ∷ []) 10 (p ∙ e.is ∙ sym (append_assoc e.front (e.last ∷ []) (10 ∷ []))) in
-    ap lines_of front ∙ sym (end-lines e.front e.last e.plain) ∙ ap lines_of (sym e.is)
+    let front : trace ≡ e.front ++ e.last ∷ [] = same-front trace (e.front ++ e.last ∷ []) 10 10 (p ∙ e.is ∙ sym (append_assoc e.front (e.last ∷ []) (10 ∷ []))) in
+    ap lines_of front ∙ sym (end-lines e.front e.last (no-letter e.last e.letter)) ∙ ap lines_of (sym e.is)
 
 -- ---- the whole
 
 pub whole-cut : (s : Scenario) (h : List Entry) (trace : List ℕ) → EachEntry (HasWholeLine s) h → is_some (ended_as s h) ≡ true → IsUpToEnd trace (text s h ++ report s h) → lines_of trace ≡ history_lines s.version h ++ report_lines s h
 unfolding report_lines
 whole-cut s h trace p e u =
-    up-to-end trace (text s h ++ report s h) (ends-behind (text s h) (report s h) (ended-ends s h (ended_as s h) e)) u
+    up-to-end trace (text s h ++ report s h) (whole-ends s h e) u
     ∙ history-cut s h (report s h) p
