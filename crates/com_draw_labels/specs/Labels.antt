@@ -1,5 +1,6 @@
 -- What an entry's label says, before it is escaped.
-use Rattle.std.specs.Prelude.{ℕ, ℤ, pos, ◌==◌, int_lt, Bool, if◌then◌else◌, List, [], ◌++◌, Option, Some, None, codes}
+use Rattle.std.specs.Prelude.{ℕ, ℤ, pos, ◌==◌, int_lt, Bool, if◌then◌else◌, List, [], ◌++◌, Option, Some}
+use Rattle.std.specs.Prelude.{None, codes}
 use Rattle.com_base.specs.declared.hresult.HResult.{HResult}
 use Rattle.com_base.specs.declared.value.RefValue.{RefValue}
 use Rattle.com_base.specs.declared.value.Value.{Value}
@@ -13,6 +14,7 @@ use Rattle.com_model.specs.declared.deeds.Entry.{Entry}
 use Rattle.com_model.specs.declared.scenario.Scenario.{Scenario}
 use Rattle.com_model.specs.Deeds.{object_in}
 use Rattle.com_model.specs.Text.{hresult_text, named}
+use Rattle.com_draw_names.specs.declared.contexts.Born.{Born}
 use Rattle.com_draw_names.specs.declared.contexts.Caller.{Caller}
 use Rattle.com_draw_names.specs.declared.contexts.Context.{Context}
 use Rattle.com_draw_names.specs.Failures.{has_failed, hresult_behind, hresult_if}
@@ -38,13 +40,13 @@ uninit_label (Some a) n = if n == 0 then words_place (codes "leaves ") a else co
 abbrev pub unmade_label : Tables → (version : ℕ) → Asked → HResult → List ℕ
 unmade_label t v class hr = codes "new " ++ class_words t class ++ hresult_behind v hr
 
-abbrev pub made_label : Tables → (object apartment : Option ℕ) → Asked → List ℕ
-made_label t o a class =
-    words_named (codes "new ") (codes "o") o ++ codes " " ++ class_words t class
-    ++ words_named (codes " in ") (codes "a") a
+abbrev pub made_label : Tables → Born → Asked → List ℕ
+made_label t b class =
+    words_named (codes "new ") (codes "o") b.object ++ codes " " ++ class_words t class
+    ++ words_named (codes " in ") (codes "a") b.apartment
 
-abbrev pub create_label : Tables → (version : ℕ) → (object apartment : Option ℕ) → Asked → HResult → List ℕ
-create_label t v o a class hr = if has_failed hr then unmade_label t v class hr else made_label t o a class
+abbrev pub create_label : Tables → (version : ℕ) → Born → Asked → HResult → List ℕ
+create_label t v b class hr = if has_failed hr then unmade_label t v class hr else made_label t b class
 
 abbrev pub query_label : Tables → (version : ℕ) → (object : Option ℕ) → Asked → HResult → List ℕ
 query_label t v o i hr = object_text o ++ codes " as " ++ interface_words t i ++ hresult_if v hr
@@ -171,7 +173,8 @@ pending_label c w n =
 abbrev pub deed_label : Tables → (version : ℕ) → Context → Deed → List ℕ
 deed_label t v x (deed.Init m home hr) = init_label v home x.has_home hr
 deed_label t v x (deed.Uninit home count) = uninit_label home count
-deed_label t v x (deed.Made object apartment class iface hr) = create_label t v object apartment class hr
+deed_label t v x (deed.Made object apartment class iface hr) =
+    create_label t v (record { object = object; apartment = apartment }) class hr
 deed_label t v x (deed.Query object iface hr) = query_label t v object iface hr
 deed_label t v x (deed.Copy held) = copy_label held
 deed_label t v x (deed.Release held) = release_label held

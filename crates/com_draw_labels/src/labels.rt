@@ -6,7 +6,7 @@ use crate::words::push_words_signed;
 use crate::{call_labels as calls, reference_labels as references};
 use com_base::{ByteList, Memory};
 use com_classes::Classes;
-use com_draw_names::{Context, object_in};
+use com_draw_names::{Born, Context, object_in};
 use com_draw_words::push_word_and_number;
 use com_model::{Deed, Entry, Scenario};
 
@@ -35,7 +35,13 @@ fn push_deed(
             class,
             hr,
             ..
-        } => { references::push_create(out, classes, version, *object, *apartment, class, *hr) }
+        } => {
+            let born = Born {
+                object: *object,
+                apartment: *apartment,
+            };
+            references::push_create(out, classes, version, born, class, *hr)
+        }
         Deed::Query { object, iface, hr } => {
             references::push_query(out, classes, version, *object, iface, *hr)
         }

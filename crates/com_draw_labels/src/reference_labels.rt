@@ -11,7 +11,7 @@ use com_base::{ByteList, HResult, Memory, RefValue};
 use com_body::Asked;
 use com_classes::Classes;
 use com_draw_names::{
-    has_failed, push_class, push_hresult_behind, push_hresult_if, push_interface, push_named,
+    Born, has_failed, push_class, push_hresult_behind, push_hresult_if, push_interface, push_named,
     push_object,
 };
 use com_draw_words::push_word_and_number;
@@ -60,37 +60,29 @@ fn push_unmade(
     push_hresult_behind(out, version, hr)
 }
 
-fn push_made(
-    out: &mut ByteList,
-    classes: &Classes,
-    object: Option<u32>,
-    apartment: Option<u32>,
-    class: &Asked,
-) -> Result<(), Memory>
-    ensures { OnOk result (out.new ≡ out.old ++ made_label classes.now object apartment class.now) }
+fn push_made(out: &mut ByteList, classes: &Classes, born: Born, class: &Asked) -> Result<(), Memory>
+    ensures { OnOk result (out.new ≡ out.old ++ made_label classes.now born class.now) }
 {
-    push_words_named(out, b"new ", b"o", object)?;
+    push_words_named(out, b"new ", b"o", born.object)?;
     out.push_all(b" ")?;
     push_class(out, classes, class)?;
-    push_words_named(out, b" in ", b"a", apartment)
+    push_words_named(out, b" in ", b"a", born.apartment)
 }
 
 pub(crate) fn push_create(
     out: &mut ByteList,
     classes: &Classes,
     version: u8,
-    object: Option<u32>,
-    apartment: Option<u32>,
+    born: Born,
     class: &Asked,
     hr: HResult,
 ) -> Result<(), Memory>
-    ensures { OnOk result (out.new
-        ≡ out.old ++ create_label classes.now version object apartment class.now hr) }
+    ensures { OnOk result (out.new ≡ out.old ++ create_label classes.now version born class.now hr) }
 {
     if has_failed(hr) {
         return push_unmade(out, classes, version, class, hr);
     }
-    push_made(out, classes, object, apartment, class)
+    push_made(out, classes, born, class)
 }
 
 pub(crate) fn push_query(

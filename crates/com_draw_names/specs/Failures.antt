@@ -1,5 +1,6 @@
 -- HRESULTs: which of them tell a failure, and what is said of them.
-use Rattle.std.specs.Prelude.{ℕ, ◌==◌, Bool, nat_le, if◌then◌else◌, List, [], ◌++◌, Option, Some, None, unwrap_or, codes}
+use Rattle.std.specs.Prelude.{ℕ, ◌==◌, Bool, nat_le, if◌then◌else◌, List, [], ◌++◌, Option, Some, None}
+use Rattle.std.specs.Prelude.{unwrap_or, codes}
 use Rattle.com_base.specs.declared.hresult.HResult.{HResult}
 use Rattle.com_model.specs.Text.{hresult_text}
 

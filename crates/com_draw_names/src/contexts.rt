@@ -19,3 +19,12 @@ pub struct Context {
     /// Who made the entry's call, where it has one that is open.
     pub caller: Option<Caller>,
 }
+
+/// What an activation made: an object, and the apartment in which it lives; neither where it failed.
+#[derive(Debug, Clone, Copy, PartialEq, Eq)]
+pub struct Born {
+    /// The object.
+    pub object: Option<u32>,
+    /// The apartment in which it lives.
+    pub apartment: Option<u32>,
+}

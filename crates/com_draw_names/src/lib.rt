@@ -8,7 +8,7 @@ mod names;
 mod values;
 
 pub use com_base::Memory;
-pub use contexts::{Caller, Context};
+pub use contexts::{Born, Caller, Context};
 pub use failures::{
     has_failed, push_failure, push_failure_if, push_hresult, push_hresult_behind, push_hresult_if,
 };

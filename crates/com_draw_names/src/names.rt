@@ -6,8 +6,8 @@ ghost use Rattle.com_draw_words.specs.Escapes.{escaped};
 ghost use Rattle.com_model.specs.Deeds.{object_in};
 ghost use Rattle.com_model.specs.Text.{named};
 ghost use Rattle.com_draw_names.specs.Names.{called_words, class_name, class_words, interface_name};
-ghost use Rattle.com_draw_names.specs.Names.{interface_words, method_words, object_text, place_at, place_text};
-ghost use Rattle.com_draw_names.specs.Names.{shown_called, shown_method};
+ghost use Rattle.com_draw_names.specs.Names.{interface_words, method_words, object_text, place_at};
+ghost use Rattle.com_draw_names.specs.Names.{place_text, shown_called, shown_method};
 
 use crate::contexts::Caller;
 use com_base::{ByteList, Memory, RefValue};
@@ -150,8 +150,8 @@ pub fn push_shown_interface(
     }
 }
 
-/// Appends the name of a method as it is, or its number where there is no such method. The only error is want of
-/// memory.
+/// Appends the name of a method as it is, or its number where there is no such method. The only error is want
+/// of memory.
 pub fn push_method(
     out: &mut ByteList,
     classes: &Classes,
@@ -166,8 +166,8 @@ pub fn push_method(
     }
 }
 
-/// Appends the escaped name of a method, or its number where there is no such method. The only error is want of
-/// memory.
+/// Appends the escaped name of a method, or its number where there is no such method. The only error is want
+/// of memory.
 pub fn push_shown_method(
     out: &mut ByteList,
     classes: &Classes,
@@ -182,8 +182,8 @@ pub fn push_shown_method(
     }
 }
 
-/// Appends the method that a caller called, by its name as it is; nothing where nobody waits for the call. The
-/// only error is want of memory.
+/// Appends the method that a caller called, by its name as it is; nothing where nobody waits for the call.
+/// The only error is want of memory.
 pub fn push_called(
     out: &mut ByteList,
     classes: &Classes,
@@ -197,8 +197,8 @@ pub fn push_called(
     }
 }
 
-/// Appends the escaped name of the method that a caller called; nothing where nobody waits for the call. The only
-/// error is want of memory.
+/// Appends the escaped name of the method that a caller called; nothing where nobody waits for the call. The
+/// only error is want of memory.
 pub fn push_shown_called(
     out: &mut ByteList,
     classes: &Classes,

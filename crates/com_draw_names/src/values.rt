@@ -97,7 +97,8 @@ fn push_values(out: &mut ByteList, values: &[Value]) -> Result<(), Memory>
     }
 }
 
-/// Appends the values that a method gets, in their parentheses behind a space. The only error is want of memory.
+/// Appends the values that a method gets, in their parentheses behind a space. The only error is want of
+/// memory.
 pub fn push_passed(out: &mut ByteList, values: &[Value]) -> Result<(), Memory>
     ensures { OnOk result (out.new ≡ out.old ++ passed_text values.now) }
 {
@@ -136,8 +137,8 @@ fn push_shown_value(alloc: Global, out: &mut ByteList, value: &Value) -> Result<
     push_escaped(out, words.as_slice())
 }
 
-/// Appends a value in its parentheses as a story has it, escaped and behind a colon; nothing where there is none.
-/// The only error is want of memory.
+/// Appends a value in its parentheses as a story has it, escaped and behind a colon; nothing where there is
+/// none. The only error is want of memory.
 pub fn push_shown_given(
     alloc: Global,
     out: &mut ByteList,

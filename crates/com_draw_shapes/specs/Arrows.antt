@@ -22,7 +22,13 @@ called_arrow k l j (Some w) =
 unfoldable pub pointing_text : Points → (lane depth : ℕ) → Option Waiter → State → List ℕ
 pointing_text point.Nowhere l d w b = []
 pointing_text (point.Word m) l d w b =
-    arrow_text (record { kind = kind.Word; other = m; other_level = depth_of (lane_at b.lanes m); lane = l; level = d })
+    arrow_text (record {
+      kind = kind.Word;
+      other = m;
+      other_level = depth_of (lane_at b.lanes m);
+      lane = l;
+      level = d;
+    })
 pointing_text point.Refusal l d w b = called_arrow kind.Refusal l d w
 pointing_text point.Go l d w b = called_arrow kind.Go l (d + 1) w
 pointing_text point.Answer l d w b = called_arrow kind.Answer l d w

@@ -1,6 +1,6 @@
 -- The boxes of homes, of what is open, and of the lives of objects.
-use Rattle.std.specs.Prelude.{ℕ, ◌+◌, ◌*◌, Bool, true, false, nat_le, if◌then◌else◌, List, [], ◌∷◌, ◌++◌, Option, Some, None}
-use Rattle.std.specs.Prelude.{length}
+use Rattle.std.specs.Prelude.{ℕ, ◌+◌, ◌*◌, Bool, true, false, nat_le, if◌then◌else◌, List, [], ◌∷◌, ◌++◌}
+use Rattle.std.specs.Prelude.{Option, Some, None, length}
 use Rattle.com_draw_state.specs.declared.lanes.Home.{Home}
 use Rattle.com_draw_state.specs.declared.lanes.Lane.{Lane}
 use Rattle.com_draw_state.specs.declared.stacks.Manner.{Manner}
@@ -119,18 +119,20 @@ is_chosen (chosen.LiveIn a) t = is_live_in a t
 is_chosen (chosen.LiveOf o) t = is_live_of o t
 is_chosen (chosen.Of o) t = is_of o t
 
-abbrev pub life_boxes : Start → (lane : ℕ) → Foot → (number : ℕ) → Option Track → List ℕ
+-- What is drawn of a track: its life, where the track is chosen.
+abbrev pub chosen_track : Chosen → Option Track → Option Track
+chosen_track x t = if is_chosen x t then t else None
+
+-- The box of an object's life on a track, where there is one.
+unfoldable pub life_boxes : Start → (lane : ℕ) → Foot → (number : ℕ) → Option Track → List ℕ
 life_boxes here m f k None = []
 life_boxes here m f k (Some t) = box_text (track_box here m f k t)
-
--- The box of an object's life, where there is one on the track and it is chosen.
-unfoldable pub chosen_boxes : Start → (lane : ℕ) → Foot → Chosen → (number : ℕ) → Option Track → List ℕ
-chosen_boxes here m f x k t = if is_chosen x t then life_boxes here m f k t else []
 
 -- The boxes of the chosen tracks, of which the first has this number.
 abbrev pub track_boxes : Start → (lane : ℕ) → Foot → Chosen → (number : ℕ) → List (Option Track) → List ℕ
 track_boxes here m f x k [] = []
-track_boxes here m f x k (t ∷ ts) = chosen_boxes here m f x k t ++ track_boxes here m f x (k + 1) ts
+track_boxes here m f x k (t ∷ ts) =
+    life_boxes here m f k (chosen_track x t) ++ track_boxes here m f x (k + 1) ts
 
 -- ---- what an entry closes
 
@@ -158,5 +160,6 @@ closing_boxes here l close.Nothing b = []
 closing_boxes here l (close.Home a) b =
     home_boxes here l foot.Inner (home_in (lane_at b.lanes l)) ++ cut_boxes here a b
 closing_boxes here l close.Innermost b = innermost_boxes here l (lane_at b.lanes l)
-closing_boxes here l (close.Cut o) b = track_boxes here (objects_lane b) foot.Inner (chosen.LiveOf o) 0 b.tracks
+closing_boxes here l (close.Cut o) b =
+    track_boxes here (objects_lane b) foot.Inner (chosen.LiveOf o) 0 b.tracks
 closing_boxes here l (close.Life o) b = track_boxes here (objects_lane b) foot.Inner (chosen.Of o) 0 b.tracks

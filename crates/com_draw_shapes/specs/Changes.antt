@@ -23,8 +23,8 @@ opened_on here l (opens.Life o a) b =
 opened_on here l (opens.Level w) b =
     with_lanes (with_lane (with_opening (record { what = w; start = here })) l b.lanes) b
 
--- A lane leaves its home, and with an STA that a thread made the objects of that are cut off: from the next row
--- on they are drawn so.
+-- A lane leaves its home, and with an STA that a thread made the objects of that are cut off: from the next
+-- row on they are drawn so.
 abbrev pub left_on : Start → (lane apartment : ℕ) → State → State
 left_on here l a b =
     if nat_le 3 a

@@ -1,6 +1,7 @@
--- What an entry opens, closes, points at and touches: each by an effect of its own. An entry that a definition
--- does not name does nothing to what it speaks of.
-use Rattle.std.specs.Prelude.{ℕ, ◌^◌, ℤ, pos, negsuc, Bool, ◌||◌, ◌==◌, nat_lt, if◌then◌else◌, Option, Some, None}
+-- What an entry opens, closes, points at and touches: each by an effect of its own. An entry that a
+-- definition does not name does nothing to what it speaks of.
+use Rattle.std.specs.Prelude.{ℕ, ◌^◌, ℤ, pos, negsuc, Bool, ◌||◌, ◌==◌, nat_lt, if◌then◌else◌, Option, Some}
+use Rattle.std.specs.Prelude.{None}
 use Rattle.com_base.specs.declared.hresult.HResult.{HResult}
 use Rattle.com_base.specs.declared.value.RefValue.{RefValue}
 use Rattle.com_model.specs.declared.deeds.Deed.{Deed}
@@ -38,7 +39,8 @@ opened_by has_home (deed.Made (Some o) (Some a) class iface hr) = opens_life o a
 opened_by has_home (deed.Pump bound) = opens.Level what.Pumps
 opened_by has_home (deed.Out call object iface method r cause bytes) =
     opens.Level (what.Waits call (manner_of r) iface method)
-opened_by has_home (deed.Enter call object apartment call_type values) = opens.Level (what.Runs call apartment)
+opened_by has_home (deed.Enter call object apartment call_type values) =
+    opens.Level (what.Runs call apartment)
 opened_by has_home _ = opens.Nothing
 
 -- ---- what closes
@@ -49,8 +51,8 @@ closes_home a count = if count == 0 then close.Home a else close.Nothing
 abbrev pub closes_object : (object : ℕ) → HResult → Closing
 closes_object o hr = if is_failure hr then close.Nothing else close.Cut o
 
--- The home of a lane that leaves it for good, what is innermost, and the life of an object, which is cut off or
--- is no more.
+-- The home of a lane that leaves it for good, what is innermost, and the life of an object, which is cut off
+-- or is no more.
 abbrev pub closed_by : Deed → Closing
 closed_by (deed.Uninit (Some a) count) = closes_home a count
 closed_by deed.EndPump = close.Innermost

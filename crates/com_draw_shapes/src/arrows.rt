@@ -33,8 +33,8 @@ fn push_called(
     }
 }
 
-/// Appends the arrow of an entry in a lane of this depth, as the board was before. `waiter` is who waits for the
-/// entry's call.
+/// Appends the arrow of an entry in a lane of this depth, as the board was before. `waiter` is who waits for
+/// the entry's call. The only error is want of memory.
 #[tactic(auto, unfolding(crate::specs::Arrows::pointing_text))]
 pub fn push_pointing(
     out: &mut ByteList,
@@ -75,7 +75,8 @@ fn push_touch_on(out: &mut ByteList, lane: u32, number: Option<u32>) -> Result<(
     }
 }
 
-/// Appends the mark of the object that an entry touches, where it has a track.
+/// Appends the mark of the object that an entry touches, where it has a track. The only error is want of
+/// memory.
 #[tactic(auto, unfolding(crate::specs::Arrows::touched_text))]
 pub fn push_touched(out: &mut ByteList, touched: Option<u32>, board: &Board) -> Result<(), Memory>
     ensures { OnOk result (out.new ≡ out.old ++ touched_text touched board.now) }

@@ -2,9 +2,10 @@
 ghost use Rattle.std.specs.Prelude.{◌≡◌, ◌<◌, ◌≤◌, ◌^◌, ◌++◌, OnOk, length};
 ghost use Rattle.com_draw_state.specs.Lanes.{lane_at};
 ghost use Rattle.com_draw_state.specs.Stacks.{innermost};
-ghost use Rattle.com_draw_shapes.specs.Boxes.{chosen_boxes, closing_boxes, cut_boxes, home_box, home_boxes, home_in};
-ghost use Rattle.com_draw_shapes.specs.Boxes.{hue_in, inner_of, innermost_box, innermost_boxes, is_chosen, kind_of, life_of};
-ghost use Rattle.com_draw_shapes.specs.Boxes.{objects_lane, opening_box, opening_boxes, opening_text, track_box};
+ghost use Rattle.com_draw_shapes.specs.Boxes.{chosen_track, closing_boxes, cut_boxes, home_box, home_boxes};
+ghost use Rattle.com_draw_shapes.specs.Boxes.{home_in, hue_in, inner_of, innermost_box, innermost_boxes};
+ghost use Rattle.com_draw_shapes.specs.Boxes.{is_chosen, kind_of, life_boxes, life_of, objects_lane};
+ghost use Rattle.com_draw_shapes.specs.Boxes.{opening_box, opening_boxes, opening_text, track_box};
 ghost use Rattle.com_draw_shapes.specs.Boxes.{track_boxes};
 
 use crate::effects::Closing;
@@ -195,27 +196,33 @@ fn is_chosen(chosen: Chosen, track: &Option<Track>) -> bool
     }
 }
 
-// Appends the box of an object's life, where there is one on the track and it is chosen.
-#[tactic(auto, unfolding(crate::specs::Boxes::chosen_boxes))]
-fn push_track(
+// What is drawn of a track: its life, where the track is chosen.
+fn chosen_track(chosen: Chosen, track: &Option<Track>) -> Option<Track>
+    ensures { result ≡ chosen_track chosen track.now }
+{
+    if is_chosen(chosen, track) {
+        return *track;
+    }
+    None
+}
+
+// Appends the box of an object's life on a track, where there is one.
+#[tactic(auto, unfolding(crate::specs::Boxes::life_boxes))]
+fn push_life(
     out: &mut ByteList,
     here: Start,
     lane: u32,
     foot: Foot,
-    chosen: Chosen,
     number: u32,
-    track: &Option<Track>,
+    life: Option<Track>,
 ) -> Result<(), Memory>
     requires here { here.row < 40 }
     requires number { number < 2 ^ 31 }
-    ensures { OnOk result (out.new ≡ out.old ++ chosen_boxes here lane foot chosen number track.now) }
+    ensures { OnOk result (out.new ≡ out.old ++ life_boxes here lane foot number life) }
 {
-    if !is_chosen(chosen, track) {
-        return Ok(());
-    }
-    match track {
+    match life {
         None => Ok(()),
-        Some(track) => push_box(out, track_box(here, lane, foot, number, *track)),
+        Some(track) => push_box(out, track_box(here, lane, foot, number, track)),
     }
 }
 
@@ -235,7 +242,8 @@ pub(crate) fn push_tracks(
     let mut rest = tracks;
     let mut number = 0u32;
     'tracks: while let Some((track, others)) = rest.split_first() {
-        push_track(out, here, lane, foot, chosen, number, track)?;
+        let life = chosen_track(chosen, track);
+        push_life(out, here, lane, foot, number, life)?;
         number += 1;
         rest = others;
     }
@@ -328,7 +336,8 @@ fn push_last(out: &mut ByteList, here: Start, lane: u32, openings: &Openings) ->
     }
 }
 
-/// Appends the boxes of what an entry in a lane closes, as the board was before.
+/// Appends the boxes of what an entry in a lane closes, as the board was before. The only error is want of
+/// memory.
 #[tactic(auto, unfolding(crate::specs::Boxes::closing_boxes))]
 pub fn push_closing(
     out: &mut ByteList,

@@ -79,8 +79,8 @@ pub fn has_home(board: &Board, lane: u32) -> bool
     }
 }
 
-/// What an entry changes of the board: its lane acted, and what it opens and closes. The only error is want of
-/// memory.
+/// What an entry changes of the board: its lane acted, and what it opens and closes. The only error is want
+/// of memory.
 #[tactic(auto, unfolding(crate::specs::Changes::changed))]
 pub fn change(board: &mut Board, here: Start, entry: &Entry) -> Result<(), Memory>
     requires { here.row < 40 }

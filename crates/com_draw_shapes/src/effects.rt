@@ -1,8 +1,8 @@
 //! What an entry opens, closes, points at and touches.
 ghost use Rattle.std.specs.Prelude.{◌≡◌};
-ghost use Rattle.com_draw_shapes.specs.Effects.{closed_by, closes_home, closes_object, held_object, lane_number};
-ghost use Rattle.com_draw_shapes.specs.Effects.{manner_of, opened_by, opens_home, opens_life, points_of, points_to};
-ghost use Rattle.com_draw_shapes.specs.Effects.{touched_by};
+ghost use Rattle.com_draw_shapes.specs.Effects.{closed_by, closes_home, closes_object, held_object};
+ghost use Rattle.com_draw_shapes.specs.Effects.{lane_number, manner_of, opened_by, opens_home, opens_life};
+ghost use Rattle.com_draw_shapes.specs.Effects.{points_of, points_to, touched_by};
 
 use com_base::{HResult, RefValue};
 use com_draw_state::{Manner, Opened};

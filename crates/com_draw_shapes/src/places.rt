@@ -25,8 +25,8 @@ pub fn opens_section(row: u64) -> bool
     (row - 1) % ROWS as u64 == 0
 }
 
-/// Where an entry stands, by its number from 1: each up to the limit has a row, and the others stand above the
-/// section behind.
+/// Where an entry stands, by its number from 1: each up to the limit has a row, and the others stand above
+/// the section behind.
 pub fn start_of(place: u64) -> Start
     requires { 1 ≤ place }
     ensures value { result ≡ start_of place }

@@ -1,8 +1,9 @@
 //! The fronts and the ends of sections.
 ghost use Rattle.std.specs.Prelude.{◌≡◌, ◌<◌, ◌≤◌, ◌^◌, ◌++◌, [], OnOk, length};
 ghost use Rattle.com_model.specs.Lists.{is_member};
-ghost use Rattle.com_draw_shapes.specs.Sections.{back_of_section, boxes_below, columns, foot_in, front_of_section, lane_boxes};
-ghost use Rattle.com_draw_shapes.specs.Sections.{lanes_boxes, row_begins, row_before};
+ghost use Rattle.com_draw_shapes.specs.Sections.{back_of_section, boxes_below, columns, foot_in};
+ghost use Rattle.com_draw_shapes.specs.Sections.{front_of_section, lane_boxes, lanes_boxes, row_begins};
+ghost use Rattle.com_draw_shapes.specs.Sections.{row_before};
 
 use crate::boxes::{Chosen, objects_lane, push_home, push_openings, push_tracks};
 use crate::places::{opens_section, row_at};
@@ -28,7 +29,8 @@ fn push_columns(out: &mut ByteList, count: u32) -> Result<(), Memory>
     Ok(())
 }
 
-/// Appends the front of a section: a column for each lane and for the objects.
+/// Appends the front of a section: a column for each lane and for the objects. The only error is want of
+/// memory.
 #[tactic(auto, unfolding(crate::specs::Sections::front_of_section))]
 pub fn open_section(out: &mut ByteList, board: &Board) -> Result<(), Memory>
     ensures { OnOk result (out.new ≡ out.old ++ front_of_section board.now) }
@@ -101,8 +103,8 @@ fn push_lanes(out: &mut ByteList, here: Start, cycle: &[u32], lanes: &[Lane]) ->
     Ok(())
 }
 
-/// Appends the end of a section, whose last row is here. Where it is the last section, the boxes of the lanes of
-/// the cycle are marked.
+/// Appends the end of a section, whose last row is here. Where it is the last section, the boxes of the lanes
+/// of the cycle are marked. The only error is want of memory.
 #[tactic(auto, unfolding(crate::specs::Sections::back_of_section))]
 pub fn close_section(
     out: &mut ByteList,
@@ -147,8 +149,8 @@ fn close_before(out: &mut ByteList, row: u64, board: &Board) -> Result<(), Memor
     close_section(out, row_at(row - 1), &[], board)
 }
 
-/// Appends what stands before a row of the page, by its number from 1: where a section begins with it, the end
-/// of the section above, and the front of this one.
+/// Appends what stands before a row of the page, by its number from 1: where a section begins with it, the
+/// end of the section above, and the front of this one. The only error is want of memory.
 #[tactic(auto, unfolding(crate::specs::Sections::row_begins))]
 pub fn begin_row(out: &mut ByteList, row: u64, board: &Board) -> Result<(), Memory>
     requires { 1 ≤ row }

@@ -1,6 +1,6 @@
 -- The lanes of a picture, which are numbered from 1, and what changes in one.
-use Rattle.std.specs.Prelude.{ℕ, ◌+◌, ◌-◌, Bool, true, false, ◌==◌, ◌||◌, nat_lt, max, if◌then◌else◌}
-use Rattle.std.specs.Prelude.{List, [], ◌∷◌, ◌++◌, Option, Some, None, length, slice_get, slice_index_or, slice_set}
+use Rattle.std.specs.Prelude.{ℕ, ◌+◌, ◌-◌, Bool, true, false, ◌==◌, ◌||◌, nat_lt, max, if◌then◌else◌, List}
+use Rattle.std.specs.Prelude.{[], ◌∷◌, ◌++◌, Option, Some, None, length, slice_get, slice_index_or, slice_set}
 use Rattle.std.specs.Option.{option_or}
 use Rattle.com_draw_state.specs.declared.lanes.Waiter.{Waiter}
 use Rattle.com_draw_state.specs.declared.lanes.Home.{Home}

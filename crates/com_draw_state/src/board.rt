@@ -1,5 +1,6 @@
 //! The lanes and the tracks of a picture together.
-ghost use Rattle.std.specs.Prelude.{◌≡◌, ◌+◌, ◌<◌, ◌≤◌, ◌^◌, ◌++◌, ◌∷◌, [], IfOk, MatchOption, OnOk, length, map};
+ghost use Rattle.std.specs.Prelude.{◌≡◌, ◌+◌, ◌<◌, ◌≤◌, ◌^◌, ◌++◌, ◌∷◌, [], IfOk, MatchOption, OnOk, length};
+ghost use Rattle.std.specs.Prelude.{map};
 ghost use Rattle.com_draw_state.specs.Board.{copies, first_board, home_from_above, with_lanes, with_tracks};
 ghost use Rattle.com_draw_state.specs.Lanes.{acted, depth_of, homed, lane_at, new_lane, waiter_in};
 ghost use Rattle.com_draw_state.specs.Lanes.{widened, with_lane, with_opening, without_innermost};

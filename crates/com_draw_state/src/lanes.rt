@@ -30,7 +30,8 @@ pub struct Lane {
     pub width: u16,
 }
 
-/// Who waits for a call: the lane, the depth at which the call stands open in it, and the method that it names.
+/// Who waits for a call: the lane, the depth at which the call stands open in it, and the method that it
+/// names.
 #[derive(Debug, Clone, Copy, PartialEq, Eq)]
 pub struct Waiter {
     /// The lane, from 1.

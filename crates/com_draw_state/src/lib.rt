@@ -1,4 +1,5 @@
-//! What a picture keeps while it is drawn: the lanes with what stands open in them, and the tracks of objects.
+//! What a picture keeps while it is drawn: the lanes with what stands open in them, and the tracks of
+//! objects.
 //!
 //! It takes memory for lanes, for what is open and for tracks, and none for entries.
 #![tactic(auto)]

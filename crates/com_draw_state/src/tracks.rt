@@ -1,7 +1,7 @@
 //! The tracks beside the lanes, in which the lives of objects are drawn.
 ghost use Rattle.std.specs.Prelude.{◌≡◌, ◌<◌, ◌≤◌, [], IfSome, OnOk, length, map, slice_set};
-ghost use Rattle.com_draw_state.specs.Tracks.{cut, cut_of_apartment, cut_of_object, free_in, freed, is_live_in};
-ghost use Rattle.com_draw_state.specs.Tracks.{is_live_of, is_of, taken, taken_at, track_of};
+ghost use Rattle.com_draw_state.specs.Tracks.{cut, cut_of_apartment, cut_of_object, free_in, freed};
+ghost use Rattle.com_draw_state.specs.Tracks.{is_live_in, is_live_of, is_of, taken, taken_at, track_of};
 
 use crate::stacks::Start;
 use com_base::Memory;

@@ -17,6 +17,8 @@ use Rattle.com_model.specs.declared.scenario.Scenario.{Scenario}
 use Rattle.com_model.specs.Deeds.{object_in}
 use Rattle.com_draw_names.specs.declared.contexts.Caller.{Caller}
 use Rattle.com_draw_names.specs.declared.contexts.Context.{Context}
+use Rattle.com_draw_stories.specs.declared.speakers.Called.{Called}
+use Rattle.com_draw_stories.specs.declared.speakers.Entered.{Entered}
 use Rattle.com_draw_stories.specs.declared.speakers.Speaker.{Speaker}
 use Rattle.com_draw_names.specs.Failures.{failure_text, has_failed}
 use Rattle.com_draw_names.specs.Names.{object_text, place_text, shown_called, shown_method}
@@ -42,7 +44,8 @@ sent_story l m w = lane_signed l (codes " sends word ") w ++ codes " to L" ++ si
 
 abbrev pub post_story : Speaker → (to word : ℤ) → HResult → List ℕ
 post_story s m w hr =
-    if has_failed hr then signed_fails s (codes " cannot send a word to lane ") m hr else sent_story s.lane m w
+    if has_failed hr then signed_fails s (codes " cannot send a word to lane ") m hr
+    else sent_story s.lane m w
 
 abbrev pub told_story : (lane : ℕ) → (to : ℤ) → List ℕ
 told_story l m = lane_signed l (codes " tells L") m ++ codes " to end its pump"
@@ -69,9 +72,9 @@ route_words route.Switch = codes "), and changes apartments for it"
 route_words route.Post = codes ") in another apartment, and waits"
 route_words route.Refused = codes "), which is refused at once"
 
-abbrev pub out_story : Tables → (lane call : ℕ) → (object : Option ℕ) → (iface method : ℕ) → Route → List ℕ
-out_story t l c o i m r =
-    lane_does l (codes " calls ") ++ shown_method t i m ++ codes " of " ++ object_text o
+abbrev pub out_story : Tables → Caller → (call : ℕ) → (object : Option ℕ) → Route → List ℕ
+out_story t k c o r =
+    lane_does k.lane (codes " calls ") ++ shown_method t k.iface k.method ++ codes " of " ++ object_text o
     ++ word_and_number (codes " (c") c ++ route_words r
 
 -- The lane that made a call; 0 where nobody waits for it.
@@ -91,7 +94,8 @@ type_reason n =
     else codes ": its own call waits"
 
 abbrev pub verdict_story : (lane caller call call_type : ℕ) → Verdict → List ℕ
-verdict_story l m c n v = lane_does l (codes "'s filter ") ++ verdict_verb v ++ call_of_lane c m ++ type_reason n
+verdict_story l m c n v =
+    lane_does l (codes "'s filter ") ++ verdict_verb v ++ call_of_lane c m ++ type_reason n
 
 abbrev pub refuse_story : Speaker → (caller call : ℕ) → HResult → List ℕ
 refuse_story s m c hr =
@@ -108,17 +112,16 @@ type_words None = []
 type_words (Some n) =
     if n == 2 then codes ": a callback" else if n == 4 then codes ", while its own call waits" else []
 
-abbrev pub entered_call : (lane : ℕ) → Option Caller → (call : ℕ) → (call_type : Option ℕ) → List ℕ
-entered_call l x c n = for_lane l x ++ codes " (" ++ link_text c ++ codes ")" ++ type_words n
+abbrev pub entered_call : (lane : ℕ) → Called → (call_type : Option ℕ) → List ℕ
+entered_call l c n = for_lane l c.caller ++ codes " (" ++ link_text c.call ++ codes ")" ++ type_words n
 
-abbrev pub entered_method : Tables → (lane : ℕ) → Option Caller → (object apartment : ℕ) → List ℕ
-entered_method t l x o a =
-    lane_does l (codes " runs ") ++ shown_called t x ++ word_and_number (codes " of o") o ++ codes " in "
-    ++ place_text a
+abbrev pub entered_method : Tables → (lane : ℕ) → Option Caller → Entered → List ℕ
+entered_method t l k b =
+    lane_does l (codes " runs ") ++ shown_called t k ++ word_and_number (codes " of o") b.object
+    ++ codes " in " ++ place_text b.apartment
 
-abbrev pub enter_story :
-    Tables → (lane : ℕ) → Option Caller → (call object apartment : ℕ) → (call_type : Option ℕ) → List ℕ
-enter_story t l x c o a n = entered_method t l x o a ++ entered_call l x c n
+abbrev pub enter_story : Tables → (lane : ℕ) → Called → Entered → List ℕ
+enter_story t l c b = entered_method t l c.caller b ++ entered_call l c b.call_type
 
 -- How a call ended: why it failed, or what it gave.
 abbrev pub outcome : (version : ℕ) → HResult → Option Value → List ℕ
@@ -128,9 +131,9 @@ abbrev pub unwaited : Option Caller → List ℕ
 unwaited None = codes "; nobody waits for it"
 unwaited (Some k) = []
 
-abbrev pub leave_story : Speaker → Option Caller → (call : ℕ) → HResult → Option Value → List ℕ
-leave_story s x c hr v =
-    lane_does s.lane (codes " answers ") ++ link_text c ++ outcome s.version hr v ++ unwaited x
+abbrev pub leave_story : Speaker → Called → HResult → Option Value → List ℕ
+leave_story s c hr v =
+    lane_does s.lane (codes " answers ") ++ link_text c.call ++ outcome s.version hr v ++ unwaited c.caller
 
 abbrev pub back_story : Speaker → (call : ℕ) → HResult → Option Value → List ℕ
 back_story s c hr v = lane_does s.lane (codes " has the answer of ") ++ link_text c ++ outcome s.version hr v
@@ -166,7 +169,8 @@ tick_story n = codes "No lane can go on, so the clock moves to " ++ decimal n ++
 abbrev pub deed_story : Tables → Speaker → Context → Deed → List ℕ
 deed_story t s x (deed.Init m home hr) = init_story s home x.has_home hr
 deed_story t s x (deed.Uninit home count) = uninit_story s.lane home count
-deed_story t s x (deed.Made object apartment class iface hr) = create_story t s object apartment class hr
+deed_story t s x (deed.Made object apartment class iface hr) =
+    create_story t s (record { object = object; apartment = apartment }) class hr
 deed_story t s x (deed.Query object iface hr) = query_story t s object iface hr
 deed_story t s x (deed.Copy held) = copy_story s.lane held
 deed_story t s x (deed.Release held) = release_story s.lane held
@@ -184,12 +188,14 @@ deed_story t s x (deed.Pump bound) = pump_story s.lane bound
 deed_story t s x deed.EndPump = lane_does s.lane (codes " ends its pump")
 deed_story t s x (deed.Word word) = took_story s.lane word
 deed_story t s x (deed.Out call object iface method r cause bytes) =
-    out_story t s.lane call object iface method r
-deed_story t s x (deed.Verdict call call_type v) = verdict_story s.lane (caller_lane x.caller) call call_type v
+    out_story t (record { lane = s.lane; iface = iface; method = method }) call object r
+deed_story t s x (deed.Verdict call call_type v) =
+    verdict_story s.lane (caller_lane x.caller) call call_type v
 deed_story t s x (deed.Refuse call hr) = refuse_story s (caller_lane x.caller) call hr
 deed_story t s x (deed.Enter call object apartment call_type values) =
-    enter_story t s.lane x.caller call object apartment call_type
-deed_story t s x (deed.Leave call hr v bytes) = leave_story s x.caller call hr v
+    enter_story t s.lane (record { call = call; caller = x.caller })
+    (record { object = object; apartment = apartment; call_type = call_type })
+deed_story t s x (deed.Leave call hr v bytes) = leave_story s (record { call = call; caller = x.caller }) hr v
 deed_story t s x (deed.Retry call answer) = retry_story s.lane call answer
 deed_story t s x (deed.Again call) = lane_link s.lane (codes " sends ") call (codes " again")
 deed_story t s x (deed.Back call hr v) = back_story s call hr v

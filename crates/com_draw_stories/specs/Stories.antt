@@ -1,5 +1,6 @@
 -- What an entry says in plain words: the rows that stand for apartments, objects and references.
-use Rattle.std.specs.Prelude.{ℕ, ℤ, ◌==◌, Bool, if◌then◌else◌, List, [], ◌++◌, Option, Some, None, codes, decimal}
+use Rattle.std.specs.Prelude.{ℕ, ℤ, ◌==◌, Bool, if◌then◌else◌, List, [], ◌++◌, Option, Some, None, codes}
+use Rattle.std.specs.Prelude.{decimal}
 use Rattle.std.specs.Fmt.{signed_decimal}
 use Rattle.com_base.specs.declared.hresult.HResult.{HResult}
 use Rattle.com_base.specs.declared.value.MarshalMode.{MarshalMode}
@@ -9,6 +10,7 @@ use Rattle.com_body.specs.declared.operands.Asked.{Asked}
 use Rattle.com_classes.specs.Tables.{Tables}
 use Rattle.com_draw_words.specs.Escapes.{escaped, word_and_number}
 use Rattle.com_model.specs.Text.{named}
+use Rattle.com_draw_names.specs.declared.contexts.Born.{Born}
 use Rattle.com_draw_stories.specs.declared.speakers.Speaker.{Speaker}
 use Rattle.com_draw_names.specs.Failures.{failure_if, failure_text, has_failed}
 use Rattle.com_draw_names.specs.Names.{class_words, interface_words, object_text, place_at}
@@ -36,14 +38,14 @@ abbrev pub unmade_story : Tables → Speaker → Asked → HResult → List ℕ
 unmade_story t s class hr =
     lane_does s.lane (codes " cannot make a ") ++ escaped (class_words t class) ++ failure_text s.version hr
 
-abbrev pub made_story : Tables → (lane : ℕ) → (object apartment : Option ℕ) → Asked → List ℕ
-made_story t l o a class =
-    lane_named l (codes " makes ") (codes "o") o ++ codes ", a " ++ escaped (class_words t class)
-    ++ codes "; it lives in " ++ place_at a
+abbrev pub made_story : Tables → (lane : ℕ) → Born → Asked → List ℕ
+made_story t l b class =
+    lane_named l (codes " makes ") (codes "o") b.object ++ codes ", a " ++ escaped (class_words t class)
+    ++ codes "; it lives in " ++ place_at b.apartment
 
-abbrev pub create_story : Tables → Speaker → (object apartment : Option ℕ) → Asked → HResult → List ℕ
-create_story t s o a class hr =
-    if has_failed hr then unmade_story t s class hr else made_story t s.lane o a class
+abbrev pub create_story : Tables → Speaker → Born → Asked → HResult → List ℕ
+create_story t s b class hr =
+    if has_failed hr then unmade_story t s class hr else made_story t s.lane b class
 
 abbrev pub query_story : Tables → Speaker → (object : Option ℕ) → Asked → HResult → List ℕ
 query_story t s o i hr =
@@ -70,7 +72,8 @@ packed_story l p m o =
     lane_named l (codes " packs a reference to ") (codes "o") o ++ codes " into " ++ named (codes "pk") p
     ++ mode_words m
 
-abbrev pub marshal_story : Speaker → (packet : Option ℕ) → MarshalMode → (object : Option ℕ) → HResult → List ℕ
+abbrev pub marshal_story :
+    Speaker → (packet : Option ℕ) → MarshalMode → (object : Option ℕ) → HResult → List ℕ
 marshal_story s p m o hr =
     if has_failed hr then object_fails s (codes " cannot pack a reference to ") o [] hr
     else packed_story s.lane p m o
@@ -126,4 +129,5 @@ disconnect_story s o hr =
 
 abbrev pub final_story : (lane object : ℕ) → List ℕ
 final_story l o =
-    word_and_number (codes "Nothing holds o") o ++ word_and_number (codes " any more: L") l ++ codes " destroys it"
+    word_and_number (codes "Nothing holds o") o ++ word_and_number (codes " any more: L") l
+    ++ codes " destroys it"

@@ -10,7 +10,7 @@ ghost use Rattle.com_draw_stories.specs.Calls.{took_story, type_reason, type_wor
 ghost use Rattle.com_draw_stories.specs.Calls.{waits_on};
 
 use crate::phrases::{push_at, push_does, push_does_link, push_does_signed, push_signed_fails};
-use crate::speakers::Speaker;
+use crate::speakers::{Called, Entered, Speaker};
 use com_base::{ByteList, HResult, Memory, Value};
 use com_classes::Classes;
 use com_draw_names::{
@@ -130,17 +130,15 @@ fn push_route(out: &mut ByteList, route: Route) -> Result<(), Memory>
 pub(crate) fn push_out(
     out: &mut ByteList,
     classes: &Classes,
-    lane: u32,
+    caller: Caller,
     call: u32,
     object: Option<u32>,
-    iface: u16,
-    method: u16,
     route: Route,
 ) -> Result<(), Memory>
-    ensures { OnOk result (out.new ≡ out.old ++ out_story classes.now lane call object iface method route) }
+    ensures { OnOk result (out.new ≡ out.old ++ out_story classes.now caller call object route) }
 {
-    push_does(out, lane, b" calls ")?;
-    push_shown_method(out, classes, iface, method)?;
+    push_does(out, caller.lane, b" calls ")?;
+    push_shown_method(out, classes, caller.iface, caller.method)?;
     out.push_all(b" of ")?;
     push_object(out, object)?;
     push_word_and_number(out, b" (c", call)?;
@@ -235,15 +233,14 @@ fn push_type(out: &mut ByteList, call_type: Option<u8>) -> Result<(), Memory>
 fn push_entered_call(
     out: &mut ByteList,
     lane: u32,
-    caller: Option<Caller>,
-    call: u32,
+    called: Called,
     call_type: Option<u8>,
 ) -> Result<(), Memory>
-    ensures { OnOk result (out.new ≡ out.old ++ entered_call lane caller call call_type) }
+    ensures { OnOk result (out.new ≡ out.old ++ entered_call lane called call_type) }
 {
-    push_for_lane(out, lane, caller)?;
+    push_for_lane(out, lane, called.caller)?;
     out.push_all(b" (")?;
-    push_link(out, call)?;
+    push_link(out, called.call)?;
     out.push_all(b")")?;
     push_type(out, call_type)
 }
@@ -253,33 +250,28 @@ fn push_entered_method(
     classes: &Classes,
     lane: u32,
     caller: Option<Caller>,
-    object: u32,
-    apartment: u32,
+    entered: Entered,
 ) -> Result<(), Memory>
-    ensures { OnOk result (out.new ≡ out.old ++ entered_method classes.now lane caller object apartment) }
+    ensures { OnOk result (out.new ≡ out.old ++ entered_method classes.now lane caller entered) }
 {
     push_does(out, lane, b" runs ")?;
     push_shown_called(out, classes, caller)?;
-    push_word_and_number(out, b" of o", object)?;
+    push_word_and_number(out, b" of o", entered.object)?;
     out.push_all(b" in ")?;
-    push_place(out, apartment)
+    push_place(out, entered.apartment)
 }
 
 pub(crate) fn push_enter(
     out: &mut ByteList,
     classes: &Classes,
     lane: u32,
-    caller: Option<Caller>,
-    call: u32,
-    object: u32,
-    apartment: u32,
-    call_type: Option<u8>,
+    called: Called,
+    entered: Entered,
 ) -> Result<(), Memory>
-    ensures { OnOk result (out.new
-        ≡ out.old ++ enter_story classes.now lane caller call object apartment call_type) }
+    ensures { OnOk result (out.new ≡ out.old ++ enter_story classes.now lane called entered) }
 {
-    push_entered_method(out, classes, lane, caller, object, apartment)?;
-    push_entered_call(out, lane, caller, call, call_type)
+    push_entered_method(out, classes, lane, called.caller, entered)?;
+    push_entered_call(out, lane, called, entered.call_type)
 }
 
 // Appends how a call ended: why it failed, or what it gave.
@@ -311,17 +303,16 @@ pub(crate) fn push_leave(
     alloc: Global,
     out: &mut ByteList,
     speaker: Speaker,
-    caller: Option<Caller>,
-    call: u32,
+    called: Called,
     hr: HResult,
     value: &Option<Value>,
 ) -> Result<(), Memory>
-    ensures { OnOk result (out.new ≡ out.old ++ leave_story speaker caller call hr value.now) }
+    ensures { OnOk result (out.new ≡ out.old ++ leave_story speaker called hr value.now) }
 {
     push_does(out, speaker.lane, b" answers ")?;
-    push_link(out, call)?;
+    push_link(out, called.call)?;
     push_outcome(alloc, out, speaker.version, hr, value)?;
-    push_unwaited(out, caller)
+    push_unwaited(out, called.caller)
 }
 
 pub(crate) fn push_back(

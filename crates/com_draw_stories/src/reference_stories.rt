@@ -16,7 +16,7 @@ use com_base::{ByteList, HResult, MarshalMode, Memory, RefValue};
 use com_body::Asked;
 use com_classes::Classes;
 use com_draw_names::{
-    has_failed, push_failure, push_failure_if, push_named, push_object, push_place_at,
+    Born, has_failed, push_failure, push_failure_if, push_named, push_object, push_place_at,
     push_shown_class, push_shown_interface, push_signed,
 };
 use com_draw_words::{push_number, push_word_and_number};
@@ -82,35 +82,32 @@ fn push_made(
     out: &mut ByteList,
     classes: &Classes,
     lane: u32,
-    object: Option<u32>,
-    apartment: Option<u32>,
+    born: Born,
     class: &Asked,
 ) -> Result<(), Memory>
-    ensures { OnOk result (out.new ≡ out.old ++ made_story classes.now lane object apartment class.now) }
+    ensures { OnOk result (out.new ≡ out.old ++ made_story classes.now lane born class.now) }
 {
-    push_does_named(out, lane, b" makes ", b"o", object)?;
+    push_does_named(out, lane, b" makes ", b"o", born.object)?;
     out.push_all(b", a ")?;
     push_shown_class(out, classes, class)?;
     out.push_all(b"; it lives in ")?;
-    push_place_at(out, apartment)
+    push_place_at(out, born.apartment)
 }
 
 pub(crate) fn push_create(
     out: &mut ByteList,
     classes: &Classes,
     speaker: Speaker,
-    object: Option<u32>,
-    apartment: Option<u32>,
+    born: Born,
     class: &Asked,
     hr: HResult,
 ) -> Result<(), Memory>
-    ensures { OnOk result (out.new
-        ≡ out.old ++ create_story classes.now speaker object apartment class.now hr) }
+    ensures { OnOk result (out.new ≡ out.old ++ create_story classes.now speaker born class.now hr) }
 {
     if has_failed(hr) {
         return push_unmade(out, classes, speaker, class, hr);
     }
-    push_made(out, classes, speaker.lane, object, apartment, class)
+    push_made(out, classes, speaker.lane, born, class)
 }
 
 pub(crate) fn push_query(

@@ -1,4 +1,6 @@
-//! Who speaks in a story.
+//! Who speaks in a story, and of which call.
+
+use com_draw_names::Caller;
 
 /// Whose words these are: the version of the scenario, by which an HRESULT is written, and the entry's lane.
 #[derive(Debug, Clone, Copy, PartialEq, Eq)]
@@ -7,4 +9,24 @@ pub struct Speaker {
     pub version: u8,
     /// The entry's lane.
     pub lane: u32,
+}
+
+/// A call that a story tells of.
+#[derive(Debug, Clone, Copy, PartialEq, Eq)]
+pub struct Called {
+    /// The call.
+    pub call: u32,
+    /// Who made it, where somebody waits for it.
+    pub caller: Option<Caller>,
+}
+
+/// A body that begins to run.
+#[derive(Debug, Clone, Copy, PartialEq, Eq)]
+pub struct Entered {
+    /// The object whose method it is.
+    pub object: u32,
+    /// The apartment in which it runs.
+    pub apartment: u32,
+    /// What it comes in between, by the call's type; nothing for a call that came by no message.
+    pub call_type: Option<u8>,
 }

@@ -3,11 +3,11 @@ ghost use Rattle.std.specs.Prelude.{◌≡◌, ◌++◌, OnOk};
 ghost use Rattle.com_draw_stories.specs.Calls.{deed_story, story};
 
 use crate::phrases::{push_does, push_does_link};
-use crate::speakers::Speaker;
+use crate::speakers::{Called, Entered, Speaker};
 use crate::{call_stories as calls, reference_stories as references};
 use com_base::{ByteList, Memory};
 use com_classes::Classes;
-use com_draw_names::{Context, object_in};
+use com_draw_names::{Born, Caller, Context, object_in};
 use com_model::{Deed, Entry, Scenario};
 use std::alloc::Global;
 
@@ -39,7 +39,13 @@ fn push_deed(
             class,
             hr,
             ..
-        } => { references::push_create(out, classes, speaker, *object, *apartment, class, *hr) }
+        } => {
+            let born = Born {
+                object: *object,
+                apartment: *apartment,
+            };
+            references::push_create(out, classes, speaker, born, class, *hr)
+        }
         Deed::Query { object, iface, hr } => {
             references::push_query(out, classes, speaker, *object, iface, *hr)
         }
@@ -83,7 +89,14 @@ fn push_deed(
             method,
             route,
             ..
-        } => { calls::push_out(out, classes, lane, *call, *object, *iface, *method, *route) }
+        } => {
+            let caller = Caller {
+                lane,
+                iface: *iface,
+                method: *method,
+            };
+            calls::push_out(out, classes, caller, *call, *object, *route)
+        }
         Deed::Verdict {
             call,
             call_type,
@@ -97,23 +110,29 @@ fn push_deed(
             call_type,
             ..
         } => {
-            calls::push_enter(
-                out,
-                classes,
-                lane,
-                context.caller,
-                *call,
-                *object,
-                *apartment,
-                *call_type,
-            )
+            let called = Called {
+                call: *call,
+                caller: context.caller,
+            };
+            let entered = Entered {
+                object: *object,
+                apartment: *apartment,
+                call_type: *call_type,
+            };
+            calls::push_enter(out, classes, lane, called, entered)
         }
         Deed::Leave {
             call,
             hr,
             value,
             ..
-        } => { calls::push_leave(alloc, out, speaker, context.caller, *call, *hr, value) }
+        } => {
+            let called = Called {
+                call: *call,
+                caller: context.caller,
+            };
+            calls::push_leave(alloc, out, speaker, called, *hr, value)
+        }
         Deed::Retry { call, answer } => calls::push_retry(out, lane, *call, *answer),
         Deed::Again { call } => push_does_link(out, lane, b" sends ", *call, b" again"),
         Deed::Back { call, hr, value } => calls::push_back(alloc, out, speaker, *call, *hr, value),
@@ -127,8 +146,8 @@ fn push_deed(
     }
 }
 
-/// Appends the story of an entry: what it says in plain words, as it stands in the page, with names and values
-/// escaped and calls as links. The only error is want of memory.
+/// Appends the story of an entry: what it says in plain words, as it stands in the page, with names and
+/// values escaped and calls as links. The only error is want of memory.
 pub fn push_story(
     alloc: Global,
     out: &mut ByteList,

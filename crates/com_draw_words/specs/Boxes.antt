@@ -42,8 +42,8 @@ box_inner (inner.Object o) = word_and_number (codes "o") o
 -- The element's name and its classes.
 abbrev pub box_class : DrawnBox → List ℕ
 box_class b =
-    codes "<i class=\"" ++ kind_text b.kind ++ word_and_number (codes " k") b.hue ++ word_and_number (codes " l") b.lane
-    ++ up_text b.is_up ++ foot_text b.foot
+    codes "<i class=\"" ++ kind_text b.kind ++ word_and_number (codes " k") b.hue
+    ++ word_and_number (codes " l") b.lane ++ up_text b.is_up ++ foot_text b.foot
 
 -- Its level and its number of rows.
 abbrev pub box_size : (level rows : ℕ) → List ℕ
@@ -69,4 +69,5 @@ box_text b = if is_drawn b then box_element b else []
 -- The mark that an object is touched.
 abbrev pub touch_text : (lane level : ℕ) → List ℕ
 touch_text lane level =
-    word_and_number (codes "<b class=\"l") lane ++ word_and_number (codes "\" style=\"--d:") level ++ codes "\"></b>"
+    word_and_number (codes "<b class=\"l") lane ++ word_and_number (codes "\" style=\"--d:") level
+    ++ codes "\"></b>"

@@ -1,9 +1,9 @@
 -- What stands behind the drawing, and the constant texts of the page.
 use Rattle.std.specs.Prelude.{ℕ, List, ◌++◌, codes}
-use Rattle.com_draw_words.specs.declared.constants.TheConstants.{ARROW_STYLE, BODY_BACK, BODY_FRONT, BOX_STYLE}
-use Rattle.com_draw_words.specs.declared.constants.TheConstants.{COLOURS, ENTRY_STYLE, HEAD_FRONT, KEY_OF_BOXES}
-use Rattle.com_draw_words.specs.declared.constants.TheConstants.{KEY_OF_COLOURS, KEY_OF_MARKS, PAGE_STYLE}
-use Rattle.com_draw_words.specs.declared.constants.TheConstants.{PRINT_STYLE, TAIL}
+use Rattle.com_draw_words.specs.declared.constants.TheConstants.{ARROW_STYLE, BODY_BACK, BODY_FRONT}
+use Rattle.com_draw_words.specs.declared.constants.TheConstants.{BOX_STYLE, COLOURS, ENTRY_STYLE, HEAD_FRONT}
+use Rattle.com_draw_words.specs.declared.constants.TheConstants.{KEY_OF_BOXES, KEY_OF_COLOURS, KEY_OF_MARKS}
+use Rattle.com_draw_words.specs.declared.constants.TheConstants.{PAGE_STYLE, PRINT_STYLE, TAIL}
 
 -- The head of the page, up to where the first widths begin.
 abbrev pub colours_text : List ℕ

@@ -1,5 +1,6 @@
 -- Numbers, escaped texts, and links to calls.
-use Rattle.std.specs.Prelude.{ℕ, Bool, true, not, ◌==◌, ◌&&◌, nat_le, if◌then◌else◌, List, [], ◌∷◌, ◌++◌, codes, decimal}
+use Rattle.std.specs.Prelude.{ℕ, Bool, true, not, ◌==◌, ◌&&◌, nat_le, if◌then◌else◌, List, [], ◌∷◌, ◌++◌}
+use Rattle.std.specs.Prelude.{codes, decimal}
 
 -- A word and a number in decimal digits, and with a word behind them.
 abbrev pub word_and_number : List ℕ → ℕ → List ℕ

@@ -19,7 +19,8 @@ label_words level words =
 
 -- How many bytes these are before they are escaped, by the length of the words alone.
 abbrev pub label_length : (level words : ℕ) → ℕ
-label_length level words = if nat_le level LEVELS then words else length (decimal (level - LEVELS)) + 3 + words
+label_length level words =
+    if nat_le level LEVELS then words else length (decimal (level - LEVELS)) + 3 + words
 
 -- How many pixels wide a lane has to be for a label, by the length of its words.
 abbrev pub label_width : (level words : ℕ) → ℕ
@@ -39,7 +40,8 @@ bad_text true = codes " bad"
 bad_text false = []
 
 abbrev pub label_classes : ℕ → Look → List ℕ
-label_classes lane look = word_and_number (codes " class=\"l") lane ++ class_text look.class ++ bad_text look.is_bad
+label_classes lane look =
+    word_and_number (codes " class=\"l") lane ++ class_text look.class ++ bad_text look.is_bad
 
 abbrev pub label_front : (lane level : ℕ) → Look → List ℕ
 label_front lane level look =

@@ -1,7 +1,8 @@
 //! Boxes, and the marks of objects that are touched.
 ghost use Rattle.std.specs.Prelude.{◌≡◌, ◌++◌, ◌<◌, ◌≤◌, ◌^◌, OnOk};
-ghost use Rattle.com_draw_words.specs.Boxes.{box_class, box_element, box_inner, box_size, box_text, foot_text};
-ghost use Rattle.com_draw_words.specs.Boxes.{hue_of, is_drawn, is_of_object, kind_text, touch_text, up_text};
+ghost use Rattle.com_draw_words.specs.Boxes.{box_class, box_element, box_inner, box_size, box_text};
+ghost use Rattle.com_draw_words.specs.Boxes.{foot_text, hue_of, is_drawn, is_of_object, kind_text};
+ghost use Rattle.com_draw_words.specs.Boxes.{touch_text, up_text};
 
 use crate::limits::LEVELS;
 use crate::texts::{push_number, push_word_and_number};
@@ -188,8 +189,8 @@ pub fn push_box(out: &mut ByteList, shape: DrawnBox) -> Result<(), Memory>
     push_element(out, shape)
 }
 
-/// Appends the mark that an object is touched, at its level in the lane of the objects. The only error is want
-/// of memory.
+/// Appends the mark that an object is touched, at its level in the lane of the objects. The only error is
+/// want of memory.
 pub fn push_touch(out: &mut ByteList, lane: u32, level: u32) -> Result<(), Memory>
     ensures { OnOk result (out.new ≡ out.old ++ touch_text lane level) }
 {

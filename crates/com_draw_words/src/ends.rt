@@ -1,8 +1,9 @@
 //! What stands behind the drawing, and the constant texts of the page.
 ghost use Rattle.std.specs.Prelude.{◌≡◌, ◌++◌, OnOk};
-ghost use Rattle.com_draw_words.specs.Ends.{body_text, colours_text, drawing_end_text, head_text, item_end_text};
-ghost use Rattle.com_draw_words.specs.Ends.{item_front_text, list_end_text, list_front_text, report_end_text};
-ghost use Rattle.com_draw_words.specs.Ends.{report_front_text, shapes_text, styles_end_text, tail_text};
+ghost use Rattle.com_draw_words.specs.Ends.{body_text, colours_text, drawing_end_text, head_text};
+ghost use Rattle.com_draw_words.specs.Ends.{item_end_text, item_front_text, list_end_text, list_front_text};
+ghost use Rattle.com_draw_words.specs.Ends.{report_end_text, report_front_text, shapes_text, styles_end_text};
+ghost use Rattle.com_draw_words.specs.Ends.{tail_text};
 
 use crate::constants::{
     ARROW_STYLE, BODY_BACK, BODY_FRONT, BOX_STYLE, COLOURS, ENTRY_STYLE, HEAD_FRONT, KEY_OF_BOXES,

@@ -1,7 +1,8 @@
 //! Labels: a few words at the lane and the level of an entry.
 ghost use Rattle.std.specs.Prelude.{◌≡◌, ◌++◌, ◌<◌, ◌^◌, OnOk, length};
-ghost use Rattle.com_draw_words.specs.Labels.{bad_text, class_text, drawn_level, ident_text, label_classes, label_front};
-ghost use Rattle.com_draw_words.specs.Labels.{label_length, label_text, label_width, label_words};
+ghost use Rattle.com_draw_words.specs.Labels.{bad_text, class_text, drawn_level, ident_text, label_classes};
+ghost use Rattle.com_draw_words.specs.Labels.{label_front, label_length, label_text, label_width};
+ghost use Rattle.com_draw_words.specs.Labels.{label_words};
 
 use crate::limits::{CHAR, EDGE, LABEL_MOST, LEVELS, STEP};
 use crate::texts::{push_escaped, push_word_and_number};

@@ -1,7 +1,8 @@
 //! The rows of entries, of the gap, and of reasons.
 ghost use Rattle.std.specs.Prelude.{◌≡◌, ◌++◌, OnOk};
-ghost use Rattle.com_draw_words.specs.Rows.{entry_call, entry_front_text, entry_ident, entry_number, entry_title};
-ghost use Rattle.com_draw_words.specs.Rows.{gap_text, mark_text, reason_front_text, row_end_text, row_middle_text};
+ghost use Rattle.com_draw_words.specs.Rows.{entry_call, entry_front_text, entry_ident, entry_number};
+ghost use Rattle.com_draw_words.specs.Rows.{entry_title, gap_text, mark_text, reason_front_text};
+ghost use Rattle.com_draw_words.specs.Rows.{row_end_text, row_middle_text};
 
 use crate::texts::{push_around, push_escaped, push_number};
 use com_base::{ByteList, Memory};

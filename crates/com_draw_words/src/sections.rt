@@ -1,8 +1,8 @@
 //! The names of the lanes, and what stands around the rows of a section.
 ghost use Rattle.std.specs.Prelude.{◌≡◌, ◌++◌, OnOk};
 ghost use Rattle.com_draw_words.specs.Sections.{column_text, columns_end_text, lane_hue, lane_name_text};
-ghost use Rattle.com_draw_words.specs.Sections.{lane_words, objects_name_text, section_back_text, section_end_text};
-ghost use Rattle.com_draw_words.specs.Sections.{section_front_text};
+ghost use Rattle.com_draw_words.specs.Sections.{lane_words, objects_name_text, section_back_text};
+ghost use Rattle.com_draw_words.specs.Sections.{section_end_text, section_front_text};
 
 use crate::texts::push_word_and_number;
 use com_base::{ByteList, Memory};

@@ -83,8 +83,8 @@ fn push_each_escaped(out: &mut ByteList, text: &[u8]) -> Result<(), Memory>
     Ok(())
 }
 
-/// Appends a text as it may stand in the page: `&`, `<`, `>`, `"` and the tab by their escapes, and a question
-/// mark for each other byte outside 32 to 126. The only error is want of memory.
+/// Appends a text as it may stand in the page: `&`, `<`, `>`, `"` and the tab by their escapes, and a
+/// question mark for each other byte outside 32 to 126. The only error is want of memory.
 #[tactic(auto, using(crate::proofs::Plain::plain_stays))]
 pub fn push_escaped(out: &mut ByteList, text: &[u8]) -> Result<(), Memory>
     ensures { OnOk result (out.new ≡ out.old ++ escaped text.now) }

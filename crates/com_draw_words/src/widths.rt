@@ -1,7 +1,7 @@
 //! The rules of the style sheets that hold numbers: the widths, and the events.
 ghost use Rattle.std.specs.Prelude.{◌≡◌, ◌++◌, OnOk};
-ghost use Rattle.com_draw_words.specs.Widths.{edges_text, event_style_text, lane_widths_text, main_width_text};
-ghost use Rattle.com_draw_words.specs.Widths.{page_size_text};
+ghost use Rattle.com_draw_words.specs.Widths.{edges_text, event_style_text, lane_widths_text};
+ghost use Rattle.com_draw_words.specs.Widths.{main_width_text, page_size_text};
 
 use crate::texts::push_word_and_number;
 use com_base::{ByteList, Memory};
@@ -21,8 +21,8 @@ fn push_edges(
     out.push_all(b"px}")
 }
 
-/// Appends where a lane begins and how wide it is, once for what stands in it and once for the arrows that end
-/// in it. The only error is want of memory.
+/// Appends where a lane begins and how wide it is, once for what stands in it and once for the arrows that
+/// end in it. The only error is want of memory.
 pub fn push_lane_widths(out: &mut ByteList, lane: u32, from: u32, width: u32) -> Result<(), Memory>
     ensures { OnOk result (out.new ≡ out.old ++ lane_widths_text lane from width) }
 {
