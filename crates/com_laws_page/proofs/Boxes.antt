@@ -1,7 +1,7 @@
 -- The boxes, arrows and marks of a picture are closed.
 use Rattle.std.proofs.Common.{List, None, Option, Some, [], length, nat_le, ℕ, ◌*◌, ◌+◌, ◌∷◌}
 use Rattle.com_draw_shapes.specs.Arrows.{called_arrow, pointing_text, touch_on, touched_text}
-use Rattle.com_draw_shapes.specs.Boxes.{chosen_boxes, closing_boxes, cut_boxes, home_box, home_boxes, home_in, innermost_box, innermost_boxes, is_chosen, life_boxes, objects_lane, opening_box, opening_boxes, opening_text, track_box, track_boxes}
+use Rattle.com_draw_shapes.specs.Boxes.{chosen_track, closing_boxes, cut_boxes, home_box, home_boxes, home_in, innermost_box, innermost_boxes, life_boxes, objects_lane, opening_box, opening_boxes, opening_text, track_box, track_boxes}
 use Rattle.com_draw_shapes.specs.declared.boxes.Chosen.TheVariants as chosen
 use Rattle.com_draw_shapes.specs.declared.boxes.Chosen.{Chosen}
 use Rattle.com_draw_shapes.specs.declared.effects.Closing.TheVariants as close
@@ -42,19 +42,15 @@ closed_opening_boxes here l f d [] = closed_none
 closed_opening_boxes here l f d (o ∷ os) = both (closed_opening here l f d o) (closed_opening_boxes here l f (d + 1) os)
 
 closed_life_boxes : (here : Start) (m : ℕ) (f : Foot) (k : ℕ) (t : Option Track) → IsClosed (life_boxes here m f k t)
+unfolding life_boxes
 closed_life_boxes here m f k None = closed_none
 closed_life_boxes here m f k (Some t) = closed_box (track_box here m f k t)
-
-closed_chosen_boxes : (here : Start) (m : ℕ) (f : Foot) (x : Chosen) (k : ℕ) (t : Option Track)
-    → IsClosed (chosen_boxes here m f x k t)
-unfolding chosen_boxes
-closed_chosen_boxes here m f x k t = either (is_chosen x t) (closed_life_boxes here m f k t) closed_none
 
 pub closed_track_boxes : (here : Start) (m : ℕ) (f : Foot) (x : Chosen) (k : ℕ) (ts : List (Option Track))
     → IsClosed (track_boxes here m f x k ts)
 closed_track_boxes here m f x k [] = closed_none
 closed_track_boxes here m f x k (t ∷ ts) =
-    both (closed_chosen_boxes here m f x k t) (closed_track_boxes here m f x (k + 1) ts)
+    both (closed_life_boxes here m f k (chosen_track x t)) (closed_track_boxes here m f x (k + 1) ts)
 
 -- ---- what an entry closes
 

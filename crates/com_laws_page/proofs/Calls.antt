@@ -6,6 +6,8 @@ use Rattle.com_classes.specs.Tables.{Tables}
 use Rattle.com_draw_names.specs.Failures.{has_failed}
 use Rattle.com_draw_names.specs.declared.contexts.Caller.{Caller}
 use Rattle.com_draw_stories.specs.Calls.{again_words, back_story, bound_story, call_of_lane, cancels_story, enter_story, entered_call, entered_method, filter_plain, filter_story, for_lane, leave_story, out_story, outcome, pending_story, post_story, pump_story, quit_story, refuse_story, retry_story, route_words, sends_again, sent_story, tick_story, told_story, took_story, type_reason, type_words, unwaited, verdict_story, waits_on}
+use Rattle.com_draw_stories.specs.declared.speakers.Called.{Called}
+use Rattle.com_draw_stories.specs.declared.speakers.Entered.{Entered}
 use Rattle.com_draw_stories.specs.declared.speakers.Speaker.{Speaker}
 use Rattle.com_filter.specs.declared.Verdict.{Verdict}
 use Rattle.com_laws_markup.proofs.Leading.{both, either, numbered, said}
@@ -52,8 +54,8 @@ closed_route_words route.Switch = said (codes "), and changes apartments for it"
 closed_route_words route.Post = said (codes ") in another apartment, and waits") refl
 closed_route_words route.Refused = said (codes "), which is refused at once") refl
 
-pub closed_out_story : (t : Tables) (lane : ℕ) (call : ℕ) (object : Option ℕ) (iface : ℕ) (method : ℕ) (r : Route) → IsClosed (out_story t lane call object iface method r)
-closed_out_story t l c o i m r = both (both (both (both (both (closed_lane_does l (said (codes " calls ") refl)) (closed_shown_method t i m)) (said (codes " of ") refl)) (closed_object_text o)) (numbered (said (codes " (c") refl) c)) (closed_route_words r)
+pub closed_out_story : (t : Tables) (k : Caller) (call : ℕ) (object : Option ℕ) (r : Route) → IsClosed (out_story t k call object r)
+closed_out_story t k c o r = both (both (both (both (both (closed_lane_does k.lane (said (codes " calls ") refl)) (closed_shown_method t k.iface k.method)) (said (codes " of ") refl)) (closed_object_text o)) (numbered (said (codes " (c") refl) c)) (closed_route_words r)
 
 pub closed_call_of_lane : (call : ℕ) (caller : ℕ) → IsClosed (call_of_lane call caller)
 closed_call_of_lane c m = both (both (said (codes " ") refl) (closed_link c)) (numbered (said (codes " of L") refl) m)
@@ -75,14 +77,14 @@ pub closed_type_words : (number : Option ℕ) → IsClosed (type_words number)
 closed_type_words None = closed_none
 closed_type_words (Some n) = either (n == 2) (said (codes ": a callback") refl) (either (n == 4) (said (codes ", while its own call waits") refl) closed_none)
 
-pub closed_entered_call : (lane : ℕ) (x : Option Caller) (call : ℕ) (call_type : Option ℕ) → IsClosed (entered_call lane x call call_type)
-closed_entered_call l x c n = both (both (both (both (closed_for_lane l x) (said (codes " (") refl)) (closed_link c)) (said (codes ")") refl)) (closed_type_words n)
+pub closed_entered_call : (lane : ℕ) (c : Called) (call_type : Option ℕ) → IsClosed (entered_call lane c call_type)
+closed_entered_call l c n = both (both (both (both (closed_for_lane l c.caller) (said (codes " (") refl)) (closed_link c.call)) (said (codes ")") refl)) (closed_type_words n)
 
-pub closed_entered_method : (t : Tables) (lane : ℕ) (x : Option Caller) (object : ℕ) (apartment : ℕ) → IsClosed (entered_method t lane x object apartment)
-closed_entered_method t l x o a = both (both (both (both (closed_lane_does l (said (codes " runs ") refl)) (closed_shown_called t x)) (numbered (said (codes " of o") refl) o)) (said (codes " in ") refl)) (closed_place_text a)
+pub closed_entered_method : (t : Tables) (lane : ℕ) (k : Option Caller) (b : Entered) → IsClosed (entered_method t lane k b)
+closed_entered_method t l k b = both (both (both (both (closed_lane_does l (said (codes " runs ") refl)) (closed_shown_called t k)) (numbered (said (codes " of o") refl) b.object)) (said (codes " in ") refl)) (closed_place_text b.apartment)
 
-pub closed_enter_story : (t : Tables) (lane : ℕ) (x : Option Caller) (call : ℕ) (object : ℕ) (apartment : ℕ) (call_type : Option ℕ) → IsClosed (enter_story t lane x call object apartment call_type)
-closed_enter_story t l x c o a n = both (closed_entered_method t l x o a) (closed_entered_call l x c n)
+pub closed_enter_story : (t : Tables) (lane : ℕ) (c : Called) (b : Entered) → IsClosed (enter_story t lane c b)
+closed_enter_story t l c b = both (closed_entered_method t l c.caller b) (closed_entered_call l c b.call_type)
 
 pub closed_outcome : (version : ℕ) (hr : HResult) (v : Option Value) → IsClosed (outcome version hr v)
 closed_outcome version hr v = either (has_failed hr) (closed_failure_text version hr) (closed_shown_given v)
@@ -91,8 +93,8 @@ pub closed_unwaited : (caller : Option Caller) → IsClosed (unwaited caller)
 closed_unwaited None = said (codes "; nobody waits for it") refl
 closed_unwaited (Some k) = closed_none
 
-pub closed_leave_story : (s : Speaker) (x : Option Caller) (call : ℕ) (hr : HResult) (v : Option Value) → IsClosed (leave_story s x call hr v)
-closed_leave_story s x c hr v = both (both (both (closed_lane_does s.lane (said (codes " answers ") refl)) (closed_link c)) (closed_outcome s.version hr v)) (closed_unwaited x)
+pub closed_leave_story : (s : Speaker) (c : Called) (hr : HResult) (v : Option Value) → IsClosed (leave_story s c hr v)
+closed_leave_story s c hr v = both (both (both (closed_lane_does s.lane (said (codes " answers ") refl)) (closed_link c.call)) (closed_outcome s.version hr v)) (closed_unwaited c.caller)
 
 pub closed_back_story : (s : Speaker) (call : ℕ) (hr : HResult) (v : Option Value) → IsClosed (back_story s call hr v)
 closed_back_story s c hr v = both (both (closed_lane_does s.lane (said (codes " has the answer of ") refl)) (closed_link c)) (closed_outcome s.version hr v)

@@ -88,11 +88,11 @@ page_splits q h x =
 pub page_well_formed : (q : Scenario) (h : List Entry) (x : Beside) → IsWellFormed (row_numbers (length h)) (page q h x)
 page_well_formed q h x =
     let leads : Leads true (Before []) (page q h x) (Over (row_numbers (length h))) =
-        along refl (page_splits q h x) refl (onward (before_leads q h x) (tail_leads (row_numbers (length h)))) in
+    along refl (page_splits q h x) refl (onward (before_leads q h x) (tail_leads (row_numbers (length h)))) in
     record { reads = leads.reads }
 
 pub page_scriptless : (q : Scenario) (h : List Entry) (x : Beside) → HasOneScript (row_numbers (length h)) (page q h x)
 page_scriptless q h x =
     let leads : Leads false (Before []) (before_tail q h x) (Content (codes "body" ∷ codes "html" ∷ []) (row_numbers (length h))) =
-        before_leads q h x in
+    before_leads q h x in
     record { before = before_tail q h x; is = page_splits q h x; reads = leads.reads }

@@ -8,6 +8,7 @@ use Rattle.com_body.specs.declared.operands.Asked.{Asked}
 use Rattle.com_classes.specs.Tables.{Tables}
 use Rattle.com_draw_names.specs.Failures.{has_failed}
 use Rattle.com_draw_names.specs.Names.{class_words, interface_words}
+use Rattle.com_draw_names.specs.declared.contexts.Born.{Born}
 use Rattle.com_draw_stories.specs.Stories.{copy_story, create_story, cut_story, disconnect_story, drop_story, final_story, get_story, got_story, init_story, leaves_once, made_story, marshal_story, mode_words, packed_story, query_story, raw_story, register_story, registered_story, release_story, revoke_story, uninit_story, unmade_story, unmarshal_story, unpacked_story}
 use Rattle.com_draw_stories.specs.declared.speakers.Speaker.{Speaker}
 use Rattle.com_laws_markup.proofs.Leading.{both, either, numbered, said}
@@ -30,11 +31,11 @@ closed_uninit_story l (Some a) n = either (n == 0) (closed_lane_place l (said (c
 pub closed_unmade_story : (t : Tables) (s : Speaker) (class : Asked) (hr : HResult) → IsClosed (unmade_story t s class hr)
 closed_unmade_story t s class hr = both (both (closed_lane_does s.lane (said (codes " cannot make a ") refl)) (closed_escaped (class_words t class))) (closed_failure_text s.version hr)
 
-pub closed_made_story : (t : Tables) (lane : ℕ) (object : Option ℕ) (apartment : Option ℕ) (class : Asked) → IsClosed (made_story t lane object apartment class)
-closed_made_story t l o a class = both (both (both (both (closed_lane_named l (said (codes " makes ") refl) (said (codes "o") refl) o) (said (codes ", a ") refl)) (closed_escaped (class_words t class))) (said (codes "; it lives in ") refl)) (closed_place_at a)
+pub closed_made_story : (t : Tables) (lane : ℕ) (b : Born) (class : Asked) → IsClosed (made_story t lane b class)
+closed_made_story t l b class = both (both (both (both (closed_lane_named l (said (codes " makes ") refl) (said (codes "o") refl) b.object) (said (codes ", a ") refl)) (closed_escaped (class_words t class))) (said (codes "; it lives in ") refl)) (closed_place_at b.apartment)
 
-pub closed_create_story : (t : Tables) (s : Speaker) (object : Option ℕ) (apartment : Option ℕ) (class : Asked) (hr : HResult) → IsClosed (create_story t s object apartment class hr)
-closed_create_story t s o a class hr = either (has_failed hr) (closed_unmade_story t s class hr) (closed_made_story t s.lane o a class)
+pub closed_create_story : (t : Tables) (s : Speaker) (b : Born) (class : Asked) (hr : HResult) → IsClosed (create_story t s b class hr)
+closed_create_story t s b class hr = either (has_failed hr) (closed_unmade_story t s class hr) (closed_made_story t s.lane b class)
 
 pub closed_query_story : (t : Tables) (s : Speaker) (object : Option ℕ) (i : Asked) (hr : HResult) → IsClosed (query_story t s object i hr)
 closed_query_story t s o i hr = both (both (both (both (closed_lane_does s.lane (said (codes " asks ") refl)) (closed_object_text o)) (said (codes " for ") refl)) (closed_escaped (interface_words t i))) (closed_failure_if s.version hr)

@@ -18,7 +18,7 @@ use Rattle.com_model.specs.declared.scenario.Scenario.{Scenario}
 pub closed_deed_story : (t : Tables) (s : Speaker) (x : Context) (d : Deed) → IsClosed (deed_story t s x d)
 closed_deed_story t s x (deed.Init m home hr) = closed_init_story s home x.has_home hr
 closed_deed_story t s x (deed.Uninit home count) = closed_uninit_story s.lane home count
-closed_deed_story t s x (deed.Made object apartment class iface hr) = closed_create_story t s object apartment class hr
+closed_deed_story t s x (deed.Made object apartment class iface hr) = closed_create_story t s (record { object = object; apartment = apartment }) class hr
 closed_deed_story t s x (deed.Query object iface hr) = closed_query_story t s object iface hr
 closed_deed_story t s x (deed.Copy held) = closed_copy_story s.lane held
 closed_deed_story t s x (deed.Release held) = closed_release_story s.lane held
@@ -35,11 +35,11 @@ closed_deed_story t s x (deed.Quit to hr) = closed_quit_story s to hr
 closed_deed_story t s x (deed.Pump bound) = closed_pump_story s.lane bound
 closed_deed_story t s x deed.EndPump = closed_lane_does s.lane (said (codes " ends its pump") refl)
 closed_deed_story t s x (deed.Word word) = closed_took_story s.lane word
-closed_deed_story t s x (deed.Out call object iface method r cause bytes) = closed_out_story t s.lane call object iface method r
+closed_deed_story t s x (deed.Out call object iface method r cause bytes) = closed_out_story t (record { lane = s.lane; iface = iface; method = method }) call object r
 closed_deed_story t s x (deed.Verdict call call_type v) = closed_verdict_story s.lane (caller_lane x.caller) call call_type v
 closed_deed_story t s x (deed.Refuse call hr) = closed_refuse_story s (caller_lane x.caller) call hr
-closed_deed_story t s x (deed.Enter call object apartment call_type values) = closed_enter_story t s.lane x.caller call object apartment call_type
-closed_deed_story t s x (deed.Leave call hr v bytes) = closed_leave_story s x.caller call hr v
+closed_deed_story t s x (deed.Enter call object apartment call_type values) = closed_enter_story t s.lane (record { call = call; caller = x.caller }) (record { object = object; apartment = apartment; call_type = call_type })
+closed_deed_story t s x (deed.Leave call hr v bytes) = closed_leave_story s (record { call = call; caller = x.caller }) hr v
 closed_deed_story t s x (deed.Retry call answer) = closed_retry_story s.lane call answer
 closed_deed_story t s x (deed.Again call) = closed_lane_link s.lane (said (codes " sends ") refl) call (said (codes " again") refl)
 closed_deed_story t s x (deed.Back call hr v) = closed_back_story s call hr v
