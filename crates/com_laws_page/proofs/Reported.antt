@@ -35,5 +35,6 @@ closed_object_lines number (c ∷ cs) = both (closed_object_line number c) (clos
 -- the report
 pub closed_report : (cs : List Counts) (k time : ℕ) (x : Ended) → IsClosed (report_text cs k time x)
 closed_report cs k time x =
-    closed_line_end (both (both (both (both (both (both (closed_object_lines 1 cs) (said (codes "entries ") refl)) (closed_decimal k))
-    (said (codes " clock ") refl)) (closed_decimal time)) (closed_as (λ s n o e. lead (codes "\nend "))) (closed_end x))
+    closed_line_end
+    (both (both (both (both (both (both (closed_object_lines 1 cs) (said (codes "entries ") refl)) (closed_decimal k))
+    (said (codes " clock ") refl)) (closed_decimal time)) (closed_as (λ s n o e. lead (codes "\nend ")))) (closed_end x))
