@@ -5,7 +5,7 @@ use Rattle.com_draw_words.specs.Ends.{body_text, colours_text, head_text, shapes
 use Rattle.com_draw_words.specs.declared.constants.TheConstants.{ARROW_STYLE, BODY_BACK, BODY_FRONT, BOX_STYLE}
 use Rattle.com_draw_words.specs.declared.constants.TheConstants.{COLOURS, ENTRY_STYLE, HEAD_FRONT, KEY_OF_BOXES}
 use Rattle.com_draw_words.specs.declared.constants.TheConstants.{KEY_OF_COLOURS, KEY_OF_MARKS, PAGE_STYLE}
-use Rattle.com_draw_words.specs.declared.constants.TheConstants.{PRINT_STYLE, TAIL}
+use Rattle.com_draw_words.specs.declared.constants.TheConstants.{PRINT_STYLE}
 use Rattle.com_laws_markup.specs.Closed.{IsStyle}
 use Rattle.com_laws_markup.specs.Markup.{Before, Content, Over, Raw}
 use Rattle.com_laws_markup.proofs.Leading.{Leads, onward, styled}

@@ -12,7 +12,7 @@ use Rattle.com_laws_markup.proofs.Leading.{Leads, along, onward}
 use Rattle.com_laws_markup.specs.Markup.{Before, Content, Over}
 use Rattle.com_laws_page.proofs.Footed.{footer_leads}
 use Rattle.com_laws_page.proofs.Fronted.{front_leads}
-use Rattle.com_laws_page.proofs.Rowed.{entry_at_leads}
+use Rattle.com_laws_page.proofs.Rowed.{behind_entries, entry_at_leads, met}
 use Rattle.com_laws_page.proofs.Waited.{last_rows_lead}
 use Rattle.com_laws_page.specs.Pages.{HasOneScript, IsWellFormed, row_numbers}
 use Rattle.com_model.specs.declared.deeds.Entry.{Entry}

@@ -17,7 +17,7 @@ use Rattle.com_laws_markup.proofs.Words.{closed_label, closed_none}
 use Rattle.com_laws_markup.specs.Closed.{IsClosed}
 use Rattle.com_laws_markup.specs.Markup.{Content}
 use Rattle.com_laws_page.proofs.Boxes.{closed_closing_boxes, closed_pointing, closed_touched}
-use Rattle.com_laws_page.proofs.Sectioned.{row_leads, section_ends, some_rows}
+use Rattle.com_laws_page.proofs.Sectioned.{behind_rows, row_leads, section_ends, some_rows}
 use Rattle.com_laws_page.proofs.Told.{closed_story}
 use Rattle.com_model.specs.declared.deeds.Entry.{Entry}
 use Rattle.com_model.specs.declared.scenario.Scenario.{Scenario}

@@ -14,7 +14,8 @@ use Rattle.com_laws_markup.proofs.Words.{closed_arrow, closed_label, closed_none
 use Rattle.com_laws_markup.specs.Closed.{IsClosed}
 use Rattle.com_laws_markup.specs.Markup.{Content}
 use Rattle.com_laws_page.proofs.EndStories.{closed_body_story, closed_message_story, closed_pool_story}
-use Rattle.com_laws_page.proofs.Sectioned.{row_leads, section_begins, section_ends, some_rows}
+use Rattle.com_laws_page.proofs.Rowed.{behind_entries}
+use Rattle.com_laws_page.proofs.Sectioned.{behind_rows, row_leads, section_begins, section_ends, some_rows}
 use Rattle.com_model.specs.Lists.{is_member}
 use Rattle.com_waits.specs.declared.reasons.Wait.{Wait}
 use Rattle.com_waits.specs.declared.reasons.Why.TheVariants as why
