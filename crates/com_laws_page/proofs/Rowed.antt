@@ -1,5 +1,6 @@
 -- The rows of entries: each is closed, and holds its entry.
-use Rattle.std.proofs.Common.{Bool, List, [], ap, arith, codes, decimal, false, if◌then◌else◌, nat_le, refl, sym, true, ℕ, ◌+◌, ◌==◌, ◌∷◌, ◌≡◌}
+use Rattle.std.proofs.Common.{Bool, List, [], ap, arith, codes, decimal, false, if◌then◌else◌, nat_le, refl, sym, true, ℕ, ◌+◌, ◌<◌, ◌==◌, ◌∷◌, ◌≡◌}
+use Rattle.std.proofs.lemmas.Bool.{eq-eqb, eqb-true, le-leb, leb-false, leb-true, ne_eqb}
 use Rattle.com_draw.specs.Entries.{entry_at, entry_drawing, entry_front, entry_label, entry_lead, entry_marks, entry_row, title_of}
 use Rattle.com_draw.specs.declared.entries.Seen.{Seen}
 use Rattle.com_draw_labels.specs.Labels.{label}
@@ -17,7 +18,7 @@ use Rattle.com_laws_markup.proofs.Words.{closed_label, closed_none}
 use Rattle.com_laws_markup.specs.Closed.{IsClosed}
 use Rattle.com_laws_markup.specs.Markup.{Content}
 use Rattle.com_laws_page.proofs.Boxes.{closed_closing_boxes, closed_pointing, closed_touched}
-use Rattle.com_laws_page.proofs.Sectioned.{behind_rows, row_leads, section_ends, some_rows}
+use Rattle.com_laws_page.proofs.Sectioned.{behind_rows, row_leads, section_ends, some_more, some_rows}
 use Rattle.com_laws_page.proofs.Told.{closed_story}
 use Rattle.com_model.specs.declared.deeds.Entry.{Entry}
 use Rattle.com_model.specs.declared.scenario.Scenario.{Scenario}
@@ -69,30 +70,36 @@ behind_entries k o = if nat_le k LIMIT then behind_rows k o else o
 abbrev pub met : (entry : ℕ) → List (List ℕ) → List (List ℕ)
 met k e = if nat_le k LIMIT then decimal k ∷ e else e
 
-one_before : (k : ℕ) → nat_le (k + 1) LIMIT ≡ true → nat_le k LIMIT ≡ true
-one_before k h = grind arith
+one_before : (k l : ℕ) → nat_le (k + 1) l ≡ true → nat_le k l ≡ true
+one_before k l h = le-leb k l (omega (arith, leb-true (k + 1) l h))
 
-edge_in : (k : ℕ) → nat_le k LIMIT ≡ true → nat_le (k + 1) LIMIT ≡ false → (k + 1 == LIMIT + 1) ≡ true
-edge_in k h g = grind arith
+edge_in : (k l : ℕ) → nat_le k l ≡ true → nat_le (k + 1) l ≡ false → (k + 1 == l + 1) ≡ true
+edge_in k l h g = eq-eqb (k + 1) (l + 1) (omega (arith, leb-true k l h, leb-false (k + 1) l g))
 
-edge_out : (k : ℕ) → nat_le k LIMIT ≡ false → (k + 1 == LIMIT + 1) ≡ false
-edge_out k h = grind arith
+too_far : (k l : ℕ) → l < k → k + 1 ≡ l + 1 → ⊥
+too_far k l h e = omega (arith, h, e)
 
-edge_of : (k : ℕ) (c : Bool) → nat_le k LIMIT ≡ c → nat_le (k + 1) LIMIT ≡ false → c ≡ (k + 1 == LIMIT + 1)
-edge_of k true h g = sym (edge_in k h g)
-edge_of k false h g = sym (edge_out k h)
+edge_out : (k l : ℕ) → nat_le k l ≡ false → (k + 1 == l + 1) ≡ false
+edge_out k l h = ne_eqb (k + 1) (l + 1) (too_far k l (leb-false k l h))
 
-some_more : (k : ℕ) → (k + 1 == 0) ≡ false
-some_more k = grind arith
+edge_of : (k l : ℕ) (c : Bool) → nat_le k l ≡ c → nat_le (k + 1) l ≡ false → c ≡ (k + 1 == l + 1)
+edge_of k l true h g = sym (edge_in k l h g)
+edge_of k l false h g = sym (edge_out k l h)
 
-not_first : (k : ℕ) → (k + 1 == LIMIT + 1) ≡ true → (k == 0) ≡ false
-not_first k h = grind arith
+none_left : (k l : ℕ) → 0 < l → k + 1 ≡ l + 1 → k ≡ 0 → ⊥
+none_left k l p e z = omega (arith, p, e, z)
+
+not_first : (k l : ℕ) → 0 < l → (k + 1 == l + 1) ≡ true → (k == 0) ≡ false
+not_first k l p h = ne_eqb k 0 (none_left k l p (eqb-true (k + 1) (l + 1) h))
+
+some_limit : 0 < LIMIT
+some_limit = omega arith
 
 last_leads : {s : Bool} {n : List ℕ} {o e : List (List ℕ)} (k : ℕ) (b : State) (c : Bool) → (k + 1 == LIMIT + 1) ≡ c
     → Leads s (Content (if c then behind_rows k (n ∷ o) else (n ∷ o)) e)
     (if c then back_of_section (row_at LIMIT) [] b else []) (Content (n ∷ o) e)
 last_leads {n = n} {o = o} {e = e} k b true h =
-    along (ap (λ (x : List (List ℕ)). Content x e) (some_rows k (n ∷ o) (not_first k h))) refl refl
+    along (ap (λ (x : List (List ℕ)). Content x e) (some_rows k (n ∷ o) (not_first k LIMIT some_limit h))) refl refl
     (section_ends {n = n} {o = o} {e = e} (row_at LIMIT) [] b)
 last_leads k b false h = lead []
 
@@ -104,11 +111,11 @@ by_limit : {s : Bool} {e : List (List ℕ)} (n : List ℕ) (o : List (List ℕ))
     else [])
     (Content (if c then behind_rows (k + 1) (n ∷ o) else (n ∷ o)) (if c then decimal (k + 1) ∷ e else e))
 by_limit {e = e} n o q k b v x true h =
-    along (ap (λ (c : Bool). Content (if c then behind_rows k (n ∷ o) else (n ∷ o)) e) (one_before k h)) refl
+    along (ap (λ (c : Bool). Content (if c then behind_rows k (n ∷ o) else (n ∷ o)) e) (one_before k LIMIT h)) refl
     (ap (λ (y : List (List ℕ)). Content y (decimal (k + 1) ∷ e)) (some_rows (k + 1) (n ∷ o) (some_more k)))
     (entry_leads {n = n} {o = o} {e = e} q k b v x)
 by_limit {e = e} n o q k b v x false h =
-    along (ap (λ (c : Bool). Content (if c then behind_rows k (n ∷ o) else (n ∷ o)) e) (edge_of k (nat_le k LIMIT) refl h))
+    along (ap (λ (c : Bool). Content (if c then behind_rows k (n ∷ o) else (n ∷ o)) e) (edge_of k LIMIT (nat_le k LIMIT) refl h))
     refl refl (last_leads {n = n} {o = o} {e = e} k b (k + 1 == LIMIT + 1) refl)
 
 -- one entry more

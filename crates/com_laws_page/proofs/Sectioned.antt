@@ -1,5 +1,6 @@
 -- Sections: where the reader is behind their fronts, their ends, and where a row begins.
 use Rattle.std.proofs.Common.{Bool, List, [], ap, arith, codes, false, if◌then◌else◌, refl, suc, true, zero, ℕ, ◌++◌, ◌+◌, ◌-◌, ◌==◌, ◌∷◌, ◌≡◌}
+use Rattle.std.proofs.lemmas.Bool.{ne_eqb}
 use Rattle.com_draw_shapes.specs.Boxes.{objects_lane}
 use Rattle.com_draw_shapes.specs.Places.{opens_section, row_at}
 use Rattle.com_draw_shapes.specs.Sections.{back_of_section, boxes_below, columns, foot_in, front_of_section, lane_boxes, lanes_boxes, row_begins}
@@ -64,11 +65,23 @@ again : {s : Bool} {m : Reader} (c : Bool) {w : List ℕ} → Leads s m w m → 
 again true h = h
 again false h = lead []
 
+suc_not_zero : (k : ℕ) → suc k ≡ 0 → ⊥
+suc_not_zero k e = omega (arith, e)
+
+not_one : (k : ℕ) → suc k + 1 ≡ 1 → ⊥
+not_one k e = omega (arith, e)
+
+more_not_zero : (k : ℕ) → k + 1 ≡ 0 → ⊥
+more_not_zero k e = omega (arith, e)
+
 more_than_none : (k : ℕ) → (suc k == 0) ≡ false
-more_than_none k = grind arith
+more_than_none k = ne_eqb (suc k) 0 (suc_not_zero k)
 
 second : (k : ℕ) → (suc k + 1 == 1) ≡ false
-second k = grind arith
+second k = ne_eqb (suc k + 1) 1 (not_one k)
+
+pub some_more : (k : ℕ) → (k + 1 == 0) ≡ false
+some_more k = ne_eqb (k + 1) 0 (more_not_zero k)
 
 next_begins : {s : Bool} {n : List ℕ} {o e : List (List ℕ)} (m : ℕ) (b : State) → (m == 1) ≡ false
     → Leads s (Content (codes "section" ∷ n ∷ o) e) (row_begins m b) (Content (codes "section" ∷ n ∷ o) e)

@@ -15,7 +15,7 @@ use Rattle.com_laws_markup.specs.Closed.{IsClosed}
 use Rattle.com_laws_markup.specs.Markup.{Content}
 use Rattle.com_laws_page.proofs.EndStories.{closed_body_story, closed_message_story, closed_pool_story}
 use Rattle.com_laws_page.proofs.Rowed.{behind_entries}
-use Rattle.com_laws_page.proofs.Sectioned.{behind_rows, row_leads, section_begins, section_ends, some_rows}
+use Rattle.com_laws_page.proofs.Sectioned.{behind_rows, row_leads, section_begins, section_ends, some_more, some_rows}
 use Rattle.com_model.specs.Lists.{is_member}
 use Rattle.com_waits.specs.declared.reasons.Wait.{Wait}
 use Rattle.com_waits.specs.declared.reasons.Why.TheVariants as why
@@ -70,9 +70,6 @@ reason_leads {n = n} {o = o} {e = e} m cycle b w =
     onward (onward (row_leads {n = n} {o = o} {e = e} m b) (told_leads cycle w)) (drawn_leads cycle b w)
 
 -- ---- all such rows, and the last section's end
-
-some_more : (m : ℕ) → (m + 1 == 0) ≡ false
-some_more m = grind arith
 
 one_row : (m : ℕ) (o : List (List ℕ)) → behind_rows (m + 1) o ≡ codes "section" ∷ o
 one_row m o = some_rows (m + 1) o (some_more m)
