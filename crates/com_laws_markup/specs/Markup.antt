@@ -1,5 +1,6 @@
--- Well-formed markup: what a reader of bytes takes. It keeps the names of the open elements, the innermost
--- first, and the values of the attribute `data-entry` that it met, the newest first.
+-- Well-formed markup: what a reader of bytes takes. A page is its document's type, and behind it one element
+-- with all others in it. The reader keeps the names of the open elements, the innermost first, and the values of
+-- the attribute `data-entry` that it met, the newest first.
 use Rattle.std.specs.Prelude.{ℕ, Bool, true, false, not, ◌&&◌, ◌||◌, ◌==◌, nat_le, if◌then◌else◌}
 use Rattle.std.specs.Prelude.{List, [], ◌∷◌, reverse, codes}
 use Rattle.std.specs.List.{list_any}
@@ -57,7 +58,12 @@ is_digit x = nat_le 48 x && nat_le x 57
 abbrev pub is_printed : ℕ → Bool
 is_printed x = nat_le 32 x && nat_le x 126
 
--- Whether a byte may stand in an element as text. Outside of all elements there is none but line ends.
+-- Whether text may stand here: outside of all elements there is none but line ends.
+abbrev pub is_inside : List (List ℕ) → Bool
+is_inside [] = false
+is_inside (n ∷ names) = true
+
+-- Whether a byte may stand in an element as text.
 abbrev pub is_text : List (List ℕ) → ℕ → Bool
 is_text [] x = x == 10
 is_text (n ∷ names) x = x == 10 || (is_printed x && not (x == 34) && not (x == 62))
@@ -70,10 +76,15 @@ is_first (x ∷ v) = false
 abbrev pub is_value : (attribute value : List ℕ) → ℕ → Bool
 is_value a v x = is_printed x && not (x == 60) && not (x == 62) && (not (is_link a && is_first v) || x == 35)
 
+-- The first line of a page.
+abbrev pub document_type : List ℕ
+document_type = codes "<!DOCTYPE html>"
+
 -- ---- the reader
 
 -- Where a reader is. The words that it reads have their newest byte first.
 pub data Reader : Type 0 where
+  Before : (word : List ℕ) → Reader
   Content : (names entries : List (List ℕ)) → Reader
   Escape : (names entries : List (List ℕ)) → (word : List ℕ) → Reader
   Less : (names entries : List (List ℕ)) → Reader
@@ -90,16 +101,22 @@ pub data Reader : Type 0 where
   End : (names entries : List (List ℕ)) → (word : List ℕ) → Reader
   Raw : (names entries : List (List ℕ)) → Reader
   RawLess : (names entries : List (List ℕ)) → Reader
+  Over : (entries : List (List ℕ)) → Reader
   Refused : Reader
 
 -- An element begins.
 abbrev pub entered : (names entries : List (List ℕ)) → List ℕ → Reader
 entered o e n = if is_void n then Refused else if is_raw n then Raw (n ∷ o) e else Content (n ∷ o) e
 
+-- Behind an element: in the one around it, and where there is none the page is over.
+abbrev pub behind : (names entries : List (List ℕ)) → Reader
+behind [] e = Over e
+behind (n ∷ o) e = Content (n ∷ o) e
+
 -- An element ends: the innermost that is open.
 abbrev pub closed : List ℕ → (names entries : List (List ℕ)) → Reader
 closed n [] e = Refused
-closed n (m ∷ o) e = if bytes_eq n m then Content o e else Refused
+closed n (m ∷ o) e = if bytes_eq n m then behind o e else Refused
 
 -- Behind the name or an attribute of a start tag.
 abbrev pub in_tag : (names entries : List (List ℕ)) → List ℕ → List (List ℕ) → ℕ → Reader
@@ -118,9 +135,11 @@ kept a x v = if is_entry a || is_link a then x ∷ v else v
 
 -- What the reader is after one byte more.
 abbrev pub step : (scripts : Bool) → Reader → ℕ → Reader
+step s (Before w) x =
+    if x == 10 then (if bytes_eq (reverse w) document_type then Content [] [] else Refused) else Before (x ∷ w)
 step s (Content o e) x =
     if x == 60 then Less o e
-    else if x == 38 then Escape o e []
+    else if x == 38 && is_inside o then Escape o e []
     else if is_text o x then Content o e
     else Refused
 step s (Escape o e w) x =
@@ -146,7 +165,7 @@ step s (ValueEscape o e n given a v w) x =
     if x == 59 then (if is_escape (reverse w) then Value o e n given a v else Refused)
     else ValueEscape o e n given a v (x ∷ w)
 step s (Quoted o e n given) x = in_tag o e n given x
-step s (Slash o e n) x = if x == 62 && is_void n then Content o e else Refused
+step s (Slash o e n) x = if x == 62 && is_void n then behind o e else Refused
 step s (End o e w) x =
     if x == 62 then closed (reverse w) o e
     else if is_letter x || is_digit x then End o e (x ∷ w)
@@ -156,6 +175,7 @@ step s (Raw o e) x =
     else if x == 10 || (is_printed x && not (x == 38)) then Raw o e
     else Refused
 step s (RawLess o e) x = if x == 47 then End o e [] else Refused
+step s (Over e) x = if x == 10 then Over e else Refused
 step s Refused x = Refused
 
 -- What the reader is behind a text.

@@ -10,7 +10,7 @@ ghost use Rattle.com_draw_words.specs.declared.boxes.DrawnBox.{DrawnBox};
 ghost use Rattle.com_draw_words.specs.declared.labels.Look.{Look};
 ghost use Rattle.com_draw_words.specs.declared.rows.Mark.{Mark};
 ghost use Rattle.com_laws_markup.specs.Closed.{IsClosed};
-ghost use Rattle.com_laws_markup.specs.Markup.{Content, Refused, Value, read};
+ghost use Rattle.com_laws_markup.specs.Markup.{Before, Content, Refused, Value, read};
 
 /// Whatever a text is, in the page it is text: behind it the reader of markup is where it was before it, in
 /// the content of an element (`content`) and in a title (`title`).
@@ -42,7 +42,8 @@ pub fn rows_hold_their_entries()
 {}
 
 /// The definition refuses broken markup: a name that is not escaped, a box that is not closed, an attribute
-/// without its end, an attribute that runs something, a script, and a link that leads out of the page.
+/// without its end, an attribute that runs something, a script, a link that leads out of the page, a second
+/// element behind the page's, text outside of it, and a page that does not say its type.
 pub fn well_formed_bites()
     ensures name { read true (Content [] []) (codes "<p>a<x</p>") ≡ Refused }
     ensures unclosed { read true (Content [] []) (codes "<p><i>a</p>") ≡ Refused }
@@ -50,4 +51,7 @@ pub fn well_formed_bites()
     ensures runs { read true (Content [] []) (codes "<p onclick=\"a\">b</p>") ≡ Refused }
     ensures script { read false (Content [] []) (codes "<p><script>a()</script></p>") ≡ Refused }
     ensures link { read true (Content [] []) (codes "<a href=\"http://a\">b</a>") ≡ Refused }
+    ensures second { read true (Content [] []) (codes "<p>a</p><p>b</p>") ≡ Refused }
+    ensures outside { read true (Content [] []) (codes "a<p>b</p>") ≡ Refused }
+    ensures typeless { read true (Before []) (codes "<p>a</p>\n") ≡ Refused }
 {}

@@ -1,0 +1,15 @@
+pub mod Boxes
+pub mod Calls
+pub mod EndStories
+pub mod Footed
+pub mod Fronted
+pub mod Names
+pub mod Numbers
+pub mod Paged
+pub mod Phrases
+pub mod Reported
+pub mod Rowed
+pub mod Sectioned
+pub mod Stories
+pub mod Told
+pub mod Waited
