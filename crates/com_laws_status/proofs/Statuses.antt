@@ -50,7 +50,7 @@ not-other : (j : Judged) → IsOther j → j ≡ judged.Agrees → ⊥
 not-other j p e = subst IsOther e p
 
 -- What a moved trace says of whether it agrees.
-moved-agrees : (s : Scenario) (t : Option (List ℕ)) (before : List ℕ) (m : Moved) → Formed s → IsMovedWith s t before m → (m.agrees ≡ true) ↔ IsWholeTrace s t
+pub moved-agrees : (s : Scenario) (t : Option (List ℕ)) (before : List ℕ) (m : Moved) → Formed s → IsMovedWith s t before m → (m.agrees ≡ true) ↔ IsWholeTrace s t
 moved-agrees s None before m f p = (λ e. tt, λ w. p.0)
 moved-agrees s (Some trace) before m f (inl p) = (λ e. text-whole s trace p.carried, λ w. p.agrees)
 moved-agrees s (Some trace) before m f (inr p) = (λ e. absurd (both e p.agrees), λ w. absurd (not-other p.verdict p.differs ((judged-agrees s trace p.verdict f p.is).1 w)))
