@@ -1,5 +1,5 @@
 -- Of a worked case: its text and report are whole; its text alone is not, nor with a line more, and neither is nothing.
-use Rattle.std.proofs.Common.{ap, sym, subst, ◌∙◌, ◌⊎◌, inl, inr, append_assoc}
+use Rattle.std.proofs.Common.{ap, sym, subst, ◌∙◌, inl, inr, append_assoc}
 use Rattle.std.specs.Prelude.{◌≡◌, refl, ℕ, true, false, List, [], ◌∷◌, ◌++◌, is_some, codes}
 use Rattle.com_model.specs.declared.scenario.Scenario.{Scenario}
 use Rattle.com_model.specs.Cases.{direct_call, direct_call_10, direct_call_text, direct_call_report}

@@ -1,5 +1,5 @@
 -- The text and the report of a legal history are cut into its own lines and those of its report.
-use Rattle.std.proofs.Common.{ap, ap₂, subst, sym, arith, ◌∙◌, ◌⊎◌, inl, inr, append_assoc}
+use Rattle.std.proofs.Common.{ap, ap₂, sym, arith, ◌∙◌, inl, inr, append_assoc}
 use Rattle.std.proofs.lemmas.Grind.{common_steps}
 use Rattle.std.specs.Prelude.{◌≡◌, refl, ℕ, ◌+◌, Bool, true, false, cond, not, ◌==◌, ◌&&◌, ◌||◌, List, [], ◌∷◌, ◌++◌, length, Option, Some, None, is_some, codes, decimal}
 use Rattle.com_model.specs.declared.counts.Counts.{Counts}
@@ -9,7 +9,7 @@ use Rattle.com_model.specs.declared.deeds.Entry.{Entry}
 use Rattle.com_model.specs.declared.scenario.Scenario.{Scenario}
 use Rattle.com_model.specs.Clock.{clock}
 use Rattle.com_model.specs.Ends.{all_counts, ended_as, report, report_as, text}
-use Rattle.com_model.specs.Text.{deed_line, line_text, history_text, object_lines, ended_text, report_text}
+use Rattle.com_model.specs.Text.{history_text, object_lines, ended_text, report_text}
 use Rattle.com_model.specs.Safe.{EachEntry}
 use Rattle.com_check.specs.Lines.{lines_of, onto}
 use Rattle.com_check.specs.Judging.{IsUpToEnd, entry_line, history_lines, report_lines}

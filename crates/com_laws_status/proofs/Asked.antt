@@ -13,7 +13,6 @@ use Rattle.com_scenario.proofs.Forms.{reading_formed}
 use Rattle.com_check.specs.declared.cut.Cut.{Cut}
 use Rattle.com_check.specs.declared.cut.Cut.TheVariants as cuts
 use Rattle.com_check.specs.Cuts.{cut_of}
-use Rattle.com_commands.specs.declared.inputs.Input.{Input}
 use Rattle.com_commands.specs.declared.inputs.Input.TheVariants as input
 use Rattle.com_commands.specs.Inputs.{input_of, read_as}
 use Rattle.com_command_migrate.specs.declared.inputs.Moving.{Moving}

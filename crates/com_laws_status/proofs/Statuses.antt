@@ -1,17 +1,16 @@
 -- The statuses of a judgement and of a move.
-use Rattle.std.proofs.Common.{ap, subst, sym, ◌∙◌, ◌⊎◌, inl, inr}
+use Rattle.std.proofs.Common.{ap, subst, sym, ◌∙◌, inl, inr}
 use Rattle.std.specs.Prelude.{◌≡◌, ◌↔◌, refl, ℕ, Bool, true, false, List, Option, Some, None, drop}
 use Rattle.com_model.specs.declared.scenario.Scenario.{Scenario}
 use Rattle.com_model.specs.Formed.{Formed}
 use Rattle.com_check.specs.declared.judged.Judged.{Judged}
 use Rattle.com_check.specs.declared.judged.Judged.TheVariants as judged
-use Rattle.com_check.specs.Judging.{IsJudged}
 use Rattle.com_check.specs.Agreeing.{IsOther}
 use Rattle.com_commands.specs.declared.statuses.Status.{Status}
 use Rattle.com_commands.specs.declared.statuses.Status.TheVariants as status
 use Rattle.com_command_migrate.specs.declared.answers.Moved.{Moved}
 use Rattle.com_command_migrate.specs.declared.inputs.Moving.{Moving}
-use Rattle.com_command_migrate.specs.Answers.{IsCarried, IsRefused, IsMovedWith}
+use Rattle.com_command_migrate.specs.Answers.{IsMovedWith}
 use Rattle.com_command_migrate.specs.Migrating.{IsMigrated}
 use Rattle.com_command_migrate.specs.Migrating as migrating
 use Rattle.com_top.specs.declared.questions.Question.{Question}
