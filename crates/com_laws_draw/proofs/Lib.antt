@@ -1,0 +1,9 @@
+pub mod Bites
+pub mod Lanes
+pub mod Lists
+pub mod Nesting
+pub mod Pages
+pub mod Rows
+pub mod Runs
+pub mod Steps
+pub mod Texts
