@@ -1,6 +1,5 @@
 -- How an entry looks: whether it is bad, its call, its mark, and the classes of its label.
-use Rattle.std.specs.Prelude.{ℕ, ℤ, pos, ◌==◌, int_lt, not, Bool, true, false, if◌then◌else◌, Option, Some}
-use Rattle.std.specs.Prelude.{None}
+use Rattle.std.specs.Prelude.{ℕ, pos, ◌==◌, int_lt, not, Bool, true, false, if◌then◌else◌, Option, Some, None}
 use Rattle.com_base.specs.declared.hresult.HResult.{HResult}
 use Rattle.com_draw_words.specs.Boxes.{hue_of}
 use Rattle.com_draw_words.specs.declared.labels.LabelClass.{LabelClass}

@@ -7,7 +7,6 @@ use Rattle.com_base.specs.declared.value.Value.{Value}
 use Rattle.com_classes.specs.Tables.{Tables}
 use Rattle.com_draw_words.specs.Escapes.{link_text, word_and_number}
 use Rattle.com_filter.specs.declared.Verdict.{Verdict}
-use Rattle.com_filter.specs.declared.Verdict.TheVariants as verdict
 use Rattle.com_model.specs.declared.deeds.Deed.{Deed}
 use Rattle.com_model.specs.declared.deeds.Deed.TheVariants as deed
 use Rattle.com_model.specs.declared.deeds.Entry.{Entry}
@@ -21,6 +20,7 @@ use Rattle.com_draw_stories.specs.declared.speakers.Called.{Called}
 use Rattle.com_draw_stories.specs.declared.speakers.Entered.{Entered}
 use Rattle.com_draw_stories.specs.declared.speakers.Speaker.{Speaker}
 use Rattle.com_draw_names.specs.Failures.{failure_text, has_failed}
+use Rattle.com_draw_names.specs.Filters.{later_words, verdict_verb}
 use Rattle.com_draw_names.specs.Names.{object_text, place_text, shown_called, shown_method}
 use Rattle.com_draw_names.specs.Values.{shown_given}
 use Rattle.com_draw_stories.specs.Phrases.{lane_at, lane_does, lane_link, lane_signed, signed_fails}

@@ -27,6 +27,6 @@ pub struct Entered {
     pub object: u32,
     /// The apartment in which it runs.
     pub apartment: u32,
-    /// What it comes in between, by the call's type; nothing for a call that came by no message.
+    /// The type of the call, where it was posted to an STA.
     pub call_type: Option<u8>,
 }

@@ -1,4 +1,3 @@
-use Rattle.std.proofs.Common.{◌++◌}
 use Rattle.std.proofs.lemmas.Result.{on_ok_weaker}
 use Rattle.com_draw_stories.specs.Calls.{entered_call, entered_method}
 use Rattle.com_draw_names.proofs.Joins.{join}

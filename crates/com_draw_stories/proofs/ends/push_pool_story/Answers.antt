@@ -1,4 +1,3 @@
-use Rattle.std.proofs.Common.{◌++◌}
 use Rattle.std.proofs.lemmas.Result.{on_ok_weaker}
 use Rattle.com_draw_stories.specs.Phrases.{lane_does}
 use Rattle.com_draw_words.specs.Escapes.{link_text}
