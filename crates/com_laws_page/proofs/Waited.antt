@@ -1,5 +1,5 @@
 -- The rows of lanes that wait, and the end of the drawing.
-use Rattle.std.proofs.Common.{Bool, List, [], ap, arith, codes, false, length, nat_le, refl, suc, sym, true, ℕ, ◌&&◌, ◌++◌, ◌+◌, ◌-◌, ◌==◌, ◌∷◌, ◌≡◌}
+use Rattle.std.proofs.Common.{Bool, List, [], ap, arith, codes, false, if◌then◌else◌, length, nat_le, refl, suc, sym, true, ℕ, ◌&&◌, ◌++◌, ◌+◌, ◌-◌, ◌==◌, ◌∷◌, ◌≡◌}
 use Rattle.com_draw.specs.Ends.{gap_row, last_back, last_rows, rows_of}
 use Rattle.com_draw.specs.Reasons.{arrow_to, depth_in, reason_arrow, reason_drawing, reason_label, reason_lead, reason_look, reason_row, reason_rows, reason_story, reason_words, ring_kind}
 use Rattle.com_draw_shapes.specs.Places.{row_at}
