@@ -1,10 +1,10 @@
 -- What the reader makes of digits and of escaped texts.
-use Rattle.std.proofs.Common.{◌≡◌, ℕ, ◌≤◌, ◌==◌, ◌&&◌, Bool, true, false, not, List, [], ◌∷◌, ◌++◌, refl, ap, sym, ◌∙◌, arith, if◌then◌else◌}
+use Rattle.std.proofs.Common.{◌≡◌, ℕ, ◌≤◌, ◌==◌, ◌&&◌, Bool, true, false, List, [], ◌∷◌, ◌++◌, refl, ap, ◌∙◌, arith, if◌then◌else◌}
 use Rattle.std.proofs.lemmas.List.{reverse-reverse}
 use Rattle.std.specs.Prelude.{codes, decimal, nat_le, reverse}
 use Rattle.com_draw_words.specs.Escapes.{escaped, escaped_byte}
 use Rattle.com_laws_markup.specs.Markup.{Reader, Content, Value, Raw, is_entry, is_link, step, read}
-use Rattle.com_laws_markup.proofs.Digits.{IsDigit, Digits, none, more, decimal_digits}
+use Rattle.com_laws_markup.proofs.Digits.{Digits, none, more, decimal_digits}
 
 -- the reader goes over one text and then over another
 read_both : (s : Bool) (m : Reader) (a b : List ℕ) → read s m (a ++ b) ≡ read s (read s m a) b

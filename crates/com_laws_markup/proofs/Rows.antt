@@ -1,7 +1,7 @@
 -- What the reader makes of the rows of entries.
 use Rattle.std.proofs.Common.{◌≡◌, ℕ, Bool, List, [], ◌∷◌, ◌++◌, Option, Some, None, refl, ap, ◌∙◌}
 use Rattle.std.specs.Prelude.{codes, decimal, reverse}
-use Rattle.com_draw_words.specs.Escapes.{escaped, word_and_number, words_around}
+use Rattle.com_draw_words.specs.Escapes.{escaped, word_and_number}
 use Rattle.com_draw_words.specs.Rows.{entry_call, entry_front_text, entry_ident, entry_number, entry_title, mark_text, row_end_text, row_middle_text}
 use Rattle.com_draw_words.specs.declared.rows.Mark.{Mark}
 use Rattle.com_draw_words.specs.declared.rows.Mark.TheVariants as mark

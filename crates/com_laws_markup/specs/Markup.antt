@@ -1,6 +1,6 @@
 -- Well-formed markup: what a reader of bytes takes. A page is its document's type, and behind it one element
--- with all others in it. The reader keeps the names of the open elements, the innermost first, and the values of
--- the attribute `data-entry` that it met, the newest first.
+-- with all others in it. The reader keeps the names of the open elements, the innermost first, and the values
+-- of the attribute `data-entry` that it met, the newest first.
 use Rattle.std.specs.Prelude.{ℕ, Bool, true, false, not, ◌&&◌, ◌||◌, ◌==◌, nat_le, if◌then◌else◌}
 use Rattle.std.specs.Prelude.{List, [], ◌∷◌, reverse, codes}
 use Rattle.std.specs.List.{list_any}
@@ -15,9 +15,9 @@ is_in names w = list_any (λ n. bytes_eq n w) names
 abbrev pub elements : List (List ℕ)
 elements =
     codes "i" ∷ codes "b" ∷ codes "u" ∷ codes "s" ∷ codes "p" ∷ codes "a" ∷ codes "span" ∷ codes "div"
-    ∷ codes "section" ∷ codes "html" ∷ codes "head" ∷ codes "meta" ∷ codes "title" ∷ codes "style" ∷ codes "body"
-    ∷ codes "main" ∷ codes "footer" ∷ codes "svg" ∷ codes "h1" ∷ codes "ul" ∷ codes "li" ∷ codes "strong"
-    ∷ codes "details" ∷ codes "summary" ∷ codes "pre" ∷ codes "br" ∷ []
+    ∷ codes "section" ∷ codes "html" ∷ codes "head" ∷ codes "meta" ∷ codes "title" ∷ codes "style"
+    ∷ codes "body" ∷ codes "main" ∷ codes "footer" ∷ codes "svg" ∷ codes "h1" ∷ codes "ul" ∷ codes "li"
+    ∷ codes "strong" ∷ codes "details" ∷ codes "summary" ∷ codes "pre" ∷ codes "br" ∷ []
 
 -- Whether an element may stand in the page; where scripts may not, that of a script is none.
 abbrev pub is_element : (scripts : Bool) → List ℕ → Bool
@@ -91,11 +91,15 @@ pub data Reader : Type 0 where
   Start : (names entries : List (List ℕ)) → (word : List ℕ) → Reader
   Gap : (names entries : List (List ℕ)) → (name : List ℕ) → (given : List (List ℕ)) → Reader
   Key : (names entries : List (List ℕ)) → (name : List ℕ) → (given : List (List ℕ)) → (word : List ℕ) → Reader
-  Equals : (names entries : List (List ℕ)) → (name : List ℕ) → (given : List (List ℕ)) → (attribute : List ℕ) → Reader
+  Equals :
+      (names entries : List (List ℕ)) → (name : List ℕ) → (given : List (List ℕ))
+      → (attribute : List ℕ) → Reader
   Value :
-      (names entries : List (List ℕ)) → (name : List ℕ) → (given : List (List ℕ)) → (attribute value : List ℕ) → Reader
+      (names entries : List (List ℕ)) → (name : List ℕ) → (given : List (List ℕ))
+      → (attribute value : List ℕ) → Reader
   ValueEscape :
-      (names entries : List (List ℕ)) → (name : List ℕ) → (given : List (List ℕ)) → (attribute value word : List ℕ) → Reader
+      (names entries : List (List ℕ)) → (name : List ℕ) → (given : List (List ℕ))
+      → (attribute value word : List ℕ) → Reader
   Quoted : (names entries : List (List ℕ)) → (name : List ℕ) → (given : List (List ℕ)) → Reader
   Slash : (names entries : List (List ℕ)) → (name : List ℕ) → Reader
   End : (names entries : List (List ℕ)) → (word : List ℕ) → Reader
@@ -136,7 +140,8 @@ kept a x v = if is_entry a || is_link a then x ∷ v else v
 -- What the reader is after one byte more.
 abbrev pub step : (scripts : Bool) → Reader → ℕ → Reader
 step s (Before w) x =
-    if x == 10 then (if bytes_eq (reverse w) document_type then Content [] [] else Refused) else Before (x ∷ w)
+    if x == 10 then (if bytes_eq (reverse w) document_type then Content [] [] else Refused)
+    else Before (x ∷ w)
 step s (Content o e) x =
     if x == 60 then Less o e
     else if x == 38 && is_inside o then Escape o e []
@@ -153,7 +158,8 @@ step s (Start o e w) x =
 step s (Gap o e n given) x = if is_letter x then Key o e n given (x ∷ []) else Refused
 step s (Key o e n given w) x =
     if is_letter x || x == 45 then Key o e n given (x ∷ w)
-    else if x == 61 && is_attribute (reverse w) && not (is_in given (reverse w)) then Equals o e n given (reverse w)
+    else if x == 61 && is_attribute (reverse w) && not (is_in given (reverse w))
+    then Equals o e n given (reverse w)
     else Refused
 step s (Equals o e n given a) x = if x == 34 then Value o e n given a [] else Refused
 step s (Value o e n given a v) x =

@@ -27,12 +27,13 @@ pub fn words_are_closed()
     ensures boxes { (b : DrawnBox) → IsClosed (box_text b) }
     ensures touches { (lane level : ℕ) → IsClosed (touch_text lane level) }
     ensures arrows { (a : Arrow) → IsClosed (arrow_text a) }
-    ensures labels { (lane level : ℕ) (look : Look) (words : List ℕ) → IsClosed (label_text lane level look words) }
+    ensures labels { (lane level : ℕ) (look : Look) (words : List ℕ)
+        → IsClosed (label_text lane level look words) }
     ensures links { (c : ℕ) → IsClosed (link_text c) }
 {}
 
-/// A row holds its entry: where its story and its marks are closed, the reader is where it was before the row,
-/// and has met one entry, that of the row's number.
+/// A row holds its entry: where its story and its marks are closed, the reader is where it was before the
+/// row, and has met one entry, that of the row's number.
 pub fn rows_hold_their_entries()
     ensures { (s : Bool) (n : List ℕ) (o e : List (List ℕ)) (k : ℕ) (call : Option ℕ) (m : Mark)
         (title story marks : List ℕ) → IsClosed story → IsClosed marks

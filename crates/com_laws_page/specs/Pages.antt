@@ -1,11 +1,12 @@
 -- Well-formed pages, and what they hold.
-use Rattle.std.specs.Prelude.{◌≡◌, ℕ, zero, suc, true, false, nat_le, if◌then◌else◌, List, [], ◌∷◌, ◌++◌, codes, decimal}
+use Rattle.std.specs.Prelude.{◌≡◌, ℕ, zero, suc, true, false, nat_le, if◌then◌else◌, List, [], ◌∷◌, ◌++◌}
+use Rattle.std.specs.Prelude.{codes, decimal}
 use Rattle.com_draw_words.specs.Ends.{tail_text}
 use Rattle.com_draw_words.specs.declared.limits.TheConstants.{LIMIT}
 use Rattle.com_laws_markup.specs.Markup.{Before, Content, Over, read}
 
--- Well-formed markup: the document's type, and one element that holds all else. In it the attribute `data-entry`
--- has these values, the newest first.
+-- Well-formed markup: the document's type, and one element that holds all else. In it the attribute
+-- `data-entry` has these values, the newest first.
 pub record IsWellFormed (entries : List (List ℕ)) (w : List ℕ) : Type 0 where
   pub reads : read true (Before []) w ≡ Over entries
 
