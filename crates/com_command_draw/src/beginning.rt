@@ -140,17 +140,30 @@ pub fn begin(
         ≡ whole_served (arc_value scenario.now) (map stepped servants.old.items)) }
     ensures row { map kind_of servants.new.items ≡ row }
 {
-    let mut core = Core::new(alloc, scenario.clone()?)?;
     let mut nowhere = Discard;
-    match begin_by(
-        alloc,
-        &**scenario,
-        &mut core,
-        servants,
-        is_kept,
-        &mut nowhere,
-    ) {
+    match begin_shared(alloc, scenario, servants, is_kept, &mut nowhere) {
         Ok(begun) => Ok(begun),
         Err(_) => Err(AllocError),
     }
+}
+
+// Draws the history that a core of its own makes of a scenario.
+fn begin_shared<K: Sink>(
+    alloc: Global,
+    scenario: &Arc<Scenario>,
+    servants: &mut Vec<Box<dyn Servant + Send>>,
+    is_kept: bool,
+    sink: &mut K,
+) -> Result<(Begun, Vec<Entry>), ReplayError>
+    requires formed { Formed (arc_value scenario.now) }
+    requires row { map kind_of servants.old.items ≡ row }
+    ensures begun { IfOk result (λ begun. IsBegun (arc_value scenario.now) begun.0) }
+    ensures kept { IfOk result (λ begun. is_kept ≡ true
+        → reverse begun.1.items ≡ scheduled (arc_value scenario.now)) }
+    ensures served { OnOk result (map stepped servants.new.items
+        ≡ whole_served (arc_value scenario.now) (map stepped servants.old.items)) }
+    ensures row { map kind_of servants.new.items ≡ row }
+{
+    let mut core = Core::new(alloc, scenario.clone()?)?;
+    begin_by(alloc, &**scenario, &mut core, servants, is_kept, sink)
 }
