@@ -52,32 +52,42 @@ pub fn quit(text: &mut Text, version: u8, lane: i64, hr: HResult) -> Result<(), 
     text.hresult(version, hr)
 }
 
+/// What the entry of a call that is issued says.
+#[derive(Clone, Copy)]
+pub struct Outgoing<'a> {
+    /// The number of the call.
+    pub call: u32,
+    /// The object that it is made to. `None` for a null slot.
+    pub object: Option<u32>,
+    /// The number of the interface that the statement names.
+    pub iface: u16,
+    /// The number of the method in the interface's table, from 0.
+    pub method: u16,
+    /// How the call goes.
+    pub route: Route,
+    /// The number of its causality.
+    pub cause: u32,
+    /// The request, where the call was marshalled.
+    pub bytes: &'a Option<ByteList>,
+}
+
 /// Appends how a call was issued.
-pub fn out(
-    text: &mut Text,
-    version: u8,
-    call: u32,
-    object: Option<u32>,
-    iface: u16,
-    method: u16,
-    route: Route,
-    cause: u32,
-    bytes: &Option<ByteList>,
-) -> Result<(), Memory>
+pub fn out(text: &mut Text, version: u8, said: Outgoing<'_>) -> Result<(), Memory>
     ensures front { text.new.front ≡ text.old.front }
     ensures ok { OnOk result (text.new.text ≡
-        deed_line version text.old.text (Deed.Out call object iface method route cause bytes.now)) }
+        deed_line version text.old.text (Deed.Out said.entry.call said.entry.object said.entry.iface
+        said.entry.method said.entry.route said.entry.cause said.entry.bytes.now)) }
 {
-    text.word_and_number(b" out c", call as u64)?;
+    text.word_and_number(b" out c", said.call as u64)?;
     text.push(b" ")?;
-    text.letter_and_number(b"o", object)?;
-    text.word_and_number(b" I", iface as u64)?;
-    text.word_and_number(b".", method as u64)?;
+    text.letter_and_number(b"o", said.object)?;
+    text.word_and_number(b" I", said.iface as u64)?;
+    text.word_and_number(b".", said.method as u64)?;
     text.push(b" ")?;
-    push_route(text, route)?;
-    text.word_and_number(b" cause", cause as u64)?;
+    push_route(text, said.route)?;
+    text.word_and_number(b" cause", said.cause as u64)?;
     text.push(b" ")?;
-    text.bytes(bytes)
+    text.bytes(said.bytes)
 }
 
 fn push_route(text: &mut Text, route: Route) -> Result<(), Memory>

@@ -2,6 +2,8 @@
 ghost use Rattle.std.specs.Prelude.{◌≡◌, OnOk};
 ghost use Rattle.com_model.specs.Text.{deed_line};
 
+use crate::calls::Outgoing;
+use crate::references::Marshalled;
 use crate::words::Text;
 use crate::{calls, references};
 use com_base::Memory;
@@ -32,7 +34,18 @@ pub fn deed(text: &mut Text, version: u8, deed: &Deed) -> Result<(), Memory>
             refs,
             hr,
             bytes,
-        } => references::marshal(text, version, *packet, *mode, *held, *refs, *hr, bytes),
+        } => references::marshal(
+            text,
+            version,
+            Marshalled {
+                packet: *packet,
+                mode: *mode,
+                held: *held,
+                refs: *refs,
+                hr: *hr,
+                bytes,
+            },
+        ),
         Deed::Unmarshal {
             packet,
             held,
@@ -66,7 +79,17 @@ pub fn deed(text: &mut Text, version: u8, deed: &Deed) -> Result<(), Memory>
             cause,
             bytes,
         } => calls::out(
-            text, version, *call, *object, *iface, *method, *route, *cause, bytes,
+            text,
+            version,
+            Outgoing {
+                call: *call,
+                object: *object,
+                iface: *iface,
+                method: *method,
+                route: *route,
+                cause: *cause,
+                bytes,
+            },
         ),
         Deed::Verdict {
             call,

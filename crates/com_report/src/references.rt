@@ -101,31 +101,40 @@ pub fn release(text: &mut Text, version: u8, held: Option<RefValue>) -> Result<(
     text.reference(held)
 }
 
+/// What the entry of a reference that is marshalled says.
+#[derive(Clone, Copy)]
+pub struct Marshalled<'a> {
+    /// The packet. `None` where none was made.
+    pub packet: Option<u32>,
+    /// How it was marshalled.
+    pub mode: MarshalMode,
+    /// The reference.
+    pub held: Option<RefValue>,
+    /// How many public references the packet holds.
+    pub refs: u32,
+    /// The result.
+    pub hr: HResult,
+    /// The bytes of the packet, where the entry has them.
+    pub bytes: &'a Option<ByteList>,
+}
+
 /// Appends how a reference was marshalled.
-pub fn marshal(
-    text: &mut Text,
-    version: u8,
-    packet: Option<u32>,
-    mode: MarshalMode,
-    held: Option<RefValue>,
-    refs: u32,
-    hr: HResult,
-    bytes: &Option<ByteList>,
-) -> Result<(), Memory>
+pub fn marshal(text: &mut Text, version: u8, said: Marshalled<'_>) -> Result<(), Memory>
     ensures front { text.new.front ≡ text.old.front }
     ensures ok { OnOk result (text.new.text ≡
-        deed_line version text.old.text (Deed.Marshal packet mode held refs hr bytes.now)) }
+        deed_line version text.old.text (Deed.Marshal said.entry.packet said.entry.mode said.entry.held
+        said.entry.refs said.entry.hr said.entry.bytes.now)) }
 {
     text.push(b" marshal ")?;
-    text.letter_and_number(b"pk", packet)?;
+    text.letter_and_number(b"pk", said.packet)?;
     text.push(b" ")?;
-    push_marshal_mode(text, mode)?;
+    push_marshal_mode(text, said.mode)?;
     text.push(b" ")?;
-    text.reference(held)?;
-    text.word_and_number(b" ", refs as u64)?;
-    text.hresult(version, hr)?;
+    text.reference(said.held)?;
+    text.word_and_number(b" ", said.refs as u64)?;
+    text.hresult(version, said.hr)?;
     text.push(b" ")?;
-    text.bytes(bytes)
+    text.bytes(said.bytes)
 }
 
 fn push_marshal_mode(text: &mut Text, mode: MarshalMode) -> Result<(), Memory>
