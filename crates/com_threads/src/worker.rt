@@ -48,6 +48,8 @@ pub(crate) struct Worker<B: Grows, S: Drop> {
 #[derive(Drop)]
 struct Shift {
     lane: u32,
+    // Where its steps and its lane's entries take memory.
+    alloc: Global,
     servants: Row,
     work: Work,
     // How many jobs it has taken.
@@ -215,36 +217,6 @@ fn look_round<C: Jobs + Drop, J: Plays>(
     }
 }
 
-// One stay under the lock. Once it has left, it rings for those who have something to do.
-fn hold<C: Jobs + Drop, J: Plays, R: Wait>(
-    rt: &R,
-    alloc: Global,
-    scenario: &Scenario,
-    lock: &Turnstile<Book<C, J>>,
-    bells: &Bells,
-    pass: Pass<Book<C, J>>,
-    lane: u32,
-    work: &mut Work,
-) -> Held<C, J>
-    requires pass { IsPassOf lock.now pass × (lane_of pass ≡ lane) }
-    requires scenario { scenario.now ≡ J.scenario }
-    requires lane { (1 ≤ lane) × (lane ≤ lanes scenario.now) }
-    requires work { IsWork scenario.now work.old }
-    ensures pass { IsPassOf lock.now result.pass × (lane_of result.pass ≡ lane) }
-    ensures work { IsWork scenario.now work.new }
-{
-    let mut guard = lock.enter(rt, pass);
-    let turn = guard.value.turn(alloc, scenario, lane, work);
-    let Round { rings, sleep } = look_round(&guard.value, bells, lane, turn);
-    let pass = lock.leave(guard);
-    match rings {
-        Rings::Nobody => {}
-        Rings::One(other) => bells.ring(other),
-        Rings::All => bells.ring_all(),
-    }
-    Held { pass, turn, sleep }
-}
-
 // Has the servant of the job's kind compute its step, and puts it beside the job.
 fn compute(alloc: Global, scenario: &Scenario, servants: &mut Row, work: &mut Work)
     requires work { IsWork scenario.now work.old }
@@ -268,12 +240,42 @@ fn pause<R: Wait>(rt: &R, bells: &Bells, lane: u32, sleep: u64) {
 }
 
 impl Shift {
+    // One stay under the lock. Once it has left, it rings for those who have something to do.
+    fn hold<C: Jobs + Drop, J: Plays, R: Wait>(
+        &mut self,
+        rt: &R,
+        scenario: &Scenario,
+        lock: &Turnstile<Book<C, J>>,
+        bells: &Bells,
+        pass: Pass<Book<C, J>>,
+    ) -> Held<C, J>
+        requires pass { IsPassOf lock.now pass × (lane_of pass ≡ self.old.lane) }
+        requires scenario { scenario.now ≡ J.scenario }
+        requires lane { (1 ≤ self.old.lane) × (self.old.lane ≤ lanes scenario.now) }
+        requires work { IsWork scenario.now self.old.work }
+        ensures pass { IsPassOf lock.now result.pass × (lane_of result.pass ≡ self.old.lane) }
+        ensures work { IsWork scenario.now self.new.work }
+        ensures lane { self.new.lane ≡ self.old.lane }
+        ensures servants { self.new.servants ≡ self.old.servants }
+    {
+        let lane = self.lane;
+        let mut guard = lock.enter(rt, pass);
+        let turn = guard.value.turn(self.alloc, scenario, lane, &mut self.work);
+        let Round { rings, sleep } = look_round(&guard.value, bells, lane, turn);
+        let pass = lock.leave(guard);
+        match rings {
+            Rings::Nobody => {}
+            Rings::One(other) => bells.ring(other),
+            Rings::All => bells.ring_all(),
+        }
+        Held { pass, turn, sleep }
+    }
+
     // What the worker does without the lock, after a turn in it. The step of a body is computed, and the gate
     // is called. Answers whether the worker goes on.
     fn outside<R: Wait, G: Gate>(
         &mut self,
         rt: &R,
-        alloc: Global,
         scenario: &Scenario,
         bells: &Bells,
         gate: &G,
@@ -288,7 +290,7 @@ impl Shift {
     {
         match turn {
             Turn::Works => {
-                compute(alloc, scenario, &mut self.servants, &mut self.work);
+                compute(self.alloc, scenario, &mut self.servants, &mut self.work);
                 self.jobs = self.jobs.saturating_add(1);
                 self.idle = 0;
                 gate.between(self.lane, self.jobs);
@@ -334,29 +336,21 @@ pub(crate) fn work<C: Jobs + Drop, J: Plays, R: Wait, G: Gate>(
     bells.awake(lane);
     let mut shift = Shift {
         lane,
+        alloc,
         servants,
         work: Work::new(),
         jobs: 0,
         idle: 0,
     };
     for _ in rt.forever() {
-        let held = hold(
-            rt,
-            alloc,
-            scenario,
-            lock,
-            bells,
-            pass,
-            lane,
-            &mut shift.work,
-        );
+        let held = shift.hold(rt, scenario, lock, bells, pass);
         let Held {
             pass: later,
             turn,
             sleep,
         } = held;
         pass = later;
-        if !shift.outside(rt, alloc, scenario, bells, gate, turn, sleep) {
+        if !shift.outside(rt, scenario, bells, gate, turn, sleep) {
             break;
         }
     }
