@@ -17,6 +17,7 @@ use crate::rows::{get, marshal, query, read, register, unproved_fact};
 use com_base::{HResult, MarshalMode, Memory, RefValue};
 use com_body::Asked;
 use com_classes::Classes;
+use com_model::Making;
 use com_reference_moves::Move;
 use com_refs::Refs;
 
@@ -70,7 +71,12 @@ pub fn enter_made(
         return Err(unproved_fact());
     };
     let held = reference(object, iface)?;
-    make(refs, brought, set, classes, apartment, held, owner, class)
+    let making = Making {
+        object,
+        apartment: owner,
+        class,
+    };
+    make(refs, brought, set, classes, apartment, making, held.iface)
 }
 
 /// The row of a reference that was asked for an interface.

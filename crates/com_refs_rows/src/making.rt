@@ -10,6 +10,7 @@ ghost use Rattle.com_refs_rows.specs.Owners.{Grown};
 use crate::rows::{MOST_GIVEN, bring, unproved_fact};
 use com_base::{Memory, RefValue};
 use com_classes::{Class, Classes, is_agile};
+use com_model::Making;
 use com_reference_moves::Move;
 use com_refs::Refs;
 
@@ -59,45 +60,47 @@ fn are_agile(class: &Class) -> bool
     is_agile(class.model)
 }
 
-/// An object is made, and the apartment has a place of it.
+/// An object is made, and the apartment has a place of it by this interface.
 pub fn make(
     refs: &mut Refs,
     brought: &mut Vec<Move>,
     set: &mut Vec<u16>,
     classes: &Classes,
     apartment: u32,
-    held: RefValue,
-    owner: u32,
-    class: u32,
+    making: Making,
+    iface: u16,
 ) -> Result<(), Memory>
     requires place { vec_len brought.old < vec_capacity brought.old }
     requires room { 0 < refs.old.spare }
-    ensures brought { OnOk result (brought.new.items ≡ brought.old.items ++ moved_to apartment held ∷ []) }
-    ensures made { OnOk result (Made apartment held refs.old refs.new) }
-    ensures grown { OnOk result (Grown classes.now (Some
-        (record { object = held.object; apartment = owner; class = class })) refs.old refs.new) }
+    ensures brought { OnOk result (brought.new.items
+        ≡ brought.old.items ++ moved_to apartment (record { object = making.object; iface = iface }) ∷ []) }
+    ensures made { OnOk result (Made apartment (record { object = making.object; iface = iface })
+        refs.old refs.new) }
+    ensures grown { OnOk result (Grown classes.now (Some making) refs.old refs.new) }
     ensures more { OnOk result (KeepsHeld apartment refs.old refs.new) }
     ensures err { OnErr result (refs.new ≡ refs.old) }
     ensures offers { OnOk result ((x j : ℕ) → offers refs.old x j ≡ true → offers refs.new x j ≡ true) }
-    ensures offered { OnOk result (offers refs.new held.object held.iface ≡ true) }
+    ensures offered { OnOk result (offers refs.new making.object iface ≡ true) }
     ensures issued { refs.new.issued ≤ refs.old.issued + 2 }
     ensures spare { refs.old.spare ≤ refs.new.spare + 1 }
     ensures len { vec_len brought.new ≤ vec_len brought.old + 1 }
 {
-    let Some(class) = classes.class(class) else {
+    let Some(class) = classes.class(making.class) else {
         return Err(unproved_fact());
     };
     fill_set(set, class)?;
+    let object = making.object;
+    let held = RefValue { object, iface };
     if !can_make(refs, set.as_slice(), held) {
         return Err(unproved_fact());
     }
     refs.tells();
     refs.made(
-        held.object,
-        owner,
+        object,
+        making.apartment,
         are_agile(class),
         apartment,
-        held.iface,
+        iface,
         set.as_slice(),
     )?;
     refs.tells();

@@ -16,12 +16,12 @@ returns-clause-made c =
     record {
       next = next;
       owns = c.in_ok-made.ensures.owns;
-      counts = λ n places below made counts. made_counts n places t u c.args.apartment c.args.held (owns_of u.objects c.args.held.object c.args.apartment) next refl c.in_ok-made.ensures.owns c.in_ok-made.ensures.direct c.in_ok-made.ensures.elsewhere (c.tells.ensures.totals n places counts) below made counts;
-      books = c.in_ok-made.ensures.row ∙ made_books (owns_of u.objects) (books_of t) c.args.apartment c.args.held.object c.args.held.iface;
+      counts = λ n places below made counts. made_counts n places t u c.args.apartment (record { object = c.args.making.object; iface = c.args.iface }) (owns_of u.objects c.args.making.object c.args.apartment) next refl c.in_ok-made.ensures.owns c.in_ok-made.ensures.direct c.in_ok-made.ensures.elsewhere (c.tells.ensures.totals n places counts) below made counts;
+      books = c.in_ok-made.ensures.row ∙ made_books (owns_of u.objects) (books_of t) c.args.apartment c.args.making.object c.args.iface;
     }
 
 pub returns-clause-grown : goal.returns-clause-grown
-returns-clause-grown c = grown_one c.args.classes.now (record { object = c.args.held.object; apartment = c.args.owner; class = c.args.class }) c.args.refs.now c.made.new.self c.are_agile.result (c.are_agile.ensures ∙ ap has_agile_model c.in-Some.ensures) c.in_ok-made.ensures.made c.in_ok-made.ensures.whose
+returns-clause-grown c = grown_one c.args.classes.now c.args.making c.args.refs.now c.made.new.self c.are_agile.result (c.are_agile.ensures ∙ ap has_agile_model c.in-Some.ensures) c.in_ok-made.ensures.made c.in_ok-made.ensures.whose
 
 pub returns-clause-more : goal.returns-clause-more
 returns-clause-more c = (λ n places below made counts.
@@ -29,6 +29,6 @@ returns-clause-more c = (λ n places below made counts.
     let u = c.made.new.self in
     let next = c.if-not-can_make.ensures.new refl in
     let was = c.tells.ensures.totals n places counts in
-    let later = made_counts n places t u c.args.apartment c.args.held (owns_of u.objects c.args.held.object c.args.apartment) next refl c.in_ok-made.ensures.owns c.in_ok-made.ensures.direct c.in_ok-made.ensures.elsewhere was below made counts in
-    made-more t u c.args.apartment c.args.held (owns_of u.objects c.args.held.object c.args.apartment) n places c.in_ok-made.ensures.row c.in_ok-made.ensures.direct was
-    (c.tells-2.ensures.totals n (plus places (moved_to c.args.apartment c.args.held ∷ [])) later))
+    let later = made_counts n places t u c.args.apartment (record { object = c.args.making.object; iface = c.args.iface }) (owns_of u.objects c.args.making.object c.args.apartment) next refl c.in_ok-made.ensures.owns c.in_ok-made.ensures.direct c.in_ok-made.ensures.elsewhere was below made counts in
+    made-more t u c.args.apartment (record { object = c.args.making.object; iface = c.args.iface }) (owns_of u.objects c.args.making.object c.args.apartment) n places c.in_ok-made.ensures.row c.in_ok-made.ensures.direct was
+    (c.tells-2.ensures.totals n (plus places (moved_to c.args.apartment (record { object = c.args.making.object; iface = c.args.iface }) ∷ [])) later))
