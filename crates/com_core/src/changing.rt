@@ -38,6 +38,7 @@ use com_body::Outcome;
 use com_ledger::{Context, DyingScan, count_bodies, other_by, released_by};
 use com_model::{Deed, Entry, Scenario};
 use com_parts::{Begun, Change, Sent};
+use com_reference_moves::Setting;
 use com_rules::{Doing, Issued};
 use com_scene::{Actor, fits_deed};
 use com_servant::Servant;
@@ -158,16 +159,16 @@ impl Running {
         ensures ledger { self.new.ledger ≡ self.old.ledger }
         ensures clock { self.new.clock ≡ self.old.clock }
     {
-        self.moves.fill(
-            basis.home,
-            self.parts.objects(),
-            self.parts.calls(),
-            self.parts.scene(),
+        let setting = Setting {
+            home: basis.home,
+            objects: self.parts.objects(),
+            calls: self.parts.calls(),
+            scene: self.parts.scene(),
             acting,
             outcome,
-            basis.after,
-            entry,
-        )?;
+            after: basis.after,
+        };
+        self.moves.fill(&setting, entry)?;
         self.make_room(entry)
     }
 

@@ -27,8 +27,7 @@ use com_base::{HOST_STA, Memory, RefValue, Value};
 use com_body::{Destination, Outcome, Place};
 use com_calls::Calls;
 use com_model::{Deed, Entry, Route};
-use com_objects::Objects;
-use com_scene::{Actor, Scene};
+use com_scene::Actor;
 
 // The apartment that a call was entered in.
 fn entered_where(calls: &Calls, call: u32) -> Option<u32>
@@ -432,40 +431,20 @@ impl Moves {
         self.end(setting, &entry.deed)
     }
 
-    /// Fills the lists anew with all that an entry takes from places and brings to them, by the tables before
-    /// the entry: the home of its lane, who acts and with which outcome, and who acts in the lane after it.
-    /// `Memory`: no memory was left, and the lists are empty.
-    pub fn fill(
-        &mut self,
-        home: Option<u32>,
-        objects: &Objects,
-        calls: &Calls,
-        scene: &Scene,
-        acting: Actor,
-        outcome: &Option<Outcome>,
-        after: Actor,
-        entry: &Entry,
-    ) -> Result<(), Memory>
+    /// Fills the lists anew with all that an entry takes from places and brings to them, by what the entry
+    /// rests on. `Memory`: no memory was left, and the lists are empty.
+    pub fn fill(&mut self, setting: &Setting<'_>, entry: &Entry) -> Result<(), Memory>
         requires deed { FitsDeed entry.now.deed }
-        requires outcome { IsWhole outcome.now }
-        requires bodies { BodiesWhole scene.now.tables }
-        requires after { FrameWhole scene.now.tables (acting_of after) }
+        requires outcome { IsWhole setting.now.outcome }
+        requires bodies { BodiesWhole setting.now.scene }
+        requires after { FrameWhole setting.now.scene setting.now.after }
         ensures moves { OnOk result (self.new
-            ≡ moves_stepped (ground_at home objects.now.tables calls.now.tables)
-            scene.now.tables (acting_of acting) outcome.now (acting_of after) entry.now) }
+            ≡ moves_stepped (ground_at setting.now.home setting.now.objects setting.now.calls)
+            setting.now.scene setting.now.acting setting.now.outcome setting.now.after entry.now) }
         ensures err { OnErr result (self.new ≡ no_moves) }
     {
-        let setting = Setting {
-            home,
-            objects,
-            calls,
-            scene,
-            acting,
-            outcome,
-            after,
-        };
         self.clear();
-        match self.add_all(&setting, entry) {
+        match self.add_all(setting, entry) {
             Ok(()) => Ok(()),
             Err(memory) => {
                 self.clear();
