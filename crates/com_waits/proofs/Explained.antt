@@ -1,6 +1,6 @@
 -- What is computed of a stuck history is its explanation; and a history that has ended otherwise has none.
-use Rattle.std.proofs.Common.{sym, ap, ◌∙◌}
-use Rattle.std.specs.Prelude.{◌≡◌, refl, ℕ, Bool, true, false, cond, not, ◌==◌, ◌&&◌, nat_le, List, Some, None, is_none, length}
+use Rattle.std.proofs.Common.{sym, ap, ◌∙◌, arith}
+use Rattle.std.specs.Prelude.{◌≡◌, ◌<◌, ◌≤◌, ◌^◌, refl, ℕ, Bool, true, false, cond, not, ◌==◌, ◌&&◌, nat_le, List, Some, None, is_none, length}
 use Rattle.com_model.specs.declared.counts.Ended.{Ended}
 use Rattle.com_model.specs.declared.counts.Ended.TheVariants as ended
 use Rattle.com_model.specs.declared.deeds.Entry.{Entry}
@@ -21,6 +21,25 @@ pub stuck_rows : (s : Scenario) (h : List Entry) (p n : ℕ) (w : Waits) → p �
 stuck_rows s h p n w a b d f q t =
     let e : seen_waits p h n ≡ waits_of s h = ap (λ (k : ℕ). seen_waits k h n) a ∙ ap (λ (k : ℕ). seen_waits (pool_lane s) h k) b ∙ seen-waits s h f q t in
     d ∙ ap explained e
+
+-- ---- the numbers of its lanes
+
+-- where there are few threads and few lanes, they are not too many
+pub none_is_few : {A : Type 0} (t n : ℕ) → (t < 2 ^ 28 → 2 ^ 32 ≤ n) → t < 2 ^ 28 → n < 2 ^ 32 → A
+none_is_few t n many few fits = absurd (omega (arith, many few, fits))
+
+formed-few : (s : Scenario) → Formed s → (length s.threads < 2 ^ 28) × (lanes s < 2 ^ 32)
+formed-few s f = (omega (arith, f.threads.1), omega (arith, f.threads.1, f.pool.1))
+
+-- what holds where there are few threads and few lanes holds of a formed scenario
+pub in_formed : {A : Type 0} (s : Scenario) → (length s.threads < 2 ^ 28 → lanes s < 2 ^ 32 → A) → Formed s → A
+in_formed s holds f = let few = formed-few s f in holds few.0 few.1
+
+pub stuck_by_numbers : (s : Scenario) (h : List Entry) (p n : ℕ) (w : Waits)
+    → (length s.threads < 2 ^ 28 → lanes s < 2 ^ 32 → p ≡ pool_lane s)
+    → (length s.threads < 2 ^ 28 → lanes s < 2 ^ 32 → n ≡ lanes s) → w ≡ explained (seen_waits p h n)
+    → Formed s → legal s h → stuck s h ≡ true → w ≡ explanation s h
+stuck_by_numbers s h p n w a b d f q t = stuck_rows s h p n w (in_formed s a f) (in_formed s b f) d f q t
 
 -- ---- how a history has ended
 

@@ -1,5 +1,5 @@
 //! Why a history is stuck, by its entries alone, and whether an explanation is the right one.
-ghost use Rattle.std.specs.Prelude.{◌≡◌, ◌↔◌, Some, true, IfOk, IsTrue};
+ghost use Rattle.std.specs.Prelude.{◌≡◌, ◌↔◌, ◌<◌, ◌^◌, Some, true, IfOk, IsTrue, length};
 ghost use Rattle.com_model.specs.declared.scenario.Scenario.{Scenario as AnyScenario};
 ghost use Rattle.com_model.specs.Tables.{lanes};
 ghost use Rattle.com_model.specs.Ends.{ended_as, stuck};
@@ -14,7 +14,7 @@ use crate::reasons::{Wait, Waits, Why};
 use crate::walks::wait_rows;
 use com_base::Memory;
 use com_model::{Ended, Entry, Scenario};
-use std::alloc::{AllocError, Global};
+use std::alloc::Global;
 
 /// How many lanes a scenario has, and the least lane of its pool.
 #[derive(Debug, Clone, Copy)]
@@ -25,19 +25,22 @@ pub struct LaneNumbers {
     pub pool: u32,
 }
 
-/// The numbers of a scenario's lanes. The only error is want of memory, which comes for more lanes than a
-/// number of 32 bits holds.
-pub fn lane_numbers(scenario: &Scenario) -> Result<LaneNumbers, Memory>
-    ensures lanes { IfOk result (λ numbers. numbers.lanes ≡ lanes scenario.now) }
-    ensures pool { IfOk result (λ numbers. numbers.pool ≡ pool_lane scenario.now) }
+/// The numbers of a scenario's lanes. Where it has 268,435,456 threads or more, or more lanes than 32 bits
+/// number, no lane is named; none such is formed.
+#[tactic(auto, using(crate::proofs::Explained::none_is_few))]
+pub fn lane_numbers(scenario: &Scenario) -> LaneNumbers
+    ensures lanes { length scenario.now.threads < 2 ^ 28 → lanes scenario.now < 2 ^ 32
+        → result.lanes ≡ lanes scenario.now }
+    ensures pool { length scenario.now.threads < 2 ^ 28 → lanes scenario.now < 2 ^ 32
+        → result.pool ≡ pool_lane scenario.now }
 {
-    let Some(lanes) = scenario.lanes() else {
-        return Err(AllocError);
-    };
-    Ok(LaneNumbers {
-        lanes,
-        pool: scenario.threads.len() as u32 + 2,
-    })
+    match scenario.lanes() {
+        Some(lanes) => LaneNumbers {
+            lanes,
+            pool: scenario.threads.len() as u32 + 2,
+        },
+        None => LaneNumbers { lanes: 0, pool: 0 },
+    }
 }
 
 // Why the lanes of a stuck history wait.
@@ -87,19 +90,19 @@ pub fn waits_at(
         → ended_as scenario.now (told history.now) ≡ Some ended
         → waits ≡ explanation_of scenario.now (told history.now)) }
 {
-    let numbers = lane_numbers(scenario)?;
+    let numbers = lane_numbers(scenario);
     explain_by(alloc, numbers, history, ended)
 }
 
 /// Why the lanes of a scenario's stuck history wait, by its entries in the order of their making. The only
 /// error is want of memory.
-#[tactic(auto, using(crate::proofs::Explained::stuck_rows))]
+#[tactic(auto, using(crate::proofs::Explained::stuck_by_numbers))]
 pub fn waits_stuck(alloc: Global, scenario: &Scenario, history: &[Entry]) -> Result<Waits, Memory>
     ensures { IfOk result (λ waits. Formed scenario.now → legal scenario.now (told history.now)
         → stuck scenario.now (told history.now) ≡ true
         → waits ≡ explanation scenario.now (told history.now)) }
 {
-    let numbers = lane_numbers(scenario)?;
+    let numbers = lane_numbers(scenario);
     explain_rows(alloc, numbers, history)
 }
 
