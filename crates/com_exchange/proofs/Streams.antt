@@ -1,5 +1,5 @@
 -- Values as they travel, one after the other.
-use Rattle.std.proofs.Common.{◌≡◌, ℕ, suc, zero, ◌+◌, ◌-◌, ◌<◌, ◌≤◌, List, [], ◌∷◌, ◌++◌, length, get_or, drop, Option, Some, None, refl, sym, ap, subst, ◌∙◌, arith, slice_get}
+use Rattle.std.proofs.Common.{◌≡◌, ℕ, suc, zero, ◌+◌, ◌-◌, ◌*◌, ◌<◌, ◌≤◌, List, [], ◌∷◌, ◌++◌, length, get_or, drop, Option, Some, None, refl, sym, ap, subst, ◌∙◌, arith, slice_get}
 use Rattle.std.proofs.lemmas.List.{append-nil, length-append}
 use Rattle.std.proofs.Math.Seq.{drop-cons}
 use Rattle.std.proofs.Math.ListN.{drop_of_length-le}
@@ -54,18 +54,21 @@ wires_next (value.Ref (Some r)) vs fs k = one_more vs fs k
 pub record SoFar (old out : List ℕ) (referent taken i : ℕ) (vs : List Value) (fs : List StdFields) : Type 0 where
   pub appended : Appended old out referent (wires (drop i vs) (drop taken fs)) (written_args (wires vs fs))
   pub few : taken ≤ i
+  pub low : referent ≤ 0x20000 + 4 * i
 
 pub so_far_none : (old : List ℕ) (vs : List Value) (fs : List StdFields) → SoFar old old 0x20000 0 0 vs fs
 so_far_none old vs fs = record {
   appended = record { front = []; out_is = sym (append-nil old); total_is = refl };
   few = omega arith;
+  low = omega arith;
 }
 
 pub so_far_more : (old out new : List ℕ) (referent next position taken i : ℕ) (v : Value) (vs : List Value) (fs : List StdFields)
     → i < length vs → v ≡ get_or vs i v → SoFar old out referent taken i vs fs → position ≡ length out - length old
     → new ≡ out ++ (zeros (gap position (align_of_value (wire_of v (slice_get fs taken)))) ++ written_arg referent (wire_of v (slice_get fs taken)))
-    → next ≡ next_referent referent (wire_of v (slice_get fs taken)) → packets_of v ≤ 1 → SoFar old new next (taken + packets_of v) (i + 1) vs fs
-so_far_more old out new referent next position taken i v vs fs within is so_far place_is new_is next_is few =
+    → next ≡ next_referent referent (wire_of v (slice_get fs taken)) → next ≤ referent + 4 → packets_of v ≤ 1
+    → SoFar old new next (taken + packets_of v) (i + 1) vs fs
+so_far_more old out new referent next position taken i v vs fs within is so_far place_is new_is next_is above few =
     let w : Wire = wire_of v (slice_get fs taken) in
     let total : List ℕ = written_args (wires vs fs) in
     let rest : List Wire = wires (drop (suc i) vs) (drop (taken + packets_of v) fs) in
@@ -77,6 +80,7 @@ so_far_more old out new referent next position taken i v vs fs within is so_far 
     record {
       appended = subst (λ (n : ℕ). Appended old new next (wires (drop n vs) (drop (taken + packets_of v) fs)) total) more after;
       few = omega (arith, so_far.few);
+      low = omega (arith, so_far.low, above);
     }
 
 pub so_far_all : (old out : List ℕ) (referent taken i : ℕ) (vs : List Value) (fs : List StdFields)
@@ -95,9 +99,10 @@ so_far_longer old out referent taken i vs fs so_far =
 pub so_far_step : (old out new : List ℕ) (referent next position taken count i : ℕ) (v : Value) (packet : Option StdFields) (vs : List Value)
     (fs : List StdFields) → i < length vs → v ≡ get_or vs i v → SoFar old out referent taken i vs fs → position ≡ length out - length old
     → new ≡ out ++ (zeros (gap position (align_of_value (wire_of v packet))) ++ written_arg referent (wire_of v packet))
-    → next ≡ next_referent referent (wire_of v packet) → packet ≡ slice_get fs taken → count ≡ packets_of v → count ≤ 1
+    → next ≡ next_referent referent (wire_of v packet) → next ≤ referent + 4 → packet ≡ slice_get fs taken
+    → count ≡ packets_of v → count ≤ 1
     → SoFar old new next (taken + count) (i + 1) vs fs
-so_far_step old out new referent next position taken count i v packet vs fs within is so_far place_is new_is next_is packet_is count_is few =
+so_far_step old out new referent next position taken count i v packet vs fs within is so_far place_is new_is next_is above packet_is count_is few =
     let Writes : Option StdFields → Type 0 =
     λ p. new ≡ out ++ (zeros (gap position (align_of_value (wire_of v p))) ++ written_arg referent (wire_of v p)) in
     let Follows : Option StdFields → Type 0 = λ p. next ≡ next_referent referent (wire_of v p) in
@@ -105,4 +110,4 @@ so_far_step old out new referent next position taken count i v packet vs fs with
     let one : packets_of v ≤ 1 = omega (arith, count_is) in
     subst Takes (sym count_is)
     (so_far_more old out new referent next position taken i v vs fs within is so_far place_is
-    (subst Writes packet_is new_is) (subst Follows packet_is next_is) one)
+    (subst Writes packet_is new_is) (subst Follows packet_is next_is) above one)

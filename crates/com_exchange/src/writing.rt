@@ -1,6 +1,6 @@
 //! Requests and replies as bytes.
-ghost use Rattle.std.specs.Prelude.{◌≡◌, ◌++◌, ◌-◌, ◌<◌, ◌≤◌, Option, IfOk, OnOk, length, option_copied};
-ghost use Rattle.std.specs.Prelude.{slice_get};
+ghost use Rattle.std.specs.Prelude.{◌≡◌, ◌++◌, ◌-◌, ◌+◌, ◌<◌, ◌≤◌, ◌^◌, Option, IfOk, OnOk, length};
+ghost use Rattle.std.specs.Prelude.{slice_get, option_copied};
 ghost use Rattle.std.specs.Int.{w32};
 ghost use Rattle.com_base.specs.declared.standard.StdFields.{StdFields};
 ghost use Rattle.com_wire.specs.Fields.{number};
@@ -13,12 +13,12 @@ ghost use Rattle.com_exchange.specs.Wires.{wire_of, packets_of};
 
 use com_base::{ByteList, Guid, HResult, Memory, StdFields, Value};
 use objref::encode;
-use std::alloc::{AllocError, Global};
+use std::alloc::Global;
 
 // The referent of a stream's first reference that is not null. They count up by the size of a pointer.
-const FIRST_REFERENT: u32 = 0x0002_0000;
+const FIRST_REFERENT: u128 = 0x0002_0000;
 
-const STEP: u32 = 4;
+const STEP: u128 = 4;
 
 // How many bytes the OBJREF of a reference has.
 const OBJREF: u32 = 72;
@@ -51,23 +51,29 @@ fn put_number(field: u32, out: &mut ByteList) -> Result<(), Memory>
     out.push_all(&field.to_le_bytes())
 }
 
-// Appends bytes behind their count. As many as no count tells are more than there is memory for.
+// Appends the low 32 bits of a count or a referent, which are all of it in any stream of a length that is
+// told by 32 bits.
+#[tactic(auto, unfolding(com_wire::specs::Fields::number))]
+fn put_low_bits(field: u128, out: &mut ByteList) -> Result<(), Memory>
+    ensures { OnOk result (out.new ≡ out.old ++ number w32 field) }
+{
+    out.push_all(&field.to_le_bytes()[..4])
+}
+
+// Appends bytes behind their count.
 fn put_counted(bytes: &[u8], out: &mut ByteList) -> Result<(), Memory>
     ensures { OnOk result (out.new ≡ out.old ++ counted bytes.now) }
 {
-    let Ok(count) = u32::try_from(bytes.len()) else {
-        return Err(AllocError);
-    };
-    put_number(count, out)?;
+    put_low_bits(bytes.len() as u128, out)?;
     out.push_all(bytes)
 }
 
 // Appends a reference that is not null.
-fn put_packet(fields: &StdFields, referent: u32, out: &mut ByteList) -> Result<(), Memory>
+fn put_packet(fields: &StdFields, referent: u128, out: &mut ByteList) -> Result<(), Memory>
     ensures { OnOk result (out.new
         ≡ out.old ++ (number w32 referent ++ (number w32 72 ++ (number w32 72 ++ written_of fields.now)))) }
 {
-    put_number(referent, out)?;
+    put_low_bits(referent, out)?;
     put_number(OBJREF, out)?;
     put_number(OBJREF, out)?;
     encode(fields, out)
@@ -90,7 +96,7 @@ fn align_of_value(value: &Value) -> usize
 fn put_arg(
     value: &Value,
     packet: Option<&StdFields>,
-    referent: u32,
+    referent: u128,
     out: &mut ByteList,
 ) -> Result<(), Memory>
     ensures { OnOk result (out.new
@@ -108,15 +114,15 @@ fn put_arg(
     }
 }
 
-// The referent of the next reference behind a value. A stream of so many references that a referent does
-// not fit asks for more memory than there is.
-fn next_referent(referent: u32, value: &Value, packet: Option<&StdFields>) -> Result<u32, Memory>
-    ensures { IfOk result (λ next. next
-        ≡ next_referent referent (wire_of value.now (option_copied packet.entry))) }
+// The referent of the next reference behind a value.
+fn next_referent(referent: u128, value: &Value, packet: Option<&StdFields>) -> u128
+    requires { referent + 4 < 2 ^ 128 }
+    ensures value { result ≡ next_referent referent (wire_of value.now (option_copied packet.entry)) }
+    ensures above { result ≤ referent + 4 }
 {
     match (value, packet) {
-        (Value::Ref(Some(_)), Some(_)) => referent.checked_add(STEP).ok_or(AllocError),
-        _ => Ok(referent),
+        (Value::Ref(Some(_)), Some(_)) => referent + STEP,
+        _ => referent,
     }
 }
 
@@ -125,18 +131,20 @@ fn put_value(
     value: &Value,
     packet: Option<&StdFields>,
     position: usize,
-    referent: u32,
+    referent: u128,
     out: &mut ByteList,
-) -> Result<u32, Memory>
+) -> Result<u128, Memory>
+    requires { referent + 4 < 2 ^ 128 }
     ensures next { IfOk result (λ next. next
         ≡ next_referent referent (wire_of value.now (option_copied packet.entry))) }
+    ensures above { IfOk result (λ next. next ≤ referent + 4) }
     ensures ok { OnOk result (out.new
         ≡ out.old ++ (zeros (gap position (align_of_value (wire_of value.now (option_copied packet.entry))))
         ++ written_arg referent (wire_of value.now (option_copied packet.entry)))) }
 {
     put_zeros(gap(position, align_of_value(value)), out)?;
     put_arg(value, packet, referent, out)?;
-    next_referent(referent, value, packet)
+    Ok(next_referent(referent, value, packet))
 }
 
 // How many packets a value needs.

@@ -9,7 +9,7 @@ loop-value-preserved c =
     (c.len.result - c.len-start.result) c.loop-value.taken c.packets_of-taken.result c.loop-value.value-index c.value-item.result
     (option_copied c.packet_at.result) c.args.values.now c.args.packets.now
     c.loop-value-test.true c.value-item.is c.loop-value.invariant (rw (c.len.ensures, c.len-start.ensures) refl)
-    c.in_ok-referent.ensures.ok c.in_ok-referent.ensures.next c.packet_at.ensures c.packets_of-taken.ensures.value c.packets_of-taken.ensures.few
+    c.in_ok-referent.ensures.ok c.in_ok-referent.ensures.next c.in_ok-referent.ensures.above c.packet_at.ensures c.packets_of-taken.ensures.value c.packets_of-taken.ensures.few
 
 pub returns : goal.returns
 returns c =
