@@ -181,6 +181,12 @@ read_formed (l ∷ ls) r ws h = bind (late_step r l.words) _ (late_stands r l.wo
     (λ _. late_finish_formed next l.line l.column k)
     (λ _. read_formed ls next (All-tail IsLine l ls ws) k))
 
+pub late_outline_formed : (text : List ℕ) (tables : List Interface) (o : LateOutline) → tables ≡ built_in_interfaces → late_read (late_begun tables) (lines_of text) ≡ Ok o
+    → Formed (scenario_of o.outline)
+late_outline_formed text tables o t e =
+    let f : late_read (late_begun built_in_interfaces) (lines_of text) ≡ Ok o = ap (λ (x : List Interface). late_read (late_begun x) (lines_of text)) (sym t) ∙ e in
+    (read_formed (lines_of text) (late_begun built_in_interfaces) (lines_formed text) begun_stands).of o f
+
 pub formed : (text : List ℕ) → Holds (λ (l : Late). Formed l.scenario) (late text)
 unfolding late
 formed text = bind (late_read (late_begun built_in_interfaces) (lines_of text)) _ (read_formed (lines_of text) (late_begun built_in_interfaces) (lines_formed text) begun_stands) (λ o h. done (late_of o) h)

@@ -141,7 +141,7 @@ fn late_outline(
 }
 
 // What a text of late calls says, with the scenario of what is declared.
-#[tactic(auto, unfolding(crate::specs::Late::late))]
+#[tactic(auto, unfolding(crate::specs::Late::late), using(crate::proofs::LateForms::late_outline_formed))]
 fn late_scenario(alloc: Global, text: &[u8]) -> Result<Late, ScenarioError>
     ensures { Gives (λ l. l) result (late text.now) }
 {

@@ -34,6 +34,9 @@ bytes_flip (x ∷ xs) (y ∷ ys) = ap (λ (b : Bool). b && bytes_eq xs ys) (eqb_
 guid_flip : (g k : Guid) → guid_eq g k ≡ guid_eq k g
 guid_flip g k = cc (eqb_flip g.data1 k.data1, eqb_flip g.data2 k.data2, eqb_flip g.data3 k.data3, bytes_flip g.data4 k.data4)
 
+pub guid_turned : (g k : Guid) → same_guid g k ≡ same_guid k g
+guid_turned g k = cc (eqb_flip g.data1 k.data1, eqb_flip g.data2 k.data2, eqb_flip g.data3 k.data3, bytes_flip g.data4 k.data4)
+
 -- ---- not among others
 
 pub unmet : (b t : Bool) → (if b then true else t) ≡ false → (b ≡ false) × (t ≡ false)

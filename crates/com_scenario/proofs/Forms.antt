@@ -178,3 +178,6 @@ unfolding IsOutline
 outline_formed text tables o s t e h =
     let f : read (begun built_in_interfaces) (lines_of text) ≡ Ok o = ap (λ (x : List Interface). read (begun x) (lines_of text)) (sym t) ∙ e in
     subst Formed (sym h) ((read_formed (lines_of text) (begun built_in_interfaces) (lines_formed text) begun_stands).of o f)
+
+pub read_formed_outline : (text : List ℕ) (tables : List Interface) (o : Outline) → tables ≡ built_in_interfaces → read (begun tables) (lines_of text) ≡ Ok o → Formed (scenario_of o)
+read_formed_outline text tables o t e = outline_formed text tables o (scenario_of o) t e refl

@@ -5,4 +5,5 @@ pub mod Declaring
 pub mod Standing
 pub mod Steps
 pub mod Forms
+pub mod Filling
 pub mod Again

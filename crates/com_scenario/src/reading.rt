@@ -1,12 +1,14 @@
 //! A scenario from its text.
 
-ghost use Rattle.std.specs.Prelude.{◌≡◌, ◌++◌, ◌∷◌, [], drop, OnOk, IfOk};
+ghost use Rattle.std.specs.Prelude.{◌≡◌, ◌≤◌, ◌++◌, ◌∷◌, [], None, drop, length, OnOk, IfOk};
+ghost use Rattle.com_classes.specs.BuiltIns.{built_in_interfaces};
+ghost use Rattle.com_classes.specs.Lookups.{class_refusal, interface_refusal};
 ghost use Rattle.com_read_operands.specs.Reading.{Gives};
-ghost use Rattle.com_model.specs.Formed.{Formed};
+ghost use Rattle.com_model.specs.Formed.{Distinct, Formed, same_class, same_interface};
 ghost use Rattle.com_scenario.specs.Scenarios.{tables_of, scenario_of, reading};
 
 use com_base::{BUILT_IN_COUNT, Memory, Rows};
-use com_classes::{Class, Classes, Interface, built_in_interfaces};
+use com_classes::{Class, ClassError, Classes, Interface, built_in_interfaces};
 use com_model::Scenario;
 use com_read_operands::ScenarioError;
 use com_read_sections::{Outline, outline_of};
@@ -20,43 +22,78 @@ fn declared_interfaces(mut interfaces: Vec<Interface>) -> Result<Vec<Interface>,
     interfaces.split_off(from)
 }
 
-// Adds an interface. One whose IID is there, and one too many, are refused where they are declared.
+// Adds an interface that the tables take. The only error is want of memory.
 fn add_interface(classes: &mut Classes, interface: Interface) -> Result<(), Memory>
+    requires { interface_refusal classes.old interface ≡ None }
     ensures { OnOk result (classes.new
         ≡ record classes.old { interfaces = classes.old.interfaces ++ interface ∷ [] }) }
 {
     match classes.add_interface(interface) {
         Ok(_) => Ok(()),
-        Err(_) => Err(AllocError),
+        Err(ClassError::Memory) => Err(AllocError),
+        Err(ClassError::Repeated | ClassError::Full) => unreachable!(),
     }
 }
 
-// Adds a class. One whose CLSID is there, and one too many, are refused where they are declared.
+// Adds a class that the tables take. The only error is want of memory.
 fn add_class(classes: &mut Classes, class: Class) -> Result<(), Memory>
+    requires { class_refusal classes.old class ≡ None }
     ensures { OnOk result (classes.new ≡ record classes.old { classes = classes.old.classes ++ class ∷ [] }) }
 {
     match classes.add_class(class) {
         Ok(_) => Ok(()),
-        Err(_) => Err(AllocError),
+        Err(ClassError::Memory) => Err(AllocError),
+        Err(ClassError::Repeated | ClassError::Full) => unreachable!(),
     }
+}
+
+// Adds interfaces in their order.
+fn add_interfaces(classes: &mut Classes, interfaces: Vec<Interface>) -> Result<(), Memory>
+    requires few { length (classes.old.interfaces ++ interfaces.items) ≤ 64 }
+    requires distinct { Distinct same_interface (classes.old.interfaces ++ interfaces.items) }
+    ensures { OnOk result (classes.new
+        ≡ record classes.old { interfaces = classes.old.interfaces ++ interfaces.items }) }
+{
+    let mut left = interfaces;
+    'interfaces: while !left.is_empty() {
+        add_interface(classes, left.remove(0))?;
+    }
+    Ok(())
+}
+
+// Adds classes in their order.
+fn add_classes(classes: &mut Classes, list: Vec<Class>) -> Result<(), Memory>
+    requires few { length (classes.old.classes ++ list.items) ≤ 64 }
+    requires distinct { Distinct same_class (classes.old.classes ++ list.items) }
+    ensures { OnOk result (classes.new
+        ≡ record classes.old { classes = classes.old.classes ++ list.items }) }
+{
+    let mut left = list;
+    'classes: while !left.is_empty() {
+        add_class(classes, left.remove(0))?;
+    }
+    Ok(())
 }
 
 // The tables of an outline's interfaces and classes.
 fn tables(alloc: Global, interfaces: Rows<Interface>, list: Rows<Class>) -> Result<Classes, Memory>
+    requires few_interfaces { length (built_in_interfaces ++ drop 4 interfaces) ≤ 64 }
+    requires interfaces_differ { Distinct same_interface (built_in_interfaces ++ drop 4 interfaces) }
+    requires few_classes { length list ≤ 64 }
+    requires classes_differ { Distinct same_class list }
     ensures { IfOk result (λ t. t ≡ tables_of interfaces list) }
 {
     let mut classes = Classes::new(alloc)?;
-    for interface in declared_interfaces(interfaces.into_vec())? {
-        add_interface(&mut classes, interface)?;
-    }
-    for class in list.into_vec() {
-        add_class(&mut classes, class)?;
-    }
+    let declared = declared_interfaces(interfaces.into_vec())?;
+    add_interfaces(&mut classes, declared)?;
+    add_classes(&mut classes, list.into_vec())?;
     Ok(classes)
 }
 
-/// The scenario of an outline. The only error is want of memory.
+/// The scenario of an outline that repeats no name and no GUID. The only error is want of memory.
+#[tactic(auto, using(crate::proofs::Filling::few_interfaces, crate::proofs::Filling::interfaces_differ, crate::proofs::Filling::few_classes, crate::proofs::Filling::classes_differ))]
 pub fn scenario(alloc: Global, outline: Outline) -> Result<Scenario, Memory>
+    requires { Formed (scenario_of outline) }
     ensures { IfOk result (λ s. s ≡ scenario_of outline) }
 {
     Ok(Scenario {
@@ -73,7 +110,7 @@ pub fn scenario(alloc: Global, outline: Outline) -> Result<Scenario, Memory>
 /// with the lower number. `Memory` comes where memory is short, and for a text of nearly 2^32 bytes
 /// or more. The scenario keeps the limits, the forms and the ranges of the language, repeats no name
 /// or GUID, and names only what is declared.
-#[tactic(auto, unfolding(crate::specs::Scenarios::reading))]
+#[tactic(auto, unfolding(crate::specs::Scenarios::reading), using(crate::proofs::Forms::read_formed_outline))]
 pub fn parse(alloc: Global, text: &[u8]) -> Result<Scenario, ScenarioError>
     ensures value { Gives (λ s. s) result (reading text.now) }
     ensures formed { IfOk result (λ s. Formed s) }
