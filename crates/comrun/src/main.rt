@@ -1,15 +1,16 @@
 //! `comrun`: the program over the top call. All that it prints goes to the standard output.
 #![tactic(auto)]
 
-ghost use Rattle.std.specs.Prelude.{◌≡◌, IfOk, OnErr, OnOk, map, string_bytes};
+ghost use Rattle.std.specs.Prelude.{◌≡◌, ◌+◌, [], All, IfOk, OnErr, OnOk, map, string_bytes, vec_len};
 ghost use Rattle.com_commands.specs.Statuses.{sides_of, sides_without_source};
+ghost use Rattle.com_servant.specs.Rows.{row};
 ghost use Rattle.com_top.specs.Commands.{Answered, ReadsNone};
 ghost use Rattle.com_top.specs.Words.{command_of};
 
 use com_base::Memory;
 use com_io::{Sink, Source, StdSink, StdSource};
 use com_replay::fresh_row;
-use com_servant::{ROWS, Servant, is_manned};
+use com_servant::{ROWS, Servant};
 use com_threads::OpenGate;
 use com_top::com_main;
 use std::alloc::{AllocError, Global};
@@ -35,6 +36,29 @@ fn main(rt: HostRuntime) -> ExitCode {
     }
 }
 
+// A row more, of servants that have made no step. The only error is want of memory.
+fn add_row(alloc: Global, crew: &mut Vec<Vec<Box<dyn Servant + Send>>>) -> Result<(), Memory>
+    requires { All (λ servants. map kind_of servants.items ≡ row) crew.old.items }
+    ensures rows { OnOk result (vec_len crew.new ≡ vec_len crew.old + 1) }
+    ensures crew { OnOk result (All (λ servants. map kind_of servants.items ≡ row) crew.new.items) }
+{
+    let servants = fresh_row!(alloc);
+    crew.push(servants)?;
+    Ok(())
+}
+
+// All rows of a crew that had none. The only error is want of memory.
+fn man(alloc: Global, crew: &mut Vec<Vec<Box<dyn Servant + Send>>>) -> Result<(), Memory>
+    requires { crew.old.items ≡ [] }
+    ensures rows { OnOk result (vec_len crew.new ≡ 25) }
+    ensures crew { OnOk result (All (λ servants. map kind_of servants.items ≡ row) crew.new.items) }
+{
+    'rows: while crew.len() < ROWS {
+        add_row(alloc, crew)?;
+    }
+    Ok(())
+}
+
 // Does what the words ask for, with a crew of servants that have made no step, and a gate that holds nobody:
 // the answer is the status. The only error is want of memory for the crew; then nothing was read or written.
 fn serve<R: Threads + Wait + Sync, S: Source, K: Sink>(
@@ -52,14 +76,8 @@ fn serve<R: Threads + Wait + Sync, S: Source, K: Sink>(
     ensures source { OnErr result (source.new ≡ source.old) }
     ensures sink { OnErr result (sink.new ≡ sink.old) }
 {
-    let mut crew: Vec<Vec<Box<dyn Servant + Send>>> = Vec::new(alloc);
-    for _ in 0..ROWS {
-        crew.push(fresh_row!(alloc))?;
-    }
-    // The loop has no invariant that names the kinds of boxes, so they are looked at once.
-    if !is_manned(&crew) {
-        return Err(AllocError);
-    }
+    let mut crew = Vec::new(alloc);
+    man(alloc, &mut crew)?;
     Ok(com_main(rt, alloc, words, &mut crew, &OpenGate, source, sink))
 }
 
