@@ -35,13 +35,13 @@ ghost use Rattle.com_view.specs.Seen.{filter_seen, home_seen, running_seen};
 use crate::running::{Running, forget, unproved_fact};
 use com_base::{Memory, RefValue};
 use com_body::Outcome;
+use com_calls::Issued;
 use com_ledger::{Context, DyingScan, count_bodies, other_by, released_by};
 use com_model::{Deed, Entry, Scenario};
 use com_parts::{Begun, Change, Sent};
-use com_rules::{Doing, Issued};
 use com_scene::{Actor, fits_deed};
 use com_servant::Servant;
-use com_turns::{Turn, actor_after, is_filtered, next_turn};
+use com_turns::{Doing, Turn, actor_after, is_filtered, next_turn};
 use std::alloc::Global;
 
 // What an entry's change rests on of the parts before it: who acts in the lane after the entry, whether the

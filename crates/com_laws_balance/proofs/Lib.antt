@@ -24,3 +24,4 @@ pub mod Answered
 pub mod Tests
 pub mod Arrivals
 pub mod Laws
+pub mod Below

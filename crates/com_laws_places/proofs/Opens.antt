@@ -24,7 +24,7 @@ use Rattle.com_laws_balance.proofs.Counts.{Among}
 use Rattle.com_laws_balance.proofs.Stacks.{admission_in, open-admitted}
 use Rattle.com_laws_balance.proofs.Bases.{open-made}
 use Rattle.com_laws_balance.proofs.Answered.{lane-low}
-use Rattle.com_laws_release.proofs.Below.{Distinct, legal-distinct}
+use Rattle.com_laws_balance.proofs.Below.{Distinct, legal-distinct}
 use Rattle.com_laws_places.specs.Moves.{entered_where}
 use Rattle.com_laws_places.proofs.Frames.{enters_of, open_of, InApartment, OpenOnce}
 use Rattle.com_laws_places.proofs.Writes.{BodyStands, Stands}

@@ -3,7 +3,6 @@ pub mod Clears
 pub mod Arrived
 pub mod Placed
 pub mod Calling
-pub mod Below
 pub mod Targets
 pub mod Lives
 pub mod Stays

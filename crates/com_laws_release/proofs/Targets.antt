@@ -31,7 +31,7 @@ use Rattle.com_laws_balance.proofs.Steps.{ActionOf, action-from, opens-own, same
 use Rattle.com_laws_balance.proofs.Arguments.{InSlots, slots_of, StillBy}
 use Rattle.com_laws_balance.proofs.Directs.{Over, over-after, over-among, issue-stays, waits-issued, still-slots}
 use Rattle.com_laws_release.proofs.Calling.{target-in}
-use Rattle.com_laws_release.proofs.Below.{below-stays}
+use Rattle.com_laws_balance.proofs.Below.{below-stays}
 
 -- A reference to the object in a slot of who stands above these openers.
 pub record InFrame (s : Scenario) (h : List Entry) (l o : ℕ) (os : List Opener) : Type 0 where

@@ -35,7 +35,7 @@ use Rattle.com_laws_balance.proofs.Counts.{Among}
 use Rattle.com_laws_balance.proofs.Directs.{Over, over-among, over-below, openers-own, waits-issued}
 use Rattle.com_laws_balance.proofs.Moves.{all-written-to, framed-to}
 use Rattle.com_laws_balance.proofs.Results.{out-number}
-use Rattle.com_laws_release.proofs.Below.{Distinct, legal-distinct}
+use Rattle.com_laws_balance.proofs.Below.{Distinct, legal-distinct}
 use Rattle.com_laws_sources.specs.Histories.{is_on, change, Change, Stays, changed, sinks, one_taken, taken, at_enter, last, reached, sends, with_next, visited}
 use Rattle.com_laws_sources.specs.Sinks.{first_between}
 use Rattle.com_laws_sources.specs.Sources.{IsSource, advise, unadvise, fire}

@@ -12,8 +12,7 @@ use com_exchange::Connections;
 use com_refs::Refs;
 use com_refs_books::{Cookie, Packet};
 use com_refs_rows::{CallPackets, cookie_number};
-use com_rules::Found;
-use com_view::References;
+use com_rules::{Found, References};
 
 // Whether a packet was given up.
 fn is_gone(refs: &Refs, number: u32) -> bool

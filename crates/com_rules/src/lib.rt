@@ -17,4 +17,5 @@ pub use asking::Found;
 pub use chain::{rule_deed, script_over};
 pub use com_base::Memory;
 pub use com_calls::Issued;
+pub use com_view::References;
 pub use room::{fits, has_room};

@@ -14,6 +14,7 @@ mod work;
 pub use acting::{step_of, steps_are_outcomes};
 pub use after::{actor_after, is_filtered};
 pub use com_base::Memory;
+pub use com_rules::Doing;
 pub use laws::{nobody_acts_for_the_clock, reads_the_turn};
 pub use turns::{Turn, given_turn, next_turn, own_turn};
 pub use work::{fits_work, same_cells, work_of};
