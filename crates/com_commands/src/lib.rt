@@ -36,8 +36,6 @@ mod numbers;
 mod scenarios;
 mod sides;
 mod statuses;
-#[cfg(test)]
-mod tests;
 
 pub use com_base::Memory;
 pub use commands::{InputReader, PlayingCommand, ReplyingCommand, perform, receive, respond};
