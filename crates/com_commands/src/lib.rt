@@ -27,7 +27,7 @@
 //!    `Serves ask fits served`, and `row`; with one text `unwritten`, that want of memory wrote nothing. That
 //!    it is complete, `RespondsWhole ask fits`, is `responds_whole ask fits` of `proofs/Answering`.
 //!
-//! `tests.rt` has a command of each kind.
+//! `com_top` has small commands to copy: `objref` answers with one text, and `replay` plays.
 #![tactic(auto)]
 
 mod commands;
