@@ -239,33 +239,3 @@ fn oldest_from(ended: &[bool], from: usize) -> usize
     }
     index
 }
-
-#[cfg(test)]
-mod tests {
-    use super::*;
-    use std::test::Fail;
-
-    #[test]
-    fn every_success_is_balanced_by_one_uninit(rt: HostRuntime) -> Result<(), Fail> {
-        let mut apartments = Apartments::new(rt.alloc(), 1, 2)?;
-        assert_eq!(rt; apartments.main_sta(), 2);
-        assert_eq!(rt; apartments.init(1, Mode::Sta)?, HResult::S_OK);
-        assert_eq!(rt; apartments.home(1), Some(3));
-        assert_eq!(rt; apartments.main_sta(), 3);
-        assert_eq!(rt; apartments.init(1, Mode::Sta)?, HResult::S_FALSE);
-        assert_eq!(rt; apartments.init(1, Mode::Mta)?, HResult::RPC_E_CHANGED_MODE);
-        assert_eq!(rt; apartments.count(1), 2);
-        assert_eq!(rt; apartments.uninit(1), None);
-        assert_eq!(rt; apartments.count(1), 1);
-        assert_eq!(rt; apartments.ended(3), false);
-        assert_eq!(rt; apartments.uninit(1), Some(3));
-        assert_eq!(rt; apartments.home(1), None);
-        assert_eq!(rt; apartments.ended(3), true);
-        assert_eq!(rt; apartments.main_sta(), 2);
-        assert_eq!(rt; apartments.uninit(1), None);
-        assert_eq!(rt; apartments.home(2), Some(2));
-        assert_eq!(rt; apartments.home(4), Some(1));
-        assert_eq!(rt; apartments.home(5), None);
-        Ok(())
-    }
-}

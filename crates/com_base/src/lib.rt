@@ -35,6 +35,3 @@ pub use value::{Kind, MarshalMode, Mode, RefValue, Value};
 
 /// Want of memory: std's own error, under the name that every crate here uses.
 pub use std::alloc::AllocError as Memory;
-
-#[cfg(test)]
-mod tests;

@@ -62,23 +62,3 @@ impl Causes {
         self.given
     }
 }
-
-#[cfg(test)]
-mod tests {
-    use super::*;
-
-    #[test]
-    fn a_call_is_nested_in_any_open_call_of_its_causality(rt: HostRuntime) {
-        assert_eq!(rt; call_type(&[], 1), 1);
-        assert_eq!(rt; call_type(&[1, 2], 2), 2);
-        assert_eq!(rt; call_type(&[1, 2], 1), 2);
-        assert_eq!(rt; call_type(&[1, 2], 3), 4);
-    }
-
-    #[test]
-    fn causalities_are_numbered_from_one(rt: HostRuntime) {
-        let mut causes = Causes::new();
-        assert_eq!(rt; causes.fresh(), 1);
-        assert_eq!(rt; causes.fresh(), 2);
-    }
-}

@@ -1,4 +1,3 @@
 pub mod Unreading
 pub mod Asking
 pub mod Answering
-pub mod TestCommands

@@ -27,7 +27,7 @@
 //!    `Serves ask fits served`, and `row`; with one text `unwritten`, that want of memory wrote nothing. That
 //!    it is complete, `RespondsWhole ask fits`, is `responds_whole ask fits` of `proofs/Answering`.
 //!
-//! `tests.rt` has a command of each kind.
+//! `com_top` has small commands to copy: `objref` answers with one text, and `replay` plays.
 #![tactic(auto)]
 
 mod commands;
@@ -36,8 +36,6 @@ mod numbers;
 mod scenarios;
 mod sides;
 mod statuses;
-#[cfg(test)]
-mod tests;
 
 pub use com_base::Memory;
 pub use commands::{InputReader, PlayingCommand, ReplyingCommand, perform, receive, respond};

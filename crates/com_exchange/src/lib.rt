@@ -14,6 +14,3 @@ pub use preview::{Outgoing, packet_refs};
 pub use receiving::{Request, RequestError, read_request};
 pub use sending::{Connections, references_in, sent_result, sent_value, sent_values};
 pub use writing::{reply, request};
-
-#[cfg(test)]
-mod tests;

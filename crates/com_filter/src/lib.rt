@@ -7,9 +7,6 @@ ghost use Rattle.com_filter.specs.Answers.{pending_by, incoming_answer, retry_an
 
 use std::marker::Model;
 
-#[cfg(test)]
-mod tests;
-
 /// The answer to an incoming call.
 #[derive(Debug, Clone, Copy, PartialEq, Eq)]
 pub enum Verdict {

@@ -7,8 +7,6 @@ ghost use Rattle.com_gen.specs.Loads.{round_text, behind_round, rounds_text, beh
 ghost use Rattle.com_gen.specs.Loads.{script_text, behind_script, scripts_text};
 
 mod numbers;
-#[cfg(test)]
-mod tests;
 
 use com_base::ByteList;
 pub use com_base::Memory;

@@ -98,29 +98,3 @@ impl Git {
         self.slots.remove(cookie)
     }
 }
-
-#[cfg(test)]
-mod tests {
-    use super::*;
-    use std::test::Fail;
-
-    #[test]
-    fn a_cookie_gives_its_reference_until_it_is_revoked_and_comes_never_again(
-        rt: HostRuntime,
-    ) -> Result<(), Fail> {
-        let counter = RefValue {
-            object: 1,
-            iface: 1,
-        };
-        let mut git = Git::new(rt.alloc());
-        git.reserve(1)?;
-        assert_eq!(rt; git.register(counter)?, 1);
-        assert_eq!(rt; git.get(1), Some(counter));
-        assert_eq!(rt; git.revoke(1), Some(counter));
-        assert_eq!(rt; git.get(1), None);
-        assert_eq!(rt; git.revoke(1), None);
-        assert_eq!(rt; git.register(counter)?, 2);
-        assert_eq!(rt; git.get(0), None);
-        Ok(())
-    }
-}

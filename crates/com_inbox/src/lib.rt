@@ -106,39 +106,3 @@ impl Inbox {
         &self.lists
     }
 }
-
-#[cfg(test)]
-mod tests {
-    use super::*;
-    use std::test::Fail;
-
-    /// The node behind this one, where this one is in a list.
-    fn behind(lists: &Lists, node: u32) -> Option<u32> {
-        if node as usize >= lists.nodes() || lists.holder(node).is_none() {
-            return None;
-        }
-        lists.next(node)
-    }
-
-    #[test]
-    fn a_number_leaves_from_the_middle_of_its_queue(rt: HostRuntime) -> Result<(), Fail> {
-        let mut inbox = Inbox::new(rt.alloc(), 1)?;
-        inbox.reserve(1, 3)?;
-        inbox.post(0, 3);
-        inbox.post(0, 1);
-        inbox.post(0, 2);
-        assert_eq!(rt; inbox.remove(1), true);
-        assert_eq!(rt; inbox.remove(1), false);
-        assert_eq!(rt; inbox.first(0), Some(3));
-        assert_eq!(rt; inbox.lists().front(0), Some(2));
-        assert_eq!(rt; behind(inbox.lists(), 2), Some(1));
-        assert_eq!(rt; behind(inbox.lists(), 1), None);
-        inbox.post(0, 1);
-        assert_eq!(rt; inbox.remove(3), true);
-        assert_eq!(rt; inbox.first(0), Some(2));
-        assert_eq!(rt; inbox.remove(2), true);
-        assert_eq!(rt; inbox.first(0), Some(1));
-        assert_eq!(rt; inbox.first(9), None);
-        Ok(())
-    }
-}

@@ -8,8 +8,6 @@ ghost use Rattle.com_io.specs.Told.{Loses, Gains, IsAtEnd};
 
 mod memory;
 mod standard;
-#[cfg(test)]
-mod tests;
 mod whole;
 
 pub use memory::{MemorySink, MemorySource};

@@ -207,28 +207,3 @@ impl Chains {
         link(&self.keys, &mut self.links, &mut self.heads, index);
     }
 }
-
-#[cfg(test)]
-mod tests {
-    use super::*;
-    use std::test::Fail;
-
-    #[test]
-    fn the_indices_of_a_key_come_from_the_latest_to_the_earliest(
-        rt: HostRuntime,
-    ) -> Result<(), Fail> {
-        let mut chains = Chains::new(rt.alloc());
-        assert!(rt; chains.is_empty());
-        for key in [5, 6, 5, 7, 6, 5] {
-            chains.reserve(1)?;
-            chains.append(key);
-        }
-        assert_eq!(rt; chains.len(), 6);
-        assert_eq!(rt; chains.last(5), Some(5));
-        assert_eq!(rt; chains.earlier(5), Some(2));
-        assert_eq!(rt; chains.earlier(2), Some(0));
-        assert_eq!(rt; chains.earlier(0), None);
-        assert_eq!(rt; chains.last(8), None);
-        Ok(())
-    }
-}

@@ -15,6 +15,3 @@ mod stas;
 pub use mail::Mail;
 pub use openers::Openers;
 pub use stas::Stas;
-
-#[cfg(test)]
-mod tests;

@@ -9,6 +9,3 @@ mod objects;
 pub use dying::DyingQueue;
 pub use entered::Entered;
 pub use objects::Objects;
-
-#[cfg(test)]
-mod tests;

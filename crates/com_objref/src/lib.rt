@@ -224,39 +224,3 @@ fn first_wrong(digits: &[u8]) -> Option<usize>
 {
     digits.iter().position(|byte| !byte.is_ascii_hexdigit())
 }
-
-#[cfg(test)]
-mod tests {
-    use super::*;
-    use std::test::Fail;
-
-    #[test]
-    fn fields_and_faults_are_shown(rt: HostRuntime) -> Result<(), Fail> {
-        let worked = b"4d454f570100000001000b5c0000004080000000000000010000000005000000\
-            0300000000000000010000000000000001000000010003000100000000000000\
-            0200010000000000\n";
-        let shown = show(rt.alloc(), worked)?;
-        assert!(rt; shown.is_found);
-        assert_eq!(rt;
-            shown.text.as_slice(),
-            b"kind standard\n\
-            iid {5C0B0001-0000-4000-8000-000000000001}\n\
-            flags 00000000\nrefs 5\noxid 0000000000000003\noid 0000000000000001\n\
-            ipid {00000001-0001-0003-0100-000000000000}\n\
-            entries 2 security 1\n"
-                .as_slice()
-        );
-        let cut = show(rt.alloc(), b"4d454f")?;
-        assert!(rt; !cut.is_found);
-        assert_eq!(rt; cut.text.as_slice(), b"fault 1 3\n".as_slice());
-        assert_eq!(rt;
-            show(rt.alloc(), b"4d4")?.text.as_slice(),
-            b"fault 0 3\n".as_slice()
-        );
-        assert_eq!(rt;
-            show(rt.alloc(), b"4zz")?.text.as_slice(),
-            b"fault 0 1\n".as_slice()
-        );
-        Ok(())
-    }
-}

@@ -136,28 +136,3 @@ impl<T> Slots<T> {
         self.entries.get_mut(index as usize)?.take()
     }
 }
-
-#[cfg(test)]
-mod tests {
-    use super::*;
-    use std::test::Fail;
-
-    #[test]
-    fn numbers_rise_to_the_limit_and_are_not_used_again(rt: HostRuntime) -> Result<(), Fail> {
-        let mut slots = Slots::new(rt.alloc(), 2);
-        assert_eq!(rt; slots.reserve(2).is_ok(), true);
-        assert_eq!(rt; slots.insert(10u64).ok(), Some(1));
-        assert_eq!(rt; slots.insert(20u64).ok(), Some(2));
-        assert_eq!(rt; slots.remove(1), Some(10));
-        assert_eq!(rt; slots.remove(1), None);
-        assert!(rt; matches!(slots.insert(30u64), Err(SlotsError::Full(30))));
-        assert_eq!(rt; slots.get(1).copied(), None);
-        assert_eq!(rt; slots.get(2).copied(), Some(20));
-        if let Some(value) = slots.get_mut(2) {
-            *value = 21;
-        }
-        assert_eq!(rt; slots.get(2).copied(), Some(21));
-        assert_eq!(rt; slots.get(0).copied(), None);
-        Ok(())
-    }
-}

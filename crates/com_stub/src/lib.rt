@@ -228,38 +228,3 @@ impl Stubs {
         end(&mut self.stubs, &self.chains, object);
     }
 }
-
-#[cfg(test)]
-mod tests {
-    use super::*;
-    use std::test::Fail;
-
-    #[test]
-    fn a_stub_counts_each_interface_of_its_set_until_it_is_disconnected(
-        rt: HostRuntime,
-    ) -> Result<(), Fail> {
-        let mut stubs = Stubs::new(rt.alloc());
-        stubs.reserve(1)?;
-        stubs.enroll(1, &[0, 2, 0])?;
-        assert_eq!(rt; stubs.add(1, 2, 5), Ok(()));
-        assert_eq!(rt; stubs.add(1, 0, 1), Ok(()));
-        assert_eq!(rt; stubs.count_of(1, 2), 5);
-        assert_eq!(rt; stubs.count(1), 6);
-        assert_eq!(rt; stubs.add(1, 3, 5), Err(StubError::NoInterface));
-        assert_eq!(rt; stubs.add(2, 2, 5), Err(StubError::NotConnected));
-        stubs.disconnect(1);
-        assert_eq!(rt; stubs.count(1), 0);
-        assert_eq!(rt; stubs.add(1, 2, 5), Err(StubError::NotConnected));
-        Ok(())
-    }
-
-    #[test]
-    fn what_a_packet_of_two_gives_back_leaves_three_of_five(rt: HostRuntime) -> Result<(), Fail> {
-        let mut stubs = Stubs::new(rt.alloc());
-        stubs.enroll(1, &[2])?;
-        assert_eq!(rt; stubs.add(1, 2, 5), Ok(()));
-        stubs.take(1, 2, 2);
-        assert_eq!(rt; stubs.count_of(1, 2), 3);
-        Ok(())
-    }
-}

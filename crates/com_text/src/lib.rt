@@ -16,6 +16,3 @@ pub use scan::{Class, LineEnd, Scanner, Within, line_at};
 pub use std::alloc::AllocError as Memory;
 pub use token::{TEXT_LIMIT, TextError, Token, TokenSort, tokens};
 pub use word::{Kind, Sort, Word, is_over};
-
-#[cfg(test)]
-mod tests;

@@ -14,6 +14,3 @@ mod view;
 pub use grows::Grows;
 pub use std::alloc::AllocError as Memory;
 pub use turnstile::{Guard, Pass, Turnstile};
-
-#[cfg(test)]
-mod tests;

@@ -73,6 +73,3 @@ pub fn put(bytes: &mut [u8], position: usize, field: &[u8])
 {
     bytes[position..position + field.len()].copy_from_slice(field);
 }
-
-#[cfg(test)]
-mod tests;

@@ -11,6 +11,3 @@ pub use laws::{no_front_is_whole, written_has_its_length, written_is_read};
 pub use reading::read_args;
 pub use wire::{ArgError, ArgFault, Wire};
 pub use writing::{args_length, write_args, write_args_reserved};
-
-#[cfg(test)]
-mod tests;

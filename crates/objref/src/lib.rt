@@ -8,6 +8,3 @@ mod laws;
 pub use decoding::{ObjRef, RefFault, decode};
 pub use encoding::{encode, encode_reserved};
 pub use laws::{no_front_is_whole, written_is_read};
-
-#[cfg(test)]
-mod tests;

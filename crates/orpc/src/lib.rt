@@ -191,6 +191,3 @@ pub fn no_front_is_whole()
     ensures reply { (front whole : ℕ) (more : List ℕ) → front < 2 ^ 32 → whole < 2 ^ 32
         → that_text front ++ more ≡ that_text whole → (front ≡ whole) × (more ≡ []) }
 {}
-
-#[cfg(test)]
-mod tests;

@@ -1,4 +1,4 @@
-//! Worked cases of runs on threads, from bytes to bytes.
+//! Threads that meet: the lanes of a run, and passes at one lock.
 #![tactic(auto)]
 
 #[cfg(test)]
@@ -7,3 +7,5 @@ mod counted;
 mod meeting;
 #[cfg(test)]
 mod tests;
+#[cfg(test)]
+mod turns;

@@ -3,10 +3,10 @@
 use crate::counted::{Counted, Steps};
 use crate::meeting::Meeting;
 use com_base::ByteList;
+use com_command_run::run_main;
 use com_io::{MemorySink, MemorySource};
 use com_replay::{box_of, row_of};
 use com_servant::{Counter, Interpreter, Latch, Memory, ROWS, Relay, Servant, is_manned};
-use com_top::com_main;
 use std::alloc::{AllocError, Global};
 use std::sync::{Arc, Wait};
 use std::test::*;
@@ -39,12 +39,11 @@ fn entries_of(lines: &[u8], lane: u8) -> usize {
     count
 }
 
-// What a word answers for the two counters, and what it writes, with a crew whose steps are counted. The
+// What a run answers for the two counters, and what it writes, with a crew whose steps are counted. The
 // counters of the first row may refuse each step.
 fn answer_of<R: Threads + Wait + Sync>(
     rt: &R,
     alloc: Global,
-    word: &str,
     gate: &Meeting,
     steps: &Arc<Steps, Global>,
     refuses: bool,
@@ -70,16 +69,7 @@ fn answer_of<R: Threads + Wait + Sync>(
     let bytes = ByteList::from_slice(alloc, TWO_COUNTERS)?;
     let mut source = MemorySource::new(bytes, 1000, Vec::new(alloc));
     let mut sink = MemorySink::new(alloc, 10_000, 1000, Vec::new(alloc))?;
-    let words = vec![in alloc; String::from_str(alloc, word)?]?;
-    let status = com_main(
-        rt,
-        alloc,
-        words.as_slice(),
-        &mut crew,
-        gate,
-        &mut source,
-        &mut sink,
-    );
+    let status = run_main(rt, alloc, crew, gate, &mut source, &mut sink);
     Ok((status, ByteList::from_slice(alloc, sink.held())?))
 }
 
@@ -87,7 +77,7 @@ fn answer_of<R: Threads + Wait + Sync>(
 fn two_lanes_meet_between_step_and_commit(rt: HostRuntime) -> Result<(), Fail> {
     let steps = Arc::new(rt.alloc(), Steps::new())?;
     let gate = Meeting::new();
-    let (status, text) = answer_of(&rt, rt.alloc(), "run", &gate, &steps, false)?;
+    let (status, text) = answer_of(&rt, rt.alloc(), &gate, &steps, false)?;
     assert_eq!(rt; status, 0);
     assert!(rt; gate.is_met());
     assert_eq!(rt; steps.of(0), 1);
@@ -102,27 +92,12 @@ fn two_lanes_meet_between_step_and_commit(rt: HostRuntime) -> Result<(), Fail> {
 }
 
 #[test]
-fn a_replay_is_stepped_by_the_first_row_alone(rt: HostRuntime) -> Result<(), Fail> {
-    let steps = Arc::new(rt.alloc(), Steps::new())?;
-    let gate = Meeting::new();
-    let (status, text) = answer_of(&rt, rt.alloc(), "replay", &gate, &steps, false)?;
-    assert_eq!(rt; status, 0);
-    assert!(rt; text.as_slice().ends_with(b"entries 22 clock 0\nend ok\n"));
-    assert!(rt; !gate.is_left());
-    assert_eq!(rt; steps.of(0), 3);
-    for row in 1..ROWS {
-        assert_eq!(rt; steps.of(row), 0);
-    }
-    Ok(())
-}
-
-#[test]
 fn want_of_memory_in_a_worker_is_answered_when_all_were_joined(
     rt: HostRuntime,
 ) -> Result<(), Fail> {
     let steps = Arc::new(rt.alloc(), Steps::new())?;
     let gate = Meeting::new();
-    let (status, text) = answer_of(&rt, rt.alloc(), "run", &gate, &steps, true)?;
+    let (status, text) = answer_of(&rt, rt.alloc(), &gate, &steps, true)?;
     assert_eq!(rt; status, 9);
     assert_eq!(rt; text.as_slice(), b"".as_slice());
     assert!(rt; gate.is_met());

@@ -1,7 +1,7 @@
 use Rattle.std.proofs.Common.{◌≡◌, arith, ap, ◌∙◌, length, ◌+◌, ◌∷◌, []}
 use Rattle.std.specs.Prelude.{slice_get}
 use Rattle.com_turnstile.proofs.Lists.{longer, slice_get_longer, slice_get_last}
-use Rattle.com_turnstile.proofs.tests.two_passes.Goals as goal
+use Rattle.test_threads.proofs.turns.two_passes.Goals as goal
 
 pub returns-clause-first : goal.returns-clause-first
 returns-clause-first c =

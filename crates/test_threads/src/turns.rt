@@ -1,7 +1,8 @@
+//! Two threads take turns at one lock.
 ghost use Rattle.std.specs.Prelude.{◌≡◌, IfOk};
 ghost use Rattle.com_turnstile.specs.Passes.{IsPassOf, lane_of};
 
-use crate::{Grows, Guard, Memory, Pass, Turnstile};
+use com_turnstile::{Grows, Memory, Pass, Turnstile};
 use std::alloc::Global;
 use std::sync::Wait;
 use std::test::*;
@@ -23,18 +24,6 @@ impl Grows for Log {
     fn length(&self) -> u64 {
         self.entries.len() as u64
     }
-}
-
-fn moves<X: Send>(_value: &X) {}
-
-fn is_shared<X: Sync>(_value: &X) {}
-
-// A turnstile, its passes and its guards cross threads where the value does.
-fn cross_threads<T: Grows + Send>(turnstile: &Turnstile<T>, pass: &Pass<T>, guard: &Guard<T>) {
-    moves(turnstile);
-    is_shared(turnstile);
-    moves(pass);
-    moves(guard);
 }
 
 // A turnstile round an empty log, and the passes of the lanes 1 and 2.
@@ -98,25 +87,6 @@ fn numbers_of(alloc: Global, entries: &[(u32, u64)], lane: u32) -> Result<Vec<u6
 }
 
 #[test]
-fn a_pass_sees_what_was_left_before(rt: HostRuntime) -> Result<(), Fail> {
-    let (turnstile, first, second) = two_passes(rt.alloc())?;
-    let first = add(&rt, &turnstile, first, 1, 10)?;
-
-    let mut guard = turnstile.enter(&rt, second);
-    assert_eq!(rt; guard.value.entries.as_slice(), [(1, 10)].as_slice());
-    guard.value.entries.push((2, 20))?;
-    cross_threads(&turnstile, &first, &guard);
-    turnstile.leave(guard);
-
-    let guard = turnstile.enter(&rt, first);
-    assert_eq!(rt;
-        guard.value.entries.as_slice(),
-        [(1, 10), (2, 20)].as_slice()
-    );
-    Ok(())
-}
-
-#[test]
 fn two_threads_keep_the_order_of_each_lane(rt: HostRuntime) -> Result<(), Fail> {
     let (turnstile, first, second) = two_passes(rt.alloc())?;
     let host = &rt;
@@ -139,18 +109,6 @@ fn two_threads_keep_the_order_of_each_lane(rt: HostRuntime) -> Result<(), Fail> 
     for lane in 1..=2u32 {
         let numbers = numbers_of(rt.alloc(), entries, lane)?;
         assert_eq!(rt; numbers.as_slice(), all.as_slice());
-    }
-    Ok(())
-}
-
-#[test]
-fn new_gives_a_pass_for_each_lane(rt: HostRuntime) -> Result<(), Fail> {
-    for passes in [1u32, 64] {
-        let log = Log {
-            entries: vec![in rt.alloc(); (0, 5)]?,
-        };
-        let made = Turnstile::new(rt.alloc(), log, passes);
-        assert!(rt; made.is_ok_and(|(_, list)| list.len() == passes as usize));
     }
     Ok(())
 }
