@@ -19,7 +19,7 @@ use Rattle.com_commands.specs.Responses.{Causes, FitsServed, GivesWhole}
 use Rattle.com_commands.specs.Statuses.{Concludes, IsEnd, Says, Sides}
 use Rattle.com_commands.proofs.Answering.{answered_serves, said_answered, said_causes, said_no_memory}
 use Rattle.com_top.specs.Explaining.{IsExplained, explanation}
-use Rattle.com_top.specs.Scenarios.{scenario_input}
+use Rattle.com_command_replay.specs.Scenarios.{scenario_input}
 
 -- ---- the explanation
 

@@ -9,10 +9,10 @@ ghost use Rattle.com_commands.specs.declared.statuses.Status.TheVariants as stat
 ghost use Rattle.com_commands.specs.Responses.{Causes, FitsServed, GivesWhole, Responds, Serves};
 ghost use Rattle.com_commands.specs.Statuses.{IsEnd, sides_of};
 ghost use Rattle.com_top.specs.Explaining.{IsExplained, explanation};
-ghost use Rattle.com_top.specs.Scenarios.{scenario_input};
+ghost use Rattle.com_command_replay.specs.Scenarios.{scenario_input};
 
-use crate::replay::ReplayCommand;
 use com_base::{ByteList, Memory};
+use com_command_replay::ReplayCommand;
 use com_commands::{Status, receive, say, share};
 use com_io::{Discard, Sink, Source};
 use com_model::Scenario;

@@ -1,0 +1,3 @@
+pub mod Histories
+pub mod Scenarios
+pub use Rattle.com_replay.specs.Replays
