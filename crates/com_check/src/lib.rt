@@ -19,8 +19,8 @@ mod servants;
 
 pub use agreement::{Agreed, Trace, agreed, read_trace};
 pub use com_base::Memory;
-use com_core::Core;
 use com_model::Scenario;
+use com_replay::Core;
 pub use cut::{Cut, cut_text};
 pub use fronts::lane_of;
 pub use judge::judge_trace;

@@ -24,7 +24,7 @@ mod stream;
 
 pub use by_lane::{box_of, has_next, make_next, row_of};
 pub use com_base::Memory;
-use com_core::Core;
+pub use com_core::Core;
 use com_io::Sink;
 use com_model::Scenario;
 use com_servant::Servant;
