@@ -6,5 +6,6 @@ mod replay;
 mod scenarios;
 
 pub use com_base::Memory;
+pub use com_replay::{Recorded, Replayed, keep, replay};
 pub use replay::{ReplayCommand, replay_main, write_history};
 pub use scenarios::scenario_input;

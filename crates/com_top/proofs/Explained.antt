@@ -7,8 +7,8 @@ use Rattle.com_model.specs.declared.scenario.Scenario.{Scenario}
 use Rattle.com_model.specs.Ends.{ended_as}
 use Rattle.com_model.specs.Formed.{Formed}
 use Rattle.com_model.specs.Rules.{legal}
-use Rattle.com_replay.specs.Replays.{whole_served}
-use Rattle.com_replay.specs.Recorded.{IsRecorded}
+use Rattle.com_command_replay.specs.Replays.{whole_served}
+use Rattle.com_command_replay.specs.Recorded.{IsRecorded}
 use Rattle.com_waits.specs.Chains.{explanation_of}
 use Rattle.com_waits.specs.declared.reasons.Waits.{Waits}
 use Rattle.com_waits.specs.Texts.{text_of}

@@ -2,7 +2,7 @@
 use Rattle.std.specs.Prelude.{◌≡◌, ℕ, ◌⊎◌, List, [], ◌∷◌, codes, ⊤}
 use Rattle.com_io.specs.Faults.{Rose}
 use Rattle.com_io.specs.Told.{Gains, GainsPrefix}
-use Rattle.com_replay.specs.Replays.{whole_served}
+use Rattle.com_command_replay.specs.Replays.{whole_served}
 use Rattle.com_command_replay.specs.Histories.{IsHistory}
 use Rattle.com_commands.specs.Responses.{Responds, Serves}
 use Rattle.com_commands.specs.Inputs.{input_of}
