@@ -2,10 +2,10 @@
 //! what the commands write that replay them.
 #![tactic(auto)]
 
-mod replay;
+mod command;
 mod scenarios;
 
 pub use com_base::Memory;
 pub use com_replay::{Recorded, Replayed, keep, replay};
-pub use replay::{ReplayCommand, replay_main, write_history};
+pub use command::{ReplayCommand, replay_main, write_history};
 pub use scenarios::scenario_input;

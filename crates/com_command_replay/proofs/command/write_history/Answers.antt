@@ -1,6 +1,6 @@
 use Rattle.std.specs.Arc.{arc_value}
 use Rattle.com_command_replay.proofs.Histories.{history_faults, history_wants}
-use Rattle.com_command_replay.proofs.replay.write_history.Goals as goal
+use Rattle.com_command_replay.proofs.command.write_history.Goals as goal
 
 pub returns-in-Err-WriteFault-clause-answered : goal.returns-in-Err-WriteFault-clause-answered
 returns-in-Err-WriteFault-clause-answered g c =
