@@ -1,33 +1,24 @@
 -- What is answered, from what the calls below answer.
-use Rattle.std.proofs.Common.{◌≡◌, ℕ, ◌≤◌, inl, inr, List, ◌++◌, refl, sym, subst, Option, Some, None, arith}
-use Rattle.std.specs.Prelude.{true, is_some}
+use Rattle.std.proofs.Common.{◌≡◌, ℕ, ◌≤◌, inl, inr, List, ◌++◌, refl, sym, subst, Option, arith}
 use Rattle.com_io.specs.Faults.{Rose}
 use Rattle.com_io.specs.Told.{Gains, GainsPrefix}
 use Rattle.com_io.proofs.Passing.{gains_both, gains_then_prefix, prefix_of_more, prefix_of_all}
-use Rattle.com_model.specs.declared.counts.Ended.{Ended}
 use Rattle.com_model.specs.declared.scenario.Scenario.{Scenario}
-use Rattle.com_model.specs.Ends.{ended_as, scheduled}
-use Rattle.com_replay.specs.declared.replayed.Replayed.{Replayed}
-use Rattle.com_replay.specs.Replays.{IsReplay, whole_text}
-use Rattle.com_laws_safe.proofs.Schedule.{legal-end}
+use Rattle.com_command_replay.specs.Replays.{whole_text}
+use Rattle.com_command_replay.proofs.Histories.{history_of}
 use Rattle.com_commands.specs.declared.statuses.Status.{Status}
 use Rattle.com_commands.specs.declared.statuses.Status.TheVariants as status
-use Rattle.com_commands.specs.Histories.{IsHistory}
-use Rattle.com_commands.specs.Statuses.{status_at}
+use Rattle.com_command_replay.specs.Histories.{IsHistory}
 use Rattle.com_commands.specs.Responses.{GainsWhole, GainsFront, IsAnswered}
 use Rattle.com_dispatch.specs.declared.outcomes.Late.{Late}
 use Rattle.com_command_dispatch.specs.Lines.{bindings_text}
 use Rattle.com_command_dispatch.specs.Dispatching.{dispatched_text, IsDispatched}
 
-some_end : (o : Option Ended) → is_some o ≡ true → (x : Ended) × (o ≡ Some x)
-some_end None e = cc
-some_end (Some x) e = (x, refl)
-
 -- the one history of a scenario has ended somehow
 dispatched : (l : Late) → (s : Status) × IsDispatched l s (dispatched_text l)
 dispatched l =
-    let w : (x : Ended) × (ended_as l.scenario (scheduled l.scenario) ≡ Some x) = some_end (ended_as l.scenario (scheduled l.scenario)) ((legal-end l.scenario).1) in
-    (status_at (w.0), record { ends = w.0; ended_is = w.1; written = refl; status_is = refl })
+    let w : (s : Status) × IsHistory l.scenario s (whole_text l.scenario) = history_of l.scenario in
+    (w.0, record { ends = (w.1).ends; ended_is = (w.1).ended_is; written = refl; status_is = (w.1).status_is })
 
 front_of : (l : Late) (held held_after : Option (List ℕ)) → GainsPrefix held held_after (dispatched_text l) → GainsFront (IsDispatched l) held held_after
 front_of l held held_after front = record { status = (dispatched l).0; text = dispatched_text l; answer = (dispatched l).1; gained = front }
@@ -35,34 +26,6 @@ front_of l held held_after front = record { status = (dispatched l).0; text = di
 rose_later : (a b c : ℕ) → a ≤ b → Rose b c → Rose a c
 rose_later a b c le (inl lt) = inl (omega arith)
 rose_later a b c le (inr top) = inr top
-
--- ---- the scenario alone
-
-replayed_front : (scenario : Scenario) (held held_after : Option (List ℕ)) → GainsPrefix held held_after (whole_text scenario) → GainsFront (IsHistory scenario) held held_after
-replayed_front scenario held held_after front =
-    let w : (x : Ended) × (ended_as scenario (scheduled scenario) ≡ Some x) = some_end (ended_as scenario (scheduled scenario)) ((legal-end scenario).1) in
-    record {
-      status = status_at (w.0);
-      text = whole_text scenario;
-      answer = record { ends = w.0; ended_is = w.1; written = refl; status_is = refl };
-      gained = front;
-    }
-
-pub replay_done : (scenario : Scenario) (r : Replayed) (s : Status) (held held_after : Option (List ℕ)) (faults faults_after : ℕ) → s ≡ status_at r.ended
-    → IsReplay scenario r → Gains held held_after (whole_text scenario) → IsAnswered (IsHistory scenario) s held held_after faults faults_after
-replay_done scenario r s held held_after faults faults_after is replay gained = inl (record {
-  text = whole_text scenario;
-  answer = record { ends = r.ended; ended_is = replay.ends; written = refl; status_is = is };
-  gained = gained;
-})
-
-pub replay_faults : (scenario : Scenario) (held held_after : Option (List ℕ)) (faults faults_after : ℕ) → Rose faults faults_after
-    → GainsPrefix held held_after (whole_text scenario) → IsAnswered (IsHistory scenario) status.WriteFault held held_after faults faults_after
-replay_faults scenario held held_after faults faults_after rose front = inr (inl (refl, rose, replayed_front scenario held held_after front))
-
-pub replay_wants : (scenario : Scenario) (held held_after : Option (List ℕ)) (faults faults_after : ℕ)
-    → GainsPrefix held held_after (whole_text scenario) → IsAnswered (IsHistory scenario) status.Memory held held_after faults faults_after
-replay_wants scenario held held_after faults faults_after front = inr (inr (refl, inr (replayed_front scenario held held_after front)))
 
 -- ---- the lines, and then the scenario
 

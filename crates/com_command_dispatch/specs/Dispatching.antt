@@ -1,7 +1,7 @@
 -- What the command `dispatch` answers.
 use Rattle.std.specs.Prelude.{◌≡◌, ℕ, List, ◌++◌, Some}
 use Rattle.std.proofs.Common.{subst, sym}
-use Rattle.com_replay.specs.Replays.{whole_text, whole_served}
+use Rattle.com_command_replay.specs.Replays.{whole_text, whole_served}
 use Rattle.com_model.specs.declared.counts.Ended.{Ended}
 use Rattle.com_model.specs.Ends.{ended_as, scheduled}
 use Rattle.com_model.specs.Formed.{Formed}

@@ -3,7 +3,7 @@
 ghost use Rattle.std.specs.Prelude.{◌≡◌, List, ℕ, ◌++◌};
 ghost use Rattle.com_scenario.specs.Sizes.{is_too_long};
 ghost use Rattle.com_commands.specs.declared.statuses.Status.{Status};
-ghost use Rattle.com_commands.specs.Histories.{IsHistory};
+ghost use Rattle.com_command_replay.specs.Histories.{IsHistory};
 ghost use Rattle.com_commands.specs.Inputs.{input_of};
 ghost use Rattle.com_commands.specs.Responses.{RespondsWhole};
 ghost use Rattle.com_dispatch.specs.declared.outcomes.Late.{Late};

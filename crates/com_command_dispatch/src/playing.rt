@@ -1,23 +1,17 @@
 //! The lines of the bindings, and then a replay.
 ghost use Rattle.std.specs.Prelude.{◌≡◌, map};
-ghost use Rattle.std.specs.Arc.{arc_value};
-ghost use Rattle.com_commands.specs.Histories.{IsHistory};
 ghost use Rattle.com_commands.specs.Responses.{IsAnswered};
 ghost use Rattle.com_commands.specs.Statuses.{IsEnd};
-ghost use Rattle.com_replay.specs.Replays.{whole_served};
-ghost use Rattle.com_model.specs.Formed.{Formed};
 ghost use Rattle.com_command_dispatch.specs.Dispatching.{IsDispatched, IsLate, dispatched_served};
 ghost use Rattle.com_servant.specs.Rows.{row};
 
 use crate::lines::bindings_text;
-use com_commands::{Status, share, status_at};
+use com_command_replay::write_history;
+use com_commands::{Status, share};
 use com_dispatch::Late;
 use com_io::{Sink, write_all};
-use com_model::Scenario;
-use com_replay::{ReplayError, replay};
 use com_servant::Servant;
 use std::alloc::Global;
-use std::sync::Arc;
 
 // Writes the lines of a text's bindings, and then the history and the report of its scenario.
 #[tactic(auto, using(crate::proofs::Answering::lines_fault, crate::proofs::Answering::answered_behind))]
@@ -43,31 +37,7 @@ pub(crate) fn play<K: Sink>(
         return Status::Memory;
     };
     match write_all(sink, lines.as_slice()) {
-        Ok(()) => write_replay(alloc, scenario, servants, sink),
+        Ok(()) => write_history(alloc, scenario, servants, sink),
         Err(_) => Status::WriteFault,
-    }
-}
-
-// Writes the history and the report of a scenario.
-#[tactic(auto, using(crate::proofs::Answering::replay_done, crate::proofs::Answering::replay_faults, crate::proofs::Answering::replay_wants))]
-fn write_replay<K: Sink>(
-    alloc: Global,
-    scenario: Arc<Scenario>,
-    servants: &mut Vec<Box<dyn Servant + Send>>,
-    sink: &mut K,
-) -> Status
-    requires sound { Formed (arc_value scenario) }
-    requires row { map kind_of servants.old.items ≡ row }
-    ensures answered { IsAnswered (IsHistory (arc_value scenario)) result (K.held sink.old) (K.held sink.new)
-        (K.faults_of sink.old) (K.faults_of sink.new) }
-    ensures served { IsEnd result
-        → map stepped servants.new.items
-        ≡ whole_served (arc_value scenario) (map stepped servants.old.items) }
-    ensures row { map kind_of servants.new.items ≡ row }
-{
-    match replay(alloc, scenario, servants, sink) {
-        Ok(replayed) => status_at(replayed.ended),
-        Err(ReplayError::WriteFault) => Status::WriteFault,
-        Err(ReplayError::Memory) => Status::Memory,
     }
 }

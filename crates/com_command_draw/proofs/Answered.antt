@@ -13,7 +13,7 @@ use Rattle.com_deliveries.specs.declared.Delivery.{Delivery}
 use Rattle.com_deliveries.specs.Delivered.{AreDeliveries}
 use Rattle.com_model.specs.declared.scenario.Scenario.{Scenario}
 use Rattle.com_model.specs.Ends.{scheduled}
-use Rattle.com_top.specs.declared.questions.Question.{Question}
+use Rattle.com_command_check.specs.declared.questions.Question.{Question}
 use Rattle.com_waits.specs.Chains.{explanation_of}
 use Rattle.com_waits.specs.declared.reasons.Waits.{Waits}
 use Rattle.com_command_draw.specs.declared.beginning.Begun.{Begun}

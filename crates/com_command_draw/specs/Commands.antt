@@ -8,8 +8,8 @@ use Rattle.com_commands.specs.Responses.{Responds, Serves}
 use Rattle.com_commands.specs.Statuses.{Sides}
 use Rattle.com_points.specs.Sources.{reading_points}
 use Rattle.com_scenario.specs.Sizes.{is_too_long}
-use Rattle.com_top.specs.Checking.{question_input}
-use Rattle.com_top.specs.Scenarios.{scenario_input}
+use Rattle.com_command_check.specs.Checking.{question_input}
+use Rattle.com_command_replay.specs.Scenarios.{scenario_input}
 use Rattle.com_command_draw.specs.declared.requests.Request.{Request}
 use Rattle.com_command_draw.specs.declared.requests.Request.TheVariants as request
 use Rattle.com_command_draw.specs.Pages.{ArePointsDrawn, IsDrawn}

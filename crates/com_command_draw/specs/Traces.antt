@@ -8,7 +8,7 @@ use Rattle.com_model.specs.Ends.{ended_as}
 use Rattle.com_commands.specs.declared.statuses.Status.{Status}
 use Rattle.com_commands.specs.declared.statuses.Status.TheVariants as status
 use Rattle.com_commands.specs.Statuses.{Concludes}
-use Rattle.com_top.specs.declared.questions.Question.{Question}
+use Rattle.com_command_check.specs.declared.questions.Question.{Question}
 use Rattle.com_command_draw.specs.Pages.{page_of}
 
 -- The trace is the text and the report of a legal history that has ended, and the text is the page of that

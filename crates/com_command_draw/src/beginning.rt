@@ -11,11 +11,10 @@ ghost use Rattle.com_servant.specs.Rows.{row};
 ghost use Rattle.com_command_draw.specs.Begun.{IsBegun};
 
 use com_base::{ByteList, Memory, Rows};
-use com_core::Core;
 use com_draw::Drawing;
 use com_io::{Discard, Sink};
 use com_model::{Counts, Ended, Entry, Scenario};
-use com_replay::{ReplayError, Step, Stream};
+use com_replay::{Core, ReplayError, Step, Stream};
 use com_runtime::{Runtime, all_counts};
 use com_servant::Servant;
 use std::alloc::{AllocError, Global};

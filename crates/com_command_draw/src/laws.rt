@@ -3,8 +3,8 @@ ghost use Rattle.com_commands.specs.Inputs.{input_of};
 ghost use Rattle.com_commands.specs.Responses.{RespondsWhole};
 ghost use Rattle.com_points.specs.Sources.{reading_points};
 ghost use Rattle.com_scenario.specs.Sizes.{is_too_long};
-ghost use Rattle.com_top.specs.Checking.{question_input};
-ghost use Rattle.com_top.specs.Scenarios.{scenario_input};
+ghost use Rattle.com_command_check.specs.Checking.{question_input};
+ghost use Rattle.com_command_replay.specs.Scenarios.{scenario_input};
 ghost use Rattle.com_command_draw.specs.Pages.{ArePointsDrawn, IsDrawn};
 ghost use Rattle.com_command_draw.specs.Traces.{IsTraceAnswer};
 

@@ -5,7 +5,7 @@ ghost use Rattle.com_commands.specs.Statuses.{sides_of};
 ghost use Rattle.com_replay.specs.Replays.{whole_served};
 ghost use Rattle.com_model.specs.Formed.{Formed};
 ghost use Rattle.com_servant.specs.Rows.{row};
-ghost use Rattle.com_top.specs.Scenarios.{scenario_input};
+ghost use Rattle.com_command_replay.specs.Scenarios.{scenario_input};
 ghost use Rattle.com_command_draw.specs.Pages.{IsDrawn, drawn_concludes};
 
 use crate::beginning::begin;
@@ -13,11 +13,11 @@ use crate::ending::end_page;
 use crate::frame::{TellingCommand, answer_by_row};
 use crate::stuck::explain_end;
 use com_base::{Memory, Rows};
+use com_command_replay::ReplayCommand;
 use com_commands::{Reply, share, status_at};
 use com_io::{Sink, Source};
 use com_model::Scenario;
 use com_servant::Servant;
-use com_top::ReplayCommand;
 use std::alloc::Global;
 
 impl TellingCommand for ReplayCommand {
@@ -62,9 +62,9 @@ fn draw_replay(
 }
 
 /// Reads a scenario from the source, and writes the page of its one history to the sink: the history that
-/// `replay` of `com_top` writes, drawn, and where it is stuck, why. An input that is too long or whose text
-/// is no scenario is refused by a line with the line, the column and the number of the fault. The answer is
-/// the exit status: each has its cause (`answers`). Where want of memory comes, nothing was written
+/// `replay_main` writes, drawn, and where it is stuck, why. An input that is too long or whose text is no
+/// scenario is refused by a line with the line, the column and the number of the fault. The answer is the
+/// exit status: each has its cause (`answers`). Where want of memory comes, nothing was written
 /// (`unwritten`).
 ///
 /// The row has one servant of each kind, in the order of the kinds, and keeps them so (`row`). Where the

@@ -8,17 +8,17 @@ ghost use Rattle.com_commands.specs.Lengths.{long_text};
 ghost use Rattle.com_commands.specs.Responses.{Responds};
 ghost use Rattle.com_commands.specs.Statuses.{sides_of};
 ghost use Rattle.com_model.specs.Formed.{Formed};
-ghost use Rattle.com_top.specs.Checking.{IsAskable, is_long_trace, question_input, question_of};
+ghost use Rattle.com_command_check.specs.Checking.{IsAskable, is_long_trace, question_input, question_of};
 ghost use Rattle.com_command_draw.specs.Pages.{page_of};
 ghost use Rattle.com_command_draw.specs.Traces.{IsTraceAnswer, trace_concludes};
 
 use com_base::{ByteList, Memory, Rows};
 use com_check::{Agreed, Judged, Trace, read_trace};
+use com_command_check::{CheckCommand, Question};
 use com_commands::{Input, InputReader, Reply, ReplyingCommand, Status, respond, share};
 use com_draw::{Beside, push_page};
 use com_io::{Sink, Source};
 use com_model::Scenario;
-use com_top::{CheckCommand, Question};
 use com_waits::waits_at;
 use std::alloc::Global;
 

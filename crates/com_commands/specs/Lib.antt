@@ -1,5 +1,4 @@
 pub mod Statuses
-pub mod Histories
 pub mod Inputs
 pub mod Responses
 pub mod Unread

@@ -19,9 +19,9 @@ use Rattle.com_command_migrate.specs.declared.inputs.Moving.{Moving}
 use Rattle.com_command_migrate.specs.Inputs.{moving_by, moving_of, within_version_1}
 use Rattle.com_command_migrate.specs.Inputs as moving
 use Rattle.com_command_migrate.specs.Migrating.{migrating}
-use Rattle.com_top.specs.declared.questions.Question.{Question}
-use Rattle.com_top.specs.Checking.{asked_by, is_long_trace, question_input, question_of, without_trace}
-use Rattle.com_top.specs.Checking as checking
+use Rattle.com_command_check.specs.declared.questions.Question.{Question}
+use Rattle.com_command_check.specs.Checking.{asked_by, is_long_trace, question_input, question_of, without_trace}
+use Rattle.com_command_check.specs.Checking as checking
 
 -- What an input reads, its text spells.
 reads-text : {T : Type 0} → (long : Bool) (r : Result T Fault) (x : T) → (if long then input.TooLong else read_as r) ≡ input.Reads x → r ≡ Ok x

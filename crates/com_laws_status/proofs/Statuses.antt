@@ -13,9 +13,9 @@ use Rattle.com_command_migrate.specs.declared.inputs.Moving.{Moving}
 use Rattle.com_command_migrate.specs.Answers.{IsMovedWith}
 use Rattle.com_command_migrate.specs.Migrating.{IsMigrated}
 use Rattle.com_command_migrate.specs.Migrating as migrating
-use Rattle.com_top.specs.declared.questions.Question.{Question}
-use Rattle.com_top.specs.Checking.{IsVerdict}
-use Rattle.com_top.specs.Checking as checking
+use Rattle.com_command_check.specs.declared.questions.Question.{Question}
+use Rattle.com_command_check.specs.Checking.{IsVerdict}
+use Rattle.com_command_check.specs.Checking as checking
 use Rattle.com_laws_check.specs.Exact.{IsWhole}
 use Rattle.com_laws_check.proofs.Exact.{text-whole, judged-agrees}
 use Rattle.com_laws_status.specs.Whole.{IsWholeTrace}

@@ -7,8 +7,8 @@ use Rattle.com_model.specs.declared.scenario.Scenario.{Scenario}
 use Rattle.com_model.specs.Ends.{ended_as}
 use Rattle.com_model.specs.Formed.{Formed}
 use Rattle.com_model.specs.Rules.{legal}
-use Rattle.com_replay.specs.Replays.{whole_served}
-use Rattle.com_replay.specs.Recorded.{IsRecorded}
+use Rattle.com_command_replay.specs.Replays.{whole_served}
+use Rattle.com_command_replay.specs.Recorded.{IsRecorded}
 use Rattle.com_waits.specs.Chains.{explanation_of}
 use Rattle.com_waits.specs.declared.reasons.Waits.{Waits}
 use Rattle.com_waits.specs.Texts.{text_of}
@@ -19,7 +19,7 @@ use Rattle.com_commands.specs.Responses.{Causes, FitsServed, GivesWhole}
 use Rattle.com_commands.specs.Statuses.{Concludes, IsEnd, Says, Sides}
 use Rattle.com_commands.proofs.Answering.{answered_serves, said_answered, said_causes, said_no_memory}
 use Rattle.com_top.specs.Explaining.{IsExplained, explanation}
-use Rattle.com_top.specs.Scenarios.{scenario_input}
+use Rattle.com_command_replay.specs.Scenarios.{scenario_input}
 
 -- ---- the explanation
 

@@ -6,8 +6,8 @@ use Rattle.com_laws_load.proofs.Reading.{read_again}
 use Rattle.com_read_operands.specs.declared.faults.Fault.{Fault}
 use Rattle.com_model.specs.declared.scenario.Scenario.{Scenario}
 use Rattle.com_model.specs.Ends.{scheduled}
-use Rattle.com_replay.specs.declared.replayed.Replayed.{Replayed}
-use Rattle.com_replay.specs.Replays.{IsReplay}
+use Rattle.com_command_replay.specs.Histories.{Replayed}
+use Rattle.com_command_replay.specs.Replays.{IsReplay}
 use Rattle.com_scenario.specs.Scenarios.{reading}
 use Rattle.com_commands.specs.declared.statuses.Status.{Status}
 use Rattle.com_commands.specs.declared.statuses.Status.TheVariants as status

@@ -4,12 +4,12 @@ use Rattle.com_io.specs.Told.{Gains}
 use Rattle.com_model.specs.declared.scenario.Scenario.{Scenario}
 use Rattle.com_commands.specs.declared.inputs.Input.{Input}
 use Rattle.com_commands.specs.declared.inputs.Input.TheVariants as input
-use Rattle.com_commands.specs.Histories.{IsHistory}
+use Rattle.com_command_replay.specs.Histories.{IsHistory}
 use Rattle.com_commands.specs.Inputs.{IsAnswer}
 use Rattle.com_commands.specs.Responses.{GainsWhole, IsWholeAnswer}
 use Rattle.com_commands.specs.Statuses.{Sides, code_of}
 use Rattle.com_commands.proofs.Answering.{responds_whole}
-use Rattle.com_top.specs.Scenarios.{IsReplayed, ScenariosReplay, scenario_input}
+use Rattle.com_command_replay.specs.Scenarios.{IsReplayed, ScenariosReplay, scenario_input}
 
 replayed : (code : ℕ) (sides : Sides) (bytes : List ℕ) (scenario : Scenario) → scenario_input bytes ≡ input.Reads scenario
     → IsWholeAnswer scenario_input IsHistory code sides bytes ⊎ (code ≡ 9)

@@ -11,7 +11,7 @@ use Rattle.com_commands.specs.declared.inputs.Input.{Input}
 use Rattle.com_commands.specs.declared.inputs.Input.TheVariants as input
 use Rattle.com_commands.specs.Inputs.{IsSound, input_of, read_as}
 use Rattle.com_laws_safe.proofs.One.{scheduled-one}
-use Rattle.com_top.specs.Scenarios.{ScenariosAreSafe, scenario_input}
+use Rattle.com_command_replay.specs.Scenarios.{ScenariosAreSafe, scenario_input}
 
 sound_read : (r : Result Scenario Fault) → Holds Formed r → IsSound Formed (read_as r)
 sound_read (Ok s) h = h.of s refl

@@ -2,8 +2,8 @@
 use Rattle.std.specs.Prelude.{◌≡◌, ℕ, ◌⊎◌, List, [], ◌∷◌, codes, ⊤}
 use Rattle.com_io.specs.Faults.{Rose}
 use Rattle.com_io.specs.Told.{Gains, GainsPrefix}
-use Rattle.com_replay.specs.Replays.{whole_served}
-use Rattle.com_commands.specs.Histories.{IsHistory}
+use Rattle.com_command_replay.specs.Replays.{whole_served}
+use Rattle.com_command_replay.specs.Histories.{IsHistory}
 use Rattle.com_commands.specs.Responses.{Responds, Serves}
 use Rattle.com_commands.specs.Inputs.{input_of}
 use Rattle.com_commands.specs.Statuses.{Sides}
@@ -16,10 +16,10 @@ use Rattle.com_command_migrate.specs.Migrating.{IsMigrated, migrating}
 use Rattle.com_command_run.specs.Runs.{IsRun}
 use Rattle.com_top.specs.declared.words.Command.{Command}
 use Rattle.com_top.specs.declared.words.Command.TheVariants as command
-use Rattle.com_top.specs.Checking.{IsVerdict, question_input}
+use Rattle.com_command_check.specs.Checking.{IsVerdict, question_input}
 use Rattle.com_top.specs.Explaining.{IsExplained}
 use Rattle.com_top.specs.Loading.{IsLoaded, load_input, loaded_served}
-use Rattle.com_top.specs.Scenarios.{scenario_input}
+use Rattle.com_command_replay.specs.Scenarios.{scenario_input}
 use Rattle.com_top.specs.Showing.{IsShown, digits_input}
 
 abbrev pub usage_line : List ℕ

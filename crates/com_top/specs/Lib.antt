@@ -1,5 +1,3 @@
-pub mod Scenarios
-pub mod Checking
 pub mod Explaining
 pub mod Loading
 pub mod Showing

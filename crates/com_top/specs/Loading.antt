@@ -6,7 +6,7 @@ use Rattle.com_model.specs.declared.counts.Ended.{Ended}
 use Rattle.com_model.specs.Clock.{clock}
 use Rattle.com_model.specs.Ends.{ended_as, scheduled}
 use Rattle.com_model.specs.Text.{report_text}
-use Rattle.com_replay.specs.Replays.{whole_served}
+use Rattle.com_command_replay.specs.Replays.{whole_served}
 use Rattle.com_scenario.specs.Scenarios.{reading}
 use Rattle.com_commands.specs.declared.inputs.Input.{Input}
 use Rattle.com_commands.specs.declared.statuses.Status.{Status}

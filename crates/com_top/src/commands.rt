@@ -6,15 +6,15 @@ ghost use Rattle.com_top.specs.Commands.{Answered, CrewServed, IsUsage, ReadsNon
 ghost use Rattle.com_top.specs.declared.words.Command.TheVariants as command;
 ghost use Rattle.com_top.specs.Words.{command_of};
 
-use crate::check::check_main;
 use crate::load::load_main;
 use crate::objrefs::objref_main;
-use crate::replay::replay_main;
 use crate::waits::waits_main;
 use crate::words::{Command, command_of};
+use com_command_check::check_main;
 use com_command_dispatch::dispatch_main;
 use com_command_migrate::migrate_main;
 use com_command_points::points_main;
+use com_command_replay::replay_main;
 use com_command_run::run_main;
 use com_commands::{Status, say};
 use com_io::{Sink, Source};

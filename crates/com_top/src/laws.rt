@@ -1,11 +1,11 @@
 //! What follows from the causes of the statuses.
 ghost use Rattle.std.specs.Prelude.{ℕ};
-ghost use Rattle.com_commands.specs.Histories.{IsHistory};
+ghost use Rattle.com_command_replay.specs.Histories.{IsHistory};
 ghost use Rattle.com_commands.specs.Responses.{RespondsWhole};
-ghost use Rattle.com_top.specs.Checking.{IsVerdict, question_input};
+ghost use Rattle.com_command_check.specs.Checking.{IsVerdict, question_input};
 ghost use Rattle.com_top.specs.Explaining.{IsExplained};
 ghost use Rattle.com_top.specs.Loading.{IsLoaded, load_input};
-ghost use Rattle.com_top.specs.Scenarios.{ScenariosAreSafe, ScenariosReplay, scenario_input};
+ghost use Rattle.com_command_replay.specs.Scenarios.{ScenariosAreSafe, ScenariosReplay, scenario_input};
 ghost use Rattle.com_top.specs.Showing.{IsShown, digits_input};
 
 /// Completeness of a replay: where the source tells its bytes and no count of faults rose, the sink gained

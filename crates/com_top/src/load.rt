@@ -2,7 +2,7 @@
 ghost use Rattle.std.specs.Prelude.{◌≡◌, IfOk, OnOk, map};
 ghost use Rattle.com_model.specs.Formed.{Formed};
 ghost use Rattle.com_servant.specs.Rows.{row};
-ghost use Rattle.com_replay.specs.Replays.{IsReplay, whole_served};
+ghost use Rattle.com_command_replay.specs.Replays.{IsReplay, whole_served};
 ghost use Rattle.com_laws_load.specs.LoadScenarios.{load_scenario};
 ghost use Rattle.com_commands.specs.declared.statuses.Status.TheVariants as status;
 ghost use Rattle.com_commands.specs.Responses.{Causes, FitsServed, GivesWhole, Responds, Serves};
@@ -10,11 +10,11 @@ ghost use Rattle.com_commands.specs.Statuses.{IsEnd, sides_without_source};
 ghost use Rattle.com_top.specs.Loading.{IsLoaded, load_input, load_lines, loaded_served};
 
 use com_base::{ByteList, Memory};
+use com_command_replay::{Replayed, replay};
 use com_commands::{Reply, Status, push_number, read_scenario, say, share, status_at};
 use com_gen::generate;
 use com_io::{Discard, Sink};
 use com_model::Scenario;
-use com_replay::{Replayed, replay};
 use com_report::report;
 use com_servant::Servant;
 use std::alloc::{AllocError, Global};

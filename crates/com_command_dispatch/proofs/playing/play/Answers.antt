@@ -6,14 +6,14 @@ use Rattle.com_command_dispatch.proofs.playing.play.Goals as goal
 
 pub returns-in-Ok-write_all-clause-answered : goal.returns-in-Ok-write_all-clause-answered
 returns-in-Ok-write_all-clause-answered g c =
-    answered_behind c.args.read c.as_slice-2.result.now (arc_value c.in-Ok-share.scenario) c.write_replay.result
-    (g.K.Sink.held c.args.sink.now) (g.K.Sink.held c.write_all.new.sink) (g.K.Sink.held c.write_replay.new.sink)
-    (g.K.Sink.faults_of c.args.sink.now) (g.K.Sink.faults_of c.write_all.new.sink) (g.K.Sink.faults_of c.write_replay.new.sink)
+    answered_behind c.args.read c.as_slice-2.result.now (arc_value c.in-Ok-share.scenario) c.write_history.result
+    (g.K.Sink.held c.args.sink.now) (g.K.Sink.held c.write_all.new.sink) (g.K.Sink.held c.write_history.new.sink)
+    (g.K.Sink.faults_of c.args.sink.now) (g.K.Sink.faults_of c.write_all.new.sink) (g.K.Sink.faults_of c.write_history.new.sink)
     (c.as_slice-2.ensures ∙ c.in-Ok.ensures ∙ ap bindings_text c.as_slice.ensures)
     c.in-Ok-share.ensures
     c.in-Ok-write_all.ensures.ok
     c.in-Ok-write_all.ensures.counts
-    c.write_replay.ensures.answered
+    c.write_history.ensures.answered
 
 pub returns-clause-answered : goal.returns-clause-answered
 returns-clause-answered g c =

@@ -1,6 +1,6 @@
 use Rattle.com_commands.proofs.Answering.{responds_whole}
 use Rattle.com_top.specs.Explaining.{IsExplained}
-use Rattle.com_top.specs.Scenarios.{scenario_input}
+use Rattle.com_command_replay.specs.Scenarios.{scenario_input}
 use Rattle.com_top.proofs.laws.waits_completeness.Goals as goal
 
 pub returns : goal.returns

@@ -1,6 +1,6 @@
 use Rattle.std.proofs.Common.{subst}
 use Rattle.com_model.specs.declared.scenario.Scenario.{Scenario}
-use Rattle.com_replay.specs.Replays.{IsReplay}
+use Rattle.com_command_replay.specs.Replays.{IsReplay}
 use Rattle.com_top.proofs.load.replay_load.Goals as goal
 
 pub returns-in-Ok-clause-answer : goal.returns-in-Ok-clause-answer

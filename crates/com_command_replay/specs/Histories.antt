@@ -1,6 +1,7 @@
 -- What a command writes and answers that replays a scenario.
 use Rattle.std.specs.Prelude.{◌≡◌, ℕ, List, Some}
 use Rattle.std.proofs.Common.{subst, sym}
+pub use Rattle.com_replay.specs.declared.replayed.Replayed.{Replayed}
 use Rattle.com_replay.specs.Replays.{whole_text}
 use Rattle.com_model.specs.declared.counts.Ended.{Ended}
 use Rattle.com_model.specs.declared.scenario.Scenario.{Scenario}

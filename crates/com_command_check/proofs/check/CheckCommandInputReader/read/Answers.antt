@@ -1,7 +1,7 @@
 use Rattle.std.proofs.Common.{sym, ◌∙◌}
 use Rattle.com_commands.proofs.Asking.{faulty_input, reads_input, short_text}
-use Rattle.com_top.specs.Checking.{is_long_trace, question_of}
-use Rattle.com_top.proofs.check.CheckCommandInputReader.read.Goals as goal
+use Rattle.com_command_check.specs.Checking.{is_long_trace, question_of}
+use Rattle.com_command_check.proofs.check.CheckCommandInputReader.read.Goals as goal
 
 pub returns-in-Ok-clause-value : goal.returns-in-Ok-clause-value
 returns-in-Ok-clause-value c =

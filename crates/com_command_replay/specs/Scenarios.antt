@@ -11,7 +11,7 @@ use Rattle.com_scenario.specs.Sizes.{is_too_long}
 use Rattle.com_laws_safe.specs.OneHistory.{OneHistory}
 use Rattle.com_commands.specs.declared.inputs.Input.{Input}
 use Rattle.com_commands.specs.declared.inputs.Input.TheVariants as input
-use Rattle.com_commands.specs.Histories.{IsHistory}
+use Rattle.com_command_replay.specs.Histories.{IsHistory}
 use Rattle.com_commands.specs.Inputs.{input_of}
 use Rattle.com_commands.specs.Responses.{Responds}
 use Rattle.com_commands.specs.Statuses.{Sides, code_of, status_at}

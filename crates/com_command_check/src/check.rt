@@ -5,8 +5,8 @@ ghost use Rattle.com_model.specs.Formed.{Formed};
 ghost use Rattle.com_commands.specs.Lengths.{long_text};
 ghost use Rattle.com_commands.specs.Responses.{Responds};
 ghost use Rattle.com_commands.specs.Statuses.{sides_of};
-ghost use Rattle.com_top.specs.Checking.{IsAskable, IsVerdict, is_long_trace, question_input, question_of};
-ghost use Rattle.com_top.specs.Checking.{status_of, verdict_concludes, with_trace, without_trace};
+ghost use Rattle.com_command_check.specs.Checking.{IsAskable, IsVerdict, is_long_trace, question_input, question_of};
+ghost use Rattle.com_command_check.specs.Checking.{status_of, verdict_concludes, with_trace, without_trace};
 
 use crate::questions::Question;
 use com_base::{ByteList, Memory};

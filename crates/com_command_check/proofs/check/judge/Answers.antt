@@ -1,6 +1,6 @@
 use Rattle.std.proofs.lemmas.List.{take_rest}
-use Rattle.com_top.proofs.Checked.{verdict_at}
-use Rattle.com_top.proofs.check.judge.Goals as goal
+use Rattle.com_command_check.proofs.Checked.{verdict_at}
+use Rattle.com_command_check.proofs.check.judge.Goals as goal
 
 pub returns : goal.returns
 returns c =

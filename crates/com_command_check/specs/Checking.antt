@@ -17,7 +17,7 @@ use Rattle.com_commands.specs.declared.statuses.Status.{Status}
 use Rattle.com_commands.specs.declared.statuses.Status.TheVariants as status
 use Rattle.com_commands.specs.Inputs.{input_of}
 use Rattle.com_commands.specs.Statuses.{Concludes}
-use Rattle.com_top.specs.declared.questions.Question.{Question}
+use Rattle.com_command_check.specs.declared.questions.Question.{Question}
 
 -- The longest input is one of 67,108,864 bytes: a scenario's text and a trace.
 abbrev pub is_long_trace : List ℕ → Bool

@@ -4,8 +4,8 @@ use Rattle.com_model.specs.declared.scenario.Scenario.{Scenario}
 use Rattle.com_check.specs.declared.judged.Judged.{Judged}
 use Rattle.com_check.specs.Judging.{IsJudged, judged_text}
 use Rattle.com_commands.specs.declared.statuses.Status.{Status}
-use Rattle.com_top.specs.declared.questions.Question.{Question}
-use Rattle.com_top.specs.Checking.{IsVerdict, status_of}
+use Rattle.com_command_check.specs.declared.questions.Question.{Question}
+use Rattle.com_command_check.specs.Checking.{IsVerdict, status_of}
 
 -- A scenario is shared, and a text is looked at.
 pub verdict_at : (q : Question) (shared : Scenario) (slice trace : List ℕ) (j : Judged) (s : Status) (text : List ℕ)

@@ -1,16 +1,17 @@
 //! The command `replay`.
 ghost use Rattle.std.specs.Prelude.{◌≡◌, map};
 ghost use Rattle.std.proofs.Common.{lit<};
+ghost use Rattle.std.specs.Arc.{arc_value};
 ghost use Rattle.com_model.specs.Formed.{Formed};
 ghost use Rattle.com_scenario.proofs.Lengths.{longer_than_all};
 ghost use Rattle.com_scenario.specs.Scenarios.{reading};
 ghost use Rattle.com_scenario.specs.Sizes.{is_too_long};
 ghost use Rattle.com_servant.specs.Rows.{row};
 ghost use Rattle.com_replay.specs.Replays.{whole_served};
-ghost use Rattle.com_commands.specs.Histories.{IsHistory, history_concludes};
+ghost use Rattle.com_command_replay.specs.Histories.{IsHistory, history_concludes};
 ghost use Rattle.com_commands.specs.Responses.{IsAnswered, Responds, Serves};
 ghost use Rattle.com_commands.specs.Statuses.{IsEnd, sides_of};
-ghost use Rattle.com_top.specs.Scenarios.{scenario_input};
+ghost use Rattle.com_command_replay.specs.Scenarios.{scenario_input};
 
 use crate::scenarios::scenario_input;
 use com_base::{ByteList, Memory, TEXT_2_LIMIT};
@@ -20,6 +21,7 @@ use com_model::Scenario;
 use com_replay::{ReplayError, replay};
 use com_servant::Servant;
 use std::alloc::Global;
+use std::sync::Arc;
 
 /// The command `replay`: a scenario, and its history and report.
 pub struct ReplayCommand;
@@ -64,7 +66,7 @@ impl PlayingCommand for ReplayCommand {
 }
 
 // Writes the history and the report of a scenario, and answers the status of its end.
-#[tactic(auto, using(crate::proofs::Histories::history_done, crate::proofs::Histories::history_faults, crate::proofs::Histories::history_wants, com_commands::proofs::Answering::unwritten_answered))]
+#[tactic(auto, using(crate::proofs::Histories::history_shared, com_commands::proofs::Answering::unwritten_answered))]
 fn play<K: Sink>(
     alloc: Global,
     scenario: Scenario,
@@ -79,10 +81,32 @@ fn play<K: Sink>(
         → map stepped servants.new.items ≡ whole_served scenario (map stepped servants.old.items) }
     ensures row { map kind_of servants.new.items ≡ row }
 {
-    let scenario = match share(alloc, scenario) {
-        Ok(scenario) => scenario,
-        Err(_) => return Status::Memory,
-    };
+    match share(alloc, scenario) {
+        Ok(scenario) => write_history(alloc, scenario, servants, sink),
+        Err(_) => Status::Memory,
+    }
+}
+
+/// Writes the text and the report of the one history of a scenario, and answers the status of its end; or a
+/// front of them where the sink's count of faults rose or want of memory came. The row has one servant of
+/// each kind, in the order of the kinds, and keeps them so (`row`). Where the status is 0, 5 or 6, each has
+/// counted the entries that bodies of its kind made (`served`).
+#[tactic(auto, using(crate::proofs::Histories::history_done, crate::proofs::Histories::history_faults, crate::proofs::Histories::history_wants))]
+pub fn write_history<K: Sink>(
+    alloc: Global,
+    scenario: Arc<Scenario>,
+    servants: &mut Vec<Box<dyn Servant + Send>>,
+    sink: &mut K,
+) -> Status
+    requires formed { Formed (arc_value scenario) }
+    requires row { map kind_of servants.old.items ≡ row }
+    ensures answered { IsAnswered (IsHistory (arc_value scenario)) result (K.held sink.old) (K.held sink.new)
+        (K.faults_of sink.old) (K.faults_of sink.new) }
+    ensures served { IsEnd result
+        → map stepped servants.new.items
+        ≡ whole_served (arc_value scenario) (map stepped servants.old.items) }
+    ensures row { map kind_of servants.new.items ≡ row }
+{
     match replay(alloc, scenario, servants, sink) {
         Ok(replayed) => status_at(replayed.ended),
         Err(ReplayError::WriteFault) => Status::WriteFault,

@@ -2,7 +2,7 @@
 ghost use Rattle.std.specs.Prelude.{◌≡◌, IfOk};
 ghost use Rattle.com_model.specs.Formed.{Formed};
 ghost use Rattle.com_commands.specs.Inputs.{IsSound};
-ghost use Rattle.com_top.specs.Scenarios.{scenario_input};
+ghost use Rattle.com_command_replay.specs.Scenarios.{scenario_input};
 
 use com_base::Memory;
 use com_commands::{Input, read_scenario};

@@ -1,0 +1,4 @@
+pub mod Histories
+pub mod Scenarios
+pub use Rattle.com_replay.specs.Recorded
+pub use Rattle.com_replay.specs.Replays
