@@ -15,6 +15,7 @@ mod explaining;
 mod retracing;
 mod servants;
 
+use crate::let_go;
 use com_base::Memory;
 use com_core::Core;
 use com_model::{Entry, Scenario};
@@ -35,7 +36,9 @@ fn explain_shared(
     ensures { IfOk result (λ waits. waits ≡ explained_by (arc_value scenario.now) history.now) }
 {
     let mut core = Core::new(alloc, scenario.clone()?)?;
-    explained_on(alloc, &**scenario, &mut core, history)
+    let waits = explained_on(alloc, &**scenario, &mut core, history);
+    let_go(core);
+    waits
 }
 
 /// Why a legal history of a formed scenario is stuck, by its entries in the order of their making: each lane

@@ -16,6 +16,7 @@ mod by_lane;
 mod driver;
 mod explained;
 mod finish;
+mod let_go;
 mod lines;
 mod picks;
 mod recorded;
@@ -31,6 +32,7 @@ use com_servant::Servant;
 pub use com_servant::{Counter, Interpreter, Latch, Relay};
 pub use driver::drive;
 pub use explained::{explain, explain_on};
+use let_go::let_go;
 pub use lines::{ReplayError, show, tell};
 pub use picks::{history_of_picks, picks_and_histories};
 pub use recorded::{Recorded, keep};
@@ -69,5 +71,7 @@ pub fn replay<K: Sink>(
     ensures counts { K.faults_of sink.old ≤ K.faults_of sink.new }
 {
     let mut core = Core::new(alloc, scenario.clone()?)?;
-    drive(alloc, &*scenario, &mut core, servants, sink)
+    let replayed = drive(alloc, &*scenario, &mut core, servants, sink);
+    let_go(core);
+    replayed
 }

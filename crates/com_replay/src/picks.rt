@@ -9,6 +9,7 @@ ghost use Rattle.com_replay.specs.Picked.{IsPicked, picked};
 mod laws;
 mod picking;
 
+use crate::let_go;
 use com_base::Memory;
 use com_core::Core;
 use com_model::{Entry, Scenario};
@@ -27,7 +28,9 @@ fn picked_shared(
     ensures { IfOk result (λ entries. IsPicked (arc_value scenario.now) picks.now entries.items) }
 {
     let mut core = Core::new(alloc, scenario.clone()?)?;
-    picked_on(alloc, &**scenario, &mut core, picks)
+    let entries = picked_on(alloc, &**scenario, &mut core, picks);
+    let_go(core);
+    entries
 }
 
 /// Makes the history that a list of picks makes, and answers its entries in the order of their making. Each

@@ -10,6 +10,7 @@ ghost use Rattle.com_replay.specs.declared.lines.ReplayError.TheVariants as repl
 ghost use Rattle.com_replay.specs.Replays.{whole_served, whole_text};
 ghost use Rattle.com_replay.specs.Recorded.{IsRecorded};
 
+use crate::let_go;
 use crate::lines::ReplayError;
 use crate::stream::{Step, Stream};
 use com_base::Memory;
@@ -63,7 +64,9 @@ pub fn keep<K: Sink>(
     ensures counts { K.faults_of sink.old ≤ K.faults_of sink.new }
 {
     let mut core = Core::new(alloc, scenario.clone()?)?;
-    keep_by(alloc, &**scenario, &mut core, servants, sink)
+    let recorded = keep_by(alloc, &**scenario, &mut core, servants, sink);
+    let_go(core);
+    recorded
 }
 
 // Plays and writes the history of a runtime that has made no entry, and keeps it.

@@ -8,4 +8,4 @@ use Rattle.com_replay.proofs.explained.explain_shared.Goals as goal
 pub returns : goal.returns
 returns c =
     let seen : c.deref.result.now ≡ arc_value c.args.scenario.now = first_of (search rules, grind (arith, common_steps)) in
-    subst (λ (s : Scenario). IfOk c.explained_on.result (λ waits. waits ≡ explained_by s c.args.history.now)) seen c.explained_on.ensures
+    subst (λ (s : Scenario). IfOk c.explained_on-waits.result (λ waits. waits ≡ explained_by s c.args.history.now)) seen c.explained_on-waits.ensures

@@ -9,5 +9,5 @@ pub returns : goal.returns
 returns c =
     let seen : c.deref.result.now ≡ arc_value c.args.scenario.now =
     first_of (search rules, grind (arith, common_steps)) in
-    subst (λ (s : Scenario). IfOk c.picked_on.result (λ entries. IsPicked s c.args.picks.now entries.items))
-    seen c.picked_on.ensures
+    subst (λ (s : Scenario). IfOk c.picked_on-entries.result (λ entries. IsPicked s c.args.picks.now entries.items))
+    seen c.picked_on-entries.ensures

@@ -6,4 +6,4 @@ use Rattle.com_replay.proofs.recorded.keep.Goals as goal
 
 pub returns-clause-kept : goal.returns-clause-kept
 returns-clause-kept g c =
-    subst (λ (s : Scenario). IfOk c.keep_by.result (λ recorded. IsRecorded s recorded.entries.items recorded.ended)) c.deref.ensures c.keep_by.ensures.kept
+    subst (λ (s : Scenario). IfOk c.keep_by-recorded.result (λ recorded. IsRecorded s recorded.entries.items recorded.ended)) c.deref.ensures c.keep_by-recorded.ensures.kept
