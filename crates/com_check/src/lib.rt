@@ -20,7 +20,7 @@ mod servants;
 pub use agreement::{Agreed, Trace, agreed, read_trace};
 pub use com_base::Memory;
 use com_model::Scenario;
-use com_replay::Core;
+use com_replay::{Core, let_go};
 pub use cut::{Cut, cut_text};
 pub use fronts::lane_of;
 pub use judge::judge_trace;
@@ -37,7 +37,9 @@ fn check_shared(alloc: Global, scenario: &Arc<Scenario>, trace: &[u8]) -> Result
     ensures { IfOk result (λ j. IsJudged (arc_value scenario.now) trace.now j) }
 {
     let mut core = Core::new(alloc, scenario.clone()?)?;
-    judge_on(alloc, &**scenario, &mut core, trace)
+    let judged = judge_on(alloc, &**scenario, &mut core, trace);
+    let_go(core);
+    judged
 }
 
 /// Judges a trace, which is the lines behind the line `trace`: each ends with byte 10, which the last one may

@@ -14,7 +14,7 @@ use com_base::{ByteList, Memory, Rows};
 use com_draw::Drawing;
 use com_io::{Discard, Sink};
 use com_model::{Counts, Ended, Entry, Scenario};
-use com_replay::{Core, ReplayError, Step, Stream};
+use com_replay::{Core, ReplayError, Step, Stream, let_go};
 use com_runtime::{Runtime, all_counts};
 use com_servant::Servant;
 use std::alloc::{AllocError, Global};
@@ -164,5 +164,7 @@ fn begin_shared<K: Sink>(
     ensures row { map kind_of servants.new.items ≡ row }
 {
     let mut core = Core::new(alloc, scenario.clone()?)?;
-    begin_by(alloc, &**scenario, &mut core, servants, is_kept, sink)
+    let begun = begin_by(alloc, &**scenario, &mut core, servants, is_kept, sink);
+    let_go(core);
+    begun
 }

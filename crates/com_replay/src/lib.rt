@@ -32,7 +32,7 @@ use com_servant::Servant;
 pub use com_servant::{Counter, Interpreter, Latch, Relay};
 pub use driver::drive;
 pub use explained::{explain, explain_on};
-use let_go::let_go;
+pub use let_go::let_go;
 pub use lines::{ReplayError, show, tell};
 pub use picks::{history_of_picks, picks_and_histories};
 pub use recorded::{Recorded, keep};

@@ -15,7 +15,7 @@ use crate::agreement::traces::Agreed;
 use crate::{lane_of, split_line};
 use com_base::{Memory, Rows};
 use com_model::{Ended, Entry, Scenario};
-use com_replay::{Core, fresh_row, make_next};
+use com_replay::{Core, fresh_row, let_go, make_next};
 use com_runtime::{Runtime, all_counts, end_of};
 use com_servant::Servant;
 use std::alloc::Global;
@@ -129,5 +129,7 @@ pub fn read(alloc: Global, scenario: &Arc<Scenario>, trace: &[u8]) -> Result<Agr
     ensures { IfOk result (λ agreed. IsAgreed (arc_value scenario.now) trace.now agreed) }
 {
     let mut core = Core::new(alloc, scenario.clone()?)?;
-    read_on(alloc, &**scenario, &mut core, trace)
+    let agreed = read_on(alloc, &**scenario, &mut core, trace);
+    let_go(core);
+    agreed
 }

@@ -8,4 +8,4 @@ use Rattle.com_check.proofs.agreement.reading.read.Goals as goal
 pub returns : goal.returns
 returns c =
     let seen : c.deref.result.now ≡ arc_value c.args.scenario.now = first_of (search rules, grind (arith, common_steps)) in
-    subst (λ (s : Scenario). IfOk c.read_on.result (λ agreed. IsAgreed s c.args.trace.now agreed)) seen c.read_on.ensures
+    subst (λ (s : Scenario). IfOk c.read_on-agreed.result (λ agreed. IsAgreed s c.args.trace.now agreed)) seen c.read_on-agreed.ensures
