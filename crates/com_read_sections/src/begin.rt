@@ -111,7 +111,7 @@ fn interface_line(
         iid,
         methods: Rows::new(alloc),
     };
-    st.section = Section::Interface { interface };
+    st.enter(Section::Interface { interface });
     Ok(())
 }
 
@@ -139,7 +139,7 @@ fn class_line(
         interfaces,
         bodies: Rows::new(alloc),
     };
-    st.section = Section::Class { class };
+    st.enter(Section::Class { class });
     Ok(())
 }
 
@@ -188,9 +188,9 @@ fn filter_line(
     end(line, 2)?;
     let own = ByteList::from_slice(alloc, name.bytes)?;
     st.names.filters.push(own)?;
-    st.section = Section::Filter {
+    st.enter(Section::Filter {
         rules: Rows::new(alloc),
-    };
+    });
     Ok(())
 }
 
@@ -207,9 +207,9 @@ fn thread_line(
         return Err(fault(Fault::LIMIT, word));
     }
     end(line, 1)?;
-    st.section = Section::Thread {
+    st.enter(Section::Thread {
         code: Code::new(alloc),
-    };
+    });
     Ok(())
 }
 

@@ -20,7 +20,7 @@ pub(crate) fn header_line(
 {
     match line {
         [] => {
-            st.section = Section::Header { pending };
+            st.enter(Section::Header { pending });
             Ok(())
         }
         [only] => match only.sort() {
@@ -30,16 +30,16 @@ pub(crate) fn header_line(
                     line: only.line,
                     column,
                 };
-                st.section = Section::Header {
+                st.enter(Section::Header {
                     pending: earlier(pending, character),
-                };
+                });
                 Ok(())
             }
             _ => Err(lone(pending, only)),
         },
         [one, two, ..] => {
             st.version = version(pending, line, one, two)?;
-            st.section = Section::Top;
+            st.enter(Section::Top);
             Ok(())
         }
     }

@@ -27,7 +27,7 @@ pub(crate) fn close_interface(st: &mut State, interface: Interface) -> Result<()
     ensures { OnOk result (st.new ≡ interface_closed st.old interface) }
 {
     st.names.tables.push(interface)?;
-    st.section = Section::Top;
+    st.enter(Section::Top);
     Ok(())
 }
 
@@ -58,11 +58,11 @@ fn body_head(
         return Err(fault(Fault::REPEATED, word(line, 1)?));
     }
     end(line, 2)?;
-    st.section = Section::Body {
+    st.enter(Section::Body {
         class,
         head,
         code: Code::new(alloc),
-    };
+    });
     Ok(())
 }
 
@@ -72,7 +72,7 @@ fn class_ended(st: &mut State, class: Class, line: &[Word]) -> Result<(), Scenar
 {
     end(line, 1)?;
     st.classes.push(class)?;
-    st.section = Section::Top;
+    st.enter(Section::Top);
     Ok(())
 }
 
@@ -113,7 +113,7 @@ fn body_ended(
         method: head.method,
         body,
     })?;
-    st.section = Section::Class { class };
+    st.enter(Section::Class { class });
     Ok(())
 }
 
@@ -124,7 +124,7 @@ fn thread_ended(st: &mut State, code: Code, line: &[Word]) -> Result<(), Scenari
     let body = code.check(SCRIPT_LIMIT as u32)?;
     end(line, 1)?;
     st.threads.push(body)?;
-    st.section = Section::Top;
+    st.enter(Section::Top);
     Ok(())
 }
 
@@ -134,7 +134,7 @@ fn filter_ended(st: &mut State, rules: Rows<Rule>, line: &[Word]) -> Result<(), 
 {
     end(line, 1)?;
     st.filters.push(Filter::new(rules.into_vec()))?;
-    st.section = Section::Top;
+    st.enter(Section::Top);
     Ok(())
 }
 

@@ -46,13 +46,20 @@ pub struct Outline {
 pub fn finish(mut st: State, line: u32, column: u32) -> Result<Outline, ScenarioError>
     ensures { Gives (λ o. o) result (finish st line column) }
 {
+    close_last(&mut st, line, column)?;
+    Ok(outline_outside(st))
+}
+
+// Closes what is open at the text's end. It stands apart, so that its proof drops a section and no state, and
+// that of `finish` a state once.
+#[tactic(auto, unfolding(crate::specs::Outlines::finish))]
+fn close_last(st: &mut State, line: u32, column: u32) -> Result<(), ScenarioError>
+    ensures { Gives (λ u. outlined st.new) result (finish st.old line column) }
+{
     match mem::replace(&mut st.section, Section::Top) {
         Section::Header { .. } => Err(FIRST.error()),
-        Section::Top => Ok(outline_outside(st)),
-        Section::Interface { interface } => {
-            close_interface(&mut st, interface)?;
-            Ok(outline_outside(st))
-        }
+        Section::Top => Ok(()),
+        Section::Interface { interface } => Ok(close_interface(st, interface)?),
         _ => Err(ScenarioError::Fault {
             number: Fault::UNENDED,
             line,

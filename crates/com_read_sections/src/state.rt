@@ -1,5 +1,7 @@
 //! What was read so far.
 
+ghost use Rattle.std.specs.Prelude.{◌≡◌};
+
 use com_base::{Guid, Rows};
 use com_body::Body;
 use com_classes::{Class, Interface};
@@ -72,4 +74,14 @@ pub struct State {
     pub picks: Rows<u32>,
     /// What the next line stands in.
     pub section: Section,
+}
+
+impl State {
+    /// Makes another section the one that the next line stands in. What stood there is dropped here alone, so
+    /// that the proof of no line lays out the drop of every kind of section.
+    pub(crate) fn enter(&mut self, section: Section)
+        ensures { self.new ≡ record self.old { section = section } }
+    {
+        self.section = section;
+    }
 }
