@@ -4,4 +4,4 @@
 
 mod laws;
 
-pub use laws::{page_is_made_of_boxes};
+pub use laws::{all_boxes_nest, page_is_made_of_boxes};
