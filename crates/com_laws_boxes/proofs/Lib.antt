@@ -1,3 +1,6 @@
+pub mod Bare
+pub mod Bites
+pub mod Bodies
 pub mod Filters
 pub mod Grounds
 pub mod Lanes

@@ -40,7 +40,7 @@ use Rattle.com_laws_boxes.specs.Pieces.{Piece, all_boxes, boxes_closed, grounds,
 
 -- ---- lists
 
-text_append : (ps qs : List Piece) → text_of (ps ++ qs) ≡ text_of ps ++ text_of qs
+pub text_append : (ps qs : List Piece) → text_of (ps ++ qs) ≡ text_of ps ++ text_of qs
 text_append [] qs = refl
 text_append (p ∷ ps) qs =
     ap (λ (t : List ℕ). piece_text p ++ t) (text_append ps qs) ∙ sym (append_assoc (piece_text p) (text_of ps) (text_of qs))

@@ -1,8 +1,11 @@
 -- The boxes of a page by lane, with the grounds of homes.
-use Rattle.std.specs.Prelude.{◌≡◌, ℕ, ◌==◌, ◌&&◌, Bool, true, not, if◌then◌else◌, List, [], ◌∷◌}
+use Rattle.std.specs.Prelude.{◌≡◌, ℕ, ◌==◌, ◌&&◌, Bool, true, false, not, if◌then◌else◌, List, [], ◌∷◌}
 use Rattle.com_model.specs.declared.deeds.Deed.{Deed}
 use Rattle.com_model.specs.declared.deeds.Entry.{Entry}
 use Rattle.com_model.specs.declared.scenario.Scenario.{Scenario}
+use Rattle.com_draw_words.specs.declared.boxes.BoxKind.TheVariants as kind
+use Rattle.com_draw_words.specs.declared.boxes.BoxText.TheVariants as inner
+use Rattle.com_draw_words.specs.declared.boxes.Foot.TheVariants as foot
 use Rattle.com_draw_words.specs.Boxes.{is_of_object}
 use Rattle.com_draw_state.specs.Lanes.{lane_at}
 use Rattle.com_draw_state.specs.Board.{State}
@@ -47,3 +50,22 @@ pub record IsBare (b : State) (e : Entry) : Type 0 where
 abbrev pub GroundsAreBare : Scenario → List Entry → Type 0
 GroundsAreBare s [] = Unit {0}
 GroundsAreBare s (e ∷ h) = GroundsAreBare s h × IsBare (drawn s h).board e
+
+-- ---- examples
+
+-- The ground of lane 1, from a row of the first section to another.
+abbrev pub ground_at : (top row : ℕ) → Placed
+ground_at t r = record {
+  section = 1;
+  box = record {
+    kind = kind.Home;
+    hue = 3;
+    lane = 1;
+    level = 0;
+    top = t;
+    row = r;
+    is_up = false;
+    foot = foot.Inner;
+    text = inner.Nothing;
+  };
+}

@@ -4,4 +4,4 @@
 
 mod laws;
 
-pub use laws::{all_boxes_nest, page_is_made_of_boxes};
+pub use laws::{all_boxes_bite, all_boxes_nest, bodies_stand, page_is_made_of_boxes};
