@@ -43,16 +43,34 @@ body_is_elsewhere d p = wrong p.0
 
 -- ---- a box that is lost
 
+grows : (a b : List ℕ) → 0 < length a → 0 < length (a ++ b)
+grows a b h = let k : length (a ++ b) ≡ length a + length b = length-append a b in omega (arith, h, k)
+
+abbrev kinds : DrawnBox → List ℕ
+kinds b = codes "<i class=\"" ++ kind_text b.kind
+
+abbrev hues : DrawnBox → List ℕ
+hues b = kinds b ++ word_and_number (codes " k") b.hue
+
+abbrev lanes : DrawnBox → List ℕ
+lanes b = hues b ++ word_and_number (codes " l") b.lane
+
+abbrev size : DrawnBox → List ℕ
+size b = box_size b.level (b.row - b.top + 1)
+
+some_class : (b : DrawnBox) → 0 < length (box_class b)
+some_class b =
+    let ten : length (codes "<i class=\"") ≡ 10 = refl in
+    grows (lanes b ++ up_text b.is_up) (foot_text b.foot)
+    (grows (lanes b) (up_text b.is_up)
+    (grows (hues b) (word_and_number (codes " l") b.lane)
+    (grows (kinds b) (word_and_number (codes " k") b.hue)
+    (grows (codes "<i class=\"") (kind_text b.kind) (omega (arith, ten))))))
+
 some_bytes : (b : DrawnBox) → 0 < length (box_element b)
 some_bytes b =
-    let all : length (box_element b) ≡ length (box_class b) + length (box_size b.level (b.row - b.top + 1) ++ box_inner b.text ++ codes "</i>") =
-    length-append (box_class b) (box_size b.level (b.row - b.top + 1) ++ box_inner b.text ++ codes "</i>") in
-    let front : length (box_class b) ≡ length (codes "<i class=\"") + length (kind_text b.kind ++ word_and_number (codes " k") b.hue
-    ++ word_and_number (codes " l") b.lane ++ up_text b.is_up ++ foot_text b.foot) =
-    length-append (codes "<i class=\"") (kind_text b.kind ++ word_and_number (codes " k") b.hue
-    ++ word_and_number (codes " l") b.lane ++ up_text b.is_up ++ foot_text b.foot) in
-    let ten : length (codes "<i class=\"") ≡ 10 = refl in
-    omega (arith, all, front, ten)
+    grows ((box_class b ++ size b) ++ box_inner b.text) (codes "</i>")
+    (grows (box_class b ++ size b) (box_inner b.text) (grows (box_class b) (size b) (some_class b)))
 
 drawn_bytes : (b : DrawnBox) → is_drawn b ≡ true → 0 < length (box_text b)
 drawn_bytes b e =

@@ -169,7 +169,10 @@ past_lanes here cycle m l (row ∷ rows) h =
     (other_boxes here cycle m l row (ne_eqb m l (λ e. absurd (omega (arith, h, e)))))
     ∙ past_lanes here cycle (m + 1) l rows (omega (arith, h))
 
-none_at : (i : ℕ) → slice_get {Lane} [] i ≡ None
+abbrev no_rows : List Lane
+no_rows = []
+
+none_at : (i : ℕ) → slice_get no_rows i ≡ None
 none_at zero = refl
 none_at (suc i) = refl
 

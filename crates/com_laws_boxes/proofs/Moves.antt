@@ -62,7 +62,7 @@ still s r v os xs k =
 
 closes_row : (s r l : ℕ) (c : Closing) (row : Lane) (xs : List Placed) → (leaves_home c ≡ true → row.openings ≡ [])
     → Lying s r row.home row.openings xs
-    → Lies s (r + 1) (Some (row_closes c row)) (xs ++ own_closed (row_of s r) l c (Some row))
+    → Lies s (r + 1) (Some (row_closes c (acted row))) (xs ++ own_closed (row_of s r) l c (Some row))
 closes_row s r l close.Nothing row xs bare k = still s r row.home row.openings xs k
 closes_row s r l (close.Home a) row xs bare k = lies_left s r l row.home row.openings xs (bare refl) k
 closes_row s r l close.Innermost row xs bare k = lies_closed s r l row.home row.openings xs k
@@ -90,7 +90,7 @@ own_move : (s r l : ℕ) (o : Opens) (c : Closing) (v : Option Lane) (xs : List 
 own_move s r l o c None xs way enters leaves k = no_row s r l c xs k
 own_move s r l o c (Some row) xs (inl e) enters leaves k =
     subst (λ (p : Opens). Lies s (r + 1) (row_after (row_of s r) p c (Some row)) (xs ++ own_closed (row_of s r) l c (Some row))) (sym e)
-    (closes_row s r l c (acted row) xs leaves k)
+    (closes_row s r l c row xs leaves k)
 own_move s r l o c (Some row) xs (inr e) enters leaves k =
     subst (λ (p : Closing). Lies s (r + 1) (row_after (row_of s r) o p (Some row)) (xs ++ own_closed (row_of s r) l p (Some row))) (sym e)
     (subst (λ (ys : List Placed). Lies s (r + 1) (Some (row_opens (row_of s r) o (acted row))) ys) (sym (append-nil xs))

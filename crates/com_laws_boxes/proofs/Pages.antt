@@ -282,11 +282,10 @@ settled_first : (t p l : ℕ) → HomeBegun 1 (home_in (lane_at (first_board t p
 settled_first t p l =
     settled_by (copies t (new_lane None) ++ copies 1 (new_lane (Some (home_from_above 2))) ++ copies p (new_lane (Some (home_from_above 1)))) l
     (l == 0)
-    (each_append Settled (copies t (new_lane None)) (copies 1 (new_lane (Some (home_from_above 2))) ++ copies p (new_lane (Some (home_from_above 1))))
-    (settled_copies t (new_lane None) tt)
-    (each_append Settled (copies 1 (new_lane (Some (home_from_above 2)))) (copies p (new_lane (Some (home_from_above 1))))
-    (settled_copies 1 (new_lane (Some (home_from_above 2))) (above_first 2))
-    (settled_copies p (new_lane (Some (home_from_above 1))) (above_first 1))))
+    (each_append Settled (copies t (new_lane None) ++ copies 1 (new_lane (Some (home_from_above 2)))) (copies p (new_lane (Some (home_from_above 1))))
+    (each_append Settled (copies t (new_lane None)) (copies 1 (new_lane (Some (home_from_above 2))))
+    (settled_copies t (new_lane None) tt) (settled_copies 1 (new_lane (Some (home_from_above 2))) (above_first 2)))
+    (settled_copies p (new_lane (Some (home_from_above 1))) (above_first 1)))
 
 -- behind each history
 stands : (s : Scenario) (l : ℕ) (h : List Entry) → GroundsAreBare s h

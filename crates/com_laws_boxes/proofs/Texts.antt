@@ -125,7 +125,8 @@ closed_text here l (close.Life o) b = lives_text here (objects_lane b) foot.Inne
 section_text : (here : Start) (cycle : List ℕ) (b : State) → back_of_section here cycle b ≡ text_of (section_end here cycle b)
 unfolding back_of_section
 section_text here cycle b =
-    ap (λ (t : List ℕ). section_back_text ++ (t ++ section_end_text)) (below_text here cycle b)
+    ap (λ (t : List ℕ). (section_back_text ++ t) ++ section_end_text) (below_text here cycle b)
+    ∙ append_assoc section_back_text (texts (section_boxes here cycle b)) section_end_text
     ∙ ap (λ (t : List ℕ). section_back_text ++ t) (sym (boxes_and (section_boxes here cycle b) section_end_text))
 
 above_text : (m : ℕ) (b : State) (t : Bool)
@@ -148,18 +149,19 @@ front_text m b = front_by m b (opens_section m)
 -- ---- rows
 
 -- the parts of a row
-parts : (f a d p q c z : List ℕ) → f ++ (a ++ (d ++ ((p ++ (q ++ c)) ++ z))) ≡ f ++ ((a ++ (d ++ (p ++ q))) ++ (c ++ z))
-parts f a d p q c z =
-    ap (λ (t : List ℕ). f ++ t)
-    (ap (λ (t : List ℕ). a ++ (d ++ t)) (append_assoc p (q ++ c) z ∙ ap (λ (t : List ℕ). p ++ t) (append_assoc q c z) ∙ sym (append_assoc p q (c ++ z)))
-    ∙ ap (λ (t : List ℕ). a ++ t) (sym (append_assoc d (p ++ q) (c ++ z)))
-    ∙ sym (append_assoc a (d ++ (p ++ q)) (c ++ z)))
+parts : (f a d w c z : List ℕ) → (f ++ a) ++ ((d ++ (w ++ c)) ++ z) ≡ f ++ ((a ++ (d ++ w)) ++ (c ++ z))
+parts f a d w c z =
+    append_assoc f a ((d ++ (w ++ c)) ++ z)
+    ∙ ap (λ (t : List ℕ). f ++ t)
+    (ap (λ (t : List ℕ). a ++ (t ++ z)) (sym (append_assoc d w c))
+    ∙ ap (λ (t : List ℕ). a ++ t) (append_assoc (d ++ w) c z)
+    ∙ sym (append_assoc a (d ++ w) (c ++ z)))
 
 row_text : (s : Scenario) (n : ℕ) (b : State) (v : Seen) (e : Entry) → entry_row s n b v e ≡ text_of (row_pieces s n b v e)
 unfolding entry_row entry_drawing entry_marks
 row_text s n b v e =
     parts (row_begins n b) (entry_lead s n v.context e) (entry_label v.level (label s v.context e) e)
-    (pointing_text (points_of e.deed) e.lane v.depth v.waiter b) (touched_text (touched_by e.deed) b)
+    (pointing_text (points_of e.deed) e.lane v.depth v.waiter b ++ touched_text (touched_by e.deed) b)
     (closing_boxes (start_of n) e.lane (closed_by e.deed) b) row_end_text
     ∙ ap (λ (t : List ℕ). t ++ (row_words s n b v e ++ (closing_boxes (start_of n) e.lane (closed_by e.deed) b ++ row_end_text))) (front_text n b)
     ∙ ap (λ (t : List ℕ). text_of (row_front n b) ++ (row_words s n b v e ++ t))
@@ -196,7 +198,8 @@ written_text s (e ∷ h) =
 wait_text : (m : ℕ) (cycle : List ℕ) (b : State) (w : Wait) → reason_row m cycle b w ≡ text_of (wait_pieces m cycle b w)
 unfolding reason_row
 wait_text m cycle b w =
-    ap (λ (t : List ℕ). t ++ (reason_lead cycle w ++ reason_drawing cycle b w)) (front_text m b)
+    append_assoc (row_begins m b) (reason_lead cycle w) (reason_drawing cycle b w)
+    ∙ ap (λ (t : List ℕ). t ++ (reason_lead cycle w ++ reason_drawing cycle b w)) (front_text m b)
     ∙ ap (λ (t : List ℕ). text_of (row_front m b) ++ t) (sym (append-nil (reason_lead cycle w ++ reason_drawing cycle b w)))
     ∙ sym (text_append (row_front m b) (words (reason_lead cycle w ++ reason_drawing cycle b w) ∷ []))
 
@@ -219,7 +222,8 @@ last_text m cycle b = last_by m cycle b (m == 0)
 behind_text : (n : ℕ) (cycle : List ℕ) (ws : List Wait) (b : State) → last_rows n cycle ws b ≡ text_of (pieces_behind n cycle ws b)
 unfolding last_rows
 behind_text n cycle ws b =
-    ap (λ (t : List ℕ). gap_row n b ++ t)
+    append_assoc (gap_row n b) (reason_rows (rows_of n + 1) cycle b ws) (last_back (rows_of n + length ws) cycle b)
+    ∙ ap (λ (t : List ℕ). gap_row n b ++ t)
     (ap (λ (t : List ℕ). t ++ last_back (rows_of n + length ws) cycle b) (waits_text (rows_of n + 1) cycle b ws)
     ∙ ap (λ (t : List ℕ). text_of (waits_pieces (rows_of n + 1) cycle b ws) ++ t) (last_text (rows_of n + length ws) cycle b)
     ∙ sym (text_append (waits_pieces (rows_of n + 1) cycle b ws) (last_end (rows_of n + length ws) cycle b)))

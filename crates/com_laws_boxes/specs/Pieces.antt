@@ -128,8 +128,8 @@ row_words s n b v e =
 abbrev pub row_pieces : Scenario → (place : ℕ) → State → Seen → Entry → List Piece
 row_pieces s n b v e =
     row_front n b
-    ++ words (row_words s n b v e) ∷ all_boxes (boxes_closed (start_of n) e.lane (closed_by e.deed) b)
-    ++ words row_end_text ∷ []
+    ++ (words (row_words s n b v e) ∷ all_boxes (boxes_closed (start_of n) e.lane (closed_by e.deed) b)
+    ++ words row_end_text ∷ [])
 
 abbrev pub pieces_at : Scenario → (place : ℕ) → State → Seen → Entry → List Piece
 pieces_at s n b v e =
@@ -163,8 +163,8 @@ pieces_behind n cycle ws b =
 abbrev pub page_pieces : Scenario → List Entry → Beside → List Piece
 page_pieces s h x =
     pieces_written s h
-    ++ pieces_behind (drawn s h).entries (cycle_in x.waits) (waits_in x.waits) (drawn s h).board
-    ++ words (footer_text (drawn s h).entries (all_labelled (waits_in x.waits) (drawn s h).board) x) ∷ []
+    ++ (pieces_behind (drawn s h).entries (cycle_in x.waits) (waits_in x.waits) (drawn s h).board
+    ++ words (footer_text (drawn s h).entries (all_labelled (waits_in x.waits) (drawn s h).board) x) ∷ [])
 
 abbrev pub page_boxes : Scenario → List Entry → Beside → List Placed
 page_boxes s h x = boxes_of (page_pieces s h x)
