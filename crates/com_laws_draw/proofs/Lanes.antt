@@ -21,7 +21,7 @@ set_keeps f k (x ∷ xs) zero (suc j) = refl
 set_keeps f k (x ∷ xs) (suc i) zero = refl
 set_keeps f k (x ∷ xs) (suc i) (suc j) = set_keeps f k xs i j
 
-set_other : (lanes : List Lane) (new : Lane) (i j : ℕ) → (i ≡ j → ⊥) → slice_get (set lanes i new) j ≡ slice_get lanes j
+pub set_other : (lanes : List Lane) (new : Lane) (i j : ℕ) → (i ≡ j → ⊥) → slice_get (set lanes i new) j ≡ slice_get lanes j
 set_other [] new zero j n = refl
 set_other [] new (suc i) j n = refl
 set_other (x ∷ xs) new zero zero n = absurd (n refl)

@@ -57,21 +57,21 @@ pub record Drawing (s r : ℕ) (os : List Opening) (xs : List Placed) : Type 0 w
 abbrev pub row_of : (section row : ℕ) → Start
 row_of s r = record { section = s; row = r }
 
-abbrev boxed : (s r l : ℕ) → Foot → (d : ℕ) → Opening → Placed
+abbrev pub boxed : (s r l : ℕ) → Foot → (d : ℕ) → Opening → Placed
 boxed s r l f d o = placed (row_of s r) (opening_box (row_of s r) l f d o)
 
 -- a box ends above the last row of another, or in it where that goes on below
-abbrev Reaches : Foot → (last r : ℕ) → Type 0
+abbrev pub Reaches : Foot → (last r : ℕ) → Type 0
 Reaches f last r = (last < r) ⊎ ((is_down f ≡ true) × (last ≤ r))
 
-low_top : (s n row top : ℕ) → (n ≡ s → row < top) → (b : Bool) → (n == s) ≡ b
+pub low_top : (s n row top : ℕ) → (n ≡ s → row < top) → (b : Bool) → (n == s) ≡ b
     → ((if n == s then row else 0) < top) ⊎ ((not (n == s) ≡ true) × ((if n == s then row else 0) ≤ top))
 low_top s n row top h true e =
     inl (subst (λ (c : Bool). (if c then row else 0) < top) (sym e) (h (eqb-true n s e)))
 low_top s n row top h false e =
     inr (ap not e, subst (λ (c : Bool). (if c then row else 0) ≤ top) (sym e) (omega arith))
 
-high_top : (s n row last : ℕ) → n ≡ s → last < row → last < (if n == s then row else 0)
+pub high_top : (s n row last : ℕ) → n ≡ s → last < row → last < (if n == s then row else 0)
 high_top s n row last e h = subst (λ (c : Bool). last < (if c then row else 0)) (sym (eq-eqb n s e)) h
 
 by_place : (s r l d : ℕ) (f : Foot) (o : Opening) (x : Placed) → Above s o x ⊎ Held s d o x → Reaches f x.box.row r
@@ -93,14 +93,14 @@ lie_well s r l d f o x u g false e = elsewhere (eqb-false x.section s e)
 -- ---- the end of a section
 
 -- a box that was drawn, and those of all that is open
-lie_below : (s r l d : ℕ) (f : Foot) (os : List Opening) (x : Placed) → UnderAll s d os x
+pub lie_below : (s r l d : ℕ) (f : Foot) (os : List Opening) (x : Placed) → UnderAll s d os x
     → (x.section ≡ s → Reaches f x.box.row r) → Each (LieWell x) (boxes_below (row_of s r) l f d os)
 lie_below s r l d f [] x u g = tt
 lie_below s r l d f (o ∷ os) x u g =
     (lie_well s r l d f o x u.0 g (x.section == s) refl, lie_below s r l (d + 1) f os x u.1 g)
 
 -- what is open begins inside of what is open above it
-begins_below : (s : ℕ) (o p : Opening) → Later s o p → (b : Bool) → (o.start.section == s) ≡ b
+pub begins_below : (s : ℕ) (o p : Opening) → Later s o p → (b : Bool) → (o.start.section == s) ≡ b
     → ((if o.start.section == s then o.start.row else 0) < (if p.start.section == s then p.start.row else 0))
     ⊎ ((not (o.start.section == s) ≡ true)
     × ((if o.start.section == s then o.start.row else 0) ≤ (if p.start.section == s then p.start.row else 0)))
@@ -129,18 +129,18 @@ outer_below s r l d k f o [] down h later = tt
 outer_below s r l d k f o (p ∷ os) down h later =
     (inside_below s r l d k f o p down h later.0, outer_below s r l d (k + 1) f o os down (omega (arith, h)) later.1)
 
-nest_below : (s r l d : ℕ) (f : Foot) (os : List Opening) → is_down f ≡ true → Sorted s os
+pub nest_below : (s r l d : ℕ) (f : Foot) (os : List Opening) → is_down f ≡ true → Sorted s os
     → AllNest (boxes_below (row_of s r) l f d os)
 nest_below s r l d f [] down h = tt
 nest_below s r l d f (o ∷ os) down h =
     (outer_below s r l d (d + 1) f o os down (omega arith) h.0, nest_below s r l (d + 1) f os down h.1)
 
-nest_append : (xs ys : List Placed) → AllNest xs → AllNest ys → Each (λ x. Each (LieWell x) ys) xs → AllNest (xs ++ ys)
+pub nest_append : (xs ys : List Placed) → AllNest xs → AllNest ys → Each (λ x. Each (LieWell x) ys) xs → AllNest (xs ++ ys)
 nest_append [] ys hx hy both = hy
 nest_append (x ∷ xs) ys hx hy both =
     (each_append (LieWell x) xs ys hx.0 both.0, nest_append xs ys hx.1 hy both.1)
 
-below_row : (s r : ℕ) (f : Foot) (x : Placed) → is_down f ≡ true → Past s (r + 1) x → x.section ≡ s → Reaches f x.box.row r
+pub below_row : (s r : ℕ) (f : Foot) (x : Placed) → is_down f ≡ true → Past s (r + 1) x → x.section ≡ s → Reaches f x.box.row r
 below_row s r f x down h e = let k : x.box.row < r + 1 = h.1 e in inr (down, omega (arith, k))
 
 -- at the end of a section all nest with the boxes of what is open
@@ -153,17 +153,17 @@ below_nest s r l f os xs down w =
 
 -- ---- from section to section
 
-begun_before : (s z r q : ℕ) (o : Opening) → s < z → Begun s r o → Begun z q o
+pub begun_before : (s z r q : ℕ) (o : Opening) → s < z → Begun s r o → Begun z q o
 begun_before s z r q o h b =
     let k : o.start.section ≤ s = b.0 in (omega (arith, h, k), λ e. absurd (omega (arith, h, k, e)))
 
-past_before : (s z r q : ℕ) (x : Placed) → s < z → Past s r x → Past z q x
+pub past_before : (s z r q : ℕ) (x : Placed) → s < z → Past s r x → Past z q x
 past_before s z r q x h b = let k : x.section ≤ s = b.0 in (omega (arith, h, k), λ e. absurd (omega (arith, h, k, e)))
 
 later_before : (s z r : ℕ) (o p : Opening) → s < z → Begun s r o → Later z o p
 later_before s z r o p h b = λ e. let k : o.start.section ≤ s = b.0 in absurd (omega (arith, h, k, e))
 
-all_later : (s z r : ℕ) (o : Opening) (os : List Opening) → s < z → Begun s r o → Each (Later z o) os
+pub all_later : (s z r : ℕ) (o : Opening) (os : List Opening) → s < z → Begun s r o → Each (Later z o) os
 all_later s z r o [] h b = tt
 all_later s z r o (p ∷ os) h b = (later_before s z r o p h b, all_later s z r o os h b)
 
@@ -171,16 +171,16 @@ sorted_before : (s z r : ℕ) (os : List Opening) → s < z → Each (Begun s r)
 sorted_before s z r [] h b = tt
 sorted_before s z r (o ∷ os) h b = (all_later s z r o os h b.0, sorted_before s z r os h b.1)
 
-under_before : (s z d : ℕ) (os : List Opening) (x : Placed) → s < z → x.section ≤ s → UnderAll z d os x
+pub under_before : (s z d : ℕ) (os : List Opening) (x : Placed) → s < z → x.section ≤ s → UnderAll z d os x
 under_before s z d [] x h k = tt
 under_before s z d (o ∷ os) x h k = ((λ e. absurd (omega (arith, h, k, e))), under_before s z (d + 1) os x h k)
 
-past_below : (s r z q l d : ℕ) (f : Foot) (os : List Opening) → s < z → Each (Past z q) (boxes_below (row_of s r) l f d os)
+pub past_below : (s r z q l d : ℕ) (f : Foot) (os : List Opening) → s < z → Each (Past z q) (boxes_below (row_of s r) l f d os)
 past_below s r z q l d f [] h = tt
 past_below s r z q l d f (o ∷ os) h =
     ((omega (arith, h), λ e. absurd (omega (arith, h, e))), past_below s r z q l (d + 1) f os h)
 
-under_below : (s r z l d : ℕ) (f : Foot) (os all : List Opening) → s < z
+pub under_below : (s r z l d : ℕ) (f : Foot) (os all : List Opening) → s < z
     → Each (UnderAll z 1 all) (boxes_below (row_of s r) l f d os)
 under_below s r z l d f [] all h = tt
 under_below s r z l d f (o ∷ os) all h =
@@ -211,7 +211,7 @@ next_section s z r q l f os xs down h w =
     }
 
 -- where no row of a section was drawn yet, all that is open began above it
-above_all : (z : ℕ) (o : Opening) (os : List Opening) → Begun z 0 o → Each (Later z o) os
+pub above_all : (z : ℕ) (o : Opening) (os : List Opening) → Begun z 0 o → Each (Later z o) os
 above_all z o [] b = tt
 above_all z o (p ∷ os) b = ((λ e. let k : o.start.row < 0 = b.1 e in absurd (omega (arith, k))), above_all z o os b)
 
@@ -219,7 +219,7 @@ sorted_all : (z : ℕ) (os : List Opening) → Each (Begun z 0) os → Sorted z 
 sorted_all z [] b = tt
 sorted_all z (o ∷ os) b = (above_all z o os b.0, sorted_all z os b.1)
 
-under_any : (z d : ℕ) (os : List Opening) (x : Placed) → Past z 0 x → UnderAll z d os x
+pub under_any : (z d : ℕ) (os : List Opening) (x : Placed) → Past z 0 x → UnderAll z d os x
 under_any z d [] x b = tt
 under_any z d (o ∷ os) x b =
     ((λ e. let k : x.box.row < 0 = b.1 e in absurd (omega (arith, k))), under_any z (d + 1) os x b)
@@ -235,7 +235,7 @@ fresh z was now xs b w = record {
 
 -- ---- from row to row
 
-begun_longer : (s r q : ℕ) (o : Opening) → r ≤ q → Begun s r o → Begun s q o
+pub begun_longer : (s r q : ℕ) (o : Opening) → r ≤ q → Begun s r o → Begun s q o
 begun_longer s r q o h b = (b.0, λ e. let k : o.start.row < r = b.1 e in omega (arith, h, k))
 
 past_longer : (s r q : ℕ) (x : Placed) → r ≤ q → Past s r x → Past s q x

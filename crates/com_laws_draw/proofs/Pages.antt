@@ -36,10 +36,10 @@ use Rattle.com_laws_draw.proofs.Steps.{Stepped, closed, kept, opened, stepped}
 abbrev pub Rows : (m : ℕ) → List Opening → List Placed → Type 0
 Rows m os xs = ((m ≡ 0) × Drawing 1 0 os xs) ⊎ ((1 ≤ m) × Drawing ((m - 1) / 40 + 1) ((m - 1) % 40 + 1) os xs)
 
-none_more : (s r : ℕ) (os : List Opening) (xs : List Placed) → Drawing s r os xs → Drawing s r os (xs ++ [])
+pub none_more : (s r : ℕ) (os : List Opening) (xs : List Placed) → Drawing s r os xs → Drawing s r os (xs ++ [])
 none_more s r os xs w = subst (λ (ys : List Placed). Drawing s r os ys) (sym (append-nil xs)) w
 
-same_place : (s r z q : ℕ) (os : List Opening) (xs : List Placed) → s ≡ z → r ≡ q → Drawing s r os xs → Drawing z q os xs
+pub same_place : (s r z q : ℕ) (os : List Opening) (xs : List Placed) → s ≡ z → r ≡ q → Drawing s r os xs → Drawing z q os xs
 same_place s r z q os xs e f w =
     subst (λ (n : ℕ). Drawing n q os xs) e (subst (λ (n : ℕ). Drawing s n os xs) f w)
 
@@ -113,7 +113,7 @@ made s r l e was now xs new w (closed same box) =
 
 -- ---- an entry behind the limit
 
-begun_after : (here : Start) (l : ℕ) (e : Entry) (was now : List Opening) (new : List Placed) (z : ℕ) → here.section < z
+pub begun_after : (here : Start) (l : ℕ) (e : Entry) (was now : List Opening) (new : List Placed) (z : ℕ) → here.section < z
     → Each (Begun z 0) was → Stepped here l e was now new → Each (Begun z 0) now
 begun_after here l e was now new z h b (kept same none) = subst (λ (os : List Opening). Each (Begun z 0) os) (sym same) b
 begun_after here l e was now new z h b (opened what ran same none) =
@@ -142,7 +142,7 @@ open_after s p e l =
     label_keeps l (seen p.board e).level (length (label s (seen p.board e).context e)) e
     (changed (start_of (p.entries + 1)) e p.board) (has_label e.deed)
 
-one_more : (s : Scenario) (p : Picture) (e : Entry) → (after s p e).entries ≡ p.entries + 1
+pub one_more : (s : Scenario) (p : Picture) (e : Entry) → (after s p e).entries ≡ p.entries + 1
 unfolding after
 one_more s p e = refl
 
@@ -153,13 +153,13 @@ Stands n os xs = ((n ≤ 5000) × Rows n os xs) ⊎ ((5000 < n) × Drawing 126 0
 abbrev start_by : ℕ → Bool → Start
 start_by n t = if t then row_at n else record { section = 125; row = 0 }
 
-far_test : (n : ℕ) → 5000 < n → nat_le n 5000 ≡ false
+pub far_test : (n : ℕ) → 5000 < n → nat_le n 5000 ≡ false
 far_test n h = false_from_ne_true (nat_le n 5000) (λ t. let k : n ≤ 5000 = leb-true n 5000 t in absurd (omega (arith, h, k)))
 
-near_start : (n : ℕ) → n ≤ 5000 → start_of n ≡ row_at n
+pub near_start : (n : ℕ) → n ≤ 5000 → start_of n ≡ row_at n
 near_start n h = ap (λ (t : Bool). start_by n t) (le-leb n 5000 h)
 
-far_start : (n : ℕ) → 5000 < n → (start_of n).section ≡ 125
+pub far_start : (n : ℕ) → 5000 < n → (start_of n).section ≡ 125
 far_start n h = ap (λ (t : Bool). (start_by n t).section) (far_test n h)
 
 near_boxes : (n l : ℕ) (e : Entry) (b : State) → n ≤ 5000 → boxes_at n l e b ≡ boxes_above n l b ++ boxes_of (start_of n) l e b
@@ -289,7 +289,7 @@ waiting m n l b (v ∷ ws) xs e w =
     (append_assoc xs (boxes_above n l b) (boxes_of_waits (n + 1) l b ws))
     (waiting n (n + 1) l b ws (xs ++ boxes_above n l b) refl one))
 
-down_by : (t : Bool) → is_down (if t then foot.Ring else foot.Down) ≡ true
+pub down_by : (t : Bool) → is_down (if t then foot.Ring else foot.Down) ≡ true
 down_by true = refl
 down_by false = refl
 

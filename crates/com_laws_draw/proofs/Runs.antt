@@ -59,19 +59,19 @@ longer_open : (e : Entry) (h : List Entry) (l : ℕ) (os : List Opening) → Eac
 longer_open e h l os r =
     each_weaker (RunsIn h l) (RunsIn (e ∷ h) l) (λ o q. longer e h l (kind_of o.what) (inner_of o.what) q) os r
 
-longer_boxes : (e : Entry) (h : List Entry) (l : ℕ) (xs : List Placed) → Each (StandsIn h l) xs → Each (StandsIn (e ∷ h) l) xs
+pub longer_boxes : (e : Entry) (h : List Entry) (l : ℕ) (xs : List Placed) → Each (StandsIn h l) xs → Each (StandsIn (e ∷ h) l) xs
 longer_boxes e h l xs r =
     each_weaker (StandsIn h l) (StandsIn (e ∷ h) l)
     (λ x q. record { lane = q.lane; run = longer e h l x.box.kind x.box.text q.run }) xs r
 
 -- ---- boxes of what is open
 
-below_stand : (h : List Entry) (here : Start) (l : ℕ) (f : Foot) (d : ℕ) (os : List Opening) → Each (RunsIn h l) os
+pub below_stand : (h : List Entry) (here : Start) (l : ℕ) (f : Foot) (d : ℕ) (os : List Opening) → Each (RunsIn h l) os
     → Each (StandsIn h l) (boxes_below here l f d os)
 below_stand h here l f d [] r = tt
 below_stand h here l f d (o ∷ os) r = (record { lane = refl; run = r.0 }, below_stand h here l f (d + 1) os r.1)
 
-innermost_stands : (h : List Entry) (here : Start) (l d : ℕ) (v : Option Opening) → OnSome (RunsIn h l) v
+pub innermost_stands : (h : List Entry) (here : Start) (l d : ℕ) (v : Option Opening) → OnSome (RunsIn h l) v
     → Each (StandsIn h l) (box_of here l d v)
 innermost_stands h here l d None r = tt
 innermost_stands h here l d (Some o) r = (record { lane = refl; run = r }, tt)
@@ -124,7 +124,7 @@ step_of s l e h =
 
 -- ---- a history
 
-open_runs : (s : Scenario) (l : ℕ) (h : List Entry) → Each (RunsIn h l) (open_in (drawn s h).board l)
+pub open_runs : (s : Scenario) (l : ℕ) (h : List Entry) → Each (RunsIn h l) (open_in (drawn s h).board l)
 open_runs s l [] = subst (λ (os : List Opening). Each (RunsIn [] l) os) (sym (bare_first (threads s) s.pool l)) tt
 open_runs s l (e ∷ h) =
     now_runs (start_of ((drawn s h).entries + 1)) l e h (open_in (drawn s h).board l) (open_in (after s (drawn s h) e).board l)

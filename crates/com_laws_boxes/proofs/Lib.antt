@@ -1,0 +1,10 @@
+pub mod Bare
+pub mod Bites
+pub mod Bodies
+pub mod Filters
+pub mod Grounds
+pub mod Lanes
+pub mod Moves
+pub mod Nesting
+pub mod Pages
+pub mod Texts
