@@ -1,6 +1,6 @@
 -- In legal histories of formed scenarios grounds begin and end while nothing is open in their lanes.
-use Rattle.std.proofs.Common.{◌≡◌, ℕ, zero, suc, List, [], ◌∷◌, ◌++◌, ◌+◌, ◌-◌, ◌<◌, ◌≤◌, length, Bool, true, false, ◌==◌, ◌||◌, take}
-use Rattle.std.proofs.Common.{refl, ap, sym, subst, ◌∙◌, arith, Option, Some, None, if◌then◌else◌}
+use Rattle.std.proofs.Common.{◌≡◌, ℕ, zero, suc, List, [], ◌∷◌, ◌+◌, ◌-◌, ◌≤◌, length, Bool, true, false, ◌==◌, ◌||◌, take}
+use Rattle.std.proofs.Common.{refl, ap, sym, subst, arith, Option, Some, None, if◌then◌else◌}
 use Rattle.std.proofs.lemmas.Bool.{eqb-false, eqb-true}
 use Rattle.com_model.specs.declared.deeds.Deed.{Deed}
 use Rattle.com_model.specs.declared.deeds.Deed.TheVariants as deed
@@ -26,12 +26,12 @@ use Rattle.com_draw_shapes.specs.declared.effects.Opens.TheVariants as opens
 use Rattle.com_draw_shapes.specs.Changes.{changed, closed_on, opened_on, own_home}
 use Rattle.com_draw_shapes.specs.Effects.{closed_by, opened_by}
 use Rattle.com_draw_shapes.specs.Places.{start_of}
-use Rattle.com_draw.specs.Entries.{after, drawn, rise}
+use Rattle.com_draw.specs.Entries.{drawn, rise}
 use Rattle.com_laws_draw.specs.Lanes.{open_in, openings_of}
 use Rattle.com_laws_draw.proofs.Lists.{last_length}
 use Rattle.com_laws_draw.proofs.Pages.{bare_first, open_after}
 use Rattle.com_laws_safety.proofs.OnTop.{legal-on-top}
-use Rattle.com_laws_boxes.specs.Boxes.{GroundsAreBare, IsBare, enters_home, leaves_home}
+use Rattle.com_laws_boxes.specs.Boxes.{GroundsAreBare, enters_home, leaves_home}
 use Rattle.com_laws_boxes.proofs.Lanes.{changed_other, changed_own, row_after, row_closes, row_opens}
 
 -- ---- no more is open in a drawn lane than in the history

@@ -1,6 +1,6 @@
 -- The boxes of a lane among all boxes of a page.
 use Rattle.std.proofs.Common.{◌≡◌, ℕ, zero, suc, List, [], ◌∷◌, ◌++◌, ◌+◌, ◌-◌, ◌<◌, ◌≤◌, length, Bool, true, false, not, ◌==◌, ◌&&◌}
-use Rattle.std.proofs.Common.{refl, ap, sym, subst, ◌∙◌, arith, append-nil, Option, Some, None, if◌then◌else◌, nat_le}
+use Rattle.std.proofs.Common.{refl, ap, sym, ◌∙◌, arith, append-nil, Option, Some, None, if◌then◌else◌, nat_le}
 use Rattle.std.specs.Prelude.{slice_get}
 use Rattle.std.proofs.lemmas.Bool.{eq-eqb, eqb-false, eqb-true, ne_eqb}
 use Rattle.com_model.specs.declared.deeds.Entry.{Entry}

@@ -1,6 +1,6 @@
 -- The boxes of a lane nest with its grounds, where a ground begins and ends while nothing is open in the lane.
 use Rattle.std.proofs.Common.{◌≡◌, ℕ, List, [], ◌∷◌, ◌++◌, ◌+◌, ◌-◌, ◌<◌, ◌≤◌, length, ◌⊎◌, inl, inr, Bool, true, false, ◌==◌}
-use Rattle.std.proofs.Common.{refl, ap, sym, subst, ◌∙◌, arith, append-nil, Option, Some, None, if◌then◌else◌}
+use Rattle.std.proofs.Common.{refl, sym, subst, arith, append-nil, Option, Some, None}
 use Rattle.std.proofs.lemmas.Bool.{eqb-false, eqb-true}
 use Rattle.com_draw_state.specs.declared.lanes.Home.{Home}
 use Rattle.com_draw_state.specs.declared.stacks.Opened.{Opened}
@@ -9,7 +9,7 @@ use Rattle.com_draw_state.specs.declared.stacks.Opening.{Opening}
 use Rattle.com_draw_state.specs.Stacks.{innermost, outer}
 use Rattle.com_draw_words.specs.declared.boxes.Foot.{Foot}
 use Rattle.com_draw_words.specs.declared.boxes.Foot.TheVariants as foot
-use Rattle.com_draw_shapes.specs.Boxes.{home_box, opening_box}
+use Rattle.com_draw_shapes.specs.Boxes.{home_box}
 use Rattle.com_laws_draw.specs.Boxes.{AllNest, Each, LieWell, Placed, above, around, box_of, box_of_innermost, boxes_below, elsewhere, inside, is_down, placed}
 use Rattle.com_laws_draw.proofs.Lists.{OnSome, each_append, each_at, each_both, each_take, each_weaker}
 use Rattle.com_laws_draw.proofs.Nesting.{Above, Begun, Drawing, Held, Later, Past, Reaches, Under, UnderAll, above_all, all_later, begins_below, begun_before, begun_longer, below_row, boxed, closes, fresh, goes_on, high_top, lie_below, low_top, nest_append, nest_below, opens, past_below, row_of, skip, under_any, under_before, under_below}

@@ -3,9 +3,7 @@ use Rattle.std.proofs.Common.{◌≡◌, ℕ, zero, suc, List, [], ◌∷◌, �
 use Rattle.std.proofs.Common.{refl, ap, sym, subst, ◌∙◌, arith, Option, Some, None, if◌then◌else◌, nat_le}
 use Rattle.std.specs.Prelude.{map, nat_lt, slice_get}
 use Rattle.std.proofs.lemmas.Bool.{eqb-false, eqb-true, lt-ltb, ltb-true, true≢false}
-use Rattle.com_draw_state.specs.declared.lanes.Home.{Home}
 use Rattle.com_draw_state.specs.declared.lanes.Lane.{Lane}
-use Rattle.com_draw_state.specs.declared.stacks.Opening.{Opening}
 use Rattle.com_draw_state.specs.declared.stacks.Start.{Start}
 use Rattle.com_draw_state.specs.Board.{State, with_lanes, with_tracks}
 use Rattle.com_draw_state.specs.Lanes.{acted, homed, lane_at, no_lane, with_lane, with_opening, without_innermost}

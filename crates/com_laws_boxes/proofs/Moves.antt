@@ -1,6 +1,6 @@
 -- How an entry changes a lane and what is drawn of it.
-use Rattle.std.proofs.Common.{◌≡◌, ℕ, List, [], ◌∷◌, ◌++◌, ◌+◌, ◌<◌, ◌≤◌, ◌⊎◌, inl, inr, Bool, true, false, ◌==◌}
-use Rattle.std.proofs.Common.{refl, ap, sym, subst, ◌∙◌, arith, append-nil, Option, Some, None, if◌then◌else◌}
+use Rattle.std.proofs.Common.{◌≡◌, ℕ, List, [], ◌++◌, ◌+◌, ◌<◌, ◌⊎◌, inl, inr, Bool, true, false, ◌==◌}
+use Rattle.std.proofs.Common.{refl, sym, subst, arith, append-nil, Option, Some, None, if◌then◌else◌}
 use Rattle.std.proofs.lemmas.Bool.{eqb-false, eqb-true}
 use Rattle.com_model.specs.declared.deeds.Deed.{Deed}
 use Rattle.com_model.specs.declared.deeds.Deed.TheVariants as deed
@@ -19,9 +19,9 @@ use Rattle.com_draw_shapes.specs.declared.effects.Opens.TheVariants as opens
 use Rattle.com_draw_shapes.specs.Boxes.{home_in}
 use Rattle.com_draw_shapes.specs.Changes.{changed, closed_on, opened_on, own_home}
 use Rattle.com_draw_shapes.specs.Effects.{closed_by, opened_by}
-use Rattle.com_laws_draw.specs.Boxes.{Each, Placed, box_of_innermost}
+use Rattle.com_laws_draw.specs.Boxes.{Placed, box_of_innermost}
 use Rattle.com_laws_draw.specs.Lanes.{open_in, openings_of}
-use Rattle.com_laws_draw.proofs.Nesting.{Begun, Drawing, row_of}
+use Rattle.com_laws_draw.proofs.Nesting.{row_of}
 use Rattle.com_laws_draw.proofs.Pages.{begun_after}
 use Rattle.com_laws_draw.proofs.Steps.{stepped}
 use Rattle.com_laws_draw.specs.Lanes as lane

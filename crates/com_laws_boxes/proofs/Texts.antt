@@ -29,7 +29,7 @@ use Rattle.com_draw_shapes.specs.Sections.{back_of_section, foot_in, front_of_se
 use Rattle.com_draw.specs.declared.beside.Beside.{Beside}
 use Rattle.com_draw.specs.declared.entries.Seen.{Seen}
 use Rattle.com_draw.specs.Ends.{end_text, footer_text, gap_row, last_back, last_rows, rows_of}
-use Rattle.com_draw.specs.Entries.{drawn, entry_at, entry_drawing, entry_label, entry_lead, entry_marks, entry_row, entry_text, seen}
+use Rattle.com_draw.specs.Entries.{drawn, entry_drawing, entry_label, entry_lead, entry_marks, entry_row, entry_text, seen}
 use Rattle.com_draw.specs.Fronts.{front}
 use Rattle.com_draw.specs.Pages.{page, written}
 use Rattle.com_draw.specs.Pictures.{Picture}

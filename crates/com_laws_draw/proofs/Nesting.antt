@@ -157,7 +157,7 @@ pub begun_before : (s z r q : ℕ) (o : Opening) → s < z → Begun s r o → B
 begun_before s z r q o h b =
     let k : o.start.section ≤ s = b.0 in (omega (arith, h, k), λ e. absurd (omega (arith, h, k, e)))
 
-pub past_before : (s z r q : ℕ) (x : Placed) → s < z → Past s r x → Past z q x
+past_before : (s z r q : ℕ) (x : Placed) → s < z → Past s r x → Past z q x
 past_before s z r q x h b = let k : x.section ≤ s = b.0 in (omega (arith, h, k), λ e. absurd (omega (arith, h, k, e)))
 
 later_before : (s z r : ℕ) (o p : Opening) → s < z → Begun s r o → Later z o p

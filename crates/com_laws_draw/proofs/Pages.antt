@@ -36,10 +36,10 @@ use Rattle.com_laws_draw.proofs.Steps.{Stepped, closed, kept, opened, stepped}
 abbrev pub Rows : (m : ℕ) → List Opening → List Placed → Type 0
 Rows m os xs = ((m ≡ 0) × Drawing 1 0 os xs) ⊎ ((1 ≤ m) × Drawing ((m - 1) / 40 + 1) ((m - 1) % 40 + 1) os xs)
 
-pub none_more : (s r : ℕ) (os : List Opening) (xs : List Placed) → Drawing s r os xs → Drawing s r os (xs ++ [])
+none_more : (s r : ℕ) (os : List Opening) (xs : List Placed) → Drawing s r os xs → Drawing s r os (xs ++ [])
 none_more s r os xs w = subst (λ (ys : List Placed). Drawing s r os ys) (sym (append-nil xs)) w
 
-pub same_place : (s r z q : ℕ) (os : List Opening) (xs : List Placed) → s ≡ z → r ≡ q → Drawing s r os xs → Drawing z q os xs
+same_place : (s r z q : ℕ) (os : List Opening) (xs : List Placed) → s ≡ z → r ≡ q → Drawing s r os xs → Drawing z q os xs
 same_place s r z q os xs e f w =
     subst (λ (n : ℕ). Drawing n q os xs) e (subst (λ (n : ℕ). Drawing s n os xs) f w)
 
