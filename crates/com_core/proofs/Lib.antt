@@ -2,6 +2,7 @@ pub mod Whole
 pub mod Runs
 pub mod OpenBodies
 pub mod Fallen
+pub mod Fitting
 pub mod Entries
 pub mod Readings
 pub mod Moved

@@ -78,6 +78,13 @@ body-top s r l e =
     enter-top (first (openers_at r.parts.lanes l))
     (body-enters (is_body (first (openers_at r.parts.lanes l))) (can_step_in s (core_state (kept_of s r)) l) (slice_index_or (core_state (kept_of s r)).over l false) e)
 
+-- Where a body's entry is next, a body is innermost.
+pub body_read : (s : Scenario) (r : Running) (l : ℕ) → next_in s (core_state (kept_of s r)) l ≡ next.Body → is_body (first (openers_at r.parts.lanes l)) ≡ true
+unfolding next_in
+body_read s r l e =
+    body-enters (is_body (first (openers_at r.parts.lanes l))) (can_step_in s (core_state (kept_of s r)) l)
+    (slice_index_or (core_state (kept_of s r)).over l false) e
+
 -- Where another entry than a body's is next, no body is innermost.
 pub own_read : (s : Scenario) (r : Running) (l : ℕ) → next_in s (core_state (kept_of s r)) l ≡ next.Own → is_body (first (openers_at r.parts.lanes l)) ≡ false
 unfolding next_in

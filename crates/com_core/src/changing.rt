@@ -16,6 +16,7 @@ ghost use Rattle.com_ledger.specs.Bodies.{entered_after};
 ghost use Rattle.com_ledger.specs.Most.{Most};
 ghost use Rattle.com_refs_rows.specs.Books.{books_held};
 ghost use Rattle.com_refs_rows.specs.Entries.{around, most_left};
+ghost use Rattle.com_refs_rows.specs.Fits.{FitsBooks};
 ghost use Rattle.com_model.specs.Calls.{lane_of};
 ghost use Rattle.com_model.specs.Clock.{ticked};
 ghost use Rattle.com_model.specs.Lists.{number_or_zero};
@@ -181,6 +182,9 @@ impl Running {
         carried: &[RefValue],
         entry: &Entry,
     ) -> Result<(), Memory>
+        requires deed { FitsDeed entry.now.deed }
+        requires fits { FitsBooks scenario.now.classes self.old.ledger.tables.cookies
+            self.old.ledger.tables.stubs entry.now.deed }
         ensures booked { OnOk result (Booked (around self.old.parts.calls.tables self.old.parts.objects
             scenario.now.classes carried.now (number_or_zero basis.running)) entry.now.deed self.old.moves
             self.old.ledger self.new.ledger) }
@@ -319,6 +323,8 @@ impl Running {
         requires few { Few self.old.parts }
         requires room { self.old.parts.entries < 1_000_000 }
         requires deed { FitsDeed entry.now.deed }
+        requires fits { FitsBooks scenario.now.classes self.old.ledger.tables.cookies
+            self.old.ledger.tables.stubs entry.now.deed }
         requires whole { IsWhole outcome.old }
         ensures becomes { OnOk result (Becomes self.old.parts self.new.parts entry.now
             (acting_of acting) outcome.old
@@ -375,6 +381,8 @@ impl Running {
         requires whole { IsWhole outcome.old }
         requires room { self.old.parts.entries < 1_000_000 }
         requires deed { FitsDeed entry.now.deed }
+        requires fits { FitsBooks scenario.now.classes self.old.ledger.tables.cookies
+            self.old.ledger.tables.stubs entry.now.deed }
         ensures few { Few self.new.parts }
         ensures sound { Sound self.new.parts self.new.entered.counts }
         ensures entries { OnOk result (self.new.parts.entries ≡ self.old.parts.entries + 1) }

@@ -1,7 +1,7 @@
 //! The steps of bodies as jobs, and the entries that need no servant.
 
 ghost use Rattle.std.specs.Prelude.{◌≡◌, ℕ, ◌+◌, ◌↔◌, IfErr, IfOk, IfSome, IsSome, IsTrue, OnErr, OnOk};
-ghost use Rattle.std.specs.Prelude.{Some, false};
+ghost use Rattle.std.specs.Prelude.{Some, false, true};
 ghost use Rattle.com_calls.specs.Kept.{IsNamed};
 ghost use Rattle.com_core.specs.Nexts.{FitsTop, kept_top};
 ghost use Rattle.com_core.specs.Seen.{IsAsBefore, TurnsTo, core_state, kept_of};
@@ -90,6 +90,7 @@ impl Running {
         outcome: &Outcome,
     ) -> Result<Turn, Memory>
         requires few { Few self.now.parts }
+        requires body { is_body (first (openers_at self.now.parts.lanes lane)) ≡ true }
         requires step { (c o a : ℕ) → first (openers_at self.now.parts.lanes lane) ≡ Some (Enters c o a)
             → outcome.now
             ≡ body_seen (seen_by scenario.now self.now.parts self.now.fallen.objects self.now.clock) c o }
@@ -115,6 +116,7 @@ impl Running {
         requires sound { Sound self.old.parts self.old.entered.counts }
         requires few { Few self.old.parts }
         requires whole { HasSlots outcome.frame }
+        requires body { is_body (first (openers_at self.old.parts.lanes lane)) ≡ true }
         requires step { (c o a : ℕ) → first (openers_at self.old.parts.lanes lane) ≡ Some (Enters c o a)
             → outcome ≡ body_seen
             (seen_by scenario.now self.old.parts self.old.fallen.objects self.old.clock) c o }

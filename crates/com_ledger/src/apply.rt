@@ -14,8 +14,10 @@ ghost use Rattle.com_refs_rows.specs.Entries.{around, tally};
 ghost use Rattle.com_refs_rows.specs.Entries.{asked_packets, ended_objects, is_made, is_made_by};
 ghost use Rattle.com_refs_rows.specs.Entries.{is_of_reference};
 ghost use Rattle.com_refs_rows.specs.Entries.{most_left, row_steps};
+ghost use Rattle.com_refs_rows.specs.Fits.{FitsBooks};
 ghost use Rattle.com_refs_rows.specs.Moving.{plus, AllBelow, AllOffered, Climbs, HoldsMore, Touches};
 ghost use Rattle.com_refs_rows.specs.Moving.{TouchesCounted};
+ghost use Rattle.com_scene.specs.Ranges.{FitsDeed};
 
 use crate::books::Books;
 use crate::context::Context;
@@ -222,6 +224,8 @@ impl Books {
         context: Context<'_>,
         apartment: u32,
     ) -> Result<(), Memory>
+        requires deed { FitsDeed deed.now }
+        requires fits { FitsBooks context.classes.now self.old.refs.cookies self.old.refs.stubs deed.now }
         requires few { self.old.refs.issued
             + row_steps self.old.calls context.carried.now deed.now < 2 ^ 28 }
         requires room { row_steps self.old.calls context.carried.now deed.now ≤ self.old.refs.spare }
@@ -278,18 +282,16 @@ impl Books {
                 ..
             } => enter_marshal(&mut self.refs, apartment, *packet, *mode, *held),
             Deed::Unmarshal { packet, .. } => {
-                enter_unmarshal(&mut self.refs, &mut self.brought, apartment, *packet)
+                enter_unmarshal(&mut self.refs, &mut self.brought, apartment, *packet);
+                Ok(())
             }
             Deed::Register { cookie, held, .. } => {
                 enter_register(&mut self.refs, *cookie, *held)
             }
-            Deed::Get { cookie, held, .. } => enter_get(
-                &mut self.refs,
-                &mut self.brought,
-                apartment,
-                cookie,
-                *held,
-            ),
+            Deed::Get { cookie, held, .. } => {
+                enter_get(&mut self.refs, &mut self.brought, apartment, cookie, *held);
+                Ok(())
+            }
             _ => self.enter_call(deed, context, apartment),
         }
     }
@@ -347,7 +349,8 @@ impl Books {
                     return Ok(());
                 }
                 let number = self.calls.get(*call).result;
-                enter_back(&mut self.refs, &mut self.brought, apartment, number)
+                enter_back(&mut self.refs, &mut self.brought, apartment, number);
+                Ok(())
             }
             _ => Ok(()),
         }
@@ -393,6 +396,9 @@ impl Books {
     // The whole change by an entry: first the row that gives, then what comes to places, then the row that
     // ends a holder, and then what leaves places. After an error nothing has changed but room.
     fn change(&mut self, entry: &Entry, context: Context<'_>, moves: &Moves) -> Result<(), Memory>
+        requires deed { FitsDeed entry.now.deed }
+        requires fits { FitsBooks context.classes.now self.old.refs.cookies self.old.refs.stubs
+            entry.now.deed }
         ensures applies { OnOk result ((gained lost : List Move) → movings_of gained ≡ moves.now.gained
             → movings_of lost ≡ moves.now.lost
             → Applies (around context.entry.calls.now.tables context.entry.objects.now.tables
@@ -458,6 +464,9 @@ impl Ledger {
         context: Context<'_>,
         moves: &Moves,
     ) -> Result<(), Memory>
+        requires deed { FitsDeed entry.now.deed }
+        requires fits { FitsBooks context.classes.now self.old.tables.cookies self.old.tables.stubs
+            entry.now.deed }
         ensures applies { OnOk result ((gained lost : List Move) → movings_of gained ≡ moves.now.gained
             → movings_of lost ≡ moves.now.lost
             → Applies (around context.entry.calls.now.tables context.entry.objects.now.tables

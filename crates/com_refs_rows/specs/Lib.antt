@@ -1,5 +1,6 @@
 pub mod Calls
 pub mod Books
 pub mod Entries
+pub mod Fits
 pub mod Moving
 pub mod Owners

@@ -1,5 +1,5 @@
 //! The rows of entries that make, ask for, marshal, unmarshal, register or get a reference.
-ghost use Rattle.std.specs.Prelude.{◌≡◌, ◌+◌, ◌<◌, ◌≤◌, ◌||◌, ℕ, true, IfOk, OnErr, OnOk, List, Option};
+ghost use Rattle.std.specs.Prelude.{◌≡◌, ◌+◌, ◌<◌, ◌≤◌, ◌^◌, ◌||◌, ℕ, true, OnErr, OnOk, List, Option};
 ghost use Rattle.std.specs.Prelude.{vec_len, vec_capacity};
 ghost use Rattle.com_base.specs.declared.hresult.HResult.{HResult};
 ghost use Rattle.com_base.specs.declared.value.RefValue.{RefValue};
@@ -10,10 +10,12 @@ ghost use Rattle.com_reference_moves.specs.declared.moves.Move.{Move};
 ghost use Rattle.com_refs_rows.specs.Books.{Gained, KeepsHeld};
 ghost use Rattle.com_refs_rows.specs.Calls.{number_of};
 ghost use Rattle.com_refs_rows.specs.Entries.{RowsOf, MakesOrNone, is_made};
+ghost use Rattle.com_refs_rows.specs.Fits.{IsGotten, IsMaking};
 ghost use Rattle.com_refs_rows.specs.Moving.{HoldsMore};
+ghost use Rattle.com_scene.specs.Ranges.{HasInterface};
 
 use crate::making::make;
-use crate::rows::{get, marshal, query, read, register, unproved_fact};
+use crate::rows::{get, marshal, query, register, unmarshal};
 use com_base::{HResult, MarshalMode, Memory, RefValue};
 use com_body::Asked;
 use com_classes::Classes;
@@ -21,15 +23,12 @@ use com_reference_moves::Move;
 use com_refs::Refs;
 
 // A reference by an interface that has a number of 16 bits.
-fn reference(object: u32, iface: u32) -> Result<RefValue, Memory>
-    ensures ok { IfOk result (λ held. held ≡ record { object = object; iface = iface }) }
-    ensures err { OnErr result (0xffff < iface) }
+fn reference(object: u32, iface: u32) -> RefValue
+    requires { iface < 2 ^ 16 }
+    ensures { result ≡ record { object = object; iface = iface } }
 {
-    if iface > 0xffff {
-        return Err(unproved_fact());
-    }
     let iface = iface as u16;
-    Ok(RefValue { object, iface })
+    RefValue { object, iface }
 }
 
 /// The row of a new object.
@@ -44,6 +43,9 @@ pub fn enter_made(
     class: Asked,
     iface: Asked,
 ) -> Result<(), Memory>
+    requires making { IsMaking classes.now object owner class iface }
+    requires iface { HasInterface object iface }
+    requires few { refs.old.issued + 1 < 2 ^ 28 }
     requires place { vec_len brought.old < vec_capacity brought.old }
     requires room { 0 < refs.old.spare }
     ensures row { OnOk result
@@ -60,16 +62,14 @@ pub fn enter_made(
     let Some(object) = object else {
         return Ok(());
     };
-    let Some(owner) = owner else {
-        return Err(unproved_fact());
-    };
+    let Some(owner) = owner else { unreachable!() };
     let Asked::Number(class) = class else {
-        return Err(unproved_fact());
+        unreachable!()
     };
     let Asked::Number(iface) = iface else {
-        return Err(unproved_fact());
+        unreachable!()
     };
-    let held = reference(object, iface)?;
+    let held = reference(object, iface);
     make(refs, brought, set, classes, apartment, held, owner, class)
 }
 
@@ -82,6 +82,8 @@ pub fn enter_query(
     iface: Asked,
     hr: HResult,
 ) -> Result<(), Memory>
+    requires iface { HasInterface object iface }
+    requires few { refs.old.issued < 2 ^ 28 }
     requires place { vec_len brought.old < vec_capacity brought.old }
     ensures row { OnOk result (RowsOf apartment
         (deed.Query object iface hr) refs.old refs.new brought.old.items brought.new.items) }
@@ -101,7 +103,7 @@ pub fn enter_query(
     if hr.0 != 0 {
         return Ok(());
     }
-    let held = reference(object, iface)?;
+    let held = reference(object, iface);
     query(refs, brought, apartment, held)
 }
 
@@ -111,22 +113,22 @@ pub fn enter_unmarshal(
     brought: &mut Vec<Move>,
     apartment: u32,
     packet: Option<u32>,
-) -> Result<(), Memory>
+)
+    requires few { refs.old.issued < 2 ^ 28 }
     requires place { vec_len brought.old < vec_capacity brought.old }
     requires room { 0 < refs.old.spare }
-    ensures row { OnOk result ((held : Option RefValue) (n : ℕ) (hr : HResult)
+    ensures row { (held : Option RefValue) (n : ℕ) (hr : HResult)
         → RowsOf apartment
-        (deed.Unmarshal packet held n hr) refs.old refs.new brought.old.items brought.new.items) }
-    ensures more { OnOk result (HoldsMore refs.old refs.new) }
-    ensures err { OnErr result (refs.new ≡ refs.old) }
+        (deed.Unmarshal packet held n hr) refs.old refs.new brought.old.items brought.new.items }
+    ensures more { HoldsMore refs.old refs.new }
     ensures offers { (x j : ℕ) → offers refs.new x j ≡ offers refs.old x j }
     ensures issued { refs.new.issued ≤ refs.old.issued + 1 }
     ensures spare { refs.old.spare ≤ refs.new.spare + 1 }
     ensures len { vec_len brought.new ≤ vec_len brought.old + 1 }
 {
     match packet {
-        None => Ok(()),
-        Some(packet) => read(refs, brought, apartment, packet),
+        None => {}
+        Some(packet) => unmarshal(refs, brought, apartment, packet),
     }
 }
 
@@ -138,6 +140,7 @@ pub fn enter_marshal(
     mode: MarshalMode,
     held: Option<RefValue>,
 ) -> Result<(), Memory>
+    requires few { refs.old.issued < 2 ^ 28 }
     requires room { 0 < refs.old.spare }
     ensures row { OnOk result ((n : ℕ) (hr : HResult) (bytes : Option (List ℕ)) (brought : List Move)
         → RowsOf apartment (deed.Marshal packet mode held n hr bytes) refs.old refs.new brought brought) }
@@ -162,6 +165,8 @@ pub fn enter_register(
     cookie: Option<u32>,
     held: Option<RefValue>,
 ) -> Result<(), Memory>
+    requires few { refs.old.issued < 2 ^ 28 }
+    requires room { 0 < refs.old.spare }
     ensures row { OnOk result ((a : ℕ) (hr : HResult) (brought : List Move)
         → RowsOf a (deed.Register cookie held hr) refs.old refs.new brought brought) }
     ensures more { OnOk result (HoldsMore refs.old refs.new) }
@@ -186,44 +191,41 @@ pub fn enter_get(
     apartment: u32,
     cookie: &i64,
     held: Option<RefValue>,
-) -> Result<(), Memory>
+)
+    requires kept { IsGotten refs.old.cookies refs.old.stubs cookie.now held }
+    requires few { refs.old.issued < 2 ^ 28 }
+    requires room { 0 < refs.old.spare }
     requires place { vec_len brought.old < vec_capacity brought.old }
-    ensures row { OnOk result ((n : ℕ) (hr : HResult)
+    ensures row { (n : ℕ) (hr : HResult)
         → RowsOf apartment
-        (deed.Get cookie.now held n hr) refs.old refs.new brought.old.items brought.new.items) }
-    ensures more { OnOk result (HoldsMore refs.old refs.new) }
-    ensures err { OnErr result (refs.new ≡ refs.old) }
+        (deed.Get cookie.now held n hr) refs.old refs.new brought.old.items brought.new.items }
+    ensures more { HoldsMore refs.old refs.new }
     ensures offers { (x j : ℕ) → offers refs.new x j ≡ offers refs.old x j }
     ensures issued { refs.new.issued ≤ refs.old.issued + 1 }
     ensures spare { refs.old.spare ≤ refs.new.spare + 1 }
     ensures len { vec_len brought.new ≤ vec_len brought.old + 1 }
 {
     match held {
-        None => Ok(()),
+        None => {}
         Some(held) => get(refs, brought, apartment, *cookie, held),
     }
 }
 
 /// The row of a result's packet that is read: its call's answer is its body's Leave.
-pub fn enter_back(
-    refs: &mut Refs,
-    brought: &mut Vec<Move>,
-    apartment: u32,
-    number: u32,
-) -> Result<(), Memory>
+pub fn enter_back(refs: &mut Refs, brought: &mut Vec<Move>, apartment: u32, number: u32)
+    requires few { refs.old.issued < 2 ^ 28 }
     requires place { vec_len brought.old < vec_capacity brought.old }
     requires room { 0 < refs.old.spare }
-    ensures row { OnOk result (Gained apartment (back_rows apartment true
-        (number_of number)) refs.old refs.new brought.old.items brought.new.items) }
-    ensures more { OnOk result (HoldsMore refs.old refs.new) }
-    ensures err { OnErr result (refs.new ≡ refs.old) }
+    ensures row { Gained apartment (back_rows apartment true
+        (number_of number)) refs.old refs.new brought.old.items brought.new.items }
+    ensures more { HoldsMore refs.old refs.new }
     ensures offers { (x j : ℕ) → offers refs.new x j ≡ offers refs.old x j }
     ensures issued { refs.new.issued ≤ refs.old.issued + 1 }
     ensures spare { refs.old.spare ≤ refs.new.spare + 1 }
     ensures len { vec_len brought.new ≤ vec_len brought.old + 1 }
 {
     if number == 0 {
-        return Ok(());
+        return;
     }
-    read(refs, brought, apartment, number)
+    unmarshal(refs, brought, apartment, number);
 }

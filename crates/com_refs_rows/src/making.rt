@@ -1,13 +1,13 @@
 //! The row of a new object.
 ghost use Rattle.std.specs.Prelude.{◌≡◌, ◌+◌, ◌<◌, ◌≤◌, ◌^◌, ◌++◌, ◌∷◌, [], true, IsTrue, OnOk, Some, length};
-ghost use Rattle.std.specs.Prelude.{◌↔◌, ℕ, OnErr, vec_len, vec_capacity};
-ghost use Rattle.com_refs_holders.specs.Steps.{among};
+ghost use Rattle.std.specs.Prelude.{ℕ, OnErr, vec_len, vec_capacity};
+ghost use Rattle.com_classes.specs.Lookups.{has_interface};
 ghost use Rattle.com_refs_holders.specs.Tables.{offers};
 ghost use Rattle.com_model.specs.Tables.{has_agile_model};
 ghost use Rattle.com_refs_rows.specs.Books.{KeepsHeld, Made, moved_to};
 ghost use Rattle.com_refs_rows.specs.Owners.{Grown};
 
-use crate::rows::{MOST_GIVEN, bring, unproved_fact};
+use crate::rows::{bring, unproved_fact};
 use com_base::{Memory, RefValue};
 use com_classes::{Class, Classes, is_agile};
 use com_reference_moves::Move;
@@ -22,34 +22,16 @@ fn fill_set(set: &mut Vec<u16>, class: &Class) -> Result<(), Memory>
     set.extend_from_slice(class.interfaces.as_slice())
 }
 
-// Whether the interface is one of the set.
-fn is_among(set: &[u16], iface: u16) -> bool
-    ensures { IsTrue result ↔ (among iface set.now ≡ true) }
-{
-    for other in set {
-        if *other == iface {
-            return true;
-        }
-    }
-    false
-}
-
-// Whether the object is the next one by its number, and the interface is one of the set.
-fn can_make(refs: &Refs, set: &[u16], held: RefValue) -> bool
-    ensures new { IsTrue result → held.object ≡ length refs.now.objects + 1 }
+// Whether the object is the next one by its number, and the set is not too large.
+fn can_make(refs: &Refs, set: &[u16], object: u32) -> bool
+    ensures new { IsTrue result → object ≡ length refs.now.objects + 1 }
     ensures small { IsTrue result → length set.now ≤ 17 }
-    ensures within { IsTrue result → among held.iface set.now ≡ true }
-    ensures few { IsTrue result → refs.now.issued + 1 < 2 ^ 28 }
-    ensures exact { held.object ≡ length refs.now.objects + 1 → length set.now ≤ 17
-        → among held.iface set.now ≡ true → refs.now.issued + 1 < 2 ^ 28 → IsTrue result }
+    ensures exact { object ≡ length refs.now.objects + 1 → length set.now ≤ 17 → IsTrue result }
 {
-    if refs.issued_count() >= MOST_GIVEN - 1 {
+    if object.checked_sub(1) != Some(refs.objects()) {
         return false;
     }
-    if held.object.checked_sub(1) != Some(refs.objects()) {
-        return false;
-    }
-    set.len() <= 17 && is_among(set, held.iface)
+    set.len() <= 17
 }
 
 // Whether every apartment owns the objects of the class.
@@ -70,6 +52,8 @@ pub fn make(
     owner: u32,
     class: u32,
 ) -> Result<(), Memory>
+    requires offered { has_interface classes.now class held.iface ≡ true }
+    requires few { refs.old.issued + 1 < 2 ^ 28 }
     requires place { vec_len brought.old < vec_capacity brought.old }
     requires room { 0 < refs.old.spare }
     ensures brought { OnOk result (brought.new.items ≡ brought.old.items ++ moved_to apartment held ∷ []) }
@@ -85,10 +69,10 @@ pub fn make(
     ensures len { vec_len brought.new ≤ vec_len brought.old + 1 }
 {
     let Some(class) = classes.class(class) else {
-        return Err(unproved_fact());
+        unreachable!()
     };
     fill_set(set, class)?;
-    if !can_make(refs, set.as_slice(), held) {
+    if !can_make(refs, set.as_slice(), held.object) {
         return Err(unproved_fact());
     }
     refs.tells();

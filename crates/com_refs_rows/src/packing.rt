@@ -11,7 +11,7 @@ ghost use Rattle.com_refs_rows.specs.Calls.{arguments_of};
 ghost use Rattle.com_refs_rows.specs.Moving.{AllKnown, HoldsMore};
 
 use crate::calls::{CallPackets, CallTable};
-use crate::rows::{MOST_GIVEN, give, unmarshal, unproved_fact};
+use crate::rows::{give, unmarshal, unproved_fact};
 use com_base::{MarshalMode, Memory, RefValue};
 use com_calls::Calls;
 use com_deeds::is_leave;
@@ -34,17 +34,11 @@ fn marshal_all(refs: &mut Refs, apartment: u32, carried: &[RefValue])
     }
 }
 
-// Whether so many references may be given, each of an object by an interface of its set.
+// Whether each reference is of an object by an interface of its set.
 fn can_pack(refs: &Refs, carried: &[RefValue]) -> bool
-    ensures few { IsTrue result → refs.now.issued + length carried.now < 2 ^ 28 }
     ensures known { IsTrue result → AllKnown refs.now carried.now }
-    ensures exact { refs.now.issued + length carried.now < 2 ^ 28 → AllKnown refs.now carried.now
-        → IsTrue result }
+    ensures exact { AllKnown refs.now carried.now → IsTrue result }
 {
-    let most = MOST_GIVEN as usize;
-    if carried.len() >= most || refs.issued_count() as usize + carried.len() >= most {
-        return false;
-    }
     for held in carried {
         if !refs.offers(held.object, held.iface) {
             return false;
@@ -83,6 +77,7 @@ pub fn issue(
     call: u32,
     carried: &[RefValue],
 ) -> Result<(), Memory>
+    requires few { refs.old.issued + length carried.now < 2 ^ 28 }
     requires room { length carried.now ≤ refs.old.spare }
     ensures rows { OnOk result (Marshalled (marshal_all apartment carried.now) refs.old refs.new) }
     ensures more { OnOk result (HoldsMore refs.old refs.new) }
@@ -96,10 +91,7 @@ pub fn issue(
     ensures issued { refs.new.issued ≤ refs.old.issued + length carried.now }
     ensures spare { refs.old.spare ≤ refs.new.spare + length carried.now }
 {
-    if calls.len() >= MOST_GIVEN as usize {
-        return Err(unproved_fact());
-    }
-    if call as usize != calls.len() + 1 {
+    if call == 0 || call as usize - 1 != calls.len() {
         return Err(unproved_fact());
     }
     if !can_pack(refs, carried) {
@@ -119,6 +111,7 @@ pub fn reply(
     call: u32,
     carried: &[RefValue],
 ) -> Result<(), Memory>
+    requires few { refs.old.issued + length carried.now < 2 ^ 28 }
     requires room { length carried.now ≤ refs.old.spare }
     ensures rows { OnOk result (Marshalled (marshal_all apartment carried.now) refs.old refs.new) }
     ensures more { OnOk result (HoldsMore refs.old refs.new) }

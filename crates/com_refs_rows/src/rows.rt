@@ -1,5 +1,5 @@
 //! The rows of the table of reference counting, one for each kind of entry.
-ghost use Rattle.std.specs.Prelude.{◌≡◌, ◌+◌, ◌<◌, ◌≤◌, ◌^◌, ◌↔◌, ◌++◌, ◌∷◌, ◌==◌, [], ℕ, true, IsTrue, OnOk};
+ghost use Rattle.std.specs.Prelude.{◌≡◌, ◌+◌, ◌<◌, ◌≤◌, ◌^◌, ◌++◌, ◌∷◌, ◌==◌, [], ℕ, true, OnOk};
 ghost use Rattle.std.specs.Prelude.{OnErr, length, vec_len, vec_capacity};
 ghost use Rattle.com_refs_books.specs.Changes.{Takes, Asks, Marshals, Unmarshals, Drops, Registers, Revokes};
 ghost use Rattle.com_refs_holders.specs.Places.{OneMore, SamePlaces};
@@ -7,6 +7,7 @@ ghost use Rattle.com_refs_holders.specs.Tables.{offers, owns_of};
 ghost use Rattle.com_model.specs.Deeds.{cookie_number};
 ghost use Rattle.com_state.specs.Parts.{named_at};
 ghost use Rattle.com_refs_rows.specs.Books.{Rowed, Gained, Taken, Cut, moved_to};
+ghost use Rattle.com_refs_rows.specs.Fits.{IsKept};
 ghost use Rattle.com_refs_rows.specs.Moving.{Climbs, HoldsMore, Touches, TouchesCounted};
 
 use crate::touching::{touch, touch_if};
@@ -17,36 +18,15 @@ use com_refs::Refs;
 use std::alloc::AllocError;
 
 /// Where a fact of all histories is not proved here, the core stops as it does without memory, before it has
-/// changed anything. Missing are, at their places: that an object has the next number, and the interface that
-/// is asked for is in its class's set, of 17 at most; that a reference at a place or of a packet is by an
-/// interface of its object's set; that a Get names the reference of its cookie, of a connected object; that
-/// calls are numbered one after another, and a Leave names one of them; that fewer than 2^28 references were
-/// given.
+/// changed anything. Missing are, at their places: that an object has the next number, and its class a set of
+/// 17 interfaces at most; that a reference at a place or of a packet is by an interface of its object's set;
+/// that calls are numbered one after another, and a Leave names one of them.
 pub fn unproved_fact() -> Memory {
     AllocError
 }
 
 /// How many references are given at most.
 pub const MOST_GIVEN: u32 = 0x1000_0000;
-
-/// Whether one more reference may be given.
-pub fn is_few(refs: &Refs) -> bool
-    ensures { IsTrue result ↔ (refs.now.issued < 2 ^ 28) }
-{
-    refs.issued_count() < MOST_GIVEN
-}
-
-/// Whether one more reference may be given, of an object by an interface of its set.
-pub fn can_give(refs: &Refs, held: RefValue) -> bool
-    ensures few { IsTrue result → refs.now.issued < 2 ^ 28 }
-    ensures known { IsTrue result → offers refs.now held.object held.iface ≡ true }
-    ensures given { refs.now.issued < 2 ^ 28 → offers refs.now held.object held.iface ≡ true → IsTrue result }
-{
-    if !is_few(refs) {
-        return false;
-    }
-    refs.offers(held.object, held.iface)
-}
 
 /// The row brought a place.
 pub fn bring(brought: &mut Vec<Move>, apartment: u32, reference: RefValue)
@@ -68,6 +48,7 @@ pub fn query(
     apartment: u32,
     held: RefValue,
 ) -> Result<(), Memory>
+    requires few { refs.old.issued < 2 ^ 28 }
     requires place { vec_len brought.old < vec_capacity brought.old }
     ensures row { OnOk result (Rowed refs.old refs.new (Asks apartment held.object held.iface)) }
     ensures places { OnOk result (OneMore refs.old refs.new apartment held.object
@@ -83,9 +64,6 @@ pub fn query(
     ensures len { vec_len brought.new ≤ vec_len brought.old + 1 }
     ensures capacity { vec_capacity brought.old ≤ vec_capacity brought.new }
 {
-    if !is_few(refs) {
-        return Err(unproved_fact());
-    }
     match refs.query(apartment, held.object, held.iface) {
         Ok(()) => {
             bring(brought, apartment, held);
@@ -123,6 +101,7 @@ pub fn marshal(
     held: RefValue,
     mode: MarshalMode,
 ) -> Result<(), Memory>
+    requires few { refs.old.issued < 2 ^ 28 }
     requires room { 0 < refs.old.spare }
     ensures row { OnOk result (Rowed refs.old refs.new (Marshals apartment mode held.object held.iface)) }
     ensures more { OnOk result (HoldsMore refs.old refs.new) }
@@ -132,7 +111,7 @@ pub fn marshal(
     ensures issued { refs.new.issued ≤ refs.old.issued + 1 }
     ensures spare { refs.old.spare ≤ refs.new.spare + 1 }
 {
-    if !can_give(refs, held) {
+    if !refs.offers(held.object, held.iface) {
         return Err(unproved_fact());
     }
     give(refs, apartment, held, mode);
@@ -166,32 +145,6 @@ pub fn unmarshal(refs: &mut Refs, brought: &mut Vec<Move>, apartment: u32, numbe
     }
 }
 
-/// Unmarshals the packet in the apartment and notes the reference that it brings, where one more reference may
-/// be given.
-pub fn read(
-    refs: &mut Refs,
-    brought: &mut Vec<Move>,
-    apartment: u32,
-    number: u32,
-) -> Result<(), Memory>
-    requires room { 0 < refs.old.spare }
-    requires place { vec_len brought.old < vec_capacity brought.old }
-    ensures row { OnOk result (Gained apartment
-        (Unmarshals apartment number ∷ []) refs.old refs.new brought.old.items brought.new.items) }
-    ensures more { OnOk result (HoldsMore refs.old refs.new) }
-    ensures err { OnErr result (refs.new ≡ refs.old) }
-    ensures offers { (x j : ℕ) → offers refs.new x j ≡ offers refs.old x j }
-    ensures issued { refs.new.issued ≤ refs.old.issued + 1 }
-    ensures spare { refs.old.spare ≤ refs.new.spare + 1 }
-    ensures len { vec_len brought.new ≤ vec_len brought.old + 1 }
-{
-    if !is_few(refs) {
-        return Err(unproved_fact());
-    }
-    unmarshal(refs, brought, apartment, number);
-    Ok(())
-}
-
 /// A packet ends; one that has ended stays so.
 pub fn drop_packet(refs: &mut Refs, touched: &mut Vec<u32>, number: u32)
     requires room { vec_len touched.old < vec_capacity touched.old }
@@ -214,6 +167,8 @@ pub fn drop_packet(refs: &mut Refs, touched: &mut Vec<u32>, number: u32)
 
 /// A cookie of a reference; what is not connected gets none.
 pub fn register(refs: &mut Refs, held: RefValue) -> Result<(), Memory>
+    requires few { refs.old.issued < 2 ^ 28 }
+    requires room { 0 < refs.old.spare }
     ensures row { OnOk result (Rowed refs.old refs.new (Registers held.object held.iface)) }
     ensures more { OnOk result (HoldsMore refs.old refs.new) }
     ensures places { OnOk result (SamePlaces refs.old refs.new) }
@@ -225,49 +180,36 @@ pub fn register(refs: &mut Refs, held: RefValue) -> Result<(), Memory>
     if !refs.connected(held.object) {
         return Ok(());
     }
-    if !can_give(refs, held) {
+    if !refs.offers(held.object, held.iface) {
         return Err(unproved_fact());
     }
     match refs.register(held) {
         Ok(_) => Ok(()),
-        Err(_) => Err(unproved_fact()),
+        Err(_) => unreachable!(),
     }
 }
 
 /// The reference of a cookie, which is this one.
-pub fn get(
-    refs: &mut Refs,
-    brought: &mut Vec<Move>,
-    apartment: u32,
-    cookie: i64,
-    held: RefValue,
-) -> Result<(), Memory>
+pub fn get(refs: &mut Refs, brought: &mut Vec<Move>, apartment: u32, cookie: i64, held: RefValue)
+    requires few { refs.old.issued < 2 ^ 28 }
+    requires room { 0 < refs.old.spare }
+    requires kept { IsKept refs.old.cookies refs.old.stubs cookie held }
     requires place { vec_len brought.old < vec_capacity brought.old }
-    ensures row { OnOk result (Gained apartment
-        (Takes apartment held.object held.iface ∷ []) refs.old refs.new brought.old.items brought.new.items) }
-    ensures more { OnOk result (HoldsMore refs.old refs.new) }
-    ensures err { OnErr result (refs.new ≡ refs.old) }
+    ensures row { Gained apartment
+        (Takes apartment held.object held.iface ∷ []) refs.old refs.new brought.old.items brought.new.items }
+    ensures more { HoldsMore refs.old refs.new }
     ensures offers { (x j : ℕ) → offers refs.new x j ≡ offers refs.old x j }
     ensures issued { refs.new.issued ≤ refs.old.issued + 1 }
     ensures spare { refs.old.spare ≤ refs.new.spare + 1 }
     ensures len { vec_len brought.new ≤ vec_len brought.old + 1 }
     ensures capacity { vec_capacity brought.old ≤ vec_capacity brought.new }
 {
-    if !is_few(refs) {
-        return Err(unproved_fact());
-    }
+    let _count = refs.cookies();
     let number = cookie_number(cookie);
-    let Some(kept) = refs.cookie(number) else {
-        return Err(unproved_fact());
-    };
-    if kept != held {
-        return Err(unproved_fact());
+    match refs.get(apartment, number) {
+        Ok(found) => bring(brought, apartment, found),
+        Err(_) => unreachable!(),
     }
-    let Ok(found) = refs.get(apartment, number) else {
-        return Err(unproved_fact());
-    };
-    bring(brought, apartment, found);
-    Ok(())
 }
 
 /// A cookie ends; one that has ended stays so.

@@ -1,46 +1,34 @@
 -- Texts in parts.
-use Rattle.std.proofs.Common.{◌≡◌, ℕ, List, [], ◌∷◌, ◌++◌, ◌+◌, length, take, drop, refl, ap, sym, ◌∙◌, append_assoc, append-nil, arith}
-use Rattle.std.proofs.lemmas.List.{take-append-drop}
-use Rattle.std.specs.Prelude.{slice_index, ◌/◌, ◌%◌}
+use Rattle.std.proofs.Common.{◌≡◌, ℕ, List, [], ◌∷◌, ◌++◌, ◌+◌, ap, sym, ◌∙◌, append_assoc, arith, ◌<◌, ◌≤◌, length}
+use Rattle.std.proofs.lemmas.Fmt.{length-decimal-le}
+use Rattle.std.proofs.lemmas.List.{flat_map_more}
 use Rattle.std.specs.Prelude.{codes, decimal}
 use Rattle.std.specs.List.{flat_map}
 use Rattle.com_base.specs.declared.value.Value.{Value}
 use Rattle.com_model.specs.declared.counts.Counts.{Counts}
-use Rattle.com_model.specs.Text.{value_text, later_value_text, object_line, object_lines, object_state_text}
-use Rattle.hex.specs.Hex.{encode_with, encode_lower, lower_digits}
+use Rattle.com_model.specs.Text.{later_value_text, object_line, object_lines, object_state_text}
+use Rattle.com_report.specs.Width.{own_width, values_width}
 
-encode_with_both : (t a b : List ℕ) → encode_with t (a ++ b) ≡ encode_with t a ++ encode_with t b
-unfolding encode_with
-encode_with_both t [] b = refl
-encode_with_both t (x ∷ a) b =
-    ap (λ rest. slice_index t (x / 16) ∷ slice_index t (x % 16) ∷ rest) (encode_with_both t a b)
+-- a number of 64 bits has at most 20 digits
+pub digits_of_64 : (n : ℕ) → n < 18446744073709551616 → length (decimal n) ≤ 20
+digits_of_64 n small = length-decimal-le 20 n (omega arith) (omega arith) small
 
--- the digits of a front behind a text, and then those of the rest
-pub digits_in_two : (text longer bytes : List ℕ) (n : ℕ) → longer ≡ text ++ encode_lower (take n bytes)
-    → longer ++ encode_lower (drop n bytes) ≡ text ++ encode_lower bytes
-digits_in_two text longer bytes n h =
-    ap (λ t. t ++ encode_lower (drop n bytes)) h
-    ∙ append_assoc text (encode_lower (take n bytes)) (encode_lower (drop n bytes))
-    ∙ ap (λ t. text ++ t) (sym (encode_with_both lower_digits (take n bytes) (drop n bytes)))
-    ∙ ap (λ t. text ++ encode_lower t) (take-append-drop n bytes)
+-- values without the last, and then the last behind a comma
+pub values_from_end : (rest others : List Value) (v : Value) (before behind : List ℕ) → rest ≡ others ++ v ∷ [] → before ≡ later_value_text v ++ behind
+    → flat_map later_value_text others ++ before ≡ flat_map later_value_text rest ++ behind
+values_from_end rest others v before behind last e =
+    ap (λ t. flat_map later_value_text others ++ t) e
+    ∙ sym (append_assoc (flat_map later_value_text others) (later_value_text v) behind)
+    ∙ ap (λ t. t ++ behind) (flat_map_more later_value_text [] others v)
+    ∙ ap (λ r. flat_map later_value_text r ++ behind) (sym last)
 
--- no bytes have no digits
-pub digits_of_none : (text : List ℕ) → text ++ encode_lower [] ≡ text
-unfolding encode_with
-digits_of_none text = append-nil text
+widths_of_last : (others : List Value) (v : Value) → values_width (others ++ v ∷ []) ≡ values_width others + (own_width v + 48)
+widths_of_last [] v = omega arith
+widths_of_last (x ∷ others) v = omega (arith, widths_of_last others v)
 
--- where nothing is left, the text is whole
-pub digits_all : (longer rest whole : List ℕ) → length rest ≡ 0 → longer ++ encode_lower rest ≡ whole → longer ≡ whole
-unfolding encode_with
-digits_all longer [] whole none h = sym (append-nil longer) ∙ h
-digits_all longer (x ∷ rest) whole none h = absurd (omega arith)
-
--- the pieces of a list's first element, and then those of its rest
-pub pieces_in_two : (text longer : List ℕ) (v : Value) (rest : List Value) → longer ≡ (text ++ codes ",") ++ value_text v
-    → longer ++ flat_map later_value_text rest ≡ text ++ flat_map later_value_text (v ∷ rest)
-pieces_in_two text longer v rest h =
-    ap (λ t. t ++ flat_map later_value_text rest) (h ∙ append_assoc text (codes ",") (value_text v))
-    ∙ append_assoc text (later_value_text v) (flat_map later_value_text rest)
+-- their room
+pub widths_from_end : (rest others : List Value) (v : Value) → rest ≡ others ++ v ∷ [] → values_width rest ≡ values_width others + (own_width v + 48)
+widths_from_end rest others v last = ap values_width last ∙ widths_of_last others v
 
 -- the lines of the first object, and then those of the rest
 pub objects_in_two : (text longer : List ℕ) (number : ℕ) (c : Counts) (rest : List Counts) → longer ≡ text ++ object_line number c
@@ -56,9 +44,3 @@ pub object_line_behind : (text : List ℕ) (number : ℕ) (c : Counts)
     ++ codes " tables " ++ decimal c.tables ++ codes " stub " ++ decimal c.stub ++ codes "\n"
     ≡ text ++ object_line number c
 object_line_behind text number c = simp append_assoc
-
--- the front of an entry's line, which was written from its end: the lane, the word before it, and the place
-pub front_of_line : (place lane whole behind digits : List ℕ) → whole ≡ place ++ behind → behind ≡ 32 ∷ 76 ∷ digits → digits ≡ lane ++ []
-    → whole ≡ place ++ codes " L" ++ lane
-front_of_line place lane whole behind digits w b d =
-    w ∙ ap (λ x. place ++ x) (b ∙ ap (λ x. 32 ∷ 76 ∷ x) (d ∙ append-nil lane)) ∙ sym (append_assoc place (codes " L") lane)

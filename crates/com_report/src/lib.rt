@@ -4,9 +4,11 @@
 mod calls;
 mod deeds;
 mod lines;
+mod pieces;
 mod references;
 mod reports;
 mod values;
+mod width;
 mod words;
 
 pub use com_base::Memory;

@@ -1,248 +1,267 @@
-//! The rows of actions on apartments, objects and references.
-ghost use Rattle.std.specs.Prelude.{◌≡◌, ◌++◌, OnOk};
-ghost use Rattle.com_model.specs.Text.{deed_line, mode_text, marshal_mode_text};
+//! The rows of actions on apartments, objects and references. Each writes what stands behind the front of the
+//! line. A row without a version is the same in every version.
+ghost use Rattle.std.specs.Prelude.{◌≡◌, ◌++◌, ◌+◌, ◌≤◌, [], length, drop, decimal, codes};
+ghost use Rattle.com_model.specs.Text.{deed_line, mode_text, marshal_mode_text, hresult_text};
+ghost use Rattle.com_model.specs.Text.{named, held_text, asked_text, bytes_text};
+ghost use Rattle.com_report.specs.Width.{bytes_width};
 
-use crate::words::Text;
-use com_base::{ByteList, HResult, MarshalMode, Memory, Mode, RefValue};
+use crate::pieces::{
+    bytes, class_or_interface, hresult, letter_and_number, reference, signed_after, word,
+    word_and_number,
+};
+use com_base::{ByteList, HResult, MarshalMode, Mode, RefValue};
 use com_body::Asked;
 use com_model::Deed;
 
-/// Appends how a thread entered its apartment.
-pub fn init(text: &mut Text, version: u8, mode: Mode, home: u32, hr: HResult) -> Result<(), Memory>
-    ensures front { text.new.front ≡ text.old.front }
-    ensures ok { OnOk result (text.new.text ≡ deed_line version text.old.text (Deed.Init mode home hr)) }
+/// How a thread entered its apartment.
+pub fn init(room: &mut [u8], end: usize, version: u8, mode: Mode, home: u32, hr: HResult) -> usize
+    requires { (160 ≤ end) × (end ≤ length room.old) }
+    ensures taken { (result ≤ end) × (end ≤ result + 160) }
+    ensures written { drop result room.new ≡ deed_line version [] (Deed.Init mode home hr) ++ drop end room.old }
 {
-    text.push(b" init ")?;
-    push_mode(text, mode)?;
-    text.word_and_number(b" a", home as u64)?;
-    text.hresult(version, hr)
+    let at = hresult(room, end, version, hr);
+    let at = word_and_number(room, at, b" a", home as u64);
+    let at = mode_word(room, at, mode);
+    word(room, at, b" init")
 }
 
-fn push_mode(text: &mut Text, mode: Mode) -> Result<(), Memory>
-    ensures front { text.new.front ≡ text.old.front }
-    ensures ok { OnOk result (text.new.text ≡ text.old.text ++ mode_text mode) }
+fn mode_word(room: &mut [u8], end: usize, mode: Mode) -> usize
+    requires { (4 ≤ end) × (end ≤ length room.old) }
+    ensures taken { (result ≤ end) × (end ≤ result + 4) }
+    ensures written { drop result room.new ≡ codes " " ++ mode_text mode ++ drop end room.old }
 {
     match mode {
-        Mode::Sta => text.push(b"sta"),
-        Mode::Mta => text.push(b"mta"),
+        Mode::Sta => word(room, end, b" sta"),
+        Mode::Mta => word(room, end, b" mta"),
     }
 }
 
-/// Appends how a thread left its apartment.
-pub fn uninit(text: &mut Text, version: u8, home: Option<u32>, count: u32) -> Result<(), Memory>
-    ensures front { text.new.front ≡ text.old.front }
-    ensures ok { OnOk result (text.new.text ≡ deed_line version text.old.text (Deed.Uninit home count)) }
+/// How a thread left its apartment.
+pub fn uninit(room: &mut [u8], end: usize, home: Option<u32>, count: u32) -> usize
+    requires { (160 ≤ end) × (end ≤ length room.old) }
+    ensures taken { (result ≤ end) × (end ≤ result + 160) }
+    ensures written { drop result room.new ≡ deed_line 1 [] (Deed.Uninit home count) ++ drop end room.old }
 {
-    text.push(b" uninit ")?;
-    text.letter_and_number(b"a", home)?;
-    text.word_and_number(b" ", count as u64)
+    let at = word_and_number(room, end, b" ", count as u64);
+    let at = letter_and_number(room, at, b"a", home);
+    word(room, at, b" uninit")
 }
 
-/// Appends that an object was made, or why not.
-pub fn create(
-    text: &mut Text,
+/// Which object was made, and where.
+pub fn create(room: &mut [u8], end: usize, object: Option<u32>, apartment: Option<u32>) -> usize
+    requires { (50 ≤ end) × (end ≤ length room.old) }
+    ensures taken { (result ≤ end) × (end ≤ result + 50) }
+    ensures written { drop result room.new ≡ codes " made " ++ named (codes "o") object ++ codes " " ++ named (codes "a") apartment ++ drop end room.old }
+{
+    let at = letter_and_number(room, end, b"a", apartment);
+    let at = letter_and_number(room, at, b"o", object);
+    word(room, at, b" made")
+}
+
+/// Of which class and interface an object was to be made, and the answer.
+pub fn create_asked(
+    room: &mut [u8],
+    end: usize,
     version: u8,
-    object: Option<u32>,
-    apartment: Option<u32>,
     class: &Asked,
     iface: &Asked,
     hr: HResult,
-) -> Result<(), Memory>
-    ensures front { text.new.front ≡ text.old.front }
-    ensures ok { OnOk result (text.new.text ≡
-        deed_line version text.old.text (Deed.Made object apartment class.now iface.now hr)) }
+) -> usize
+    requires { (110 ≤ end) × (end ≤ length room.old) }
+    ensures taken { (result ≤ end) × (end ≤ result + 110) }
+    ensures written { drop result room.new ≡ codes " " ++ asked_text (codes "C") class.now ++ codes " " ++ asked_text (codes "I") iface.now ++ codes " " ++ hresult_text version hr ++ drop end room.old }
 {
-    text.push(b" made ")?;
-    text.letter_and_number(b"o", object)?;
-    text.push(b" ")?;
-    text.letter_and_number(b"a", apartment)?;
-    text.push(b" ")?;
-    text.class_or_interface(b"C", class)?;
-    text.push(b" ")?;
-    text.class_or_interface(b"I", iface)?;
-    text.hresult(version, hr)
+    let at = hresult(room, end, version, hr);
+    let at = class_or_interface(room, at, b'I', iface);
+    class_or_interface(room, at, b'C', class)
 }
 
-/// Appends for which interface an object was asked.
+/// For which interface an object was asked.
 pub fn query(
-    text: &mut Text,
+    room: &mut [u8],
+    end: usize,
     version: u8,
     object: Option<u32>,
     iface: &Asked,
     hr: HResult,
-) -> Result<(), Memory>
-    ensures front { text.new.front ≡ text.old.front }
-    ensures ok { OnOk result (text.new.text
-        ≡ deed_line version text.old.text (Deed.Query object iface.now hr)) }
+) -> usize
+    requires { (160 ≤ end) × (end ≤ length room.old) }
+    ensures taken { (result ≤ end) × (end ≤ result + 160) }
+    ensures written { drop result room.new ≡ deed_line version [] (Deed.Query object iface.now hr) ++ drop end room.old }
 {
-    text.push(b" query ")?;
-    text.letter_and_number(b"o", object)?;
-    text.push(b" ")?;
-    text.class_or_interface(b"I", iface)?;
-    text.hresult(version, hr)
+    let at = hresult(room, end, version, hr);
+    let at = class_or_interface(room, at, b'I', iface);
+    let at = letter_and_number(room, at, b"o", object);
+    word(room, at, b" query")
 }
 
-/// Appends which reference was copied. That never fails.
-pub fn copy(text: &mut Text, version: u8, held: Option<RefValue>) -> Result<(), Memory>
-    ensures front { text.new.front ≡ text.old.front }
-    ensures ok { OnOk result (text.new.text ≡ deed_line version text.old.text (Deed.Copy held)) }
+/// Which reference was copied. That never fails.
+pub fn copy(room: &mut [u8], end: usize, version: u8, held: Option<RefValue>) -> usize
+    requires { (160 ≤ end) × (end ≤ length room.old) }
+    ensures taken { (result ≤ end) × (end ≤ result + 160) }
+    ensures written { drop result room.new ≡ deed_line version [] (Deed.Copy held) ++ drop end room.old }
 {
-    text.push(b" copy ")?;
-    text.reference(held)?;
-    text.hresult(version, HResult::S_OK)
+    let at = hresult(room, end, version, HResult::S_OK);
+    let at = reference(room, at, held);
+    word(room, at, b" copy")
 }
 
-/// Appends which reference was given up.
-pub fn release(text: &mut Text, version: u8, held: Option<RefValue>) -> Result<(), Memory>
-    ensures front { text.new.front ≡ text.old.front }
-    ensures ok { OnOk result (text.new.text ≡ deed_line version text.old.text (Deed.Release held)) }
+/// Which reference was given up.
+pub fn release(room: &mut [u8], end: usize, held: Option<RefValue>) -> usize
+    requires { (160 ≤ end) × (end ≤ length room.old) }
+    ensures taken { (result ≤ end) × (end ≤ result + 160) }
+    ensures written { drop result room.new ≡ deed_line 1 [] (Deed.Release held) ++ drop end room.old }
 {
-    text.push(b" release ")?;
-    text.reference(held)
+    let at = reference(room, end, held);
+    word(room, at, b" release")
 }
 
-/// Appends how a reference was marshalled.
+/// Which reference was marshalled, and how.
 pub fn marshal(
-    text: &mut Text,
-    version: u8,
+    room: &mut [u8],
+    end: usize,
     packet: Option<u32>,
     mode: MarshalMode,
     held: Option<RefValue>,
-    refs: u32,
-    hr: HResult,
-    bytes: &Option<ByteList>,
-) -> Result<(), Memory>
-    ensures front { text.new.front ≡ text.old.front }
-    ensures ok { OnOk result (text.new.text ≡
-        deed_line version text.old.text (Deed.Marshal packet mode held refs hr bytes.now)) }
+) -> usize
+    requires { (90 ≤ end) × (end ≤ length room.old) }
+    ensures taken { (result ≤ end) × (end ≤ result + 90) }
+    ensures written { drop result room.new ≡ codes " marshal " ++ named (codes "pk") packet ++ codes " " ++ marshal_mode_text mode ++ codes " " ++ held_text held ++ drop end room.old }
 {
-    text.push(b" marshal ")?;
-    text.letter_and_number(b"pk", packet)?;
-    text.push(b" ")?;
-    push_marshal_mode(text, mode)?;
-    text.push(b" ")?;
-    text.reference(held)?;
-    text.word_and_number(b" ", refs as u64)?;
-    text.hresult(version, hr)?;
-    text.push(b" ")?;
-    text.bytes(bytes)
+    let at = reference(room, end, held);
+    let at = marshal_word(room, at, mode);
+    let at = letter_and_number(room, at, b"pk", packet);
+    word(room, at, b" marshal")
 }
 
-fn push_marshal_mode(text: &mut Text, mode: MarshalMode) -> Result<(), Memory>
-    ensures front { text.new.front ≡ text.old.front }
-    ensures ok { OnOk result (text.new.text ≡ text.old.text ++ marshal_mode_text mode) }
+/// What a reference was marshalled to.
+pub fn marshal_answer(
+    room: &mut [u8],
+    end: usize,
+    version: u8,
+    refs: u32,
+    hr: HResult,
+    packet: &Option<ByteList>,
+) -> usize
+    requires { (bytes_width packet.now + 60 ≤ end) × (end ≤ length room.old) }
+    ensures taken { (result ≤ end) × (end ≤ result + (bytes_width packet.now + 60)) }
+    ensures written { drop result room.new ≡ codes " " ++ decimal refs ++ codes " " ++ hresult_text version hr ++ codes " " ++ bytes_text packet.now ++ drop end room.old }
+{
+    let at = bytes(room, end, packet);
+    let at = hresult(room, at, version, hr);
+    word_and_number(room, at, b" ", refs as u64)
+}
+
+fn marshal_word(room: &mut [u8], end: usize, mode: MarshalMode) -> usize
+    requires { (7 ≤ end) × (end ≤ length room.old) }
+    ensures taken { (result ≤ end) × (end ≤ result + 7) }
+    ensures written { drop result room.new ≡ codes " " ++ marshal_mode_text mode ++ drop end room.old }
 {
     match mode {
-        MarshalMode::Normal => text.push(b"normal"),
-        MarshalMode::Strong => text.push(b"strong"),
-        MarshalMode::Weak => text.push(b"weak"),
+        MarshalMode::Normal => word(room, end, b" normal"),
+        MarshalMode::Strong => word(room, end, b" strong"),
+        MarshalMode::Weak => word(room, end, b" weak"),
     }
 }
 
-/// Appends how a packet was unmarshalled.
+/// How a packet was unmarshalled.
 pub fn unmarshal(
-    text: &mut Text,
+    room: &mut [u8],
+    end: usize,
     version: u8,
     packet: Option<u32>,
     held: Option<RefValue>,
     refs: u32,
     hr: HResult,
-) -> Result<(), Memory>
-    ensures front { text.new.front ≡ text.old.front }
-    ensures ok { OnOk result (text.new.text ≡
-        deed_line version text.old.text (Deed.Unmarshal packet held refs hr)) }
+) -> usize
+    requires { (160 ≤ end) × (end ≤ length room.old) }
+    ensures taken { (result ≤ end) × (end ≤ result + 160) }
+    ensures written { drop result room.new ≡ deed_line version [] (Deed.Unmarshal packet held refs hr) ++ drop end room.old }
 {
-    text.push(b" unmarshal ")?;
-    text.letter_and_number(b"pk", packet)?;
-    text.push(b" ")?;
-    text.reference(held)?;
-    text.word_and_number(b" ", refs as u64)?;
-    text.hresult(version, hr)
+    let at = hresult(room, end, version, hr);
+    let at = word_and_number(room, at, b" ", refs as u64);
+    let at = reference(room, at, held);
+    let at = letter_and_number(room, at, b"pk", packet);
+    word(room, at, b" unmarshal")
 }
 
-/// Appends that a packet was given up unread.
-pub fn drop_packet(
-    text: &mut Text,
-    version: u8,
-    packet: Option<u32>,
-    hr: HResult,
-) -> Result<(), Memory>
-    ensures front { text.new.front ≡ text.old.front }
-    ensures ok { OnOk result (text.new.text ≡ deed_line version text.old.text (Deed.DropPacket packet hr)) }
+/// Which packet was given up unread.
+pub fn dropped(room: &mut [u8], end: usize, version: u8, packet: Option<u32>, hr: HResult) -> usize
+    requires { (160 ≤ end) × (end ≤ length room.old) }
+    ensures taken { (result ≤ end) × (end ≤ result + 160) }
+    ensures written { drop result room.new ≡ deed_line version [] (Deed.DropPacket packet hr) ++ drop end room.old }
 {
-    text.push(b" drop ")?;
-    text.letter_and_number(b"pk", packet)?;
-    text.hresult(version, hr)
+    let at = hresult(room, end, version, hr);
+    let at = letter_and_number(room, at, b"pk", packet);
+    word(room, at, b" drop")
 }
 
-/// Appends how many bytes were put into a buffer.
-pub fn raw(text: &mut Text, version: u8, buffer: u8, length: u32) -> Result<(), Memory>
-    ensures front { text.new.front ≡ text.old.front }
-    ensures ok { OnOk result (text.new.text ≡ deed_line version text.old.text (Deed.Raw buffer length)) }
+/// How many bytes were put into a buffer.
+pub fn raw(room: &mut [u8], end: usize, buffer: u8, count: u32) -> usize
+    requires { (160 ≤ end) × (end ≤ length room.old) }
+    ensures taken { (result ≤ end) × (end ≤ result + 160) }
+    ensures written { drop result room.new ≡ deed_line 1 [] (Deed.Raw buffer count) ++ drop end room.old }
 {
-    text.word_and_number(b" raw p", buffer as u64)?;
-    text.word_and_number(b" ", length as u64)
+    let at = word_and_number(room, end, b" ", count as u64);
+    word_and_number(room, at, b" raw p", buffer as u64)
 }
 
-/// Appends under which cookie a reference was registered.
+/// Under which cookie a reference was registered.
 pub fn register(
-    text: &mut Text,
+    room: &mut [u8],
+    end: usize,
     version: u8,
     cookie: Option<u32>,
     held: Option<RefValue>,
     hr: HResult,
-) -> Result<(), Memory>
-    ensures front { text.new.front ≡ text.old.front }
-    ensures ok { OnOk result (text.new.text
-        ≡ deed_line version text.old.text (Deed.Register cookie held hr)) }
+) -> usize
+    requires { (160 ≤ end) × (end ≤ length room.old) }
+    ensures taken { (result ≤ end) × (end ≤ result + 160) }
+    ensures written { drop result room.new ≡ deed_line version [] (Deed.Register cookie held hr) ++ drop end room.old }
 {
-    text.push(b" register ")?;
-    text.letter_and_number(b"g", cookie)?;
-    text.push(b" ")?;
-    text.reference(held)?;
-    text.hresult(version, hr)
+    let at = hresult(room, end, version, hr);
+    let at = reference(room, at, held);
+    let at = letter_and_number(room, at, b"g", cookie);
+    word(room, at, b" register")
 }
 
-/// Appends which reference a cookie gave.
+/// Which reference a cookie gave.
 pub fn get(
-    text: &mut Text,
+    room: &mut [u8],
+    end: usize,
     version: u8,
     cookie: i64,
     held: Option<RefValue>,
     refs: u32,
     hr: HResult,
-) -> Result<(), Memory>
-    ensures front { text.new.front ≡ text.old.front }
-    ensures ok { OnOk result (text.new.text
-        ≡ deed_line version text.old.text (Deed.Get cookie held refs hr)) }
+) -> usize
+    requires { (160 ≤ end) × (end ≤ length room.old) }
+    ensures taken { (result ≤ end) × (end ≤ result + 160) }
+    ensures written { drop result room.new ≡ deed_line version [] (Deed.Get cookie held refs hr) ++ drop end room.old }
 {
-    text.signed_after(b" get ", cookie)?;
-    text.push(b" ")?;
-    text.reference(held)?;
-    text.word_and_number(b" ", refs as u64)?;
-    text.hresult(version, hr)
+    let at = hresult(room, end, version, hr);
+    let at = word_and_number(room, at, b" ", refs as u64);
+    let at = reference(room, at, held);
+    signed_after(room, at, b" get ", cookie)
 }
 
-/// Appends which cookie was revoked.
-pub fn revoke(text: &mut Text, version: u8, cookie: i64, hr: HResult) -> Result<(), Memory>
-    ensures front { text.new.front ≡ text.old.front }
-    ensures ok { OnOk result (text.new.text ≡ deed_line version text.old.text (Deed.Revoke cookie hr)) }
+/// Which cookie was revoked.
+pub fn revoke(room: &mut [u8], end: usize, version: u8, cookie: i64, hr: HResult) -> usize
+    requires { (160 ≤ end) × (end ≤ length room.old) }
+    ensures taken { (result ≤ end) × (end ≤ result + 160) }
+    ensures written { drop result room.new ≡ deed_line version [] (Deed.Revoke cookie hr) ++ drop end room.old }
 {
-    text.signed_after(b" revoke ", cookie)?;
-    text.hresult(version, hr)
+    let at = hresult(room, end, version, hr);
+    signed_after(room, at, b" revoke ", cookie)
 }
 
-/// Appends which object was disconnected.
-pub fn disconnect(
-    text: &mut Text,
-    version: u8,
-    object: Option<u32>,
-    hr: HResult,
-) -> Result<(), Memory>
-    ensures front { text.new.front ≡ text.old.front }
-    ensures ok { OnOk result (text.new.text ≡ deed_line version text.old.text (Deed.Disconnect object hr)) }
+/// Which object was disconnected.
+pub fn cut_off(room: &mut [u8], end: usize, version: u8, object: Option<u32>, hr: HResult) -> usize
+    requires { (160 ≤ end) × (end ≤ length room.old) }
+    ensures taken { (result ≤ end) × (end ≤ result + 160) }
+    ensures written { drop result room.new ≡ deed_line version [] (Deed.Disconnect object hr) ++ drop end room.old }
 {
-    text.push(b" disconnect ")?;
-    text.letter_and_number(b"o", object)?;
-    text.hresult(version, hr)
+    let at = hresult(room, end, version, hr);
+    let at = letter_and_number(room, at, b"o", object);
+    word(room, at, b" disconnect")
 }

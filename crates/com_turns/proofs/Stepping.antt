@@ -1,5 +1,6 @@
 -- Turns that are steps, and turns that rules give.
-use Rattle.std.proofs.Common.{◌≡◌, ℕ, Bool, true, false, cond, List, [], ◌∷◌, Option, Some, None, option_map, refl, ap, sym, ◌∙◌, subst}
+use Rattle.std.proofs.Common.{◌≡◌, ℕ, zero, suc, Bool, true, false, cond, ◌==◌, ◌≤◌, nat_le, List, [], ◌∷◌, Option, Some, None, option_map, refl, ap, sym, ◌∙◌, subst, arith}
+use Rattle.std.proofs.lemmas.Grind.{common_steps}
 use Rattle.com_body.specs.declared.actions.Action.{Action}
 use Rattle.com_body.specs.declared.frame.Outcome.{Outcome}
 use Rattle.com_refs_books.specs.Changes.{Books}
@@ -14,7 +15,7 @@ use Rattle.com_model.specs.Frames.{Actor, Body, Script, Nobody, actor, action_of
 use Rattle.com_model.specs.Lists.{or_else, where_true, first}
 use Rattle.com_model.specs.Rules.{after_script, is_script_turn, lane_next, rule_final, rule_script, ruled, scripted, stepped, top}
 use Rattle.com_model.specs.Sight.{Sight}
-use Rattle.com_model.specs.Tables.{LaneSort, Thread, lane_sort}
+use Rattle.com_model.specs.Tables.{LaneSort, Thread, Host, Pool, NoLane, host_lane, lane_sort, lanes, threads}
 use Rattle.com_model.specs.Openers.{is_body}
 use Rattle.com_rules.specs.Acts.{Issues, carried_by}
 use Rattle.com_rules.proofs.Chains.{none_first}
@@ -105,6 +106,30 @@ turns_in w b l e =
       closed = os;
       actor = ap (λ (x : LaneSort). actor x l (openers_at w.lanes l)) z.0 ∙ ap (λ (xs : List Opener). actor Thread l xs) os;
     }
+
+-- A thread's lane is one of the scenario's threads.
+thread_is : (s : Scenario) (l : ℕ) (t : Bool) (x : LaneSort) → (x ≡ Thread → ⊥) → cond t Thread x ≡ Thread → t ≡ true
+thread_is s l true x h e = refl
+thread_is s l false x h e = absurd (h e)
+
+lane_zero : (s : Scenario) (t : Bool) (x : LaneSort) → cond t NoLane x ≡ Thread → (t ≡ false) × (x ≡ Thread)
+lane_zero s true x e = absurd cc
+lane_zero s false x e = (refl, e)
+
+no_thread : (s : Scenario) (l : ℕ) → cond (l == host_lane s) Host (cond (nat_le l (lanes s)) Pool NoLane) ≡ Thread → ⊥
+no_thread s l e = elim (l == host_lane s) as (λ t. cond t Host (cond (nat_le l (lanes s)) Pool NoLane) ≡ Thread → ⊥) [
+  | true ↦ λ f. cc
+  | false ↦ elim (nat_le l (lanes s)) as (λ t. cond t Pool NoLane ≡ Thread → ⊥) [ true ↦ λ f. cc | false ↦ λ f. cc ]
+] e
+
+pub thread_above : (s : Scenario) (l : ℕ) → lane_sort s l ≡ Thread → 1 ≤ l
+thread_above s zero e = absurd cc
+thread_above s (suc l) e = omega arith
+
+pub thread_below : (s : Scenario) (l : ℕ) → lane_sort s l ≡ Thread → l ≤ threads s
+thread_below s l e =
+    let in_threads : nat_le l (threads s) ≡ true = thread_is s l (nat_le l (threads s)) _ (no_thread s l) (lane_zero s (l == 0) _ e).1 in
+    grind (arith, common_steps, in_threads)
 
 acts_as : (w : Seen) (l : ℕ) (a : Actor) → actor_seen w l ≡ a
     → unless_over (actor_seen w l) (outcome_seen w (actor_seen w l)) ≡ unless_over a (outcome_seen w a)

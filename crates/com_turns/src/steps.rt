@@ -1,6 +1,7 @@
 //! The step of whoever acts in a lane.
 
-ghost use Rattle.std.specs.Prelude.{◌≡◌, None, OnOk, Some, map};
+ghost use Rattle.std.specs.Prelude.{◌≡◌, ◌≤◌, None, OnOk, Some, map};
+ghost use Rattle.com_model.specs.Tables.{threads};
 ghost use Rattle.com_servant.specs.Rows.{one_served, row};
 ghost use Rattle.com_servant.specs.Steps.{native_at};
 ghost use Rattle.com_state.specs.Parts.{class_at};
@@ -14,12 +15,6 @@ use com_scene::Actor;
 use com_servant::{Servant, serve};
 use com_view::View;
 use std::alloc::Global;
-
-/// The answer where the parts are none that the rules give: a lane without script, or numbers beyond their
-/// ranges. No core comes to such parts; that is not proved.
-pub fn unproved_fact() -> Memory {
-    Memory
-}
 
 /// Puts the next step of the body of a call, on an object, in `step`, by the servant of its class's kind,
 /// which has made one more then. The only error is want of memory, and then `step` stays empty.
@@ -47,7 +42,7 @@ pub fn body_step(
     Ok(())
 }
 
-/// Puts the next step of the script of a lane in `step`. The only error is want of memory.
+/// Puts the next step of the script of a thread's lane in `step`. The only error is want of memory.
 pub fn script_step(
     view: &View<'_>,
     alloc: Global,
@@ -55,20 +50,19 @@ pub fn script_step(
     step: &mut Option<Outcome>,
 ) -> Result<(), Memory>
     requires none { step.old ≡ None }
+    requires above { 1 ≤ lane }
+    requires below { lane ≤ threads view.now.scenario }
     ensures whole { IsWhole step.new }
     ensures outcome { OnOk result (step.new ≡ Some (script_seen view.now lane)) }
 {
-    if lane == 0 {
-        return Err(unproved_fact());
-    }
     let Some(body) = view.scenario.threads.as_slice().get(lane as usize - 1) else {
-        return Err(unproved_fact());
+        unreachable!()
     };
     match step_of(alloc, view.scene, Actor::Script { lane }, body)? {
         Some(outcome) => {
             *step = Some(outcome);
             Ok(())
         }
-        None => Err(unproved_fact()),
+        None => unreachable!(),
     }
 }

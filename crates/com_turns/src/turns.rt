@@ -17,7 +17,7 @@ ghost use Rattle.com_state.specs.Parts.{openers_at};
 ghost use Rattle.com_turns.specs.Turns.{IsNext, IsTurn, Steps, body_seen, deed_made, kind_seen};
 ghost use Rattle.com_view.specs.Seen.{bare, sight_by};
 
-use crate::steps::{body_step, script_step, unproved_fact};
+use crate::steps::{body_step, script_step};
 use com_base::{Memory, Rows};
 use com_body::{Action, Outcome};
 use com_model::{Deed, Opener};
@@ -35,6 +35,12 @@ pub struct Turn {
     pub acting: Actor,
     /// The entry, and what goes with it.
     pub doing: Doing,
+}
+
+// The answer where a step's action or the numbers of its entry are beyond their ranges. No core comes to such
+// parts; that is not proved.
+fn unproved_fact() -> Memory {
+    Memory
 }
 
 // An entry that is nobody's step.
@@ -127,9 +133,7 @@ fn own_step<B: Found>(
     ensures turn { IfOk result (λ made. IsTurn view.now (B.books books.now) lane step.new made) }
 {
     script_step(view, alloc, lane, step)?;
-    let Some(outcome) = step else {
-        return Err(unproved_fact());
-    };
+    let Some(outcome) = step else { unreachable!() };
     if is_leave(&outcome.action) {
         *step = None;
         return Ok(by_rule(alloc, script_over(view, lane)));
@@ -210,12 +214,13 @@ pub fn given_turn<B: Found>(
     outcome: &Outcome,
 ) -> Result<Turn, Memory>
     requires stas { length view.now.lanes.stas + 4 ≤ 2 ^ 32 }
+    requires body { is_body (top (bare view.now) lane) ≡ true }
     requires step { (c o a : ℕ) → first (openers_at view.now.lanes lane) ≡ Some (Enters c o a)
         → outcome.now ≡ body_seen view.now c o }
     ensures turn { IfOk result (λ made. IsTurn view.now (B.books books.now) lane (Some outcome.now) made) }
 {
     let Some(Opener::Enters { call, object, .. }) = view.lanes.top(lane) else {
-        return Err(unproved_fact());
+        unreachable!()
     };
     let doing = doing_of(view, books, alloc, lane, &outcome.action)?;
     Ok(Turn {
@@ -237,6 +242,7 @@ fn body_turn<B: Found>(
 ) -> Result<Option<Turn>, Memory>
     requires none { step.old ≡ None }
     requires stas { length view.now.lanes.stas + 4 ≤ 2 ^ 32 }
+    requires body { is_body (top (bare view.now) lane) ≡ true }
     requires bodies { BodiesWhole view.now.scene }
     requires row { map kind_of servants.old.items ≡ row }
     ensures whole { IsWhole step.new }
@@ -249,12 +255,10 @@ fn body_turn<B: Found>(
         ≡ one_served (kind_seen view.now lane) (map stepped servants.old.items)) }
 {
     let Some(Opener::Enters { call, object, .. }) = view.lanes.top(lane) else {
-        return Err(unproved_fact());
+        unreachable!()
     };
     body_step(view, alloc, call, object, servants, step)?;
-    let Some(outcome) = step else {
-        return Err(unproved_fact());
-    };
+    let Some(outcome) = step else { unreachable!() };
     let turn = step_turn(
         view,
         books,

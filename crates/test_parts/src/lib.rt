@@ -5,7 +5,11 @@
 #![tactic(auto)]
 
 #[cfg(test)]
+mod apartments;
+#[cfg(test)]
 mod identifiers;
+#[cfg(test)]
+mod loads;
 #[cfg(test)]
 mod messages;
 #[cfg(test)]

@@ -1,12 +1,25 @@
-use Rattle.std.proofs.Common.{[], ◌∷◌, refl, ap, ◌∙◌}
-use Rattle.com_refs_holders.specs.Tables.{books_of, owns_of}
+use Rattle.std.proofs.Common.{[], ◌∷◌, refl, sym, ap, ◌∙◌}
+use Rattle.com_refs_holders.specs.Steps.{among}
+use Rattle.com_refs_holders.specs.Tables.{books_of, offers, owns_of}
 use Rattle.com_model.specs.Tables.{has_agile_model}
+use Rattle.com_refs_rows.proofs.Fitting.{among_making, made_offered}
 use Rattle.com_refs_rows.proofs.Makings.{made_books, made_counts}
 use Rattle.com_refs_rows.specs.Books.{moved_to}
 use Rattle.com_refs_rows.specs.Moving.{plus}
 use Rattle.com_refs_rows.proofs.Owning.{grown_one}
 use Rattle.com_refs_rows.proofs.Unholding.{made-more}
 use Rattle.com_refs_rows.proofs.making.make.Goals as goal
+
+pub made-requires-clause-within : goal.made-requires-clause-within
+made-requires-clause-within c =
+    among_making c.args.classes.now c.args.class c.args.held.iface c.in-Some.class.now c.as_slice-2.result.now (sym c.in-Some.ensures) (c.as_slice-2.ensures.value ∙ c.in_ok-fill_set.ensures) c.requires.offered
+
+pub returns-clause-offered : goal.returns-clause-offered
+returns-clause-offered c =
+    let held = c.args.held in
+    c.in_ok-made.ensures.offers held.object held.iface
+    ∙ made_offered (offers c.args.refs.now held.object held.iface) held.object (among held.iface c.as_slice-2.result.now)
+    (among_making c.args.classes.now c.args.class held.iface c.in-Some.class.now c.as_slice-2.result.now (sym c.in-Some.ensures) (c.as_slice-2.ensures.value ∙ c.in_ok-fill_set.ensures) c.requires.offered)
 
 pub returns-clause-made : goal.returns-clause-made
 returns-clause-made c =

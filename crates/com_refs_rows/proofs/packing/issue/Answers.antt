@@ -8,7 +8,7 @@ use Rattle.com_refs_rows.proofs.packing.issue.Goals as goal
 
 pub returns-clause-books : goal.returns-clause-books
 returns-clause-books c =
-    let number : c.args.call ≡ length c.args.calls.now + 1 = omega (arith, c.len-2.ensures) in
+    let number : c.args.call ≡ length c.args.calls.now + 1 = omega (arith, c.len.ensures) in
     let first = c.pack-first.result.0 in
     let count = c.pack-first.result.1 in
     ap (λ calls. books_with c.pack-first.new.refs calls) (c.set_last.ensures c.args.calls.now c.in_ok-push.ensures.ok)

@@ -1,7 +1,15 @@
 use Rattle.std.proofs.Common.{◌≡◌, sym, ◌∙◌}
 use Rattle.com_turns.specs.Turns.{script_seen}
-use Rattle.com_turns.proofs.Stepping.{over_rules, rule_turn, script_steps, step_next, taken_is, turns_in}
+use Rattle.com_turns.proofs.Stepping.{over_rules, rule_turn, script_steps, step_next, taken_is, thread_above, thread_below, turns_in}
 use Rattle.com_turns.proofs.turns.own_step.Goals as goal
+
+pub script_step-requires-clause-above : goal.script_step-requires-clause-above
+script_step-requires-clause-above g c =
+    thread_above c.args.view.now.scenario c.args.lane (turns_in c.args.view.now (g.B.References.books c.args.books.now) c.args.lane c.requires.script).thread
+
+pub script_step-requires-clause-below : goal.script_step-requires-clause-below
+script_step-requires-clause-below g c =
+    thread_below c.args.view.now.scenario c.args.lane (turns_in c.args.view.now (g.B.References.books c.args.books.now) c.args.lane c.requires.script).thread
 
 pub step_turn-requires-clause-steps : goal.step_turn-requires-clause-steps
 step_turn-requires-clause-steps g c =

@@ -12,6 +12,7 @@ use Rattle.com_scene.specs.Actors.{acting_of}
 use Rattle.com_scene.specs.Kept.{HasSlots}
 use Rattle.com_refs_rows.specs.Books.{Held}
 use Rattle.com_refs_rows.specs.Entries.{Around, around, most_left}
+use Rattle.com_refs_rows.specs.Fits.{FitsBooks}
 use Rattle.com_core.specs.Changes.{Becomes, Settles, sent_by}
 use Rattle.com_core.specs.Making.{Booked}
 use Rattle.com_core.specs.Shown.{parts_shown}
@@ -98,6 +99,10 @@ returns-clause-fallen c =
     (ap (λ (f : DyingList). f.objects) (c.finish_parts.ensures.fallen ∙ c.book.ensures.fallen ∙ c.begin_parts.ensures.fallen) ∙ c.prepare.ensures.fallen) c.settle.ensures.fallen
 
 -- ---- the books
+
+pub book-requires-clause-fits : goal.book-requires-clause-fits
+book-requires-clause-fits c =
+    subst (λ (h : Held). FitsBooks c.args.scenario.now.classes h.tables.cookies h.tables.stubs c.args.entry.now.deed) (sym (c.begin_parts.ensures.ledger ∙ c.prepare.ensures.ledger)) c.requires.fits
 
 pub returns-clause-booked : goal.returns-clause-booked
 returns-clause-booked c =

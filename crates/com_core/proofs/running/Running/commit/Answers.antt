@@ -4,7 +4,7 @@ use Rattle.std.specs.Prelude.{true, false}
 use Rattle.com_runtime.specs.Jobs.{kept_in}
 use Rattle.com_core.specs.Seen.{kept_of, core_state}
 use Rattle.com_core.proofs.Whole.{body_whole}
-use Rattle.com_core.proofs.Worked.{given_step, given_whole, kept_same, unlike}
+use Rattle.com_core.proofs.Worked.{body_read, given_step, given_whole, kept_same, unlike}
 use Rattle.com_core.proofs.running.Running.commit.Goals as goal
 
 pub returns-then-not-same_cells-clause-refused : goal.returns-then-not-same_cells-clause-refused
@@ -24,6 +24,9 @@ pub returns-in-Err-clause-refused : goal.returns-in-Err-clause-refused
 returns-in-Err-clause-refused c =
     let y : c.same_cells.result ≡ true = cc (c.if-not-same_cells.false) in
     c.same_cells.ensures.0 y ∙ c.cells_of-kept.ensures ∙ kept_same c.args.scenario.now c.args.self.now c.args.lane
+
+pub take-requires-clause-body : goal.take-requires-clause-body
+take-requires-clause-body c = body_read c.args.scenario.now c.args.self.now c.args.lane c.requires.fits.body
 
 pub take-requires-clause-step : goal.take-requires-clause-step
 take-requires-clause-step c =

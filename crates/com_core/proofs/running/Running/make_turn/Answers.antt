@@ -1,13 +1,21 @@
 -- The entry of a turn is the next one of its lane, and all has changed by it.
-use Rattle.std.proofs.Common.{List, subst}
+use Rattle.std.proofs.Common.{List, refl, subst}
 use Rattle.com_base.specs.declared.value.RefValue.{RefValue}
 use Rattle.com_scene.specs.Actors.{acting_of}
 use Rattle.com_refs_rows.specs.Books.{books_held}
+use Rattle.com_core.proofs.Fitting.{next_fits}
+use Rattle.com_view.specs.Seen.{sight_by}
 use Rattle.com_core.specs.Changes.{sent_by}
 use Rattle.com_core.specs.Making.{Changed}
-use Rattle.com_core.specs.Stands.{state_read}
+use Rattle.com_core.specs.Stands.{seen_by, state_read}
 use Rattle.com_core.proofs.Turned.{next_made}
 use Rattle.com_core.proofs.running.Running.make_turn.Goals as goal
+
+pub make-requires-clause-fits : goal.make-requires-clause-fits
+make-requires-clause-fits c =
+    let s = c.args.scenario.now in
+    let v = c.args.self.now in
+    next_fits s (sight_by (seen_by s v.parts v.fallen.objects v.clock) (books_held v.ledger)) v.ledger refl c.args.lane c.args.made.doing.deed c.requires.turn.next
 
 pub returns-clause-next : goal.returns-clause-next
 returns-clause-next c =

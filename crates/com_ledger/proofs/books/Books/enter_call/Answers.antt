@@ -1,5 +1,4 @@
 use Rattle.std.proofs.Common.{◌≡◌, arith, Bool, cond, not, [], refl, sym, subst, ap, ◌∙◌}
-use Rattle.std.proofs.lemmas.Result.{on_ok_weaker}
 use Rattle.com_model.specs.declared.deeds.Deed.{Deed}
 use Rattle.com_model.specs.declared.deeds.Deed.TheVariants as deed
 use Rattle.com_refs_rows.specs.declared.calls.CallPackets.{CallPackets}
@@ -34,11 +33,10 @@ returns-then-not-is_left-clause-gives c = λ other.
     (gives_later (around c.args.context.calls.now.tables c.args.context.objects.now.tables c.args.context.classes.now c.args.context.carried.now c.args.apartment) (deed.Back c.in-Back.call c.in-Back.hr c.in-Back.value) c.args.self.now.refs c.args.self.now.calls c.args.self.now.brought.items (ap (λ (w : Bool). not w) (sym c.is_left.ensures ∙ c.if-not-is_left.true)) (λ l. refl))
 
 pub returns-else-not-is_left-clause-gives : goal.returns-else-not-is_left-clause-gives
-returns-else-not-is_left-clause-gives c = on_ok_weaker c.enter_back.result (λ f. λ other.
+returns-else-not-is_left-clause-gives c = λ other.
     subst (λ (d : Deed). Gives (around c.args.context.calls.now.tables c.args.context.objects.now.tables c.args.context.classes.now c.args.context.carried.now c.args.apartment) d (tally c.args.self.now.refs c.args.self.now.calls) c.args.self.now.brought.items (tally c.enter_back.new.refs c.args.self.now.calls) c.enter_back.new.brought.items) (sym c.in-Back.is)
     (gives_back (around c.args.context.calls.now.tables c.args.context.objects.now.tables c.args.context.classes.now c.args.context.carried.now c.args.apartment) c.in-Back.call c.in-Back.hr c.in-Back.value c.args.self.now.refs c.enter_back.new.refs c.args.self.now.calls c.get-number.result.result c.args.self.now.brought.items c.enter_back.new.brought.items
-    (ap (λ (r : CallPackets). r.result) c.get-number.ensures.row) (sym c.is_left.ensures ∙ c.if-not-is_left.false) f))
-    c.enter_back.ensures.row
+    (ap (λ (r : CallPackets). r.result) c.get-number.ensures.row) (sym c.is_left.ensures ∙ c.if-not-is_left.false) c.enter_back.ensures.row)
 
 pub returns-in_default-clause-gives : goal.returns-in_default-clause-gives
 returns-in_default-clause-gives c = λ other. gives_other (around c.args.context.calls.now.tables c.args.context.objects.now.tables c.args.context.classes.now c.args.context.carried.now c.args.apartment) c.args.deed.now c.args.self.now.refs c.args.self.now.calls c.args.self.now.brought.items other c.in_default.not-Out c.in_default.not-Enter c.in_default.not-Leave c.in_default.not-Back
@@ -83,4 +81,4 @@ pub returns-in-Enter-clause-offers : goal.returns-in-Enter-clause-offers
 returns-in-Enter-clause-offers c = λ x j e. c.read_all.ensures.offers x j ∙ e
 
 pub returns-else-not-is_left-clause-offers : goal.returns-else-not-is_left-clause-offers
-returns-else-not-is_left-clause-offers c = on_ok c.enter_back.result (λ x j e. c.enter_back.ensures.offers x j ∙ e)
+returns-else-not-is_left-clause-offers c = λ x j e. c.enter_back.ensures.offers x j ∙ e

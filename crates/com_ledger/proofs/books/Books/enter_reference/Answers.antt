@@ -27,10 +27,9 @@ returns-in-Marshal-clause-gives c = on_ok_weaker c.enter_marshal.result (λ m.
     c.enter_marshal.ensures.row
 
 pub returns-in-Unmarshal-clause-gives : goal.returns-in-Unmarshal-clause-gives
-returns-in-Unmarshal-clause-gives c = on_ok_weaker c.enter_unmarshal.result (λ m.
+returns-in-Unmarshal-clause-gives c =
     subst (λ (d : Deed). Gives (around c.args.context.calls.now.tables c.args.context.objects.now.tables c.args.context.classes.now c.args.context.carried.now c.args.apartment) d (tally c.args.self.now.refs c.args.self.now.calls) c.args.self.now.brought.items (tally c.enter_unmarshal.new.refs c.args.self.now.calls) c.enter_unmarshal.new.brought.items) (sym c.in-Unmarshal.is)
-    (gives_unmarshal (around c.args.context.calls.now.tables c.args.context.objects.now.tables c.args.context.classes.now c.args.context.carried.now c.args.apartment) c.in-Unmarshal.packet _ _ _ c.args.self.now.refs c.enter_unmarshal.new.refs c.args.self.now.calls c.args.self.now.brought.items c.enter_unmarshal.new.brought.items (m _ _ _)))
-    c.enter_unmarshal.ensures.row
+    (gives_unmarshal (around c.args.context.calls.now.tables c.args.context.objects.now.tables c.args.context.classes.now c.args.context.carried.now c.args.apartment) c.in-Unmarshal.packet _ _ _ c.args.self.now.refs c.enter_unmarshal.new.refs c.args.self.now.calls c.args.self.now.brought.items c.enter_unmarshal.new.brought.items (c.enter_unmarshal.ensures.row _ _ _))
 
 pub returns-in-Register-clause-gives : goal.returns-in-Register-clause-gives
 returns-in-Register-clause-gives c = on_ok_weaker c.enter_register.result (λ m.
@@ -39,10 +38,9 @@ returns-in-Register-clause-gives c = on_ok_weaker c.enter_register.result (λ m.
     c.enter_register.ensures.row
 
 pub returns-in-Get-clause-gives : goal.returns-in-Get-clause-gives
-returns-in-Get-clause-gives c = on_ok_weaker c.enter_get.result (λ m.
+returns-in-Get-clause-gives c =
     subst (λ (d : Deed). Gives (around c.args.context.calls.now.tables c.args.context.objects.now.tables c.args.context.classes.now c.args.context.carried.now c.args.apartment) d (tally c.args.self.now.refs c.args.self.now.calls) c.args.self.now.brought.items (tally c.enter_get.new.refs c.args.self.now.calls) c.enter_get.new.brought.items) (sym c.in-Get.is)
-    (gives_get (around c.args.context.calls.now.tables c.args.context.objects.now.tables c.args.context.classes.now c.args.context.carried.now c.args.apartment) c.in-Get.cookie c.in-Get.held _ _ c.args.self.now.refs c.enter_get.new.refs c.args.self.now.calls c.args.self.now.brought.items c.enter_get.new.brought.items (m _ _)))
-    c.enter_get.ensures.row
+    (gives_get (around c.args.context.calls.now.tables c.args.context.objects.now.tables c.args.context.classes.now c.args.context.carried.now c.args.apartment) c.in-Get.cookie c.in-Get.held _ _ c.args.self.now.refs c.enter_get.new.refs c.args.self.now.calls c.args.self.now.brought.items c.enter_get.new.brought.items (c.enter_get.ensures.row _ _))
 
 pub returns-in_default-clause-gives : goal.returns-in_default-clause-gives
 returns-in_default-clause-gives c = on_ok_weaker c.enter_call.result (λ m. m (not_of_reference c.args.deed.now c.in_default.not-Made c.in_default.not-Query c.in_default.not-Marshal c.in_default.not-Unmarshal c.in_default.not-Register c.in_default.not-Get)) c.enter_call.ensures.gives
@@ -59,13 +57,13 @@ pub returns-in-Marshal-clause-more : goal.returns-in-Marshal-clause-more
 returns-in-Marshal-clause-more c = on_ok_weaker c.enter_marshal.result (λ more. λ n places low made counts. more) c.enter_marshal.ensures.more
 
 pub returns-in-Unmarshal-clause-more : goal.returns-in-Unmarshal-clause-more
-returns-in-Unmarshal-clause-more c = on_ok_weaker c.enter_unmarshal.result (λ more. λ n places low made counts. more) c.enter_unmarshal.ensures.more
+returns-in-Unmarshal-clause-more c = λ n places low made counts. c.enter_unmarshal.ensures.more
 
 pub returns-in-Register-clause-more : goal.returns-in-Register-clause-more
 returns-in-Register-clause-more c = on_ok_weaker c.enter_register.result (λ more. λ n places low made counts. more) c.enter_register.ensures.more
 
 pub returns-in-Get-clause-more : goal.returns-in-Get-clause-more
-returns-in-Get-clause-more c = on_ok_weaker c.enter_get.result (λ more. λ n places low made counts. more) c.enter_get.ensures.more
+returns-in-Get-clause-more c = λ n places low made counts. c.enter_get.ensures.more
 
 pub returns-in_default-clause-more : goal.returns-in_default-clause-more
 returns-in_default-clause-more c = on_ok_weaker c.enter_call.result (λ more. λ n places low made counts. more) c.enter_call.ensures.more
@@ -83,16 +81,16 @@ returns-in-Marshal-clause-offers c = on_ok c.enter_marshal.result
     (λ x j e. c.enter_marshal.ensures.offers x j ∙ or_left (offers c.args.self.now.refs x j) (is_made_by c.args.deed.now x j) e (ap (λ (d : Deed). is_made_by d x j) c.in-Marshal.is))
 
 pub returns-in-Unmarshal-clause-offers : goal.returns-in-Unmarshal-clause-offers
-returns-in-Unmarshal-clause-offers c = on_ok c.enter_unmarshal.result
-    (λ x j e. c.enter_unmarshal.ensures.offers x j ∙ or_left (offers c.args.self.now.refs x j) (is_made_by c.args.deed.now x j) e (ap (λ (d : Deed). is_made_by d x j) c.in-Unmarshal.is))
+returns-in-Unmarshal-clause-offers c = λ x j e.
+    c.enter_unmarshal.ensures.offers x j ∙ or_left (offers c.args.self.now.refs x j) (is_made_by c.args.deed.now x j) e (ap (λ (d : Deed). is_made_by d x j) c.in-Unmarshal.is)
 
 pub returns-in-Register-clause-offers : goal.returns-in-Register-clause-offers
 returns-in-Register-clause-offers c = on_ok c.enter_register.result
     (λ x j e. c.enter_register.ensures.offers x j ∙ or_left (offers c.args.self.now.refs x j) (is_made_by c.args.deed.now x j) e (ap (λ (d : Deed). is_made_by d x j) c.in-Register.is))
 
 pub returns-in-Get-clause-offers : goal.returns-in-Get-clause-offers
-returns-in-Get-clause-offers c = on_ok c.enter_get.result
-    (λ x j e. c.enter_get.ensures.offers x j ∙ or_left (offers c.args.self.now.refs x j) (is_made_by c.args.deed.now x j) e (ap (λ (d : Deed). is_made_by d x j) c.in-Get.is))
+returns-in-Get-clause-offers c = λ x j e.
+    c.enter_get.ensures.offers x j ∙ or_left (offers c.args.self.now.refs x j) (is_made_by c.args.deed.now x j) e (ap (λ (d : Deed). is_made_by d x j) c.in-Get.is)
 
 pub returns-in_default-clause-offers : goal.returns-in_default-clause-offers
 returns-in_default-clause-offers c = on_ok_weaker c.enter_call.result

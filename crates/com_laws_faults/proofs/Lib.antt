@@ -1,0 +1,17 @@
+pub mod Goes
+pub mod Words
+pub mod Statements
+pub mod Lines
+pub mod Sections
+pub mod Past
+pub mod Texts
+pub mod Out
+pub mod Pure
+pub mod At
+pub mod Told
+pub mod Ruled
+pub mod Open
+pub mod Kept
+pub mod Back
+pub mod Laws
+pub mod Bites

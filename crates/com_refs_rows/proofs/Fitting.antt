@@ -1,0 +1,104 @@
+-- What is known of the deed of an entry, for its row.
+use Rattle.std.proofs.Common.{◌≡◌, ℕ, zero, suc, Bool, true, false, eqb, ◌||◌, ◌&&◌, ◌<◌, ◌≤◌, List, [], ◌∷◌, length, refl, sym, subst, ◌∙◌, arith, eqb-true, inl, inr}
+use Rattle.std.proofs.lemmas.Bool.{cases_lt}
+use Rattle.std.proofs.lemmas.Grind.{common_steps}
+use Rattle.std.specs.List.{list_any}
+use Rattle.std.specs.Prelude.{Option, Some, None, slice_index_or}
+use Rattle.com_base.specs.declared.value.RefValue.{RefValue}
+use Rattle.com_body.specs.declared.operands.Asked.{Asked}
+use Rattle.com_body.specs.declared.operands.Asked.TheVariants as asked
+use Rattle.com_classes.specs.declared.classes.Class.{Class}
+use Rattle.com_classes.specs.Lookups.{class_at, class_has, has_interface}
+use Rattle.com_classes.specs.Tables.{Tables as ClassTables}
+use Rattle.com_refs_holders.specs.Steps.{among}
+use Rattle.com_scene.specs.Ranges.{HasInterface}
+use Rattle.com_slots.specs.Table.{held_in}
+use Rattle.com_refs_rows.specs.Fits.{IsMaking}
+
+-- ---- a making
+
+pub owned_making : (t : ClassTables) (object owner : Option ℕ) (k i : Asked) (o : ℕ) → object ≡ Some o → ((w : ℕ) → owner ≡ Some w → ⊥) → IsMaking t object owner k i → ⊥
+owned_making t None owner k i o e lacks h = cc
+owned_making t (Some x) None k i o e lacks h = h
+owned_making t (Some x) (Some w) k i o e lacks h = absurd (lacks w refl)
+
+pub class_making : (t : ClassTables) (object owner : Option ℕ) (k i : Asked) (o : ℕ) → object ≡ Some o → ((n : ℕ) → k ≡ asked.Number n → ⊥) → IsMaking t object owner k i → ⊥
+class_making t None owner k i o e lacks h = cc
+class_making t (Some x) None k i o e lacks h = h
+class_making t (Some x) (Some w) (asked.Guid g) i o e lacks h = h
+class_making t (Some x) (Some w) (asked.Number n) i o e lacks h = absurd (lacks n refl)
+
+pub iface_making : (t : ClassTables) (object owner : Option ℕ) (k i : Asked) (o : ℕ) → object ≡ Some o → ((n : ℕ) → i ≡ asked.Number n → ⊥) → IsMaking t object owner k i → ⊥
+iface_making t None owner k i o e lacks h = cc
+iface_making t (Some x) None k i o e lacks h = h
+iface_making t (Some x) (Some w) (asked.Guid g) i o e lacks h = h
+iface_making t (Some x) (Some w) (asked.Number n) (asked.Guid g) o e lacks h = h
+iface_making t (Some x) (Some w) (asked.Number n) (asked.Number j) o e lacks h = absurd (lacks j refl)
+
+offered_making : (t : ClassTables) (object owner : Option ℕ) (k i : Asked) (o w n j : ℕ) → object ≡ Some o → owner ≡ Some w → k ≡ asked.Number n → i ≡ asked.Number j → IsMaking t object owner k i → has_interface t n j ≡ true
+offered_making t object owner k i o w n j eo ew ek ei h =
+    let h1 : IsMaking t (Some o) owner k i = subst (λ (x : Option ℕ). IsMaking t x owner k i) eo h in
+    let h2 : IsMaking t (Some o) (Some w) k i = subst (λ (x : Option ℕ). IsMaking t (Some o) x k i) ew h1 in
+    let h3 : IsMaking t (Some o) (Some w) (asked.Number n) i = subst (λ (x : Asked). IsMaking t (Some o) (Some w) x i) ek h2 in
+    subst (λ (x : Asked). IsMaking t (Some o) (Some w) (asked.Number n) x) ei h3
+
+pub making_offered : (t : ClassTables) (object owner : Option ℕ) (k i : Asked) (o w n j : ℕ) (held : RefValue) → object ≡ Some o → owner ≡ Some w → k ≡ asked.Number n → i ≡ asked.Number j → IsMaking t object owner k i → held ≡ record { object = o; iface = j } → has_interface t n held.iface ≡ true
+making_offered t object owner k i o w n j held eo ew ek ei h e =
+    subst (λ (r : RefValue). has_interface t n r.iface ≡ true) (sym e) (offered_making t object owner k i o w n j eo ew ek ei h)
+
+pub small_interface : (object : Option ℕ) (i : Asked) (o j : ℕ) → object ≡ Some o → i ≡ asked.Number j → HasInterface object i → j < 65536
+small_interface object i o j eo ei h =
+    let h1 : HasInterface (Some o) i = subst (λ (x : Option ℕ). HasInterface x i) eo h in
+    subst (λ (x : Asked). HasInterface (Some o) x) ei h1
+
+no_class : (t : ClassTables) (x : Option Class) (i : ℕ) → x ≡ None → elim x [ None ↦ false | Some c ↦ class_has c i ] ≡ true → ⊥
+no_class t None i e h = cc
+no_class t (Some c) i e h = cc
+
+pub declared_making : (t : ClassTables) (k i : ℕ) → class_at t k ≡ None → has_interface t k i ≡ true → ⊥
+declared_making t k i e h = no_class t (class_at t k) i e h
+
+among_listed : (i : ℕ) (xs : List ℕ) → list_any (λ listed. eqb i listed) xs ≡ true → among i xs ≡ true
+among_listed i [] h = cc
+among_listed i (x ∷ xs) h = elim (eqb i x) as (λ b. eqb i x ≡ b → (b || list_any (λ listed. eqb i listed) xs) ≡ true → (eqb x i || among i xs) ≡ true) [
+  | true ↦ λ e g. let same : i ≡ x = eqb-true i x e in grind (arith, common_steps, same)
+  | false ↦ λ e g. let later : among i xs ≡ true = among_listed i xs g in grind (arith, common_steps, later)
+] refl h
+
+has_among : (c : Class) (i : ℕ) → class_has c i ≡ true → among i (0 ∷ c.interfaces) ≡ true
+has_among c i h = elim (eqb i 0) as (λ b. eqb i 0 ≡ b → (b || list_any (λ listed. eqb i listed) c.interfaces) ≡ true → among i (0 ∷ c.interfaces) ≡ true) [
+  | true ↦ λ e g. let same : i ≡ 0 = eqb-true i 0 e in grind (arith, common_steps, same)
+  | false ↦ λ e g. let later : among i c.interfaces ≡ true = among_listed i c.interfaces g in grind (arith, common_steps, later)
+] refl h
+
+offered_in : (x : Option Class) (c : Class) (i : ℕ) → x ≡ Some c → elim x [ None ↦ false | Some d ↦ class_has d i ] ≡ true → class_has c i ≡ true
+offered_in None c i e h = cc
+offered_in (Some d) c i e h = let same : d ≡ c = cc in subst (λ (y : Class). class_has y i ≡ true) same h
+
+pub among_making : (t : ClassTables) (k i : ℕ) (c : Class) (set : List ℕ) → class_at t k ≡ Some c → set ≡ 0 ∷ c.interfaces → has_interface t k i ≡ true → among i set ≡ true
+among_making t k i c set e s h = subst (λ (l : List ℕ). among i l ≡ true) (sym s) (has_among c i (offered_in (class_at t k) c i e h))
+
+pub made_offered : (b : Bool) (o : ℕ) (m : Bool) → m ≡ true → (b || (eqb o o && m)) ≡ true
+made_offered true o m e = refl
+made_offered false o m e = grind (arith, common_steps, e)
+
+-- ---- what a cookie stands for
+
+past_entries : (entries : List (Option RefValue)) (k : ℕ) → length entries ≤ k → slice_index_or entries k None ≡ None
+past_entries [] k h = refl
+past_entries (x ∷ xs) zero h = absurd (omega (arith, h))
+past_entries (x ∷ xs) (suc k) h = past_entries xs k (omega (arith, h))
+
+past_held : (entries : List (Option RefValue)) (n : ℕ) → length entries < n → held_in entries n ≡ None
+past_held entries zero h = refl
+past_held entries (suc k) h = past_entries entries k (omega (arith, h))
+
+-- A number that stands for something has 32 bits.
+pub held_at : (entries : List (Option RefValue)) (m n k : ℕ) (r : RefValue) → length entries < m → (n < m → k ≡ n) → held_in entries n ≡ Some r → held_in entries k ≡ Some r
+held_at entries m n k r few within h = elim (cases_lt n m) [
+  | inl l ↦ subst (λ (j : ℕ). held_in entries j ≡ Some r) (sym (within l)) h
+  | inr l ↦ let none : held_in entries n ≡ None = past_held entries n (omega (arith, few, l)) in absurd cc
+]
+
+pub same_held : (entries : List (Option RefValue)) (k : ℕ) (x y : RefValue) → held_in entries k ≡ Some x → held_in entries k ≡ Some y → x ≡ y
+same_held entries k x y e f = let g : Some x ≡ Some y = sym e ∙ f in cc
