@@ -39,11 +39,13 @@ fn begins_plain(byte: u8) -> bool
 fn is_end(text: &[u8], at: usize) -> bool
     ensures { result ≡ is_end text.now at }
 {
-    at >= text.len()
-        || matches!(
-            class_of(text[at], byte_at(text, at + 1)),
-            Class::LineEnd | Class::Blank
-        )
+    if at >= text.len() || text[at] == b' ' {
+        return true;
+    }
+    matches!(
+        class_of(text[at], byte_at(text, at + 1)),
+        Class::LineEnd | Class::Blank
+    )
 }
 
 // The index behind the spaces from an index on.
