@@ -8,6 +8,8 @@ ghost use Rattle.com_read_operands.specs.Operands.{IsOperand, small_of, lettered
 ghost use Rattle.com_read_operands.specs.Operands.{inner, operand_of, unfit, text_literal, bytes_literal};
 ghost use Rattle.com_read_operands.specs.Operands.{hex_word_of, hex_on, register_at, slot_at, cell_at};
 ghost use Rattle.com_read_operands.specs.Operands.{buffer_at, place_at, literal_of, op_at, hresult_of};
+ghost use Rattle.com_read_operands.specs.Literals.{guid_of};
+ghost use Rattle.com_read_operands.specs.Operands.{braced};
 ghost use Rattle.com_read_operands.specs.Operands.{begins_hex, code_at, given_at, mode_at, marshal_mode_at};
 
 use crate::faults::{Fault, ScenarioError};
@@ -100,6 +102,18 @@ fn numeric_of(bytes: &[u8]) -> Operand
     }
 }
 
+// A word that begins with a brace. It stands apart, so that other words take no room for a GUID.
+#[inline(never)]
+fn braced_of(bytes: &[u8]) -> Operand
+    ensures value { result ≡ braced (guid_of bytes.now) }
+    ensures range { IsOperand result }
+{
+    match guid_of(bytes) {
+        None => Operand::Wrong(Fault::GUID),
+        Some(guid) => Operand::Guid(guid),
+    }
+}
+
 // A word that is no literal in quotation marks.
 #[tactic(auto, unfolding(crate::specs::Operands::plain_of))]
 fn plain_of(bytes: &[u8]) -> Operand
@@ -117,10 +131,7 @@ fn plain_of(bytes: &[u8]) -> Operand
     }
     match bytes {
         [] => Operand::Wrong(Fault::UNEXPECTED),
-        [b'{', ..] => match guid_of(bytes) {
-            None => Operand::Wrong(Fault::GUID),
-            Some(guid) => Operand::Guid(guid),
-        },
+        [b'{', ..] => braced_of(bytes),
         [b'-', second, ..] if second.is_ascii_digit() => numeric_of(bytes),
         [first, rest @ ..] => {
             if first.is_ascii_digit() {

@@ -4,3 +4,4 @@ pub mod Tokens
 pub mod Cutting
 pub mod Sorts
 pub mod Kept
+pub mod Runs

@@ -7,12 +7,14 @@
 //! directly behind the mark that closes it begins the next word.
 #![tactic(auto)]
 
+mod line;
 mod scan;
 mod stray;
 mod token;
 mod word;
 
-pub use scan::{Class, LineEnd, Scanner, Within, line_at};
+pub use line::{Piece, line_at};
+pub use scan::{Class, LineEnd, Scanner, Within};
 pub use std::alloc::AllocError as Memory;
 pub use token::{TEXT_LIMIT, TextError, Token, TokenSort, tokens};
 pub use word::{Kind, Sort, Word, is_over};

@@ -5,9 +5,10 @@ ghost use Rattle.std.specs.Prelude.{OnOk, IfOk, length, slice_index, drop};
 ghost use Rattle.com_text.specs.declared.scan.Class.TheVariants.{LineEnd as EndsLine};
 ghost use Rattle.com_text.specs.Kept.{IsKept, kind_of, word_to};
 ghost use Rattle.com_text.specs.Scanning.{class_of, seen, closing, gave, after, turn};
-ghost use Rattle.com_text.specs.Scanning.{strayed, lines_from, at_line, more_lines, line_of};
+ghost use Rattle.com_text.specs.Scanning.{strayed};
+ghost use Rattle.com_text.specs.Runs.{IsFresh};
+ghost use Rattle.com_text.specs.declared.scan.Within.TheVariants.{Nothing};
 
-use crate::stray::byte_at;
 use crate::word::{Kind, Word};
 use std::alloc::AllocError;
 
@@ -138,7 +139,7 @@ fn stray_after(stray: Option<u32>, class: Class, column: u32) -> Option<u32>
 }
 
 // The scanner behind a byte that ends no line.
-fn after(s: &Scanner, text: &[u8], at: usize, class: Class) -> Scanner
+pub(crate) fn after(s: &Scanner, text: &[u8], at: usize, class: Class) -> Scanner
     requires at { at < length text.now }
     requires column { s.now.column < 2 ^ 32 - 1 }
     requires kept { IsKept text.now at s.now }
@@ -149,6 +150,7 @@ fn after(s: &Scanner, text: &[u8], at: usize, class: Class) -> Scanner
     ensures kept { IsKept text.now (at + 1) result }
     ensures line { result.line ≡ s.now.line }
     ensures column { result.column ≡ s.now.column + 1 }
+    ensures fresh { result.within ≡ Nothing → IsFresh (at + 1) result }
 {
     match turn(s.within, class, &text[s.from..at]) {
         Within::Nothing => Scanner {
@@ -198,7 +200,7 @@ fn word_to<'a>(text: &'a [u8], s: &Scanner, end: usize, kind: Kind) -> Word<'a>
 }
 
 // The word that ends at a line's end or at the text's.
-fn close<'a>(
+pub(crate) fn close<'a>(
     s: &Scanner,
     text: &'a [u8],
     at: usize,
@@ -224,7 +226,7 @@ fn close<'a>(
 }
 
 // The words that end at a byte that ends no line.
-fn give<'a>(
+pub(crate) fn give<'a>(
     s: &Scanner,
     text: &'a [u8],
     at: usize,
@@ -254,50 +256,4 @@ fn give<'a>(
         _ => {}
     }
     Ok(())
-}
-
-/// The words of the line that begins at an index, in place of those that `words` held, and where it
-/// ends. Memory comes where no word more can be kept; `words` then holds a front of the line's.
-pub fn line_at<'a>(
-    text: &'a [u8],
-    line: u32,
-    at: usize,
-    words: &mut Vec<Word<'a>>,
-) -> Result<LineEnd, AllocError>
-    requires size { length text.now < 2 ^ 32 - 2 }
-    requires from { at ≤ length text.now }
-    ensures words { IfOk result (λ end. lines_from (at_line line at) [] (drop at text.now)
-        ≡ line_of words.new.items line end ∷ more_lines text.now line end) }
-    ensures within { IfOk result (λ end. end.at ≤ length text.now) }
-    ensures further { IfOk result (λ end. at ≤ end.at) }
-    ensures ended { IfOk result (λ end. end.last ≡ false → end.at < length text.now) }
-{
-    words.clear();
-    let mut s = Scanner {
-        line,
-        column: 1,
-        first: 1,
-        from: at,
-        within: Within::Nothing,
-        stray: None,
-    };
-    for i in at..text.len() {
-        let class = class_of(text[i], byte_at(text, i + 1));
-        if class == Class::LineEnd {
-            close(&s, text, i, words)?;
-            return Ok(LineEnd {
-                column: s.column,
-                at: i,
-                last: false,
-            });
-        }
-        give(&s, text, i, class, words)?;
-        s = after(&s, text, i, class);
-    }
-    close(&s, text, text.len(), words)?;
-    Ok(LineEnd {
-        column: s.column,
-        at: text.len(),
-        last: true,
-    })
 }

@@ -7,7 +7,8 @@ ghost use Rattle.com_text.specs.Sorts.{sort_of};
 ghost use Rattle.com_text.specs.Cutting.{IsCut};
 ghost use Rattle.com_text.specs.declared.token.TextError.TheVariants.{Memory};
 
-use crate::scan::{LineEnd, line_at};
+use crate::line::line_at;
+use crate::scan::LineEnd;
 use crate::stray::first_stray;
 use crate::word::{Kind, Word};
 use std::alloc::{AllocError, AllocFailed, Global};

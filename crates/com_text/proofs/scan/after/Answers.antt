@@ -15,4 +15,5 @@ returns-in_default c = record {
   kept = kept_on c.args.text.now c.args.at c.args.s.now _ c.args.class c.requires.kept c.requires.at c.requires.class c.requires.inner refl refl refl c.stray_after.ensures;
   line = omega arith;
   column = omega arith;
+  fresh = λ e. absurd (c.in_default.not-Nothing e);
 }
