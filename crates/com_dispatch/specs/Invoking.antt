@@ -15,24 +15,26 @@ use Rattle.com_dispatch.specs.declared.members.Member.TheVariants as members
 use Rattle.com_dispatch.specs.Ranges.{IsDispArg}
 use Rattle.com_text.specs.Words.{WordAt}
 use Rattle.com_read_operands.specs.declared.faults.Fault.{Fault}
+use Rattle.com_read_operands.specs.declared.faults.TheConstants.Fault.{UNFIT}
 use Rattle.com_read_operands.specs.declared.operands.Operand.{Operand}
 use Rattle.com_read_operands.specs.declared.operands.Operand.TheVariants as operands
 use Rattle.com_read_operands.specs.Numbers.{number_of}
 use Rattle.com_read_operands.specs.Reading.{◌>>=◌, fault_at, word_at, stands_at, end_at, within}
 use Rattle.com_read_operands.specs.Naming.{declared_at}
 use Rattle.com_read_operands.specs.Operands.{operand_of, unfit, slot_at, literal_of}
+use Rattle.com_dispatch.specs.declared.invoke.reading.TheConstants.{MEMBER_LIMIT}
 use Rattle.com_dispatch.specs.declared.invoke.Invocation.{Invocation}
 
 -- ---- the member
 
 abbrev pub as_name : WordAt → Op → Result Member Fault
 as_name w (ops.Literal (values.Text name)) = Ok (members.Name name)
-as_name w _ = Err (fault_at 10 w)
+as_name w _ = Err (fault_at UNFIT w)
 
--- a text literal, or a decimal number from 0 to 2,147,483,647
+-- a text literal, or a decimal number from 0 to `MEMBER_LIMIT`
 abbrev pub as_member : WordAt → Operand → Result Member Fault
 as_member w operands.Text = literal_of w operands.Text >>= λ o. as_name w o
-as_member w (operands.Number n) = within 0 2147483647 w (number_of w.bytes) >>= λ m. Ok (members.Number m)
+as_member w (operands.Number n) = within 0 MEMBER_LIMIT w (number_of w.bytes) >>= λ m. Ok (members.Number m)
 as_member w o = Err (fault_at (unfit o) w)
 
 unfoldable pub member_at : List WordAt → ℕ → Result Member Fault
@@ -45,7 +47,7 @@ member_at line k = do
 -- registers are left out
 abbrev pub as_literal : WordAt → Op → Result DispArg Fault
 as_literal w (ops.Literal v) = Ok (given.Literal v)
-as_literal w (ops.Register n) = Err (fault_at 10 w)
+as_literal w (ops.Register n) = Err (fault_at UNFIT w)
 
 -- a slot, `null` or a literal
 abbrev pub as_given : WordAt → Operand → Result DispArg Fault

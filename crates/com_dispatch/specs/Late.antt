@@ -3,6 +3,7 @@
 use Rattle.std.specs.Prelude.{◌≡◌, ℕ, List, [], ◌∷◌, ◌++◌, Result, Ok, Err}
 use Rattle.std.specs.Prelude.{Bool, true, false, length, All, nat_le, if◌then◌else◌, codes}
 use Rattle.std.specs.Str.{bytes_eq}
+use Rattle.com_base.specs.declared.limits.TheConstants.{BODY_LIMIT, SCRIPT_LIMIT}
 use Rattle.com_classes.specs.declared.interfaces.Interface.{Interface}
 use Rattle.com_classes.specs.BuiltIns.{built_in_interfaces}
 use Rattle.com_dispatch.specs.declared.invoke.BindOutcome.{BindOutcome}
@@ -13,6 +14,7 @@ use Rattle.com_text.specs.declared.word.Sort.TheVariants as sorts
 use Rattle.com_text.specs.Words.{WordAt, LineAt}
 use Rattle.com_text.specs.Scanning.{lines_of}
 use Rattle.com_read_operands.specs.declared.faults.Fault.{Fault}
+use Rattle.com_read_operands.specs.declared.faults.TheConstants.Fault.{LIMIT, UNENDED}
 use Rattle.com_read_operands.specs.Reading.{◌>>=◌, fault_at}
 use Rattle.com_read_statements.specs.declared.names.Names.{Names}
 use Rattle.com_read_statements.specs.Calls.{call_at}
@@ -50,9 +52,9 @@ bound_more coding i o spot = record {
 -- The interfaces and their tables are those that are declared above the line.
 unfoldable pub invoke_line : ℕ → Names → Coding → WordAt → List WordAt → Result Coding Fault
 invoke_line limit names coding w line =
-    if nat_le limit (length coding.code.statements) then Err (fault_at 12 w) else (do
+    if nat_le limit (length coding.code.statements) then Err (fault_at LIMIT w) else (do
       i ← invocation_at names.interfaces line
-      Ok (bound_more coding i (outcome_of names.tables i) (fault_at 11 w)))
+      Ok (bound_more coding i (outcome_of names.tables i) (fault_at UNENDED w)))
 
 -- ---- every line
 
@@ -62,13 +64,13 @@ other_line r line = step r.state line >>= λ next. Ok (record { state = next; bi
 -- `invoke` is a statement in a body and in a script
 abbrev pub in_section : Reading → WordAt → List WordAt → Section → Result Reading Fault
 in_section r w line (sections.Body c head code) = do
-  more ← invoke_line 200 r.state.names (record { code = code; bindings = r.bindings }) w line
+  more ← invoke_line BODY_LIMIT r.state.names (record { code = code; bindings = r.bindings }) w line
   Ok (record {
     state = record (r.state) { section = sections.Body c head more.code };
     bindings = more.bindings;
   })
 in_section r w line (sections.Thread code) = do
-  more ← invoke_line 2000 r.state.names (record { code = code; bindings = r.bindings }) w line
+  more ← invoke_line SCRIPT_LIMIT r.state.names (record { code = code; bindings = r.bindings }) w line
   Ok (record { state = record (r.state) { section = sections.Thread more.code }; bindings = more.bindings })
 in_section r w line _ = other_line r line
 

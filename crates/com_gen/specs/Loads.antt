@@ -3,6 +3,7 @@ use Rattle.std.specs.Prelude.{ℕ, zero, suc, ◌+◌, ◌%◌, ◌==◌, List, 
 use Rattle.rand_core.specs.Pcg32Seed.{pcg32_seed}
 use Rattle.rand_pcg.specs.Lcg.{Lcg}
 use Rattle.rand_pcg.specs.Pcg.{pcg32, pcg32_of_seed}
+use Rattle.com_gen.specs.declared.TheConstants.{ROUNDS, SCRIPTS}
 
 -- The generator of a number's words: PCG-XSH-RR 64/32, seeded by the number.
 unfoldable pub seeded : ℕ → Lcg
@@ -51,12 +52,12 @@ unfoldable pub rounds_text : ℕ → Lcg → List ℕ
 rounds_text zero g = []
 rounds_text (suc n) g = rounds_text n g ++ round_text (behind_rounds n g)
 
--- A script: the apartment, 400 rounds, and its end.
+-- A script: the apartment, its rounds, and its end.
 abbrev pub script_text : Lcg → List ℕ
-script_text g = apartment_text (word g) ++ rounds_text 400 (behind g) ++ codes "end\n"
+script_text g = apartment_text (word g) ++ rounds_text ROUNDS (behind g) ++ codes "end\n"
 
 abbrev pub behind_script : Lcg → Lcg
-behind_script g = behind_rounds 400 (behind g)
+behind_script g = behind_rounds ROUNDS (behind g)
 
 -- So many scripts from a generator on, and the generator behind them.
 unfoldable pub behind_scripts : ℕ → Lcg → Lcg
@@ -67,6 +68,6 @@ unfoldable pub scripts_text : ℕ → Lcg → List ℕ
 scripts_text zero g = []
 scripts_text (suc n) g = scripts_text n g ++ script_text (behind_scripts n g)
 
--- The text of a number's scenario: the head, and 8 scripts.
+-- The text of a number's scenario: the head, and its scripts.
 abbrev pub load_text : ℕ → List ℕ
-load_text number = head_text ++ scripts_text 8 (seeded number)
+load_text number = head_text ++ scripts_text SCRIPTS (seeded number)

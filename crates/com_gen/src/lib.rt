@@ -74,7 +74,7 @@ fn head(alloc: Global) -> Result<ByteList, Memory>
 
 // Appends the scripts.
 fn push_scripts(words: &mut Lcg64Xsh32, text: &mut ByteList) -> Result<(), Memory>
-    ensures { OnOk result (text.new ≡ text.old ++ scripts_text 8 words.old) }
+    ensures { OnOk result (text.new ≡ text.old ++ scripts_text SCRIPTS words.old) }
 {
     'scripts: for before in 0..SCRIPTS {
         push_script(words, text)?;
@@ -106,8 +106,8 @@ fn push_opening(word: u32, text: &mut ByteList) -> Result<(), Memory>
 
 // Appends the rounds of a script.
 fn push_rounds(words: &mut Lcg64Xsh32, text: &mut ByteList) -> Result<(), Memory>
-    ensures text { OnOk result (text.new ≡ text.old ++ rounds_text 400 words.old) }
-    ensures behind { OnOk result (words.new ≡ behind_rounds 400 words.old) }
+    ensures text { OnOk result (text.new ≡ text.old ++ rounds_text ROUNDS words.old) }
+    ensures behind { OnOk result (words.new ≡ behind_rounds ROUNDS words.old) }
 {
     'rounds: for before in 0..ROUNDS {
         push_round(words, text)?;

@@ -14,7 +14,7 @@ const LONGEST: usize = 7;
 pub fn number_of(word: &[u8]) -> Option<u32>
     ensures value { result ≡ number_of word.now }
     ensures low { IfSome result (λ number. 1 ≤ number) }
-    ensures high { IfSome result (λ number. number ≤ 1_000_000) }
+    ensures high { IfSome result (λ number. number ≤ GREATEST) }
 {
     if word.is_empty() || word.len() > LONGEST {
         return None;

@@ -3,6 +3,7 @@ use Rattle.std.specs.Prelude.{◌≡◌, ℕ, ◌+◌, List, ◌++◌, Option, S
 use Rattle.com_model.specs.declared.scenario.Scenario.{Scenario}
 use Rattle.com_text.specs.Tokens.{first_stray}
 use Rattle.com_read_operands.specs.declared.faults.Fault.{Fault}
+use Rattle.com_read_operands.specs.declared.faults.TheConstants.Fault.{CHARACTER, LIMIT, UNEXPECTED}
 use Rattle.com_scenario.specs.Scenarios.{reading}
 use Rattle.com_laws_faults.specs.Prefixes.{end_of, EndsBetween, CutsNoWord, EndsEarly}
 use Rattle.com_laws_faults.specs.Places.{IsBefore, IsApart, StandsIn}
@@ -59,15 +60,15 @@ StaysEarly read = (text rest : List ℕ) (f : Fault) → CutsNoWord text rest �
 
 -- It says where it stopped, and not where the fault stands.
 abbrev pub at_the_end : Reader
-at_the_end text = Err (record { number = 3; line = (end_of text).line; column = (end_of text).column })
+at_the_end text = Err (record { number = UNEXPECTED; line = (end_of text).line; column = (end_of text).column })
 
 abbrev pub by_stray : List ℕ → Option ℕ → Result Scenario Fault
 by_stray text None = reading text
-by_stray text (Some at) = Err (record { number = 2; line = 1; column = at + 1 })
+by_stray text (Some at) = Err (record { number = CHARACTER; line = 1; column = at + 1 })
 
 -- It blames the second byte for what comes later.
 abbrev pub blames : Reader
-blames text = if nat_lt 8 (length text) then Err (record { number = 3; line = 1; column = 2 }) else reading text
+blames text = if nat_lt 8 (length text) then Err (record { number = UNEXPECTED; line = 1; column = 2 }) else reading text
 
 -- It judges all bytes of a text before its words.
 abbrev pub bytes_first : Reader
@@ -76,4 +77,4 @@ bytes_first text = by_stray text (first_stray text)
 -- It judges a text's length before its words. So the fault `0 0 12` of a text that is too long is none of
 -- `reading`, and stands outside of the laws.
 abbrev pub length_first : Reader
-length_first text = if nat_lt 8 (length text) then Err (record { number = 12; line = 0; column = 0 }) else reading text
+length_first text = if nat_lt 8 (length text) then Err (record { number = LIMIT; line = 0; column = 0 }) else reading text

@@ -7,6 +7,7 @@ use Rattle.com_text.specs.declared.scan.Within.TheVariants as within
 use Rattle.com_text.specs.Words.{WordAt, LineAt, is_over}
 use Rattle.com_text.specs.Scanning.{Scanning, class_of, ends_line, after, closing, at_line, lines_of}
 use Rattle.com_read_operands.specs.declared.faults.Fault.{Fault}
+use Rattle.com_read_operands.specs.declared.faults.TheConstants.Fault.{MISSING, UNENDED}
 use Rattle.com_read_lines.specs.Codes.{first_position}
 
 -- Where the reader stands behind some bytes more.
@@ -50,12 +51,12 @@ CutsNoWord text rest = EndsBetween text ⊎ EndsAtWord text rest
 
 -- A word is missing in the last line, which may go on.
 pub record IsMissing (text : List ℕ) (f : Fault) : Type 0 where
-  pub number : f.number ≡ 4
+  pub number : f.number ≡ MISSING
   pub within_line : 1 < (end_of text).column
 
 -- The text ends inside of a section.
 abbrev pub IsUnended : List ℕ → Fault → Type 0
-IsUnended text f = f ≡ record { number = 11; line = (end_of text).line; column = (end_of text).column }
+IsUnended text f = f ≡ record { number = UNENDED; line = (end_of text).line; column = (end_of text).column }
 
 -- the word `scenario` alone
 abbrev pub is_lone : List WordAt → Bool

@@ -17,7 +17,7 @@ pub fn faults_stay()
 {}
 
 /// Where a text's fault stands in a beginning of it, the beginning has this fault with nothing behind. So has
-/// every text that begins so, and none of them is a scenario. Fault 11 is found later than it stands.
+/// every text that begins so, and none of them is a scenario. Fault `UNENDED` is found later than it stands.
 pub fn faults_come_first()
     ensures known { IsKnown reading }
     ensures shared { IsShared reading }

@@ -7,6 +7,7 @@ use Rattle.com_text.specs.Words.{WordAt}
 use Rattle.com_read_operands.specs.declared.faults.Fault.{Fault}
 use Rattle.com_read_operands.specs.declared.faults.ScenarioError.{ScenarioError}
 use Rattle.com_read_operands.specs.declared.faults.ScenarioError.TheVariants as errors
+use Rattle.com_read_operands.specs.declared.faults.TheConstants.Fault.{UNEXPECTED}
 use Rattle.com_read_operands.specs.Reading.{◌>>=◌, fault_at, word_at, end_at}
 use Rattle.com_read_operands.specs.Naming.{name_at}
 use Rattle.com_read_operands.specs.Literals.{guid_at, guid_of}
@@ -26,7 +27,7 @@ unfoldable pub model_at : List WordAt → ℕ → Result Bool Fault
 model_at line k = do
   w ← word_at line k
   if bytes_eq w.bytes (codes "none") || bytes_eq w.bytes (codes "Apartment") then Ok true
-      else Err (fault_at 3 w)
+      else Err (fault_at UNEXPECTED w)
 
 -- The first fault of the form, and how many words stand in front of it.
 abbrev pub cut_at : {A : Type 0} → ℕ → Result A Fault → Option Cut → Option Cut

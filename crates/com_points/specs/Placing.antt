@@ -7,6 +7,7 @@ use Rattle.std.specs.Prelude.{if◌then◌else◌, false, slice_get, count_by}
 use Rattle.com_text.specs.Words.{WordAt, LineAt}
 use Rattle.com_text.specs.Scanning.{lines_of}
 use Rattle.com_read_operands.specs.declared.faults.Fault.{Fault}
+use Rattle.com_read_operands.specs.declared.faults.TheConstants.Fault.{MISSING, REPEATED}
 use Rattle.com_read_operands.specs.Reading.{fault_at}
 use Rattle.com_points.specs.declared.source_text.heads.Cut.{Cut}
 use Rattle.com_points.specs.declared.source_text.heads.Seen.{Seen}
@@ -34,13 +35,14 @@ abbrev pub position_in : Seen → List WordAt → Fault → Fault
 position_in seen line f =
     fault_in f.number (slice_get line (if is_opening seen f.line then 0 else word_under f.column))
 
--- The fault of a source line itself: 9 where the name or the IID of its interface is declared already.
+-- The fault of a source line itself: `REPEATED` where the name or the IID of its interface is declared
+-- already.
 abbrev pub cut_fault : Option Cut → Option Fault
 cut_fault None = None
 cut_fault (Some cut) = Some cut.fault
 
 abbrev pub own_fault : Seen → List WordAt → Option Fault
-own_fault seen line = if is_taken seen then Some (fault_in 9 (slice_get line 0)) else cut_fault (cut_of line)
+own_fault seen line = if is_taken seen then Some (fault_in REPEATED (slice_get line 0)) else cut_fault (cut_of line)
 
 abbrev pub is_same_position : Fault → Fault → Bool
 is_same_position f g = (f.line == g.line) && (f.column == g.column)
@@ -50,7 +52,7 @@ is_same_position f g = (f.line == g.line) && (f.column == g.column)
 abbrev pub first_of : Option Fault → Fault → Fault
 first_of None f = f
 first_of (Some own) f =
-    if f.number == 4 then own else if is_same_position own f && nat_lt own.number f.number then own else f
+    if f.number == MISSING then own else if is_same_position own f && nat_lt own.number f.number then own else f
 
 abbrev pub source_fault : Seen → List WordAt → Fault → Fault
 source_fault seen line f = first_of (own_fault seen line) (position_in seen line f)

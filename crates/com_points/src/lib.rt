@@ -20,18 +20,18 @@ use source_text::{place_fault, write_out};
 pub use sources::{ADVISE, FIRE, UNADVISE, source_interface};
 use std::alloc::Global;
 
-/// The scenario that a text spells, or its first fault by position, and of two at one position the one
-/// with the lower number.
+/// The scenario that a text spells, or its first fault by position, and of two at one position the one with
+/// the lower number.
 ///
 /// A line `source <name> <guid> <model>` declares an event source after IConnectionPoint: a class whose one
 /// interface is `IPoint` {5C0B0030-0000-4000-8000-000000000001}, and whose methods `advise`, `unadvise` and
-/// `fire` have the bodies of a source. The model is `none` or `Apartment`, another word is fault 3. The first
-/// such line declares the interface too, so it is at fault, with number 9, where a line above it declares one
-/// of this name or IID. Everything else is read by `com_scenario::parse`.
+/// `fire` have the bodies of a source. The model is `none` or `Apartment`, another word is fault
+/// `UNEXPECTED`. The first such line declares the interface too, so it is fault `REPEATED`, where a
+/// line above it declares one of this name or IID. Everything else is read by `com_scenario::parse`.
 ///
 /// The scenario keeps the limits, the forms and the ranges of the language, repeats no name or GUID, and
-/// names only what is declared. `Memory` comes where memory is short, and for a text of nearly 2^32 bytes or
-/// more.
+/// names only what is declared. `Memory` comes where memory is short, and for a text of nearly 2^32 bytes
+/// or more.
 #[tactic(auto, unfolding(crate::specs::Sources::reading_points))]
 pub fn read_points(alloc: Global, text: &[u8]) -> Result<Scenario, ScenarioError>
     ensures value { Gives (λ s. s) result (reading_points text.now) }

@@ -93,10 +93,10 @@ unhexed_again xs h = ap decoded (decode_of-encode_lower xs (bytes_by_place xs h)
 one_more : (acc d m : ℕ) (ds : List ℕ) → d < 16 → acc * 16 + d ≡ m → m < 2 ^ 32
     → hex_on (Some acc) (slice_index upper_digits d ∷ ds) ≡ hex_on (Some m) ds
 one_more acc d m ds lt e fits =
-    let small : nat_lt 4294967295 m ≡ false = grind (arith, nat_tests) in
+    let small : nat_lt m (2 ^ 32) ≡ true = grind (arith, nat_tests) in
     ap (λ (o : Option ℕ). hex_on (hex_more acc o) ds) (IsDigits-upper_digits d lt)
     ∙ ap (λ (k : ℕ). hex_on (word32 k) ds) e
-    ∙ ap (λ (b : Bool). hex_on (if b then None else Some m) ds) small
+    ∙ ap (λ (b : Bool). hex_on (if b then Some m else None) ds) small
 
 pub eight_again : (n : ℕ) → n < 2 ^ 32 → hex_word_of (48 ∷ 120 ∷ eight_digits n) ≡ Some n
 unfolding hex_word_of

@@ -1,5 +1,5 @@
 -- The words of operands are good words.
-use Rattle.std.proofs.Common.{◌≡◌, ℕ, zero, suc, ◌-◌, ◌/◌, ◌%◌, ◌<◌, ◌≤◌, ◌^◌, List, [], ◌∷◌, ◌++◌, Option, Some, None, Bool, true, false, nat_le, if◌then◌else◌, refl, ◌∙◌, arith, length, slice_index, unwrap_or, decimal, pos, negsuc, ℤ}
+use Rattle.std.proofs.Common.{◌≡◌, ℕ, zero, suc, ◌-◌, ◌/◌, ◌%◌, ◌<◌, ◌≤◌, ◌^◌, List, [], ◌∷◌, ◌++◌, Option, Some, None, Bool, true, false, nat_le, nat_lt, if◌then◌else◌, refl, ◌∙◌, arith, length, slice_index, unwrap_or, decimal, pos, negsuc, ℤ}
 use Rattle.std.specs.List.{list_all}
 use Rattle.std.specs.Char.{is_ascii_alphabetic, is_ascii_hexdigit}
 use Rattle.std.specs.Fmt.{signed_decimal}
@@ -195,7 +195,7 @@ tail_words (b ∷ bs) h =
 pub name_bytes : (bs : List ℕ) → is_name bs ≡ true → IsPlainWord bs
 name_bytes [] h = absurd cc
 name_bytes (b ∷ bs) h =
-    let t = name_parts (is_ascii_alphabetic b) (nat_le (length bs) 31) (are_tail bs) h in
+    let t = name_parts (is_ascii_alphabetic b) (nat_lt (length bs) 32) (are_tail bs) h in
     (omega arith, rw (letter_word b t.0, tail_words bs t.1) refl)
 
 pub name_spelled : (names : List (List ℕ)) (k : ℕ) → AreNames names → k < length names → IsSpelled (plain (name_at names k))

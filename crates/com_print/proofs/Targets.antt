@@ -1,5 +1,5 @@
 -- The method of a call is read again.
-use Rattle.std.proofs.Common.{◌≡◌, ℕ, zero, suc, ◌+◌, ◌<◌, ◌==◌, ◌^◌, List, [], ◌∷◌, ◌++◌, Option, Some, None, Result, Ok, Err, Bool, true, false, ◌&&◌, nat_le, if◌then◌else◌, refl, sym, ap, ◌∙◌, arith, All, length, take, drop, slice_get, decimal, option_map, bytes_eq}
+use Rattle.std.proofs.Common.{◌≡◌, ℕ, zero, suc, ◌+◌, ◌<◌, ◌==◌, ◌^◌, List, [], ◌∷◌, ◌++◌, Option, Some, None, Result, Ok, Err, Bool, true, false, ◌&&◌, nat_le, nat_lt, if◌then◌else◌, refl, sym, ap, ◌∙◌, arith, All, length, take, drop, slice_get, decimal, option_map, bytes_eq}
 use Rattle.std.specs.Char.{is_ascii_alphabetic}
 use Rattle.std.proofs.lemmas.Bool.Decides.{nat_tests}
 use Rattle.std.proofs.lemmas.List.Elements.{All-get_or}
@@ -42,7 +42,7 @@ dot_behind_tail (b ∷ bs) rest h =
 dot_behind_name : (bs rest : List ℕ) → is_name bs ≡ true → dot_of (bs ++ 46 ∷ rest) ≡ Some (length bs)
 dot_behind_name [] rest h = absurd cc
 dot_behind_name (b ∷ bs) rest h =
-    let t = name_parts (is_ascii_alphabetic b) (nat_le (length bs) 31) (are_tail bs) h in
+    let t = name_parts (is_ascii_alphabetic b) (nat_lt (length bs) 32) (are_tail bs) h in
     let e : length bs + 1 ≡ suc (length bs) = omega arith in
     rw (letter_no_dot b t.0, dot_behind_tail bs rest t.1) (ap Some e)
 
@@ -164,7 +164,7 @@ no_hash b h = grind (arith, nat_tests)
 behind_dot_name : (names : Names) (w : WordAt) (front back : List ℕ) → is_name back ≡ true → behind_dot names w front back ≡ as_target (named_of names w front back)
 behind_dot_name names w front [] is = refl
 behind_dot_name names w front (b ∷ bs) is =
-    let t = name_parts (is_ascii_alphabetic b) (nat_le (length bs) 31) (are_tail bs) is in
+    let t = name_parts (is_ascii_alphabetic b) (nat_lt (length bs) 32) (are_tail bs) is in
     rw (no_hash b t.0) refl
 
 pub is_method_name : (names : Names) (iface method : ℕ) (m : Method) → AreDeclared names → method_of names.tables iface method ≡ Some m → is_name m.name ≡ true

@@ -1,5 +1,5 @@
 -- Filters, threads and picks are read again.
-use Rattle.std.proofs.Common.{◌≡◌, ℕ, ◌+◌, ◌≤◌, ◌<◌, ◌^◌, ◌&&◌, List, [], ◌∷◌, ◌++◌, map, None, Bool, true, false, nat_le, if◌then◌else◌, refl, sym, ap, ◌∙◌, subst, arith, length, length-append, codes, decimal, Result, Ok, All, append_assoc, bytes_eq, slice_index_or, zero, suc}
+use Rattle.std.proofs.Common.{◌≡◌, ℕ, ◌+◌, ◌≤◌, ◌<◌, ◌^◌, ◌&&◌, List, [], ◌∷◌, ◌++◌, map, None, Bool, true, false, nat_le, nat_lt, if◌then◌else◌, refl, sym, ap, ◌∙◌, subst, arith, length, length-append, codes, decimal, Result, Ok, All, append_assoc, bytes_eq, slice_index_or, zero, suc}
 use Rattle.std.specs.List.{list_all}
 use Rattle.std.specs.Char.{is_ascii_alphabetic}
 use Rattle.std.proofs.lemmas.List.{append-nil}
@@ -57,7 +57,7 @@ digits_tail (b ∷ bs) h =
 pub good_name : (n : ℕ) → n < 100 → is_name (filter_name n) ≡ true
 good_name n lt =
     let short : length (decimal n) ≤ 2 = length-decimal-le 2 n (omega arith) (omega arith) (omega arith) in
-    let a : nat_le (length (decimal n)) 31 ≡ true = grind (arith, nat_tests) in
+    let a : nat_lt (length (decimal n)) 32 ≡ true = grind (arith, nat_tests) in
     let b : are_tail (decimal n) ≡ true = digits_tail (decimal n) (decimal_digits n (omega arith)).all in
     ap (λ (x : Bool). is_ascii_alphabetic 70 && x && are_tail (decimal n)) a ∙ ap (λ (x : Bool). is_ascii_alphabetic 70 && true && x) b
 

@@ -1,5 +1,5 @@
 -- What a formed scenario declares can be written and read where it stands: names and interfaces.
-use Rattle.std.proofs.Common.{◌≡◌, ℕ, zero, suc, ◌+◌, ◌<◌, ◌&&◌, List, [], ◌∷◌, ◌++◌, map, is_some, Bool, true, false, nat_le, if◌then◌else◌, refl, ap, ◌∙◌, arith, length, length-append, All, bytes_eq, slice_index_or}
+use Rattle.std.proofs.Common.{◌≡◌, ℕ, zero, suc, ◌+◌, ◌<◌, ◌&&◌, List, [], ◌∷◌, ◌++◌, map, is_some, Bool, true, false, nat_le, nat_lt, if◌then◌else◌, refl, ap, ◌∙◌, arith, length, length-append, All, bytes_eq, slice_index_or}
 use Rattle.std.specs.Char.{is_ascii_alphabetic}
 use Rattle.std.proofs.lemmas.List.Elements.{All-head, All-tail, All-append}
 use Rattle.std.proofs.lemmas.Bool.Decides.{nat_tests}
@@ -27,8 +27,8 @@ pub name_of : (n : List ℕ) → IsName n → is_name n ≡ true
 name_of [] h = absurd h
 name_of (c ∷ cs) h =
     let le = h.2 in
-    let short : nat_le (length cs) 31 ≡ true = grind (arith, nat_tests) in
-    ap (λ (x : Bool). x && nat_le (length cs) 31 && are_tail cs) (letter c h.0)
+    let short : nat_lt (length cs) 32 ≡ true = grind (arith, nat_tests) in
+    ap (λ (x : Bool). x && nat_lt (length cs) 32 && are_tail cs) (letter c h.0)
     ∙ ap (λ (x : Bool). true && x && are_tail cs) short
     ∙ ap (λ (x : Bool). true && true && x) (tail cs h.1)
 

@@ -5,6 +5,7 @@ use Rattle.com_body.specs.declared.body.BodyFault.{BodyFault}
 use Rattle.com_body.specs.declared.body.BodyFault.TheVariants as faults
 use Rattle.com_body.specs.Bodies.{fault_of}
 use Rattle.com_read_operands.specs.declared.faults.Fault.{Fault}
+use Rattle.com_read_operands.specs.declared.faults.TheConstants.Fault.{HEADER}
 
 -- the statements, and for each its fault if it skips beyond the end
 pub record CodeAt : Type 0 where
@@ -19,7 +20,7 @@ code_more code s f = record { statements = code.statements ++ s ∷ []; spots = 
 
 -- the fault of a text without words, or with a lone `scenario` for its header
 abbrev pub first_position : Fault
-first_position = record { number = 1; line = 1; column = 1 }
+first_position = record { number = HEADER; line = 1; column = 1 }
 
 -- each statement has its fault, so there is one for each number
 abbrev pub spotted : Option Fault → Result (List Stmt) Fault

@@ -6,6 +6,7 @@ use Rattle.com_text.specs.declared.word.Sort.{Sort}
 use Rattle.com_text.specs.declared.word.Sort.TheVariants as sorts
 use Rattle.com_text.specs.Words.{WordAt}
 use Rattle.com_read_operands.specs.declared.faults.Fault.{Fault}
+use Rattle.com_read_operands.specs.declared.faults.TheConstants.Fault.{HEADER}
 use Rattle.com_read_operands.specs.Reading.{◌>>=◌, fault_at, end_at}
 use Rattle.com_read_lines.specs.Codes.{first_position}
 
@@ -17,16 +18,16 @@ version_of bytes =
 -- is at fault itself, and an earlier fault comes first.
 abbrev pub lone_fault : Option Fault → WordAt → Fault
 lone_fault pending w =
-    if bytes_eq w.bytes (codes "scenario") then first_position else unwrap_or pending (fault_at 1 w)
+    if bytes_eq w.bytes (codes "scenario") then first_position else unwrap_or pending (fault_at HEADER w)
 
 abbrev pub ended : List WordAt → WordAt → Option ℕ → Result ℕ Fault
-ended line two None = Err (fault_at 1 two)
+ended line two None = Err (fault_at HEADER two)
 ended line two (Some v) = end_at line 2 >>= λ done. Ok v
 
 abbrev pub compared : List WordAt → WordAt → WordAt → Option Fault → Result ℕ Fault
 compared line one two (Some f) = Err f
 compared line one two None =
-    if not (bytes_eq one.bytes (codes "scenario")) then Err (fault_at 1 one)
+    if not (bytes_eq one.bytes (codes "scenario")) then Err (fault_at HEADER one)
     else ended line two (version_of two.bytes)
 
 abbrev pub version_by : Option Fault → List WordAt → WordAt → WordAt → Sort → Result ℕ Fault

@@ -4,9 +4,11 @@ use Rattle.std.specs.Prelude.{Ok, Err, true, false, nat_le, if◌then◌else◌,
 use Rattle.std.specs.Str.{bytes_eq}
 use Rattle.com_base.specs.declared.value.Kind.{Kind}
 use Rattle.com_base.specs.declared.value.Kind.TheVariants as kinds
+use Rattle.com_base.specs.declared.limits.TheConstants.{PARAMETER_LIMIT}
 use Rattle.com_classes.specs.declared.interfaces.Method.{Method}
 use Rattle.com_text.specs.Words.{WordAt}
 use Rattle.com_read_operands.specs.declared.faults.Fault.{Fault}
+use Rattle.com_read_operands.specs.declared.faults.TheConstants.Fault.{LIMIT, REPEATED}
 use Rattle.com_read_operands.specs.Reading.{◌>>=◌, fault_at, word_at, stands_at, end_at}
 use Rattle.com_read_operands.specs.Naming.{name_at, declared_at}
 use Rattle.com_read_statements.specs.Calls.{method_position}
@@ -45,7 +47,7 @@ item_at names count line k = do
     done ← end_at line (k + 2)
     Ok (record { kind = kind; last = true })) else (do
       kind ← type_at names line k
-      if nat_le 4 count then Err (fault_at 12 w) else Ok (record { kind = kind; last = false }))
+      if nat_le PARAMETER_LIMIT count then Err (fault_at LIMIT w) else Ok (record { kind = kind; last = false }))
 
 -- the parameters so far, and what is left of the line, from an index on
 abbrev pub signature_on : List (List ℕ) → List Kind → List WordAt → ℕ → List WordAt → Result Signature Fault
@@ -58,6 +60,6 @@ signature_on names done line k (v ∷ vs) = item_at names (length done) line k >
 unfoldable pub method_of : List (List ℕ) → List Method → List WordAt → Result Method Fault
 method_of names methods line = do
   w ← name_at line 1
-  if is_some (method_position methods w.bytes) then Err (fault_at 9 w) else (do
+  if is_some (method_position methods w.bytes) then Err (fault_at REPEATED w) else (do
     s ← signature_on names [] line 2 (drop 2 line)
     Ok (record { name = w.bytes; params = s.params; result = s.result }))

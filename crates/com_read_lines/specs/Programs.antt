@@ -3,6 +3,7 @@ use Rattle.std.specs.Prelude.{ℕ, List, length, Option, Some, None, Result, Ok,
 use Rattle.std.specs.Prelude.{slice_get}
 use Rattle.com_text.specs.Words.{WordAt}
 use Rattle.com_read_operands.specs.declared.faults.Fault.{Fault}
+use Rattle.com_read_operands.specs.declared.faults.TheConstants.Fault.{LIMIT, UNENDED, UNEXPECTED}
 use Rattle.com_read_operands.specs.Reading.{◌>>=◌, fault_at}
 use Rattle.com_read_statements.specs.declared.keywords.Program.{Program}
 use Rattle.com_read_statements.specs.declared.keywords.LocalWord.TheVariants as locals
@@ -20,7 +21,7 @@ number_index _ = 0
 
 abbrev pub skip_fault : Option WordAt → Fault
 skip_fault None = first_position
-skip_fault (Some w) = fault_at 11 w
+skip_fault (Some w) = fault_at UNENDED w
 
 -- the fault that a statement is where its skip passes the end
 abbrev pub spot_at : Keyword → List WordAt → Fault
@@ -28,15 +29,15 @@ spot_at k line = skip_fault (slice_get line (number_index k))
 
 abbrev pub stated : Program → ℕ → Names → CodeAt → WordAt → List WordAt → Keyword → Result CodeAt Fault
 stated p limit names code w line k =
-    if nat_le limit (length code.statements) then Err (fault_at 12 w) else (do
+    if nat_le limit (length code.statements) then Err (fault_at LIMIT w) else (do
       s ← stmt_of p names k line
       Ok (code_more code s (spot_at k line)))
 
 abbrev pub allowed : Program → ℕ → Names → CodeAt → WordAt → List WordAt → Option Keyword
     → Result CodeAt Fault
-allowed p limit names code w line None = Err (fault_at 3 w)
+allowed p limit names code w line None = Err (fault_at UNEXPECTED w)
 allowed p limit names code w line (Some k) =
-    if takes p k then stated p limit names code w line k else Err (fault_at 3 w)
+    if takes p k then stated p limit names code w line k else Err (fault_at UNEXPECTED w)
 
 -- a line of a body or a script that does not end it
 unfoldable pub program_line : Program → ℕ → Names → CodeAt → WordAt → List WordAt → Result CodeAt Fault

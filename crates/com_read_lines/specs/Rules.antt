@@ -8,8 +8,10 @@ use Rattle.com_filter.specs.declared.Verdict.{Verdict}
 use Rattle.com_filter.specs.declared.Verdict.TheVariants as verdicts
 use Rattle.com_text.specs.Words.{WordAt}
 use Rattle.com_read_operands.specs.declared.faults.Fault.{Fault}
+use Rattle.com_read_operands.specs.declared.faults.TheConstants.Fault.{NUMBER, UNEXPECTED}
 use Rattle.com_read_operands.specs.Numbers.{signed_of}
 use Rattle.com_read_operands.specs.Reading.{◌>>=◌, fault_at, word_at, end_at, number_at}
+use Rattle.com_read_lines.specs.declared.rules.TheConstants.{LAST_MS}
 use Rattle.com_read_lines.specs.declared.rules.RuleWord.{RuleWord}
 use Rattle.com_read_lines.specs.declared.rules.RuleWord.TheVariants as words
 
@@ -28,7 +30,7 @@ call_type_at line k = do
       else (if bytes_eq w.bytes (codes "2") then Ok (Some 2)
       else (if bytes_eq w.bytes (codes "4") then Ok (Some 4)
       else (if bytes_eq w.bytes (codes "*") then Ok None
-      else Err (fault_at 3 w))))
+      else Err (fault_at UNEXPECTED w))))
 
 -- the answer to an incoming call
 unfoldable pub verdict_at : List WordAt → ℕ → Result Verdict Fault
@@ -37,7 +39,7 @@ verdict_at line k = do
   if bytes_eq w.bytes (codes "handled") then Ok verdicts.Handled
       else (if bytes_eq w.bytes (codes "rejected") then Ok verdicts.Rejected
       else (if bytes_eq w.bytes (codes "later") then Ok verdicts.Later
-      else Err (fault_at 3 w)))
+      else Err (fault_at UNEXPECTED w)))
 
 -- the verdict that a caller got, or either
 unfoldable pub refusal_at : List WordAt → ℕ → Result (Option Verdict) Fault
@@ -46,17 +48,17 @@ refusal_at line k = do
   if bytes_eq w.bytes (codes "rejected") then Ok (Some verdicts.Rejected)
       else (if bytes_eq w.bytes (codes "later") then Ok (Some verdicts.Later)
       else (if bytes_eq w.bytes (codes "*") then Ok None
-      else Err (fault_at 3 w)))
+      else Err (fault_at UNEXPECTED w)))
 
 abbrev pub in_answers : ℤ → Bool
-in_answers (pos n) = nat_le n 2147483647
+in_answers (pos n) = nat_le n LAST_MS
 in_answers (negsuc n) = n == 0
 
 abbrev pub as_answer : WordAt → Option ℤ → Result ℤ Fault
-as_answer w None = Err (fault_at 6 w)
-as_answer w (Some z) = if in_answers z then Ok z else Err (fault_at 6 w)
+as_answer w None = Err (fault_at NUMBER w)
+as_answer w (Some z) = if in_answers z then Ok z else Err (fault_at NUMBER w)
 
--- -1 to 2,147,483,647
+-- -1 to `LAST_MS`
 unfoldable pub answer_at : List WordAt → ℕ → Result ℤ Fault
 answer_at line k = do
   w ← word_at line k
@@ -69,24 +71,24 @@ kept_at line k = do
   if bytes_eq w.bytes (codes "cancel") then Ok 0
       else (if bytes_eq w.bytes (codes "wait") then Ok 1
       else (if bytes_eq w.bytes (codes "discard") then Ok 2
-      else Err (fault_at 3 w)))
+      else Err (fault_at UNEXPECTED w)))
 
 -- the rule that a line spells behind its first word
 unfoldable pub rule_of : RuleWord → List WordAt → Result Rule Fault
 rule_of words.Incoming line = do
   call_type ← call_type_at line 1
-  ms ← number_at 0 2147483647 line 2
+  ms ← number_at 0 LAST_MS line 2
   verdict ← verdict_at line 3
   done ← end_at line 4
   Ok (rules.Incoming call_type ms verdict)
 rule_of words.Retry line = do
   verdict ← refusal_at line 1
-  ms ← number_at 0 2147483647 line 2
+  ms ← number_at 0 LAST_MS line 2
   answer ← answer_at line 3
   done ← end_at line 4
   Ok (rules.Retry verdict ms answer)
 rule_of words.Pending line = do
-  ms ← number_at 0 2147483647 line 1
+  ms ← number_at 0 LAST_MS line 1
   answer ← kept_at line 2
   done ← end_at line 3
   Ok (rules.Pending ms answer)

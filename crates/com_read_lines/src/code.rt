@@ -61,7 +61,7 @@ impl Code {
     }
 
     /// The body of the statements, or the fault of the first skip that passes its end. More statements than
-    /// `limit`, which `program_line` does not append, are fault 1 at the text's first position.
+    /// `limit`, which `program_line` does not append, are fault `HEADER` at the text's first position.
     pub fn check(self, limit: u32) -> Result<Body, ScenarioError>
         ensures { Gives (λ b. b) result (checked self limit) }
     {

@@ -18,8 +18,11 @@ use com_read_operands::{
 use com_text::Word;
 use std::alloc::{AllocError, Global};
 
-/// A GUID that is none of `guids`, those that are declared above: one that is, is fault 9. Every word
-/// that is no GUID is fault 7.
+// The greatest number that a line of picks may name: 32 bits hold it.
+const LAST_LANE: u64 = 0xffff_ffff;
+
+/// A GUID that is none of `guids`, those that are declared above: one that is, is fault `REPEATED`. Every
+/// word that is no GUID is fault `GUID`.
 #[tactic(auto, unfolding(crate::specs::Declaring::free_guid_at))]
 pub fn free_guid(guids: &[Guid], line: &[Word], index: usize) -> Result<Guid, ScenarioError>
     ensures { Gives (λ g. g) result (free_guid_at guids.now line.now index) }
@@ -31,8 +34,8 @@ pub fn free_guid(guids: &[Guid], line: &[Word], index: usize) -> Result<Guid, Sc
     Ok(guid)
 }
 
-/// The word of a name that is none of `names`, those that are declared above: one that is, is fault 9.
-/// Every word that is no name is fault 3.
+/// The word of a name that is none of `names`, those that are declared above: one that is, is fault
+/// `REPEATED`. Every word that is no name is fault `UNEXPECTED`.
 #[tactic(auto, unfolding(crate::specs::Declaring::free_name_at))]
 pub fn free_name<'l, 'a>(
     names: &[ByteList],
@@ -49,7 +52,7 @@ pub fn free_name<'l, 'a>(
 }
 
 /// The word of an interface's name, the second of its line, which is no type of the language: one that
-/// is, is fault 3. A name that is declared above is fault 9.
+/// is, is fault `UNEXPECTED`. A name that is declared above is fault `REPEATED`.
 #[tactic(auto, unfolding(crate::specs::Declaring::interface_name_at))]
 pub fn interface_name<'l, 'a>(
     names: &[ByteList],
@@ -64,8 +67,8 @@ pub fn interface_name<'l, 'a>(
     free_name(names, line, 1)
 }
 
-/// The word of a filter's name, the second of its line, which is not `none`: that is fault 3. A name that
-/// is declared above is fault 9.
+/// The word of a filter's name, the second of its line, which is not `none`: that is fault `UNEXPECTED`. A
+/// name that is declared above is fault `REPEATED`.
 #[tactic(auto, unfolding(crate::specs::Declaring::filter_name_at))]
 pub fn filter_name<'l, 'a>(
     names: &[ByteList],
@@ -80,7 +83,7 @@ pub fn filter_name<'l, 'a>(
     free_name(names, line, 1)
 }
 
-/// A threading model. Every other word is fault 3.
+/// A threading model. Every other word is fault `UNEXPECTED`.
 #[tactic(auto, unfolding(crate::specs::Declaring::model_at))]
 pub fn model(line: &[Word], index: usize) -> Result<ThreadingModel, ScenarioError>
     ensures { Gives (λ m. m) result (model_at line.now index) }
@@ -104,7 +107,7 @@ pub fn model(line: &[Word], index: usize) -> Result<ThreadingModel, ScenarioErro
 }
 
 /// The kind of a native class of a threading model. An agile class has no links, so an agile relay is
-/// fault 10. Every word that is no kind is fault 3.
+/// fault `UNFIT`. Every word that is no kind is fault `UNEXPECTED`.
 #[tactic(auto, unfolding(crate::specs::Declaring::native_at))]
 pub fn native(model: ThreadingModel, line: &[Word], index: usize) -> Result<Native, ScenarioError>
     ensures { Gives (λ n. n) result (native_at model line.now index) }
@@ -146,7 +149,8 @@ pub fn natives(alloc: Global, native: Native) -> Result<Rows<u16>, AllocError>
 }
 
 /// The interfaces of a class by their numbers: one name or more from the fifth word on. Where none stands
-/// there it is fault 4, a name that is none of `names` is fault 8, and a name more than 16 is fault 12.
+/// there it is fault `MISSING`, a name that is none of `names` is fault `UNDECLARED`, and a name more than
+/// 16 is fault `LIMIT`.
 #[tactic(auto, unfolding(crate::specs::Declaring::listed_at))]
 pub fn interface_list(
     alloc: Global,
@@ -198,11 +202,11 @@ fn pick(line: &[Word], index: usize) -> Result<u32, ScenarioError>
     ensures { Gives (λ n. n) result (pick_at line.now index) }
 {
     stands(line, index)?;
-    Ok(number(line, index, 0, 4294967295)? as u32)
+    Ok(number(line, index, 0, LAST_LANE)? as u32)
 }
 
 /// The numbers of a line of picks, from its second word on, each 0 to 4,294,967,295: every other word is
-/// fault 6.
+/// fault `NUMBER`.
 #[tactic(auto, using(crate::proofs::Lines::picks_more))]
 pub fn picks(alloc: Global, line: &[Word]) -> Result<Vec<u32>, ScenarioError>
     ensures { Gives (λ l. l.items) result (picks_on [] line.now 1 (drop 1 line.now)) }

@@ -27,7 +27,7 @@ fn version_of(bytes: &[u8]) -> Option<u8>
     }
 }
 
-/// The fault of a header's line of one word, which is fault 1: at the text's first position where the
+/// The fault of a header's line of one word, which is fault `HEADER`: at the text's first position where the
 /// version alone is missing, and else at that word. An earlier fault, in a comment above, comes before
 /// the latter.
 pub fn lone(pending: Option<Fault>, word: &Word) -> ScenarioError
@@ -45,7 +45,7 @@ pub fn lone(pending: Option<Fault>, word: &Word) -> ScenarioError
 /// The version that a header's line names, 1 or 2, by its first two words `one` and `two`. Where the
 /// second is a comment, the fault is that of a lone first word. An earlier fault, in a comment above,
 /// comes first. The two words are compared as they stand, whatever their bytes, and the first that
-/// differs is fault 1. Behind them the line ends: what stands there is at fault as
+/// differs is fault `HEADER`. Behind them the line ends: what stands there is at fault as
 /// `com_read_operands::end` says.
 #[tactic(auto, unfolding(crate::specs::Header::version_at))]
 pub fn version(

@@ -112,8 +112,9 @@ fn signature_of(
 }
 
 /// The method that a line spells behind its first word, with a name that none of `methods` has: one that
-/// has is fault 9. A type is a word of the language or one of `interfaces`; a parameter more than 4 is
-/// fault 12. Faults of names and of the line's end come as the readers of `com_read_operands` say.
+/// has is fault `REPEATED`. A type is a word of the language or one of `interfaces`; a parameter more than
+/// 4 is fault `LIMIT`. Faults of names and of the line's end come as the readers of `com_read_operands`
+/// say.
 #[tactic(auto, unfolding(crate::specs::Methods::method_of))]
 pub fn method(
     alloc: Global,

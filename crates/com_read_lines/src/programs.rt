@@ -36,10 +36,10 @@ fn spot(keyword: Keyword, line: &[Word]) -> Fault
     }
 }
 
-/// Appends the statement of a line that does not end its program, of which `word` is the first word. A
-/// word that begins no statement of the program is fault 3, and a statement more than `limit` is fault
-/// 12, both at that word; faults of its other words come from `com_read_statements::statement`. After an
-/// error the statements are not to be used.
+/// Appends the statement of a line that does not end its program, of which `word` is the first word. A word
+/// that begins no statement of the program is fault `UNEXPECTED`, and a statement more than `limit` is
+/// fault `LIMIT`, both at that word; faults of its other words come from `com_read_statements::statement`.
+/// After an error the statements are not to be used.
 #[tactic(auto, unfolding(crate::specs::Programs::program_line))]
 pub fn program_line(
     alloc: Global,

@@ -9,6 +9,9 @@ use com_filter::{Rule, Verdict};
 use com_read_operands::{Fault, ScenarioError, end, fault, number, signed_of, word};
 use com_text::Word;
 
+// The most milliseconds of a rule, and the greatest answer of a retry.
+const LAST_MS: u64 = 2_147_483_647;
+
 /// The word that begins a rule.
 #[derive(Clone, Copy, Debug, PartialEq, Eq)]
 pub enum RuleWord {
@@ -88,14 +91,14 @@ fn refusal(line: &[Word], index: usize) -> Result<Option<Verdict>, ScenarioError
     }
 }
 
-// The answer to a retry: -1 to 2,147,483,647.
+// The answer to a retry: -1 to `LAST_MS`.
 #[tactic(auto, unfolding(crate::specs::Rules::answer_at))]
 fn answer(line: &[Word], index: usize) -> Result<i64, ScenarioError>
     ensures { Gives (λ n. n) result (answer_at line.now index) }
 {
     let word = word(line, index)?;
     match signed_of(word.bytes) {
-        Some(number) if -1 <= number && number <= 2147483647 => Ok(number),
+        Some(number) if -1 <= number && number <= LAST_MS as i64 => Ok(number),
         _ => Err(fault(Fault::NUMBER, word)),
     }
 }
@@ -117,9 +120,10 @@ fn pending_answer(line: &[Word], index: usize) -> Result<u8, ScenarioError>
     }
 }
 
-/// The rule that a line spells behind its first word, `keyword`: a call type, milliseconds and a verdict;
-/// a verdict, milliseconds and an answer; or milliseconds and an answer. A number out of its range is
-/// fault 6, another word that cannot stand where it does fault 3, and behind the last the line ends.
+/// The rule that a line spells behind its first word, `keyword`: a call type, milliseconds and a verdict; a
+/// verdict, milliseconds and an answer; or milliseconds and an answer. A number out of its range is fault
+/// `NUMBER`, another word that cannot stand where it does fault `UNEXPECTED`, and behind the last the line
+/// ends.
 #[tactic(auto, unfolding(crate::specs::Rules::rule_of))]
 pub fn rule(keyword: RuleWord, line: &[Word]) -> Result<Rule, ScenarioError>
     ensures { Gives (λ r. r) result (rule_of keyword line.now) }
@@ -127,7 +131,7 @@ pub fn rule(keyword: RuleWord, line: &[Word]) -> Result<Rule, ScenarioError>
     match keyword {
         RuleWord::Incoming => {
             let call_type = call_type(line, 1)?;
-            let ms = number(line, 2, 0, 2147483647)? as u32;
+            let ms = number(line, 2, 0, LAST_MS)? as u32;
             let verdict = verdict(line, 3)?;
             end(line, 4)?;
             Ok(Rule::Incoming {
@@ -138,7 +142,7 @@ pub fn rule(keyword: RuleWord, line: &[Word]) -> Result<Rule, ScenarioError>
         }
         RuleWord::Retry => {
             let verdict = refusal(line, 1)?;
-            let ms = number(line, 2, 0, 2147483647)? as u32;
+            let ms = number(line, 2, 0, LAST_MS)? as u32;
             let answer = answer(line, 3)?;
             end(line, 4)?;
             Ok(Rule::Retry {
@@ -148,7 +152,7 @@ pub fn rule(keyword: RuleWord, line: &[Word]) -> Result<Rule, ScenarioError>
             })
         }
         RuleWord::Pending => {
-            let ms = number(line, 1, 0, 2147483647)? as u32;
+            let ms = number(line, 1, 0, LAST_MS)? as u32;
             let answer = pending_answer(line, 2)?;
             end(line, 3)?;
             Ok(Rule::Pending { ms, answer })

@@ -9,6 +9,7 @@ use Rattle.com_base.specs.declared.guid.Guid.{Guid}
 use Rattle.com_base.specs.Guids.{guid_of_text}
 use Rattle.com_text.specs.Words.{WordAt}
 use Rattle.com_read_operands.specs.declared.faults.Fault.{Fault}
+use Rattle.com_read_operands.specs.declared.faults.TheConstants.Fault.{GUID}
 use Rattle.com_read_operands.specs.Reading.{◌>>=◌, word_at, fault_at}
 
 -- bytes that are all ASCII, as a text
@@ -20,10 +21,10 @@ unfoldable pub guid_of : List ℕ → Option Guid
 guid_of bytes = option_and_then guid_of_text (ascii_of bytes)
 
 abbrev pub as_guid : WordAt → Option Guid → Result Guid Fault
-as_guid w None = Err (fault_at 7 w)
+as_guid w None = Err (fault_at GUID w)
 as_guid w (Some g) = Ok g
 
--- where a GUID stands: every other word is fault 7
+-- where a GUID stands: every other word is fault `GUID`
 unfoldable pub guid_at : List WordAt → ℕ → Result Guid Fault
 guid_at line k = do
   w ← word_at line k

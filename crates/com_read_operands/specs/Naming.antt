@@ -1,5 +1,5 @@
 -- Names, and those that were declared above.
-use Rattle.std.specs.Prelude.{ℕ, ◌+◌, List, [], ◌∷◌, length, Option, Some, None, Result, Ok, Err, Bool, true}
+use Rattle.std.specs.Prelude.{ℕ, ◌+◌, ◌^◌, List, [], ◌∷◌, length, Option, Some, None, Result, Ok, Err, Bool, true}
 use Rattle.std.specs.Prelude.{false, ◌&&◌, ◌||◌, nat_le, nat_lt, ◌==◌, if◌then◌else◌, option_map}
 use Rattle.std.specs.Char.{is_ascii_alphabetic, is_ascii_alphanumeric}
 use Rattle.std.specs.Str.{bytes_eq}
@@ -8,6 +8,8 @@ use Rattle.com_body.specs.declared.operands.Asked.TheVariants as askeds
 use Rattle.com_base.specs.declared.guid.Guid.{Guid}
 use Rattle.com_text.specs.Words.{WordAt}
 use Rattle.com_read_operands.specs.declared.faults.Fault.{Fault}
+use Rattle.com_read_operands.specs.declared.faults.TheConstants.Fault.{GUID, UNDECLARED, UNEXPECTED}
+use Rattle.com_read_operands.specs.declared.names.TheConstants.{NAME_LIMIT}
 use Rattle.com_read_operands.specs.Reading.{◌>>=◌, word_at, fault_at}
 use Rattle.com_read_operands.specs.Literals.{guid_of}
 
@@ -19,10 +21,10 @@ abbrev pub are_tail : List ℕ → Bool
 are_tail [] = true
 are_tail (b ∷ bs) = if is_tail b then are_tail bs else false
 
--- a letter and up to 31 letters, digits or _
+-- a letter and letters, digits or _ behind it, at most `NAME_LIMIT` in all
 abbrev pub is_name : List ℕ → Bool
 is_name [] = false
-is_name (b ∷ bs) = is_ascii_alphabetic b && nat_le (length bs) 31 && are_tail bs
+is_name (b ∷ bs) = is_ascii_alphabetic b && nat_lt (length bs) NAME_LIMIT && are_tail bs
 
 -- the first index of a name in a list
 abbrev pub position_of : List (List ℕ) → List ℕ → Option ℕ
@@ -31,7 +33,7 @@ position_of (n ∷ ns) name = if bytes_eq n name then Some 0 else option_map (λ
 
 abbrev pub of_16_bits : Option ℕ → Option ℕ
 of_16_bits None = None
-of_16_bits (Some n) = if nat_lt n 65536 then Some n else None
+of_16_bits (Some n) = if nat_lt n (2 ^ 16) then Some n else None
 
 -- the number of a declared name
 unfoldable pub number_of_name : List (List ℕ) → List ℕ → Option ℕ
@@ -41,10 +43,10 @@ number_of_name names name = of_16_bits (position_of names name)
 unfoldable pub name_at : List WordAt → ℕ → Result WordAt Fault
 name_at line k = do
   w ← word_at line k
-  if is_name w.bytes then Ok w else Err (fault_at 3 w)
+  if is_name w.bytes then Ok w else Err (fault_at UNEXPECTED w)
 
 abbrev pub known : WordAt → Option ℕ → Result ℕ Fault
-known w None = Err (fault_at 8 w)
+known w None = Err (fault_at UNDECLARED w)
 known w (Some n) = Ok n
 
 -- a name that was declared above, as its number
@@ -58,7 +60,7 @@ opens_brace [] = false
 opens_brace (b ∷ bs) = b == 123
 
 abbrev pub as_asked : WordAt → Option Guid → Result Asked Fault
-as_asked w None = Err (fault_at 7 w)
+as_asked w None = Err (fault_at GUID w)
 as_asked w (Some g) = Ok (askeds.Guid g)
 
 -- a class or interface as it is asked for: a declared name, as its index counted from a number, or a GUID

@@ -1,5 +1,5 @@
 -- Operands: what a word says by its form alone, and what may stand where.
-use Rattle.std.specs.Prelude.{ℕ, ◌+◌, ◌-◌, ◌*◌, ◌<◌, List, [], ◌∷◌, length, Option, Some, None, Result, Ok}
+use Rattle.std.specs.Prelude.{ℕ, ◌+◌, ◌-◌, ◌*◌, ◌^◌, ◌<◌, List, [], ◌∷◌, length, Option, Some, None, Result, Ok}
 use Rattle.std.specs.Prelude.{Err, Bool, true, false, not, ◌&&◌, ◌||◌, nat_lt, ◌==◌, if◌then◌else◌}
 use Rattle.std.specs.Prelude.{option_and_then, slice_range, codes, ℤ}
 use Rattle.std.specs.Str.{bytes_eq}
@@ -12,6 +12,7 @@ use Rattle.com_base.specs.declared.value.Mode.{Mode}
 use Rattle.com_base.specs.declared.value.Mode.TheVariants as modes
 use Rattle.com_base.specs.declared.value.MarshalMode.{MarshalMode}
 use Rattle.com_base.specs.declared.value.MarshalMode.TheVariants as packets
+use Rattle.com_base.specs.declared.limits.TheConstants.{LITERAL_LIMIT}
 use Rattle.com_base.specs.HResults.{hresult_named}
 use Rattle.com_body.specs.declared.operands.Op.{Op}
 use Rattle.com_body.specs.declared.operands.Op.TheVariants as ops
@@ -25,6 +26,9 @@ use Rattle.com_text.specs.declared.word.Sort.{Sort}
 use Rattle.com_text.specs.declared.word.Sort.TheVariants as sorts
 use Rattle.com_text.specs.Words.{WordAt}
 use Rattle.com_read_operands.specs.declared.faults.Fault.{Fault}
+use Rattle.com_read_operands.specs.declared.faults.TheConstants.Fault.{GUID, LIMIT, NUMBER, UNEXPECTED, UNFIT}
+use Rattle.com_read_operands.specs.declared.operands.TheConstants.{BUFFER_COUNT, CELL_COUNT, LINK_COUNT}
+use Rattle.com_read_operands.specs.declared.operands.TheConstants.{REGISTER_COUNT, SLOT_COUNT}
 use Rattle.com_read_operands.specs.declared.operands.Operand.{Operand}
 use Rattle.com_read_operands.specs.declared.operands.Operand.TheVariants as operands
 use Rattle.com_read_operands.specs.Numbers.{is_digit, signed_of}
@@ -41,20 +45,20 @@ small_of (a ∷ b ∷ c ∷ bs) = None
 
 abbrev pub lettered_by : ℕ → ℕ → Operand
 lettered_by letter n =
-    if letter == 114 && nat_lt n 16 then operands.Register n
-    else (if letter == 115 && nat_lt n 8 then operands.Slot n
-    else (if letter == 99 && nat_lt n 8 then operands.Cell n
-    else (if letter == 107 && nat_lt n 4 then operands.Link n
-    else (if letter == 112 && nat_lt n 64 then operands.Buffer n
-    else operands.Wrong 3))))
+    if letter == 114 && nat_lt n REGISTER_COUNT then operands.Register n
+    else (if letter == 115 && nat_lt n SLOT_COUNT then operands.Slot n
+    else (if letter == 99 && nat_lt n CELL_COUNT then operands.Cell n
+    else (if letter == 107 && nat_lt n LINK_COUNT then operands.Link n
+    else (if letter == 112 && nat_lt n BUFFER_COUNT then operands.Buffer n
+    else operands.Wrong UNEXPECTED))))
 
 -- r0 to r15, s0 to s7, c0 to c7, k0 to k3, p0 to p63
 unfoldable pub lettered : ℕ → Option ℕ → Operand
-lettered letter None = operands.Wrong 3
+lettered letter None = operands.Wrong UNEXPECTED
 lettered letter (Some n) = lettered_by letter n
 
 abbrev pub numbered : Option ℤ → Operand
-numbered None = operands.Wrong 6
+numbered None = operands.Wrong NUMBER
 numbered (Some n) = operands.Number n
 
 -- a word that begins as a number does
@@ -62,7 +66,7 @@ unfoldable pub numeric_of : List ℕ → Operand
 numeric_of bytes = numbered (signed_of bytes)
 
 abbrev pub braced : Option Guid → Operand
-braced None = operands.Wrong 7
+braced None = operands.Wrong GUID
 braced (Some g) = operands.Guid g
 
 -- a digit, or a `-` before a digit
@@ -71,7 +75,7 @@ begins_number b [] = is_digit b
 begins_number b (c ∷ bs) = is_digit b || (b == 45 && is_digit c)
 
 abbrev pub by_first : List ℕ → Operand
-by_first [] = operands.Wrong 3
+by_first [] = operands.Wrong UNEXPECTED
 by_first (b ∷ bs) =
     if b == 123 then braced (guid_of (b ∷ bs))
     else (if begins_number b bs then numeric_of (b ∷ bs)
@@ -91,8 +95,8 @@ inner bytes = if nat_lt (length bytes) 3 then [] else slice_range bytes 2 (lengt
 abbrev pub operand_by : List ℕ → Sort → Operand
 operand_by bytes sorts.Plain = plain_of bytes
 operand_by bytes sorts.Text = operands.Text
-operand_by bytes sorts.Bytes = if are_pairs (inner bytes) then operands.Bytes else operands.Wrong 3
-operand_by bytes _ = operands.Wrong 3
+operand_by bytes sorts.Bytes = if are_pairs (inner bytes) then operands.Bytes else operands.Wrong UNEXPECTED
+operand_by bytes _ = operands.Wrong UNEXPECTED
 
 -- what an operand's word says by its form alone
 unfoldable pub operand_of : WordAt → Operand
@@ -100,18 +104,18 @@ operand_of w = operand_by w.bytes w.sort
 
 -- each number is in its range
 abbrev pub IsOperand : Operand → Type 0
-IsOperand (operands.Register n) = n < 16
-IsOperand (operands.Slot n) = n < 8
-IsOperand (operands.Cell n) = n < 8
-IsOperand (operands.Link n) = n < 4
-IsOperand (operands.Buffer n) = n < 64
+IsOperand (operands.Register n) = n < REGISTER_COUNT
+IsOperand (operands.Slot n) = n < SLOT_COUNT
+IsOperand (operands.Cell n) = n < CELL_COUNT
+IsOperand (operands.Link n) = n < LINK_COUNT
+IsOperand (operands.Buffer n) = n < BUFFER_COUNT
 IsOperand o = Unit {0}
 
 -- the fault of an operand that may not stand where it does
 abbrev pub unfit : Operand → ℕ
 unfit (operands.Wrong n) = n
-unfit operands.Null = 3
-unfit _ = 10
+unfit operands.Null = UNEXPECTED
+unfit _ = UNFIT
 
 abbrev pub as_register : WordAt → Operand → Result ℕ Fault
 as_register w (operands.Register n) = Ok n
@@ -132,7 +136,7 @@ slot_at line k = do
   as_slot w (operand_of w)
 
 abbrev pub as_cell : Bool → WordAt → Operand → Result ℕ Fault
-as_cell cells w (operands.Cell n) = if cells then Ok n else Err (fault_at 10 w)
+as_cell cells w (operands.Cell n) = if cells then Ok n else Err (fault_at UNFIT w)
 as_cell cells w o = Err (fault_at (unfit o) w)
 
 -- a cell, where one is allowed
@@ -152,7 +156,7 @@ buffer_at line k = do
 
 abbrev pub as_place : Bool → WordAt → Operand → Result Place Fault
 as_place links w (operands.Slot n) = Ok (places.Slot n)
-as_place links w (operands.Link n) = if links then Ok (places.Link n) else Err (fault_at 10 w)
+as_place links w (operands.Link n) = if links then Ok (places.Link n) else Err (fault_at UNFIT w)
 as_place links w o = Err (fault_at (unfit o) w)
 
 -- a slot, or where it is allowed a link
@@ -161,20 +165,22 @@ place_at links line k = do
   w ← word_at line k
   as_place links w (operand_of w)
 
--- what stands between the marks, at most 256 bytes
+-- what stands between the marks, at most `LITERAL_LIMIT` bytes
 unfoldable pub text_literal : WordAt → Result Value Fault
 text_literal w =
-    if nat_lt (length w.bytes) 2 || nat_lt 258 (length w.bytes) then Err (fault_at 12 w)
+    if nat_lt (length w.bytes) 2 || nat_lt (LITERAL_LIMIT + 2) (length w.bytes)
+    then Err (fault_at LIMIT w)
     else Ok (values.Text (slice_range w.bytes 1 (length w.bytes - 1)))
 
 abbrev pub as_bytes : WordAt → Option (List ℕ) → Result Value Fault
-as_bytes w None = Err (fault_at 3 w)
+as_bytes w None = Err (fault_at UNEXPECTED w)
 as_bytes w (Some bytes) = Ok (values.Bytes bytes)
 
--- the bytes of the digits between the marks, at most 256
+-- the bytes of the digits between the marks, at most `LITERAL_LIMIT`
 unfoldable pub bytes_literal : WordAt → Result Value Fault
 bytes_literal w =
-    if nat_lt 512 (length (inner w.bytes)) then Err (fault_at 12 w) else as_bytes w (unhexed (inner w.bytes))
+    if nat_lt (2 * LITERAL_LIMIT) (length (inner w.bytes)) then Err (fault_at LIMIT w)
+    else as_bytes w (unhexed (inner w.bytes))
 
 abbrev pub written : Result Value Fault → Result Op Fault
 written r = r >>= λ v. Ok (ops.Literal v)
@@ -196,7 +202,7 @@ op_at line k = do
   literal_of w (operand_of w)
 
 abbrev pub word32 : ℕ → Option ℕ
-word32 n = if nat_lt 4294967295 n then None else Some n
+word32 n = if nat_lt n (2 ^ 32) then Some n else None
 
 -- a number with one hexadecimal digit more
 abbrev pub hex_more : ℕ → Option ℕ → Option ℕ
@@ -237,7 +243,7 @@ begins_hex (a ∷ b ∷ bs) = a == 48 && b == 120
 
 abbrev pub as_code : WordAt → Option HResult → Result Code Fault
 as_code w (Some hr) = Ok (answers.Literal hr)
-as_code w None = if begins_hex w.bytes then Err (fault_at 3 w) else as_code_register w (operand_of w)
+as_code w None = if begins_hex w.bytes then Err (fault_at UNEXPECTED w) else as_code_register w (operand_of w)
 
 -- an HRESULT, or a register; another word that begins with `0x` is no bad number here, but a word that cannot
 -- stand
@@ -262,7 +268,7 @@ unfoldable pub mode_at : List WordAt → ℕ → Result Mode Fault
 mode_at line k = do
   w ← word_at line k
   if bytes_eq w.bytes (codes "sta") then Ok modes.Sta
-      else (if bytes_eq w.bytes (codes "mta") then Ok modes.Mta else Err (fault_at 3 w))
+      else (if bytes_eq w.bytes (codes "mta") then Ok modes.Mta else Err (fault_at UNEXPECTED w))
 
 unfoldable pub marshal_mode_at : List WordAt → ℕ → Result MarshalMode Fault
 marshal_mode_at line k = do
@@ -270,4 +276,4 @@ marshal_mode_at line k = do
   if bytes_eq w.bytes (codes "normal") then Ok packets.Normal
       else (if bytes_eq w.bytes (codes "strong") then Ok packets.Strong
       else (if bytes_eq w.bytes (codes "weak") then Ok packets.Weak
-      else Err (fault_at 3 w)))
+      else Err (fault_at UNEXPECTED w)))

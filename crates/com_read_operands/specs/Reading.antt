@@ -7,6 +7,8 @@ use Rattle.com_text.specs.Words.{WordAt}
 use Rattle.com_read_operands.specs.declared.faults.Fault.{Fault}
 use Rattle.com_read_operands.specs.declared.faults.ScenarioError.{ScenarioError}
 use Rattle.com_read_operands.specs.declared.faults.ScenarioError.TheVariants as errors
+use Rattle.com_read_operands.specs.declared.faults.TheConstants.Fault.{CHARACTER, EXTRA, MISSING, NUMBER}
+use Rattle.com_read_operands.specs.declared.faults.TheConstants.Fault.{UNEXPECTED}
 use Rattle.com_read_operands.specs.Numbers.{number_of}
 
 -- one step after another: the first fault ends the reading
@@ -33,19 +35,19 @@ fault_at n w = record { number = n; line = w.line; column = w.column }
 
 -- a byte outside the characters
 abbrev pub character_at : WordAt → ℕ → Fault
-character_at w c = record { number = 2; line = w.line; column = c }
+character_at w c = record { number = CHARACTER; line = w.line; column = c }
 
 -- the line ends where a word is needed: behind the word before
 abbrev pub missing_at : Option WordAt → Fault
-missing_at None = record { number = 4; line = 1; column = 1 }
-missing_at (Some w) = record { number = 4; line = w.line; column = w.after }
+missing_at None = record { number = MISSING; line = 1; column = 1 }
+missing_at (Some w) = record { number = MISSING; line = w.line; column = w.after }
 
 -- a word as such: one with a byte outside the characters, or a literal that is not closed, is not judged
 -- otherwise
 abbrev pub judged : List WordAt → ℕ → WordAt → Sort → Result WordAt Fault
 judged line k w (sorts.Stray c) = Err (character_at w c)
 judged line k w (sorts.Remark c) = Err (missing_at (slice_get line (k - 1)))
-judged line k w sorts.Unclosed = Err (fault_at 3 w)
+judged line k w sorts.Unclosed = Err (fault_at UNEXPECTED w)
 judged line k w _ = Ok w
 
 abbrev pub needed : List WordAt → ℕ → Option WordAt → Result WordAt Fault
@@ -71,8 +73,8 @@ stands_at line k = is_there (slice_get line k)
 abbrev pub left_over : WordAt → Sort → Result (Unit {0}) Fault
 left_over w (sorts.Stray c) = Err (character_at w c)
 left_over w (sorts.Remark c) = Err (character_at w c)
-left_over w sorts.Unclosed = Err (fault_at 3 w)
-left_over w _ = Err (fault_at 5 w)
+left_over w sorts.Unclosed = Err (fault_at UNEXPECTED w)
+left_over w _ = Err (fault_at EXTRA w)
 
 abbrev pub nothing : Option WordAt → Result (Unit {0}) Fault
 nothing None = Ok tt
@@ -85,7 +87,7 @@ end_at line k = nothing (slice_get line k)
 abbrev pub opening : WordAt → Sort → Result WordAt Fault
 opening w (sorts.Stray c) = Err (character_at w c)
 opening w (sorts.Remark c) = Err (character_at w c)
-opening w sorts.Unclosed = Err (fault_at 3 w)
+opening w sorts.Unclosed = Err (fault_at UNEXPECTED w)
 opening w _ = Ok w
 
 abbrev pub opened : List WordAt → Option WordAt → Result WordAt Fault
@@ -97,10 +99,10 @@ unfoldable pub first_at : List WordAt → Result WordAt Fault
 first_at line = opened line (slice_get line 0)
 
 abbrev pub within : ℕ → ℕ → WordAt → Option ℕ → Result ℕ Fault
-within low high w None = Err (fault_at 6 w)
-within low high w (Some n) = if nat_le low n && nat_le n high then Ok n else Err (fault_at 6 w)
+within low high w None = Err (fault_at NUMBER w)
+within low high w (Some n) = if nat_le low n && nat_le n high then Ok n else Err (fault_at NUMBER w)
 
--- where a number stands: every other word is fault 6
+-- where a number stands: every other word is fault `NUMBER`
 unfoldable pub number_at : ℕ → ℕ → List WordAt → ℕ → Result ℕ Fault
 number_at low high line k = do
   w ← word_at line k

@@ -1,8 +1,8 @@
 //! The words of a line by index.
 
 ghost use Rattle.std.specs.Prelude.{◌≡◌, ◌-◌, ◌≤◌, slice_get, IfOk};
-ghost use Rattle.com_read_operands.specs.Reading.{Gives, error_of, fault_at, missing_at, word_at, end_at};
-ghost use Rattle.com_read_operands.specs.Reading.{first_at, number_at, stands_at};
+ghost use Rattle.com_read_operands.specs.Reading.{Gives, error_of, fault_at, character_at, missing_at};
+ghost use Rattle.com_read_operands.specs.Reading.{word_at, end_at, first_at, number_at, stands_at};
 
 use crate::faults::{Fault, ScenarioError};
 use crate::numbers::number_of;
@@ -21,7 +21,7 @@ pub fn fault(number: u8, word: &Word) -> ScenarioError
 
 // A byte outside the characters.
 fn character(word: &Word, column: u32) -> ScenarioError
-    ensures { result ≡ error_of (record { number = 2; line = word.now.line; column = column }) }
+    ensures { result ≡ error_of (character_at word.now column) }
 {
     ScenarioError::Fault {
         number: Fault::CHARACTER,
@@ -48,9 +48,9 @@ fn missing(line: &[Word], index: usize) -> ScenarioError
     }
 }
 
-/// The word at an index of the line. A word with a byte outside the characters is fault 2 at that
-/// byte, and a literal that is not closed is fault 3; neither is judged otherwise. Where the line
-/// ends, fault 4 stands behind its last word.
+/// The word at an index of the line. A word with a byte outside the characters is fault `CHARACTER` at that
+/// byte, and a literal that is not closed is fault `UNEXPECTED`; neither is judged otherwise. Where the line
+/// ends, fault `MISSING` stands behind its last word.
 #[tactic(auto, unfolding(crate::specs::Reading::word_at))]
 pub fn word<'l, 'a>(line: &'l [Word<'a>], index: usize) -> Result<&'l Word<'a>, ScenarioError>
     ensures { Gives (λ w. w.now) result (word_at line.now index) }
@@ -80,7 +80,7 @@ pub fn stands(line: &[Word], index: usize) -> Result<bool, ScenarioError>
     }
 }
 
-/// No word stands from this index on: one that does is fault 5.
+/// No word stands from this index on: one that does is fault `EXTRA`.
 #[tactic(auto, unfolding(crate::specs::Reading::end_at))]
 pub fn end(line: &[Word], index: usize) -> Result<(), ScenarioError>
     ensures { Gives (λ u. u) result (end_at line.now index) }
@@ -110,7 +110,7 @@ pub fn first<'l, 'a>(line: &'l [Word<'a>]) -> Result<&'l Word<'a>, ScenarioError
     }
 }
 
-/// A number in a range. Every other word is fault 6.
+/// A number in a range. Every other word is fault `NUMBER`.
 #[tactic(auto, unfolding(crate::specs::Reading::number_at))]
 pub fn number(line: &[Word], index: usize, low: u64, high: u64) -> Result<u64, ScenarioError>
     ensures value { Gives (λ n. n) result (number_at low high line.now index) }

@@ -42,7 +42,7 @@ pub fn guid_of(bytes: &[u8]) -> Option<Guid>
     Guid::parse(text_of(bytes)?)
 }
 
-/// A GUID. Every other word is fault 7.
+/// A GUID. Every other word is fault `GUID`.
 #[tactic(auto, unfolding(crate::specs::Literals::guid_at))]
 pub fn guid(line: &[Word], index: usize) -> Result<Guid, ScenarioError>
     ensures { Gives (λ g. g) result (guid_at line.now index) }

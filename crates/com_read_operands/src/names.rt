@@ -12,6 +12,9 @@ use com_base::ByteList;
 use com_body::Asked;
 use com_text::Word;
 
+/// The most bytes of a name.
+pub const NAME_LIMIT: usize = 32;
+
 // A letter, digit or `_`.
 fn is_tail(byte: u8) -> bool
     ensures { result ≡ is_tail byte }
@@ -30,13 +33,15 @@ fn are_tail(bytes: &[u8]) -> bool
     true
 }
 
-/// Whether bytes are a letter and up to 31 letters, digits or `_`.
+/// Whether bytes are a letter and letters, digits or `_` behind it, at most `NAME_LIMIT` in all.
 pub fn is_name(bytes: &[u8]) -> bool
     ensures { result ≡ is_name bytes.now }
 {
     match bytes {
         [] => false,
-        [first, rest @ ..] => { first.is_ascii_alphabetic() && rest.len() <= 31 && are_tail(rest) }
+        [first, rest @ ..] => {
+            first.is_ascii_alphabetic() && rest.len() < NAME_LIMIT && are_tail(rest)
+        }
     }
 }
 
@@ -61,12 +66,12 @@ pub fn number_of_name(names: &[ByteList], name: &[u8]) -> Option<u16>
     ensures within { IfSome result (λ n. n < length names.now) }
 {
     match position_of(names, name) {
-        Some(index) if index < 0x1_0000 => Some(index as u16),
+        Some(index) if index <= usize::from(u16::MAX) => Some(index as u16),
         _ => None,
     }
 }
 
-/// A word of a name's form. Every other word is fault 3.
+/// A word of a name's form. Every other word is fault `UNEXPECTED`.
 #[tactic(auto, unfolding(crate::specs::Naming::name_at))]
 pub fn name<'l, 'a>(line: &'l [Word<'a>], index: usize) -> Result<&'l Word<'a>, ScenarioError>
     ensures { Gives (λ w. w.now) result (name_at line.now index) }
@@ -79,8 +84,8 @@ pub fn name<'l, 'a>(line: &'l [Word<'a>], index: usize) -> Result<&'l Word<'a>, 
     }
 }
 
-/// A name that was declared above, as its index: fault 3 for a word that is no name, 8 for a name
-/// that was not declared.
+/// A name that was declared above, as its index: fault `UNEXPECTED` for a word that is no name,
+/// `UNDECLARED` for a name that was not declared.
 #[tactic(auto, unfolding(crate::specs::Naming::declared_at))]
 pub fn declared_name(names: &[ByteList], line: &[Word], index: usize) -> Result<u16, ScenarioError>
     ensures value { Gives (λ n. n) result (declared_at names.now line.now index) }
@@ -94,7 +99,7 @@ pub fn declared_name(names: &[ByteList], line: &[Word], index: usize) -> Result<
 }
 
 /// A class or interface as it is asked for: a declared name, as its index counted from `first`, or
-/// a GUID. A word that begins with `{` and is no GUID is fault 7.
+/// a GUID. A word that begins with `{` and is no GUID is fault `GUID`.
 #[tactic(auto, unfolding(crate::specs::Naming::asked_at))]
 pub fn asked_name(
     names: &[ByteList],

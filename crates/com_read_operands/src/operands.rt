@@ -21,6 +21,21 @@ use com_body::{Code, Given, Op, Place};
 use com_text::{Sort, Word};
 use std::alloc::Global;
 
+/// How many registers a frame has: `r0` to `r15`.
+pub const REGISTER_COUNT: u8 = 16;
+
+/// How many slots a frame has: `s0` to `s7`.
+pub const SLOT_COUNT: u8 = 8;
+
+/// How many cells an object has: `c0` to `c7`.
+pub const CELL_COUNT: u8 = 8;
+
+/// How many links an object has: `k0` to `k3`.
+pub const LINK_COUNT: u8 = 4;
+
+/// How many packet buffers a scenario has: `p0` to `p63`.
+pub const BUFFER_COUNT: u8 = 64;
+
 /// What an operand's word says by its form alone.
 #[derive(Clone, Copy, Debug, PartialEq, Eq)]
 pub enum Operand {
@@ -73,15 +88,15 @@ fn operand_by(letter: u8, number: Option<u8>) -> Operand
     match number {
         None => Operand::Wrong(Fault::UNEXPECTED),
         Some(number) => {
-            if letter == b'r' && number < 16 {
+            if letter == b'r' && number < REGISTER_COUNT {
                 Operand::Register(number)
-            } else if letter == b's' && number < 8 {
+            } else if letter == b's' && number < SLOT_COUNT {
                 Operand::Slot(number)
-            } else if letter == b'c' && number < 8 {
+            } else if letter == b'c' && number < CELL_COUNT {
                 Operand::Cell(number)
-            } else if letter == b'k' && number < 4 {
+            } else if letter == b'k' && number < LINK_COUNT {
                 Operand::Link(number)
-            } else if letter == b'p' && number < 64 {
+            } else if letter == b'p' && number < BUFFER_COUNT {
                 Operand::Buffer(number)
             } else {
                 Operand::Wrong(Fault::UNEXPECTED)
@@ -185,12 +200,13 @@ pub fn unfit(operand: Operand) -> u8
     }
 }
 
-/// A register's number, 0 to 15. An operand of another sort is fault 10, `null` fault 3, a word that is no
-/// operand the fault of its form (3, 6 or 7), and what `word` refuses has the fault that it has there.
+/// A register's number, 0 to 15. An operand of another sort is fault `UNFIT`, `null` fault `UNEXPECTED`, a
+/// word that is no operand the fault of its form (`UNEXPECTED`, `NUMBER` or `GUID`), and what `word` refuses
+/// has the fault that it has there.
 #[tactic(auto, unfolding(crate::specs::Operands::register_at))]
 pub fn register(line: &[Word], index: usize) -> Result<u8, ScenarioError>
     ensures value { Gives (λ n. n) result (register_at line.now index) }
-    ensures range { IfOk result (λ n. n < 16) }
+    ensures range { IfOk result (λ n. n < REGISTER_COUNT) }
 {
     let word = word(line, index)?;
     match operand_of(word) {
@@ -203,7 +219,7 @@ pub fn register(line: &[Word], index: usize) -> Result<u8, ScenarioError>
 #[tactic(auto, unfolding(crate::specs::Operands::slot_at))]
 pub fn slot(line: &[Word], index: usize) -> Result<u8, ScenarioError>
     ensures value { Gives (λ n. n) result (slot_at line.now index) }
-    ensures range { IfOk result (λ n. n < 8) }
+    ensures range { IfOk result (λ n. n < SLOT_COUNT) }
 {
     let word = word(line, index)?;
     match operand_of(word) {
@@ -212,12 +228,12 @@ pub fn slot(line: &[Word], index: usize) -> Result<u8, ScenarioError>
     }
 }
 
-/// A cell's number, 0 to 7, where `cells` allows one. Where it does not, a cell is fault 10, and faults are
-/// else as at a register.
+/// A cell's number, 0 to 7, where `cells` allows one. Where it does not, a cell is fault `UNFIT`, and
+/// faults are else as at a register.
 #[tactic(auto, unfolding(crate::specs::Operands::cell_at))]
 pub fn cell(cells: bool, line: &[Word], index: usize) -> Result<u8, ScenarioError>
     ensures value { Gives (λ n. n) result (cell_at cells line.now index) }
-    ensures range { IfOk result (λ n. n < 8) }
+    ensures range { IfOk result (λ n. n < CELL_COUNT) }
 {
     let word = word(line, index)?;
     match operand_of(word) {
@@ -230,7 +246,7 @@ pub fn cell(cells: bool, line: &[Word], index: usize) -> Result<u8, ScenarioErro
 #[tactic(auto, unfolding(crate::specs::Operands::buffer_at))]
 pub fn buffer(line: &[Word], index: usize) -> Result<u8, ScenarioError>
     ensures value { Gives (λ n. n) result (buffer_at line.now index) }
-    ensures range { IfOk result (λ n. n < 64) }
+    ensures range { IfOk result (λ n. n < BUFFER_COUNT) }
 {
     let word = word(line, index)?;
     match operand_of(word) {
@@ -239,8 +255,8 @@ pub fn buffer(line: &[Word], index: usize) -> Result<u8, ScenarioError>
     }
 }
 
-/// A slot, or where `links` allows it a link. Where it does not, a link is fault 10, and faults are else as
-/// at a register.
+/// A slot, or where `links` allows it a link. Where it does not, a link is fault `UNFIT`, and faults are
+/// else as at a register.
 #[tactic(auto, unfolding(crate::specs::Operands::place_at))]
 pub fn place(links: bool, line: &[Word], at: usize) -> Result<Place, ScenarioError>
     ensures value { Gives (λ n. n) result (place_at links line.now at) }
@@ -254,7 +270,7 @@ pub fn place(links: bool, line: &[Word], at: usize) -> Result<Place, ScenarioErr
     }
 }
 
-// A text literal's value: at most 256 bytes, or fault 12.
+// A text literal's value: at most `LITERAL_LIMIT` bytes, or fault `LIMIT`.
 #[tactic(auto, unfolding(crate::specs::Operands::text_literal))]
 fn text_literal(alloc: Global, word: &Word) -> Result<Value, ScenarioError>
     ensures { Gives (λ v. v) result (text_literal word.now) }
@@ -267,7 +283,7 @@ fn text_literal(alloc: Global, word: &Word) -> Result<Value, ScenarioError>
     Ok(Value::Text(ByteList::from_slice(alloc, text)?))
 }
 
-// A bytes literal's value: at most 256 bytes, or fault 12.
+// A bytes literal's value: at most `LITERAL_LIMIT` bytes, or fault `LIMIT`.
 #[tactic(auto, unfolding(crate::specs::Operands::bytes_literal))]
 fn bytes_literal(alloc: Global, word: &Word) -> Result<Value, ScenarioError>
     ensures { Gives (λ v. v) result (bytes_literal word.now) }
@@ -283,7 +299,7 @@ fn bytes_literal(alloc: Global, word: &Word) -> Result<Value, ScenarioError>
 }
 
 /// The operand of a word as a register or a literal. A text or bytes literal of more than 256 bytes is fault
-/// 12, and faults are else as at a register. `Memory` comes where a literal's bytes find no memory.
+/// `LIMIT`, and faults are else as at a register. `Memory` comes where a literal's bytes find no memory.
 #[tactic(auto, unfolding(crate::specs::Operands::literal_of))]
 pub fn literal(alloc: Global, word: &Word, operand: Operand) -> Result<Op, ScenarioError>
     requires { IsOperand operand }
@@ -366,7 +382,7 @@ fn begins_hex(bytes: &[u8]) -> bool
 }
 
 /// The HRESULT of `leave`: `0x` and eight digits, a name, or a register. Another word that begins with `0x`
-/// is fault 3, though it would be a bad number, 6, where an operand stands.
+/// is fault `UNEXPECTED`, though it would be a bad number, `NUMBER`, where an operand stands.
 #[tactic(auto, unfolding(crate::specs::Operands::code_at))]
 pub fn code(line: &[Word], index: usize) -> Result<Code, ScenarioError>
     ensures value { Gives (λ c. c) result (code_at line.now index) }
@@ -401,7 +417,7 @@ pub fn leave_result(alloc: Global, line: &[Word], index: usize) -> Result<Given,
     }
 }
 
-/// `sta` or `mta`. Every other word is fault 3.
+/// `sta` or `mta`. Every other word is fault `UNEXPECTED`.
 #[tactic(auto, unfolding(crate::specs::Operands::mode_at))]
 pub fn mode(line: &[Word], index: usize) -> Result<Mode, ScenarioError>
     ensures { Gives (λ m. m) result (mode_at line.now index) }
@@ -416,7 +432,7 @@ pub fn mode(line: &[Word], index: usize) -> Result<Mode, ScenarioError>
     }
 }
 
-/// `normal`, `strong` or `weak`. Every other word is fault 3.
+/// `normal`, `strong` or `weak`. Every other word is fault `UNEXPECTED`.
 #[tactic(auto, unfolding(crate::specs::Operands::marshal_mode_at))]
 pub fn marshal_mode(line: &[Word], index: usize) -> Result<MarshalMode, ScenarioError>
     ensures { Gives (λ m. m) result (marshal_mode_at line.now index) }

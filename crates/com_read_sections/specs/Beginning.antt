@@ -2,9 +2,12 @@
 use Rattle.std.specs.Prelude.{ℕ, List, [], ◌∷◌, ◌++◌, length, drop, Option, Some, None, is_some, Result, Ok}
 use Rattle.std.specs.Prelude.{Err, nat_le, if◌then◌else◌, codes}
 use Rattle.std.specs.Str.{bytes_eq}
+use Rattle.com_base.specs.declared.limits.TheConstants.{CLASS_LIMIT, FILTER_LIMIT, INTERFACE_LIMIT}
+use Rattle.com_base.specs.declared.limits.TheConstants.{POOL_LIMIT, THREAD_LIMIT}
 use Rattle.com_body.specs.declared.frame.Native.TheVariants as natives
 use Rattle.com_text.specs.Words.{WordAt}
 use Rattle.com_read_operands.specs.declared.faults.Fault.{Fault}
+use Rattle.com_read_operands.specs.declared.faults.TheConstants.Fault.{LIMIT, REPEATED, UNEXPECTED}
 use Rattle.com_read_operands.specs.Reading.{◌>>=◌, fault_at, first_at, end_at, number_at}
 use Rattle.com_read_sections.specs.declared.begin.SectionWord.{SectionWord}
 use Rattle.com_read_sections.specs.declared.begin.SectionWord.TheVariants as words
@@ -27,14 +30,14 @@ section_word_of bytes =
 
 -- the lanes of the pool, given at most once
 unfoldable pub pool_line : State → WordAt → List WordAt → Result State Fault
-pool_line st w line = if is_some st.pool then Err (fault_at 9 w) else (do
-  lanes ← number_at 1 8 line 1
+pool_line st w line = if is_some st.pool then Err (fault_at REPEATED w) else (do
+  lanes ← number_at 1 POOL_LIMIT line 1
   done ← end_at line 2
   Ok (record st { pool = Some lanes }))
 
--- an interface's name and IID: at most 60 beside the built-in ones
+-- an interface's name and IID: at most `INTERFACE_LIMIT` with the built-in ones
 unfoldable pub interface_line : State → WordAt → List WordAt → Result State Fault
-interface_line st w line = if nat_le 64 (length st.names.interfaces) then Err (fault_at 12 w) else (do
+interface_line st w line = if nat_le INTERFACE_LIMIT (length st.names.interfaces) then Err (fault_at LIMIT w) else (do
   name ← interface_name_at st.names.interfaces line
   iid ← free_guid_at st.iids line 2
   done ← end_at line 3
@@ -44,9 +47,9 @@ interface_line st w line = if nat_le 64 (length st.names.interfaces) then Err (f
     section = sections.Interface (record { name = name.bytes; iid = iid; methods = [] });
   }))
 
--- a class's name, CLSID, model and interfaces: at most 64 with the natives
+-- a class's name, CLSID, model and interfaces: at most `CLASS_LIMIT` with the natives
 unfoldable pub class_line : State → WordAt → List WordAt → Result State Fault
-class_line st w line = if nat_le 64 (length st.names.classes) then Err (fault_at 12 w) else (do
+class_line st w line = if nat_le CLASS_LIMIT (length st.names.classes) then Err (fault_at LIMIT w) else (do
   name ← free_name_at st.names.classes line 1
   clsid ← free_guid_at st.clsids line 2
   model ← model_at line 3
@@ -66,7 +69,7 @@ class_line st w line = if nat_le 64 (length st.names.classes) then Err (fault_at
 
 -- a class with built-in bodies
 unfoldable pub native_line : State → WordAt → List WordAt → Result State Fault
-native_line st w line = if nat_le 64 (length st.names.classes) then Err (fault_at 12 w) else (do
+native_line st w line = if nat_le CLASS_LIMIT (length st.names.classes) then Err (fault_at LIMIT w) else (do
   name ← free_name_at st.names.classes line 1
   clsid ← free_guid_at st.clsids line 2
   model ← model_at line 3
@@ -85,9 +88,9 @@ native_line st w line = if nat_le 64 (length st.names.classes) then Err (fault_a
     } ∷ [];
   }))
 
--- a filter's name: at most 16 filters
+-- a filter's name: at most `FILTER_LIMIT` filters
 unfoldable pub filter_line : State → WordAt → List WordAt → Result State Fault
-filter_line st w line = if nat_le 16 (length st.names.filters) then Err (fault_at 12 w) else (do
+filter_line st w line = if nat_le FILTER_LIMIT (length st.names.filters) then Err (fault_at LIMIT w) else (do
   name ← filter_name_at st.names.filters line
   done ← end_at line 2
   Ok (record st {
@@ -95,9 +98,9 @@ filter_line st w line = if nat_le 16 (length st.names.filters) then Err (fault_a
     section = sections.Filter [];
   }))
 
--- at most 16 threads
+-- at most `THREAD_LIMIT` threads
 unfoldable pub thread_line : State → WordAt → List WordAt → Result State Fault
-thread_line st w line = if nat_le 16 (length st.threads) then Err (fault_at 12 w) else (do
+thread_line st w line = if nat_le THREAD_LIMIT (length st.threads) then Err (fault_at LIMIT w) else (do
   done ← end_at line 1
   Ok (record st { section = sections.Thread no_code }))
 
@@ -108,7 +111,7 @@ picks_line st line = do
   Ok (record st { picks = st.picks ++ more })
 
 abbrev pub top_by : State → List WordAt → WordAt → Option SectionWord → Result State Fault
-top_by st line w None = Err (fault_at 3 w)
+top_by st line w None = Err (fault_at UNEXPECTED w)
 top_by st line w (Some words.Pool) = pool_line st w line
 top_by st line w (Some words.Interface) = interface_line st w line
 top_by st line w (Some words.Class) = class_line st w line

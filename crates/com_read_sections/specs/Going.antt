@@ -2,6 +2,7 @@
 -- the section then is. The lines that open or end a section do not.
 use Rattle.std.specs.Prelude.{ℕ, List, Result, Ok, Bool, true, false, if◌then◌else◌, codes}
 use Rattle.std.specs.Str.{bytes_eq}
+use Rattle.com_base.specs.declared.limits.TheConstants.{BODY_LIMIT, SCRIPT_LIMIT}
 use Rattle.com_classes.specs.declared.interfaces.Interface.{Interface}
 use Rattle.com_filter.specs.declared.Rule.{Rule}
 use Rattle.com_text.specs.Words.{WordAt}
@@ -46,11 +47,11 @@ abbrev pub goes_on : Names → List WordAt → Section → Result (Section × Bo
 goes_on names line (sections.Interface i) =
     more_methods names.interfaces i line >>= λ r. Ok (sections.Interface r.0, r.1)
 goes_on names line (sections.Body c head code) =
-    more_statements (program_of c.model) 200 names code line >>= λ r. Ok (sections.Body c head r.0, r.1)
+    more_statements (program_of c.model) BODY_LIMIT names code line >>= λ r. Ok (sections.Body c head r.0, r.1)
 goes_on names line (sections.Filter rules) =
     more_rules rules line >>= λ r. Ok (sections.Filter r.0, r.1)
 goes_on names line (sections.Thread code) =
-    more_statements programs.Script 2000 names code line >>= λ r. Ok (sections.Thread r.0, r.1)
+    more_statements programs.Script SCRIPT_LIMIT names code line >>= λ r. Ok (sections.Thread r.0, r.1)
 goes_on names line section = Ok (section, false)
 
 -- a line that opens or ends a section, or stands outside of sections

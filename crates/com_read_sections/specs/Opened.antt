@@ -2,6 +2,7 @@
 use Rattle.std.specs.Prelude.{ℕ, List, [], ◌∷◌, ◌++◌, length, Option, Some, None, Result, Ok, Err, Bool, true}
 use Rattle.std.specs.Prelude.{false, ◌&&◌, ◌==◌, nat_le, if◌then◌else◌, codes}
 use Rattle.std.specs.Str.{bytes_eq}
+use Rattle.com_base.specs.declared.limits.TheConstants.{BODY_LIMIT, METHOD_LIMIT, RULE_LIMIT, SCRIPT_LIMIT}
 use Rattle.com_body.specs.declared.statements.Stmt.{Stmt}
 use Rattle.com_classes.specs.declared.interfaces.Interface.{Interface}
 use Rattle.com_classes.specs.declared.classes.Class.{Class}
@@ -11,6 +12,7 @@ use Rattle.com_classes.specs.declared.classes.ThreadingModel.TheVariants as mode
 use Rattle.com_filter.specs.declared.Rule.{Rule}
 use Rattle.com_text.specs.Words.{WordAt}
 use Rattle.com_read_operands.specs.declared.faults.Fault.{Fault}
+use Rattle.com_read_operands.specs.declared.faults.TheConstants.Fault.{LIMIT, REPEATED, UNEXPECTED}
 use Rattle.com_read_operands.specs.Reading.{◌>>=◌, fault_at, word_at, first_at, end_at}
 use Rattle.com_read_statements.specs.declared.calls.MethodNumber.{MethodNumber}
 use Rattle.com_read_statements.specs.declared.keywords.Program.{Program}
@@ -34,9 +36,9 @@ interface_closed st i = record st {
   section = sections.Top;
 }
 
--- an interface has at most 32 methods
+-- an interface has at most `METHOD_LIMIT` methods
 unfoldable pub method_line : List (List ℕ) → Interface → WordAt → List WordAt → Result Interface Fault
-method_line names i w line = if nat_le 32 (length i.methods) then Err (fault_at 12 w) else (do
+method_line names i w line = if nat_le METHOD_LIMIT (length i.methods) then Err (fault_at LIMIT w) else (do
   m ← method_of names i.methods line
   Ok (record i { methods = i.methods ++ m ∷ [] }))
 
@@ -57,7 +59,7 @@ has_body (b ∷ bs) head =
 unfoldable pub body_head : State → Class → List WordAt → Result State Fault
 body_head st c line = do
   head ← method_at st.names line 1
-  if has_body c.bodies head then (word_at line 1 >>= λ w. Err (fault_at 9 w)) else (do
+  if has_body c.bodies head then (word_at line 1 >>= λ w. Err (fault_at REPEATED w)) else (do
     done ← end_at line 2
     Ok (record st { section = sections.Body c head no_code }))
 
@@ -72,7 +74,7 @@ inner_class st c line = do
   w ← first_at line
   if bytes_eq w.bytes (codes "body") then body_head st c line
       else (if bytes_eq w.bytes (codes "end") then class_ended st c line
-      else Err (fault_at 3 w))
+      else Err (fault_at UNEXPECTED w))
 
 abbrev pub program_of : ThreadingModel → Program
 program_of models.Agile = programs.AgileBody
@@ -86,30 +88,30 @@ with_body c head body = record c {
 
 abbrev pub body_ended : State → Class → MethodNumber → CodeAt → List WordAt → Result State Fault
 body_ended st c head code line = do
-  body ← checked code 200
+  body ← checked code BODY_LIMIT
   done ← end_at line 1
   Ok (record st { section = sections.Class (with_body c head body) })
 
--- a line of a body: at most 200 statements
+-- a line of a body: at most `BODY_LIMIT` statements
 unfoldable pub inner_body : State → Class → MethodNumber → CodeAt → List WordAt → Result State Fault
 inner_body st c head code line = do
   w ← first_at line
   if bytes_eq w.bytes (codes "end") then body_ended st c head code line else (do
-    more ← program_line (program_of c.model) 200 st.names code w line
+    more ← program_line (program_of c.model) BODY_LIMIT st.names code w line
     Ok (record st { section = sections.Body c head more }))
 
 abbrev pub thread_ended : State → CodeAt → List WordAt → Result State Fault
 thread_ended st code line = do
-  body ← checked code 2000
+  body ← checked code SCRIPT_LIMIT
   done ← end_at line 1
   Ok (record st { threads = st.threads ++ body ∷ []; section = sections.Top })
 
--- a line of a script: at most 2,000 statements
+-- a line of a script: at most `SCRIPT_LIMIT` statements
 unfoldable pub inner_thread : State → CodeAt → List WordAt → Result State Fault
 inner_thread st code line = do
   w ← first_at line
   if bytes_eq w.bytes (codes "end") then thread_ended st code line else (do
-    more ← program_line programs.Script 2000 st.names code w line
+    more ← program_line programs.Script SCRIPT_LIMIT st.names code w line
     Ok (record st { section = sections.Thread more }))
 
 abbrev pub filter_ended : State → List Rule → List WordAt → Result State Fault
@@ -117,10 +119,10 @@ filter_ended st rules line = do
   done ← end_at line 1
   Ok (record st { filters = st.filters ++ rules ∷ []; section = sections.Top })
 
--- at most 32 rules
+-- at most `RULE_LIMIT` rules
 abbrev pub ruled : List Rule → WordAt → List WordAt → Option RuleWord → Result (List Rule) Fault
-ruled rules w line None = Err (fault_at 3 w)
-ruled rules w line (Some k) = if nat_le 32 (length rules) then Err (fault_at 12 w) else (do
+ruled rules w line None = Err (fault_at UNEXPECTED w)
+ruled rules w line (Some k) = if nat_le RULE_LIMIT (length rules) then Err (fault_at LIMIT w) else (do
   r ← rule_of k line
   Ok (rules ++ r ∷ []))
 

@@ -4,6 +4,7 @@ use Rattle.com_base.specs.declared.guid.Guid.{Guid}
 use Rattle.com_classes.specs.declared.interfaces.Interface.{Interface}
 use Rattle.com_text.specs.Words.{LineAt}
 use Rattle.com_read_operands.specs.declared.faults.Fault.{Fault}
+use Rattle.com_read_operands.specs.declared.faults.TheConstants.Fault.{UNENDED}
 use Rattle.com_read_operands.specs.Reading.{◌>>=◌}
 use Rattle.com_read_sections.specs.declared.state.State.{State}
 use Rattle.com_read_sections.specs.declared.state.Section.{Section}
@@ -28,7 +29,7 @@ abbrev pub finished : State → ℕ → ℕ → Section → Result Outline Fault
 finished st line column (sections.Header pending) = Err first_position
 finished st line column sections.Top = Ok (outlined st)
 finished st line column (sections.Interface i) = Ok (outlined (interface_closed st i))
-finished st line column _ = Err (record { number = 11; line = line; column = column })
+finished st line column _ = Err (record { number = UNENDED; line = line; column = column })
 
 -- the text's end
 unfoldable pub finish : State → ℕ → ℕ → Result Outline Fault

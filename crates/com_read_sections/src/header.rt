@@ -9,7 +9,8 @@ use com_read_operands::{Fault, ScenarioError};
 use com_text::{Sort, Word};
 
 // A line above the header or the header itself. What a comment above the header has at fault does not count
-// where the header's line is `scenario` alone or missing: that is fault 1 at the text's first position.
+// where the header's line is `scenario` alone or missing: that is fault `HEADER` at the text's first
+// position.
 #[tactic(auto, unfolding(crate::specs::Header::header_line))]
 pub(crate) fn header_line(
     st: &mut State,

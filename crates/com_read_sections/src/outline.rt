@@ -40,8 +40,9 @@ pub struct Outline {
     pub picks: Rows<u32>,
 }
 
-/// What was read at the text's end, which stands in a line at a column. Above a header it is fault 1 at the
-/// text's first position, and inside of a section other than an interface fault 11 at the end.
+/// What was read at the text's end, which stands in a line at a column. Above a header it is fault `HEADER`
+/// at the text's first position, and inside of a section other than an interface fault `UNENDED` at the
+/// end.
 #[tactic(auto, unfolding(crate::specs::Outlines::finish))]
 pub fn finish(mut st: State, line: u32, column: u32) -> Result<Outline, ScenarioError>
     ensures { Gives (λ o. o) result (finish st line column) }

@@ -14,12 +14,14 @@ use Rattle.com_classes.specs.declared.interfaces.Interface.{Interface}
 use Rattle.com_classes.specs.declared.interfaces.Method.{Method}
 use Rattle.com_text.specs.Words.{WordAt}
 use Rattle.com_read_operands.specs.declared.faults.Fault.{Fault}
+use Rattle.com_read_operands.specs.declared.faults.TheConstants.Fault.{UNDECLARED, UNEXPECTED, UNFIT}
 use Rattle.com_read_operands.specs.declared.operands.Operand.{Operand}
 use Rattle.com_read_operands.specs.declared.operands.Operand.TheVariants as operands
 use Rattle.com_read_operands.specs.Numbers.{number_of}
 use Rattle.com_read_operands.specs.Reading.{◌>>=◌, fault_at, word_at, stands_at, end_at, within}
 use Rattle.com_read_operands.specs.Naming.{is_name, number_of_name, of_16_bits}
 use Rattle.com_read_operands.specs.Operands.{operand_of, unfit, slot_at, literal_of}
+use Rattle.com_read_statements.specs.declared.calls.TheConstants.{LAST_METHOD}
 use Rattle.com_read_statements.specs.declared.calls.MethodNumber.{MethodNumber}
 use Rattle.com_read_statements.specs.declared.calls.Target.{Target}
 use Rattle.com_read_statements.specs.declared.calls.Target.TheVariants as targets
@@ -53,27 +55,27 @@ abbrev pub method_of : List Interface → ℕ → ℕ → Option Method
 method_of tables iface method = in_methods method (slice_get tables iface)
 
 abbrev pub numbered_by : ℕ → WordAt → Option ℕ → Result Target Fault
-numbered_by method w None = Err (fault_at 8 w)
+numbered_by method w None = Err (fault_at UNDECLARED w)
 numbered_by method w (Some iface) = Ok (targets.Numbered (record { iface = iface; method = method }))
 
 -- a method by its number, which is read before the interface's name
 unfoldable pub numbered_of : Names → WordAt → List ℕ → List ℕ → Result Target Fault
 numbered_of names w front digits = do
-  method ← within 0 65535 w (number_of digits)
+  method ← within 0 LAST_METHOD w (number_of digits)
   numbered_by method w (number_of_name names.interfaces front)
 
 abbrev pub named_in : WordAt → ℕ → Option ℕ → Result MethodNumber Fault
-named_in w iface None = Err (fault_at 8 w)
+named_in w iface None = Err (fault_at UNDECLARED w)
 named_in w iface (Some method) = Ok (record { iface = iface; method = method })
 
 abbrev pub named_by : Names → WordAt → List ℕ → Option ℕ → Result MethodNumber Fault
-named_by names w back None = Err (fault_at 8 w)
+named_by names w back None = Err (fault_at UNDECLARED w)
 named_by names w back (Some iface) = named_in w iface (method_number names.tables iface back)
 
 -- a method by its name
 unfoldable pub named_of : Names → WordAt → List ℕ → List ℕ → Result MethodNumber Fault
 named_of names w front back =
-    if is_name back then named_by names w back (number_of_name names.interfaces front) else Err (fault_at 3 w)
+    if is_name back then named_by names w back (number_of_name names.interfaces front) else Err (fault_at UNEXPECTED w)
 
 abbrev pub as_target : Result MethodNumber Fault → Result Target Fault
 as_target r = r >>= λ m. Ok (targets.Named m)
@@ -84,10 +86,10 @@ behind_dot names w front (b ∷ bs) =
     if b == 35 then numbered_of names w front bs else as_target (named_of names w front (b ∷ bs))
 
 abbrev pub dotted : Names → WordAt → Option ℕ → Result Target Fault
-dotted names w None = Err (fault_at 3 w)
+dotted names w None = Err (fault_at UNEXPECTED w)
 dotted names w (Some dot) =
     if is_name (take dot w.bytes) then behind_dot names w (take dot w.bytes) (drop (dot + 1) w.bytes)
-    else Err (fault_at 3 w)
+    else Err (fault_at UNEXPECTED w)
 
 -- an interface's name, a dot, and a method's name or # and its number
 unfoldable pub target_at : Names → List WordAt → ℕ → Result Target Fault
@@ -96,10 +98,10 @@ target_at names line k = do
   dotted names w (dot_of w.bytes)
 
 abbrev pub headed : Names → WordAt → Option ℕ → Result MethodNumber Fault
-headed names w None = Err (fault_at 3 w)
+headed names w None = Err (fault_at UNEXPECTED w)
 headed names w (Some dot) =
     if is_name (take dot w.bytes) then named_of names w (take dot w.bytes) (drop (dot + 1) w.bytes)
-    else Err (fault_at 3 w)
+    else Err (fault_at UNEXPECTED w)
 
 -- the method that a body is for: an interface's name, a dot and a method's name
 unfoldable pub method_at : Names → List WordAt → ℕ → Result MethodNumber Fault
@@ -111,10 +113,10 @@ abbrev pub as_reference : WordAt → Operand → Result Arg Fault
 as_reference w (operands.Slot n) = Ok (args.Slot n)
 as_reference w operands.Null = Ok args.Null
 as_reference w (operands.Wrong n) = Err (fault_at n w)
-as_reference w _ = Err (fault_at 10 w)
+as_reference w _ = Err (fault_at UNFIT w)
 
 abbrev pub as_value : WordAt → Operand → Result Arg Fault
-as_value w operands.Null = Err (fault_at 10 w)
+as_value w operands.Null = Err (fault_at UNFIT w)
 as_value w o = literal_of w o >>= λ op. Ok (args.Op op)
 
 abbrev pub as_argument : Kind → WordAt → Operand → Result Arg Fault
@@ -157,7 +159,7 @@ destination_at kind line k = do
       w ← word_at line (k + 1)
       d ← landing_of kind w (operand_of w)
       done ← end_at line (k + 2)
-      Ok d) else Err (fault_at 3 arrow)) else Ok destinations.Nowhere
+      Ok d) else Err (fault_at UNEXPECTED arrow)) else Ok destinations.Nowhere
 
 -- the call of a method by name
 unfoldable pub call_of : ℕ → MethodNumber → Method → List WordAt → Result Stmt Fault
@@ -167,7 +169,7 @@ call_of slot number method line = do
   Ok (stmts.Call slot number.iface number.method args d)
 
 abbrev pub signed_call : ℕ → MethodNumber → Option Method → List WordAt → Result Stmt Fault
-signed_call slot number None line = word_at line 2 >>= λ w. Err (fault_at 8 w)
+signed_call slot number None line = word_at line 2 >>= λ w. Err (fault_at UNDECLARED w)
 signed_call slot number (Some m) line = call_of slot number m line
 
 abbrev pub call_by : Names → ℕ → List WordAt → Target → Result Stmt Fault

@@ -1,16 +1,20 @@
 -- The statements, each with its operands in order.
-use Rattle.std.specs.Prelude.{ℕ, ◌+◌, List, length, Option, Some, None, Result, Ok, Err, not, nat_lt}
+use Rattle.std.specs.Prelude.{ℕ, ◌+◌, ◌*◌, List, length, Option, Some, None, Result, Ok, Err, not, nat_lt}
 use Rattle.std.specs.Prelude.{if◌then◌else◌, codes}
 use Rattle.std.specs.Str.{bytes_eq}
+use Rattle.com_base.specs.declared.limits.TheConstants.{RAW_LIMIT}
 use Rattle.com_body.specs.declared.statements.Stmt.{Stmt}
 use Rattle.com_body.specs.declared.statements.Stmt.TheVariants as stmts
 use Rattle.com_text.specs.Words.{WordAt}
 use Rattle.com_read_operands.specs.declared.faults.Fault.{Fault}
+use Rattle.com_read_operands.specs.declared.faults.TheConstants.Fault.{LIMIT, UNEXPECTED}
 use Rattle.com_read_operands.specs.Reading.{◌>>=◌, fault_at, word_at, end_at, number_at}
 use Rattle.com_read_operands.specs.Literals.{are_pairs, unhexed}
 use Rattle.com_read_operands.specs.Naming.{name_at, declared_at, asked_at}
 use Rattle.com_read_operands.specs.Operands.{register_at, slot_at, cell_at, buffer_at, place_at, op_at}
 use Rattle.com_read_operands.specs.Operands.{code_at, given_at, mode_at, marshal_mode_at}
+use Rattle.com_read_statements.specs.declared.lanes.TheConstants.{PUMP_LIMIT}
+use Rattle.com_read_statements.specs.declared.local.TheConstants.{SKIP_LIMIT}
 use Rattle.com_read_statements.specs.declared.keywords.Program.{Program}
 use Rattle.com_read_statements.specs.declared.keywords.LocalWord.{LocalWord}
 use Rattle.com_read_statements.specs.declared.keywords.LocalWord.TheVariants as locals
@@ -64,25 +68,25 @@ local_of p locals.Store line = do
   done ← end_at line 3
   Ok (stmts.Store cell from)
 local_of p locals.Skip line = do
-  count ← number_at 1 2000 line 1
+  count ← number_at 1 SKIP_LIMIT line 1
   done ← end_at line 2
   Ok (stmts.Skip count)
 local_of p locals.SkipZero line = do
   register ← register_at line 1
-  count ← number_at 1 2000 line 2
+  count ← number_at 1 SKIP_LIMIT line 2
   done ← end_at line 3
   Ok (stmts.SkipZero register count)
 
 abbrev pub as_raw : WordAt → Option (List ℕ) → Result (List ℕ) Fault
-as_raw w None = Err (fault_at 3 w)
+as_raw w None = Err (fault_at UNEXPECTED w)
 as_raw w (Some bytes) = Ok bytes
 
--- pairs of hexadecimal digits, at most 4,096
+-- pairs of hexadecimal digits, at most `RAW_LIMIT`
 unfoldable pub raw_at : List WordAt → ℕ → Result (List ℕ) Fault
 raw_at line k = do
   w ← word_at line k
-  if not (are_pairs w.bytes) then Err (fault_at 3 w)
-      else (if nat_lt 8192 (length w.bytes) then Err (fault_at 12 w)
+  if not (are_pairs w.bytes) then Err (fault_at UNEXPECTED w)
+      else (if nat_lt (2 * RAW_LIMIT) (length w.bytes) then Err (fault_at LIMIT w)
       else as_raw w (unhexed w.bytes))
 
 -- the actions on references and packets
@@ -184,7 +188,7 @@ lane_of names lanes.SetFilter line = do
   done ← end_at line 2
   Ok (stmts.SetFilter filter)
 lane_of names lanes.Pump line = do
-  bound ← number_at 0 1000 line 1
+  bound ← number_at 0 PUMP_LIMIT line 1
   done ← end_at line 2
   Ok (stmts.Pump bound)
 

@@ -17,8 +17,8 @@ use com_read_operands::{
 use com_text::Word;
 use std::alloc::Global;
 
-// The bytes of `raw`, in pairs of hexadecimal digits: other words are fault 3, and more than 4,096
-// bytes are fault 12.
+// The bytes of `raw`, in pairs of hexadecimal digits: other words are fault `UNEXPECTED`, and more than
+// `RAW_LIMIT` bytes are fault `LIMIT`.
 #[tactic(auto, unfolding(crate::specs::Statements::raw_at))]
 fn raw_bytes(alloc: Global, line: &[Word], index: usize) -> Result<ByteList, ScenarioError>
     ensures { Gives (λ b. b) result (raw_at line.now index) }

@@ -20,6 +20,9 @@ use com_read_operands::{
 use com_text::Word;
 use std::alloc::Global;
 
+// The greatest number of a method.
+const LAST_METHOD: u64 = 0xffff;
+
 /// A method by its interface's number and its own.
 #[derive(Clone, Copy, Debug, PartialEq, Eq)]
 pub struct MethodNumber {
@@ -60,8 +63,9 @@ fn method_number(tables: &[Interface], iface: u16, name: &[u8]) -> Option<u16>
     u16::try_from(number).ok()
 }
 
-/// The method of a call: an interface's name, a dot, and a method's name or `#` and a number of 16
-/// bits. A word of another form is fault 3, a wrong number 6, and a name that is not declared 8.
+/// The method of a call: an interface's name, a dot, and a method's name or `#` and a number of 16 bits. A
+/// word of another form is fault `UNEXPECTED`, a wrong number `NUMBER`, and a name that is not declared
+/// `UNDECLARED`.
 #[tactic(auto, unfolding(crate::specs::Calls::target_at))]
 pub fn target_at(names: &Names, line: &[Word], index: usize) -> Result<Target, ScenarioError>
     ensures { Gives (λ t. t) result (target_at names.now line.now index) }
@@ -104,7 +108,7 @@ fn method_by_name(
 }
 
 /// The method that a body is for: an interface's name, a dot and a method's name. A word of another
-/// form is fault 3, and a name that is not declared is fault 8.
+/// form is fault `UNEXPECTED`, and a name that is not declared is fault `UNDECLARED`.
 #[tactic(auto, unfolding(crate::specs::Calls::method_at))]
 pub fn method_at(names: &Names, line: &[Word], index: usize) -> Result<MethodNumber, ScenarioError>
     ensures { Gives (λ m. m) result (method_at names.now line.now index) }
@@ -131,7 +135,7 @@ fn method_by_number(
     ensures { Gives (λ t. t) result (numbered_of names.now word.now front.now digits.now) }
 {
     let method = match number_of(digits) {
-        Some(number) if number <= 0xffff => number as u16,
+        Some(number) if number <= LAST_METHOD => number as u16,
         _ => return Err(fault(Fault::NUMBER, word)),
     };
     match number_of_name(names.interfaces.as_slice(), front) {
@@ -200,7 +204,7 @@ fn landing(kind: Option<Kind>, word: &Word, operand: Operand) -> Result<Destinat
 }
 
 /// Where a call's result of a kind goes: nowhere, or behind `->` a slot for an interface and a
-/// register for another kind. A destination for a method without result is fault 10.
+/// register for another kind. A destination for a method without result is fault `UNFIT`.
 #[tactic(auto, unfolding(crate::specs::Calls::destination_at))]
 pub fn destination(
     kind: Option<Kind>,

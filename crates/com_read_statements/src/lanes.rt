@@ -15,6 +15,9 @@ use com_read_operands::{
 use com_text::Word;
 use std::alloc::Global;
 
+// The most bodies for which a pump may wait.
+const PUMP_LIMIT: u64 = 1_000;
+
 // A filter's number from 1, or `none`.
 #[tactic(auto, unfolding(crate::specs::Statements::filter_at))]
 fn filter(filters: &[ByteList], line: &[Word], index: usize) -> Result<Option<u32>, ScenarioError>
@@ -89,7 +92,7 @@ pub(crate) fn lane(
             Ok(Stmt::SetFilter { filter })
         }
         LaneWord::Pump => {
-            let bound = number(line, 1, 0, 1000)? as u32;
+            let bound = number(line, 1, 0, PUMP_LIMIT)? as u32;
             end(line, 2)?;
             Ok(Stmt::Pump { bound })
         }

@@ -11,6 +11,9 @@ use com_read_operands::{ScenarioError, cell, end, number, op, register, slot};
 use com_text::Word;
 use std::alloc::Global;
 
+// The most statements that a skip may pass.
+const SKIP_LIMIT: u64 = 2_000;
+
 // The local statement that a line spells behind its keyword.
 #[tactic(auto, unfolding(crate::specs::Statements::local_of))]
 pub(crate) fn local(
@@ -68,13 +71,13 @@ pub(crate) fn local(
             Ok(Stmt::Store { cell, from })
         }
         LocalWord::Skip => {
-            let count = number(line, 1, 1, 2000)? as u32;
+            let count = number(line, 1, 1, SKIP_LIMIT)? as u32;
             end(line, 2)?;
             Ok(Stmt::Skip { count })
         }
         LocalWord::SkipZero => {
             let register = register(line, 1)?;
-            let count = number(line, 2, 1, 2000)? as u32;
+            let count = number(line, 2, 1, SKIP_LIMIT)? as u32;
             end(line, 3)?;
             Ok(Stmt::SkipZero { register, count })
         }

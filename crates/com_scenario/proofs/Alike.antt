@@ -1,8 +1,8 @@
 -- Names and GUIDs that are not among others, in the words of forms.
-use Rattle.std.proofs.Common.{◌≡◌, ℕ, ◌+◌, Bool, true, false, ◌==◌, ◌&&◌, ◌||◌, nat_le, eqb, List, [], ◌∷◌, ◌++◌, length, map, Option, Some, None, is_some, All, refl, sym, ap, ◌∙◌, if◌then◌else◌, option_map, codes, true≢false}
+use Rattle.std.proofs.Common.{◌≡◌, ℕ, ◌+◌, ◌<◌, Bool, true, false, ◌==◌, ◌&&◌, ◌||◌, nat_le, nat_lt, eqb, List, [], ◌∷◌, ◌++◌, length, map, Option, Some, None, is_some, All, refl, arith, sym, ap, ◌∙◌, if◌then◌else◌, option_map, codes, true≢false}
 use Rattle.std.specs.Prelude.{bytes_eq}
 use Rattle.std.proofs.lemmas.List.Elements.{All-nil, All-cons}
-use Rattle.std.proofs.lemmas.Bool.{or_from, leb-true, eqb-true, eq-eqb}
+use Rattle.std.proofs.lemmas.Bool.{or_from, leb-true, ltb-true, eqb-true, eq-eqb}
 use Rattle.com_base.specs.declared.guid.Guid.{Guid}
 use Rattle.com_base.specs.declared.value.Kind.{Kind}
 use Rattle.com_read_operands.specs.Naming.{is_tail, are_tail, is_name, position_of}
@@ -102,8 +102,9 @@ name_bytes (b ∷ bs) h = by (is_tail b) refl h (λ k. name_bytes bs k)
 pub name_good : (bs : List ℕ) → is_name bs ≡ true → IsName bs
 name_good [] h = absurd (true≢false (sym h))
 name_good (b ∷ bs) h =
-    let p = three_parts (is_letter b) (nat_le (length bs) 31) (are_tail bs) h in
-    (p.0, name_bytes bs p.2, leb-true (length bs) 31 p.1)
+    let p = three_parts (is_letter b) (nat_lt (length bs) 32) (are_tail bs) h in
+    let short : length bs < 32 = ltb-true (length bs) 32 p.1 in
+    (p.0, name_bytes bs p.2, omega (arith, short))
   where
     three_parts : (p q r : Bool) → (p && q && r) ≡ true → (p ≡ true) × (q ≡ true) × (r ≡ true)
     three_parts true true true e = (refl, refl, refl)

@@ -2,6 +2,7 @@
 use Rattle.std.specs.Prelude.{ℕ, List, [], ◌∷◌, Bool, true, false, Option, Some, None, nat_lt}
 use Rattle.std.specs.Prelude.{if◌then◌else◌, length, codes}
 use Rattle.std.specs.Str.{bytes_eq}
+use Rattle.com_base.specs.declared.limits.TheConstants.{TEXT_1_LIMIT, TEXT_2_LIMIT}
 use Rattle.com_text.specs.Words.{WordAt, LineAt, is_over, is_remark}
 use Rattle.com_text.specs.Scanning.{lines_of}
 use Rattle.com_scenario.specs.declared.sizes.SecondVersion.{SecondVersion}
@@ -41,8 +42,8 @@ begins_version_2 ls = ends_so (second_version ls)
 
 -- The longest text of version 2, and of every other, in bytes.
 abbrev pub longest_of : Bool → ℕ
-longest_of true = 16777216
-longest_of false = 1048576
+longest_of true = TEXT_2_LIMIT
+longest_of false = TEXT_1_LIMIT
 
 -- Whether a text is longer than its first line with words allows.
 unfoldable pub is_too_long : List ℕ → Bool

@@ -25,7 +25,7 @@ use std::alloc::Global;
 const MEMBER_LIMIT: u64 = 0x7fff_ffff;
 
 // A member: a text literal, or a decimal number from 0 to 2,147,483,647. A number that is out of range or
-// has a sign is fault 6, and another operand is fault 10.
+// has a sign is fault `NUMBER`, and another operand is fault `UNFIT`.
 #[tactic(auto, unfolding(crate::specs::Invoking::member_at))]
 fn member(alloc: Global, line: &[Word], index: usize) -> Result<Member, ScenarioError>
     ensures { Gives (λ m. m) result (member_at line.now index) }
@@ -51,7 +51,7 @@ fn name(alloc: Global, word: &Word) -> Result<Member, ScenarioError>
     }
 }
 
-// An argument: a slot, `null` or a literal. Another operand, as a register, is fault 10.
+// An argument: a slot, `null` or a literal. Another operand, as a register, is fault `UNFIT`.
 fn argument(alloc: Global, word: &Word, operand: Operand) -> Result<DispArg, ScenarioError>
     requires { IsOperand operand }
     ensures value { Gives (λ a. a) result (as_given word.now operand) }
