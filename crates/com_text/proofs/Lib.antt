@@ -3,4 +3,5 @@ pub mod Scans
 pub mod Keeps
 pub mod Cuts
 pub mod Runs
+pub mod Remarks
 pub mod Pieces

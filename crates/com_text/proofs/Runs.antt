@@ -171,7 +171,7 @@ nothing_left : (n : ℕ) → drop {A = ℕ} n [] ≡ []
 nothing_left zero = refl
 nothing_left (suc n) = refl
 
-rest_none : (xs : List ℕ) (n : ℕ) → length xs ≤ n → drop n xs ≡ []
+pub rest_none : (xs : List ℕ) (n : ℕ) → length xs ≤ n → drop n xs ≡ []
 rest_none [] n h = nothing_left n
 rest_none (x ∷ xs) zero h = absurd (omega arith)
 rest_none (x ∷ xs) (suc n) h = rest_none xs n (omega arith)

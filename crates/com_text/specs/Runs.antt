@@ -14,6 +14,10 @@ use Rattle.com_text.specs.Scanning.{Scanning, class_of, lines_from, line_of, mor
 abbrev pub is_graphic : ℕ → Bool
 is_graphic b = nat_lt 32 b && nat_lt b 127
 
+-- a character of a line
+abbrev pub is_character : ℕ → Bool
+is_character b = (nat_lt 31 b && nat_lt b 127) || b == 9
+
 -- A byte that begins a word which cannot become a literal. A bytes literal begins with 120.
 abbrev pub begins_plain : ℕ → Bool
 begins_plain b = is_graphic b && not (b == 34) && not (b == 59) && not (b == 120)
@@ -60,6 +64,20 @@ in_plain text line column from at =
       bytes = slice_range text from at;
     }
 
+-- in a comment that began at a column and an index and has no byte outside the characters
+abbrev pub in_remark : List ℕ → (line column from at : ℕ) → Scanning
+in_remark text line column from at =
+    record {
+      line = line;
+      column = column + (at - from);
+      at = at;
+      first = column;
+      start = from;
+      stands = within.Remark;
+      stray = None;
+      bytes = slice_range text from at;
+    }
+
 -- the word from an index up to another
 abbrev pub plain_word : List ℕ → (line column from to : ℕ) → WordAt
 plain_word text line column from to =
@@ -84,6 +102,12 @@ abbrev pub GoesOn : List ℕ → (at to : ℕ) → Type 0
 GoesOn text at to = (line column from : ℕ) (words : List WordAt) → from < at → begins_plain (slice_index text from) ≡ true
     → lines_from (in_plain text line column from at) words (drop at text)
     ≡ lines_from (in_plain text line column from to) words (drop to text)
+
+-- A comment that began before an index goes on up to another.
+abbrev pub StaysIn : List ℕ → (at to : ℕ) → Type 0
+StaysIn text at to = (line column from : ℕ) (words : List WordAt) → from < at
+    → lines_from (in_remark text line column from at) words (drop at text)
+    ≡ lines_from (in_remark text line column from to) words (drop to text)
 
 -- One word that is no literal stands from an index between words up to another.
 abbrev pub Takes : List ℕ → (from to : ℕ) → Type 0

@@ -13,7 +13,7 @@ mod stray;
 mod token;
 mod word;
 
-pub use line::{Piece, line_at};
+pub use line::line_at;
 pub use scan::{Class, LineEnd, Scanner, Within};
 pub use std::alloc::AllocError as Memory;
 pub use token::{TEXT_LIMIT, TextError, Token, TokenSort, tokens};

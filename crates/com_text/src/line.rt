@@ -3,6 +3,7 @@
 ghost use Rattle.std.specs.Prelude.{◌≡◌, ◌<◌, ◌≤◌, ◌+◌, ◌-◌, ◌^◌, ◌∷◌, [], false, true};
 ghost use Rattle.std.specs.Prelude.{IfOk, length, slice_index, drop};
 ghost use Rattle.com_text.specs.Scanning.{lines_from, at_line, more_lines, line_of};
+ghost use Rattle.com_text.specs.Runs.{is_character, StaysIn};
 ghost use Rattle.com_text.specs.Runs.{is_graphic, begins_plain, is_end, Skips, GoesOn, Takes, Goes};
 ghost use Rattle.com_text.specs.Runs.{IsFresh, plain_word};
 ghost use Rattle.com_text.specs.declared.scan.Within.TheVariants.{Nothing};
@@ -96,6 +97,49 @@ fn plain_end(text: &[u8], from: usize) -> usize
     if is_end(text, end) { end } else { from }
 }
 
+// Whether a byte is a character of a line.
+fn is_character(byte: u8) -> bool
+    ensures { result ≡ is_character byte }
+{
+    (byte > 31 && byte < 127) || byte == b'\t'
+}
+
+// The index behind the characters from an index on.
+#[tactic(auto, using(crate::proofs::Remarks::stays_none, crate::proofs::Remarks::stays_more))]
+fn characters_end(text: &[u8], from: usize) -> usize
+    requires { from ≤ length text.now }
+    ensures low { from ≤ result }
+    ensures high { result ≤ length text.now }
+    ensures stays { StaysIn text.now from result }
+{
+    for i in from..text.len() {
+        if !is_character(text[i]) {
+            return i;
+        }
+    }
+    text.len()
+}
+
+// The index behind the comment at an index, where one stands there and the line ends behind its characters, and
+// else the same index.
+#[tactic(auto, using(crate::proofs::Runs::skip_none, crate::proofs::Remarks::passed_line, crate::proofs::Remarks::passed_last))]
+fn remark_end(text: &[u8], from: usize) -> usize
+    requires { from ≤ length text.now }
+    ensures low { from ≤ result }
+    ensures high { result ≤ length text.now }
+    ensures skips { Skips text.now from result }
+{
+    if from >= text.len() || text[from] != b';' {
+        return from;
+    }
+    let end = characters_end(text, from + 1);
+    if end >= text.len() || text[end] == b'\n' {
+        end
+    } else {
+        from
+    }
+}
+
 // The word from an index up to another, in a line that begins at `at`.
 fn plain_word<'a>(text: &'a [u8], line: u32, at: usize, from: usize, to: usize) -> Word<'a>
     requires size { length text.now < 2 ^ 32 - 2 }
@@ -172,7 +216,8 @@ fn take_odd<'a>(
     }))
 }
 
-// The piece at an index between words, and the spaces before it. A word that is no literal is taken at one time.
+// The piece at an index between words, and the spaces before it. A word that is no literal is taken at one time,
+// and so is a comment.
 #[tactic(auto, using(crate::proofs::Pieces::goes_word, crate::proofs::Pieces::goes_behind))]
 fn take_piece<'a>(
     text: &'a [u8],
@@ -192,7 +237,7 @@ fn take_piece<'a>(
         words.push(plain_word(text, line, at, begin, end))?;
         return Ok(Piece::Next(end));
     }
-    take_odd(text, line, at, begin, words)
+    take_odd(text, line, at, remark_end(text, begin), words)
 }
 
 /// The words of the line that begins at an index, in place of those that `words` held, and where it

@@ -85,7 +85,6 @@ impl<'a> Word<'a> {
     }
 
     /// What it is, with the column of its first byte outside the characters where it has one.
-    #[inline(always)]
     pub fn sort(&self) -> Sort
         ensures { result ≡ self.now.sort }
     {
