@@ -27,7 +27,7 @@ use Rattle.com_refs_rows.specs.declared.calls.CallPackets.{CallPackets}
 use Rattle.com_refs_rows.specs.Books.{Held, books_held}
 use Rattle.com_refs_rows.specs.Calls.{arguments_in, result_in}
 use Rattle.com_refs_rows.specs.Moving.{Touches}
-use Rattle.com_ledger.specs.Ties.{AllTouched, OwnersTie, Ties, IsNew, places_at, holders_at}
+use Rattle.com_ledger.specs.Ties.{AllTouched, OffersTie, OwnersTie, Ties, IsNew, places_at, holders_at}
 
 -- ---- holders
 
@@ -142,6 +142,14 @@ new-totals w p = record {
       omega (arith, locals, no-direct w o p, sum-nothing 3 (λ a. 0) (λ a. refl));
 }
 
+none-true : false ≡ true → ⊥
+none-true e = cc
+
+-- No object was made, and no class has number 0.
+first-offers : (s : Scenario) (w : Held) → OffersTie s (first_tables s) w
+first-offers s w zero i h = absurd (none-true h)
+first-offers s w (suc o) i h = absurd (none-true h)
+
 pub first-tied : (s : Scenario) (w : Held) → IsNew w → Ties s (first_tables s) w
 first-tied s w p =
     let none : places_at s (first_tables s) ≡ (λ a o. 0) = fun_ext (λ a. fun_ext (λ o. first-places s a o)) in
@@ -154,6 +162,7 @@ first-tied s w p =
         number = ap (λ (rows : List ObjectRow). length rows) p.objects;
         owns = λ o a. new-owns s w o a p;
       };
+      offers = first-offers s w;
       calls = ap (λ (rows : List CallPackets). length rows) p.calls;
     }
 

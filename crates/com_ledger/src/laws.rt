@@ -26,6 +26,7 @@ ghost use Rattle.com_refs.specs.Totals.{Totals};
 ghost use Rattle.com_refs_rows.specs.Books.{Held};
 ghost use Rattle.com_refs_rows.specs.Entries.{Applies, Around, StandsAround, tally};
 ghost use Rattle.com_refs_rows.specs.Moving.{plus, AllBelow, Touches};
+ghost use Rattle.com_refs_rows.specs.Owners.{OffersMore};
 ghost use Rattle.com_ledger.specs.Ties.{AllTouched, AppliedAs, EndedAt, EntryEnds, IsNew, OwnersGrow};
 ghost use Rattle.com_ledger.specs.Ties.{OwnersTie, Ties, holders_at, places_at};
 
@@ -123,14 +124,16 @@ pub fn entries_reach()
 {}
 
 /// Where a ledger is tied to the state before a lane's next entry, and the entry was applied to it beside
-/// what the state has, with the moves of the entry, it is tied to the state after the entry.
+/// what the state has, with the moves of the entry, and an object that it makes has the interfaces of its
+/// class in its set, it is tied to the state after the entry.
 pub fn applied_ties()
     ensures { (s : Scenario) (st : State) (h : List Entry) (l : ℕ) (d : Deed) (g : Around)
         (gained lost : List Move) (w u : Held) → Formed s → StandsFor s st h → next_of s st l ≡ Some d
         → movings_of gained ≡ (moves_in s st (record { lane = l; deed = d })).gained
         → movings_of lost ≡ (moves_in s st (record { lane = l; deed = d })).lost → Ties s st w
         → StandsAround s st l d g → ((n : ℕ) (places : ℕ → ℕ → ℕ) → Counts n places u.tables
-        → Totals n places u.tables) → Applies g d gained lost (tally w.tables w.calls)
+        → Totals n places u.tables) → OffersMore g.classes (makes d) w.tables u.tables
+        → Applies g d gained lost (tally w.tables w.calls)
         (tally u.tables u.calls) → Ties s (after s st l d) u }
 {}
 

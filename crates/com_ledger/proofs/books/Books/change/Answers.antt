@@ -1,4 +1,9 @@
-use Rattle.std.proofs.Common.{◌≡◌, ℕ, List, length, sym, ap, subst, ◌∙◌, arith}
+use Rattle.std.proofs.Common.{◌≡◌, ℕ, true, ◌||◌, List, length, sym, ap, subst, ◌∙◌, arith}
+use Rattle.com_refs_holders.specs.Tables.{Tables, offers}
+use Rattle.com_model.specs.Lists.{number_or_zero}
+use Rattle.com_model.specs.Objects.{makes}
+use Rattle.com_refs_rows.specs.Owners.{offers_made}
+use Rattle.com_ledger.proofs.Offered.{fits_prepared, given_prepared}
 use Rattle.com_refs_rows.specs.declared.calls.CallPackets.{CallPackets}
 use Rattle.com_refs_rows.specs.Entries.{asked_packets}
 use Rattle.com_reference_moves.specs.Steps.{moving_of}
@@ -11,8 +16,19 @@ use Rattle.com_ledger.proofs.Kept.{held_made, loses_kept}
 use Rattle.com_refs_rows.proofs.Unholding.{loses_whole}
 use Rattle.com_ledger.proofs.books.Books.change.Goals as goal
 
+pub enter_reference-requires-clause-fits : goal.enter_reference-requires-clause-fits
+enter_reference-requires-clause-fits c =
+    fits_prepared c.args.context.classes.now c.args.context.carried.now (number_or_zero c.args.context.running) c.number_or_zero-apartment.result c.prepare.new.self.refs.spare c.args.self.now.refs c.prepare.new.self.refs c.args.self.now.calls c.prepare.new.self.calls c.args.entry.now.deed
+    c.in_ok-prepare.ensures.refs c.in_ok-prepare.ensures.calls c.number_or_zero-apartment.ensures c.requires.fits.row
+
 pub take-requires-clause-known : goal.take-requires-clause-known
-take-requires-clause-known c = λ k h. c.in_ok-enter_reference.ensures.offers _ _ (c.in_ok-prepare.ensures.known k h)
+take-requires-clause-known c = λ k h. c.in_ok-enter_reference.ensures.offers _ _
+    (given_prepared c.args.context.classes.now c.prepare.new.self.refs.spare c.args.self.now.refs c.prepare.new.self.refs c.args.entry.now.deed c.gains-gained.result.now c.in_ok-prepare.ensures.refs (c.requires.known c.gains-gained.result.now c.gains-gained.ensures) k h)
+
+pub returns-clause-offers : goal.returns-clause-offers
+returns-clause-offers c = λ o i e.
+    c.lose_all.ensures.offers o i ∙ c.enter_end.ensures.offers o i ∙ c.take.ensures.offers o i
+    ∙ c.in_ok-enter_reference.ensures.offers o i (subst (λ (v : Tables). (offers v o i || offers_made c.args.context.classes.now (makes c.args.entry.now.deed) o i) ≡ true) (sym c.in_ok-prepare.ensures.refs) e)
 
 pub keep_made-requires : goal.keep_made-requires
 keep_made-requires c =

@@ -1,11 +1,23 @@
-use Rattle.std.proofs.Common.{◌≡◌, List, subst}
+use Rattle.std.proofs.Common.{◌≡◌, List, sym, subst}
 use Rattle.std.specs.Prelude.{OnOk}
 use Rattle.com_model.specs.Lists.{number_or_zero}
 use Rattle.com_reference_moves.specs.declared.moves.Move.{Move}
 use Rattle.com_reference_moves.specs.Steps.{movings_of}
 use Rattle.com_refs_rows.specs.Books.{Held}
-use Rattle.com_refs_rows.specs.Entries.{Loses, around, tally}
+use Rattle.com_refs_rows.specs.Entries.{AllGiven, Loses, around, tally}
+use Rattle.com_refs_rows.specs.Fits.{FitsBooks}
 use Rattle.com_ledger.proofs.ledger.Ledger.apply.Goals as goal
+
+pub change-requires-clause-fits : goal.change-requires-clause-fits
+change-requires-clause-fits c =
+    subst (λ (h : Held). FitsBooks c.args.context.classes.now c.args.context.carried.now (number_or_zero c.args.context.running) (tally h.tables h.calls) c.args.entry.now.deed) (sym c.self.view_is) c.requires.fits
+
+pub change-requires-clause-known : goal.change-requires-clause-known
+change-requires-clause-known c =
+    subst (λ (h : Held). (gained : List Move) → movings_of gained ≡ c.args.moves.now.gained → AllGiven c.args.context.classes.now h.tables c.args.entry.now.deed gained) (sym c.self.view_is) c.requires.known
+
+pub returns-clause-offers : goal.returns-clause-offers
+returns-clause-offers c = rw (← c.self.view_is) c.change.ensures.offers
 
 pub returns-clause-applies : goal.returns-clause-applies
 returns-clause-applies c = rw (← c.self.view_is) c.change.ensures.applies
