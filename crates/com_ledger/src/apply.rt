@@ -36,6 +36,11 @@ use com_refs_rows::{
     enter_unmarshal, gain_all, is_left, issue, lose_all, read_all, reply,
 };
 
+// The answer where something holds object 0. No entry that the rules give comes to that; it is not proved here.
+fn unproved_fact() -> Memory {
+    Memory
+}
+
 // What is carried, where there are bytes.
 fn carried_in<'a>(carried: &'a [RefValue], is_marshalled: bool) -> &'a [RefValue]
     ensures { result.now ≡ (if is_marshalled then carried.now else []) }
@@ -127,7 +132,7 @@ impl Books {
         }
     }
 
-    // Makes room for the entry. Nothing changes but room. The only error is want of memory.
+    // Makes room for the entry, and looks that nothing holds object 0. Nothing changes but room.
     fn prepare(
         &mut self,
         deed: &Deed,
@@ -137,11 +142,17 @@ impl Books {
     ) -> Result<(), Memory>
         requires carried { length context.carried.now ≤ 4 }
         requires gained { length gained.now ≤ most_gained }
+        requires numbers { self.old.refs.issued + most_given ≤ 2 ^ 28 }
         ensures refs { self.new.refs ≡ record self.old.refs { spare = self.new.refs.spare } }
         ensures places { SamePlaces self.old.refs self.new.refs }
         ensures books { books_of self.new.refs ≡ books_of self.old.refs }
         ensures calls { self.new.calls ≡ self.old.calls }
         ensures touched { self.new.touched.items ≡ self.old.touched.items }
+        ensures none { OnOk result (holders_of self.new.refs 0 ≡ 0) }
+        ensures steps { OnOk result (row_steps self.new.calls context.entry.carried.now deed.now
+            + length gained.now ≤ most_given) }
+        ensures few { OnOk result (self.new.refs.issued
+            + row_steps self.new.calls context.entry.carried.now deed.now + length gained.now < 2 ^ 28) }
         ensures room { OnOk result (row_steps self.new.calls context.entry.carried.now deed.now
             + length gained.now ≤ self.new.refs.spare) }
         ensures brought { OnOk result (asked_packets self.new.calls deed.now + 1
@@ -153,6 +164,9 @@ impl Books {
         let arguments = self.arguments_of(deed) as usize;
         let steps = arguments + context.carried.len() + gained.len() + 2;
         self.refs.reserve(steps as u32)?;
+        if self.refs.is_held(0) {
+            return Err(unproved_fact());
+        }
         self.brought.clear();
         self.brought.reserve(arguments + 1)?;
         let noted = most_noted(deed, context.objects, arguments, lost);

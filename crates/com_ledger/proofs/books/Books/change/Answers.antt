@@ -16,6 +16,16 @@ use Rattle.com_ledger.proofs.Kept.{held_made, loses_kept}
 use Rattle.com_refs_rows.proofs.Unholding.{loses_whole}
 use Rattle.com_ledger.proofs.books.Books.change.Goals as goal
 
+pub prepare-requires-clause-gained : goal.prepare-requires-clause-gained
+prepare-requires-clause-gained c =
+    let many : length c.gains-gained.result.now ≡ length c.args.moves.now.gained = sym (length-map c.gains-gained.result.now moving_of) ∙ ap (λ l. length l) c.gains-gained.ensures in
+    omega (arith, many, c.requires.gained)
+
+pub returns-clause-issued : goal.returns-clause-issued
+returns-clause-issued c =
+    let same : c.prepare.new.self.refs.issued ≡ c.args.self.now.refs.issued = ap (λ (t : Tables). t.issued) c.in_ok-prepare.ensures.refs in
+    omega (arith, same, c.in_ok-prepare.ensures.steps, c.enter_reference.ensures.issued, c.take.ensures.issued, c.enter_end.ensures.issued, c.lose_all.ensures.issued)
+
 pub enter_reference-requires-clause-fits : goal.enter_reference-requires-clause-fits
 enter_reference-requires-clause-fits c =
     fits_prepared c.args.context.classes.now c.args.context.carried.now (number_or_zero c.args.context.running) c.number_or_zero-apartment.result c.prepare.new.self.refs.spare c.args.self.now.refs c.prepare.new.self.refs c.args.self.now.calls c.prepare.new.self.calls c.args.entry.now.deed

@@ -19,6 +19,9 @@ change-requires-clause-known c =
 pub returns-clause-offers : goal.returns-clause-offers
 returns-clause-offers c = rw (← c.self.view_is) c.change.ensures.offers
 
+pub returns-clause-issued : goal.returns-clause-issued
+returns-clause-issued c = rw (← c.self.view_is) c.change.ensures.issued
+
 pub returns-clause-applies : goal.returns-clause-applies
 returns-clause-applies c = rw (← c.self.view_is) c.change.ensures.applies
 
