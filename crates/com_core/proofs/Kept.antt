@@ -11,7 +11,8 @@ use Rattle.com_core.specs.declared.running.Running.{Running}
 use Rattle.com_core.specs.Making.{TiesLater}
 use Rattle.com_core.specs.Seen.{CoreView, IsAsBefore, IsFirst, IsKept, IsWhole, Steps, core_of, core_state, kept_of}
 use Rattle.com_core.proofs.Entries.{steps_stand}
-use Rattle.com_core.proofs.Shown.{as_kept, core_alike, steps_shown, whole_kept}
+use Rattle.com_core.specs.Shown.{held_shown}
+use Rattle.com_core.proofs.Shown.{as_kept, core_alike, state_shown, steps_shown, ties_kept, whole_kept}
 
 pub steps_kept : (lane : ℕ) (old new : CoreView) (e : Entry) → IsKept old → Steps lane old new e → new.scenario ≡ old.scenario → new.clock ≡ ticked e.deed old.clock
     → (core_state new ≡ after old.scenario (core_state old) lane e.deed) × IsKept new
@@ -56,6 +57,12 @@ next_stepped (Err x) lane old new k same steps own tells = tt
 -- A core is whole in what it keeps, whichever scenario that is told of, if it is the core's.
 pub whole_held : (w s : Scenario) (r : Running) → w ≡ s → IsKept (core_of s r) → IsWhole (kept_of w r)
 whole_held w s r same k = subst (λ (y : Scenario). IsWhole (kept_of y r)) (sym same) (whole_kept (kept_of s r) k.whole)
+
+-- And its ledger is tied to its state.
+pub ties_held : (w s : Scenario) (r : Running) → w ≡ s → IsKept (core_of s r) → Ties w (core_state (kept_of w r)) r.ledger
+ties_held w s r same k =
+    subst (λ (y : Scenario). Ties y (core_state (kept_of y r)) r.ledger) (sym same)
+    (ties_kept s (core_state (kept_of s r)) r.ledger (subst (λ (x : State). Ties s x (held_shown r.ledger)) (state_shown (kept_of s r)) k.ties))
 
 -- What holds of a core's scenario and state holds of what it keeps, whichever scenario that is told of.
 pub as_held : (P : Scenario → State → Type 0) (w s : Scenario) (r : Running) (x : CoreView) → w ≡ s → core_of s r ≡ x → P x.scenario (core_state x) → P w (core_state (kept_of w r))

@@ -1,10 +1,10 @@
 //! The change of a core by an entry.
 
-ghost use Rattle.std.specs.Prelude.{◌≡◌, ℕ, ◌+◌, ◌<◌, ◌≤◌, ◌^◌, All, IfOk, OnErr, OnOk, true};
+ghost use Rattle.std.specs.Prelude.{◌≡◌, ℕ, ◌+◌, ◌<◌, ◌≤◌, ◌^◌, All, IfOk, List, OnErr, OnOk, true};
 ghost use Rattle.std.specs.Prelude.{is_some, length, map, slice_index_or, vec_capacity};
 ghost use Rattle.com_calls.specs.Kept.{IsNamed};
 ghost use Rattle.com_core.specs.Changes.{Becomes, Settles, sent_by};
-ghost use Rattle.com_core.specs.Making.{Booked, BookedBy, Changed};
+ghost use Rattle.com_core.specs.Making.{Booked, BookedBy, Brings, Changed};
 ghost use Rattle.com_core.specs.Seen.{IsAsBefore, IsWhole as IsWholeCore, TurnsTo};
 ghost use Rattle.com_core.specs.Seen.{core_state, kept_of};
 ghost use Rattle.com_core.specs.Shown.{held_shown, parts_shown};
@@ -14,15 +14,17 @@ ghost use Rattle.com_runtime.specs.declared.runtime.Standing.TheVariants as stan
 ghost use Rattle.com_runtime.specs.Standings.{can_step_in, standing_of};
 ghost use Rattle.com_ledger.specs.Bodies.{entered_after};
 ghost use Rattle.com_ledger.specs.Most.{Most};
+ghost use Rattle.com_ledger.specs.Ties.{Ties};
 ghost use Rattle.com_refs_rows.specs.Books.{books_held};
-ghost use Rattle.com_refs_rows.specs.Entries.{around, most_left};
-ghost use Rattle.com_refs_rows.specs.Fits.{FitsBooks};
+ghost use Rattle.com_refs_rows.specs.Entries.{AllGiven, around, most_left, tally};
+ghost use Rattle.com_refs_rows.specs.Fits.{FitsBooks, most_gained};
 ghost use Rattle.com_model.specs.Calls.{lane_of};
 ghost use Rattle.com_model.specs.Clock.{ticked};
 ghost use Rattle.com_model.specs.Ends.{limit};
 ghost use Rattle.com_model.specs.Lists.{number_or_zero};
 ghost use Rattle.com_model.specs.Tables.{lanes};
-ghost use Rattle.com_reference_moves.specs.Steps.{IsWhole, moves_stepped};
+ghost use Rattle.com_reference_moves.specs.declared.moves.Move.{Move};
+ghost use Rattle.com_reference_moves.specs.Steps.{IsWhole, moves_stepped, movings_of};
 ghost use Rattle.com_reference_moves.specs.Tables.{ground_at};
 ghost use Rattle.com_parts.specs.Begins.{IsBegun};
 ghost use Rattle.com_refs.specs.Counts.{holders_of};
@@ -185,8 +187,11 @@ impl Running {
         entry: &Entry,
     ) -> Result<(), Memory>
         requires deed { FitsDeed entry.now.deed }
-        requires fits { FitsBooks scenario.now.classes self.old.ledger.tables.cookies
-            self.old.ledger.tables.stubs entry.now.deed }
+        requires fits { FitsBooks scenario.now.classes carried.now (number_or_zero basis.running)
+            (tally self.old.ledger.tables self.old.ledger.calls) entry.now.deed }
+        requires known { (gained : List Move) → movings_of gained ≡ self.old.moves.gained
+            → AllGiven scenario.now.classes self.old.ledger.tables entry.now.deed gained }
+        requires gained { length self.old.moves.gained ≤ most_gained }
         ensures booked { OnOk result (Booked (around self.old.parts.calls.tables self.old.parts.objects
             scenario.now.classes carried.now (number_or_zero basis.running)) entry.now.deed self.old.moves
             self.old.ledger self.new.ledger) }
@@ -325,8 +330,10 @@ impl Running {
         requires few { Few self.old.parts }
         requires room { self.old.parts.entries < 1_000_000 }
         requires deed { FitsDeed entry.now.deed }
-        requires fits { FitsBooks scenario.now.classes self.old.ledger.tables.cookies
-            self.old.ledger.tables.stubs entry.now.deed }
+        requires fits { FitsBooks scenario.now.classes carried.now (number_or_zero basis.running)
+            (tally self.old.ledger.tables self.old.ledger.calls) entry.now.deed }
+        requires brings { Brings scenario.now self.old.parts self.old.ledger entry.now
+            (acting_of acting) outcome.old }
         requires whole { IsWhole outcome.old }
         ensures becomes { OnOk result (Becomes self.old.parts self.new.parts entry.now
             (acting_of acting) outcome.old
@@ -371,8 +378,11 @@ impl Running {
         requires whole { IsWhole outcome.old }
         requires room { self.old.parts.entries < 1_000_000 }
         requires deed { FitsDeed entry.now.deed }
-        requires fits { FitsBooks scenario.now.classes self.old.ledger.tables.cookies
-            self.old.ledger.tables.stubs entry.now.deed }
+        requires fits { FitsBooks scenario.now.classes carried.now (number_or_zero (running_seen
+            (seen_by scenario.now self.old.parts self.old.fallen.objects self.old.clock) entry.now.lane))
+            (tally self.old.ledger.tables self.old.ledger.calls) entry.now.deed }
+        requires brings { Brings scenario.now self.old.parts self.old.ledger entry.now
+            (acting_of acting) outcome.old }
         ensures few { Few self.new.parts }
         ensures sound { Sound self.new.parts self.new.entered.counts }
         ensures entries { OnOk result (self.new.parts.entries ≡ self.old.parts.entries + 1) }
@@ -401,6 +411,7 @@ impl Running {
         requires sound { Sound self.old.parts self.old.entered.counts }
         requires few { Few self.old.parts }
         requires core { IsWholeCore (kept_of scenario.now self.old) }
+        requires ties { Ties scenario.now (core_state (kept_of scenario.now self.old)) self.old.ledger }
         requires above { 1 ≤ lane }
         requires below { lane ≤ lanes scenario.now }
         requires whole { IsWhole outcome.old }
@@ -482,6 +493,7 @@ impl Running {
         requires sound { Sound self.old.parts self.old.entered.counts }
         requires few { Few self.old.parts }
         requires core { IsWholeCore (kept_of scenario.now self.old) }
+        requires ties { Ties scenario.now (core_state (kept_of scenario.now self.old)) self.old.ledger }
         requires above { 1 ≤ lane }
         requires below { lane ≤ lanes scenario.now }
         requires can { can_step_in scenario.now (core_state (kept_of scenario.now self.old)) lane ≡ true }
@@ -510,6 +522,7 @@ impl Running {
         requires sound { Sound self.old.parts self.old.entered.counts }
         requires few { Few self.old.parts }
         requires core { IsWholeCore (kept_of scenario.now self.old) }
+        requires ties { Ties scenario.now (core_state (kept_of scenario.now self.old)) self.old.ledger }
         requires due { standing_of scenario.now (core_state (kept_of scenario.now self.old)) ≡ standing.Ticks }
         requires room { self.old.parts.entries < limit scenario.now }
         ensures few { Few self.new.parts }

@@ -9,6 +9,7 @@ ghost use Rattle.com_core.specs.Sound.{Few, Sound};
 ghost use Rattle.com_core.specs.Stands.{seen_by};
 ghost use Rattle.com_runtime.specs.Jobs.{Fits, HasShape, IsGivenBack, IsRefused, job_of, kept_in};
 ghost use Rattle.com_runtime.specs.Standings.{can_step_in};
+ghost use Rattle.com_ledger.specs.Ties.{Ties};
 ghost use Rattle.com_refs_rows.specs.Books.{books_held};
 ghost use Rattle.com_model.specs.declared.keeps.Opener.TheVariants.{Enters};
 ghost use Rattle.com_model.specs.Clock.{ticked};
@@ -120,6 +121,7 @@ impl Running {
         requires sound { Sound self.old.parts self.old.entered.counts }
         requires few { Few self.old.parts }
         requires core { IsWholeCore (kept_of scenario.now self.old) }
+        requires ties { Ties scenario.now (core_state (kept_of scenario.now self.old)) self.old.ledger }
         requires above { 1 ≤ lane }
         requires below { lane ≤ lanes scenario.now }
         requires room { self.old.parts.entries < limit scenario.now }
@@ -161,6 +163,7 @@ impl Running {
         requires sound { Sound self.old.parts self.old.entered.counts }
         requires few { Few self.old.parts }
         requires core { IsWholeCore (kept_of scenario.now self.old) }
+        requires ties { Ties scenario.now (core_state (kept_of scenario.now self.old)) self.old.ledger }
         requires above { 1 ≤ lane }
         requires below { lane ≤ lanes scenario.now }
         requires room { self.old.parts.entries < limit scenario.now }
@@ -229,6 +232,7 @@ impl Running {
         requires sound { Sound self.old.parts self.old.entered.counts }
         requires few { Few self.old.parts }
         requires core { IsWholeCore (kept_of scenario.now self.old) }
+        requires ties { Ties scenario.now (core_state (kept_of scenario.now self.old)) self.old.ledger }
         requires above { 1 ≤ lane }
         requires below { lane ≤ lanes scenario.now }
         requires body { is_body (first (openers_at self.old.parts.lanes lane)) ≡ false }

@@ -1,5 +1,5 @@
 -- A ledger after an entry is tied to the state after it.
-use Rattle.std.proofs.Common.{◌≡◌, refl, sym, ap, ◌∙◌, subst, arith, inl, inr, ℕ, zero, suc, Bool, true, false, cond, eqb, ◌&&◌, ◌||◌, ◌+◌, ◌-◌, ◌<◌, ◌≤◌, ◌⊎◌, List, [], ◌∷◌, length}
+use Rattle.std.proofs.Common.{◌≡◌, refl, sym, ap, ◌∙◌, subst, arith, inl, inr, ℕ, zero, suc, Bool, true, false, cond, eqb, ◌&&◌, ◌||◌, ◌+◌, ◌-◌, ◌*◌, ◌<◌, ◌≤◌, ◌⊎◌, List, [], ◌∷◌, length}
 use Rattle.std.proofs.lemmas.Bool.{cases_lt}
 use Rattle.std.proofs.lemmas.Grind.{common_steps}
 use Rattle.std.proofs.lemmas.List.Sums.{sum_by-cons}
@@ -198,6 +198,9 @@ offers-tie s st su h e w u p q t g = λ o i k.
 calls-tie : (s : Scenario) (st : State) (l : ℕ) (d : Deed) (w u : Held) → length w.calls ≡ length st.issues → length u.calls ≡ count_if (issued_by (record { lane = l; deed = d })) + length w.calls → length u.calls ≡ length (after s st l d).issues
 calls-tie s st l d w u t g = g ∙ ap (λ (n : ℕ). count_if (issued_by (record { lane = l; deed = d })) + n) t ∙ sym (length-grown (issued_by (record { lane = l; deed = d })) _ st.issues)
 
+issued-tie : (n m k : ℕ) → n ≤ 32 * k → m ≤ n + 32 → m ≤ 32 * (k + 1)
+issued-tie n m k p q = omega (arith, p, q)
+
 -- ---- the whole
 
 tied-after : (s : Scenario) (st : State) (h : List Entry) (l : ℕ) (d : Deed) (w u : Held) → StandsFor s st h → StandsFor s (after s st l d) (record { lane = l; deed = d } ∷ h)
@@ -209,6 +212,7 @@ tied-after s st h l d w u p q t c = record {
   objects = objects-tie s st (after s st l d) h (record { lane = l; deed = d }) w u p q t.objects c.objects;
   offers = offers-tie s st (after s st l d) h (record { lane = l; deed = d }) w u p q t.offers c.offers;
   calls = calls-tie s st l d w u t.calls c.calls;
+  issued = issued-tie w.tables.issued u.tables.issued st.entries t.issued c.issued;
 }
 
 pub ties-after : (s : Scenario) (st : State) (h : List Entry) (l : ℕ) (d : Deed) (w u : Held) → Formed s → StandsFor s st h → next_of s st l ≡ Some d → Ties s st w → EntryEnds s st l d w u → Ties s (after s st l d) u

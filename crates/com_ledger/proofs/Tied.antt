@@ -1,6 +1,6 @@
 -- What the tables of a ledger say of the state that it is tied to, and the ties of the new ledger.
 use mathlib.Core.Path.{fun_ext}
-use Rattle.std.proofs.Common.{◌≡◌, refl, sym, ap, ◌∙◌, subst, arith, eqb-true, ℕ, zero, suc, Bool, true, false, cond, not, eqb, ◌&&◌, ◌+◌, ◌<◌, ◌||◌, List, [], length}
+use Rattle.std.proofs.Common.{◌≡◌, refl, sym, ap, ◌∙◌, subst, arith, eqb-true, ℕ, zero, suc, Bool, true, false, cond, not, eqb, ◌&&◌, ◌+◌, ◌*◌, ◌<◌, ◌≤◌, ◌||◌, List, [], length}
 use Rattle.std.proofs.lemmas.Grind.{common_steps}
 use Rattle.std.specs.Prelude.{None}
 use Rattle.com_refs_books.specs.Changes.{Books, no_books, held_outside}
@@ -26,8 +26,7 @@ use Rattle.com_stub.specs.StubRows.{is_connected}
 use Rattle.com_refs_rows.specs.declared.calls.CallPackets.{CallPackets}
 use Rattle.com_refs_rows.specs.Books.{Held, books_held}
 use Rattle.com_refs_rows.specs.Calls.{arguments_in, result_in}
-use Rattle.com_refs_rows.specs.Moving.{Touches}
-use Rattle.com_ledger.specs.Ties.{AllTouched, OffersTie, OwnersTie, Ties, IsNew, places_at, holders_at}
+use Rattle.com_ledger.specs.Ties.{AllTouched, Notes, OffersTie, OwnersTie, Ties, IsNew, places_at, holders_at}
 
 -- ---- holders
 
@@ -164,6 +163,7 @@ first-tied s w p =
       };
       offers = first-offers s w;
       calls = ap (λ (rows : List CallPackets). length rows) p.calls;
+      issued = subst (λ (n : ℕ). n ≤ 32 * 0) (sym p.issued) (omega arith);
     }
 
 -- ---- what lost its last holder
@@ -172,12 +172,12 @@ some-held : (n : ℕ) → eqb n 0 ≡ false → 0 < n
 some-held zero e = cc
 some-held (suc n) e = omega arith
 
-pub losses-touched : (s : Scenario) (st su : State) (w u : Held) (before after : List ℕ) → Ties s st w → Ties s su u → Touches w.tables u.tables before after → AllTouched s st su after
-losses-touched s st su w u before after p q t o held none =
+pub losses-touched : (s : Scenario) (st su : State) (w u : Held) (touched : List ℕ) → Ties s st w → Ties s su u → Notes w.tables u.tables touched → AllTouched s st su touched
+losses-touched s st su w u touched p q t o low held none =
     let was : holders_of w.tables o ≡ holders_at s st o = holders-tie s st w o p in
     let is : holders_of u.tables o ≡ holders_at s su o = holders-tie s su u o q in
     let some : 0 < holders_at s st o = some-held (holders_at s st o) held in
-    t.all o (omega (arith, was, some)) (is ∙ eqb-true (holders_at s su o) 0 none)
+    t.all o low (omega (arith, was, some)) (is ∙ eqb-true (holders_at s su o) 0 none)
 
 pub first-owners : (s : Scenario) (w : Held) → IsNew w → OwnersTie (first_tables s) w
 first-owners s w p o = ap (λ (rows : List ObjectRow). (object_in rows o).owner) p.objects ∙ ap (λ (r : ObjectRow). r.owner) (no-row o) ∙ first-named s o

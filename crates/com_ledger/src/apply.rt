@@ -1,5 +1,5 @@
 //! The change of the books by an entry.
-ghost use Rattle.std.specs.Prelude.{◌≡◌, ◌+◌, ◌<◌, ◌≤◌, ◌^◌, ◌||◌, ℕ, [], false, true, if◌then◌else◌, IsTrue};
+ghost use Rattle.std.specs.Prelude.{◌≡◌, ◌+◌, ◌<◌, ◌≤◌, ◌^◌, ℕ, [], false, true, if◌then◌else◌, IsTrue};
 ghost use Rattle.std.specs.Prelude.{OnErr, OnOk, List, length, take, vec_len, vec_capacity};
 ghost use Rattle.com_refs_holders.specs.Places.{Counts, SamePlaces};
 ghost use Rattle.com_refs_holders.specs.Tables.{books_of, offers};
@@ -9,8 +9,8 @@ ghost use Rattle.com_reference_moves.specs.declared.moves.Move.{Move};
 ghost use Rattle.com_reference_moves.specs.Steps.{movings_of};
 ghost use Rattle.com_refs_rows.specs.Books.{Exchanged};
 ghost use Rattle.com_objects.specs.Settled.{Rise};
-ghost use Rattle.com_refs.specs.Counts.{holders_of};
-ghost use Rattle.com_refs_rows.specs.Entries.{AllGiven, Gives, Closes, Applies, KeepsHeldBy, Loses};
+ghost use Rattle.com_ledger.specs.Ties.{NotesLost};
+ghost use Rattle.com_refs_rows.specs.Entries.{AllGiven, Gives, Closes, Applies, KeepsHeldBy};
 ghost use Rattle.com_refs_rows.specs.Entries.{around, tally};
 ghost use Rattle.com_refs_rows.specs.Entries.{asked_packets, ended_objects};
 ghost use Rattle.com_refs_rows.specs.Entries.{is_of_reference};
@@ -35,11 +35,6 @@ use com_refs_rows::{
     enter_back, enter_get, enter_made, enter_marshal, enter_query, enter_register,
     enter_unmarshal, gain_all, is_left, issue, lose_all, read_all, reply,
 };
-
-// The answer where something holds object 0. No entry that the rules give comes to that; it is not proved here.
-fn unproved_fact() -> Memory {
-    Memory
-}
 
 // What is carried, where there are bytes.
 fn carried_in<'a>(carried: &'a [RefValue], is_marshalled: bool) -> &'a [RefValue]
@@ -132,7 +127,7 @@ impl Books {
         }
     }
 
-    // Makes room for the entry, and looks that nothing holds object 0. Nothing changes but room.
+    // Makes room for the entry. Nothing changes but room. The only error is want of memory.
     fn prepare(
         &mut self,
         deed: &Deed,
@@ -148,7 +143,6 @@ impl Books {
         ensures books { books_of self.new.refs ≡ books_of self.old.refs }
         ensures calls { self.new.calls ≡ self.old.calls }
         ensures touched { self.new.touched.items ≡ self.old.touched.items }
-        ensures none { OnOk result (holders_of self.new.refs 0 ≡ 0) }
         ensures steps { OnOk result (row_steps self.new.calls context.entry.carried.now deed.now
             + length gained.now ≤ most_given) }
         ensures few { OnOk result (self.new.refs.issued
@@ -164,9 +158,6 @@ impl Books {
         let arguments = self.arguments_of(deed) as usize;
         let steps = arguments + context.carried.len() + gained.len() + 2;
         self.refs.reserve(steps as u32)?;
-        if self.refs.is_held(0) {
-            return Err(unproved_fact());
-        }
         self.brought.clear();
         self.brought.reserve(arguments + 1)?;
         let noted = most_noted(deed, context.objects, arguments, lost);
@@ -377,7 +368,7 @@ impl Books {
             (tally self.old.refs self.old.calls) (tally self.new.refs self.new.calls)) }
         ensures touched { OnOk result ((gained lost : List Move) → movings_of gained ≡ moves.now.gained
             → movings_of lost ≡ moves.now.lost
-            → Loses (around context.entry.calls.now.tables context.entry.objects.now.tables
+            → NotesLost (around context.entry.calls.now.tables context.entry.objects.now.tables
             context.entry.classes.now context.entry.carried.now
             (number_or_zero context.entry.running)) entry.now.deed gained lost
             (tally self.old.refs self.old.calls)
@@ -450,7 +441,7 @@ impl Ledger {
             (tally self.old.tables self.old.calls) (tally self.new.tables self.new.calls)) }
         ensures touched { OnOk result ((gained lost : List Move) → movings_of gained ≡ moves.now.gained
             → movings_of lost ≡ moves.now.lost
-            → Loses (around context.entry.calls.now.tables context.entry.objects.now.tables
+            → NotesLost (around context.entry.calls.now.tables context.entry.objects.now.tables
             context.entry.classes.now context.entry.carried.now
             (number_or_zero context.entry.running)) entry.now.deed gained lost
             (tally self.old.tables self.old.calls) (tally self.new.tables self.new.calls) self.new.touched) }

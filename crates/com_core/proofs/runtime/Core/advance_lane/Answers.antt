@@ -8,12 +8,15 @@ use Rattle.com_runtime.specs.declared.jobs.Next.TheVariants as next
 use Rattle.com_runtime.specs.Jobs.{next_in}
 use Rattle.com_runtime.specs.Turns.{IsNext}
 use Rattle.com_core.specs.Seen.{CoreView, Steps, core_of, core_state}
-use Rattle.com_core.proofs.Kept.{as_held, kept_stepped, next_stepped, same_core, step_taken, whole_held}
+use Rattle.com_core.proofs.Kept.{as_held, kept_stepped, next_stepped, same_core, step_taken, ties_held, whole_held}
 use Rattle.com_core.proofs.Worked.{own_can, own_read}
 use Rattle.com_core.proofs.runtime.Core.advance_lane.Goals as goal
 
 pub advance-requires-clause-core : goal.advance-requires-clause-core
 advance-requires-clause-core c = whole_held c.deref.result.now (arc_value c.self.inside.scenario) c.self.inside.running c.deref.ensures c.self.invariant.4
+
+pub advance-requires-clause-ties : goal.advance-requires-clause-ties
+advance-requires-clause-ties c = ties_held c.deref.result.now (arc_value c.self.inside.scenario) c.self.inside.running c.deref.ensures c.self.invariant.4
 
 pub advance-requires-clause-room : goal.advance-requires-clause-room
 advance-requires-clause-room c = as_held (λ s st. st.entries < limit s) c.deref.result.now (arc_value c.self.inside.scenario) c.self.inside.running _ c.deref.ensures c.self.view_is c.requires.room

@@ -10,13 +10,16 @@ use Rattle.com_servant.specs.Steps.{job_step}
 use Rattle.com_runtime.specs.Turns.{IsNext}
 use Rattle.com_runtime.specs.Jobs.{Fits, IsRefused, kept_in}
 use Rattle.com_core.specs.Seen.{CoreView, Steps, core_of, core_state, kept_of}
-use Rattle.com_core.proofs.Kept.{as_held, kept_stepped, next_stepped, same_core, step_taken, whole_held}
+use Rattle.com_core.proofs.Kept.{as_held, kept_stepped, next_stepped, same_core, step_taken, ties_held, whole_held}
 use Rattle.com_model.specs.State.{State}
 use Rattle.com_core.proofs.Shown.{as_kept, as_shown, state_shown}
 use Rattle.com_core.proofs.runtime.Core.commit.Goals as goal
 
 pub commit-requires-clause-core : goal.commit-requires-clause-core
 commit-requires-clause-core c = whole_held c.deref.result.now (arc_value c.self.inside.scenario) c.self.inside.running c.deref.ensures c.self.invariant.4
+
+pub commit-requires-clause-ties : goal.commit-requires-clause-ties
+commit-requires-clause-ties c = ties_held c.deref.result.now (arc_value c.self.inside.scenario) c.self.inside.running c.deref.ensures c.self.invariant.4
 
 pub commit-requires-clause-room : goal.commit-requires-clause-room
 commit-requires-clause-room c = as_held (λ s st. st.entries < limit s) c.deref.result.now (arc_value c.self.inside.scenario) c.self.inside.running _ c.deref.ensures c.self.view_is c.requires.room

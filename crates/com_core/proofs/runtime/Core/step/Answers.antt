@@ -7,12 +7,15 @@ use Rattle.com_model.specs.Tables.{lanes}
 use Rattle.com_runtime.specs.Standings.{can_step_in}
 use Rattle.com_runtime.specs.Turns.{IsNext}
 use Rattle.com_core.specs.Seen.{CoreView, Steps, core_of, core_state}
-use Rattle.com_core.proofs.Kept.{as_held, kept_stepped, next_stepped, same_core, step_taken, whole_held}
+use Rattle.com_core.proofs.Kept.{as_held, kept_stepped, next_stepped, same_core, step_taken, ties_held, whole_held}
 use Rattle.com_core.proofs.Served.{served_core}
 use Rattle.com_core.proofs.runtime.Core.step.Goals as goal
 
 pub step-requires-clause-core : goal.step-requires-clause-core
 step-requires-clause-core g c = whole_held c.deref.result.now (arc_value c.self.inside.scenario) c.self.inside.running c.deref.ensures c.self.invariant.4
+
+pub step-requires-clause-ties : goal.step-requires-clause-ties
+step-requires-clause-ties g c = ties_held c.deref.result.now (arc_value c.self.inside.scenario) c.self.inside.running c.deref.ensures c.self.invariant.4
 
 pub step-requires-clause-room : goal.step-requires-clause-room
 step-requires-clause-room g c = as_held (λ s st. st.entries < limit s) c.deref.result.now (arc_value c.self.inside.scenario) c.self.inside.running _ c.deref.ensures c.self.view_is c.requires.room

@@ -7,11 +7,14 @@ use Rattle.com_runtime.specs.declared.runtime.Standing.TheVariants as standing
 use Rattle.com_runtime.specs.Standings.{standing_of}
 use Rattle.com_runtime.specs.Turns.{IsNext}
 use Rattle.com_core.specs.Seen.{CoreView, Steps, core_of, core_state}
-use Rattle.com_core.proofs.Kept.{as_held, kept_stepped, next_stepped, same_core, step_taken, whole_held}
+use Rattle.com_core.proofs.Kept.{as_held, kept_stepped, next_stepped, same_core, step_taken, ties_held, whole_held}
 use Rattle.com_core.proofs.runtime.Core.tick.Goals as goal
 
 pub tick-requires-clause-core : goal.tick-requires-clause-core
 tick-requires-clause-core c = whole_held c.deref.result.now (arc_value c.self.inside.scenario) c.self.inside.running c.deref.ensures c.self.invariant.4
+
+pub tick-requires-clause-ties : goal.tick-requires-clause-ties
+tick-requires-clause-ties c = ties_held c.deref.result.now (arc_value c.self.inside.scenario) c.self.inside.running c.deref.ensures c.self.invariant.4
 
 pub tick-requires-clause-room : goal.tick-requires-clause-room
 tick-requires-clause-room c = as_held (λ s st. st.entries < limit s) c.deref.result.now (arc_value c.self.inside.scenario) c.self.inside.running _ c.deref.ensures c.self.view_is c.requires.room

@@ -9,7 +9,8 @@ use Rattle.com_refs_rows.specs.Entries.{asked_packets}
 use Rattle.com_reference_moves.specs.Steps.{moving_of}
 use Rattle.std.proofs.lemmas.List.{length-map}
 use Rattle.com_objects.specs.Settled.{Rise}
-use Rattle.com_refs_rows.specs.Entries.{Applies, Loses, around, tally}
+use Rattle.com_refs_rows.specs.Entries.{Applies, around, tally}
+use Rattle.com_ledger.specs.Ties.{NotesLost}
 use Rattle.com_refs_rows.specs.Moving.{Climbs}
 use Rattle.com_refs_rows.proofs.Changing.{applies_whole}
 use Rattle.com_ledger.proofs.Kept.{held_made, loses_kept}
@@ -58,7 +59,7 @@ returns-clause-applies c = λ gained lost eg el.
 
 pub returns-clause-touched : goal.returns-clause-touched
 returns-clause-touched c = λ gained lost eg el.
-    subst (λ (k : ℕ). Loses (around c.args.context.calls.now.tables c.args.context.objects.now.tables c.args.context.classes.now c.args.context.carried.now k) c.args.entry.now.deed gained lost (tally c.args.self.now.refs c.args.self.now.calls) (tally c.lose_all.new.refs c.enter_end.new.self.calls) c.keep_made.new.touched.items) c.number_or_zero-apartment.ensures
+    subst (λ (k : ℕ). NotesLost (around c.args.context.calls.now.tables c.args.context.objects.now.tables c.args.context.classes.now c.args.context.carried.now k) c.args.entry.now.deed gained lost (tally c.args.self.now.refs c.args.self.now.calls) (tally c.lose_all.new.refs c.enter_end.new.self.calls) c.keep_made.new.touched.items) c.number_or_zero-apartment.ensures
     (loses_kept (around c.args.context.calls.now.tables c.args.context.objects.now.tables c.args.context.classes.now c.args.context.carried.now c.number_or_zero-apartment.result) c.args.entry.now.deed gained lost (tally c.args.self.now.refs c.args.self.now.calls) (tally c.lose_all.new.refs c.enter_end.new.self.calls)
     c.lose_all.new.touched.items c.keep_made.new.touched.items
     (applies_whole (around c.args.context.calls.now.tables c.args.context.objects.now.tables c.args.context.classes.now c.args.context.carried.now c.number_or_zero-apartment.result) c.args.entry.now.deed
@@ -69,7 +70,7 @@ returns-clause-touched c = λ gained lost eg el.
     c.in_ok-enter_reference.ensures.gives c.as_slice.ensures.value c.take.ensures.exchanged
     c.enter_end.ensures.closes c.enter_end.ensures.calls
     c.lose_all.ensures.objects c.lose_all.ensures.ended (eg ∙ sym c.gains-gained.ensures) (el ∙ sym c.losses-lost.ensures))
-    (held_made c.args.self.now.refs c.prepare.new.self.refs c.prepare.new.self.refs.spare c.in_ok-prepare.ensures.refs c.in_ok-prepare.ensures.none c.bounds.ensures.held)
+    (held_made c.args.self.now.refs c.prepare.new.self.refs c.prepare.new.self.refs.spare c.in_ok-prepare.ensures.refs c.bounds.ensures.held)
     (λ o some most m. c.keep_made.ensures.kept o some (omega (arith, most, c.objects.ensures)) m)
     (loses_whole (around c.args.context.calls.now.tables c.args.context.objects.now.tables c.args.context.classes.now c.args.context.carried.now c.number_or_zero-apartment.result) c.args.entry.now.deed
     c.args.self.now.refs c.prepare.new.self.refs c.enter_reference.new.self.refs c.take.new.refs c.enter_end.new.self.refs c.lose_all.new.refs

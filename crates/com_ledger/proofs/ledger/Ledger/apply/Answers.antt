@@ -4,7 +4,8 @@ use Rattle.com_model.specs.Lists.{number_or_zero}
 use Rattle.com_reference_moves.specs.declared.moves.Move.{Move}
 use Rattle.com_reference_moves.specs.Steps.{movings_of}
 use Rattle.com_refs_rows.specs.Books.{Held}
-use Rattle.com_refs_rows.specs.Entries.{AllGiven, Loses, around, tally}
+use Rattle.com_refs_rows.specs.Entries.{AllGiven, around, tally}
+use Rattle.com_ledger.specs.Ties.{NotesLost}
 use Rattle.com_refs_rows.specs.Fits.{FitsBooks}
 use Rattle.com_ledger.proofs.ledger.Ledger.apply.Goals as goal
 
@@ -27,7 +28,7 @@ returns-clause-applies c = rw (← c.self.view_is) c.change.ensures.applies
 
 pub returns-clause-touched : goal.returns-clause-touched
 returns-clause-touched c =
-    subst (λ (h : Held). OnOk c.change.result ((gained lost : List Move) → movings_of gained ≡ c.args.moves.now.gained → movings_of lost ≡ c.args.moves.now.lost → Loses (around c.args.context.calls.now.tables c.args.context.objects.now.tables c.args.context.classes.now c.args.context.carried.now (number_or_zero c.args.context.running)) c.args.entry.now.deed gained lost (tally h.tables h.calls) (tally c.change.new.self.refs c.change.new.self.calls) c.change.new.self.touched.items))
+    subst (λ (h : Held). OnOk c.change.result ((gained lost : List Move) → movings_of gained ≡ c.args.moves.now.gained → movings_of lost ≡ c.args.moves.now.lost → NotesLost (around c.args.context.calls.now.tables c.args.context.objects.now.tables c.args.context.classes.now c.args.context.carried.now (number_or_zero c.args.context.running)) c.args.entry.now.deed gained lost (tally h.tables h.calls) (tally c.change.new.self.refs c.change.new.self.calls) c.change.new.self.touched.items))
     c.self.view_is c.change.ensures.touched
 
 pub returns-clause-few : goal.returns-clause-few
