@@ -473,10 +473,9 @@ impl Running {
             self.now.parts self.now.fallen.objects self.now.clock) lane) (map stepped servants.old.items)) }
     {
         let view = self.view(scenario);
-        match next_turn(&view, &self.ledger, alloc, lane, servants, step)? {
-            Some(made) => Ok(made),
-            None => unreachable!(),
-        }
+        let turn = next_turn(&view, &self.ledger, alloc, lane, servants, step)?;
+        let Some(made) = turn else { unreachable!() };
+        Ok(made)
     }
 
     /// Makes the next entry of a lane that can step. The step of the entry before, which lies in `step`,

@@ -213,10 +213,9 @@ impl Running {
             (books_held self.now.ledger) lane step.new made) }
     {
         let view = self.view(scenario);
-        match own_turn(&view, &self.ledger, alloc, lane, step)? {
-            Some(made) => Ok(made),
-            None => unreachable!(),
-        }
+        let turn = own_turn(&view, &self.ledger, alloc, lane, step)?;
+        let Some(made) = turn else { unreachable!() };
+        Ok(made)
     }
 
     /// Makes the next entry of a lane that can step, in which no body is innermost. The step of the entry before, which lies

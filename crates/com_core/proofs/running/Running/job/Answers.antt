@@ -25,6 +25,3 @@ returns-clause-job c =
     sym (ap (λ (o : Opener). Some o) x.field-0-is) ∙ sym x.is ∙ c.top.ensures ∙ ap (λ (v : Seen). first (openers_at v.lanes l)) (c.view.view_is ∙ w) in
     IfOk-weaker c.work_of.result _ (λ (j : Job). job_of s (core_state (kept_of s r)) l ≡ Some j)
     (λ j e. job_read s r l x.call x.object x.field-0-2 (Some j) top (subst (λ (v : Seen). work_seen v x.call x.object ≡ Some j) w e)) c.work_of.ensures.job
-
-pub unreachable-requires : goal.unreachable-requires
-unreachable-requires c = ?
