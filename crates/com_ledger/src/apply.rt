@@ -32,8 +32,8 @@ use com_objects::Objects;
 use com_reference_moves::{Move, Moves};
 use com_refs::Refs;
 use com_refs_rows::{
-    enter_back, enter_get, enter_made, enter_marshal, enter_query, enter_register,
-    enter_unmarshal, gain_all, is_left, issue, lose_all, read_all, reply,
+    enter_back, enter_get, enter_made, enter_marshal, enter_query, enter_register, enter_unmarshal,
+    gain_all, is_left, issue, lose_all, read_all, reply,
 };
 
 // What is carried, where there are bytes.

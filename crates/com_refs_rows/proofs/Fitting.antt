@@ -58,13 +58,6 @@ small_interface object i o j eo ei h =
     let h1 : HasInterface (Some o) i = subst (λ (x : Option ℕ). HasInterface x i) eo h in
     subst (λ (x : Asked). HasInterface (Some o) x) ei h1
 
-no_class : (t : ClassTables) (x : Option Class) (i : ℕ) → x ≡ None → elim x [ None ↦ false | Some c ↦ class_has c i ] ≡ true → ⊥
-no_class t None i e h = cc
-no_class t (Some c) i e h = cc
-
-pub declared_making : (t : ClassTables) (k i : ℕ) → class_at t k ≡ None → has_interface t k i ≡ true → ⊥
-declared_making t k i e h = no_class t (class_at t k) i e h
-
 among_listed : (i : ℕ) (xs : List ℕ) → list_any (λ listed. eqb i listed) xs ≡ true → among i xs ≡ true
 among_listed i [] h = cc
 among_listed i (x ∷ xs) h = elim (eqb i x) as (λ b. eqb i x ≡ b → (b || list_any (λ listed. eqb i listed) xs) ≡ true → (eqb x i || among i xs) ≡ true) [
