@@ -27,8 +27,7 @@ use Rattle.com_view.specs.Seen.{Seen, home_seen, running_seen}
 use Rattle.com_view.proofs.Sights.{reads_state as sight_read}
 use Rattle.com_refs_rows.specs.Books.{Held}
 use Rattle.com_refs_rows.specs.Entries.{Around, Carries, StandsAround, around, brings_to}
-use Rattle.com_refs_rows.specs.Moving.{Touches}
-use Rattle.com_ledger.specs.Ties.{AllTouched, Ties, places_at}
+use Rattle.com_ledger.specs.Ties.{AllTouched, Notes, Ties, places_at}
 use Rattle.com_ledger.proofs.Applying.{applied-ties}
 use Rattle.com_ledger.proofs.Following.{counts-next, moves-below, places-next}
 use Rattle.com_ledger.proofs.Tied.{losses-touched}
@@ -98,11 +97,11 @@ losses-are s st l d = movings-back (moves_in s st (record { lane = l; deed = d }
 ties-booked : (s : Scenario) (st : State) (r : IsReached s st) (l : ℕ) (d : Deed) (g : Around) (w u : Held) → next_of s st l ≡ Some d → StandsAround s st l d g
     → Booked g d (moves_in s st (record { lane = l; deed = d })) w u → Ties s st w → Ties s (after s st l d) u
 ties-booked s st r l d g w u n a b t =
-    applied-ties s st r.history l d g (gains s st l d) (losses s st l d) w u r.formed r.stands n (gains-are s st l d) (losses-are s st l d) t a b.totals
+    applied-ties s st r.history l d g (gains s st l d) (losses s st l d) w u r.formed r.stands n (gains-are s st l d) (losses-are s st l d) t a b.totals b.offers b.issued
     (b.applies (gains s st l d) (losses s st l d) (gains-are s st l d) (losses-are s st l d))
 
 touched-booked : (s : Scenario) (st : State) (r : IsReached s st) (l : ℕ) (d : Deed) (g : Around) (w u : Held) → next_of s st l ≡ Some d → StandsAround s st l d g
-    → Booked g d (moves_in s st (record { lane = l; deed = d })) w u → Ties s st w → Touches w.tables u.tables [] u.touched
+    → Booked g d (moves_in s st (record { lane = l; deed = d })) w u → Ties s st w → Notes w.tables u.tables u.touched
 touched-booked s st r l d g w u n a b t =
     let below = moves-below s st r.history l d (gains s st l d) (losses s st l d) r.formed r.stands n (gains-are s st l d) (losses-are s st l d) in
     b.loses (gains s st l d) (losses s st l d) (gains-are s st l d) (losses-are s st l d)
@@ -118,7 +117,7 @@ pub booked_ties : (s : Scenario) (st : State) (r : IsReached s st) (l : ℕ) (d 
 booked_ties s st r l d g m w u n a e k t =
     let b : Booked g d (moves_in s st (record { lane = l; deed = d })) w u = subst (λ (x : Moves). Booked g d x w u) e k in
     let later : Ties s (after s st l d) u = ties-booked s st r l d g w u n a b t in
-    let touched : AllTouched s st (after s st l d) u.touched = losses-touched s st (after s st l d) w u [] u.touched t later (touched-booked s st r l d g w u n a b t) in
+    let touched : AllTouched s st (after s st l d) u.touched = losses-touched s st (after s st l d) w u u.touched t later (touched-booked s st r l d g w u n a b t) in
     record {
       ties = later;
       books = books_later s st l d u later touched (subst (λ (k : ℕ). Rise 0 u.touched k) later.objects.number b.rise);

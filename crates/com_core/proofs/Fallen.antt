@@ -222,10 +222,16 @@ dies-made s st o e =
     let low : nat_le o (objects_in st) ≡ true = and-right (nat_le 1 o) (nat_le o (objects_in st)) (and-left (nat_le 1 o && nat_le o (objects_in st)) rest e) in
     grind (arith, common_steps, low)
 
+dies-some : (s : Scenario) (st : State) (o : ℕ) → dies_in s st o ≡ true → 1 ≤ o
+dies-some s st o e =
+    let rest : Bool = not (is_member o st.finaled) && (holders_of s st o == 0 && not (is_entered s (openers_in st) o)) in
+    let low : nat_le 1 o ≡ true = and-left (nat_le 1 o) (nat_le o (objects_in st)) (and-left (nat_le 1 o && nat_le o (objects_in st)) rest e) in
+    grind (arith, common_steps, low)
+
 may-found : (s : Scenario) (st : State) (l : ℕ) (d : Deed) (touched : List ℕ) (o : ℕ) → Touches s st l d touched
     → objects_in (after s st l d) ≡ objects_in st + count_if (is_some (makes d)) → dies_in s (after s st l d) o ≡ true → MayFall s st l d o
     → (is_number o (other_object (objects_in (after s st l d)) d (acting_in s st (record { lane = l; deed = d }))) || is_member o touched) ≡ true
-may-found s st l d touched o t n e (inl z) = or-right (is_number o (other_object (objects_in (after s st l d)) d (acting_in s st (record { lane = l; deed = d })))) (is_member o touched) (t.all o z)
+may-found s st l d touched o t n e (inl z) = or-right (is_number o (other_object (objects_in (after s st l d)) d (acting_in s st (record { lane = l; deed = d })))) (is_member o touched) (t.all o (dies-some s (after s st l d) o e) z)
 may-found s st l d touched o t n e (inr (inl z)) =
     same-or o (other_object (objects_in (after s st l d)) d (acting_in s st (record { lane = l; deed = d }))) (is_member o touched) (left-other s st l d (objects_in (after s st l d)) o z)
 may-found s st l d touched o t n e (inr (inr z)) =

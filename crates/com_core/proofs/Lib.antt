@@ -3,6 +3,9 @@ pub mod Runs
 pub mod OpenBodies
 pub mod Fallen
 pub mod Fitting
+pub mod Bringing
+pub mod Fits
+pub mod Booked
 pub mod Entries
 pub mod Readings
 pub mod Moved

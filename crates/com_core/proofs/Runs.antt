@@ -3,9 +3,12 @@ use Rattle.std.proofs.Common.{◌≡◌, ℕ, zero, suc, ◌+◌, ◌≤◌, ◌
 use Rattle.std.proofs.lemmas.List.{length-append}
 use Rattle.com_body.specs.declared.frame.Outcome.{Outcome}
 use Rattle.com_model.specs.declared.deeds.Entry.{Entry}
+use Rattle.com_model.specs.declared.scenario.Scenario.{Scenario}
 use Rattle.com_model.specs.Apartments.{makes_sta, with_last}
+use Rattle.com_model.specs.Ends.{limit}
 use Rattle.com_model.specs.Frames.{Actor}
 use Rattle.com_lanes.specs.First.{first_lanes}
+use Rattle.com_laws_ranges.proofs.Standing.{limited}
 use Rattle.com_state.specs.Parts.{LaneTables, lanes_after}
 use Rattle.com_scene.specs.Kept.{HasSlots}
 use Rattle.com_parts.specs.declared.change.Sent.{Sent}
@@ -23,6 +26,9 @@ none_run n (suc o) = omega arith
 
 pub few_run : (n : ℕ) (xs : List ℕ) → n < 1_000_000 → Most n xs → (o : ℕ) → slice_index_or xs o 0 + 1 < 2 ^ 32
 few_run n xs p q o = let e : slice_index_or xs o 0 ≤ n = q o in omega (arith, p, e)
+
+pub below_million : (s : Scenario) (n : ℕ) → n < limit s → n < 1_000_000
+below_million s n h = let most : limit s ≤ 1000000 = limited s in omega (arith, most, h)
 
 pub room_for_sta : (p : PartTables) → Few p → length p.lanes.stas + 4 ≤ 2 ^ 32
 room_for_sta p w =

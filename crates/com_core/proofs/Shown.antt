@@ -47,7 +47,9 @@ ties_shown s st w t = record {
   counts = record { direct = t.counts.direct; elsewhere = t.counts.elsewhere; past = t.counts.past };
   totals = record { total = t.totals.total };
   objects = record { number = t.objects.number; owns = t.objects.owns };
+  offers = t.offers;
   calls = t.calls;
+  issued = t.issued;
 }
 
 pub ties_kept : (s : Scenario) (st : State) (w : Held) → Ties s st (held_shown w) → Ties s st w
@@ -57,7 +59,9 @@ ties_kept s st w t = record {
   counts = record { direct = t.counts.direct; elsewhere = t.counts.elsewhere; past = t.counts.past };
   totals = record { total = t.totals.total };
   objects = record { number = t.objects.number; owns = t.objects.owns };
+  offers = t.offers;
   calls = t.calls;
+  issued = t.issued;
 }
 
 later-shown : (s : Scenario) (st : State) (l : ℕ) (d : Deed) (u : Held) → TiesLater s st l d u → TiesLater s st l d (held_shown u)
@@ -75,6 +79,7 @@ new_shown w n = record {
   packets = n.packets;
   cookies = n.cookies;
   calls = n.calls;
+  issued = n.issued;
 }
 
 -- ---- the parts

@@ -68,6 +68,20 @@ stands-still : (s : Scenario) (st : State) → standing_of s st ≡ standing.Tic
 unfolding standing_of
 stands-still s st e = goes-on (finished_by s (sight_of s st)) (no_lane_can s (sight_of s st)) (tick_time (sight_of s st)) e
 
+waits-for : (f c : Bool) (t : Option ℕ) → cond f standing.Finished (cond (c && (is_none t && not f)) standing.Stuck (cond c standing.Ticks standing.Runs)) ≡ standing.Ticks → t ≡ None → ⊥
+waits-for true c t e n = cc
+waits-for false true None e n = cc
+waits-for false true (Some x) e n = cc
+waits-for false false t e n = cc
+
+-- Where the clock goes on, a call waits for a time.
+pub time_waits : (s : Scenario) (st : State) (p : PartTables) (b : Books) (fallen : List ℕ) (clock : ℕ) → Stands st p b fallen clock → standing_of s st ≡ standing.Ticks
+    → next_wait p.calls clock ≡ None → ⊥
+unfolding standing_of
+time_waits s st p b fallen clock h e w =
+    let none : tick_time (sight_of s st) ≡ None = sym (λ i. next_wait (with_tables p.calls (h.calls i)) (h.clock_is i)) ∙ w in
+    waits-for (finished_by s (sight_of s st)) (no_lane_can s (sight_of s st)) (tick_time (sight_of s st)) e none
+
 pub tick_next : (s : Scenario) (st : State) (p : PartTables) (b : Books) (fallen : List ℕ) (clock t : ℕ) → Stands st p b fallen clock → standing_of s st ≡ standing.Ticks
     → next_wait p.calls clock ≡ Some t → next_of s st 0 ≡ Some (deed.Tick t)
 tick_next s st p b fallen clock t h e w =

@@ -20,7 +20,7 @@ pub books_later : (s : Scenario) (st : State) (l : ℕ) (d : Deed) (u : Held) �
 books_later s st l d u t a r = record {
   books = t.books;
   holders_are = λ o p. holders-tie s (after s st l d) u o t;
-  touches = record { rise = r; all = λ o z. a o z.held z.none };
+  touches = record { rise = r; all = λ o low z. a o low z.held z.none };
 }
 
 -- A new core is that of the first state.

@@ -1,6 +1,6 @@
 -- A turn that is read from the parts is the next entry of the state that they are, with all that its change rests on.
 use Rattle.std.proofs.Common.{◌≡◌, ℕ, ◌+◌, ◌<◌, ◌≤◌, ◌^◌, ap, sym, ◌∙◌, subst, arith}
-use Rattle.std.specs.Prelude.{Bool, List, [], Option, Some, None, is_some, length, refl}
+use Rattle.std.specs.Prelude.{Bool, true, false, List, [], Option, Some, None, is_some, length, refl}
 use Rattle.com_body.specs.declared.frame.Outcome.{Outcome}
 use Rattle.com_refs_books.specs.Changes.{Books}
 use Rattle.com_calls.specs.declared.rows.Issued.{Issued}
@@ -13,19 +13,22 @@ use Rattle.com_model.specs.Calls.{issues, lane_of}
 use Rattle.com_model.specs.Frames.{Actor, Nobody}
 use Rattle.com_calls.specs.Waits.{next_wait}
 use Rattle.com_runtime.specs.declared.runtime.Standing.TheVariants as standing
-use Rattle.com_runtime.specs.Standings.{standing_of}
+use Rattle.com_runtime.specs.Standings.{can_step_in, standing_of}
 use Rattle.com_core.proofs.Ticking.{clock_given, tick_next}
 use Rattle.com_model.specs.Issue.{action_refusal, or_ok}
+use Rattle.com_model.specs.Rules.{lane_next}
 use Rattle.com_model.specs.Sight.{Sight}
-use Rattle.com_model.specs.State.{State, is_marshalled_by, next_of, openers_in}
+use Rattle.com_model.specs.State.{State, is_marshalled_by, next_of, openers_in, sight_of}
 use Rattle.com_model.specs.Tables.{lanes}
+use Rattle.com_laws_ranges.proofs.Fitting.{entry-fits}
 use Rattle.com_laws_ranges.proofs.Standing.{few}
 use Rattle.com_parts.specs.Tables.{PartTables}
 use Rattle.com_scene.specs.Actors.{acting_of}
+use Rattle.com_scene.specs.Ranges.{FitsDeed}
 use Rattle.com_state.specs.After.{actor_after, filtered_by}
 use Rattle.com_state.specs.Parts.{Issuing, LaneTables, issue_at, openers_at}
 use Rattle.com_view.specs.Reads.{Reads}
-use Rattle.com_view.specs.Seen.{Seen, filter_seen}
+use Rattle.com_view.specs.Seen.{Seen, filter_seen, sight_by}
 use Rattle.com_view.proofs.Sights.{reads_state as sight_read}
 use Rattle.com_turns.specs.declared.turns.Turn.{Turn}
 use Rattle.com_turns.specs.Turns.{IsIssued, IsTurn, actor_later}
@@ -72,6 +75,24 @@ pub turn_next : (s : Scenario) (st : State) (p : PartTables) (b : Books) (fallen
     → IsNamed p.objects p.calls → 1 ≤ l → l ≤ lanes s → IsTurn (seen_by s p fallen clock) b l r t → next_of s st l ≡ Some t.doing.deed
 turn_next s st p b fallen clock l o t r h n low high k =
     sym (next_stands (seen_by s p fallen clock) b st l (reads_state s st p b fallen clock r h n) low high) ∙ k.next
+
+-- A lane that can step has a next entry by the parts.
+pub none_next : (s : Scenario) (st : State) (p : PartTables) (b : Books) (fallen : List ℕ) (clock l : ℕ) → IsReached s st → Stands st p b fallen clock → IsNamed p.objects p.calls
+    → can_step_in s st l ≡ true → lane_next s (sight_by (seen_by s p fallen clock) b) l ≡ None → ⊥
+unfolding can_step_in
+none_next s st p b fallen clock l r h n can none =
+    let same : sight_of s st ≡ sight_by (seen_by s p fallen clock) b = sight_read (seen_by s p fallen clock) b st (reads_state s st p b fallen clock r h n) in
+    let cannot : is_some (lane_next s (sight_of s st) l) ≡ false = ap (λ (v : Sight). is_some (lane_next s v l)) same ∙ ap (λ (d : Option Deed). is_some d) none in
+    both (is_some (lane_next s (sight_of s st) l)) can cannot
+  where
+    both : (c : Bool) → c ≡ true → c ≡ false → ⊥
+    both c e f = cc
+
+-- The numbers of a turn's entry fit.
+pub turn_fits : (s : Scenario) (st : State) (p : PartTables) (b : Books) (fallen : List ℕ) (clock l : ℕ) (o : Option Outcome) (t : Turn) → IsReached s st → Stands st p b fallen clock
+    → IsNamed p.objects p.calls → 1 ≤ l → l ≤ lanes s → IsTurn (seen_by s p fallen clock) b l o t → FitsDeed t.doing.deed
+turn_fits s st p b fallen clock l o t r h n low high k =
+    entry-fits s st r.history l t.doing.deed r.formed r.stands (turn_next s st p b fallen clock l o t r h n low high k)
 
 -- With what its change rests on.
 pub turn_given : (s : Scenario) (st : State) (p : PartTables) (b : Books) (fallen : List ℕ) (clock l : ℕ) (o : Option Outcome) (t : Turn) (follows : Actor) (filtered : Bool)

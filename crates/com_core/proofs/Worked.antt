@@ -72,6 +72,12 @@ own-enters : (b can over : Bool) → next_by b can over ≡ next.Own → b ≡ f
 own-enters true can over e = absurd cc
 own-enters false can over e = refl
 
+own-goes : (b can over : Bool) → next_by b can over ≡ next.Own → can ≡ true
+own-goes true can over e = absurd cc
+own-goes false true over e = refl
+own-goes false false true e = absurd cc
+own-goes false false false e = absurd cc
+
 body-top : (s : Scenario) (r : Running) (l : ℕ) → next_in s (core_state (kept_of s r)) l ≡ next.Body → Top (first (openers_at r.parts.lanes l))
 unfolding next_in
 body-top s r l e =
@@ -91,6 +97,20 @@ unfolding next_in
 own_read s r l e =
     own-enters (is_body (first (openers_at r.parts.lanes l))) (can_step_in s (core_state (kept_of s r)) l)
     (slice_index_or (core_state (kept_of s r)).over l false) e
+
+-- Such a lane can step.
+pub own_can : (s : Scenario) (r : Running) (l : ℕ) → next_in s (core_state (kept_of s r)) l ≡ next.Own → can_step_in s (core_state (kept_of s r)) l ≡ true
+unfolding next_in
+own_can s r l e =
+    own-goes (is_body (first (openers_at r.parts.lanes l))) (can_step_in s (core_state (kept_of s r)) l)
+    (slice_index_or (core_state (kept_of s r)).over l false) e
+
+-- Where a body is innermost, no other opener is.
+pub no_other : (t : Option Opener) → ((c o a : ℕ) → t ≡ Some (Enters c o a) → ⊥) → is_body t ≡ true → ⊥
+no_other None n e = cc
+no_other (Some (Pumps k)) n e = cc
+no_other (Some (Waits c)) n e = cc
+no_other (Some (Enters c o a)) n e = n c o a refl
 
 -- ---- a job that fits
 

@@ -1,18 +1,21 @@
 -- What a step makes of a core.
-use Rattle.std.specs.Prelude.{◌≡◌, ℕ, ◌<◌, ◌^◌, Bool, List, Option, Some, is_some, length}
+use Rattle.std.specs.Prelude.{◌≡◌, ℕ, ◌+◌, ◌<◌, ◌≤◌, ◌^◌, Bool, List, Option, Some, is_some, length}
 use Rattle.com_base.specs.declared.value.RefValue.{RefValue}
 use Rattle.com_body.specs.declared.frame.Outcome.{Outcome}
 use Rattle.com_refs_books.specs.Changes.{Books}
 use Rattle.com_refs_holders.specs.Places.{Counts}
 use Rattle.com_refs_rows.specs.Books.{Held, books_held}
-use Rattle.com_refs_rows.specs.Entries.{Applies, Around, Loses, around, tally}
-use Rattle.com_ledger.specs.Ties.{Ties}
+use Rattle.com_refs_rows.specs.Entries.{AllGiven, Applies, Around, around, tally}
+use Rattle.com_refs_rows.specs.Fits.{most_gained, most_given}
+use Rattle.com_refs_rows.specs.Owners.{OffersMore}
+use Rattle.com_ledger.specs.Ties.{NotesLost, Ties}
 use Rattle.com_model.specs.declared.deeds.Deed.{Deed}
 use Rattle.com_model.specs.declared.deeds.Entry.{Entry}
 use Rattle.com_model.specs.declared.scenario.Scenario.{Scenario}
 use Rattle.com_model.specs.Calls.{lane_of}
 use Rattle.com_model.specs.Frames.{Actor}
 use Rattle.com_model.specs.Lists.{number_or_zero}
+use Rattle.com_model.specs.Objects.{makes}
 use Rattle.com_model.specs.State.{State, after, books_in, next_of}
 use Rattle.com_reference_moves.specs.declared.moves.Move.{Move}
 use Rattle.com_reference_moves.specs.Steps.{moves_stepped, movings_of}
@@ -40,13 +43,27 @@ pub record IsCore (s : Scenario) (st : State) (p : PartTables) (b : Books) (ente
   pub stands : Stands st p b fallen clock
   pub bodies : CountsBodies s st entered
 
+-- What comes to places by an entry is by interfaces of the objects' sets, and is little: wherever the lane's
+-- home is, and whoever acts in the lane afterwards.
+pub record Brings (s : Scenario) (p : PartTables) (w : Held) (e : Entry) (acting : Actor) (r : Option Outcome)
+    : Type 0 where
+  pub known : (home : Option ℕ) (follows : Actor) (gained : List Move) → movings_of gained
+      ≡ (moves_stepped (ground_at home p.objects p.calls.tables) p.scene acting r follows e).gained
+      → AllGiven s.classes w.tables e.deed gained
+  pub few : (home : Option ℕ) (follows : Actor)
+      → length (moves_stepped (ground_at home p.objects p.calls.tables) p.scene acting r follows e).gained
+      ≤ most_gained
+
 -- An entry was applied to a ledger with these moves, beside what there was; the objects that lost their last
--- holder were written down; and places that are what the ledger counts total the places of each object.
+-- holder were written down; an object that it makes has the interfaces of its class in its set; few references
+-- were given; and places that are what the ledger counts total the places of each object.
 pub record Booked (g : Around) (d : Deed) (m : Moves) (w u : Held) : Type 0 where
   pub applies : (gained lost : List Move) → movings_of gained ≡ m.gained → movings_of lost ≡ m.lost
       → Applies g d gained lost (tally w.tables w.calls) (tally u.tables u.calls)
   pub loses : (gained lost : List Move) → movings_of gained ≡ m.gained → movings_of lost ≡ m.lost
-      → Loses g d gained lost (tally w.tables w.calls) (tally u.tables u.calls) u.touched
+      → NotesLost g d gained lost (tally w.tables w.calls) (tally u.tables u.calls) u.touched
+  pub offers : OffersMore g.classes (makes d) w.tables u.tables
+  pub issued : u.tables.issued ≤ w.tables.issued + most_given
   pub rise : Rise 0 u.touched (length u.tables.objects)
   pub totals : (n : ℕ) (places : ℕ → ℕ → ℕ) → Counts n places u.tables → Totals n places u.tables
 

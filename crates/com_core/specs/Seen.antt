@@ -1,13 +1,11 @@
 -- What a contract sees of a core.
-use Rattle.std.specs.Prelude.{◌≡◌, ℕ, ◌+◌, ◌≤◌, List}
+use Rattle.std.specs.Prelude.{◌≡◌, ℕ, ◌+◌, List}
 use Rattle.com_refs_rows.specs.Books.{Held, books_held}
 use Rattle.com_model.specs.declared.deeds.Entry.{Entry}
 use Rattle.com_model.specs.declared.scenario.Scenario.{Scenario}
 use Rattle.com_model.specs.Clock.{ticked}
 use Rattle.com_ledger.specs.Ties.{Ties}
-use Rattle.com_model.specs.Formed.{Formed}
 use Rattle.com_model.specs.State.{State, first_tables}
-use Rattle.com_model.specs.Tables.{lanes}
 use Rattle.com_parts.specs.Tables.{PartTables}
 use Rattle.com_core.specs.declared.running.Running.{Running}
 use Rattle.com_core.specs.Making.{IsCore, MakesNext}
@@ -73,20 +71,15 @@ Steps lane old new e =
     MakesNext old.scenario (core_state old) old.parts new.parts old.held new.held old.entered new.entered
     old.fallen new.fallen old.clock lane e.deed
 
--- What a core keeps has come to this by an entry of a lane: where the core is whole, that is the lane's next
--- one, and all has changed by it.
+-- What a core keeps has come to this by an entry of a lane: that is the lane's next one, and all has changed
+-- by it.
 abbrev pub TurnsTo : Scenario → (lane : ℕ) → (old new : Running) → Entry → Type 0
-TurnsTo s lane old new e =
-    IsWhole (kept_of s old) → 1 ≤ lane → lane ≤ lanes s → Steps lane (kept_of s old) (kept_of s new) e
+TurnsTo s lane old new e = Steps lane (kept_of s old) (kept_of s new) e
 
 -- A core is whole, and its ledger is tied to its state.
 pub record IsKept (c : CoreView) : Type 0 where
   pub whole : IsWhole c
   pub ties : Ties c.scenario (core_state c) c.held
-
--- Each core of a formed scenario is so.
-abbrev pub IsKeptIfFormed : CoreView → Type 0
-IsKeptIfFormed c = Formed c.scenario → IsKept c
 
 -- A core before its first entry: its state is the first one of the scenario, its parts are those of it, and
 -- so are its books.

@@ -1,26 +1,30 @@
 //! The change of a core by an entry.
 
-ghost use Rattle.std.specs.Prelude.{◌≡◌, ℕ, ◌+◌, ◌<◌, ◌≤◌, ◌^◌, All, IfOk, IsTrue, OnErr, OnOk};
+ghost use Rattle.std.specs.Prelude.{◌≡◌, ℕ, ◌+◌, ◌<◌, ◌≤◌, ◌^◌, All, IfOk, List, OnErr, OnOk, true};
 ghost use Rattle.std.specs.Prelude.{is_some, length, map, slice_index_or, vec_capacity};
 ghost use Rattle.com_calls.specs.Kept.{IsNamed};
 ghost use Rattle.com_core.specs.Changes.{Becomes, Settles, sent_by};
-ghost use Rattle.com_core.specs.Making.{Booked, BookedBy, Changed};
-ghost use Rattle.com_core.specs.Seen.{IsAsBefore, IsWhole as IsWholeCore, Steps, TurnsTo};
+ghost use Rattle.com_core.specs.Making.{Booked, BookedBy, Brings, Changed};
+ghost use Rattle.com_core.specs.Seen.{IsAsBefore, IsWhole as IsWholeCore, TurnsTo};
 ghost use Rattle.com_core.specs.Seen.{core_state, kept_of};
 ghost use Rattle.com_core.specs.Shown.{held_shown, parts_shown};
 ghost use Rattle.com_core.specs.Sound.{Few, Sound};
 ghost use Rattle.com_core.specs.Stands.{seen_by};
 ghost use Rattle.com_runtime.specs.declared.runtime.Standing.TheVariants as standing;
-ghost use Rattle.com_runtime.specs.Standings.{standing_of};
+ghost use Rattle.com_runtime.specs.Standings.{can_step_in, standing_of};
 ghost use Rattle.com_ledger.specs.Bodies.{entered_after};
 ghost use Rattle.com_ledger.specs.Most.{Most};
+ghost use Rattle.com_ledger.specs.Ties.{Ties};
 ghost use Rattle.com_refs_rows.specs.Books.{books_held};
-ghost use Rattle.com_refs_rows.specs.Entries.{around, most_left};
-ghost use Rattle.com_refs_rows.specs.Fits.{FitsBooks};
+ghost use Rattle.com_refs_rows.specs.Entries.{AllGiven, around, most_left, tally};
+ghost use Rattle.com_refs_rows.specs.Fits.{FitsBooks, most_gained};
 ghost use Rattle.com_model.specs.Calls.{lane_of};
 ghost use Rattle.com_model.specs.Clock.{ticked};
+ghost use Rattle.com_model.specs.Ends.{limit};
 ghost use Rattle.com_model.specs.Lists.{number_or_zero};
-ghost use Rattle.com_reference_moves.specs.Steps.{IsWhole, moves_stepped};
+ghost use Rattle.com_model.specs.Tables.{lanes};
+ghost use Rattle.com_reference_moves.specs.declared.moves.Move.{Move};
+ghost use Rattle.com_reference_moves.specs.Steps.{IsWhole, moves_stepped, movings_of};
 ghost use Rattle.com_reference_moves.specs.Tables.{ground_at};
 ghost use Rattle.com_parts.specs.Begins.{IsBegun};
 ghost use Rattle.com_refs.specs.Counts.{holders_of};
@@ -33,14 +37,14 @@ ghost use Rattle.com_state.specs.Parts.{issue_at, openers_at};
 ghost use Rattle.com_turns.specs.Turns.{IsTurn, actor_later, kind_seen};
 ghost use Rattle.com_view.specs.Seen.{filter_seen, home_seen, running_seen};
 
-use crate::running::{Running, forget, unproved_fact};
+use crate::running::{Running, forget};
 use com_base::{Memory, RefValue};
 use com_body::Outcome;
 use com_calls::Issued;
 use com_ledger::{Context, DyingScan, count_bodies, other_by, released_by};
 use com_model::{Deed, Entry, Scenario};
 use com_parts::{Begun, Change, Sent};
-use com_scene::{Actor, fits_deed};
+use com_scene::Actor;
 use com_servant::Servant;
 use com_turns::{Doing, Turn, actor_after, is_filtered, next_turn};
 use std::alloc::Global;
@@ -183,8 +187,11 @@ impl Running {
         entry: &Entry,
     ) -> Result<(), Memory>
         requires deed { FitsDeed entry.now.deed }
-        requires fits { FitsBooks scenario.now.classes self.old.ledger.tables.cookies
-            self.old.ledger.tables.stubs entry.now.deed }
+        requires fits { FitsBooks scenario.now.classes carried.now (number_or_zero basis.running)
+            (tally self.old.ledger.tables self.old.ledger.calls) entry.now.deed }
+        requires known { (gained : List Move) → movings_of gained ≡ self.old.moves.gained
+            → AllGiven scenario.now.classes self.old.ledger.tables entry.now.deed gained }
+        requires gained { length self.old.moves.gained ≤ most_gained }
         ensures booked { OnOk result (Booked (around self.old.parts.calls.tables self.old.parts.objects
             scenario.now.classes carried.now (number_or_zero basis.running)) entry.now.deed self.old.moves
             self.old.ledger self.new.ledger) }
@@ -323,8 +330,10 @@ impl Running {
         requires few { Few self.old.parts }
         requires room { self.old.parts.entries < 1_000_000 }
         requires deed { FitsDeed entry.now.deed }
-        requires fits { FitsBooks scenario.now.classes self.old.ledger.tables.cookies
-            self.old.ledger.tables.stubs entry.now.deed }
+        requires fits { FitsBooks scenario.now.classes carried.now (number_or_zero basis.running)
+            (tally self.old.ledger.tables self.old.ledger.calls) entry.now.deed }
+        requires brings { Brings scenario.now self.old.parts self.old.ledger entry.now
+            (acting_of acting) outcome.old }
         requires whole { IsWhole outcome.old }
         ensures becomes { OnOk result (Becomes self.old.parts self.new.parts entry.now
             (acting_of acting) outcome.old
@@ -354,18 +363,6 @@ impl Running {
         Ok(())
     }
 
-    // Whether the history is shorter than it may be, and the numbers of an entry fit.
-    pub(crate) fn can_make(&self, deed: &Deed) -> bool
-        ensures room { IsTrue result → self.now.parts.entries < 1_000_000 }
-        ensures deed { IsTrue result → FitsDeed deed.now }
-        ensures exact { (self.now.parts.entries < 1_000_000) × FitsDeed deed.now → IsTrue result }
-    {
-        if self.parts.entries() >= 1_000_000 {
-            return false;
-        }
-        fits_deed(deed)
-    }
-
     // Makes the entry of a deed, with what the deed rests on.
     fn make(
         &mut self,
@@ -381,8 +378,11 @@ impl Running {
         requires whole { IsWhole outcome.old }
         requires room { self.old.parts.entries < 1_000_000 }
         requires deed { FitsDeed entry.now.deed }
-        requires fits { FitsBooks scenario.now.classes self.old.ledger.tables.cookies
-            self.old.ledger.tables.stubs entry.now.deed }
+        requires fits { FitsBooks scenario.now.classes carried.now (number_or_zero (running_seen
+            (seen_by scenario.now self.old.parts self.old.fallen.objects self.old.clock) entry.now.lane))
+            (tally self.old.ledger.tables self.old.ledger.calls) entry.now.deed }
+        requires brings { Brings scenario.now self.old.parts self.old.ledger entry.now
+            (acting_of acting) outcome.old }
         ensures few { Few self.new.parts }
         ensures sound { Sound self.new.parts self.new.entered.counts }
         ensures entries { OnOk result (self.new.parts.entries ≡ self.old.parts.entries + 1) }
@@ -400,7 +400,7 @@ impl Running {
     }
 
     // The entry of a turn of a lane.
-    #[tactic(auto, using(crate::proofs::Turned::next_made))]
+    #[tactic(auto, using(crate::proofs::Turned::next_made, crate::proofs::Runs::below_million))]
     pub(crate) fn make_turn(
         &mut self,
         scenario: &Scenario,
@@ -410,10 +410,13 @@ impl Running {
     ) -> Result<Entry, Memory>
         requires sound { Sound self.old.parts self.old.entered.counts }
         requires few { Few self.old.parts }
+        requires core { IsWholeCore (kept_of scenario.now self.old) }
+        requires ties { Ties scenario.now (core_state (kept_of scenario.now self.old)) self.old.ledger }
+        requires above { 1 ≤ lane }
+        requires below { lane ≤ lanes scenario.now }
         requires whole { IsWhole outcome.old }
         requires named { IsNamed self.old.parts.objects self.old.parts.calls }
-        requires room { self.old.parts.entries < 1_000_000 }
-        requires deed { FitsDeed made.doing.deed }
+        requires room { self.old.parts.entries < limit scenario.now }
         requires turn { IsTurn (seen_by scenario.now self.old.parts self.old.fallen.objects self.old.clock)
             (books_held self.old.ledger) lane outcome.old made }
         ensures few { Few self.new.parts }
@@ -456,6 +459,8 @@ impl Running {
         requires none { step.old ≡ None }
         requires sound { Sound self.now.parts self.now.entered.counts }
         requires few { Few self.now.parts }
+        requires core { IsWholeCore (kept_of scenario.now self.now) }
+        requires can { can_step_in scenario.now (core_state (kept_of scenario.now self.now)) lane ≡ true }
         requires row { map kind_of servants.old.items ≡ row }
         ensures whole { IsWhole step.new }
         ensures named { IsNamed self.now.parts.objects self.now.parts.calls }
@@ -468,10 +473,9 @@ impl Running {
             self.now.parts self.now.fallen.objects self.now.clock) lane) (map stepped servants.old.items)) }
     {
         let view = self.view(scenario);
-        match next_turn(&view, &self.ledger, alloc, lane, servants, step)? {
-            Some(made) => Ok(made),
-            None => Err(unproved_fact()),
-        }
+        let turn = next_turn(&view, &self.ledger, alloc, lane, servants, step)?;
+        let Some(made) = turn else { unreachable!() };
+        Ok(made)
     }
 
     /// Makes the next entry of a lane that can step. The step of the entry before, which lies in `step`,
@@ -487,6 +491,12 @@ impl Running {
     ) -> Result<Entry, Memory>
         requires sound { Sound self.old.parts self.old.entered.counts }
         requires few { Few self.old.parts }
+        requires core { IsWholeCore (kept_of scenario.now self.old) }
+        requires ties { Ties scenario.now (core_state (kept_of scenario.now self.old)) self.old.ledger }
+        requires above { 1 ≤ lane }
+        requires below { lane ≤ lanes scenario.now }
+        requires can { can_step_in scenario.now (core_state (kept_of scenario.now self.old)) lane ≡ true }
+        requires room { self.old.parts.entries < limit scenario.now }
         requires row { map kind_of servants.old.items ≡ row }
         ensures few { Few self.new.parts }
         ensures sound { Sound self.new.parts self.new.entered.counts }
@@ -502,37 +512,33 @@ impl Running {
     {
         forget(step);
         let made = self.turn_of(scenario, alloc, lane, servants, step)?;
-        if !self.can_make(&made.doing.deed) {
-            return Err(unproved_fact());
-        }
         self.make_turn(scenario, lane, made, step)
     }
 
-    /// Makes the clock's entry. The only error is want of memory.
-    #[tactic(auto, using(crate::proofs::Turned::tick_made, crate::proofs::Shown::as_before))]
+    /// Makes the clock's entry, where the clock goes on. The only error is want of memory.
+    #[tactic(auto, using(crate::proofs::Turned::tick_made, crate::proofs::Runs::below_million, crate::proofs::Shown::as_before))]
     pub fn tick(&mut self, scenario: &Scenario) -> Result<Entry, Memory>
         requires sound { Sound self.old.parts self.old.entered.counts }
         requires few { Few self.old.parts }
+        requires core { IsWholeCore (kept_of scenario.now self.old) }
+        requires ties { Ties scenario.now (core_state (kept_of scenario.now self.old)) self.old.ledger }
+        requires due { standing_of scenario.now (core_state (kept_of scenario.now self.old)) ≡ standing.Ticks }
+        requires room { self.old.parts.entries < limit scenario.now }
         ensures few { Few self.new.parts }
         ensures sound { Sound self.new.parts self.new.entered.counts }
         ensures lane { IfOk result (λ entry. entry.lane ≡ 0) }
         ensures entries { OnOk result (self.new.parts.entries ≡ self.old.parts.entries + 1) }
         ensures clock { IfOk result (λ entry. self.new.clock ≡ ticked entry.deed self.old.clock) }
-        ensures next { IfOk result (λ entry. IsWholeCore (kept_of scenario.now self.old)
-            → standing_of scenario.now (core_state (kept_of scenario.now self.old)) ≡ standing.Ticks
-            → Steps 0 (kept_of scenario.now self.old) (kept_of scenario.now self.new) entry) }
+        ensures next { IfOk result (λ entry. TurnsTo scenario.now 0 self.old self.new entry) }
         ensures err { OnErr result (IsAsBefore self.old self.new) }
     {
         let Some(clock) = self.parts.calls().next_time(self.clock) else {
-            return Err(unproved_fact());
+            unreachable!()
         };
         let entry = Entry {
             lane: 0,
             deed: Deed::Tick { clock },
         };
-        if !self.can_make(&entry.deed) {
-            return Err(unproved_fact());
-        }
         let mut step = None;
         self.make(scenario, Actor::Nobody, &mut step, None, &[], &entry)?;
         Ok(entry)

@@ -33,12 +33,6 @@ pub struct Running {
     pub clock: u64,
 }
 
-/// The answer where an entry is none that the rules give, or the history is as long as it may be. No schedule
-/// asks for such an entry; that is not proved here.
-pub fn unproved_fact() -> Memory {
-    Memory
-}
-
 // The counts of running bodies before the first entry: object 0 is none, and has a row.
 fn no_bodies(alloc: Global) -> Result<Entered, Memory>
     ensures { IfOk result (λ entered. entered.counts ≡ 0 ∷ []) }

@@ -1,12 +1,11 @@
 //! A runtime that makes one entry at a time.
 
-ghost use Rattle.std.specs.Prelude.{◌≡◌, ◌≤◌, ◌∷◌, ◌↔◌, [], IfErr, IfOk, IsTrue, OnErr, OnOk};
-ghost use Rattle.std.specs.Prelude.{Some, map};
+ghost use Rattle.std.specs.Prelude.{◌≡◌, ◌<◌, ◌≤◌, ◌∷◌, ◌↔◌, [], IfErr, IfOk, IsTrue, OnErr, OnOk};
+ghost use Rattle.std.specs.Prelude.{Some, map, true};
 ghost use Rattle.std.specs.Arc.{arc_value};
 ghost use Rattle.com_core.specs.Beginning.{BeginsParts};
-ghost use Rattle.com_core.specs.Seen.{IsFirst, IsWhole, Makes, Steps, core_state};
+ghost use Rattle.com_core.specs.Seen.{IsFirst, Makes, Steps, core_state};
 ghost use Rattle.com_runtime.specs.declared.runtime.Standing.TheVariants as standing;
-ghost use Rattle.com_core.specs.Stands.{IsReached};
 ghost use Rattle.com_core.specs.Nexts.{next_as};
 ghost use Rattle.com_runtime.specs.Standings.{can_step_in, standing_of};
 ghost use Rattle.com_runtime.specs.Reports.{counts_in};
@@ -14,13 +13,14 @@ ghost use Rattle.com_runtime.specs.Turns.{IsNext, served_in};
 ghost use Rattle.com_runtime.specs.declared.jobs.Next.TheVariants as next;
 ghost use Rattle.com_runtime.specs.Jobs.{Fits, HasShape, IsGivenBack, IsRefused, job_of, kept_in, next_in};
 ghost use Rattle.com_ledger.specs.Ties.{IsNew};
+ghost use Rattle.com_model.specs.Ends.{limit};
 ghost use Rattle.com_model.specs.Formed.{Formed};
 ghost use Rattle.com_model.specs.State.{objects_in};
 ghost use Rattle.com_model.specs.Tables.{lanes};
 ghost use Rattle.com_servant.specs.Rows.{row};
 ghost use Rattle.com_servant.specs.Steps.{IsOfItsClass, job_step};
 
-use crate::running::{Running, unproved_fact};
+use crate::running::Running;
 use com_base::Memory;
 use com_body::{Job, Outcome};
 use com_model::{Counts, Entry, Scenario};
@@ -48,7 +48,7 @@ pub struct Core {
 impl Model for Core {
     ghost use Rattle.std.specs.Prelude.{◌≡◌, ◌<◌, ◌^◌, length};
     ghost use Rattle.std.specs.Arc.{arc_value};
-    ghost use Rattle.com_core.specs.Seen.{CoreView, IsKeptIfFormed, core_of};
+    ghost use Rattle.com_core.specs.Seen.{CoreView, IsKept, core_of};
     ghost use Rattle.com_core.specs.Sound.{Few, Sound};
     ghost use Rattle.com_model.specs.Tables.{lanes};
 
@@ -59,23 +59,23 @@ impl Model for Core {
     ghost invariant = { λ c. Sound c.running.parts c.running.entered.counts
         × Few c.running.parts
         × (c.count ≡ lanes (arc_value c.scenario)) × (length (arc_value c.scenario).threads < 2 ^ 32)
-        × IsKeptIfFormed (core_of (arc_value c.scenario) c.running) };
+        × IsKept (core_of (arc_value c.scenario) c.running) };
 }
 
 impl Core {
-    /// The runtime before its first entry. The only error is want of memory.
+    /// The runtime of a formed scenario before its first entry. The only error is want of memory.
     pub fn new(alloc: Global, scenario: Arc<Scenario>) -> Result<Core, Memory>
+        requires formed { Formed (arc_value scenario) }
         ensures scenario { IfOk result (λ core. core.scenario ≡ arc_value scenario) }
         ensures begins { IfOk result (λ core. BeginsParts (arc_value scenario) core.parts core.fallen) }
         ensures entered { IfOk result (λ core. core.entered ≡ 0 ∷ []) }
         ensures held { IfOk result (λ core. IsNew core.held) }
-        ensures first { IfOk result (λ core. Formed (arc_value scenario)
-            → IsFirst (arc_value scenario) core) }
+        ensures first { IfOk result (λ core. IsFirst (arc_value scenario) core) }
         ensures entries { IfOk result (λ core. core.parts.entries ≡ 0) }
         ensures clock { IfOk result (λ core. core.clock ≡ 0) }
     {
         let Some(count) = scenario.lanes() else {
-            return Err(unproved_fact());
+            unreachable!()
         };
         let running = Running::new(alloc, &scenario)?;
         Ok(Core {
@@ -103,8 +103,7 @@ impl Core {
     /// Whether a lane, from 1 to `lanes`, can step.
     #[tactic(auto, using(crate::proofs::Readings::can_step_read))]
     pub fn can_step(&self, lane: u32) -> bool
-        ensures { IsReached self.now.scenario (core_state self.now)
-            → result ≡ can_step_in self.now.scenario (core_state self.now) lane }
+        ensures { result ≡ can_step_in self.now.scenario (core_state self.now) lane }
     {
         self.running.view(&self.scenario).can_step(lane)
     }
@@ -112,8 +111,7 @@ impl Core {
     /// Whether a lane can step, the clock goes on, or all has ended.
     #[tactic(auto, using(crate::proofs::Runs::room_for_sta, crate::proofs::Readings::standing_read))]
     pub fn standing(&self) -> Standing
-        ensures { IsReached self.now.scenario (core_state self.now)
-            → result ≡ standing_of self.now.scenario (core_state self.now) }
+        ensures { result ≡ standing_of self.now.scenario (core_state self.now) }
     {
         let threads = self.scenario.threads.len() as u32;
         standing_of(&self.running.view(&self.scenario), threads, self.count)
@@ -142,8 +140,7 @@ impl Core {
 
     /// What a report counts of an object, from 1 to `objects`.
     pub fn counts(&self, object: u32) -> Counts
-        ensures { IsReached self.now.scenario (core_state self.now)
-            → result ≡ counts_in self.now.scenario (core_state self.now) object }
+        ensures { result ≡ counts_in self.now.scenario (core_state self.now) object }
     {
         let numbers = self.running.ledger.counts(object);
         Counts {
@@ -169,23 +166,21 @@ impl Core {
         lane: u32,
         servants: &mut Vec<Box<dyn Servant + Send>>,
     ) -> Result<Entry, Memory>
+        requires above { 1 ≤ lane }
+        requires below { lane ≤ lanes self.old.scenario }
+        requires can { can_step_in self.old.scenario (core_state self.old) lane ≡ true }
+        requires room { (core_state self.old).entries < limit self.old.scenario }
         requires row { map kind_of servants.old.items ≡ row }
         ensures entry { IfOk result (λ entry. Makes lane self.old self.new entry) }
-        ensures next { IfOk result (λ entry. IsWhole self.old → Steps lane self.old self.new entry) }
-        ensures follows { IfOk result (λ entry. Formed self.old.scenario
-            → IsNext self.old.scenario (core_state self.old) lane entry (core_state self.new)) }
+        ensures next { IfOk result (λ entry. Steps lane self.old self.new entry) }
+        ensures follows { IfOk result (λ entry. IsNext self.old.scenario (core_state self.old) lane entry
+            (core_state self.new)) }
         ensures err { OnErr result (self.new ≡ self.old) }
         ensures scenario { self.new.scenario ≡ self.old.scenario }
         ensures row { map kind_of servants.new.items ≡ row }
         ensures served { OnOk result (map stepped servants.new.items
             ≡ served_in self.old.scenario (core_state self.old) lane (map stepped servants.old.items)) }
     {
-        if lane == 0 {
-            return Err(unproved_fact());
-        }
-        if lane > self.count {
-            return Err(unproved_fact());
-        }
         self.running
             .step(&self.scenario, alloc, lane, servants, &mut self.step)
     }
@@ -193,26 +188,12 @@ impl Core {
     /// Makes the clock's entry, where the clock goes on: to the least time that a call waits for. The only
     /// error is want of memory, and then nothing has changed.
     pub fn tick(&mut self) -> Result<Entry, Memory>
+        requires due { standing_of self.old.scenario (core_state self.old) ≡ standing.Ticks }
+        requires room { (core_state self.old).entries < limit self.old.scenario }
         ensures entry { IfOk result (λ entry. Makes 0 self.old self.new entry) }
-        ensures follows { IfOk result (λ entry. Formed self.old.scenario
-            → IsNext self.old.scenario (core_state self.old) 0 entry (core_state self.new)) }
-        ensures err { OnErr result (self.new ≡ self.old) }
-        ensures scenario { self.new.scenario ≡ self.old.scenario }
-    {
-        if self.standing() != Standing::Ticks {
-            return Err(unproved_fact());
-        }
-        self.make_tick()
-    }
-
-    // The clock's entry, where the clock goes on.
-    fn make_tick(&mut self) -> Result<Entry, Memory>
-        requires due { IsReached self.old.scenario (core_state self.old)
-            → standing_of self.old.scenario (core_state self.old) ≡ standing.Ticks }
-        ensures entry { IfOk result (λ entry. Makes 0 self.old self.new entry) }
-        ensures follows { IfOk result (λ entry. Formed self.old.scenario
-            → IsNext self.old.scenario (core_state self.old) 0 entry (core_state self.new)) }
-        ensures next { IfOk result (λ entry. IsWhole self.old → Steps 0 self.old self.new entry) }
+        ensures next { IfOk result (λ entry. Steps 0 self.old self.new entry) }
+        ensures follows { IfOk result (λ entry. IsNext self.old.scenario (core_state self.old) 0 entry
+            (core_state self.new)) }
         ensures err { OnErr result (self.new ≡ self.old) }
         ensures scenario { self.new.scenario ≡ self.old.scenario }
     {
@@ -236,8 +217,7 @@ impl Core {
     /// What a lane, from 1 to `lanes`, does next: a body acts, where one is innermost; or another next entry
     /// exists; or it has ended; or it waits.
     pub fn next(&self, lane: u32) -> Next
-        ensures { IsReached self.now.scenario (core_state self.now)
-            → result ≡ next_in self.now.scenario (core_state self.now) lane }
+        ensures { result ≡ next_in self.now.scenario (core_state self.now) lane }
     {
         next_of(self.running.view(&self.scenario).next(lane))
     }
@@ -245,6 +225,7 @@ impl Core {
     /// The step of the body that acts in a lane, as a job for a servant of its kind: on copies of the body's
     /// frame and of its object's cells. The only error is want of memory.
     pub fn job(&self, alloc: Global, lane: u32) -> Result<Job, Memory>
+        requires body { next_in self.now.scenario (core_state self.now) lane ≡ next.Body }
         ensures job { IfOk result (λ job.
             job_of self.now.scenario (core_state self.now) lane ≡ Some job) }
         ensures class { IfOk result (λ job. IsOfItsClass self.now.scenario.classes job) }
@@ -256,7 +237,7 @@ impl Core {
     /// interface, method and frame are those of the lane's topmost Enter. The job's frame has 16 registers
     /// and 8 slots, as each frame has.
     pub fn fits(&self, lane: u32, job: &Job) -> bool
-        ensures { IsReached self.now.scenario (core_state self.now) → HasShape job.now.frame
+        ensures { HasShape job.now.frame
             → (IsTrue result ↔ Fits self.now.scenario (core_state self.now) lane job.now) }
     {
         self.running.fits(&self.scenario, lane, job)
@@ -278,10 +259,11 @@ impl Core {
         requires below { lane ≤ lanes self.old.scenario }
         requires fits { Fits self.old.scenario (core_state self.old) lane job }
         requires outcome { outcome ≡ job_step self.old.scenario.classes job }
+        requires room { (core_state self.old).entries < limit self.old.scenario }
         ensures entry { IfOk result (λ entry. Makes lane self.old self.new entry) }
-        ensures next { IfOk result (λ entry. IsWhole self.old → Steps lane self.old self.new entry) }
-        ensures follows { IfOk result (λ entry. Formed self.old.scenario
-            → IsNext self.old.scenario (core_state self.old) lane entry (core_state self.new)) }
+        ensures next { IfOk result (λ entry. Steps lane self.old self.new entry) }
+        ensures follows { IfOk result (λ entry. IsNext self.old.scenario (core_state self.old) lane entry
+            (core_state self.new)) }
         ensures fresh { OnOk result (job.cells ≡ kept_in (core_state self.old) lane) }
         ensures refused { IfErr result (IsRefused (kept_in (core_state self.old) lane) job) }
         ensures back { IfErr result (IsGivenBack job outcome) }
@@ -297,10 +279,11 @@ impl Core {
         requires above { 1 ≤ lane }
         requires below { lane ≤ lanes self.old.scenario }
         requires own { next_in self.old.scenario (core_state self.old) lane ≡ next.Own }
+        requires room { (core_state self.old).entries < limit self.old.scenario }
         ensures entry { IfOk result (λ entry. Makes lane self.old self.new entry) }
-        ensures next { IfOk result (λ entry. IsWhole self.old → Steps lane self.old self.new entry) }
-        ensures follows { IfOk result (λ entry. Formed self.old.scenario
-            → IsNext self.old.scenario (core_state self.old) lane entry (core_state self.new)) }
+        ensures next { IfOk result (λ entry. Steps lane self.old self.new entry) }
+        ensures follows { IfOk result (λ entry. IsNext self.old.scenario (core_state self.old) lane entry
+            (core_state self.new)) }
         ensures err { OnErr result (self.new ≡ self.old) }
         ensures scenario { self.new.scenario ≡ self.old.scenario }
     {
@@ -314,14 +297,15 @@ impl Core {
         requires below { lane ≤ lanes self.old.scenario }
         requires clock { lane ≡ 0 → standing_of self.old.scenario (core_state self.old) ≡ standing.Ticks }
         requires own { 1 ≤ lane → next_in self.old.scenario (core_state self.old) lane ≡ next.Own }
+        requires room { (core_state self.old).entries < limit self.old.scenario }
         ensures entry { IfOk result (λ entry. Makes lane self.old self.new entry) }
-        ensures follows { IfOk result (λ entry. Formed self.old.scenario
-            → IsNext self.old.scenario (core_state self.old) lane entry (core_state self.new)) }
+        ensures follows { IfOk result (λ entry. IsNext self.old.scenario (core_state self.old) lane entry
+            (core_state self.new)) }
         ensures err { OnErr result (self.new ≡ self.old) }
         ensures scenario { self.new.scenario ≡ self.old.scenario }
     {
         if lane == 0 {
-            return self.make_tick();
+            return self.tick();
         }
         self.advance_lane(alloc, lane)
     }
@@ -370,7 +354,7 @@ impl Runtime for Core {
     }
 
     fn tick(&mut self) -> Result<Entry, Memory> {
-        self.make_tick()
+        Core::tick(self)
     }
 }
 

@@ -1,18 +1,22 @@
 //! The steps of bodies as jobs, and the entries that need no servant.
 
-ghost use Rattle.std.specs.Prelude.{◌≡◌, ℕ, ◌+◌, ◌↔◌, IfErr, IfOk, IfSome, IsSome, IsTrue, OnErr, OnOk};
+ghost use Rattle.std.specs.Prelude.{◌≡◌, ℕ, ◌+◌, ◌<◌, ◌≤◌, ◌↔◌, IfErr, IfOk, IfSome, IsSome, IsTrue, OnErr, OnOk};
 ghost use Rattle.std.specs.Prelude.{Some, false, true};
 ghost use Rattle.com_calls.specs.Kept.{IsNamed};
 ghost use Rattle.com_core.specs.Nexts.{FitsTop, kept_top};
-ghost use Rattle.com_core.specs.Seen.{IsAsBefore, TurnsTo, core_state, kept_of};
+ghost use Rattle.com_core.specs.Seen.{IsAsBefore, IsWhole as IsWholeCore, TurnsTo, core_state, kept_of};
 ghost use Rattle.com_core.specs.Sound.{Few, Sound};
 ghost use Rattle.com_core.specs.Stands.{seen_by};
 ghost use Rattle.com_runtime.specs.Jobs.{Fits, HasShape, IsGivenBack, IsRefused, job_of, kept_in};
+ghost use Rattle.com_runtime.specs.Standings.{can_step_in};
+ghost use Rattle.com_ledger.specs.Ties.{Ties};
 ghost use Rattle.com_refs_rows.specs.Books.{books_held};
 ghost use Rattle.com_model.specs.declared.keeps.Opener.TheVariants.{Enters};
 ghost use Rattle.com_model.specs.Clock.{ticked};
+ghost use Rattle.com_model.specs.Ends.{limit};
 ghost use Rattle.com_model.specs.Lists.{first};
 ghost use Rattle.com_model.specs.Openers.{is_body};
+ghost use Rattle.com_model.specs.Tables.{lanes};
 ghost use Rattle.com_reference_moves.specs.Steps.{IsWhole};
 ghost use Rattle.com_scene.specs.Kept.{HasSlots};
 ghost use Rattle.com_servant.specs.Steps.{IsOfItsClass, job_step};
@@ -20,7 +24,7 @@ ghost use Rattle.com_state.specs.Parts.{openers_at};
 ghost use Rattle.com_state.specs.SceneParts.{body_at};
 ghost use Rattle.com_turns.specs.Turns.{IsTurn, body_seen};
 
-use crate::running::{Running, forget, unproved_fact};
+use crate::running::{Running, forget};
 use com_base::Memory;
 use com_body::{Cells, Job, Outcome};
 use com_model::{Entry, Opener, Scenario};
@@ -43,13 +47,14 @@ impl Running {
     #[tactic(auto, using(crate::proofs::Whole::bodies_whole, crate::proofs::Worked::job_read))]
     pub fn job(&self, scenario: &Scenario, alloc: Global, lane: u32) -> Result<Job, Memory>
         requires sound { Sound self.now.parts self.now.entered.counts }
+        requires body { is_body (first (openers_at self.now.parts.lanes lane)) ≡ true }
         ensures job { IfOk result (λ job.
             job_of scenario.now (core_state (kept_of scenario.now self.now)) lane ≡ Some job) }
         ensures class { IfOk result (λ job. IsOfItsClass scenario.now.classes job) }
     {
         let view = self.view(scenario);
         let Some(Opener::Enters { call, object, .. }) = view.lanes.top(lane) else {
-            return Err(unproved_fact());
+            unreachable!()
         };
         work_of(&view, alloc, call, object)
     }
@@ -115,6 +120,11 @@ impl Running {
     ) -> Result<Entry, Outcome>
         requires sound { Sound self.old.parts self.old.entered.counts }
         requires few { Few self.old.parts }
+        requires core { IsWholeCore (kept_of scenario.now self.old) }
+        requires ties { Ties scenario.now (core_state (kept_of scenario.now self.old)) self.old.ledger }
+        requires above { 1 ≤ lane }
+        requires below { lane ≤ lanes scenario.now }
+        requires room { self.old.parts.entries < limit scenario.now }
         requires whole { HasSlots outcome.frame }
         requires body { is_body (first (openers_at self.old.parts.lanes lane)) ≡ true }
         requires step { (c o a : ℕ) → first (openers_at self.old.parts.lanes lane) ≡ Some (Enters c o a)
@@ -132,9 +142,6 @@ impl Running {
         let Ok(made) = self.given_turn_of(scenario, alloc, lane, &outcome) else {
             return Err(outcome);
         };
-        if !self.can_make(&made.doing.deed) {
-            return Err(outcome);
-        }
         let mut step = Some(outcome);
         match self.make_turn(scenario, lane, made, &mut step) {
             Ok(entry) => Ok(entry),
@@ -155,6 +162,11 @@ impl Running {
     ) -> Result<Entry, CommitError>
         requires sound { Sound self.old.parts self.old.entered.counts }
         requires few { Few self.old.parts }
+        requires core { IsWholeCore (kept_of scenario.now self.old) }
+        requires ties { Ties scenario.now (core_state (kept_of scenario.now self.old)) self.old.ledger }
+        requires above { 1 ≤ lane }
+        requires below { lane ≤ lanes scenario.now }
+        requires room { self.old.parts.entries < limit scenario.now }
         requires fits { Fits scenario.now (core_state (kept_of scenario.now self.old)) lane job }
         requires outcome { outcome ≡ job_step scenario.now.classes job }
         ensures few { Few self.new.parts }
@@ -180,7 +192,7 @@ impl Running {
         }
     }
 
-    // The turn of a lane in which no body is innermost.
+    // The turn of a lane that can step, in which no body is innermost.
     #[tactic(auto, using(crate::proofs::Runs::room_for_sta))]
     fn own_turn_of(
         &self,
@@ -191,7 +203,9 @@ impl Running {
     ) -> Result<Turn, Memory>
         requires none { step.old ≡ None }
         requires few { Few self.now.parts }
+        requires core { IsWholeCore (kept_of scenario.now self.now) }
         requires body { is_body (first (openers_at self.now.parts.lanes lane)) ≡ false }
+        requires can { can_step_in scenario.now (core_state (kept_of scenario.now self.now)) lane ≡ true }
         ensures whole { IsWhole step.new }
         ensures named { IsNamed self.now.parts.objects self.now.parts.calls }
         ensures turn { IfOk result (λ made. IsTurn
@@ -199,13 +213,12 @@ impl Running {
             (books_held self.now.ledger) lane step.new made) }
     {
         let view = self.view(scenario);
-        match own_turn(&view, &self.ledger, alloc, lane, step)? {
-            Some(made) => Ok(made),
-            None => Err(unproved_fact()),
-        }
+        let turn = own_turn(&view, &self.ledger, alloc, lane, step)?;
+        let Some(made) = turn else { unreachable!() };
+        Ok(made)
     }
 
-    /// Makes the next entry of a lane in which no body is innermost. The step of the entry before, which lies
+    /// Makes the next entry of a lane that can step, in which no body is innermost. The step of the entry before, which lies
     /// in `step`, makes room for that of this one. The only error is want of memory.
     #[tactic(auto, using(crate::proofs::Shown::as_before))]
     pub fn advance(
@@ -217,7 +230,13 @@ impl Running {
     ) -> Result<Entry, Memory>
         requires sound { Sound self.old.parts self.old.entered.counts }
         requires few { Few self.old.parts }
+        requires core { IsWholeCore (kept_of scenario.now self.old) }
+        requires ties { Ties scenario.now (core_state (kept_of scenario.now self.old)) self.old.ledger }
+        requires above { 1 ≤ lane }
+        requires below { lane ≤ lanes scenario.now }
         requires body { is_body (first (openers_at self.old.parts.lanes lane)) ≡ false }
+        requires can { can_step_in scenario.now (core_state (kept_of scenario.now self.old)) lane ≡ true }
+        requires room { self.old.parts.entries < limit scenario.now }
         ensures few { Few self.new.parts }
         ensures sound { Sound self.new.parts self.new.entered.counts }
         ensures lane { IfOk result (λ entry. entry.lane ≡ lane) }
@@ -228,9 +247,6 @@ impl Running {
     {
         forget(step);
         let made = self.own_turn_of(scenario, alloc, lane, step)?;
-        if !self.can_make(&made.doing.deed) {
-            return Err(unproved_fact());
-        }
         self.make_turn(scenario, lane, made, step)
     }
 }

@@ -1,6 +1,7 @@
 -- An entry that was applied to a ledger which is tied to a state.
-use Rattle.std.proofs.Common.{◌≡◌, sym, ap, ◌∙◌, subst, ℕ, Bool, ◌<◌, List}
+use Rattle.std.proofs.Common.{◌≡◌, sym, ap, ◌∙◌, subst, ℕ, Bool, ◌+◌, ◌<◌, ◌≤◌, List}
 use Rattle.std.specs.Prelude.{Some}
+use Rattle.com_classes.specs.Tables.{Tables as ClassTables}
 use Rattle.com_refs_books.specs.Changes.{Books, entered_rows}
 use Rattle.com_refs_books.specs.Ends.{ends}
 use Rattle.com_refs_holders.specs.Places.{Counts}
@@ -22,7 +23,8 @@ use Rattle.com_refs.specs.Totals.{Totals}
 use Rattle.com_state.specs.Parts.{named_at}
 use Rattle.com_refs_rows.specs.Books.{Held, books_held}
 use Rattle.com_refs_rows.specs.Entries.{Applied, Applies, Around, Carries, StandsAround, brings_to, entered, left_by, tally}
-use Rattle.com_refs_rows.specs.Owners.{Grown, owns_by}
+use Rattle.com_refs_rows.specs.Fits.{most_given}
+use Rattle.com_refs_rows.specs.Owners.{Grown, OffersMore, owns_by}
 use Rattle.com_ledger.specs.Ties.{AppliedAs, ObjectsGrow, ObjectsTie, Ties, books_by_rows, places_at}
 use Rattle.com_ledger.proofs.Following.{objects-tie, stands-after, ties-after}
 use Rattle.com_ledger.proofs.Within.{ends-applied, entered-below, running-below}
@@ -66,12 +68,14 @@ applied-as s st h l d g gained lost w u f p n t a totals x =
 pub applied-ties : (s : Scenario) (st : State) (h : List Entry) (l : ℕ) (d : Deed) (g : Around) (gained lost : List Move) (w u : Held) → Formed s → StandsFor s st h → next_of s st l ≡ Some d
     → movings_of gained ≡ (moves_in s st (record { lane = l; deed = d })).gained → movings_of lost ≡ (moves_in s st (record { lane = l; deed = d })).lost
     → Ties s st w → StandsAround s st l d g → ((n : ℕ) (places : ℕ → ℕ → ℕ) → Counts n places u.tables → Totals n places u.tables)
-    → Applies g d gained lost (tally w.tables w.calls) (tally u.tables u.calls) → Ties s (after s st l d) u
-applied-ties s st h l d g gained lost w u f p n moved gone t a totals applies =
+    → OffersMore g.classes (makes d) w.tables u.tables → u.tables.issued ≤ w.tables.issued + most_given → Applies g d gained lost (tally w.tables w.calls) (tally u.tables u.calls) → Ties s (after s st l d) u
+applied-ties s st h l d g gained lost w u f p n moved gone t a totals more given applies =
     let carries : Carries s ((sight_of s st).act l) (books_held w) d g.carried = subst (λ (b : Books). Carries s ((sight_of s st).act l) b d g.carried) (sym t.books) a.carried in
     let x : Applied (λ owned. entered s ((sight_of s st).act l) g owned d (books_held w)) g d gained lost (tally w.tables w.calls) (tally u.tables u.calls) = applies s ((sight_of s st).act l) carries in
     ties-after s st h l d w u f p n t (record {
       ended = ends-applied s st h l d gained lost w u f p n moved gone t (applied-as s st h l d g gained lost w u f p n t a totals x);
       objects = objects-grow s st l d g w u a x.objects;
+      offers = subst (λ (k : ClassTables). OffersMore k (makes d) w.tables u.tables) a.classes more;
       calls = x.calls l;
+      issued = given;
     })

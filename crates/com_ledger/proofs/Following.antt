@@ -1,9 +1,11 @@
 -- A ledger after an entry is tied to the state after it.
-use Rattle.std.proofs.Common.{◌≡◌, refl, sym, ap, ◌∙◌, subst, arith, inl, inr, ℕ, zero, suc, Bool, true, false, cond, eqb, ◌&&◌, ◌||◌, ◌+◌, ◌-◌, ◌<◌, ◌≤◌, ◌⊎◌, List, [], ◌∷◌, length}
+use Rattle.std.proofs.Common.{◌≡◌, refl, sym, ap, ◌∙◌, subst, arith, inl, inr, ℕ, zero, suc, Bool, true, false, cond, eqb, ◌&&◌, ◌||◌, ◌+◌, ◌-◌, ◌*◌, ◌<◌, ◌≤◌, ◌⊎◌, List, [], ◌∷◌, length}
 use Rattle.std.proofs.lemmas.Bool.{cases_lt}
 use Rattle.std.proofs.lemmas.Grind.{common_steps}
 use Rattle.std.proofs.lemmas.List.Sums.{sum_by-cons}
 use Rattle.std.specs.Prelude.{Option, Some, None, option_map}
+use Rattle.com_classes.specs.Lookups.{has_interface}
+use Rattle.com_classes.specs.Tables.{Tables as ClassTables}
 use Rattle.com_laws_balance.proofs.Counts.{Found, found-place}
 use Rattle.com_laws_balance.proofs.Lows.{more-stas}
 use Rattle.com_refs_books.specs.Changes.{entered_rows}
@@ -11,7 +13,7 @@ use Rattle.com_refs_books.specs.Counting.{count_if}
 use Rattle.com_refs_books.specs.Ends.{ends}
 use Rattle.com_refs_books.proofs.Sums.{sum-more}
 use Rattle.com_refs_holders.specs.Places.{Counts}
-use Rattle.com_refs_holders.specs.Tables.{Tables, owns_of}
+use Rattle.com_refs_holders.specs.Tables.{Tables, offers, owns_of}
 use Rattle.com_model.specs.declared.deeds.Deed.{Deed}
 use Rattle.com_model.specs.declared.deeds.Entry.{Entry}
 use Rattle.com_model.specs.declared.keeps.Making.{Making}
@@ -22,7 +24,7 @@ use Rattle.com_model.specs.Endings.{is_leave}
 use Rattle.com_model.specs.Formed.{Formed}
 use Rattle.com_model.specs.Frames.{scene}
 use Rattle.com_model.specs.Lists.{number_or_zero}
-use Rattle.com_model.specs.Objects.{made_or, makes, making, named, one_more}
+use Rattle.com_model.specs.Objects.{class_of, made_or, makes, making, named, one_more}
 use Rattle.com_model.specs.Places.{Ground, ground, places, to_object}
 use Rattle.com_model.specs.Rules.{legal}
 use Rattle.com_model.specs.Sight.{sight}
@@ -30,7 +32,7 @@ use Rattle.com_model.specs.State.{State, StandsFor, after, books_in, ground_in, 
 use Rattle.com_model.specs.Tables.{is_agile_class}
 use Rattle.com_model.proofs.Kept.{legal-bounded}
 use Rattle.com_model.proofs.Rowed.{after-rows}
-use Rattle.com_model.proofs.Sights.{same-books, same-ground, same-named, same-next, same-scene, same-sight}
+use Rattle.com_model.proofs.Sights.{same-books, same-class, same-ground, same-named, same-next, same-scene, same-sight}
 use Rattle.com_model.proofs.Tabled.{length-grown}
 use Rattle.com_model.proofs.Whole.{whole-after}
 use Rattle.com_reference_moves.specs.declared.moves.Move.{Move}
@@ -43,7 +45,8 @@ use Rattle.com_laws_unchanged.proofs.Endings.{history-end}
 use Rattle.com_laws_release.proofs.Lives.{place-low}
 use Rattle.com_refs_rows.specs.Books.{Held}
 use Rattle.com_refs_rows.specs.Moving.{moves_at, plus, AllBelow}
-use Rattle.com_ledger.specs.Ties.{EntryEnds, ObjectsGrow, ObjectsTie, OwnersGrow, OwnersTie, Ties, owner_after, owns_after, places_at}
+use Rattle.com_refs_rows.specs.Owners.{OffersMore, offers_made}
+use Rattle.com_ledger.specs.Ties.{EntryEnds, ObjectsGrow, ObjectsTie, OffersTie, OwnersGrow, OwnersTie, Ties, owner_after, owns_after, places_at}
 use Rattle.com_ledger.proofs.Lowest.{LowMoves, low-state, moves-low}
 
 -- ---- the state after an entry
@@ -171,8 +174,32 @@ owners-tie s st h l d w u f p n t g o =
     g o ∙ ap (owner_after (makes d) o) (t o ∙ (λ i. same-named st h p.objects i o)) ∙ owner-made (makes d) o (making h o)
     ∙ sym (λ i. same-named (after s st l d) (record { lane = l; deed = d } ∷ h) q.objects i o)
 
+offered-made : (classes : ClassTables) (m : Option Making) (o i : ℕ) (x : Option Making) → has_interface classes (number_or_zero (option_map (λ (k : Making). k.class) (made_or m o x))) i ≡ true
+    → (has_interface classes (number_or_zero (option_map (λ (k : Making). k.class) x)) i ≡ true) ⊎ (offers_made classes m o i ≡ true)
+offered-made classes None o i x h = inl h
+offered-made classes (Some m) o i x h = elim (eqb m.object o) as (λ b. has_interface classes (number_or_zero (option_map (λ (k : Making). k.class) (cond b (Some m) x))) i ≡ true
+    → (has_interface classes (number_or_zero (option_map (λ (k : Making). k.class) x)) i ≡ true) ⊎ ((b && has_interface classes m.class i) ≡ true)) [ true ↦ λ g. inr g | false ↦ λ g. inl g ] h
+
+or-first : (a b : Bool) → a ≡ true → (a || b) ≡ true
+or-first a b e = ap (λ (x : Bool). x || b) e
+
+or-second : (a b : Bool) → b ≡ true → (a || b) ≡ true
+or-second true b e = refl
+or-second false b e = e
+
+pub offers-tie : (s : Scenario) (st su : State) (h : List Entry) (e : Entry) (w u : Held) → StandsFor s st h → StandsFor s su (e ∷ h) → OffersTie s st w → OffersMore s.classes (makes e.deed) w.tables u.tables → OffersTie s su u
+offers-tie s st su h e w u p q t g = λ o i k.
+    let now : has_interface s.classes (class_of (e ∷ h) o) i ≡ true = subst (λ (c : ℕ). has_interface s.classes c i ≡ true) (λ j. same-class su (e ∷ h) q.objects j o) k in
+    elim (offered-made s.classes (makes e.deed) o i (making h o) now) [
+      | inl was ↦ g o i (or-first (offers w.tables o i) (offers_made s.classes (makes e.deed) o i) (t o i (subst (λ (c : ℕ). has_interface s.classes c i ≡ true) (sym (λ j. same-class st h p.objects j o)) was)))
+      | inr new ↦ g o i (or-second (offers w.tables o i) (offers_made s.classes (makes e.deed) o i) new)
+    ]
+
 calls-tie : (s : Scenario) (st : State) (l : ℕ) (d : Deed) (w u : Held) → length w.calls ≡ length st.issues → length u.calls ≡ count_if (issued_by (record { lane = l; deed = d })) + length w.calls → length u.calls ≡ length (after s st l d).issues
 calls-tie s st l d w u t g = g ∙ ap (λ (n : ℕ). count_if (issued_by (record { lane = l; deed = d })) + n) t ∙ sym (length-grown (issued_by (record { lane = l; deed = d })) _ st.issues)
+
+issued-tie : (n m k : ℕ) → n ≤ 32 * k → m ≤ n + 32 → m ≤ 32 * (k + 1)
+issued-tie n m k p q = omega (arith, p, q)
 
 -- ---- the whole
 
@@ -183,7 +210,9 @@ tied-after s st h l d w u p q t c = record {
   counts = c.ended.counts;
   totals = c.ended.totals;
   objects = objects-tie s st (after s st l d) h (record { lane = l; deed = d }) w u p q t.objects c.objects;
+  offers = offers-tie s st (after s st l d) h (record { lane = l; deed = d }) w u p q t.offers c.offers;
   calls = calls-tie s st l d w u t.calls c.calls;
+  issued = issued-tie w.tables.issued u.tables.issued st.entries t.issued c.issued;
 }
 
 pub ties-after : (s : Scenario) (st : State) (h : List Entry) (l : ℕ) (d : Deed) (w u : Held) → Formed s → StandsFor s st h → next_of s st l ≡ Some d → Ties s st w → EntryEnds s st l d w u → Ties s (after s st l d) u

@@ -1,5 +1,5 @@
 -- What is left of the objects that lost their last holder.
-use Rattle.std.proofs.Common.{◌≡◌, ℕ, zero, suc, true, false, ◌<◌, ◌≤◌, List, [], length, ap, arith}
+use Rattle.std.proofs.Common.{◌≡◌, ℕ, true, ◌<◌, ◌≤◌, List, [], length, ap, arith}
 use Rattle.std.specs.Prelude.{Option, Some, None}
 use Rattle.com_refs_holders.specs.Tables.{Tables, books_of}
 use Rattle.com_model.specs.declared.deeds.Deed.{Deed}
@@ -10,6 +10,7 @@ use Rattle.com_reference_moves.specs.declared.moves.Move.{Move}
 use Rattle.com_refs.specs.Counts.{holders_of}
 use Rattle.com_refs_rows.specs.Entries.{Applies, Around, Loses, Tally}
 use Rattle.com_refs_rows.specs.Moving.{Touches}
+use Rattle.com_ledger.specs.Ties.{Notes, NotesLost}
 
 pub same_holders : (t u : Tables) (s o : ℕ) → u ≡ record t { spare = s } → holders_of u o ≡ holders_of t o
 unfolding books_of
@@ -19,30 +20,23 @@ below-more : (m : Option Making) (n k : ℕ) → k ≡ one_more m n → n ≤ k
 below-more None n k e = omega (arith, e)
 below-more (Some m) n k e = omega (arith, e)
 
-clash : false ≡ true → ⊥
-clash e = cc
-
-touches-kept : (t u : Tables) (xs ys : List ℕ) → ((o : ℕ) → 0 < holders_of t o → is_member o xs ≡ true → is_member o ys ≡ true) → Touches t u [] xs → Touches t u [] ys
-touches-kept t u xs ys kept p = record {
-  kept = λ o m. absurd (clash m);
-  all = λ o some none. kept o some (p.all o some none);
-}
+touches-noted : (t u : Tables) (xs ys : List ℕ) → ((o : ℕ) → 1 ≤ o → 0 < holders_of t o → is_member o xs ≡ true → is_member o ys ≡ true) → Touches t u [] xs → Notes t u ys
+touches-noted t u xs ys kept p = record { all = λ o low some none. kept o low some (p.all o some none) }
 
 pub loses_kept : (g : Around) (d : Deed) (gained lost : List Move) (w v : Tally) (xs ys : List ℕ) → Applies g d gained lost w v
-    → ((o : ℕ) → 0 < holders_of w.tables o → (0 < o) × (o ≤ length w.tables.objects))
+    → ((o : ℕ) → 0 < holders_of w.tables o → o ≤ length w.tables.objects)
     → ((o : ℕ) → 0 < o → o ≤ length v.tables.objects → is_member o xs ≡ true → is_member o ys ≡ true)
-    → Loses g d gained lost w v xs → Loses g d gained lost w v ys
+    → Loses g d gained lost w v xs → NotesLost g d gained lost w v ys
 loses_kept g d gained lost w v xs ys applies made kept loses = λ s x carries n places later low gs ls are counts both.
     let more : length w.tables.objects ≤ length v.tables.objects = below-more (makes d) (length w.tables.objects) (length v.tables.objects) (applies s x carries).objects.number in
-    touches-kept w.tables v.tables xs ys
-    (λ o some m. let here = made o some in kept o here.0 (omega (arith, here.1, more)) m)
+    touches-noted w.tables v.tables xs ys
+    (λ o one some m. kept o (omega (arith, one)) (omega (arith, made o some, more)) m)
     (loses s x carries n places later low gs ls are counts both)
 
 -- Each object with a holder was made.
-pub held_made : (t u : Tables) (s : ℕ) → u ≡ record t { spare = s } → holders_of u 0 ≡ 0 → ((o : ℕ) → 0 < holders_of u o → o ≤ length u.objects)
-    → (o : ℕ) → 0 < holders_of t o → (0 < o) × (o ≤ length t.objects)
-held_made t u s e none high zero h = let same : holders_of u 0 ≡ holders_of t 0 = same_holders t u s 0 e in absurd (omega (arith, h, same, none))
-held_made t u s e none high (suc o) h =
-    let same : holders_of u (suc o) ≡ holders_of t (suc o) = same_holders t u s (suc o) e in
+pub held_made : (t u : Tables) (s : ℕ) → u ≡ record t { spare = s } → ((o : ℕ) → 0 < holders_of u o → o ≤ length u.objects)
+    → (o : ℕ) → 0 < holders_of t o → o ≤ length t.objects
+held_made t u s e high o h =
+    let same : holders_of u o ≡ holders_of t o = same_holders t u s o e in
     let many : length u.objects ≡ length t.objects = ap (λ (v : Tables). length v.objects) e in
-    (omega arith, omega (arith, many, high (suc o) (omega (arith, same, h))))
+    omega (arith, many, high o (omega (arith, same, h)))

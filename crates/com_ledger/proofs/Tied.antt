@@ -1,6 +1,6 @@
 -- What the tables of a ledger say of the state that it is tied to, and the ties of the new ledger.
 use mathlib.Core.Path.{fun_ext}
-use Rattle.std.proofs.Common.{◌≡◌, refl, sym, ap, ◌∙◌, subst, arith, eqb-true, ℕ, zero, suc, Bool, true, false, cond, not, eqb, ◌&&◌, ◌+◌, ◌<◌, ◌||◌, List, [], length}
+use Rattle.std.proofs.Common.{◌≡◌, refl, sym, ap, ◌∙◌, subst, arith, eqb-true, ℕ, zero, suc, Bool, true, false, cond, not, eqb, ◌&&◌, ◌+◌, ◌*◌, ◌<◌, ◌≤◌, ◌||◌, List, [], length}
 use Rattle.std.proofs.lemmas.Grind.{common_steps}
 use Rattle.std.specs.Prelude.{None}
 use Rattle.com_refs_books.specs.Changes.{Books, no_books, held_outside}
@@ -26,8 +26,7 @@ use Rattle.com_stub.specs.StubRows.{is_connected}
 use Rattle.com_refs_rows.specs.declared.calls.CallPackets.{CallPackets}
 use Rattle.com_refs_rows.specs.Books.{Held, books_held}
 use Rattle.com_refs_rows.specs.Calls.{arguments_in, result_in}
-use Rattle.com_refs_rows.specs.Moving.{Touches}
-use Rattle.com_ledger.specs.Ties.{AllTouched, OwnersTie, Ties, IsNew, places_at, holders_at}
+use Rattle.com_ledger.specs.Ties.{AllTouched, Notes, OffersTie, OwnersTie, Ties, IsNew, places_at, holders_at}
 
 -- ---- holders
 
@@ -142,6 +141,14 @@ new-totals w p = record {
       omega (arith, locals, no-direct w o p, sum-nothing 3 (λ a. 0) (λ a. refl));
 }
 
+none-true : false ≡ true → ⊥
+none-true e = cc
+
+-- No object was made, and no class has number 0.
+first-offers : (s : Scenario) (w : Held) → OffersTie s (first_tables s) w
+first-offers s w zero i h = absurd (none-true h)
+first-offers s w (suc o) i h = absurd (none-true h)
+
 pub first-tied : (s : Scenario) (w : Held) → IsNew w → Ties s (first_tables s) w
 first-tied s w p =
     let none : places_at s (first_tables s) ≡ (λ a o. 0) = fun_ext (λ a. fun_ext (λ o. first-places s a o)) in
@@ -154,7 +161,9 @@ first-tied s w p =
         number = ap (λ (rows : List ObjectRow). length rows) p.objects;
         owns = λ o a. new-owns s w o a p;
       };
+      offers = first-offers s w;
       calls = ap (λ (rows : List CallPackets). length rows) p.calls;
+      issued = subst (λ (n : ℕ). n ≤ 32 * 0) (sym p.issued) (omega arith);
     }
 
 -- ---- what lost its last holder
@@ -163,12 +172,12 @@ some-held : (n : ℕ) → eqb n 0 ≡ false → 0 < n
 some-held zero e = cc
 some-held (suc n) e = omega arith
 
-pub losses-touched : (s : Scenario) (st su : State) (w u : Held) (before after : List ℕ) → Ties s st w → Ties s su u → Touches w.tables u.tables before after → AllTouched s st su after
-losses-touched s st su w u before after p q t o held none =
+pub losses-touched : (s : Scenario) (st su : State) (w u : Held) (touched : List ℕ) → Ties s st w → Ties s su u → Notes w.tables u.tables touched → AllTouched s st su touched
+losses-touched s st su w u touched p q t o low held none =
     let was : holders_of w.tables o ≡ holders_at s st o = holders-tie s st w o p in
     let is : holders_of u.tables o ≡ holders_at s su o = holders-tie s su u o q in
     let some : 0 < holders_at s st o = some-held (holders_at s st o) held in
-    t.all o (omega (arith, was, some)) (is ∙ eqb-true (holders_at s su o) 0 none)
+    t.all o low (omega (arith, was, some)) (is ∙ eqb-true (holders_at s su o) 0 none)
 
 pub first-owners : (s : Scenario) (w : Held) → IsNew w → OwnersTie (first_tables s) w
 first-owners s w p o = ap (λ (rows : List ObjectRow). (object_in rows o).owner) p.objects ∙ ap (λ (r : ObjectRow). r.owner) (no-row o) ∙ first-named s o

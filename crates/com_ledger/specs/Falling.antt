@@ -45,7 +45,7 @@ other_object n d b = or_else (made_object n d) (left_object d b)
 -- The objects that lost their last holder by an entry are among these, which stand by number.
 pub record Touches (s : Scenario) (st : State) (lane : ℕ) (d : Deed) (touched : List ℕ) : Type 0 where
   pub rise : Rise 0 touched (objects_in (after s st lane d))
-  pub all : (o : ℕ) → LosesLast s st (after s st lane d) o → is_member o touched ≡ true
+  pub all : (o : ℕ) → 1 ≤ o → LosesLast s st (after s st lane d) o → is_member o touched ≡ true
 
 -- So many holders has each object in a state.
 abbrev pub CountsHolders : Scenario → State → (holders : ℕ → ℕ) → Type 0

@@ -1,12 +1,13 @@
--- What ties a ledger to a state: its books are the state's, its tables count the state's places, and its
--- objects and calls are the state's.
-use Rattle.std.specs.Prelude.{◌≡◌, ◌<◌, ◌≤◌, ◌⊎◌, ℕ, ◌+◌, Bool, true, false, ◌==◌, if◌then◌else◌, List, []}
+-- What ties a ledger to a state: its books are the state's, its tables count the state's places, its objects
+-- and calls are the state's, the objects' sets those of the classes, and few references were given.
+use Rattle.std.specs.Prelude.{◌≡◌, ◌<◌, ◌≤◌, ◌⊎◌, ℕ, ◌+◌, ◌*◌, Bool, true, false, ◌==◌, if◌then◌else◌, List, []}
 use Rattle.std.specs.Prelude.{length, Option, Some, None}
+use Rattle.com_classes.specs.Lookups.{has_interface}
 use Rattle.com_refs_books.specs.Changes.{Books, entered_rows}
 use Rattle.com_refs_books.specs.Counting.{count_if}
 use Rattle.com_refs_books.specs.Ends.{ends}
 use Rattle.com_refs_holders.specs.Places.{Counts}
-use Rattle.com_refs_holders.specs.Tables.{object_in, owns_of}
+use Rattle.com_refs_holders.specs.Tables.{Tables, object_in, offers, owns_of}
 use Rattle.com_model.specs.declared.deeds.Deed.{Deed}
 use Rattle.com_model.specs.declared.keeps.Making.{Making}
 use Rattle.com_model.specs.declared.scenario.Scenario.{Scenario}
@@ -15,14 +16,18 @@ use Rattle.com_model.specs.Endings.{is_leave}
 use Rattle.com_model.specs.Lists.{is_member, number_or_zero}
 use Rattle.com_model.specs.Objects.{makes, one_more}
 use Rattle.com_model.specs.Places.{places}
-use Rattle.com_model.specs.State.{State, after, books_in, ending_in, ground_in, issued_by, named_in}
+use Rattle.com_model.specs.State.{State, after, books_in, class_in, ending_in, ground_in, issued_by, named_in}
 use Rattle.com_model.specs.State.{next_sta_in, objects_in, owns_in, running_in, scene_in, sight_of}
 use Rattle.com_reference_moves.specs.declared.moves.Move.{Move}
 use Rattle.com_laws_unchanged.specs.Ends.{books_entered, connected}
 use Rattle.com_refs.specs.Totals.{Totals}
-use Rattle.com_refs_rows.specs.Books.{Held, books_held}
+use Rattle.com_body.specs.declared.actions.Action.{Action}
+use Rattle.com_refs.specs.Counts.{holders_of}
+use Rattle.com_refs_rows.specs.Books.{AreMade, Held, books_held}
+use Rattle.com_refs_rows.specs.Entries.{Around, Carries, Tally, books_tallied, brings_to}
+use Rattle.com_refs_rows.specs.Fits.{most_given}
 use Rattle.com_refs_rows.specs.Moving.{plus, AllBelow}
-use Rattle.com_refs_rows.specs.Owners.{owns_by}
+use Rattle.com_refs_rows.specs.Owners.{OffersMore, owns_by}
 
 -- The places of a state, by apartment and object, and the holders of an object.
 abbrev pub places_at : Scenario → State → (apartment object : ℕ) → ℕ
@@ -50,12 +55,19 @@ pub record ObjectsGrow (s : Scenario) (d : Deed) (w u : Held) : Type 0 where
   pub owns : (o a : ℕ) → owns_of u.tables.objects o a
       ≡ owns_after s (makes d) o a (owns_of w.tables.objects o a)
 
+-- The set of each object has the interfaces of the object's class.
+abbrev pub OffersTie : Scenario → State → Held → Type 0
+OffersTie s st w =
+    (o i : ℕ) → has_interface s.classes (class_in st o) i ≡ true → offers w.tables o i ≡ true
+
 pub record Ties (s : Scenario) (st : State) (w : Held) : Type 0 where
   pub books : books_held w ≡ books_in st
   pub counts : Counts (next_sta_in st) (places_at s st) w.tables
   pub totals : Totals (next_sta_in st) (places_at s st) w.tables
   pub objects : ObjectsTie s st w
+  pub offers : OffersTie s st w
   pub calls : length w.calls ≡ length st.issues
+  pub issued : w.tables.issued ≤ most_given * st.entries
 
 -- No object was made, no call was issued, and nothing is held.
 pub record IsNew (w : Held) : Type 0 where
@@ -65,6 +77,7 @@ pub record IsNew (w : Held) : Type 0 where
   pub packets : w.tables.packets ≡ []
   pub cookies : w.tables.cookies ≡ []
   pub calls : w.calls ≡ []
+  pub issued : w.tables.issued ≡ 0
 
 -- A ledger at the end of an entry: its tables count these places, and its books are those with the entry's
 -- rows, ended for them.
@@ -74,13 +87,16 @@ pub record EndedAt (n : ℕ) (later : ℕ → ℕ → ℕ) (entered : Books) (u 
   pub books : books_held u ≡ ends n later entered
 
 -- What a ledger is after an entry, by its tables and by the objects and calls that it had: it ends at the
--- places after the entry, with the books with the entry's rows; and it has one more object and one more
--- call, where the entry makes or issues one.
+-- places after the entry, with the books with the entry's rows; it has one more object and one more call,
+-- where the entry makes or issues one; the object's set has the interfaces of its class; and it has given few
+-- references more.
 pub record EntryEnds (s : Scenario) (st : State) (l : ℕ) (d : Deed) (w u : Held) : Type 0 where
   pub ended : EndedAt (next_sta_in (after s st l d)) (places_at s (after s st l d))
       (books_entered s st (after s st l d) (record { lane = l; deed = d })) u
   pub objects : ObjectsGrow s d w u
+  pub offers : OffersMore s.classes (makes d) w.tables u.tables
   pub calls : length u.calls ≡ count_if (issued_by (record { lane = l; deed = d })) + length w.calls
+  pub issued : u.tables.issued ≤ w.tables.issued + most_given
 
 -- Books with the rows of the next entry of a lane, with what calls keep of packets and with what it
 -- connects and what not.
@@ -114,10 +130,26 @@ pub record AppliedAs (s : Scenario) (st : State) (l : ℕ) (d : Deed) (gained lo
       (books_by_rows s st l d owned (books_held w))
   pub totals : (n : ℕ) (places : ℕ → ℕ → ℕ) → Counts n places u.tables → Totals n places u.tables
 
--- Each object that had a holder in the one state and has none in the other is in the list.
+-- Each object that had a holder in the one state and has none in the other is in the list. Objects have
+-- numbers from 1 on.
 abbrev pub AllTouched : Scenario → (before after : State) → List ℕ → Type 0
 AllTouched s st su touched =
-    (o : ℕ) → (holders_at s st o == 0) ≡ false → (holders_at s su o == 0) ≡ true → is_member o touched ≡ true
+    (o : ℕ) → 1 ≤ o → (holders_at s st o == 0) ≡ false → (holders_at s su o == 0) ≡ true
+    → is_member o touched ≡ true
+
+-- Each object that had a holder in the one tables and has none in the others was written down.
+pub record Notes (before after : Tables) (touched : List ℕ) : Type 0 where
+  pub all : (o : ℕ) → 1 ≤ o → 0 < holders_of before o → holders_of after o ≡ 0 → is_member o touched ≡ true
+
+-- An entry was applied: where the places are counted, and those that are lost and gained are counted off and
+-- on, each object that had a holder before it and has none after it is among those that were written down.
+abbrev pub NotesLost : Around → Deed → (gained lost : List Move) → (w v : Tally) → (touched : List ℕ) → Type 0
+NotesLost g d gained lost w v touched =
+    (s : Scenario) (x : Option Action) → Carries s x (books_tallied w) d g.carried
+    → (n : ℕ) (places later : ℕ → ℕ → ℕ) → brings_to g.apartment d < n → AllBelow n gained → AllBelow n lost
+    → AreMade (length w.tables.objects) places
+    → Counts n places w.tables → ((c x : ℕ) → plus later lost c x ≡ plus places gained c x)
+    → Notes w.tables v.tables touched
 
 -- The owner of each object is the apartment that its making names.
 abbrev pub OwnersTie : State → Held → Type 0

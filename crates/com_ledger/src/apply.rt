@@ -1,22 +1,24 @@
 //! The change of the books by an entry.
-ghost use Rattle.std.specs.Prelude.{◌≡◌, ◌+◌, ◌<◌, ◌≤◌, ◌^◌, ◌||◌, ℕ, [], false, true, if◌then◌else◌, IsTrue};
+ghost use Rattle.std.specs.Prelude.{◌≡◌, ◌+◌, ◌<◌, ◌≤◌, ◌^◌, ℕ, [], false, true, if◌then◌else◌, IsTrue};
 ghost use Rattle.std.specs.Prelude.{OnErr, OnOk, List, length, take, vec_len, vec_capacity};
 ghost use Rattle.com_refs_holders.specs.Places.{Counts, SamePlaces};
 ghost use Rattle.com_refs_holders.specs.Tables.{books_of, offers};
 ghost use Rattle.com_model.specs.Lists.{is_member, number_or_zero};
+ghost use Rattle.com_model.specs.Objects.{makes};
 ghost use Rattle.com_reference_moves.specs.declared.moves.Move.{Move};
 ghost use Rattle.com_reference_moves.specs.Steps.{movings_of};
 ghost use Rattle.com_refs_rows.specs.Books.{Exchanged};
 ghost use Rattle.com_objects.specs.Settled.{Rise};
-ghost use Rattle.com_refs.specs.Counts.{holders_of};
-ghost use Rattle.com_refs_rows.specs.Entries.{AllGiven, Gives, Closes, Applies, KeepsHeldBy, Loses};
+ghost use Rattle.com_ledger.specs.Ties.{NotesLost};
+ghost use Rattle.com_refs_rows.specs.Entries.{AllGiven, Gives, Closes, Applies, KeepsHeldBy};
 ghost use Rattle.com_refs_rows.specs.Entries.{around, tally};
-ghost use Rattle.com_refs_rows.specs.Entries.{asked_packets, ended_objects, is_made, is_made_by};
+ghost use Rattle.com_refs_rows.specs.Entries.{asked_packets, ended_objects};
 ghost use Rattle.com_refs_rows.specs.Entries.{is_of_reference};
 ghost use Rattle.com_refs_rows.specs.Entries.{most_left, row_steps};
-ghost use Rattle.com_refs_rows.specs.Fits.{FitsBooks};
+ghost use Rattle.com_refs_rows.specs.Fits.{FitsBooks, FitsRow, most_gained, most_given};
 ghost use Rattle.com_refs_rows.specs.Moving.{plus, AllBelow, AllOffered, Climbs, HoldsMore, Touches};
 ghost use Rattle.com_refs_rows.specs.Moving.{TouchesCounted};
+ghost use Rattle.com_refs_rows.specs.Owners.{OffersMore};
 ghost use Rattle.com_scene.specs.Ranges.{FitsDeed};
 
 use crate::books::Books;
@@ -24,15 +26,14 @@ use crate::context::Context;
 use crate::ends::{end_connection, end_cookie, end_home, end_packet, give_up};
 use crate::ledger::Ledger;
 use com_base::{Memory, RefValue};
-use com_body::Asked;
 use com_deeds::number_or_zero;
 use com_model::{Deed, Entry};
 use com_objects::Objects;
 use com_reference_moves::{Move, Moves};
 use com_refs::Refs;
 use com_refs_rows::{
-    MOST_GIVEN, enter_back, enter_get, enter_made, enter_marshal, enter_query, enter_register,
-    enter_unmarshal, gain_all, is_left, issue, lose_all, read_all, reply, unproved_fact,
+    enter_back, enter_get, enter_made, enter_marshal, enter_query, enter_register, enter_unmarshal,
+    gain_all, is_left, issue, lose_all, read_all, reply,
 };
 
 // What is carried, where there are bytes.
@@ -72,6 +73,8 @@ fn take(refs: &mut Refs, touched: &mut Vec<u32>, brought: &[Move], gained: &[Mov
     requires room { length gained.now ≤ refs.old.spare }
     requires written { vec_len touched.old + length brought.now ≤ vec_capacity touched.old }
     ensures exchanged { Exchanged brought.now gained.now refs.old refs.new }
+    ensures offers { (x j : ℕ) → offers refs.new x j ≡ offers refs.old x j }
+    ensures issued { refs.new.issued ≤ refs.old.issued + length gained.now }
     ensures touched { (n : ℕ) (places : ℕ → ℕ → ℕ) → AllBelow n brought.now
         → AllBelow n gained.now → Counts n (plus places brought.now) refs.old
         → Touches refs.old refs.new touched.old.items touched.new.items }
@@ -85,51 +88,6 @@ fn take(refs: &mut Refs, touched: &mut Vec<u32>, brought: &[Move], gained: &[Mov
     }
     gain_all(refs, gained);
     lose_all(refs, touched, brought);
-}
-
-// Whether the reference is the one that the making of an object gives.
-fn is_made(object: Option<u32>, iface: Asked, held: RefValue) -> bool
-    ensures { result ≡ is_made object iface held.object held.iface }
-{
-    let Some(object) = object else {
-        return false;
-    };
-    let Asked::Number(iface) = iface else {
-        return false;
-    };
-    held.object == object && u32::from(held.iface) == iface
-}
-
-// Whether the reference is the one that a deed gives of the object that it makes.
-fn is_made_by(deed: &Deed, held: RefValue) -> bool
-    ensures { result ≡ is_made_by deed.now held.object held.iface }
-{
-    match deed {
-        Deed::Made { object, iface, .. } => is_made(*object, *iface, held),
-        _ => false,
-    }
-}
-
-// Whether the reference is by an interface of its object's set, once the object is made.
-fn can_place(refs: &Refs, deed: &Deed, held: RefValue) -> bool
-    ensures { result ≡ (offers refs.now held.object held.iface
-        || is_made_by deed.now held.object held.iface) }
-{
-    refs.offers(held.object, held.iface) || is_made_by(deed, held)
-}
-
-// Whether each reference that comes to a place is by an interface of its object's set, once the object is
-// made.
-fn can_gain(refs: &Refs, deed: &Deed, gained: &[Move]) -> bool
-    ensures known { IsTrue result → AllGiven refs.now deed.now gained.now }
-    ensures exact { AllGiven refs.now deed.now gained.now → IsTrue result }
-{
-    for moved in gained {
-        if !can_place(refs, deed, moved.reference) {
-            return false;
-        }
-    }
-    true
 }
 
 // Leaves the numbers of objects, of which so many were made.
@@ -160,7 +118,8 @@ fn most_noted(deed: &Deed, objects: &Objects, arguments: usize, lost: &[Move]) -
 impl Books {
     // The packets of a call's arguments that an Enter reads.
     fn arguments_of(&self, deed: &Deed) -> u32
-        ensures { result ≡ asked_packets self.now.calls deed.now }
+        ensures value { result ≡ asked_packets self.now.calls deed.now }
+        ensures few { result ≤ 4 }
     {
         match deed {
             Deed::Enter { call, .. } => self.calls.get(*call).count,
@@ -168,7 +127,7 @@ impl Books {
         }
     }
 
-    // Makes room for the entry, and looks whether the books take it. Nothing changes but room.
+    // Makes room for the entry. Nothing changes but room. The only error is want of memory.
     fn prepare(
         &mut self,
         deed: &Deed,
@@ -176,13 +135,16 @@ impl Books {
         gained: &[Move],
         lost: &[Move],
     ) -> Result<(), Memory>
+        requires carried { length context.carried.now ≤ 4 }
+        requires gained { length gained.now ≤ most_gained }
+        requires numbers { self.old.refs.issued + most_given ≤ 2 ^ 28 }
         ensures refs { self.new.refs ≡ record self.old.refs { spare = self.new.refs.spare } }
         ensures places { SamePlaces self.old.refs self.new.refs }
         ensures books { books_of self.new.refs ≡ books_of self.old.refs }
         ensures calls { self.new.calls ≡ self.old.calls }
         ensures touched { self.new.touched.items ≡ self.old.touched.items }
-        ensures known { OnOk result (AllGiven self.new.refs deed.now gained.now) }
-        ensures none { OnOk result (holders_of self.new.refs 0 ≡ 0) }
+        ensures steps { OnOk result (row_steps self.new.calls context.entry.carried.now deed.now
+            + length gained.now ≤ most_given) }
         ensures few { OnOk result (self.new.refs.issued
             + row_steps self.new.calls context.entry.carried.now deed.now + length gained.now < 2 ^ 28) }
         ensures room { OnOk result (row_steps self.new.calls context.entry.carried.now deed.now
@@ -194,21 +156,8 @@ impl Books {
             ≤ vec_capacity self.new.touched) }
     {
         let arguments = self.arguments_of(deed) as usize;
-        let steps = arguments
-            .saturating_add(context.carried.len())
-            .saturating_add(gained.len())
-            .saturating_add(2);
-        let most = MOST_GIVEN as usize;
-        if steps >= most || self.refs.issued_count() as usize + steps >= most {
-            return Err(unproved_fact());
-        }
+        let steps = arguments + context.carried.len() + gained.len() + 2;
         self.refs.reserve(steps as u32)?;
-        if !can_gain(&self.refs, deed, gained) {
-            return Err(unproved_fact());
-        }
-        if self.refs.is_held(0) {
-            return Err(unproved_fact());
-        }
         self.brought.clear();
         self.brought.reserve(arguments + 1)?;
         let noted = most_noted(deed, context.objects, arguments, lost);
@@ -225,7 +174,9 @@ impl Books {
         apartment: u32,
     ) -> Result<(), Memory>
         requires deed { FitsDeed deed.now }
-        requires fits { FitsBooks context.classes.now self.old.refs.cookies self.old.refs.stubs deed.now }
+        requires fits { FitsRow context.classes.now context.carried.now apartment
+            (tally self.old.refs self.old.calls) deed.now }
+        requires carried { length context.carried.now ≤ 4 }
         requires few { self.old.refs.issued
             + row_steps self.old.calls context.carried.now deed.now < 2 ^ 28 }
         requires room { row_steps self.old.calls context.carried.now deed.now ≤ self.old.refs.spare }
@@ -246,8 +197,8 @@ impl Books {
             ≤ self.new.refs.spare + row_steps self.old.calls context.entry.carried.now deed.now }
         ensures brought { vec_len self.new.brought
             ≤ vec_len self.old.brought + asked_packets self.old.calls deed.now + 1 }
-        ensures offers { OnOk result ((x j : ℕ) → (offers self.old.refs x j || is_made_by deed.now x j) ≡ true
-            → offers self.new.refs x j ≡ true) }
+        ensures offers { OnOk result
+            (OffersMore context.entry.classes.now (makes deed.now) self.old.refs self.new.refs) }
     {
         match deed {
             Deed::Made {
@@ -267,26 +218,27 @@ impl Books {
                 *class,
                 *iface,
             ),
-            Deed::Query { object, iface, hr } => enter_query(
-                &mut self.refs,
-                &mut self.brought,
-                apartment,
-                *object,
-                *iface,
-                *hr,
-            ),
+            Deed::Query { object, iface, hr } => {
+                let refs = &mut self.refs;
+                enter_query(refs, &mut self.brought, apartment, *object, *iface, *hr);
+                Ok(())
+            }
             Deed::Marshal {
                 packet,
                 mode,
                 held,
                 ..
-            } => enter_marshal(&mut self.refs, apartment, *packet, *mode, *held),
+            } => {
+                enter_marshal(&mut self.refs, apartment, *packet, *mode, *held);
+                Ok(())
+            }
             Deed::Unmarshal { packet, .. } => {
                 enter_unmarshal(&mut self.refs, &mut self.brought, apartment, *packet);
                 Ok(())
             }
             Deed::Register { cookie, held, .. } => {
-                enter_register(&mut self.refs, *cookie, *held)
+                enter_register(&mut self.refs, *cookie, *held);
+                Ok(())
             }
             Deed::Get { cookie, held, .. } => {
                 enter_get(&mut self.refs, &mut self.brought, apartment, cookie, *held);
@@ -303,6 +255,9 @@ impl Books {
         context: Context<'_>,
         apartment: u32,
     ) -> Result<(), Memory>
+        requires fits { FitsRow context.classes.now context.carried.now apartment
+            (tally self.old.refs self.old.calls) deed.now }
+        requires carried { length context.carried.now ≤ 4 }
         requires few { self.old.refs.issued
             + row_steps self.old.calls context.carried.now deed.now < 2 ^ 28 }
         requires room { row_steps self.old.calls context.carried.now deed.now ≤ self.old.refs.spare }
@@ -327,9 +282,9 @@ impl Books {
             → offers self.new.refs x j ≡ true) }
     {
         match deed {
-            Deed::Out { call, bytes, .. } => {
+            Deed::Out { bytes, .. } => {
                 let carried = carried_in(context.carried, bytes.is_some());
-                issue(&mut self.refs, &mut self.calls, apartment, *call, carried)
+                issue(&mut self.refs, &mut self.calls, apartment, carried)
             }
             Deed::Enter {
                 call,
@@ -342,7 +297,8 @@ impl Books {
             }
             Deed::Leave { call, bytes, .. } => {
                 let carried = carried_in(context.carried, bytes.is_some());
-                reply(&mut self.refs, &mut self.calls, apartment, *call, carried)
+                reply(&mut self.refs, &mut self.calls, apartment, *call, carried);
+                Ok(())
             }
             Deed::Back { call, .. } => {
                 if !is_left(context.calls, *call) {
@@ -365,6 +321,8 @@ impl Books {
             (around context.entry.calls.now.tables context.entry.objects.now.tables context.entry.classes.now
             context.entry.carried.now apartment) deed.now (tally self.old.refs self.old.calls)
             (tally self.new.refs self.old.calls) }
+        ensures offers { (x j : ℕ) → offers self.new.refs x j ≡ offers self.old.refs x j }
+        ensures issued { self.new.refs.issued ≡ self.old.refs.issued }
         ensures touched { TouchesCounted self.old.refs self.new.refs
             self.old.touched.items self.new.touched.items }
         ensures climbs { Climbs 0 self.old.touched.items → Climbs 0 self.new.touched.items }
@@ -397,8 +355,11 @@ impl Books {
     // ends a holder, and then what leaves places. After an error nothing has changed but room.
     fn change(&mut self, entry: &Entry, context: Context<'_>, moves: &Moves) -> Result<(), Memory>
         requires deed { FitsDeed entry.now.deed }
-        requires fits { FitsBooks context.classes.now self.old.refs.cookies self.old.refs.stubs
-            entry.now.deed }
+        requires fits { FitsBooks context.classes.now context.carried.now (number_or_zero context.running)
+            (tally self.old.refs self.old.calls) entry.now.deed }
+        requires known { (gained : List Move) → movings_of gained ≡ moves.now.gained
+            → AllGiven context.classes.now self.old.refs entry.now.deed gained }
+        requires gained { length moves.now.gained ≤ most_gained }
         ensures applies { OnOk result ((gained lost : List Move) → movings_of gained ≡ moves.now.gained
             → movings_of lost ≡ moves.now.lost
             → Applies (around context.entry.calls.now.tables context.entry.objects.now.tables
@@ -407,11 +368,14 @@ impl Books {
             (tally self.old.refs self.old.calls) (tally self.new.refs self.new.calls)) }
         ensures touched { OnOk result ((gained lost : List Move) → movings_of gained ≡ moves.now.gained
             → movings_of lost ≡ moves.now.lost
-            → Loses (around context.entry.calls.now.tables context.entry.objects.now.tables
+            → NotesLost (around context.entry.calls.now.tables context.entry.objects.now.tables
             context.entry.classes.now context.entry.carried.now
             (number_or_zero context.entry.running)) entry.now.deed gained lost
             (tally self.old.refs self.old.calls)
             (tally self.new.refs self.new.calls) self.new.touched.items) }
+        ensures offers { OnOk result
+            (OffersMore context.entry.classes.now (makes entry.now.deed) self.old.refs self.new.refs) }
+        ensures issued { self.new.refs.issued ≤ self.old.refs.issued + most_given }
         ensures rise { OnOk result (Rise 0 self.new.touched.items (length self.new.refs.objects)) }
         ensures few { OnOk result (length self.new.touched.items
             ≤ most_left self.old.calls context.entry.objects.now.tables entry.now.deed moves.now) }
@@ -451,8 +415,7 @@ impl Ledger {
     }
 
     /// Makes of the books what an entry makes of them, which takes these references from places and brings
-    /// these. The only error is want of memory, or of a fact that is not proved here, and then nothing has
-    /// changed but room.
+    /// these. The only error is want of memory, and then nothing has changed but room.
     ///
     /// Where places are counted, and those that are lost and gained are counted off and on, the places after
     /// the entry are counted, and the books are those with the entry's rows, at the entry's end. Each object
@@ -465,8 +428,11 @@ impl Ledger {
         moves: &Moves,
     ) -> Result<(), Memory>
         requires deed { FitsDeed entry.now.deed }
-        requires fits { FitsBooks context.classes.now self.old.tables.cookies self.old.tables.stubs
-            entry.now.deed }
+        requires fits { FitsBooks context.classes.now context.carried.now (number_or_zero context.running)
+            (tally self.old.tables self.old.calls) entry.now.deed }
+        requires known { (gained : List Move) → movings_of gained ≡ moves.now.gained
+            → AllGiven context.classes.now self.old.tables entry.now.deed gained }
+        requires gained { length moves.now.gained ≤ most_gained }
         ensures applies { OnOk result ((gained lost : List Move) → movings_of gained ≡ moves.now.gained
             → movings_of lost ≡ moves.now.lost
             → Applies (around context.entry.calls.now.tables context.entry.objects.now.tables
@@ -475,10 +441,13 @@ impl Ledger {
             (tally self.old.tables self.old.calls) (tally self.new.tables self.new.calls)) }
         ensures touched { OnOk result ((gained lost : List Move) → movings_of gained ≡ moves.now.gained
             → movings_of lost ≡ moves.now.lost
-            → Loses (around context.entry.calls.now.tables context.entry.objects.now.tables
+            → NotesLost (around context.entry.calls.now.tables context.entry.objects.now.tables
             context.entry.classes.now context.entry.carried.now
             (number_or_zero context.entry.running)) entry.now.deed gained lost
             (tally self.old.tables self.old.calls) (tally self.new.tables self.new.calls) self.new.touched) }
+        ensures offers { OnOk result
+            (OffersMore context.entry.classes.now (makes entry.now.deed) self.old.tables self.new.tables) }
+        ensures issued { self.new.tables.issued ≤ self.old.tables.issued + most_given }
         ensures rise { OnOk result (Rise 0 self.new.touched (length self.new.tables.objects)) }
         ensures few { OnOk result (length self.new.touched
             ≤ most_left self.old.calls context.entry.objects.now.tables entry.now.deed moves.now) }

@@ -1,5 +1,6 @@
 //! The rows of entries that end a holder which is no place: a packet, a cookie, or all of a connection.
-ghost use Rattle.std.specs.Prelude.{◌+◌, ◌<◌, ◌≤◌, length, vec_len, vec_capacity};
+ghost use Rattle.std.specs.Prelude.{◌≡◌, ◌+◌, ◌<◌, ◌≤◌, ℕ, length, vec_len, vec_capacity};
+ghost use Rattle.com_refs_holders.specs.Tables.{offers};
 ghost use Rattle.com_model.specs.declared.deeds.Deed.TheVariants as deed;
 ghost use Rattle.com_base.specs.declared.hresult.HResult.{HResult};
 ghost use Rattle.com_state.specs.Parts.{ObjectTables};
@@ -16,6 +17,8 @@ pub fn end_packet(refs: &mut Refs, touched: &mut Vec<u32>, packet: Option<u32>)
     requires room { vec_len touched.old < vec_capacity touched.old }
     ensures row { (objects : ObjectTables) (hr : HResult)
         → ClosesTables objects (deed.DropPacket packet hr) refs.old refs.new }
+    ensures offers { (x j : ℕ) → offers refs.new x j ≡ offers refs.old x j }
+    ensures issued { refs.new.issued ≡ refs.old.issued }
     ensures touched { TouchesCounted refs.old refs.new touched.old.items touched.new.items }
     ensures climbs { Climbs 0 touched.old.items → Climbs 0 touched.new.items }
     ensures len { vec_len touched.new ≤ vec_len touched.old + 1 }
@@ -33,6 +36,8 @@ pub fn end_cookie(refs: &mut Refs, touched: &mut Vec<u32>, cookie: &i64, hr: HRe
     requires room { vec_len touched.old < vec_capacity touched.old }
     ensures row { (objects : ObjectTables)
         → ClosesTables objects (deed.Revoke cookie.now hr) refs.old refs.new }
+    ensures offers { (x j : ℕ) → offers refs.new x j ≡ offers refs.old x j }
+    ensures issued { refs.new.issued ≡ refs.old.issued }
     ensures touched { TouchesCounted refs.old refs.new touched.old.items touched.new.items }
     ensures climbs { Climbs 0 touched.old.items → Climbs 0 touched.new.items }
     ensures len { vec_len touched.new ≤ vec_len touched.old + 1 }
@@ -50,6 +55,8 @@ pub fn end_cookie(refs: &mut Refs, touched: &mut Vec<u32>, cookie: &i64, hr: HRe
 pub fn give_up(refs: &mut Refs, touched: &mut Vec<u32>, number: u32)
     requires room { vec_len touched.old < vec_capacity touched.old }
     ensures row { GivesUp number refs.old refs.new }
+    ensures offers { (x j : ℕ) → offers refs.new x j ≡ offers refs.old x j }
+    ensures issued { refs.new.issued ≡ refs.old.issued }
     ensures touched { TouchesCounted refs.old refs.new touched.old.items touched.new.items }
     ensures climbs { Climbs 0 touched.old.items → Climbs 0 touched.new.items }
     ensures len { vec_len touched.new ≤ vec_len touched.old + 1 }
@@ -67,6 +74,8 @@ pub fn end_connection(refs: &mut Refs, touched: &mut Vec<u32>, object: Option<u3
     requires room { vec_len touched.old < vec_capacity touched.old }
     ensures row { (objects : ObjectTables)
         → ClosesTables objects (deed.Disconnect object hr) refs.old refs.new }
+    ensures offers { (x j : ℕ) → offers refs.new x j ≡ offers refs.old x j }
+    ensures issued { refs.new.issued ≡ refs.old.issued }
     ensures touched { TouchesCounted refs.old refs.new touched.old.items touched.new.items }
     ensures climbs { Climbs 0 touched.old.items → Climbs 0 touched.new.items }
     ensures len { vec_len touched.new ≤ vec_len touched.old + 1 }
@@ -91,6 +100,8 @@ pub fn end_home(
 )
     requires room { vec_len touched.old + length objects.now.tables.makings ≤ vec_capacity touched.old }
     ensures row { ClosesTables objects.now.tables (deed.Uninit home count) refs.old refs.new }
+    ensures offers { (x j : ℕ) → offers refs.new x j ≡ offers refs.old x j }
+    ensures issued { refs.new.issued ≡ refs.old.issued }
     ensures touched { TouchesCounted refs.old refs.new touched.old.items touched.new.items }
     ensures climbs { Climbs 0 touched.old.items → Climbs 0 touched.new.items }
     ensures len { vec_len touched.new ≤ vec_len touched.old + length objects.now.tables.makings }

@@ -1,5 +1,5 @@
 //! What ties a ledger to a state, stated on functions that do nothing.
-ghost use Rattle.std.specs.Prelude.{◌≡◌, ◌<◌, ℕ, Bool, List, Option, Some, None};
+ghost use Rattle.std.specs.Prelude.{◌≡◌, ◌+◌, ◌<◌, ◌≤◌, ℕ, Bool, List, Option, Some, None};
 ghost use Rattle.com_base.specs.declared.value.Value.{Value};
 ghost use Rattle.com_body.specs.declared.actions.Action.{Action};
 ghost use Rattle.com_refs_books.specs.Changes.{Books, entered_rows};
@@ -25,9 +25,11 @@ ghost use Rattle.com_refs.specs.Counts.{holders_of};
 ghost use Rattle.com_refs.specs.Totals.{Totals};
 ghost use Rattle.com_refs_rows.specs.Books.{Held};
 ghost use Rattle.com_refs_rows.specs.Entries.{Applies, Around, StandsAround, tally};
-ghost use Rattle.com_refs_rows.specs.Moving.{plus, AllBelow, Touches};
+ghost use Rattle.com_refs_rows.specs.Fits.{most_given};
+ghost use Rattle.com_refs_rows.specs.Moving.{plus, AllBelow};
+ghost use Rattle.com_refs_rows.specs.Owners.{OffersMore};
 ghost use Rattle.com_ledger.specs.Ties.{AllTouched, AppliedAs, EndedAt, EntryEnds, IsNew, OwnersGrow};
-ghost use Rattle.com_ledger.specs.Ties.{OwnersTie, Ties, holders_at, places_at};
+ghost use Rattle.com_ledger.specs.Ties.{Notes, OwnersTie, Ties, holders_at, places_at};
 
 use crate::ledger::Ledger;
 
@@ -94,8 +96,8 @@ pub fn entries_tie()
 /// holder in its tables and has none any more was written down, so was each object of the state that lost
 /// its last holder.
 pub fn losses_touched()
-    ensures { (s : Scenario) (st su : State) (w u : Held) (before after : List ℕ) → Ties s st w
-        → Ties s su u → Touches w.tables u.tables before after → AllTouched s st su after }
+    ensures { (s : Scenario) (st su : State) (w u : Held) (touched : List ℕ) → Ties s st w
+        → Ties s su u → Notes w.tables u.tables touched → AllTouched s st su touched }
 {}
 
 /// Where a state stands for a history of a formed scenario: no place holds an object that was not made
@@ -123,14 +125,16 @@ pub fn entries_reach()
 {}
 
 /// Where a ledger is tied to the state before a lane's next entry, and the entry was applied to it beside
-/// what the state has, with the moves of the entry, it is tied to the state after the entry.
+/// what the state has, with the moves of the entry, an object that it makes has the interfaces of its class in
+/// its set, and few references were given, it is tied to the state after the entry.
 pub fn applied_ties()
     ensures { (s : Scenario) (st : State) (h : List Entry) (l : ℕ) (d : Deed) (g : Around)
         (gained lost : List Move) (w u : Held) → Formed s → StandsFor s st h → next_of s st l ≡ Some d
         → movings_of gained ≡ (moves_in s st (record { lane = l; deed = d })).gained
         → movings_of lost ≡ (moves_in s st (record { lane = l; deed = d })).lost → Ties s st w
         → StandsAround s st l d g → ((n : ℕ) (places : ℕ → ℕ → ℕ) → Counts n places u.tables
-        → Totals n places u.tables) → Applies g d gained lost (tally w.tables w.calls)
+        → Totals n places u.tables) → OffersMore g.classes (makes d) w.tables u.tables
+        → u.tables.issued ≤ w.tables.issued + most_given → Applies g d gained lost (tally w.tables w.calls)
         (tally u.tables u.calls) → Ties s (after s st l d) u }
 {}
 

@@ -3,6 +3,7 @@ pub mod Climbing
 pub mod Cutting
 pub mod Ending
 pub mod Entering
+pub mod Few
 pub mod Fitting
 pub mod Gaining
 pub mod Listed

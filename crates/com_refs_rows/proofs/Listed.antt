@@ -1,11 +1,7 @@
--- Numbers one after another, and sets of interfaces.
+-- Numbers one after another.
 use Rattle.std.proofs.Common.{◌≡◌, ℕ, zero, suc, Bool, true, false, cond, ◌==◌, ◌||◌, ◌+◌, ◌-◌, ◌<◌, ◌≤◌, List, [], ◌∷◌, length, take, get_or, refl, sym, ap, ◌∙◌, arith, eqb-true}
-use Rattle.std.specs.Prelude.{◌↔◌, IsTrue, Some, None}
-use Rattle.std.proofs.lemmas.Bool.{false_from_ne_true}
-use Rattle.std.proofs.lemmas.Grind.{common_steps}
-use Rattle.std.proofs.lemmas.List.{take_all}
+use Rattle.std.specs.Prelude.{Some, None}
 use Rattle.com_refs_books.specs.Counting.{numbers_from}
-use Rattle.com_refs_holders.specs.Steps.{among}
 use Rattle.com_model.specs.Lists.{any_of, first_that}
 
 numbers_next : (n c k : ℕ) → k < c → numbers_from (n + k) (c - k) ≡ (n + k) ∷ numbers_from (n + (k + 1)) (c - (k + 1))
@@ -60,35 +56,3 @@ first_passed f n c k h e inv = first_next f n c k false h e inv
 
 pub first_none : (f : ℕ → Bool) (n c k : ℕ) → c ≤ k → first_that f (numbers_from n c) ≡ first_that f (numbers_from (n + k) (c - k)) → None ≡ first_that f (numbers_from n c)
 first_none f n c k h inv = sym (inv ∙ ap (λ (l : List ℕ). first_that f l) (numbers_none n c k h))
-
--- ---- sets
-
-pub among_at : (set : List ℕ) (k i d : ℕ) → k < length set → get_or set k d ≡ i → among i set ≡ true
-among_at [] k i d h e = absurd (omega (arith, h))
-among_at (x ∷ set) zero i d h e = grind (arith, common_steps, e)
-among_at (x ∷ set) (suc k) i d h e = let later : among i set ≡ true = among_at set k i d (omega (arith, h)) e in grind (arith, common_steps, later)
-
-pub among_not_yet : (set : List ℕ) (k i d : ℕ) → k < length set → (get_or set k d ≡ i → ⊥) → among i (take k set) ≡ false → among i (take (k + 1) set) ≡ false
-among_not_yet [] k i d h q p = absurd (omega (arith, h))
-among_not_yet (x ∷ set) zero i d h q p =
-    let other : (x == i) ≡ false = false_from_ne_true (x == i) (λ z. q (eqb-true x i z)) in
-    let one : zero + 1 ≡ suc zero = omega arith in
-    ap (λ (m : ℕ). among i (take m (x ∷ set))) one ∙ ap (λ (b : Bool). b || false) other
-among_not_yet (x ∷ set) (suc k) i d h q p =
-    let one : suc k + 1 ≡ suc (k + 1) = omega arith in
-    let here : (x == i) ≡ false = first-no (x == i) (among i (take k set)) p in
-    let rest : among i (take k set) ≡ false = second-no (x == i) (among i (take k set)) p in
-    ap (λ (m : ℕ). among i (take m (x ∷ set))) one ∙ ap (λ (b : Bool). b || among i (take (k + 1) set)) here ∙ among_not_yet set k i d (omega (arith, h)) q rest
-  where
-    first-no : (a b : Bool) → (a || b) ≡ false → a ≡ false
-    first-no true b e = e
-    first-no false b e = refl
-
-    second-no : (a b : Bool) → (a || b) ≡ false → b ≡ false
-    second-no true b e = cc
-    second-no false b e = e
-
-pub among_none : (set : List ℕ) (k i : ℕ) → length set ≤ k → among i (take k set) ≡ false → IsTrue false ↔ (among i set ≡ true)
-among_none set k i h p =
-    let no : among i set ≡ false = ap (λ (l : List ℕ). among i l) (sym (take_all k set h)) ∙ p in
-    (λ e. no ∙ e, λ m. sym no ∙ m)

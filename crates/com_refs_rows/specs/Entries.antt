@@ -1,6 +1,6 @@
 -- What an entry makes of the books of a ledger.
 use Rattle.std.specs.Prelude.{◌≡◌, ℕ, ◌+◌, ◌<◌, ◌≤◌, Bool, true, false, not, if◌then◌else◌, List, [], ◌∷◌}
-use Rattle.std.specs.Prelude.{◌++◌, length, Option, Some, None, is_some, ◌⊎◌, ◌==◌, ◌&&◌, ◌||◌}
+use Rattle.std.specs.Prelude.{◌++◌, length, Option, Some, None, is_some, ◌⊎◌, ◌||◌}
 use Rattle.std.specs.Prelude.{slice_index_or}
 use Rattle.com_base.specs.declared.hresult.HResult.{HResult}
 use Rattle.com_base.specs.declared.value.RefValue.{RefValue}
@@ -32,7 +32,7 @@ use Rattle.com_refs_rows.specs.declared.calls.CallPackets.{CallPackets}
 use Rattle.com_refs_rows.specs.Books.{AreMade, Gained, Made, books_with, moved_to}
 use Rattle.com_refs_rows.specs.Calls.{call_at}
 use Rattle.com_refs_rows.specs.Moving.{no_move, plus, AllBelow, HoldsMore, Touches}
-use Rattle.com_refs_rows.specs.Owners.{Grown}
+use Rattle.com_refs_rows.specs.Owners.{Grown, offers_made}
 
 -- What an entry's change rests on beside the entry: the tables of calls and of objects, the classes, the
 -- references that a marshalled Out or Leave carries, and the apartment in which the lane runs.
@@ -171,15 +171,6 @@ GivesUp number t u =
     → left_by g.calls c ≡ false → (call_at calls c).result ≡ number
     → Closed (entered s x g owned (deed.Back c hr v) (books_with t calls)) (tally t calls) (tally u calls)
 
--- The reference that the making of an object gives.
-abbrev pub is_made : (object : Option ℕ) → (iface : Asked) → (x j : ℕ) → Bool
-is_made (Some o) (asked.Number i) x j = x == o && j == i
-is_made _ _ x j = false
-
-abbrev pub is_made_by : Deed → (x j : ℕ) → Bool
-is_made_by (deed.Made o a k i hr) x j = is_made o i x j
-is_made_by _ x j = false
-
 -- How many packets a deed reads, where calls carry these.
 abbrev pub asked_packets : List CallPackets → Deed → ℕ
 asked_packets calls (deed.Enter c o y t vs) = (call_at calls c).count
@@ -199,11 +190,11 @@ abbrev pub most_left : List CallPackets → ObjectTables → Deed → Movings �
 most_left calls objects d m =
     length m.lost + asked_packets calls d + 3 + ended_objects (length objects.makings) d
 
--- Each reference is of an interface in its object's set, once the deed has made its object.
-abbrev pub AllGiven : Tables → Deed → List Move → Type 0
-AllGiven t d ms = (k : ℕ) → k < length ms
+-- Each reference is by an interface in its object's set, once the deed has made its object.
+abbrev pub AllGiven : ClassTables → Tables → Deed → List Move → Type 0
+AllGiven classes t d ms = (k : ℕ) → k < length ms
     → (offers t (slice_index_or ms k no_move).reference.object (slice_index_or ms k no_move).reference.iface
-    || is_made_by d (slice_index_or ms k no_move).reference.object
+    || offers_made classes (makes d) (slice_index_or ms k no_move).reference.object
     (slice_index_or ms k no_move).reference.iface) ≡ true
 
 -- The row of a new object, or none.

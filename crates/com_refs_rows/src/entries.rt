@@ -1,17 +1,20 @@
 //! The rows of entries that make, ask for, marshal, unmarshal, register or get a reference.
-ghost use Rattle.std.specs.Prelude.{◌≡◌, ◌+◌, ◌<◌, ◌≤◌, ◌^◌, ◌||◌, ℕ, true, OnErr, OnOk, List, Option};
-ghost use Rattle.std.specs.Prelude.{vec_len, vec_capacity};
+ghost use Rattle.std.specs.Prelude.{◌≡◌, ◌+◌, ◌<◌, ◌≤◌, ◌^◌, ℕ, true, OnErr, OnOk, List, Option};
+ghost use Rattle.std.specs.Prelude.{length, vec_len, vec_capacity};
 ghost use Rattle.com_base.specs.declared.hresult.HResult.{HResult};
 ghost use Rattle.com_base.specs.declared.value.RefValue.{RefValue};
 ghost use Rattle.com_refs_holders.specs.Tables.{offers};
 ghost use Rattle.com_model.specs.declared.deeds.Deed.TheVariants as deed;
+ghost use Rattle.com_model.specs.Answers.{is_S_OK};
 ghost use Rattle.com_model.specs.Books.{back_rows};
+ghost use Rattle.com_model.specs.Objects.{makes};
 ghost use Rattle.com_reference_moves.specs.declared.moves.Move.{Move};
 ghost use Rattle.com_refs_rows.specs.Books.{Gained, KeepsHeld};
 ghost use Rattle.com_refs_rows.specs.Calls.{number_of};
-ghost use Rattle.com_refs_rows.specs.Entries.{RowsOf, MakesOrNone, is_made};
-ghost use Rattle.com_refs_rows.specs.Fits.{IsGotten, IsMaking};
+ghost use Rattle.com_refs_rows.specs.Entries.{RowsOf, MakesOrNone};
+ghost use Rattle.com_refs_rows.specs.Fits.{IsAsked, IsGotten, IsHeld, IsMaking};
 ghost use Rattle.com_refs_rows.specs.Moving.{HoldsMore};
+ghost use Rattle.com_refs_rows.specs.Owners.{OffersMore};
 ghost use Rattle.com_scene.specs.Ranges.{HasInterface};
 
 use crate::making::make;
@@ -31,7 +34,7 @@ fn reference(object: u32, iface: u32) -> RefValue
     RefValue { object, iface }
 }
 
-/// The row of a new object.
+/// The row of a new object. The only error is want of memory.
 pub fn enter_made(
     refs: &mut Refs,
     brought: &mut Vec<Move>,
@@ -43,7 +46,7 @@ pub fn enter_made(
     class: Asked,
     iface: Asked,
 ) -> Result<(), Memory>
-    requires making { IsMaking classes.now object owner class iface }
+    requires making { IsMaking classes.now (length refs.old.objects) object owner class iface }
     requires iface { HasInterface object iface }
     requires few { refs.old.issued + 1 < 2 ^ 28 }
     requires place { vec_len brought.old < vec_capacity brought.old }
@@ -53,8 +56,8 @@ pub fn enter_made(
         brought.new.items) }
     ensures more { OnOk result (KeepsHeld apartment refs.old refs.new) }
     ensures err { OnErr result (refs.new ≡ refs.old) }
-    ensures offers { OnOk result ((x j : ℕ) → (offers refs.old x j || is_made object iface x j) ≡ true
-        → offers refs.new x j ≡ true) }
+    ensures offers { OnOk result ((hr : HResult)
+        → OffersMore classes.now (makes (deed.Made object owner class iface hr)) refs.old refs.new) }
     ensures issued { refs.new.issued ≤ refs.old.issued + 2 }
     ensures spare { refs.old.spare ≤ refs.new.spare + 1 }
     ensures len { vec_len brought.new ≤ vec_len brought.old + 1 }
@@ -81,30 +84,31 @@ pub fn enter_query(
     object: Option<u32>,
     iface: Asked,
     hr: HResult,
-) -> Result<(), Memory>
+)
+    requires asked { IsAsked refs.old apartment object iface (is_S_OK hr) }
     requires iface { HasInterface object iface }
     requires few { refs.old.issued < 2 ^ 28 }
+    requires room { 0 < refs.old.spare }
     requires place { vec_len brought.old < vec_capacity brought.old }
-    ensures row { OnOk result (RowsOf apartment
-        (deed.Query object iface hr) refs.old refs.new brought.old.items brought.new.items) }
-    ensures more { OnOk result (HoldsMore refs.old refs.new) }
-    ensures err { OnErr result (refs.new ≡ refs.old) }
+    ensures row { RowsOf apartment
+        (deed.Query object iface hr) refs.old refs.new brought.old.items brought.new.items }
+    ensures more { HoldsMore refs.old refs.new }
     ensures offers { (x j : ℕ) → offers refs.new x j ≡ offers refs.old x j }
     ensures issued { refs.new.issued ≤ refs.old.issued + 1 }
     ensures spare { refs.old.spare ≤ refs.new.spare + 1 }
     ensures len { vec_len brought.new ≤ vec_len brought.old + 1 }
 {
     let Some(object) = object else {
-        return Ok(());
+        return;
     };
     let Asked::Number(iface) = iface else {
-        return Ok(());
+        return;
     };
     if hr.0 != 0 {
-        return Ok(());
+        return;
     }
     let held = reference(object, iface);
-    query(refs, brought, apartment, held)
+    query(refs, brought, apartment, held);
 }
 
 /// The row of a packet that was read.
@@ -139,47 +143,43 @@ pub fn enter_marshal(
     packet: Option<u32>,
     mode: MarshalMode,
     held: Option<RefValue>,
-) -> Result<(), Memory>
+)
+    requires held { IsHeld refs.old held }
     requires few { refs.old.issued < 2 ^ 28 }
     requires room { 0 < refs.old.spare }
-    ensures row { OnOk result ((n : ℕ) (hr : HResult) (bytes : Option (List ℕ)) (brought : List Move)
-        → RowsOf apartment (deed.Marshal packet mode held n hr bytes) refs.old refs.new brought brought) }
-    ensures more { OnOk result (HoldsMore refs.old refs.new) }
-    ensures err { OnErr result (refs.new ≡ refs.old) }
+    ensures row { (n : ℕ) (hr : HResult) (bytes : Option (List ℕ)) (brought : List Move)
+        → RowsOf apartment (deed.Marshal packet mode held n hr bytes) refs.old refs.new brought brought }
+    ensures more { HoldsMore refs.old refs.new }
     ensures offers { (x j : ℕ) → offers refs.new x j ≡ offers refs.old x j }
     ensures issued { refs.new.issued ≤ refs.old.issued + 1 }
     ensures spare { refs.old.spare ≤ refs.new.spare + 1 }
 {
     let Some(_) = packet else {
-        return Ok(());
+        return;
     };
     match held {
-        None => Ok(()),
+        None => {}
         Some(held) => marshal(refs, apartment, held, mode),
     }
 }
 
 /// The row of a cookie of a reference.
-pub fn enter_register(
-    refs: &mut Refs,
-    cookie: Option<u32>,
-    held: Option<RefValue>,
-) -> Result<(), Memory>
+pub fn enter_register(refs: &mut Refs, cookie: Option<u32>, held: Option<RefValue>)
+    requires held { IsHeld refs.old held }
     requires few { refs.old.issued < 2 ^ 28 }
     requires room { 0 < refs.old.spare }
-    ensures row { OnOk result ((a : ℕ) (hr : HResult) (brought : List Move)
-        → RowsOf a (deed.Register cookie held hr) refs.old refs.new brought brought) }
-    ensures more { OnOk result (HoldsMore refs.old refs.new) }
-    ensures err { OnErr result (refs.new ≡ refs.old) }
+    ensures row { (a : ℕ) (hr : HResult) (brought : List Move)
+        → RowsOf a (deed.Register cookie held hr) refs.old refs.new brought brought }
+    ensures more { HoldsMore refs.old refs.new }
     ensures offers { (x j : ℕ) → offers refs.new x j ≡ offers refs.old x j }
     ensures issued { refs.new.issued ≤ refs.old.issued + 1 }
     ensures spare { refs.old.spare ≤ refs.new.spare + 1 }
 {
     let Some(_) = cookie else {
-        return Ok(());
+        return;
     };
     match held {
-        None => Ok(()),
+        None => {}
         Some(held) => register(refs, held),
     }
 }

@@ -21,6 +21,4 @@ pub use entries::{
 };
 pub use moving::{gain_all, lose_all};
 pub use packing::{is_left, issue, read_all, reply};
-pub use rows::{
-    MOST_GIVEN, cookie_number, disconnect, drop_packet, end_apartment, revoke, unproved_fact,
-};
+pub use rows::{cookie_number, disconnect, drop_packet, end_apartment, revoke};

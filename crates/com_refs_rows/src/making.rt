@@ -1,13 +1,12 @@
 //! The row of a new object.
-ghost use Rattle.std.specs.Prelude.{◌≡◌, ◌+◌, ◌<◌, ◌≤◌, ◌^◌, ◌++◌, ◌∷◌, [], true, IsTrue, OnOk, Some, length};
-ghost use Rattle.std.specs.Prelude.{ℕ, OnErr, vec_len, vec_capacity};
-ghost use Rattle.com_classes.specs.Lookups.{has_interface};
-ghost use Rattle.com_refs_holders.specs.Tables.{offers};
+ghost use Rattle.std.specs.Prelude.{◌≡◌, ◌+◌, ◌<◌, ◌≤◌, ◌^◌, ◌++◌, ◌∷◌, [], OnOk, Some, length};
+ghost use Rattle.std.specs.Prelude.{OnErr, vec_len, vec_capacity};
 ghost use Rattle.com_model.specs.Tables.{has_agile_model};
 ghost use Rattle.com_refs_rows.specs.Books.{KeepsHeld, Made, moved_to};
-ghost use Rattle.com_refs_rows.specs.Owners.{Grown};
+ghost use Rattle.com_refs_rows.specs.Fits.{IsNextMade};
+ghost use Rattle.com_refs_rows.specs.Owners.{Grown, OffersMore};
 
-use crate::rows::{bring, unproved_fact};
+use crate::rows::bring;
 use com_base::{Memory, RefValue};
 use com_classes::{Class, Classes, is_agile};
 use com_reference_moves::Move;
@@ -22,18 +21,6 @@ fn fill_set(set: &mut Vec<u16>, class: &Class) -> Result<(), Memory>
     set.extend_from_slice(class.interfaces.as_slice())
 }
 
-// Whether the object is the next one by its number, and the set is not too large.
-fn can_make(refs: &Refs, set: &[u16], object: u32) -> bool
-    ensures new { IsTrue result → object ≡ length refs.now.objects + 1 }
-    ensures small { IsTrue result → length set.now ≤ 17 }
-    ensures exact { object ≡ length refs.now.objects + 1 → length set.now ≤ 17 → IsTrue result }
-{
-    if object.checked_sub(1) != Some(refs.objects()) {
-        return false;
-    }
-    set.len() <= 17
-}
-
 // Whether every apartment owns the objects of the class.
 fn are_agile(class: &Class) -> bool
     ensures { result ≡ has_agile_model (Some class.now) }
@@ -41,7 +28,7 @@ fn are_agile(class: &Class) -> bool
     is_agile(class.model)
 }
 
-/// An object is made, and the apartment has a place of it.
+/// The next object is made, and the apartment has a place of it. The only error is want of memory.
 pub fn make(
     refs: &mut Refs,
     brought: &mut Vec<Move>,
@@ -52,7 +39,7 @@ pub fn make(
     owner: u32,
     class: u32,
 ) -> Result<(), Memory>
-    requires offered { has_interface classes.now class held.iface ≡ true }
+    requires made { IsNextMade classes.now (length refs.old.objects) held.object class held.iface }
     requires few { refs.old.issued + 1 < 2 ^ 28 }
     requires place { vec_len brought.old < vec_capacity brought.old }
     requires room { 0 < refs.old.spare }
@@ -62,8 +49,8 @@ pub fn make(
         (record { object = held.object; apartment = owner; class = class })) refs.old refs.new) }
     ensures more { OnOk result (KeepsHeld apartment refs.old refs.new) }
     ensures err { OnErr result (refs.new ≡ refs.old) }
-    ensures offers { OnOk result ((x j : ℕ) → offers refs.old x j ≡ true → offers refs.new x j ≡ true) }
-    ensures offered { OnOk result (offers refs.new held.object held.iface ≡ true) }
+    ensures offers { OnOk result (OffersMore classes.now (Some
+        (record { object = held.object; apartment = owner; class = class })) refs.old refs.new) }
     ensures issued { refs.new.issued ≤ refs.old.issued + 2 }
     ensures spare { refs.old.spare ≤ refs.new.spare + 1 }
     ensures len { vec_len brought.new ≤ vec_len brought.old + 1 }
@@ -72,9 +59,6 @@ pub fn make(
         unreachable!()
     };
     fill_set(set, class)?;
-    if !can_make(refs, set.as_slice(), held.object) {
-        return Err(unproved_fact());
-    }
     refs.tells();
     refs.made(
         held.object,

@@ -44,6 +44,8 @@ fn lose_by(refs: &mut Refs, touched: &mut Vec<u32>, moved: Move, iface: u16)
     ensures objects { AsOwned refs.old refs.new }
     ensures ended { (n : ℕ) (later : ℕ → ℕ → ℕ) → moved.apartment < n
         → Counts n (plus later (moved ∷ [])) refs.old → Ended n later refs.old refs.new }
+    ensures offers { (x j : ℕ) → offers refs.new x j ≡ offers refs.old x j }
+    ensures issued { refs.new.issued ≡ refs.old.issued }
     ensures touched { (n : ℕ) (later : ℕ → ℕ → ℕ) → moved.apartment < n
         → Counts n (plus later (moved ∷ [])) refs.old
         → Touches refs.old refs.new touched.old.items touched.new.items }
@@ -66,6 +68,8 @@ fn lose(refs: &mut Refs, touched: &mut Vec<u32>, moved: Move)
     ensures objects { AsOwned refs.old refs.new }
     ensures ended { (n : ℕ) (later : ℕ → ℕ → ℕ) → moved.apartment < n
         → Counts n (plus later (moved ∷ [])) refs.old → Ended n later refs.old refs.new }
+    ensures offers { (x j : ℕ) → offers refs.new x j ≡ offers refs.old x j }
+    ensures issued { refs.new.issued ≡ refs.old.issued }
     ensures touched { (n : ℕ) (later : ℕ → ℕ → ℕ) → moved.apartment < n
         → Counts n (plus later (moved ∷ [])) refs.old
         → Touches refs.old refs.new touched.old.items touched.new.items }
@@ -89,6 +93,8 @@ pub fn gain_all(refs: &mut Refs, gained: &[Move])
         → Counts n places refs.old → Counts n (plus places gained.now) refs.new }
     ensures objects { AsOwned refs.old refs.new }
     ensures more { (o : ℕ) → holders_of refs.old o ≤ holders_of refs.new o }
+    ensures offers { (x j : ℕ) → offers refs.new x j ≡ offers refs.old x j }
+    ensures issued { refs.new.issued ≤ refs.old.issued + length gained.now }
 {
     for moved in gained {
         gain(refs, *moved);
@@ -101,6 +107,8 @@ pub fn lose_all(refs: &mut Refs, touched: &mut Vec<u32>, lost: &[Move])
     ensures objects { AsOwned refs.old refs.new }
     ensures ended { (n : ℕ) (later : ℕ → ℕ → ℕ) → AllBelow n lost.now
         → Counts n (plus later lost.now) refs.old → Ended n later refs.old refs.new }
+    ensures offers { (x j : ℕ) → offers refs.new x j ≡ offers refs.old x j }
+    ensures issued { refs.new.issued ≡ refs.old.issued }
     ensures touched { (n : ℕ) (later : ℕ → ℕ → ℕ) → AllBelow n lost.now
         → Counts n (plus later lost.now) refs.old
         → Touches refs.old refs.new touched.old.items touched.new.items }

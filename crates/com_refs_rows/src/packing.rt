@@ -1,5 +1,5 @@
 //! The packets of calls: requests and replies that carry references.
-ghost use Rattle.std.specs.Prelude.{◌≡◌, ◌+◌, ◌-◌, ◌<◌, ◌≤◌, ◌^◌, ℕ, None, IsTrue, OnErr, OnOk};
+ghost use Rattle.std.specs.Prelude.{◌≡◌, ◌+◌, ◌-◌, ◌<◌, ◌≤◌, ◌^◌, ℕ, None, OnErr, OnOk};
 ghost use Rattle.std.specs.Prelude.{length, map};
 ghost use Rattle.std.specs.Prelude.{vec_len, vec_capacity};
 ghost use Rattle.com_refs_books.specs.Changes.{Unmarshals, marshal_all, entered_rows};
@@ -11,7 +11,7 @@ ghost use Rattle.com_refs_rows.specs.Calls.{arguments_of};
 ghost use Rattle.com_refs_rows.specs.Moving.{AllKnown, HoldsMore};
 
 use crate::calls::{CallPackets, CallTable};
-use crate::rows::{give, unmarshal, unproved_fact};
+use crate::rows::{marshal, unmarshal};
 use com_base::{MarshalMode, Memory, RefValue};
 use com_calls::Calls;
 use com_deeds::is_leave;
@@ -30,21 +30,8 @@ fn marshal_all(refs: &mut Refs, apartment: u32, carried: &[RefValue])
     ensures spare { refs.old.spare ≤ refs.new.spare + length carried.now }
 {
     for held in carried {
-        give(refs, apartment, *held, MarshalMode::Normal);
+        marshal(refs, apartment, *held, MarshalMode::Normal);
     }
-}
-
-// Whether each reference is of an object by an interface of its set.
-fn can_pack(refs: &Refs, carried: &[RefValue]) -> bool
-    ensures known { IsTrue result → AllKnown refs.now carried.now }
-    ensures exact { AllKnown refs.now carried.now → IsTrue result }
-{
-    for held in carried {
-        if !refs.offers(held.object, held.iface) {
-            return false;
-        }
-    }
-    true
 }
 
 // The packets of some references: the number of the first, and how many there are.
@@ -53,6 +40,7 @@ fn pack(refs: &mut Refs, apartment: u32, carried: &[RefValue]) -> (u32, u32)
     requires few { refs.old.issued + length carried.now < 2 ^ 28 }
     requires room { length carried.now ≤ refs.old.spare }
     ensures fits { result.0 + result.1 < 2 ^ 32 }
+    ensures few { result.1 ≤ length carried.now }
     ensures rows { Marshalled (marshal_all apartment carried.now) refs.old refs.new }
     ensures more { HoldsMore refs.old refs.new }
     ensures first { result.0 ≡ length (books_of refs.old).packets + 1 }
@@ -69,20 +57,22 @@ fn pack(refs: &mut Refs, apartment: u32, carried: &[RefValue]) -> (u32, u32)
     (before + 1, after.saturating_sub(before))
 }
 
-/// A call is issued, and its arguments' references are marshalled.
+/// The next call is issued, and its arguments' references are marshalled: 4 at most, since no method has more
+/// parameters. The only error is want of memory.
 pub fn issue(
     refs: &mut Refs,
     calls: &mut CallTable,
     apartment: u32,
-    call: u32,
     carried: &[RefValue],
 ) -> Result<(), Memory>
+    requires known { AllKnown refs.old carried.now }
+    requires args { length carried.now ≤ 4 }
     requires few { refs.old.issued + length carried.now < 2 ^ 28 }
     requires room { length carried.now ≤ refs.old.spare }
     ensures rows { OnOk result (Marshalled (marshal_all apartment carried.now) refs.old refs.new) }
     ensures more { OnOk result (HoldsMore refs.old refs.new) }
     ensures calls { OnOk result (length calls.new ≡ length calls.old + 1) }
-    ensures books { OnOk result (books_with refs.new calls.new
+    ensures books { OnOk result ((call : ℕ) → call ≡ length calls.old + 1 → books_with refs.new calls.new
         ≡ with_arguments call (books_with refs.old calls.old) (entered_rows (owns_of refs.old.objects)
         (books_with refs.old calls.old) (marshal_all apartment carried.now))) }
     ensures err { OnErr result (refs.new ≡ refs.old) }
@@ -91,12 +81,6 @@ pub fn issue(
     ensures issued { refs.new.issued ≤ refs.old.issued + length carried.now }
     ensures spare { refs.old.spare ≤ refs.new.spare + length carried.now }
 {
-    if call == 0 || call as usize - 1 != calls.len() {
-        return Err(unproved_fact());
-    }
-    if !can_pack(refs, carried) {
-        return Err(unproved_fact());
-    }
     calls.push()?;
     let (first, count) = pack(refs, apartment, carried);
     calls.set_last(first, count);
@@ -110,30 +94,24 @@ pub fn reply(
     apartment: u32,
     call: u32,
     carried: &[RefValue],
-) -> Result<(), Memory>
+)
+    requires some { 1 ≤ call }
+    requires issued { call ≤ length calls.old }
+    requires known { AllKnown refs.old carried.now }
     requires few { refs.old.issued + length carried.now < 2 ^ 28 }
     requires room { length carried.now ≤ refs.old.spare }
-    ensures rows { OnOk result (Marshalled (marshal_all apartment carried.now) refs.old refs.new) }
-    ensures more { OnOk result (HoldsMore refs.old refs.new) }
-    ensures calls { OnOk result (length calls.new ≡ length calls.old) }
-    ensures books { OnOk result (books_with refs.new calls.new
+    ensures rows { Marshalled (marshal_all apartment carried.now) refs.old refs.new }
+    ensures more { HoldsMore refs.old refs.new }
+    ensures calls { length calls.new ≡ length calls.old }
+    ensures books { books_with refs.new calls.new
         ≡ with_answer call (books_with refs.old calls.old) (entered_rows (owns_of refs.old.objects)
-        (books_with refs.old calls.old) (marshal_all apartment carried.now))) }
-    ensures err { OnErr result (refs.new ≡ refs.old) }
-    ensures err_calls { OnErr result (calls.new ≡ calls.old) }
+        (books_with refs.old calls.old) (marshal_all apartment carried.now)) }
     ensures offers { (x j : ℕ) → offers refs.new x j ≡ offers refs.old x j }
     ensures issued { refs.new.issued ≤ refs.old.issued + length carried.now }
     ensures spare { refs.old.spare ≤ refs.new.spare + length carried.now }
 {
-    if call == 0 || call as usize > calls.len() {
-        return Err(unproved_fact());
-    }
-    if !can_pack(refs, carried) {
-        return Err(unproved_fact());
-    }
     let (first, count) = pack(refs, apartment, carried);
     calls.set_result(call, if count > 0 { first } else { 0 });
-    Ok(())
 }
 
 /// A body is entered, and its arguments' packets are read.

@@ -1,32 +1,20 @@
 //! The rows of the table of reference counting, one for each kind of entry.
-ghost use Rattle.std.specs.Prelude.{◌≡◌, ◌+◌, ◌<◌, ◌≤◌, ◌^◌, ◌++◌, ◌∷◌, ◌==◌, [], ℕ, true, OnOk};
-ghost use Rattle.std.specs.Prelude.{OnErr, length, vec_len, vec_capacity};
+ghost use Rattle.std.specs.Prelude.{◌≡◌, ◌+◌, ◌<◌, ◌≤◌, ◌^◌, ◌++◌, ◌∷◌, ◌==◌, [], ℕ, true};
+ghost use Rattle.std.specs.Prelude.{length, vec_len, vec_capacity};
 ghost use Rattle.com_refs_books.specs.Changes.{Takes, Asks, Marshals, Unmarshals, Drops, Registers, Revokes};
-ghost use Rattle.com_refs_holders.specs.Places.{OneMore, SamePlaces};
-ghost use Rattle.com_refs_holders.specs.Tables.{offers, owns_of};
+ghost use Rattle.com_refs_holders.specs.Places.{SamePlaces};
+ghost use Rattle.com_refs_holders.specs.Tables.{offers};
 ghost use Rattle.com_model.specs.Deeds.{cookie_number};
 ghost use Rattle.com_state.specs.Parts.{named_at};
 ghost use Rattle.com_refs_rows.specs.Books.{Rowed, Gained, Taken, Cut, moved_to};
-ghost use Rattle.com_refs_rows.specs.Fits.{IsKept};
+ghost use Rattle.com_refs_rows.specs.Fits.{IsKept, IsOfferedTo};
 ghost use Rattle.com_refs_rows.specs.Moving.{Climbs, HoldsMore, Touches, TouchesCounted};
 
 use crate::touching::{touch, touch_if};
-use com_base::{MarshalMode, Memory, RefValue};
+use com_base::{MarshalMode, RefValue};
 use com_objects::Objects;
 use com_reference_moves::Move;
 use com_refs::Refs;
-use std::alloc::AllocError;
-
-/// Where a fact of all histories is not proved here, the core stops as it does without memory, before it has
-/// changed anything. Missing are, at their places: that an object has the next number, and its class a set of
-/// 17 interfaces at most; that a reference at a place or of a packet is by an interface of its object's set;
-/// that calls are numbered one after another, and a Leave names one of them.
-pub fn unproved_fact() -> Memory {
-    AllocError
-}
-
-/// How many references are given at most.
-pub const MOST_GIVEN: u32 = 0x1000_0000;
 
 /// The row brought a place.
 pub fn bring(brought: &mut Vec<Move>, apartment: u32, reference: RefValue)
@@ -41,23 +29,15 @@ pub fn bring(brought: &mut Vec<Move>, apartment: u32, reference: RefValue)
     });
 }
 
-/// A reference is asked for another interface.
-pub fn query(
-    refs: &mut Refs,
-    brought: &mut Vec<Move>,
-    apartment: u32,
-    held: RefValue,
-) -> Result<(), Memory>
+/// A reference is asked for another interface: its object is reached, and the interface is in its set.
+pub fn query(refs: &mut Refs, brought: &mut Vec<Move>, apartment: u32, held: RefValue)
+    requires offered { IsOfferedTo refs.old apartment held.object held.iface }
     requires few { refs.old.issued < 2 ^ 28 }
+    requires room { 0 < refs.old.spare }
     requires place { vec_len brought.old < vec_capacity brought.old }
-    ensures row { OnOk result (Rowed refs.old refs.new (Asks apartment held.object held.iface)) }
-    ensures places { OnOk result (OneMore refs.old refs.new apartment held.object
-        (owns_of refs.old.objects held.object apartment)) }
-    ensures brought { OnOk result (brought.new.items ≡ brought.old.items ++ moved_to apartment held ∷ []) }
-    ensures gained { OnOk result (Gained apartment
-        (Asks apartment held.object held.iface ∷ []) refs.old refs.new brought.old.items brought.new.items) }
-    ensures more { OnOk result (HoldsMore refs.old refs.new) }
-    ensures err { OnErr result (refs.new ≡ refs.old) }
+    ensures gained { Gained apartment
+        (Asks apartment held.object held.iface ∷ []) refs.old refs.new brought.old.items brought.new.items }
+    ensures more { HoldsMore refs.old refs.new }
     ensures offers { (x j : ℕ) → offers refs.new x j ≡ offers refs.old x j }
     ensures issued { refs.new.issued ≤ refs.old.issued + 1 }
     ensures spare { refs.old.spare ≤ refs.new.spare + 1 }
@@ -65,16 +45,13 @@ pub fn query(
     ensures capacity { vec_capacity brought.old ≤ vec_capacity brought.new }
 {
     match refs.query(apartment, held.object, held.iface) {
-        Ok(()) => {
-            bring(brought, apartment, held);
-            Ok(())
-        }
-        Err(_) => Err(unproved_fact()),
+        Ok(()) => bring(brought, apartment, held),
+        Err(_) => unreachable!(),
     }
 }
 
-/// A packet of a reference that is known; what is not connected gets none.
-pub fn give(refs: &mut Refs, apartment: u32, held: RefValue, mode: MarshalMode)
+/// A packet of a reference; what is not connected gets none.
+pub fn marshal(refs: &mut Refs, apartment: u32, held: RefValue, mode: MarshalMode)
     requires known { offers refs.old held.object held.iface ≡ true }
     requires few { refs.old.issued < 2 ^ 28 }
     requires room { 0 < refs.old.spare }
@@ -92,30 +69,6 @@ pub fn give(refs: &mut Refs, apartment: u32, held: RefValue, mode: MarshalMode)
         Ok(_) => {}
         Err(_) => {}
     }
-}
-
-/// A packet of a reference.
-pub fn marshal(
-    refs: &mut Refs,
-    apartment: u32,
-    held: RefValue,
-    mode: MarshalMode,
-) -> Result<(), Memory>
-    requires few { refs.old.issued < 2 ^ 28 }
-    requires room { 0 < refs.old.spare }
-    ensures row { OnOk result (Rowed refs.old refs.new (Marshals apartment mode held.object held.iface)) }
-    ensures more { OnOk result (HoldsMore refs.old refs.new) }
-    ensures places { OnOk result (SamePlaces refs.old refs.new) }
-    ensures err { OnErr result (refs.new ≡ refs.old) }
-    ensures offers { (x j : ℕ) → offers refs.new x j ≡ offers refs.old x j }
-    ensures issued { refs.new.issued ≤ refs.old.issued + 1 }
-    ensures spare { refs.old.spare ≤ refs.new.spare + 1 }
-{
-    if !refs.offers(held.object, held.iface) {
-        return Err(unproved_fact());
-    }
-    give(refs, apartment, held, mode);
-    Ok(())
 }
 
 /// A packet is read; one that has ended gives nothing.
@@ -149,6 +102,8 @@ pub fn unmarshal(refs: &mut Refs, brought: &mut Vec<Move>, apartment: u32, numbe
 pub fn drop_packet(refs: &mut Refs, touched: &mut Vec<u32>, number: u32)
     requires room { vec_len touched.old < vec_capacity touched.old }
     ensures row { Taken (Drops number) refs.old refs.new }
+    ensures offers { (x j : ℕ) → offers refs.new x j ≡ offers refs.old x j }
+    ensures issued { refs.new.issued ≡ refs.old.issued }
     ensures touched { TouchesCounted refs.old refs.new touched.old.items touched.new.items }
     ensures climbs { Climbs 0 touched.old.items → Climbs 0 touched.new.items }
     ensures len { vec_len touched.new ≤ vec_len touched.old + 1 }
@@ -166,25 +121,22 @@ pub fn drop_packet(refs: &mut Refs, touched: &mut Vec<u32>, number: u32)
 }
 
 /// A cookie of a reference; what is not connected gets none.
-pub fn register(refs: &mut Refs, held: RefValue) -> Result<(), Memory>
+pub fn register(refs: &mut Refs, held: RefValue)
+    requires known { offers refs.old held.object held.iface ≡ true }
     requires few { refs.old.issued < 2 ^ 28 }
     requires room { 0 < refs.old.spare }
-    ensures row { OnOk result (Rowed refs.old refs.new (Registers held.object held.iface)) }
-    ensures more { OnOk result (HoldsMore refs.old refs.new) }
-    ensures places { OnOk result (SamePlaces refs.old refs.new) }
-    ensures err { OnErr result (refs.new ≡ refs.old) }
+    ensures row { Rowed refs.old refs.new (Registers held.object held.iface) }
+    ensures more { HoldsMore refs.old refs.new }
+    ensures places { SamePlaces refs.old refs.new }
     ensures offers { (x j : ℕ) → offers refs.new x j ≡ offers refs.old x j }
     ensures issued { refs.new.issued ≤ refs.old.issued + 1 }
     ensures spare { refs.old.spare ≤ refs.new.spare + 1 }
 {
     if !refs.connected(held.object) {
-        return Ok(());
-    }
-    if !refs.offers(held.object, held.iface) {
-        return Err(unproved_fact());
+        return;
     }
     match refs.register(held) {
-        Ok(_) => Ok(()),
+        Ok(_) => {}
         Err(_) => unreachable!(),
     }
 }
@@ -216,6 +168,8 @@ pub fn get(refs: &mut Refs, brought: &mut Vec<Move>, apartment: u32, cookie: i64
 pub fn revoke(refs: &mut Refs, touched: &mut Vec<u32>, cookie: i64)
     requires room { vec_len touched.old < vec_capacity touched.old }
     ensures row { Taken (Revokes (cookie_number cookie)) refs.old refs.new }
+    ensures offers { (x j : ℕ) → offers refs.new x j ≡ offers refs.old x j }
+    ensures issued { refs.new.issued ≡ refs.old.issued }
     ensures touched { TouchesCounted refs.old refs.new touched.old.items touched.new.items }
     ensures climbs { Climbs 0 touched.old.items → Climbs 0 touched.new.items }
     ensures len { vec_len touched.new ≤ vec_len touched.old + 1 }
@@ -238,6 +192,8 @@ pub fn revoke(refs: &mut Refs, touched: &mut Vec<u32>, cookie: i64)
 pub fn disconnect(refs: &mut Refs, touched: &mut Vec<u32>, object: u32)
     requires room { vec_len touched.old < vec_capacity touched.old }
     ensures cut { Cut (λ x. x == object) refs.old refs.new }
+    ensures offers { (x j : ℕ) → offers refs.new x j ≡ offers refs.old x j }
+    ensures issued { refs.new.issued ≡ refs.old.issued }
     ensures touched { Touches refs.old refs.new touched.old.items touched.new.items }
     ensures climbs { Climbs 0 touched.old.items → Climbs 0 touched.new.items }
     ensures len { vec_len touched.new ≤ vec_len touched.old + 1 }
@@ -258,6 +214,8 @@ pub fn end_apartment(refs: &mut Refs, touched: &mut Vec<u32>, objects: &Objects,
     requires apartment { 0 < apartment }
     requires room { vec_len touched.old + length objects.now.tables.makings ≤ vec_capacity touched.old }
     ensures cut { Cut (λ x. named_at objects.now.tables x == apartment) refs.old refs.new }
+    ensures offers { (x j : ℕ) → offers refs.new x j ≡ offers refs.old x j }
+    ensures issued { refs.new.issued ≡ refs.old.issued }
     ensures touched { Touches refs.old refs.new touched.old.items touched.new.items }
     ensures climbs { Climbs 0 touched.old.items → Climbs 0 touched.new.items }
     ensures len { vec_len touched.new ≤ vec_len touched.old + length objects.now.tables.makings }

@@ -49,3 +49,6 @@ returns-clause-touched c = λ n places bs gs counts.
     touches-then t v c.lose_all.new.refs xs xs c.lose_all.new.touched.items (touches-more t v xs c.gain_all-2.ensures.more)
     (c.lose_all.ensures.touched n (plus places gained) bs
     (same_counts n (plus (plus places brought) gained) (plus (plus places gained) brought) v (λ y x. omega arith) (c.gain_all-2.ensures.places n (plus places brought) gs counts)))
+
+pub returns-clause-offers : goal.returns-clause-offers
+returns-clause-offers c = λ x j. c.lose_all.ensures.offers x j ∙ c.gain_all-2.ensures.offers x j

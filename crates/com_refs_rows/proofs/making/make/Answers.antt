@@ -1,8 +1,7 @@
 use Rattle.std.proofs.Common.{[], ◌∷◌, refl, sym, ap, ◌∙◌}
-use Rattle.com_refs_holders.specs.Steps.{among}
-use Rattle.com_refs_holders.specs.Tables.{books_of, offers, owns_of}
+use Rattle.com_refs_holders.specs.Tables.{books_of, owns_of}
 use Rattle.com_model.specs.Tables.{has_agile_model}
-use Rattle.com_refs_rows.proofs.Fitting.{among_making, made_offered}
+use Rattle.com_refs_rows.proofs.Fitting.{among_making, offers_more, small_making}
 use Rattle.com_refs_rows.proofs.Makings.{made_books, made_counts}
 use Rattle.com_refs_rows.specs.Books.{moved_to}
 use Rattle.com_refs_rows.specs.Moving.{plus}
@@ -12,20 +11,22 @@ use Rattle.com_refs_rows.proofs.making.make.Goals as goal
 
 pub made-requires-clause-within : goal.made-requires-clause-within
 made-requires-clause-within c =
-    among_making c.args.classes.now c.args.class c.args.held.iface c.in-Some.class.now c.as_slice-2.result.now (sym c.in-Some.ensures) (c.as_slice-2.ensures.value ∙ c.in_ok-fill_set.ensures) c.requires.offered
+    among_making c.args.classes.now c.args.class c.args.held.iface c.in-Some.class.now c.as_slice.result.now (sym c.in-Some.ensures) (c.as_slice.ensures.value ∙ c.in_ok-fill_set.ensures) c.requires.made.offered
 
-pub returns-clause-offered : goal.returns-clause-offered
-returns-clause-offered c =
-    let held = c.args.held in
-    c.in_ok-made.ensures.offers held.object held.iface
-    ∙ made_offered (offers c.args.refs.now held.object held.iface) held.object (among held.iface c.as_slice-2.result.now)
-    (among_making c.args.classes.now c.args.class held.iface c.in-Some.class.now c.as_slice-2.result.now (sym c.in-Some.ensures) (c.as_slice-2.ensures.value ∙ c.in_ok-fill_set.ensures) c.requires.offered)
+pub made-requires-clause-small : goal.made-requires-clause-small
+made-requires-clause-small c =
+    small_making c.in-Some.class.now c.as_slice.result.now (c.as_slice.ensures.value ∙ c.in_ok-fill_set.ensures) (c.requires.made.small c.in-Some.class.now (sym c.in-Some.ensures))
+
+pub returns-clause-offers : goal.returns-clause-offers
+returns-clause-offers c =
+    offers_more c.args.classes.now (record { object = c.args.held.object; apartment = c.args.owner; class = c.args.class }) c.args.refs.now c.made.new.self c.in-Some.class.now c.as_slice.result.now
+    (sym c.in-Some.ensures) (c.as_slice.ensures.value ∙ c.in_ok-fill_set.ensures) c.in_ok-made.ensures.offers
 
 pub returns-clause-made : goal.returns-clause-made
 returns-clause-made c =
     let t = c.args.refs.now in
     let u = c.made.new.self in
-    let next = c.if-not-can_make.ensures.new refl in
+    let next = c.requires.made.next in
     record {
       next = next;
       owns = c.in_ok-made.ensures.owns;
@@ -40,7 +41,7 @@ pub returns-clause-more : goal.returns-clause-more
 returns-clause-more c = (λ n places below made counts.
     let t = c.args.refs.now in
     let u = c.made.new.self in
-    let next = c.if-not-can_make.ensures.new refl in
+    let next = c.requires.made.next in
     let was = c.tells.ensures.totals n places counts in
     let later = made_counts n places t u c.args.apartment c.args.held (owns_of u.objects c.args.held.object c.args.apartment) next refl c.in_ok-made.ensures.owns c.in_ok-made.ensures.direct c.in_ok-made.ensures.elsewhere was below made counts in
     made-more t u c.args.apartment c.args.held (owns_of u.objects c.args.held.object c.args.apartment) n places c.in_ok-made.ensures.row c.in_ok-made.ensures.direct was

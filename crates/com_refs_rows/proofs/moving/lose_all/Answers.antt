@@ -1,4 +1,4 @@
-use Rattle.std.proofs.Common.{arith, refl}
+use Rattle.std.proofs.Common.{arith, refl, ◌∙◌}
 use Rattle.com_reference_moves.specs.declared.moves.Move.{Move}
 use Rattle.com_refs_rows.proofs.Unheld.{touched-none, touched-next}
 use Rattle.com_refs_rows.proofs.Owning.{owned_then}
@@ -13,6 +13,8 @@ loop-moved-init c = record {
   objects = (refl, λ x a. refl);
   ended = ended_none c.args.lost.now c.args.refs.now c.tells.ensures.tells c.tells.ensures.totals c.rests.ensures;
   touched = touched-none c.args.lost.now c.args.refs.now c.args.touched.now.items;
+  offers = λ x j. refl;
+  issued = refl;
   climbs = λ m. m;
   len = omega arith;
   capacity = omega arith;
@@ -26,6 +28,8 @@ loop-moved-preserved c = record {
   touched = touched-next c.args.lost.now c.loop-moved.moved-index no_move
       c.args.refs.now c.loop-moved.refs c.lose.new.refs c.args.touched.now.items c.loop-moved.touched.items c.lose.new.touched.items
       c.loop-moved-test.true c.loop-moved.invariant.ended c.loop-moved.invariant.touched c.lose.ensures.touched;
+  offers = λ x j. c.lose.ensures.offers x j ∙ c.loop-moved.invariant.offers x j;
+  issued = c.lose.ensures.issued ∙ c.loop-moved.invariant.issued;
   climbs = λ m. c.lose.ensures.climbs (c.loop-moved.invariant.climbs m);
   len = omega (arith, c.loop-moved.invariant.len, c.lose.ensures.len);
   capacity = omega (arith, c.loop-moved.invariant.capacity, c.lose.ensures.capacity);

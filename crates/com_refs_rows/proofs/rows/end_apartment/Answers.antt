@@ -1,5 +1,5 @@
-use Rattle.std.proofs.Common.{◌≡◌, ℕ, List, refl, sym, subst, ◌∙◌, ◌+◌, arith}
-use Rattle.com_refs_holders.specs.Tables.{Tables}
+use Rattle.std.proofs.Common.{◌≡◌, ℕ, List, refl, sym, ap, subst, ◌∙◌, ◌+◌, arith}
+use Rattle.com_refs_holders.specs.Tables.{Tables, offers}
 use Rattle.com_refs_rows.specs.Books.{Cut}
 use Rattle.com_refs_rows.specs.Moving.{Touches}
 use Rattle.com_refs_rows.proofs.Ending.{ended_to, ended_first, ended_owned, ended_other, ended_last}
@@ -16,6 +16,8 @@ pub loop-place-init : goal.loop-place-init
 loop-place-init c = record {
   cut = ended_first c.args.objects.now.tables c.args.apartment c.args.refs.now c.requires.apartment;
   touched = touches-same c.args.refs.now c.args.refs.now c.args.touched.now.items refl;
+  offers = λ x j. refl;
+  issued = refl;
   climbs = λ m. m;
   len = omega arith;
   capacity = omega arith;
@@ -44,6 +46,14 @@ loop-place-preserved c =
         | else-owner-apartment w ↦
             subst (λ (v : Tables). Touches t v xs c.if-owner-apartment.touched.items) (sym w.refs-is)
             (rw w.touched-is c.loop-place.invariant.touched)
+      ];
+      offers = λ x j. elim c.if-owner-apartment.branch [
+        | then-owner-apartment w ↦ ap (λ (v : Tables). offers v x j) w.refs-is ∙ w.disconnect.ensures.offers x j ∙ c.loop-place.invariant.offers x j
+        | else-owner-apartment w ↦ ap (λ (v : Tables). offers v x j) w.refs-is ∙ c.loop-place.invariant.offers x j
+      ];
+      issued = elim c.if-owner-apartment.branch [
+        | then-owner-apartment w ↦ ap (λ (v : Tables). v.issued) w.refs-is ∙ w.disconnect.ensures.issued ∙ c.loop-place.invariant.issued
+        | else-owner-apartment w ↦ ap (λ (v : Tables). v.issued) w.refs-is ∙ c.loop-place.invariant.issued
       ];
       climbs = λ m. elim c.if-owner-apartment.branch [
         | then-owner-apartment w ↦ rw w.touched-is (w.disconnect.ensures.climbs (c.loop-place.invariant.climbs m))

@@ -16,6 +16,8 @@ returns-clause-booked c =
     let whole : Booked (around c.calls.result.now.tables c.objects.result.now.tables a.scenario.now.classes a.carried.now (number_or_zero a.basis.running)) d m w u = record {
       applies = c.in_ok-apply.ensures.applies;
       loses = c.in_ok-apply.ensures.touched;
+      offers = c.in_ok-apply.ensures.offers;
+      issued = c.apply.ensures.issued;
       rise = c.in_ok-apply.ensures.rise;
       totals = c.tells.ensures;
     } in

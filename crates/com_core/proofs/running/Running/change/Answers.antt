@@ -1,5 +1,5 @@
 -- What holds of a core after an entry.
-use Rattle.std.proofs.Common.{◌≡◌, ℕ, List, All, ap, arith, length, vec_capacity, ◌∙◌, subst, sym}
+use Rattle.std.proofs.Common.{◌≡◌, ◌≤◌, ℕ, List, All, ap, arith, length, vec_capacity, ◌∙◌, subst, sym}
 use Rattle.com_ledger.specs.Most.{Most}
 use Rattle.com_model.specs.Lists.{number_or_zero}
 use Rattle.com_reference_moves.specs.Steps.{moves_stepped}
@@ -11,7 +11,7 @@ use Rattle.com_refs.specs.Counts.{holders_of}
 use Rattle.com_scene.specs.Actors.{acting_of}
 use Rattle.com_scene.specs.Kept.{HasSlots}
 use Rattle.com_refs_rows.specs.Books.{Held}
-use Rattle.com_refs_rows.specs.Entries.{Around, around, most_left}
+use Rattle.com_refs_rows.specs.Entries.{AllGiven, Around, around, most_left, tally}
 use Rattle.com_refs_rows.specs.Fits.{FitsBooks}
 use Rattle.com_core.specs.Changes.{Becomes, Settles, sent_by}
 use Rattle.com_core.specs.Making.{Booked}
@@ -102,7 +102,20 @@ returns-clause-fallen c =
 
 pub book-requires-clause-fits : goal.book-requires-clause-fits
 book-requires-clause-fits c =
-    subst (λ (h : Held). FitsBooks c.args.scenario.now.classes h.tables.cookies h.tables.stubs c.args.entry.now.deed) (sym (c.begin_parts.ensures.ledger ∙ c.prepare.ensures.ledger)) c.requires.fits
+    subst (λ (h : Held). FitsBooks c.args.scenario.now.classes c.args.carried.now (number_or_zero c.args.basis.running) (tally h.tables h.calls) c.args.entry.now.deed) (sym (c.begin_parts.ensures.ledger ∙ c.prepare.ensures.ledger)) c.requires.fits
+
+pub book-requires-clause-known : goal.book-requires-clause-known
+book-requires-clause-known c = λ gained is.
+    let a = c.args in
+    let moved : c.begin_parts.new.self.moves ≡ moves_stepped (ground_at a.basis.home a.self.now.parts.objects a.self.now.parts.calls.tables) a.self.now.parts.scene (acting_of a.acting) a.outcome.now (acting_of a.basis.after) a.entry.now =
+    c.begin_parts.ensures.moves ∙ c.in_ok-prepare.ensures.moves in
+    subst (λ (h : Held). AllGiven a.scenario.now.classes h.tables a.entry.now.deed gained) (sym (c.begin_parts.ensures.ledger ∙ c.prepare.ensures.ledger))
+    (c.requires.brings.known a.basis.home (acting_of a.basis.after) gained (is ∙ ap (λ (m : Moves). m.gained) moved))
+
+pub book-requires-clause-gained : goal.book-requires-clause-gained
+book-requires-clause-gained c =
+    let a = c.args in
+    subst (λ (m : Moves). length m.gained ≤ 8) (sym (c.begin_parts.ensures.moves ∙ c.in_ok-prepare.ensures.moves)) (c.requires.brings.few a.basis.home (acting_of a.basis.after))
 
 pub returns-clause-booked : goal.returns-clause-booked
 returns-clause-booked c =

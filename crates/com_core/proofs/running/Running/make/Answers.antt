@@ -1,8 +1,18 @@
 -- All that an entry changes, with what its change rests on.
+use Rattle.std.proofs.Common.{ℕ, sym, subst}
+use Rattle.std.specs.Prelude.{Option}
+use Rattle.com_model.specs.Lists.{number_or_zero}
+use Rattle.com_refs_rows.specs.Entries.{tally}
+use Rattle.com_refs_rows.specs.Fits.{FitsBooks}
 use Rattle.com_scene.specs.Actors.{acting_of}
 use Rattle.com_core.proofs.Runs.{entries_made, few_made, sound_made}
 use Rattle.com_core.proofs.Made.{changed_made}
 use Rattle.com_core.proofs.running.Running.make.Goals as goal
+
+pub change-requires-clause-fits : goal.change-requires-clause-fits
+change-requires-clause-fits c =
+    let w = c.args.self.now.ledger in
+    subst (λ (x : Option ℕ). FitsBooks c.args.scenario.now.classes c.args.carried.now (number_or_zero x) (tally w.tables w.calls) c.args.entry.now.deed) (sym c.basis-basis.ensures.running) c.requires.fits
 
 pub returns-clause-few : goal.returns-clause-few
 returns-clause-few c =

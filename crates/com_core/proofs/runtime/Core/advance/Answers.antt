@@ -1,7 +1,6 @@
 -- The entry of lane 0 is the clock's.
 use Rattle.std.proofs.Common.{ℕ, IfOk, subst, sym}
 use Rattle.com_model.specs.declared.deeds.Entry.{Entry}
-use Rattle.com_model.specs.Formed.{Formed}
 use Rattle.com_runtime.specs.Turns.{IsNext}
 use Rattle.com_core.specs.Seen.{core_state}
 use Rattle.com_core.proofs.runtime.Core.advance.Goals as goal
@@ -9,4 +8,4 @@ use Rattle.com_core.proofs.runtime.Core.advance.Goals as goal
 pub returns-then-lane-eq0-clause-follows : goal.returns-then-lane-eq0-clause-follows
 returns-then-lane-eq0-clause-follows c =
     let v = c.args.self.now in
-    subst (λ (n : ℕ). IfOk c.make_tick.result (λ (e : Entry). Formed v.scenario → IsNext v.scenario (core_state v) n e (core_state c.make_tick.new.self))) (sym c.if-lane-eq0.true) c.make_tick.ensures.follows
+    subst (λ (n : ℕ). IfOk c.tick.result (λ (e : Entry). IsNext v.scenario (core_state v) n e (core_state c.tick.new.self))) (sym c.if-lane-eq0.true) c.tick.ensures.follows

@@ -1,19 +1,31 @@
 -- A commit of a core is that of what it keeps.
-use Rattle.std.proofs.Common.{◌≡◌, ◌≤◌, IfOk, refl, subst, sym}
+use Rattle.std.proofs.Common.{◌≡◌, ◌≤◌, ◌<◌, IfOk, refl, subst, sym}
 use Rattle.std.specs.Prelude.{IfErr, OnErr, OnOk}
 use Rattle.std.specs.Arc.{arc_value}
 use Rattle.com_model.specs.declared.deeds.Entry.{Entry}
 use Rattle.com_model.specs.declared.scenario.Scenario.{Scenario}
-use Rattle.com_model.specs.Formed.{Formed}
+use Rattle.com_model.specs.Ends.{limit}
 use Rattle.com_model.specs.Tables.{lanes}
 use Rattle.com_servant.specs.Steps.{job_step}
 use Rattle.com_runtime.specs.Turns.{IsNext}
 use Rattle.com_runtime.specs.Jobs.{Fits, IsRefused, kept_in}
-use Rattle.com_core.specs.Seen.{CoreView, IsWhole, Steps, core_of, core_state, kept_of}
-use Rattle.com_core.proofs.Kept.{kept_stepped, next_stepped, same_core, step_taken}
+use Rattle.com_core.specs.Seen.{CoreView, Steps, core_of, core_state, kept_of}
+use Rattle.com_core.proofs.Kept.{as_held, kept_stepped, next_stepped, same_core, step_taken, ties_held, whole_held}
 use Rattle.com_model.specs.State.{State}
 use Rattle.com_core.proofs.Shown.{as_kept, as_shown, state_shown}
 use Rattle.com_core.proofs.runtime.Core.commit.Goals as goal
+
+pub commit-requires-clause-core : goal.commit-requires-clause-core
+commit-requires-clause-core c = whole_held c.deref.result.now (arc_value c.self.inside.scenario) c.self.inside.running c.deref.ensures c.self.invariant.4
+
+pub commit-requires-clause-ties : goal.commit-requires-clause-ties
+commit-requires-clause-ties c = ties_held c.deref.result.now (arc_value c.self.inside.scenario) c.self.inside.running c.deref.ensures c.self.invariant.4
+
+pub commit-requires-clause-room : goal.commit-requires-clause-room
+commit-requires-clause-room c = as_held (λ s st. st.entries < limit s) c.deref.result.now (arc_value c.self.inside.scenario) c.self.inside.running _ c.deref.ensures c.self.view_is c.requires.room
+
+pub commit-requires-clause-below : goal.commit-requires-clause-below
+commit-requires-clause-below c = as_held (λ s st. c.args.lane ≤ lanes s) c.deref.result.now (arc_value c.self.inside.scenario) c.self.inside.running _ c.deref.ensures c.self.view_is c.requires.below
 
 pub commit-requires-clause-fits : goal.commit-requires-clause-fits
 commit-requires-clause-fits c =
@@ -33,22 +45,17 @@ returns-clause-follows c =
     let r = c.self.inside.running in
     let u = c.commit.new.self in
     let e = c.commit.ensures in
-    let l = c.args.lane in
-    let high : l ≤ lanes s = subst (λ (w : CoreView). l ≤ lanes w.scenario) (sym c.self.view_is) c.requires.below in
-    let steps : IfOk c.commit.result (λ (n : Entry). IsWhole (core_of s r) → Steps l (core_of s r) (core_of s u) n) =
-    step_taken c.commit.result l c.deref.result.now s r u c.deref.ensures c.requires.above high e.next in
-    subst (λ (w : CoreView). IfOk c.commit.result (λ (n : Entry). Formed w.scenario → IsNext w.scenario (core_state w) l n (core_state (core_of s u)))) c.self.view_is
-    (next_stepped c.commit.result l (core_of s r) (core_of s u) c.self.invariant.4 refl steps e.lane e.clock)
+    let steps : IfOk c.commit.result (λ (n : Entry). Steps c.args.lane (core_of s r) (core_of s u) n) = step_taken c.commit.result c.args.lane c.deref.result.now s r u c.deref.ensures e.next in
+    subst (λ (w : CoreView). IfOk c.commit.result (λ (n : Entry). IsNext w.scenario (core_state w) c.args.lane n (core_state (core_of s u)))) c.self.view_is
+    (next_stepped c.commit.result c.args.lane (core_of s r) (core_of s u) c.self.invariant.4 refl steps e.lane e.clock)
 
 pub returns-clause-next : goal.returns-clause-next
 returns-clause-next c =
     let s = arc_value c.self.inside.scenario in
     let r = c.self.inside.running in
     let u = c.commit.new.self in
-    let l = c.args.lane in
-    let high : l ≤ lanes s = subst (λ (w : CoreView). l ≤ lanes w.scenario) (sym c.self.view_is) c.requires.below in
-    subst (λ (w : CoreView). IfOk c.commit.result (λ (n : Entry). IsWhole w → Steps l w (core_of s u) n)) c.self.view_is
-    (step_taken c.commit.result l c.deref.result.now s r u c.deref.ensures c.requires.above high c.commit.ensures.next)
+    subst (λ (w : CoreView). IfOk c.commit.result (λ (n : Entry). Steps c.args.lane w (core_of s u) n)) c.self.view_is
+    (step_taken c.commit.result c.args.lane c.deref.result.now s r u c.deref.ensures c.commit.ensures.next)
 
 pub returns-clause-fresh : goal.returns-clause-fresh
 returns-clause-fresh c =
@@ -81,8 +88,5 @@ invariant_of-self c =
     let r = c.self.inside.running in
     let u = c.commit.new.self in
     let e = c.commit.ensures in
-    let l = c.args.lane in
-    let high : l ≤ lanes s = subst (λ (w : CoreView). l ≤ lanes w.scenario) (sym c.self.view_is) c.requires.below in
-    let steps : IfOk c.commit.result (λ (n : Entry). IsWhole (core_of s r) → Steps l (core_of s r) (core_of s u) n) =
-    step_taken c.commit.result l c.deref.result.now s r u c.deref.ensures c.requires.above high e.next in
-    (e.sound, e.few, c.self.invariant.2, c.self.invariant.3, kept_stepped c.commit.result l (core_of s r) (core_of s u) c.self.invariant.4 refl steps e.clock (same_core c.commit.result s r u e.err))
+    let steps : IfOk c.commit.result (λ (n : Entry). Steps c.args.lane (core_of s r) (core_of s u) n) = step_taken c.commit.result c.args.lane c.deref.result.now s r u c.deref.ensures e.next in
+    (e.sound, e.few, c.self.invariant.2, c.self.invariant.3, kept_stepped c.commit.result c.args.lane (core_of s r) (core_of s u) c.self.invariant.4 refl steps e.clock (same_core c.commit.result s r u e.err))

@@ -11,22 +11,21 @@ use Rattle.com_core.specs.Seen.{core_of, core_state, kept_of}
 use Rattle.com_core.specs.Shown.{held_shown}
 use Rattle.com_core.specs.Stands.{IsReached}
 use Rattle.com_core.proofs.Counted.{counts_read}
-use Rattle.com_core.proofs.Shown.{as_shown, state_shown, ties_kept}
+use Rattle.com_core.proofs.Shown.{as_shown, state_shown, ties_kept, whole_kept}
 use Rattle.com_core.proofs.runtime.Core.counts.Goals as goal
 
 pub returns : goal.returns
-returns c = λ reached.
+returns c =
     let s = arc_value c.self.inside.scenario in
     let r = c.self.inside.running in
     let st : State = core_state (kept_of s r) in
     let w : Held = r.ledger in
     let o = c.args.object in
     let n = c.counts-numbers in
-    as_shown (λ s st. IsReached s st
-    → record { class = c.class.result; owner = c.owner.result; state = c.state.result; direct = n.result.direct; proxies = n.result.proxies; packets = n.result.packets; tables = n.result.tables; stub = n.result.stub } ≡ counts_in s st o)
+    let h : IsReached s st = (whole_kept (kept_of s r) c.self.invariant.4.whole).reached in
+    as_shown (λ s st. record { class = c.class.result; owner = c.owner.result; state = c.state.result; direct = n.result.direct; proxies = n.result.proxies; packets = n.result.packets; tables = n.result.tables; stub = n.result.stub } ≡ counts_in s st o)
     s r _ c.self.view_is
-    (λ h.
-    let kept : Ties s (core_state (core_of s r)) (held_shown w) = (c.self.invariant.4 h.formed).ties in
+    (let kept : Ties s (core_state (core_of s r)) (held_shown w) = c.self.invariant.4.ties in
     let t : Ties s st w = ties_kept s st w (subst (λ (x : State). Ties s x (held_shown w)) (state_shown (kept_of s r)) kept) in
     counts_read s st w o c.class.result c.owner.result c.state.result n.result.direct n.result.proxies n.result.packets n.result.tables n.result.stub t
     (c.class.ensures ∙ ap (λ (x : ObjectTables). class_at x o) c.objects.ensures)
@@ -37,4 +36,3 @@ returns c = λ reached.
     (n.ensures.packets ∙ packets_counted s st w o t)
     (tables_counted s st w o n.result.tables t n.ensures.tables)
     (stub_counted s st h.history w o n.result.stub h.stands t n.ensures.stub))
-    reached

@@ -13,7 +13,7 @@ use Rattle.com_laws_ranges.proofs.Shapes.{reached-shape}
 use Rattle.com_core.specs.Nexts.{FitsTop}
 use Rattle.com_core.specs.Seen.{core_state, kept_of}
 use Rattle.com_core.specs.Stands.{IsReached, seen_by}
-use Rattle.com_core.proofs.Shown.{as_shown}
+use Rattle.com_core.proofs.Shown.{as_shown, whole_kept}
 use Rattle.com_core.proofs.Worked.{fits_tops}
 use Rattle.com_core.proofs.runtime.Core.fits.Goals as goal
 
@@ -23,8 +23,9 @@ returns c =
     let r = c.self.inside.running in
     let l = c.args.lane in
     let job = c.args.job.now in
-    as_shown (λ s st. IsReached s st → HasShape job.frame → (IsTrue c.fits.result ↔ Fits s st l job)) s r _ c.self.view_is
-    (λ h k.
+    let h : IsReached s (core_state (kept_of s r)) = (whole_kept (kept_of s r) c.self.invariant.4.whole).reached in
+    as_shown (λ s st. HasShape job.frame → (IsTrue c.fits.result ↔ Fits s st l job)) s r _ c.self.view_is
+    (λ k.
     let shapes : (n : ℕ) → HasShape (body_at r.parts.scene n) =
     λ n. reached-shape s (core_state (kept_of s r)) n (reached_by s (core_state (kept_of s r)) h.history h.formed h.stands) in
     let tops : IsTrue c.fits.result ↔ FitsTop (seen_by s r.parts r.fallen.objects r.clock) (first (openers_at r.parts.lanes l)) job =

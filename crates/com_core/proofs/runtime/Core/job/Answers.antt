@@ -4,11 +4,19 @@ use Rattle.std.specs.Prelude.{Some}
 use Rattle.com_body.specs.declared.frame.Job.{Job}
 use Rattle.com_model.specs.declared.scenario.Scenario.{Scenario}
 use Rattle.com_servant.specs.Steps.{IsOfItsClass}
-use Rattle.com_runtime.specs.Jobs.{job_of}
+use Rattle.com_runtime.specs.declared.jobs.Next.TheVariants as next
+use Rattle.com_runtime.specs.Jobs.{job_of, next_in}
 use Rattle.std.specs.Arc.{arc_value}
 use Rattle.com_core.specs.Seen.{CoreView, core_state, kept_of}
-use Rattle.com_core.proofs.Shown.{as_shown}
+use Rattle.com_core.proofs.Shown.{as_kept, as_shown}
+use Rattle.com_core.proofs.Worked.{body_read}
 use Rattle.com_core.proofs.runtime.Core.job.Goals as goal
+
+pub job-requires-clause-body : goal.job-requires-clause-body
+job-requires-clause-body c =
+    let s = arc_value c.self.inside.scenario in
+    body_read s c.self.inside.running c.args.lane
+    (as_kept (λ s st. next_in s st c.args.lane ≡ next.Body) s c.self.inside.running _ c.self.view_is c.requires.body)
 
 pub returns-clause-job : goal.returns-clause-job
 returns-clause-job c =

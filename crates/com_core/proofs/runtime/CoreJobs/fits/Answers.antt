@@ -1,7 +1,5 @@
--- Whether a job fits in a state that a legal history comes to.
-use Rattle.com_core.specs.Seen.{core_state}
-use Rattle.com_core.proofs.Kept.{is_reached}
+-- Whether a job of the shape that all have fits.
 use Rattle.com_core.proofs.runtime.CoreJobs.fits.Goals as goal
 
 pub returns : goal.returns
-returns c = c.fits.ensures (is_reached c.args.self.now.scenario (core_state c.args.self.now) c.requires.reached) c.requires.shape
+returns c = c.fits.ensures c.requires.shape

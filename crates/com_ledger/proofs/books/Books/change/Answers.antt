@@ -1,18 +1,45 @@
-use Rattle.std.proofs.Common.{◌≡◌, ℕ, List, length, sym, ap, subst, ◌∙◌, arith}
+use Rattle.std.proofs.Common.{◌≡◌, ℕ, true, ◌||◌, List, length, sym, ap, subst, ◌∙◌, arith}
+use Rattle.com_refs_holders.specs.Tables.{Tables, offers}
+use Rattle.com_model.specs.Lists.{number_or_zero}
+use Rattle.com_model.specs.Objects.{makes}
+use Rattle.com_refs_rows.specs.Owners.{offers_made}
+use Rattle.com_ledger.proofs.Offered.{fits_prepared, given_prepared}
 use Rattle.com_refs_rows.specs.declared.calls.CallPackets.{CallPackets}
 use Rattle.com_refs_rows.specs.Entries.{asked_packets}
 use Rattle.com_reference_moves.specs.Steps.{moving_of}
 use Rattle.std.proofs.lemmas.List.{length-map}
 use Rattle.com_objects.specs.Settled.{Rise}
-use Rattle.com_refs_rows.specs.Entries.{Applies, Loses, around, tally}
+use Rattle.com_refs_rows.specs.Entries.{Applies, around, tally}
+use Rattle.com_ledger.specs.Ties.{NotesLost}
 use Rattle.com_refs_rows.specs.Moving.{Climbs}
 use Rattle.com_refs_rows.proofs.Changing.{applies_whole}
 use Rattle.com_ledger.proofs.Kept.{held_made, loses_kept}
 use Rattle.com_refs_rows.proofs.Unholding.{loses_whole}
 use Rattle.com_ledger.proofs.books.Books.change.Goals as goal
 
+pub prepare-requires-clause-gained : goal.prepare-requires-clause-gained
+prepare-requires-clause-gained c =
+    let many : length c.gains-gained.result.now ≡ length c.args.moves.now.gained = sym (length-map c.gains-gained.result.now moving_of) ∙ ap (λ l. length l) c.gains-gained.ensures in
+    omega (arith, many, c.requires.gained)
+
+pub returns-clause-issued : goal.returns-clause-issued
+returns-clause-issued c =
+    let same : c.prepare.new.self.refs.issued ≡ c.args.self.now.refs.issued = ap (λ (t : Tables). t.issued) c.in_ok-prepare.ensures.refs in
+    omega (arith, same, c.in_ok-prepare.ensures.steps, c.enter_reference.ensures.issued, c.take.ensures.issued, c.enter_end.ensures.issued, c.lose_all.ensures.issued)
+
+pub enter_reference-requires-clause-fits : goal.enter_reference-requires-clause-fits
+enter_reference-requires-clause-fits c =
+    fits_prepared c.args.context.classes.now c.args.context.carried.now (number_or_zero c.args.context.running) c.number_or_zero-apartment.result c.prepare.new.self.refs.spare c.args.self.now.refs c.prepare.new.self.refs c.args.self.now.calls c.prepare.new.self.calls c.args.entry.now.deed
+    c.in_ok-prepare.ensures.refs c.in_ok-prepare.ensures.calls c.number_or_zero-apartment.ensures c.requires.fits.row
+
 pub take-requires-clause-known : goal.take-requires-clause-known
-take-requires-clause-known c = λ k h. c.in_ok-enter_reference.ensures.offers _ _ (c.in_ok-prepare.ensures.known k h)
+take-requires-clause-known c = λ k h. c.in_ok-enter_reference.ensures.offers _ _
+    (given_prepared c.args.context.classes.now c.prepare.new.self.refs.spare c.args.self.now.refs c.prepare.new.self.refs c.args.entry.now.deed c.gains-gained.result.now c.in_ok-prepare.ensures.refs (c.requires.known c.gains-gained.result.now c.gains-gained.ensures) k h)
+
+pub returns-clause-offers : goal.returns-clause-offers
+returns-clause-offers c = λ o i e.
+    c.lose_all.ensures.offers o i ∙ c.enter_end.ensures.offers o i ∙ c.take.ensures.offers o i
+    ∙ c.in_ok-enter_reference.ensures.offers o i (subst (λ (v : Tables). (offers v o i || offers_made c.args.context.classes.now (makes c.args.entry.now.deed) o i) ≡ true) (sym c.in_ok-prepare.ensures.refs) e)
 
 pub keep_made-requires : goal.keep_made-requires
 keep_made-requires c =
@@ -32,7 +59,7 @@ returns-clause-applies c = λ gained lost eg el.
 
 pub returns-clause-touched : goal.returns-clause-touched
 returns-clause-touched c = λ gained lost eg el.
-    subst (λ (k : ℕ). Loses (around c.args.context.calls.now.tables c.args.context.objects.now.tables c.args.context.classes.now c.args.context.carried.now k) c.args.entry.now.deed gained lost (tally c.args.self.now.refs c.args.self.now.calls) (tally c.lose_all.new.refs c.enter_end.new.self.calls) c.keep_made.new.touched.items) c.number_or_zero-apartment.ensures
+    subst (λ (k : ℕ). NotesLost (around c.args.context.calls.now.tables c.args.context.objects.now.tables c.args.context.classes.now c.args.context.carried.now k) c.args.entry.now.deed gained lost (tally c.args.self.now.refs c.args.self.now.calls) (tally c.lose_all.new.refs c.enter_end.new.self.calls) c.keep_made.new.touched.items) c.number_or_zero-apartment.ensures
     (loses_kept (around c.args.context.calls.now.tables c.args.context.objects.now.tables c.args.context.classes.now c.args.context.carried.now c.number_or_zero-apartment.result) c.args.entry.now.deed gained lost (tally c.args.self.now.refs c.args.self.now.calls) (tally c.lose_all.new.refs c.enter_end.new.self.calls)
     c.lose_all.new.touched.items c.keep_made.new.touched.items
     (applies_whole (around c.args.context.calls.now.tables c.args.context.objects.now.tables c.args.context.classes.now c.args.context.carried.now c.number_or_zero-apartment.result) c.args.entry.now.deed
@@ -43,7 +70,7 @@ returns-clause-touched c = λ gained lost eg el.
     c.in_ok-enter_reference.ensures.gives c.as_slice.ensures.value c.take.ensures.exchanged
     c.enter_end.ensures.closes c.enter_end.ensures.calls
     c.lose_all.ensures.objects c.lose_all.ensures.ended (eg ∙ sym c.gains-gained.ensures) (el ∙ sym c.losses-lost.ensures))
-    (held_made c.args.self.now.refs c.prepare.new.self.refs c.prepare.new.self.refs.spare c.in_ok-prepare.ensures.refs c.in_ok-prepare.ensures.none c.bounds.ensures.held)
+    (held_made c.args.self.now.refs c.prepare.new.self.refs c.prepare.new.self.refs.spare c.in_ok-prepare.ensures.refs c.bounds.ensures.held)
     (λ o some most m. c.keep_made.ensures.kept o some (omega (arith, most, c.objects.ensures)) m)
     (loses_whole (around c.args.context.calls.now.tables c.args.context.objects.now.tables c.args.context.classes.now c.args.context.carried.now c.number_or_zero-apartment.result) c.args.entry.now.deed
     c.args.self.now.refs c.prepare.new.self.refs c.enter_reference.new.self.refs c.take.new.refs c.enter_end.new.self.refs c.lose_all.new.refs

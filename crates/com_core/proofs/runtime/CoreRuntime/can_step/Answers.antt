@@ -1,7 +1,0 @@
--- What a core answers of a state that a legal history comes to.
-use Rattle.com_core.specs.Seen.{core_state}
-use Rattle.com_core.proofs.Kept.{is_reached}
-use Rattle.com_core.proofs.runtime.CoreRuntime.can_step.Goals as goal
-
-pub returns : goal.returns
-returns c = c.can_step.ensures (is_reached c.args.self.now.scenario (core_state c.args.self.now) c.requires.reached)
