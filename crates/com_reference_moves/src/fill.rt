@@ -11,7 +11,7 @@ ghost use Rattle.com_model.specs.Places.{left_value};
 ghost use Rattle.com_laws_places.specs.Moves.{no_moves, together, all_moved, entered_where, slots_where};
 ghost use Rattle.com_scene.specs.Actors.{acting_of};
 ghost use Rattle.com_scene.specs.Ranges.{FitsDeed};
-ghost use Rattle.com_state.specs.Parts.{ObjectTables, admission_at, issue_at, named_at};
+ghost use Rattle.com_state.specs.Parts.{admission_at, issue_at, named_at};
 ghost use Rattle.com_state.specs.SceneParts.{destination_at};
 ghost use Rattle.com_reference_moves.specs.Steps.{acted_stepped, arrived_stepped, ended_stepped, given_moves};
 ghost use Rattle.com_reference_moves.specs.Steps.{result_at, links_of_step};
@@ -40,14 +40,14 @@ fn entered_where(calls: &Calls, call: u32) -> Option<u32>
     }
 }
 
-// The apartment of the slots of whoever acts.
-fn slots_where(home: Option<u32>, calls: &Calls, acting: Actor) -> Option<u32>
-    ensures { (o : ObjectTables)
-        → result ≡ slots_where (ground_at home o calls.now.tables) (acting_of acting) }
+// The apartment of an actor's slots.
+fn slots_where(setting: &Setting<'_>, who: Actor) -> Option<u32>
+    ensures { result ≡ slots_where (ground_at setting.now.home setting.now.objects setting.now.calls)
+        (acting_of who) }
 {
-    match acting {
-        Actor::Body { call, .. } => entered_where(calls, call),
-        Actor::Script { .. } => home,
+    match who {
+        Actor::Body { call, .. } => entered_where(setting.calls, call),
+        Actor::Script { .. } => setting.home,
         Actor::Nobody => None,
     }
 }
@@ -123,7 +123,7 @@ impl Moves {
         };
         match place {
             Place::Slot(number) => {
-                let apartment = slots_where(setting.home, setting.calls, setting.acting);
+                let apartment = slots_where(setting, setting.acting);
                 self.exchange(apartment, &slots_of(&outcome.frame), number, held)
             }
             Place::Link(number) => match setting.acting {
@@ -282,7 +282,7 @@ impl Moves {
             setting.now.after)
             (destination_at setting.now.scene call) value.now))) }
     {
-        let apartment = slots_where(setting.home, setting.calls, setting.after);
+        let apartment = slots_where(setting, setting.after);
         self.give_back(setting, apartment, deed, call, value)
     }
 
