@@ -31,6 +31,17 @@ PlacesMoveIn s st e =
     + counted (moves_in s st e).lost a t
     ≡ places_that s (ground_in s st) (scene_in st) a t + counted (moves_in s st e).gained a t
 
+-- What an entry rests on beside itself: the home of its lane, the tables of objects, calls and the scene
+-- before it, who makes it, the step of whoever does, and who acts in its lane afterwards.
+pub record SettingView : Type 0 where
+  pub home : Option ℕ
+  pub objects : ObjectTables
+  pub calls : CallTables
+  pub scene : SceneTables
+  pub acting : Actor
+  pub outcome : Option Outcome
+  pub after : Actor
+
 -- What the moves of an entry rest on, with the home of its lane; what they do not look at is left out.
 abbrev pub ground_at : (home : Option ℕ) → ObjectTables → CallTables → Ground
 ground_at home o c = record {

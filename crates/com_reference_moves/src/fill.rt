@@ -11,7 +11,7 @@ ghost use Rattle.com_model.specs.Places.{left_value};
 ghost use Rattle.com_laws_places.specs.Moves.{no_moves, together, all_moved, entered_where, slots_where};
 ghost use Rattle.com_scene.specs.Actors.{acting_of};
 ghost use Rattle.com_scene.specs.Ranges.{FitsDeed};
-ghost use Rattle.com_state.specs.Parts.{ObjectTables, admission_at, issue_at, named_at};
+ghost use Rattle.com_state.specs.Parts.{admission_at, issue_at, named_at};
 ghost use Rattle.com_state.specs.SceneParts.{destination_at};
 ghost use Rattle.com_reference_moves.specs.Steps.{acted_stepped, arrived_stepped, ended_stepped, given_moves};
 ghost use Rattle.com_reference_moves.specs.Steps.{result_at, links_of_step};
@@ -20,6 +20,7 @@ ghost use Rattle.com_reference_moves.specs.Steps.{IsWhole, BodiesWhole};
 ghost use Rattle.com_reference_moves.specs.Tables.{ground_at};
 
 use crate::moves::Moves;
+use crate::setting::Setting;
 use crate::steps::{links_after, slots_after, slots_of};
 use crate::written::{Written, written_by};
 use com_base::{HOST_STA, Memory, RefValue, Value};
@@ -39,14 +40,14 @@ fn entered_where(calls: &Calls, call: u32) -> Option<u32>
     }
 }
 
-// The apartment of the slots of whoever acts.
-fn slots_where(home: Option<u32>, calls: &Calls, acting: Actor) -> Option<u32>
-    ensures { (o : ObjectTables)
-        → result ≡ slots_where (ground_at home o calls.now.tables) (acting_of acting) }
+// The apartment of an actor's slots.
+fn slots_where(setting: &Setting<'_>, who: Actor) -> Option<u32>
+    ensures { result ≡ slots_where (ground_at setting.now.home setting.now.objects setting.now.calls)
+        (acting_of who) }
 {
-    match acting {
-        Actor::Body { call, .. } => entered_where(calls, call),
-        Actor::Script { .. } => home,
+    match who {
+        Actor::Body { call, .. } => entered_where(setting.calls, call),
+        Actor::Script { .. } => setting.home,
         Actor::Nobody => None,
     }
 }
@@ -108,29 +109,26 @@ impl Moves {
     // What a step's action writes at a place.
     fn write(
         &mut self,
-        home: Option<u32>,
-        objects: &Objects,
-        calls: &Calls,
-        acting: Actor,
+        setting: &Setting<'_>,
         outcome: &Outcome,
         written: Option<Written>,
     ) -> Result<(), Memory>
         requires { IsWhole (Some outcome.now) }
         ensures { OnOk result (self.new
-            ≡ together self.old (step_moves (ground_at home objects.now.tables calls.now.tables)
-            (acting_of acting) outcome.now written)) }
+            ≡ together self.old (step_moves (ground_at setting.now.home setting.now.objects setting.now.calls)
+            setting.now.acting outcome.now written)) }
     {
         let Some(Written { place, held }) = written else {
             return Ok(());
         };
         match place {
             Place::Slot(number) => {
-                let apartment = slots_where(home, calls, acting);
+                let apartment = slots_where(setting, setting.acting);
                 self.exchange(apartment, &slots_of(&outcome.frame), number, held)
             }
-            Place::Link(number) => match acting {
+            Place::Link(number) => match setting.acting {
                 Actor::Body { object, .. } => {
-                    let owner = objects.owner(object);
+                    let owner = setting.objects.owner(object);
                     self.exchange(Some(owner), &outcome.cells.links, number, held)
                 }
                 _ => Ok(()),
@@ -139,32 +137,17 @@ impl Moves {
     }
 
     // What the action of whoever acts takes and brings.
-    fn act(
-        &mut self,
-        home: Option<u32>,
-        objects: &Objects,
-        calls: &Calls,
-        acting: Actor,
-        outcome: &Option<Outcome>,
-        deed: &Deed,
-    ) -> Result<(), Memory>
+    fn act(&mut self, setting: &Setting<'_>, deed: &Deed) -> Result<(), Memory>
         requires deed { FitsDeed deed.now }
-        requires outcome { IsWhole outcome.now }
+        requires outcome { IsWhole setting.now.outcome }
         ensures { OnOk result (self.new
-            ≡ together self.old (acted_stepped (ground_at home objects.now.tables calls.now.tables)
-            (acting_of acting) outcome.now deed.now)) }
+            ≡ together self.old (acted_stepped (ground_at setting.now.home setting.now.objects
+            setting.now.calls) setting.now.acting setting.now.outcome deed.now)) }
     {
-        let Some(outcome) = outcome else {
+        let Some(outcome) = setting.outcome else {
             return Ok(());
         };
-        self.write(
-            home,
-            objects,
-            calls,
-            acting,
-            outcome,
-            written_by(&outcome.action, deed),
-        )
+        self.write(setting, outcome, written_by(&outcome.action, deed))
     }
 
     // A result that comes back to a destination.
@@ -216,73 +199,97 @@ impl Moves {
     // A body leaves: all its slots, and its result.
     fn leave(
         &mut self,
-        calls: &Calls,
-        scene: &Scene,
-        acting: Actor,
-        outcome: &Option<Outcome>,
+        setting: &Setting<'_>,
         deed: &Deed,
         call: u32,
         value: &Option<Value>,
     ) -> Result<(), Memory>
         requires deed { FitsDeed deed.now }
-        requires outcome { IsWhole outcome.now }
-        requires bodies { BodiesWhole scene.now.tables }
+        requires outcome { IsWhole setting.now.outcome }
+        requires bodies { BodiesWhole setting.now.scene }
         ensures { OnOk result (self.new ≡ together self.old (record {
-          lost = all_moved (entered_where (admission_at calls.now.tables call))
-              (slots_stepped scene.now.tables (acting_of acting) outcome.now deed.now (Body call 0));
-          gained = result_at calls.now.tables call value.now;
+          lost = all_moved (entered_where (admission_at setting.now.calls call))
+              (slots_stepped setting.now.scene setting.now.acting setting.now.outcome deed.now (Body call 0));
+          gained = result_at setting.now.calls call value.now;
         })) }
     {
         let slots = slots_after(
-            scene,
-            acting,
-            outcome,
+            setting.scene,
+            setting.acting,
+            setting.outcome,
             deed,
             Actor::Body { call, object: 0 },
         );
-        self.lose_all(entered_where(calls, call), &slots)?;
-        self.gain_result(calls, call, value)
+        self.lose_all(entered_where(setting.calls, call), &slots)?;
+        self.gain_result(setting.calls, call, value)
     }
 
-    // A call comes back: its result leaves its place, and comes to the destination.
+    // The result of a call leaves its place, and comes to the destination in an apartment.
     #[tactic(auto, using(crate::proofs::Lists::lost_then))]
     fn give_back(
         &mut self,
+        setting: &Setting<'_>,
         apartment: Option<u32>,
-        calls: &Calls,
-        scene: &Scene,
-        acting: Actor,
-        outcome: &Option<Outcome>,
-        after: Actor,
         deed: &Deed,
         call: u32,
         value: &Option<Value>,
     ) -> Result<(), Memory>
         requires deed { FitsDeed deed.now }
-        requires outcome { IsWhole outcome.now }
-        requires after { FrameWhole scene.now.tables (acting_of after) }
+        requires outcome { IsWhole setting.now.outcome }
+        requires after { FrameWhole setting.now.scene setting.now.after }
         ensures { OnOk result (self.new ≡ together self.old (together
             (record {
-              lost = result_at calls.now.tables call
-                  (left_value (from_one calls.now.tables.leavings call None));
+              lost = result_at setting.now.calls call
+                  (left_value (from_one setting.now.calls.leavings call None));
               gained = [];
             })
             (given_moves apartment
-            (slots_stepped scene.now.tables (acting_of acting) outcome.now deed.now (acting_of after))
-            (destination_at scene.now.tables call) value.now))) }
+            (slots_stepped setting.now.scene setting.now.acting setting.now.outcome deed.now
+            setting.now.after)
+            (destination_at setting.now.scene call) value.now))) }
     {
-        self.lose_result(calls, call)?;
-        let slots = slots_after(scene, acting, outcome, deed, after);
-        self.give(apartment, &slots, scene.destination(call), value)
+        self.lose_result(setting.calls, call)?;
+        let slots = slots_after(
+            setting.scene,
+            setting.acting,
+            setting.outcome,
+            deed,
+            setting.after,
+        );
+        self.give(apartment, &slots, setting.scene.destination(call), value)
+    }
+
+    // A call comes back to whoever acts in the lane after the entry.
+    fn come_back(
+        &mut self,
+        setting: &Setting<'_>,
+        deed: &Deed,
+        call: u32,
+        value: &Option<Value>,
+    ) -> Result<(), Memory>
+        requires deed { FitsDeed deed.now }
+        requires outcome { IsWhole setting.now.outcome }
+        requires after { FrameWhole setting.now.scene setting.now.after }
+        ensures { OnOk result (self.new ≡ together self.old (together
+            (record {
+              lost = result_at setting.now.calls call
+                  (left_value (from_one setting.now.calls.leavings call None));
+              gained = [];
+            })
+            (given_moves (slots_where (ground_at setting.now.home setting.now.objects setting.now.calls)
+            setting.now.after)
+            (slots_stepped setting.now.scene setting.now.acting setting.now.outcome deed.now
+            setting.now.after)
+            (destination_at setting.now.scene call) value.now))) }
+    {
+        let apartment = slots_where(setting, setting.after);
+        self.give_back(setting, apartment, deed, call, value)
     }
 
     // The links of an object, where it is in the apartment that ends.
     fn end_links(
         &mut self,
-        objects: &Objects,
-        scene: &Scene,
-        acting: Actor,
-        outcome: &Option<Outcome>,
+        setting: &Setting<'_>,
         deed: &Deed,
         apartment: u32,
         object: u32,
@@ -290,18 +297,18 @@ impl Moves {
         requires { FitsDeed deed.now }
         ensures { OnOk result (self.new ≡ record self.old {
           lost = self.old.lost
-              ++ (if named_at objects.now.tables object == apartment
-              then all_moved (Some apartment) (links_stepped scene.now.tables (acting_of acting)
-              outcome.now deed.now object)
+              ++ (if named_at setting.now.objects object == apartment
+              then all_moved (Some apartment) (links_stepped setting.now.scene setting.now.acting
+              setting.now.outcome deed.now object)
               else []);
         }) }
     {
-        if objects.owner(object) != apartment {
+        if setting.objects.owner(object) != apartment {
             return Ok(());
         }
         self.lose_all(
             Some(apartment),
-            &links_after(scene, acting, outcome, deed, object),
+            &links_after(setting.scene, setting.acting, setting.outcome, deed, object),
         )
     }
 
@@ -318,175 +325,111 @@ impl Moves {
     }
 
     // A script loses all its slots.
-    fn empty_script(
-        &mut self,
-        home: Option<u32>,
-        scene: &Scene,
-        acting: Actor,
-        outcome: &Option<Outcome>,
-        deed: &Deed,
-        lane: u32,
-    ) -> Result<(), Memory>
+    fn empty_script(&mut self, setting: &Setting<'_>, deed: &Deed, lane: u32) -> Result<(), Memory>
         requires deed { FitsDeed deed.now }
-        requires outcome { IsWhole outcome.now }
+        requires outcome { IsWhole setting.now.outcome }
         ensures { OnOk result (self.new ≡ together self.old (record {
-          lost = all_moved home
-              (slots_stepped scene.now.tables (acting_of acting) outcome.now deed.now (Script lane));
+          lost = all_moved setting.now.home
+              (slots_stepped setting.now.scene setting.now.acting setting.now.outcome deed.now (Script lane));
           gained = [];
         })) }
     {
-        let slots = slots_after(scene, acting, outcome, deed, Actor::Script { lane });
-        self.lose_all(home, &slots)
+        let slots = slots_after(
+            setting.scene,
+            setting.acting,
+            setting.outcome,
+            deed,
+            Actor::Script { lane },
+        );
+        self.lose_all(setting.home, &slots)
     }
 
     // An object that ends loses its links.
-    fn finish(
-        &mut self,
-        objects: &Objects,
-        scene: &Scene,
-        acting: Actor,
-        outcome: &Option<Outcome>,
-        deed: &Deed,
-        object: u32,
-    ) -> Result<(), Memory>
+    fn finish(&mut self, setting: &Setting<'_>, deed: &Deed, object: u32) -> Result<(), Memory>
         requires { FitsDeed deed.now }
         ensures { OnOk result (self.new ≡ together self.old (record {
-          lost = all_moved (Some (named_at objects.now.tables object))
-              (links_stepped scene.now.tables (acting_of acting) outcome.now deed.now object);
+          lost = all_moved (Some (named_at setting.now.objects object))
+              (links_stepped setting.now.scene setting.now.acting setting.now.outcome deed.now object);
           gained = [];
         })) }
     {
         self.lose_all(
-            Some(objects.owner(object)),
-            &links_after(scene, acting, outcome, deed, object),
+            Some(setting.objects.owner(object)),
+            &links_after(setting.scene, setting.acting, setting.outcome, deed, object),
         )
     }
 
     // What the entry takes and brings beside the action.
-    fn arrive(
-        &mut self,
-        home: Option<u32>,
-        objects: &Objects,
-        calls: &Calls,
-        scene: &Scene,
-        acting: Actor,
-        outcome: &Option<Outcome>,
-        after: Actor,
-        lane: u32,
-        deed: &Deed,
-    ) -> Result<(), Memory>
+    fn arrive(&mut self, setting: &Setting<'_>, lane: u32, deed: &Deed) -> Result<(), Memory>
         requires deed { FitsDeed deed.now }
-        requires outcome { IsWhole outcome.now }
-        requires bodies { BodiesWhole scene.now.tables }
-        requires after { FrameWhole scene.now.tables (acting_of after) }
+        requires outcome { IsWhole setting.now.outcome }
+        requires bodies { BodiesWhole setting.now.scene }
+        requires after { FrameWhole setting.now.scene setting.now.after }
         ensures { OnOk result (self.new
-            ≡ together self.old (arrived_stepped (ground_at home objects.now.tables calls.now.tables)
-            scene.now.tables (acting_of acting) outcome.now (acting_of after) lane deed.now)) }
+            ≡ together self.old (arrived_stepped (ground_at setting.now.home setting.now.objects
+            setting.now.calls) setting.now.scene setting.now.acting setting.now.outcome setting.now.after
+            lane deed.now)) }
     {
         match deed {
-            Deed::Leave { call, value, .. } => self.leave(
-                calls, scene, acting, outcome, deed, *call, value,
-            ),
+            Deed::Leave { call, value, .. } => self.leave(setting, deed, *call, value),
             Deed::Enter {
                 apartment,
                 values,
                 ..
             } => self.enter(*apartment, values.as_slice()),
-            Deed::Back { call, value, .. } => {
-                let apartment = slots_where(home, calls, after);
-                self.give_back(
-                    apartment, calls, scene, acting, outcome, after, deed, *call, value,
-                )
-            }
-            Deed::Uninit { count: 0, .. } => self.empty_script(
-                home, scene, acting, outcome, deed, lane,
-            ),
-            Deed::Final { object } => self.finish(objects, scene, acting, outcome, deed, *object),
+            Deed::Back { call, value, .. } => self.come_back(setting, deed, *call, value),
+            Deed::Uninit { count: 0, .. } => self.empty_script(setting, deed, lane),
+            Deed::Final { object } => self.finish(setting, deed, *object),
             _ => Ok(()),
         }
     }
 
     // The end of an STA takes the links of all its objects.
-    fn end_sta(
-        &mut self,
-        objects: &Objects,
-        scene: &Scene,
-        acting: Actor,
-        outcome: &Option<Outcome>,
-        deed: &Deed,
-        apartment: u32,
-    ) -> Result<(), Memory>
+    fn end_sta(&mut self, setting: &Setting<'_>, deed: &Deed, apartment: u32) -> Result<(), Memory>
         requires { FitsDeed deed.now }
         ensures { OnOk result (self.new ≡ record self.old {
           lost = self.old.lost
-              ++ links_of_step (named_at objects.now.tables) scene.now.tables (acting_of acting)
-              outcome.now deed.now apartment
-              (one_to (length objects.now.tables.makings));
+              ++ links_of_step (named_at setting.now.objects) setting.now.scene setting.now.acting
+              setting.now.outcome deed.now apartment
+              (one_to (length setting.now.objects.makings));
         }) }
     {
-        let count = objects.len();
+        let count = setting.objects.len();
         for object in 0..count {
-            self.end_links(objects, scene, acting, outcome, deed, apartment, object + 1)?;
+            self.end_links(setting, deed, apartment, object + 1)?;
         }
         Ok(())
     }
 
     // What the end of an STA takes, where the entry ends one.
-    fn end(
-        &mut self,
-        home: Option<u32>,
-        objects: &Objects,
-        calls: &Calls,
-        scene: &Scene,
-        acting: Actor,
-        outcome: &Option<Outcome>,
-        deed: &Deed,
-    ) -> Result<(), Memory>
+    fn end(&mut self, setting: &Setting<'_>, deed: &Deed) -> Result<(), Memory>
         requires { FitsDeed deed.now }
         ensures { OnOk result (self.new
-            ≡ together self.old (ended_stepped (ground_at home objects.now.tables calls.now.tables)
-            scene.now.tables (acting_of acting) outcome.now deed.now (ends_sta deed.now))) }
+            ≡ together self.old (ended_stepped (ground_at setting.now.home setting.now.objects
+            setting.now.calls) setting.now.scene setting.now.acting setting.now.outcome deed.now
+            (ends_sta deed.now))) }
     {
         let Some(apartment) = ended_sta(deed) else {
             return Ok(());
         };
-        self.end_sta(objects, scene, acting, outcome, deed, apartment)
+        self.end_sta(setting, deed, apartment)
     }
 
     // All that an entry takes and brings.
     #[tactic(auto, using(crate::proofs::Lists::all_together))]
-    fn add_all(
-        &mut self,
-        home: Option<u32>,
-        objects: &Objects,
-        calls: &Calls,
-        scene: &Scene,
-        acting: Actor,
-        outcome: &Option<Outcome>,
-        after: Actor,
-        entry: &Entry,
-    ) -> Result<(), Memory>
+    fn add_all(&mut self, setting: &Setting<'_>, entry: &Entry) -> Result<(), Memory>
         requires deed { FitsDeed entry.now.deed }
-        requires outcome { IsWhole outcome.now }
-        requires bodies { BodiesWhole scene.now.tables }
-        requires after { FrameWhole scene.now.tables (acting_of after) }
+        requires outcome { IsWhole setting.now.outcome }
+        requires bodies { BodiesWhole setting.now.scene }
+        requires after { FrameWhole setting.now.scene setting.now.after }
         ensures { OnOk result (self.new
-            ≡ together self.old (moves_stepped (ground_at home objects.now.tables calls.now.tables)
-            scene.now.tables (acting_of acting) outcome.now (acting_of after) entry.now)) }
+            ≡ together self.old (moves_stepped (ground_at setting.now.home setting.now.objects
+            setting.now.calls) setting.now.scene setting.now.acting setting.now.outcome setting.now.after
+            entry.now)) }
     {
-        self.act(home, objects, calls, acting, outcome, &entry.deed)?;
-        self.arrive(
-            home,
-            objects,
-            calls,
-            scene,
-            acting,
-            outcome,
-            after,
-            entry.lane,
-            &entry.deed,
-        )?;
-        self.end(home, objects, calls, scene, acting, outcome, &entry.deed)
+        self.act(setting, &entry.deed)?;
+        self.arrive(setting, entry.lane, &entry.deed)?;
+        self.end(setting, &entry.deed)
     }
 
     /// Fills the lists anew with all that an entry takes from places and brings to them, by the tables before
@@ -512,8 +455,17 @@ impl Moves {
             scene.now.tables (acting_of acting) outcome.now (acting_of after) entry.now) }
         ensures err { OnErr result (self.new ≡ no_moves) }
     {
+        let setting = Setting {
+            home,
+            objects,
+            calls,
+            scene,
+            acting,
+            outcome,
+            after,
+        };
         self.clear();
-        match self.add_all(home, objects, calls, scene, acting, outcome, after, entry) {
+        match self.add_all(&setting, entry) {
             Ok(()) => Ok(()),
             Err(memory) => {
                 self.clear();

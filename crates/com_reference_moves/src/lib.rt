@@ -4,6 +4,7 @@
 mod fill;
 mod laws;
 mod moves;
+mod setting;
 mod steps;
 mod written;
 
