@@ -1,4 +1,4 @@
 mod Streams
 mod Sendings
 mod Previewing
-mod Receivings
+pub mod Receivings

@@ -5,6 +5,7 @@ use Rattle.std.proofs.Math.Seq.{drop-cons}
 use Rattle.std.proofs.Math.ListN.{drop_of_length-le}
 use Rattle.com_base.specs.declared.guid.Guid.{Guid}
 use Rattle.com_base.specs.declared.standard.StdFields.{StdFields}
+use Rattle.com_base.specs.declared.value.Kind.{Kind}
 use Rattle.com_base.specs.declared.value.RefValue.{RefValue}
 use Rattle.com_base.specs.declared.value.Value.{Value}
 use Rattle.com_base.specs.declared.value.Value.TheVariants as value
@@ -17,10 +18,10 @@ use Rattle.ndr_args.specs.declared.wire.ArgFault.{ArgFault}
 use Rattle.ndr_args.specs.Reading.{args_of}
 use Rattle.ndr_args.specs.Written.{written_args}
 use Rattle.ndr_args.proofs.Streams.{args_written, of_again}
-use Rattle.com_model.specs.Values.{carried, wires, cause_guid}
+use Rattle.com_model.specs.Values.{carried, wires, cause_guid, request_bytes}
 use Rattle.com_exchange.specs.declared.receiving.Request.{Request}
 use Rattle.com_exchange.specs.declared.receiving.RequestError.{RequestError}
-use Rattle.com_exchange.specs.Received.{reference_in_fields, packet_in_fields, value_in, packet_in, values_in, packets_in, with_wires, with_header, SentIsReceived}
+use Rattle.com_exchange.specs.Received.{reference_in_fields, packet_in_fields, value_in, packet_in, values_in, packets_in, with_wires, with_header, Sendable, SentIsReceived}
 
 -- ---- the loops
 
@@ -65,7 +66,7 @@ nothing_behind bytes n short = sym (drop_of_length-le bytes (omega arith))
 
 -- ---- what travels comes back
 
-values_back : (vs : List Value) (fs : List StdFields) → map reference_in_fields fs ≡ carried vs → values_in (wires vs fs) ≡ vs
+pub values_back : (vs : List Value) (fs : List StdFields) → map reference_in_fields fs ≡ carried vs → values_in (wires vs fs) ≡ vs
 values_back [] fs named = refl
 values_back (value.Int n ∷ vs) fs named = ap (λ (l : List Value). value.Int n ∷ l) (values_back vs fs named)
 values_back (value.Bool b ∷ vs) fs named = ap (λ (l : List Value). value.Bool b ∷ l) (values_back vs fs named)
@@ -80,7 +81,7 @@ values_back (value.Ref (Some r) ∷ vs) (f ∷ fs) named =
     ap (λ (x : RefValue). value.Ref (Some x) ∷ values_in (wires vs fs)) here
     ∙ ap (λ (l : List Value). value.Ref (Some r) ∷ l) (values_back vs fs rest)
 
-packets_back : (vs : List Value) (fs : List StdFields) → map reference_in_fields fs ≡ carried vs
+pub packets_back : (vs : List Value) (fs : List StdFields) → map reference_in_fields fs ≡ carried vs
     → packets_in (wires vs fs) ≡ map packet_in_fields fs
 packets_back [] [] named = refl
 packets_back [] (f ∷ fs) named = absurd (cc)
@@ -115,8 +116,19 @@ drop_front : (a b : List ℕ) → drop (length a) (a ++ b) ≡ b
 drop_front [] b = refl
 drop_front (x ∷ a) b = drop_front a b
 
-behind : (a b : List ℕ) (n : ℕ) → length a ≡ n → drop n (a ++ b) ≡ b
+pub behind : (a b : List ℕ) (n : ℕ) → length a ≡ n → drop n (a ++ b) ≡ b
 behind a b n is = ap (λ (k : ℕ). drop k (a ++ b)) (sym is) ∙ drop_front a b
+
+-- Behind the header the values are read as they travelled.
+pub wires_again : (k : ℕ) (kinds : List Kind) (vs : List Value) (fs : List StdFields) → Sendable k kinds vs fs
+    → args_of kinds (drop 32 (request_bytes k vs fs)) ≡ Ok (wires vs fs)
+wires_again k kinds vs fs can =
+    let fits : IsGuid (cause_guid k) = cause_fits k can.short in
+    let header : List ℕ = this_text (this_of (cause_guid k)) in
+    let rest : List ℕ = written_args (wires vs fs) in
+    let body : drop 32 (header ++ rest) ≡ rest = behind header rest 32 (length-this (this_of (cause_guid k)) (this_fits (cause_guid k) fits)) in
+    ap (args_of kinds) body
+    ∙ of_again kinds (wires vs fs) rest (args_written kinds (wires vs fs) 0 0x20000 can.sendable can.in_range (omega arith) can.few)
 
 pub again : SentIsReceived
 again k kinds vs fs can =
@@ -125,13 +137,9 @@ again k kinds vs fs can =
     let rest : List ℕ = written_args (wires vs fs) in
     let cause : request_of (header ++ rest) ≡ Ok (cause_guid k) =
     request_again (header ++ rest) (this_of (cause_guid k)) rest (this_fits (cause_guid k) fits) refl in
-    let body : drop 32 (header ++ rest) ≡ rest = behind header rest 32 (length-this (this_of (cause_guid k)) (this_fits (cause_guid k) fits)) in
-    let read : args_of kinds rest ≡ Ok (wires vs fs) =
-    of_again kinds (wires vs fs) rest (args_written kinds (wires vs fs) 0 0x20000 can.sendable can.in_range (omega arith) can.few) in
     let said : List Value → List ℕ → Result Request RequestError =
     λ values packets. Ok (record { cause = cause_guid k; values = values; packets = packets }) in
     ap (λ (r : Result Guid OrpcFault). with_header kinds (drop 32 (header ++ rest)) r) cause
-    ∙ ap (λ (bytes : List ℕ). with_wires (cause_guid k) (args_of kinds bytes)) body
-    ∙ ap (λ (r : Result (List Wire) ArgFault). with_wires (cause_guid k) r) read
+    ∙ ap (λ (r : Result (List Wire) ArgFault). with_wires (cause_guid k) r) (wires_again k kinds vs fs can)
     ∙ ap (λ (values : List Value). said values (packets_in (wires vs fs))) (values_back vs fs can.named)
     ∙ ap (λ (packets : List ℕ). said vs packets) (packets_back vs fs can.named)

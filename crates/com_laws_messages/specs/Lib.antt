@@ -1,0 +1,4 @@
+pub mod Messages
+pub mod Replies
+pub mod Carried
+pub mod Broken
