@@ -10,14 +10,14 @@
 
 ghost use Rattle.std.specs.Prelude.{◌≡◌, ◌+◌, ◌<◌, ◌≤◌, ◌^◌, ◌↔◌, ◌&&◌, ◌||◌, ◌==◌, ℕ, Bool, true};
 ghost use Rattle.std.specs.Prelude.{false, not, [], length, OnOk, OnErr, IfOk, IsOk, IsTrue, Err, Some};
-ghost use Rattle.std.specs.Prelude.{None, IfSome, IfNone, IsSomeAnd, sum_by, if◌then◌else◌};
+ghost use Rattle.std.specs.Prelude.{None, IfSome, IfNone, IsSomeAnd, option_copied, sum_by, if◌then◌else◌};
 ghost use Rattle.std.specs.Int.{from_le_bytes, w64};
 ghost use Rattle.com_stub.specs.StubRows.{is_connected};
 ghost use Rattle.com_slots.specs.Table.{held_in};
 ghost use Rattle.com_proxy.specs.Rows.{IsFree, local_of};
 ghost use Rattle.com_refs_holders.specs.Tables.{Tables, books_of, owns_of, owners_of, is_owned, object_in};
-ghost use Rattle.com_refs_holders.specs.Tables.{direct_in, offers, outstanding_in};
-ghost use Rattle.com_refs_holders.specs.Steps.{made_live, among};
+ghost use Rattle.com_refs_holders.specs.Tables.{direct_in, offers, outstanding_in, owner_in};
+ghost use Rattle.com_refs_holders.specs.Steps.{among};
 ghost use Rattle.com_refs_holders.specs.Places.{Counts, OneMore, OneLess, SamePlaces, places_in};
 ghost use Rattle.com_refs_books.specs.Counting.{count_if, sum_below};
 ghost use Rattle.com_refs_holders.specs.Stands.{Tells};
@@ -26,6 +26,7 @@ ghost use Rattle.com_refs_books.specs.Changes.{Asks, Marshals, Unmarshals, Drops
 ghost use Rattle.com_refs_books.specs.Changes.{in_normal, in_table, in_cookie};
 ghost use Rattle.com_refs_books.specs.Ends.{ends};
 ghost use Rattle.com_refs.specs.Counts.{hold_of, hold_less, hold_more, holders_of, unheld};
+ghost use Rattle.com_refs.specs.Makes.{IsMade};
 ghost use Rattle.com_refs.specs.Found.{IsFound, fields_by, shown_packet};
 ghost use Rattle.com_refs.specs.Numbers.{Within};
 ghost use Rattle.com_refs.specs.Totals.{Totals};
@@ -48,7 +49,7 @@ pub use com_refs_holders::HoldersError as RefsError;
 /// The numbers of a report for an object: its direct places, and the public references of proxies, of normal
 /// packets, of strong packets and cookies, and of the stub, which is the sum of the three before it.
 #[derive(Debug, Clone, Copy, PartialEq, Eq)]
-pub struct Numbers {
+pub struct RefCounts {
     /// The places in apartments that own the object.
     pub direct: u64,
     /// The public references that the proxies of all apartments hold.
@@ -59,6 +60,21 @@ pub struct Numbers {
     pub tables: u64,
     /// The public references that the stub counts: the three before it, added.
     pub stub: u64,
+}
+
+/// A new object, and who holds it first.
+#[derive(Debug, Clone, Copy)]
+pub struct NewObject {
+    /// Its number, which is the next one.
+    pub object: u32,
+    /// The apartment that owns it; 0 where every apartment does.
+    pub owner: u32,
+    /// Whether every apartment owns it.
+    pub agile: bool,
+    /// The apartment that has the first place for it.
+    pub apartment: u32,
+    /// The interface of the reference in that place.
+    pub iface: u16,
 }
 
 /// The references of all objects, seen as the tables of their holders. Beside, the holders of each object
@@ -210,8 +226,8 @@ fn number_in(bytes: [u8; 8], most: u32) -> Option<u32>
 }
 
 // The row of a packet in the books.
-fn packet_row(packet: Option<Packet>) -> PacketRow
-    ensures { result ≡ shown_packet packet }
+fn packet_row(packet: Option<&Packet>) -> PacketRow
+    ensures { result ≡ shown_packet (option_copied packet.entry) }
 {
     match packet {
         None => NO_PACKET,
@@ -340,13 +356,13 @@ impl Refs {
     }
 
     /// An object of the owner's is made, the next by its number, and the apartment has a place for it by an
-    /// interface of its set. Every apartment owns an agile object. The only error is want of memory, and then
-    /// nothing changed; it does not come where there is room for a call.
+    /// interface of its set, of at most 17. In the owner's apartment the place is a direct one; elsewhere a
+    /// proxy has it, with 5 public references. The only error is want of memory, and then nothing changed; it
+    /// does not come where there is room for a call. Source: Essential COM, chapter 5, on stubs.
     pub fn made(
         &mut self,
         object: u32,
         owner: u32,
-        agile: bool,
         apartment: u32,
         iface: u16,
         set: &[u16],
@@ -355,71 +371,93 @@ impl Refs {
         requires small { length set.now ≤ 17 }
         requires within { among iface set.now ≡ true }
         requires few { self.old.issued + 1 < 2 ^ 28 }
-        ensures row { OnOk result (books_of self.new
-            ≡ changed (made_live object (books_of self.old)) (change (owns_of self.new.objects)
-            (made_live object (books_of self.old)) (Makes apartment object iface))) }
-        ensures owns { OnOk result ((x c : ℕ) → x ≤ length self.old.objects
-            → owns_of self.new.objects x c ≡ owns_of self.old.objects x c) }
-        ensures whose { OnOk result ((x c : ℕ) → owns_of self.new.objects x c ≡ (if x == object
-            then agile || owner == c else owns_of self.old.objects x c)) }
-        ensures made { OnOk result (length self.new.objects ≡ length self.old.objects + 1) }
-        ensures direct { OnOk result ((x : ℕ)
-            → direct_in self.new x ≡ direct_in self.old x + count_if
-            (owns_of self.new.objects object apartment && x == object)) }
-        ensures elsewhere { OnOk result ((c x : ℕ)
-            → places_in self.new c x ≡ places_in self.old c x + count_if (not
-            (owns_of self.new.objects object apartment) && (c == apartment && x == object))) }
-        ensures offers { OnOk result ((x j : ℕ)
-            → offers self.new x j ≡ (offers self.old x j || (x == object && among j set.now))) }
-        ensures issued { OnOk result (self.new.issued ≡ self.old.issued + 2) }
+        ensures made { OnOk result (IsMade self.old self.new
+            (record { object = object; owner = owner; agile = false; apartment = apartment; iface = iface })
+            set.now) }
+        ensures err { OnErr result (self.new ≡ self.old) }
+        ensures room { 0 < self.old.spare → IsOk result }
+        ensures spare { self.old.spare ≤ self.new.spare + 1 }
+    {
+        let making = NewObject {
+            object,
+            owner,
+            agile: false,
+            apartment,
+            iface,
+        };
+        self.make_object(making, set)
+    }
+
+    /// An object that every apartment owns is made, the next by its number, and the apartment has a direct
+    /// place for it. Its owner reads as the apartment 0. The only error is want of memory, and then nothing
+    /// changed; it does not come where there is room for a call. Source: the documentation of
+    /// CoCreateFreeThreadedMarshaler.
+    pub fn made_agile(
+        &mut self,
+        object: u32,
+        apartment: u32,
+        iface: u16,
+        set: &[u16],
+    ) -> Result<(), Memory>
+        requires new { object ≡ length self.old.objects + 1 }
+        requires small { length set.now ≤ 17 }
+        requires within { among iface set.now ≡ true }
+        requires few { self.old.issued + 1 < 2 ^ 28 }
+        ensures made { OnOk result (IsMade self.old self.new
+            (record { object = object; owner = 0; agile = true; apartment = apartment; iface = iface })
+            set.now) }
+        ensures err { OnErr result (self.new ≡ self.old) }
+        ensures room { 0 < self.old.spare → IsOk result }
+        ensures spare { self.old.spare ≤ self.new.spare + 1 }
+    {
+        let making = NewObject {
+            object,
+            owner: 0,
+            agile: true,
+            apartment,
+            iface,
+        };
+        self.make_object(making, set)
+    }
+
+    /// An object is made, as `made` and `made_agile` say of one that an apartment owns and of one that every
+    /// apartment owns.
+    pub fn make_object(&mut self, making: NewObject, set: &[u16]) -> Result<(), Memory>
+        requires new { making.object ≡ length self.old.objects + 1 }
+        requires small { length set.now ≤ 17 }
+        requires within { among making.iface set.now ≡ true }
+        requires few { self.old.issued + 1 < 2 ^ 28 }
+        ensures made { OnOk result (IsMade self.old self.new making set.now) }
         ensures err { OnErr result (self.new ≡ self.old) }
         ensures room { 0 < self.old.spare → IsOk result }
         ensures spare { self.old.spare ≤ self.new.spare + 1 }
     {
         self.reserve(1)?;
-        self.hold_made(object, owner, agile, apartment, iface, set);
+        self.hold_made(making, set);
         Ok(())
     }
 
     // Books the object as made, where there is room for its row.
-    fn hold_made(
-        &mut self,
-        object: u32,
-        owner: u32,
-        agile: bool,
-        apartment: u32,
-        iface: u16,
-        set: &[u16],
-    )
-        requires new { object ≡ length self.old.objects + 1 }
+    fn hold_made(&mut self, making: NewObject, set: &[u16])
+        requires new { making.object ≡ length self.old.objects + 1 }
         requires small { length set.now ≤ 17 }
-        requires within { among iface set.now ≡ true }
+        requires within { among making.iface set.now ≡ true }
         requires few { self.old.issued + 1 < 2 ^ 28 }
         requires room { 0 < self.old.spare }
-        ensures row { books_of self.new
-            ≡ changed (made_live object (books_of self.old)) (change (owns_of self.new.objects)
-            (made_live object (books_of self.old)) (Makes apartment object iface)) }
-        ensures owns { (x c : ℕ) → x ≤ length self.old.objects
-            → owns_of self.new.objects x c ≡ owns_of self.old.objects x c }
-        ensures whose { (x c : ℕ) → owns_of self.new.objects x c ≡ (if x == object
-            then agile || owner == c else owns_of self.old.objects x c) }
-        ensures made { length self.new.objects ≡ length self.old.objects + 1 }
-        ensures direct { (x : ℕ) → direct_in self.new x
-            ≡ direct_in self.old x + count_if (owns_of self.new.objects object apartment && x == object) }
-        ensures elsewhere { (c x : ℕ)
-            → places_in self.new c x ≡ places_in self.old c x + count_if (not
-            (owns_of self.new.objects object apartment) && (c == apartment && x == object)) }
-        ensures offers { (x j : ℕ) → offers self.new x j
-            ≡ (offers self.old x j || (x == object && among j set.now)) }
-        ensures issued { self.new.issued ≡ self.old.issued + 2 }
+        ensures made { IsMade self.old self.new making set.now }
         ensures spare { self.old.spare ≤ self.new.spare + 1 }
     {
         self.holders.stands();
-        self.holders
-            .make_object(owner, agile, set, apartment, iface);
+        self.holders.make_object(
+            making.owner,
+            making.agile,
+            set,
+            making.apartment,
+            making.iface,
+        );
         self.holds.push_reserved(0);
-        let is_owned = self.holders.owns(object, apartment);
-        gain_hold(&mut self.holds, object, !is_owned);
+        let is_owned = self.holders.owns(making.object, making.apartment);
+        gain_hold(&mut self.holds, making.object, !is_owned);
     }
 
     /// One place less, to the end of its entry. True exactly where nothing holds the object then.
@@ -786,6 +824,24 @@ impl Refs {
         self.holders.direct(object)
     }
 
+    /// The apartment that owns the object; 0 of one that every apartment owns. `None` exactly where the object
+    /// was not made.
+    pub fn owner(&self, object: u32) -> Option<u32>
+        ensures { result ≡ owner_in self.now.objects object }
+    {
+        if !self.holders.is_made(object) {
+            return None;
+        }
+        Some(self.holders.owner(object))
+    }
+
+    /// Every apartment owns the object. True exactly where it was made so.
+    pub fn agile(&self, object: u32) -> bool
+        ensures { result ≡ (object_in self.now.objects object).agile }
+    {
+        self.holders.is_agile(object)
+    }
+
     /// The apartment owns the object: every apartment owns an agile one.
     pub fn owns(&self, object: u32, apartment: u32) -> bool
         ensures { result ≡ owns_of self.now.objects object apartment }
@@ -829,9 +885,11 @@ impl Refs {
         self.holders.direct(object) > 0 || self.holders.is_connected(object)
     }
 
-    /// The packet of a number, if it is outstanding.
-    pub fn packet(&self, number: u32) -> Option<Packet>
-        ensures { result ≡ outstanding_in (is_connected self.now.stubs) self.now.packets number }
+    /// The outstanding packet of a number. `None` exactly where none is outstanding under it: it was never
+    /// made, or it has ended, or its object is not connected.
+    pub fn packet(&self, number: u32) -> Option<&Packet>
+        ensures { option_copied result
+            ≡ outstanding_in (is_connected self.now.stubs) self.now.packets number }
     {
         self.holders.packet(number)
     }
@@ -909,7 +967,7 @@ impl Refs {
     }
 
     /// The numbers of a report for an object. It looks at all that ever held it.
-    pub fn numbers(&self, object: u32) -> Numbers
+    pub fn counts(&self, object: u32) -> RefCounts
         ensures direct { result.direct ≡ direct_in self.now object }
         ensures proxies { (n m : ℕ) → Within n m self.now
             → result.proxies ≡ sum_below n (λ a. sum_below m ((books_of self.now).proxy a object)) }
@@ -922,7 +980,7 @@ impl Refs {
     {
         let direct = self.holders.direct(object);
         if !self.holders.is_connected(object) {
-            return Numbers {
+            return RefCounts {
                 direct,
                 proxies: 0,
                 packets: 0,
@@ -930,12 +988,12 @@ impl Refs {
                 stub: 0,
             };
         }
-        self.numbers_of_connected(object, direct)
+        self.counts_of_connected(object, direct)
     }
 
     // The numbers of a connected object: what proxies and normal packets leave of the stub's count is that of
     // the tables.
-    fn numbers_of_connected(&self, object: u32, direct: u64) -> Numbers
+    fn counts_of_connected(&self, object: u32, direct: u64) -> RefCounts
         requires connected { is_connected self.now.stubs object ≡ true }
         ensures direct { result.direct ≡ direct }
         ensures proxies { (n m : ℕ) → Within n m self.now
@@ -951,7 +1009,7 @@ impl Refs {
         let proxies = self.holders.proxy_references(object);
         let packets = self.holders.packet_references(object);
         let stub = self.holders.stub_references(object);
-        Numbers {
+        RefCounts {
             direct,
             proxies,
             packets,

@@ -1,6 +1,6 @@
 -- What contracts see of a `Holders`, and its reading as books.
 use Rattle.std.specs.Prelude.{ℕ, zero, suc, ◌+◌, ◌-◌, Bool, true, false, ◌==◌, ◌&&◌, ◌||◌, if◌then◌else◌}
-use Rattle.std.specs.Prelude.{List, [], map, length, nat_lt, slice_index, Option, Some, None, slice_index_or}
+use Rattle.std.specs.Prelude.{List, [], map, length, nat_lt, nat_le, slice_index, Option, Some, None, slice_index_or}
 use Rattle.com_base.specs.declared.value.RefValue.{RefValue}
 use Rattle.com_packets.specs.declared.Packet as P
 use Rattle.com_proxy.specs.declared.ProxyRow.{ProxyRow}
@@ -46,6 +46,18 @@ no_object = record { owner = 0; agile = false; direct = 0 }
 abbrev pub object_in : List ObjectRow → ℕ → ObjectRow
 object_in rows zero = no_object
 object_in rows (suc place) = slice_index_or rows place no_object
+
+-- The object was made: objects are numbered from 1 on, in the order in which they are made.
+abbrev pub is_made : List ObjectRow → ℕ → Bool
+is_made rows o = nat_lt 0 o && nat_le o (length rows)
+
+-- An object as it was made: its owner, and whether every apartment owns it.
+abbrev pub made_in : List ObjectRow → ℕ → ObjectRow
+made_in rows o = record (object_in rows o) { direct = 0 }
+
+-- The owner of an object that was made; 0 of one that every apartment owns.
+abbrev pub owner_in : List ObjectRow → ℕ → Option ℕ
+owner_in rows o = if is_made rows o then Some (object_in rows o).owner else None
 
 -- The direct places of an object: those in apartments that own it.
 abbrev pub direct_in : Tables → ℕ → ℕ

@@ -14,14 +14,14 @@ ghost use Rattle.com_stub.specs.CounterRows.{opened_all, EachFirst};
 ghost use Rattle.com_stub.specs.StubRows.{is_connected, has_stub};
 ghost use Rattle.com_slots.specs.Table.{held_in};
 ghost use Rattle.com_proxy.specs.Rows.{public_of, local_of, changed_row, gaining};
-ghost use Rattle.std.specs.Prelude.{IfNone, IfSome};
+ghost use Rattle.std.specs.Prelude.{IfNone, IfSome, option_copied};
 ghost use Rattle.com_proxy.specs.Rows.{public_sum, IsFree};
 ghost use Rattle.com_packets.specs.Sums.{normal_sum};
 ghost use Rattle.com_refs_books.specs.Changes.{changed, change, cut, packet, cookie, Takes, Asks};
 ghost use Rattle.com_refs_books.specs.Changes.{Marshals, Unmarshals, ToProxy, ToCookie};
 ghost use Rattle.com_refs_books.specs.Changes.{Join, Return, Withdraw, given_back};
 ghost use Rattle.com_refs_holders.specs.Tables.{is_owned, books_of, owns_of, owners_of, object_in};
-ghost use Rattle.com_refs_holders.specs.Tables.{direct_less, direct_more, outstanding_in, offers};
+ghost use Rattle.com_refs_holders.specs.Tables.{direct_less, direct_more, outstanding_in, is_made, offers};
 ghost use Rattle.com_refs_holders.specs.Places.{OneMore, OneLess, SamePlaces, places_in, distinct};
 ghost use Rattle.com_refs_holders.specs.Stands.{Gave, Released, Tells, Known, Bounded, IsEven};
 ghost use Rattle.com_refs_holders.specs.Makes.{MadeWithPlace};
@@ -287,8 +287,9 @@ fn is_normal(mode: MarshalMode) -> bool
 
 // The packet of a number, if it is outstanding.
 #[tactic(auto, unfolding(crate::specs::Tables::outstanding_in))]
-fn outstanding(packets: &Packets, stubs: &Stubs, number: u32) -> Option<Packet>
-    ensures { result ≡ outstanding_in (is_connected stubs.now.stubs) packets.now.entries number }
+fn outstanding<'a>(packets: &'a Packets, stubs: &Stubs, number: u32) -> Option<&'a Packet>
+    ensures { option_copied result
+        ≡ outstanding_in (is_connected stubs.now.stubs) packets.now.entries number }
 {
     let Some(packet) = packets.get(number) else {
         return None;
@@ -296,7 +297,7 @@ fn outstanding(packets: &Packets, stubs: &Stubs, number: u32) -> Option<Packet>
     if !stubs.is_connected(packet.object) {
         return None;
     }
-    Some(*packet)
+    Some(packet)
 }
 
 // One local reference and so many public ones more, where there is room.
@@ -901,7 +902,21 @@ impl Holders {
         object_at(&self.objects, object).direct
     }
 
-    /// The owner of the object.
+    /// The object was made.
+    pub fn is_made(&self, object: u32) -> bool
+        ensures { result ≡ is_made self.now.objects object }
+    {
+        object > 0 && object <= self.objects()
+    }
+
+    /// Every apartment owns the object.
+    pub fn is_agile(&self, object: u32) -> bool
+        ensures { result ≡ (object_in self.now.objects object).agile }
+    {
+        object_at(&self.objects, object).agile
+    }
+
+    /// The owner of the object; 0 where it was not made, or every apartment owns it.
     pub fn owner(&self, object: u32) -> u32
         ensures { result ≡ (object_in self.now.objects object).owner }
     {
@@ -952,8 +967,9 @@ impl Holders {
     }
 
     /// The packet of a number, if it is outstanding.
-    pub fn packet(&self, number: u32) -> Option<Packet>
-        ensures { result ≡ outstanding_in (is_connected self.now.stubs) self.now.packets number }
+    pub fn packet(&self, number: u32) -> Option<&Packet>
+        ensures { option_copied result
+            ≡ outstanding_in (is_connected self.now.stubs) self.now.packets number }
     {
         outstanding(&self.packets, &self.stubs, number)
     }
@@ -1130,7 +1146,7 @@ impl Holders {
         ensures err { OnErr result (self.new ≡ self.old) }
         ensures spare { self.new.spare ≡ self.old.spare }
     {
-        let Some(packet) = self.packet(number) else {
+        let Some(packet) = self.packet(number).copied() else {
             return Err(HoldersError::Unknown);
         };
         self.end_packet(number, packet);
@@ -1318,7 +1334,7 @@ impl Holders {
         ensures most { self.new.spare ≤ self.old.spare }
         ensures spare { self.old.spare ≤ self.new.spare + 1 }
     {
-        let Some(packet) = self.packet(number) else {
+        let Some(packet) = self.packet(number).copied() else {
             return Err(HoldersError::Unknown);
         };
         if self.owns(packet.object, apartment) {

@@ -11,7 +11,7 @@ use crate::rows::{bring, unproved_fact};
 use com_base::{Memory, RefValue};
 use com_classes::{Class, Classes, is_agile};
 use com_reference_moves::Move;
-use com_refs::Refs;
+use com_refs::{NewObject, Refs};
 
 // The interfaces of a class: IUnknown, and those of its list.
 fn fill_set(set: &mut Vec<u16>, class: &Class) -> Result<(), Memory>
@@ -76,14 +76,14 @@ pub fn make(
         return Err(unproved_fact());
     }
     refs.tells();
-    refs.made(
-        held.object,
+    let making = NewObject {
+        object: held.object,
         owner,
-        are_agile(class),
+        agile: are_agile(class),
         apartment,
-        held.iface,
-        set.as_slice(),
-    )?;
+        iface: held.iface,
+    };
+    refs.make_object(making, set.as_slice())?;
     refs.tells();
     bring(brought, apartment, held);
     Ok(())
