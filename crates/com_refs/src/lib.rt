@@ -43,6 +43,10 @@ pub use com_refs_books::Cookie;
 pub use com_refs_books::Packet as PacketRow;
 /// Want of memory.
 pub use com_base::Memory;
+/// How many references may be given, of all objects together.
+pub use com_refs_holders::MOST_GIVEN;
+/// How many interfaces an object may have.
+pub use com_stub::MOST_INTERFACES;
 /// Why a call changed nothing.
 pub use com_refs_holders::HoldersError as RefsError;
 
@@ -356,7 +360,7 @@ impl Refs {
     }
 
     /// An object of the owner's is made, the next by its number, and the apartment has a place for it by an
-    /// interface of its set, of at most 17. In the owner's apartment the place is a direct one; elsewhere a
+    /// interface of its set, of at most `MOST_INTERFACES`. In the owner's apartment the place is a direct one; elsewhere a
     /// proxy has it, with 5 public references. The only error is want of memory, and then nothing changed; it
     /// does not come where there is room for a call. Source: Essential COM, chapter 5, on stubs.
     pub fn made(
@@ -368,9 +372,9 @@ impl Refs {
         set: &[u16],
     ) -> Result<(), Memory>
         requires new { object ≡ length self.old.objects + 1 }
-        requires small { length set.now ≤ 17 }
+        requires small { length set.now ≤ MOST_INTERFACES }
         requires within { among iface set.now ≡ true }
-        requires few { self.old.issued + 1 < 2 ^ 28 }
+        requires few { self.old.issued + 1 < MOST_GIVEN }
         ensures made { OnOk result (IsMade self.old self.new
             (record { object = object; owner = owner; agile = false; apartment = apartment; iface = iface })
             set.now) }
@@ -400,9 +404,9 @@ impl Refs {
         set: &[u16],
     ) -> Result<(), Memory>
         requires new { object ≡ length self.old.objects + 1 }
-        requires small { length set.now ≤ 17 }
+        requires small { length set.now ≤ MOST_INTERFACES }
         requires within { among iface set.now ≡ true }
-        requires few { self.old.issued + 1 < 2 ^ 28 }
+        requires few { self.old.issued + 1 < MOST_GIVEN }
         ensures made { OnOk result (IsMade self.old self.new
             (record { object = object; owner = 0; agile = true; apartment = apartment; iface = iface })
             set.now) }
@@ -424,9 +428,9 @@ impl Refs {
     /// apartment owns.
     pub fn make_object(&mut self, making: NewObject, set: &[u16]) -> Result<(), Memory>
         requires new { making.object ≡ length self.old.objects + 1 }
-        requires small { length set.now ≤ 17 }
+        requires small { length set.now ≤ MOST_INTERFACES }
         requires within { among making.iface set.now ≡ true }
-        requires few { self.old.issued + 1 < 2 ^ 28 }
+        requires few { self.old.issued + 1 < MOST_GIVEN }
         ensures made { OnOk result (IsMade self.old self.new making set.now) }
         ensures err { OnErr result (self.new ≡ self.old) }
         ensures room { 0 < self.old.spare → IsOk result }
@@ -440,9 +444,9 @@ impl Refs {
     // Books the object as made, where there is room for its row.
     fn hold_made(&mut self, making: NewObject, set: &[u16])
         requires new { making.object ≡ length self.old.objects + 1 }
-        requires small { length set.now ≤ 17 }
+        requires small { length set.now ≤ MOST_INTERFACES }
         requires within { among making.iface set.now ≡ true }
-        requires few { self.old.issued + 1 < 2 ^ 28 }
+        requires few { self.old.issued + 1 < MOST_GIVEN }
         requires room { 0 < self.old.spare }
         ensures made { IsMade self.old self.new making set.now }
         ensures spare { self.old.spare ≤ self.new.spare + 1 }
@@ -489,7 +493,7 @@ impl Refs {
         requires direct { owns_of self.old.objects held.object apartment ≡ true
             → 0 < (object_in self.old.objects held.object).direct }
         requires known { offers self.old held.object held.iface ≡ true }
-        requires few { self.old.issued < 2 ^ 28 }
+        requires few { self.old.issued < MOST_GIVEN }
         ensures books { books_of self.new ≡ books_of self.old }
         ensures places { OneMore self.old self.new apartment held.object
             (owns_of self.old.objects held.object apartment) }
@@ -538,7 +542,7 @@ impl Refs {
     /// want of memory.
     pub fn share(&mut self, apartment: u32, held: RefValue) -> Result<(), Memory>
         requires known { offers self.old held.object held.iface ≡ true }
-        requires few { self.old.issued < 2 ^ 28 }
+        requires few { self.old.issued < MOST_GIVEN }
         ensures books { books_of self.new ≡ books_of self.old }
         ensures places { OnOk result (OneMore self.old self.new apartment held.object
             (owns_of self.old.objects held.object apartment)) }
@@ -569,7 +573,7 @@ impl Refs {
         mode: MarshalMode,
     ) -> Result<u32, RefsError>
         requires known { offers self.old held.object held.iface ≡ true }
-        requires few { self.old.issued < 2 ^ 28 }
+        requires few { self.old.issued < MOST_GIVEN }
         ensures not_connected { (result
             ≡ Err RefsError.NotConnected) ↔ (is_connected self.old.stubs held.object ≡ false) }
         ensures number { IfOk result (λ number. number ≡ length self.old.packets + 1) }
@@ -598,7 +602,7 @@ impl Refs {
     /// connected. Source: IGlobalInterfaceTable::RegisterInterfaceInGlobal.
     pub fn register(&mut self, held: RefValue) -> Result<u32, RefsError>
         requires known { offers self.old held.object held.iface ≡ true }
-        requires few { self.old.issued < 2 ^ 28 }
+        requires few { self.old.issued < MOST_GIVEN }
         ensures not_connected { (result
             ≡ Err RefsError.NotConnected) ↔ (is_connected self.old.stubs held.object ≡ false) }
         ensures cookie { IfOk result (λ cookie. cookie ≡ length self.old.cookies + 1) }
@@ -626,7 +630,7 @@ impl Refs {
     /// where the apartment does not own the object, which is not connected; else `NoInterface` exactly where
     /// the interface is not in its set.
     pub fn query(&mut self, apartment: u32, object: u32, iface: u16) -> Result<(), RefsError>
-        requires few { self.old.issued < 2 ^ 28 }
+        requires few { self.old.issued < MOST_GIVEN }
         ensures not_connected { (result
             ≡ Err RefsError.NotConnected) ↔
             ((owns_of self.old.objects object apartment || is_connected self.old.stubs object) ≡ false) }
@@ -663,7 +667,7 @@ impl Refs {
     /// given or was revoked; else `NotConnected` exactly where its object is not connected. Source:
     /// IGlobalInterfaceTable::GetInterfaceFromGlobal.
     pub fn get(&mut self, apartment: u32, cookie: u32) -> Result<RefValue, RefsError>
-        requires few { self.old.issued < 2 ^ 28 }
+        requires few { self.old.issued < MOST_GIVEN }
         ensures unknown { (result ≡ Err RefsError.Unknown) ↔ (held_in self.old.cookies cookie ≡ None) }
         ensures not_connected { (result
             ≡ Err RefsError.NotConnected) ↔ IsSomeAnd (held_in self.old.cookies cookie)
@@ -697,7 +701,7 @@ impl Refs {
     /// proxy, or back to the stub in an apartment that owns the object. `Unknown` exactly where no
     /// outstanding packet has the number. Source: CoUnmarshalInterface.
     pub fn unmarshal(&mut self, apartment: u32, number: u32) -> Result<Packet, RefsError>
-        requires few { self.old.issued < 2 ^ 28 }
+        requires few { self.old.issued < MOST_GIVEN }
         ensures unknown { (result ≡ Err RefsError.Unknown) ↔ (outstanding_in
             (is_connected self.old.stubs) self.old.packets number ≡ None) }
         ensures packet { IfOk result (λ packet. outstanding_in
@@ -804,7 +808,7 @@ impl Refs {
 
     /// All objects that the apartment owns are no longer connected.
     pub fn end_apartment(&mut self, apartment: u32)
-        requires few { self.old.issued ≤ 2 ^ 28 }
+        requires few { self.old.issued ≤ MOST_GIVEN }
         ensures books { books_of self.new
             ≡ cut (λ x. (books_of self.old).live x && not (is_owned
             (owners_of self.old.objects) apartment x)) (books_of self.old) }

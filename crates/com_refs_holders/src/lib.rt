@@ -32,7 +32,7 @@ use com_git::Git;
 use com_keyed::Chains;
 use com_packets::{Packet, Packets};
 use com_proxy::{Proxies, Split};
-use com_stub::Stubs;
+use com_stub::{MOST_INTERFACES, Stubs};
 use std::alloc::Global;
 use std::marker::Model;
 
@@ -99,8 +99,9 @@ impl Model for Holders {
         r.packets.spare r.cookies.spare };
 }
 
-// How many references may be given.
-const MOST_ISSUED: u32 = 0x1000_0000;
+/// How many references may be given, of all objects together. Each brings five public references at most, so
+/// that what a stub or a proxy counts stays far below the greatest number of 32 bits.
+pub const MOST_GIVEN: u32 = 0x1000_0000;
 
 // The object's row.
 fn object_at(objects: &[ObjectRow], object: u32) -> ObjectRow
@@ -344,7 +345,7 @@ fn register(cookies: &mut Git, held: RefValue) -> u32
 fn enroll(stubs: &mut Stubs, object: u32, set: &[u16])
     requires room { 0 < stubs.old.spare }
     requires new { has_stub stubs.old.stubs object ≡ false }
-    requires few { length set.now ≤ 17 }
+    requires few { length set.now ≤ MOST_INTERFACES }
     ensures stubs { stubs.new.stubs
         ≡ stubs.old.stubs ++ record { object = object; is_connected = true } ∷ [] }
     ensures counters { stubs.new.counters ≡ opened_all object set.now stubs.old.counters }
@@ -475,7 +476,7 @@ impl Holders {
     // No public reference moves.
     fn keep_direct(&mut self, object: u32)
         requires made { (0 < object) × (object ≤ length self.old.objects) }
-        requires few { self.old.issued < 2 ^ 28 }
+        requires few { self.old.issued < MOST_GIVEN }
         ensures books { books_of self.new ≡ books_of self.old }
         ensures places { (a : ℕ) → OneMore self.old self.new a object true }
         ensures counters { self.new.counters ≡ self.old.counters }
@@ -491,7 +492,7 @@ impl Holders {
     pub fn keep_elsewhere(&mut self, apartment: u32, held: RefValue)
         requires elsewhere { owns_of self.old.objects held.object apartment ≡ false }
         requires held { 0 < local_of self.old.proxies apartment held.object held.iface }
-        requires few { self.old.issued < 2 ^ 28 }
+        requires few { self.old.issued < MOST_GIVEN }
         ensures books { books_of self.new ≡ books_of self.old }
         ensures places { OneMore self.old self.new apartment held.object false }
         ensures counters { self.new.counters ≡ self.old.counters }
@@ -508,7 +509,7 @@ impl Holders {
         requires elsewhere { owns_of self.old.objects held.object apartment ≡ false }
         requires connected { is_connected self.old.stubs held.object ≡ true }
         requires known { offers self.old held.object held.iface ≡ true }
-        requires few { self.old.issued < 2 ^ 28 }
+        requires few { self.old.issued < MOST_GIVEN }
         requires room { 0 < self.old.spare }
         ensures books { books_of self.new
             ≡ changed (books_of self.old) (ToProxy apartment held.object held.iface 5) }
@@ -527,7 +528,7 @@ impl Holders {
     fn share_elsewhere(&mut self, apartment: u32, held: RefValue)
         requires elsewhere { owns_of self.old.objects held.object apartment ≡ false }
         requires known { offers self.old held.object held.iface ≡ true }
-        requires few { self.old.issued < 2 ^ 28 }
+        requires few { self.old.issued < MOST_GIVEN }
         requires room { 0 < self.old.spare }
         ensures books { books_of self.new ≡ books_of self.old }
         ensures places { OneMore self.old self.new apartment held.object false }
@@ -564,7 +565,7 @@ impl Holders {
         requires outstanding { outstanding_in (is_connected self.old.stubs) self.old.packets number
             ≡ Some packet }
         requires elsewhere { owns_of self.old.objects packet.object apartment ≡ false }
-        requires few { self.old.issued < 2 ^ 28 }
+        requires few { self.old.issued < MOST_GIVEN }
         requires room { 0 < self.old.spare }
         ensures books { books_of self.new ≡ changed (books_of self.old) (Join apartment number) }
         ensures places { OneMore self.old self.new apartment packet.object false }
@@ -586,7 +587,7 @@ impl Holders {
     fn issue_cookie(&mut self, held: RefValue) -> u32
         requires connected { is_connected self.old.stubs held.object ≡ true }
         requires known { offers self.old held.object held.iface ≡ true }
-        requires few { self.old.issued < 2 ^ 28 }
+        requires few { self.old.issued < MOST_GIVEN }
         requires room { 0 < self.old.spare }
         ensures cookie { result ≡ length self.old.cookies + 1 }
         ensures books { books_of self.new ≡ changed (books_of self.old) (ToCookie held.object held.iface 1) }
@@ -620,7 +621,7 @@ impl Holders {
     fn issue_packet(&mut self, apartment: u32, held: RefValue, mode: MarshalMode) -> u32
         requires connected { is_connected self.old.stubs held.object ≡ true }
         requires known { offers self.old held.object held.iface ≡ true }
-        requires few { self.old.issued < 2 ^ 28 }
+        requires few { self.old.issued < MOST_GIVEN }
         requires room { 0 < self.old.spare }
         ensures number { result ≡ length self.old.packets + 1 }
         ensures row { books_of self.new
@@ -697,7 +698,7 @@ impl Holders {
         requires elsewhere { owns_of self.old.objects held.object apartment ≡ false }
         requires connected { is_connected self.old.stubs held.object ≡ true }
         requires known { offers self.old held.object held.iface ≡ true }
-        requires few { self.old.issued < 2 ^ 28 }
+        requires few { self.old.issued < MOST_GIVEN }
         ensures books { OnOk result (books_of self.new
             ≡ changed (books_of self.old) (ToProxy apartment held.object held.iface 5)) }
         ensures places { OnOk result (OneMore self.old self.new apartment held.object false) }
@@ -719,7 +720,7 @@ impl Holders {
     pub fn take_shared(&mut self, apartment: u32, held: RefValue) -> Result<(), Memory>
         requires elsewhere { owns_of self.old.objects held.object apartment ≡ false }
         requires known { offers self.old held.object held.iface ≡ true }
-        requires few { self.old.issued < 2 ^ 28 }
+        requires few { self.old.issued < MOST_GIVEN }
         ensures books { OnOk result (books_of self.new ≡ books_of self.old) }
         ensures places { OnOk result (OneMore self.old self.new apartment held.object false) }
         ensures offers { (x j : ℕ) → offers self.new x j ≡ offers self.old x j }
@@ -742,7 +743,7 @@ impl Holders {
         requires outstanding { outstanding_in (is_connected self.old.stubs) self.old.packets number
             ≡ Some packet }
         requires elsewhere { owns_of self.old.objects packet.object apartment ≡ false }
-        requires few { self.old.issued < 2 ^ 28 }
+        requires few { self.old.issued < MOST_GIVEN }
         ensures books { OnOk result (books_of self.new
             ≡ changed (books_of self.old) (Join apartment number)) }
         ensures places { OnOk result (OneMore self.old self.new apartment packet.object false) }
@@ -771,7 +772,7 @@ impl Holders {
     ) -> Result<u32, Memory>
         requires connected { is_connected self.old.stubs held.object ≡ true }
         requires known { offers self.old held.object held.iface ≡ true }
-        requires few { self.old.issued < 2 ^ 28 }
+        requires few { self.old.issued < MOST_GIVEN }
         ensures number { IfOk result (λ number. number ≡ length self.old.packets + 1) }
         ensures row { OnOk result (books_of self.new
             ≡ changed (books_of self.old) (change (owns_of self.old.objects) (books_of self.old)
@@ -794,7 +795,7 @@ impl Holders {
     pub fn give_cookie(&mut self, held: RefValue) -> Result<u32, Memory>
         requires connected { is_connected self.old.stubs held.object ≡ true }
         requires known { offers self.old held.object held.iface ≡ true }
-        requires few { self.old.issued < 2 ^ 28 }
+        requires few { self.old.issued < MOST_GIVEN }
         ensures cookie { IfOk result (λ cookie. cookie ≡ length self.old.cookies + 1) }
         ensures books { OnOk result (books_of self.new
             ≡ changed (books_of self.old) (ToCookie held.object held.iface 1)) }
@@ -811,14 +812,14 @@ impl Holders {
     }
 
     /// A new object, the next by its number from 1 on, with its first place in an apartment. It has an owner,
-    /// 0 where it is agile, and a connected stub with the interfaces of the set, of which there are at most 17.
+    /// 0 where it is agile, and a connected stub with the interfaces of the set, of which there are at most `MOST_INTERFACES`.
     /// Where the apartment owns the object, the place is a direct one. Else it is one of the apartment's proxy,
     /// by an interface of the set, with 5 new public references. Room for a call was made before. Source:
     /// Essential COM, chapter 5, on stubs and proxies; MS-DCOM 3.2.4.4.
     pub fn make_object(&mut self, owner: u32, agile: bool, set: &[u16], apartment: u32, iface: u16)
-        requires small { length set.now ≤ 17 }
+        requires small { length set.now ≤ MOST_INTERFACES }
         requires within { among iface set.now ≡ true }
-        requires few { self.old.issued + 1 < 2 ^ 28 }
+        requires few { self.old.issued + 1 < MOST_GIVEN }
         requires room { 0 < self.old.spare }
         ensures made { MadeWithPlace self.old self.new (length self.old.objects + 1) owner agile
             set.now apartment iface }
@@ -846,7 +847,7 @@ impl Holders {
     /// All objects that the apartment alone owns are no longer connected. Places, packets and cookies stay.
     /// Source: the documentation of CoUninitialize.
     pub fn end_apartment(&mut self, apartment: u32)
-        requires few { self.old.issued ≤ 2 ^ 28 }
+        requires few { self.old.issued ≤ MOST_GIVEN }
         ensures books { books_of self.new
             ≡ cut (λ x. (books_of self.old).live x && not (is_owned
             (owners_of self.old.objects) apartment x)) (books_of self.old) }
@@ -1012,7 +1013,7 @@ impl Holders {
             → 0 < local_of self.old.proxies apartment held.object held.iface }
         requires direct { owns_of self.old.objects held.object apartment ≡ true
             → 0 < (object_in self.old.objects held.object).direct }
-        requires few { self.old.issued < 2 ^ 28 }
+        requires few { self.old.issued < MOST_GIVEN }
         ensures books { books_of self.new ≡ books_of self.old }
         ensures places { OneMore self.old self.new apartment held.object
             (owns_of self.old.objects held.object apartment) }
@@ -1077,7 +1078,7 @@ impl Holders {
     /// want of memory.
     pub fn share(&mut self, apartment: u32, held: RefValue) -> Result<(), Memory>
         requires known { offers self.old held.object held.iface ≡ true }
-        requires few { self.old.issued < 2 ^ 28 }
+        requires few { self.old.issued < MOST_GIVEN }
         ensures books { OnOk result (books_of self.new ≡ books_of self.old) }
         ensures places { OnOk result (OneMore self.old self.new apartment held.object
             (owns_of self.old.objects held.object apartment)) }
@@ -1105,7 +1106,7 @@ impl Holders {
         mode: MarshalMode,
     ) -> Result<u32, HoldersError>
         requires known { offers self.old held.object held.iface ≡ true }
-        requires few { self.old.issued < 2 ^ 28 }
+        requires few { self.old.issued < MOST_GIVEN }
         ensures not_connected { (result
             ≡ Err HoldersError.NotConnected) ↔ (is_connected self.old.stubs held.object ≡ false) }
         ensures live { OnOk result (is_connected self.old.stubs held.object ≡ true) }
@@ -1157,7 +1158,7 @@ impl Holders {
     /// where the apartment does not own the object, which is not connected; else `NoInterface` exactly where
     /// the interface is not in its set.
     pub fn query(&mut self, apartment: u32, object: u32, iface: u16) -> Result<(), HoldersError>
-        requires few { self.old.issued < 2 ^ 28 }
+        requires few { self.old.issued < MOST_GIVEN }
         ensures not_connected { (result
             ≡ Err HoldersError.NotConnected) ↔
             ((owns_of self.old.objects object apartment || is_connected self.old.stubs object) ≡ false) }
@@ -1205,7 +1206,7 @@ impl Holders {
         requires elsewhere { owns_of self.old.objects held.object apartment ≡ false }
         requires connected { is_connected self.old.stubs held.object ≡ true }
         requires known { offers self.old held.object held.iface ≡ true }
-        requires few { self.old.issued < 2 ^ 28 }
+        requires few { self.old.issued < MOST_GIVEN }
         ensures row { OnOk result (books_of self.new
             ≡ changed (books_of self.old) (change (owns_of self.old.objects) (books_of self.old)
             (Asks apartment held.object held.iface))) }
@@ -1227,7 +1228,7 @@ impl Holders {
     /// connected. Source: RegisterInterfaceInGlobal.
     pub fn register(&mut self, held: RefValue) -> Result<u32, HoldersError>
         requires known { offers self.old held.object held.iface ≡ true }
-        requires few { self.old.issued < 2 ^ 28 }
+        requires few { self.old.issued < MOST_GIVEN }
         ensures not_connected { (result
             ≡ Err HoldersError.NotConnected) ↔ (is_connected self.old.stubs held.object ≡ false) }
         ensures cookie { IfOk result (λ cookie. cookie ≡ length self.old.cookies + 1) }
@@ -1255,7 +1256,7 @@ impl Holders {
     /// revoked; else
     /// `NotConnected` exactly where its object is not connected. Source: GetInterfaceFromGlobal.
     pub fn get(&mut self, apartment: u32, cookie: u32) -> Result<RefValue, HoldersError>
-        requires few { self.old.issued < 2 ^ 28 }
+        requires few { self.old.issued < MOST_GIVEN }
         ensures unknown { (result ≡ Err HoldersError.Unknown) ↔ (held_in self.old.cookies cookie ≡ None) }
         ensures not_connected { (result
             ≡ Err HoldersError.NotConnected) ↔ IsSomeAnd (held_in self.old.cookies cookie)
@@ -1316,7 +1317,7 @@ impl Holders {
     /// stub in an apartment that owns the object. `Unknown` exactly where no outstanding packet has the
     /// number.
     pub fn unmarshal(&mut self, apartment: u32, number: u32) -> Result<Packet, HoldersError>
-        requires few { self.old.issued < 2 ^ 28 }
+        requires few { self.old.issued < MOST_GIVEN }
         ensures unknown { (result ≡ Err HoldersError.Unknown) ↔ (outstanding_in
             (is_connected self.old.stubs) self.old.packets number ≡ None) }
         ensures packet { IfOk result (λ packet. outstanding_in
@@ -1352,7 +1353,7 @@ impl Holders {
         requires outstanding { outstanding_in (is_connected self.old.stubs) self.old.packets number
             ≡ Some packet }
         requires here { owns_of self.old.objects packet.object apartment ≡ true }
-        requires few { self.old.issued < 2 ^ 28 }
+        requires few { self.old.issued < MOST_GIVEN }
         ensures row { books_of self.new
             ≡ changed (books_of self.old) (change (owns_of self.old.objects) (books_of self.old)
             (Unmarshals apartment number)) }
@@ -1380,7 +1381,7 @@ impl Holders {
         requires outstanding { outstanding_in (is_connected self.old.stubs) self.old.packets number
             ≡ Some packet }
         requires elsewhere { owns_of self.old.objects packet.object apartment ≡ false }
-        requires few { self.old.issued < 2 ^ 28 }
+        requires few { self.old.issued < MOST_GIVEN }
         ensures row { OnOk result (books_of self.new
             ≡ changed (books_of self.old) (change (owns_of self.old.objects) (books_of self.old)
             (Unmarshals apartment number))) }
