@@ -1,5 +1,5 @@
 -- What contracts see of a `Holders`, and its reading as books.
-use Rattle.std.specs.Prelude.{ℕ, zero, suc, ◌+◌, ◌-◌, Bool, true, false, ◌==◌, ◌&&◌, ◌||◌, if◌then◌else◌}
+use Rattle.std.specs.Prelude.{◌≡◌, ℕ, zero, suc, ◌+◌, ◌-◌, Bool, true, false, ◌==◌, ◌&&◌, ◌||◌, if◌then◌else◌}
 use Rattle.std.specs.Prelude.{List, [], map, length, nat_lt, nat_le, slice_index, Option, Some, None, slice_index_or}
 use Rattle.com_base.specs.declared.value.RefValue.{RefValue}
 use Rattle.com_packets.specs.declared.Packet as P
@@ -82,6 +82,10 @@ owners_of rows = map (λ row. row.owner) rows
 -- The interface is in the object's set.
 abbrev pub offers : Tables → (object iface : ℕ) → Bool
 offers t o i = has_counter t.counters o i
+
+-- Each object has the interfaces that it had.
+abbrev pub SameSets : Tables → Tables → Type 0
+SameSets t u = (x j : ℕ) → offers u x j ≡ offers t x j
 
 -- What is not connected reads as nothing.
 abbrev pub packet_read : (ℕ → Bool) → Option P.Packet → Packet
