@@ -1,5 +1,5 @@
 //! What is open in one lane.
-ghost use Rattle.std.specs.Prelude.{◌≡◌, [], ◌∷◌, OnOk, length, reverse, slice_get};
+ghost use Rattle.std.specs.Prelude.{◌≡◌, [], ◌∷◌, IsOk, OnOk, length, reverse, slice_get};
 ghost use Rattle.com_model.specs.Lists.{first, without_first};
 ghost use Rattle.com_model.specs.Openers.{running_call, running_object, entered_apartment, open_calls};
 ghost use Rattle.com_lane_lists.specs.Bodies.{is_one_pump};
@@ -68,6 +68,7 @@ impl Openers {
     pub fn reserve(&mut self) -> Result<(), Memory>
         ensures openers { self.new.openers ≡ self.old.openers }
         ensures slot { OnOk result (HasSlot self.new) }
+        ensures succeeds { HasSlot self.old → IsOk result }
     {
         self.openers.reserve()?;
         self.bodies.reserve()?;

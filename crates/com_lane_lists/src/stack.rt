@@ -1,5 +1,5 @@
 //! Stacks, seen as lists with the innermost first.
-ghost use Rattle.std.specs.Prelude.{◌≡◌, [], ◌∷◌, OnOk, length, reverse, slice_get};
+ghost use Rattle.std.specs.Prelude.{◌≡◌, [], ◌∷◌, IsOk, OnOk, length, reverse, slice_get};
 ghost use Rattle.com_model.specs.Lists.{first, without_first};
 ghost use Rattle.com_lane_lists.specs.Rooms.{HasRow};
 
@@ -36,6 +36,7 @@ impl<T: Copy> Stack<T> {
     pub fn reserve(&mut self) -> Result<(), Memory>
         ensures rows { self.new.rows ≡ self.old.rows }
         ensures room { OnOk result (HasRow self.new) }
+        ensures succeeds { HasRow self.old → IsOk result }
     {
         self.rows.reserve(1)
     }

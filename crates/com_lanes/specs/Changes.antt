@@ -1,15 +1,17 @@
 -- What a deed changes in single columns of the lanes, by the parts of the deed that a column looks at.
-use Rattle.std.specs.Prelude.{ℕ, ◌+◌, ◌≤◌, ◌<◌, ◌^◌, ◌≡◌, ℤ, pos, negsuc, Bool, true, false, List, [], length}
-use Rattle.std.specs.Prelude.{Option, Some, None, slice_index_or}
+use Rattle.std.specs.Prelude.{ℕ, ◌+◌, ◌≤◌, ◌<◌, ◌^◌, ◌≡◌, ℤ, pos, negsuc, Bool, true, false, List, [], ◌∷◌, length}
+use Rattle.std.specs.Prelude.{Option, Some, None, slice_index_or, slice_set}
 use Rattle.com_base.specs.declared.hresult.HResult.{HResult}
 use Rattle.com_model.specs.declared.deeds.Deed.{Deed}
+use Rattle.com_model.specs.declared.keeps.Opener.{Opener}
+use Rattle.com_model.specs.declared.keeps.Opener.TheVariants.{Pumps}
 use Rattle.com_model.specs.Answers.{is_S_OK}
-use Rattle.com_model.specs.Lists.{where_true}
+use Rattle.com_model.specs.Lists.{where_true, without_first}
 use Rattle.com_model.specs.Apartments.{makes_sta, ends_sta, with_last}
 use Rattle.com_model.specs.Waiting.{Mail, no_mail, mail_after, Brings}
 use Rattle.com_model.specs.State.{changed_at, made_change}
 use Rattle.com_lane_lists.specs.Apartments.{StaTables}
-use Rattle.com_state.specs.Parts.{LaneTables, served_at}
+use Rattle.com_state.specs.Parts.{LaneTables, openers_at, served_at}
 
 -- A natural number, where it is one.
 abbrev pub natural : ℤ → Option ℕ
@@ -53,3 +55,19 @@ pub record HasRoom (t : LaneTables) : Type 0 where
 abbrev pub stas_made : StaTables → (lane : ℕ) → Option ℕ → StaTables
 stas_made t l o =
     record { made = changed_at (made_change o) l [] t.made; stas = with_last t.stas o; ended = t.ended }
+
+-- How many bodies the pump of each lane has admitted, after one more is opened in a lane: a new pump none.
+abbrev pub served_opened : (lane : ℕ) → Opener → List ℕ → List ℕ
+served_opened l (Pumps bound) t = slice_set t l 0
+served_opened l _ t = t
+
+-- The lanes after one more is opened in a lane.
+abbrev pub opened : LaneTables → (lane : ℕ) → Opener → LaneTables
+opened t l o = record t {
+  openers = slice_set t.openers l (o ∷ openers_at t l);
+  served = served_opened l o t.served;
+}
+
+-- The lanes after the innermost of a lane is closed.
+abbrev pub closed : LaneTables → (lane : ℕ) → LaneTables
+closed t l = record t { openers = slice_set t.openers l (without_first (openers_at t l)) }

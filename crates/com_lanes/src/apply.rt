@@ -1,18 +1,18 @@
 //! What an entry changes in the lanes.
 ghost use Rattle.std.specs.Prelude.{◌≡◌, ◌+◌, [], ◌∷◌, false, true, not, if◌then◌else◌};
-ghost use Rattle.std.specs.Prelude.{length, OnOk, None, Some, slice_index_or, slice_set};
+ghost use Rattle.std.specs.Prelude.{length, IsOk, OnOk, OnErr, None, Some, slice_index_or, slice_set};
 ghost use Rattle.com_model.specs.Answers.{is_S_OK};
 ghost use Rattle.com_model.specs.Apartments.{Initialises, Uninitialises, home_after, count_after, makes_sta};
 ghost use Rattle.com_model.specs.Apartments.{ends_sta, with_last};
 ghost use Rattle.com_model.specs.Clock.{Names, Keeps, filter_effect};
-ghost use Rattle.com_model.specs.Lists.{where_true, without_first};
+ghost use Rattle.com_model.specs.Lists.{first, where_true, without_first};
 ghost use Rattle.com_model.specs.Openers.{Closes, Leaves, left_on};
 ghost use Rattle.com_model.specs.State.{changed_at, filters_change, made_change, mail_change, mail_lane};
 ghost use Rattle.com_model.specs.State.{quit_change, quit_lane};
 ghost use Rattle.com_model.specs.Waiting.{no_mail, mail_after, bound_reached, Takes, Asks, Forgets};
 ghost use Rattle.com_state.specs.Parts.{openers_at, served_at, lanes_after};
 ghost use Rattle.com_lane_lists.specs.Rooms.{HasMark, HasSlot, no_opener, no_word};
-ghost use Rattle.com_lanes.specs.Changes.{IsNumber, IsBelow, NamesStas, HasRoom, natural};
+ghost use Rattle.com_lanes.specs.Changes.{IsNumber, IsBelow, NamesStas, HasRoom, closed, natural, opened};
 ghost use Rattle.com_lanes.specs.Rooms.{HasEnd, HasSpace, HasSta, HasWordTo};
 
 use crate::columns::{
@@ -53,14 +53,21 @@ impl Lanes {
         ensures { self.new.tables ≡ lanes_after self.old.tables (record { lane = lane; deed = deed.now }) }
     {
         match deed {
-            Deed::Pump { bound } => self.pump(lane, *bound),
+            Deed::Pump { bound } => self.open(lane, Opener::Pumps { bound: *bound }),
             Deed::Out { call, .. } => self.open(lane, Opener::Waits { call: *call }),
             Deed::Enter {
                 call,
                 object,
                 apartment,
                 ..
-            } => self.enter(lane, *call, *object, *apartment),
+            } => self.open(
+                lane,
+                Opener::Enters {
+                    call: *call,
+                    object: *object,
+                    apartment: *apartment,
+                },
+            ),
             Deed::EndPump => self.end_pump(lane),
             Deed::Back { call, .. } => self.back(lane, *call),
             Deed::Leave { call, .. } => self.leave(lane, *call),
@@ -76,45 +83,41 @@ impl Lanes {
         }
     }
 
-    // Opens a call that is waited for, or a body.
+    /// Opens one more in a lane. A pump that is opened has admitted no body yet. The only error is want of
+    /// memory, and then nothing changed; it does not come where there is room for one more. A lane that there
+    /// is not takes nothing.
+    pub fn push(&mut self, lane: u32, opener: Opener) -> Result<(), Memory>
+        ensures ok { OnOk result (self.new.tables ≡ opened self.old.tables lane opener) }
+        ensures err { OnErr result (self.new.tables ≡ self.old.tables) }
+        ensures room { HasSlot (slice_index_or self.old.openers lane no_opener) → IsOk result }
+    {
+        reserve_opener(&mut self.openers, lane)?;
+        self.open(lane, opener);
+        Ok(())
+    }
+
+    /// Closes the innermost of a lane, and returns it. `None` exactly where nothing is open in the lane, or
+    /// there is no such lane.
+    pub fn pop(&mut self, lane: u32) -> Option<Opener>
+        ensures top { result ≡ first (openers_at self.old.tables lane) }
+        ensures tables { self.new.tables ≡ closed self.old.tables lane }
+    {
+        let opener = self.top(lane);
+        pop_opener(&mut self.openers, lane);
+        opener
+    }
+
+    // Opens one more, for which there is room.
     fn open(&mut self, lane: u32, opener: Opener)
         requires slot { HasSlot (slice_index_or self.old.openers lane no_opener) }
-        ensures { self.new.tables ≡ record self.old.tables {
-          openers = slice_set self.old.tables.openers lane (opener ∷ openers_at self.old.tables lane);
-        } }
+        ensures { self.new.tables ≡ opened self.old.tables lane opener }
     {
         push_opener(&mut self.openers, lane, opener);
-    }
-
-    // Opens a body.
-    fn enter(&mut self, lane: u32, call: u32, object: u32, apartment: u32)
-        requires slot { HasSlot (slice_index_or self.old.openers lane no_opener) }
-        ensures { self.new.tables ≡ record self.old.tables {
-          openers =
-              slice_set self.old.tables.openers lane
-              (Opener.Enters call object apartment ∷ openers_at self.old.tables lane);
-        } }
-    {
-        let opener = Opener::Enters {
-            call,
-            object,
-            apartment,
-        };
-        push_opener(&mut self.openers, lane, opener);
-    }
-
-    // Opens a pump.
-    fn pump(&mut self, lane: u32, bound: u32)
-        requires slot { HasSlot (slice_index_or self.old.openers lane no_opener) }
-        ensures { self.new.tables ≡ record self.old.tables {
-          openers =
-              slice_set self.old.tables.openers lane
-              (Opener.Pumps bound ∷ openers_at self.old.tables lane);
-          served = slice_set self.old.tables.served lane 0;
-        } }
-    {
-        push_opener(&mut self.openers, lane, Opener::Pumps { bound });
-        put(&mut self.served, lane, 0);
+        match opener {
+            Opener::Pumps { .. } => put(&mut self.served, lane, 0),
+            Opener::Waits { .. } => {}
+            Opener::Enters { .. } => {}
+        }
     }
 
     // Closes a pump, by the quit that stands where its bound is not reached.

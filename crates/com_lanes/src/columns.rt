@@ -1,6 +1,6 @@
 //! One row of a table that has a row for each lane. A lane that has no row changes nothing.
 ghost use Rattle.std.specs.Prelude.{◌≡◌, ℕ, ◌+◌, ◌<◌, ◌≤◌, ◌^◌, length, ◌∷◌, [], false, if◌then◌else◌};
-ghost use Rattle.std.specs.Prelude.{Option, OnOk, slice_index_or, slice_set};
+ghost use Rattle.std.specs.Prelude.{IsOk, Option, OnOk, slice_index_or, slice_set};
 ghost use Rattle.com_model.specs.Answers.{is_S_OK};
 ghost use Rattle.com_model.specs.Apartments.{Initialises, Uninitialises, home_after, count_after, makes_sta};
 ghost use Rattle.com_model.specs.Apartments.{ends_sta, with_last};
@@ -32,6 +32,7 @@ pub(crate) fn put<T: Copy>(column: &mut Vec<T>, lane: u32, value: T)
 pub(crate) fn reserve_opener(column: &mut Vec<Openers>, lane: u32) -> Result<(), Memory>
     ensures openers { openers_in column.new.items ≡ openers_in column.old.items }
     ensures slot { OnOk result (HasSlot (slice_index_or column.new.items lane no_opener)) }
+    ensures succeeds { HasSlot (slice_index_or column.old.items lane no_opener) → IsOk result }
 {
     match column.get_mut(lane as usize) {
         Some(openers) => openers.reserve(),

@@ -7,7 +7,7 @@ ghost use Rattle.com_refs.specs.Counts.{holders_of};
 ghost use Rattle.com_refs.specs.Numbers.{Within};
 
 use crate::books::Books;
-use com_refs::Numbers;
+use com_refs::RefCounts;
 use std::alloc::Global;
 use std::marker::Model;
 
@@ -66,7 +66,7 @@ impl Ledger {
 
     /// The numbers of a report for an object, over all apartments with a place and all interfaces of all
     /// sets.
-    pub fn counts(&self, object: u32) -> Numbers
+    pub fn counts(&self, object: u32) -> RefCounts
         ensures direct { result.direct ≡ direct_in self.now.tables object }
         ensures proxies { (n m : ℕ) → Within n m self.now.tables
             → result.proxies ≡ sum_below n (λ a. sum_below m ((books_of self.now.tables).proxy a object)) }
@@ -77,6 +77,6 @@ impl Ledger {
         ensures stub { (n m : ℕ) → Within n m self.now.tables
             → result.stub ≡ sum_below m ((books_of self.now.tables).stub object) }
     {
-        self.books.refs.numbers(object)
+        self.books.refs.counts(object)
     }
 }

@@ -18,7 +18,7 @@ mod ledger;
 mod reads;
 
 pub use com_base::Memory;
-pub use com_refs::Numbers;
+pub use com_refs::RefCounts;
 pub use com_refs_rows::CallPackets;
 pub use context::Context;
 pub use dying::{DyingScan, count_bodies, other_by, released_by};

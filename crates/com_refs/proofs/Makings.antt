@@ -10,13 +10,16 @@ use Rattle.com_slots.specs.Table.{held_in}
 use Rattle.com_stub.specs.StubRows.{is_connected}
 use Rattle.com_refs_books.specs.Counting.{count_if}
 use Rattle.com_refs_books.specs.Changes.{Books, held_outside, packet_holds, cookie_holds, changed, change, ToProxy, Same, Makes}
-use Rattle.com_refs_holders.specs.Tables.{Tables, books_of, packet_read, cookie_read, owns_of, no_object, object_in, direct_in}
-use Rattle.com_refs_holders.specs.Places.{OneMore, locals_of, has_row}
+use Rattle.com_refs_holders.specs.Tables.{Tables, books_of, packet_read, cookie_read, owns_of, no_object, object_in, direct_in, is_made, made_in, owner_in}
+use Rattle.com_refs_holders.specs.Makes.{MadeWithPlace}
+use Rattle.com_refs_holders.specs.Places.{OneMore, locals_of, places_of, has_row}
 use Rattle.com_refs_holders.specs.Stands.{Known}
 use Rattle.com_refs_holders.specs.Steps.{made_live}
-use Rattle.com_refs_holders.proofs.Enrolls.{no_row_yet, object_before}
+use Rattle.com_refs_holders.proofs.Enrolls.{no_row_yet, object_before, direct_new}
 use Rattle.com_refs_holders.specs.declared.ObjectRow.{ObjectRow}
 use Rattle.com_refs.specs.Counts.{hold_of, hold_more, outside_of, IsCounted, IsCountedBut}
+use Rattle.com_refs.specs.declared.NewObject.{NewObject}
+use Rattle.com_refs.specs.Makes.{IsMade}
 use Rattle.com_refs.proofs.Counteds.{more_is, more_length, at_most}
 use Rattle.com_refs.proofs.Steps.{live-row}
 
@@ -148,3 +151,80 @@ owner_new os us r o (suc k) a e n =
     split : (b : Bool) → ((cond b r (slice_index_or os k no_object)).agile || eqb (cond b r (slice_index_or os k no_object)).owner a) ≡ cond b (r.agile || eqb r.owner a) ((slice_index_or os k no_object).agile || eqb (slice_index_or os k no_object).owner a)
     split true = refl
     split false = refl
+
+-- ---- an object is made, with its first place
+
+-- What each object was made for once one more is made.
+made_new : (os us : List ObjectRow) (r : ObjectRow) (o x : ℕ) → us ≡ os ++ r ∷ [] → o ≡ length os + 1 → made_in us x ≡ cond (eqb x o) (record r { direct = 0 }) (made_in os x)
+made_new os us r o zero e n =
+    let other : eqb 0 o ≡ false = grind (arith, common_steps, n) in
+    ap (λ (b : Bool). cond b (record r { direct = 0 }) (record no_object { direct = 0 })) (sym other)
+made_new os us r o (suc k) e n =
+    let same : eqb k (length os) ≡ eqb (suc k) o = grind (arith, common_steps, n) in
+    ap (λ (l : List ObjectRow). record (slice_index_or l k no_object) { direct = 0 }) e
+    ∙ ap (λ (x : ObjectRow). record x { direct = 0 }) (row_new os r k ∙ ap (λ (b : Bool). cond b r (slice_index_or os k no_object)) same)
+    ∙ split (eqb (suc k) o)
+  where
+    split : (b : Bool) → record (cond b r (slice_index_or os k no_object)) { direct = 0 } ≡ cond b (record r { direct = 0 }) (record (slice_index_or os k no_object) { direct = 0 })
+    split true = refl
+    split false = refl
+
+-- The tables of an object with its first place.
+module _ (t u : Tables) (m : NewObject) (set : List ℕ) (new : m.object ≡ length t.objects + 1)
+    (k : MadeWithPlace t u m.object m.owner m.agile set m.apartment m.iface) where
+  grown : length u.objects ≡ length t.objects + 1
+  grown = k.places.made ∙ ap (λ os. length os) k.objects ∙ grind (arith, common_steps)
+
+  given : (x : ℕ) → made_in u.objects x ≡ cond (eqb x m.object) (record { owner = m.owner; agile = m.agile; direct = 0 }) (made_in t.objects x)
+  given x = k.places.as_made x ∙ made_new t.objects k.between.objects _ m.object x k.objects new
+
+  itself : (n : ℕ) → eqb n n ≡ true
+  itself n = grind (arith, common_steps)
+
+  its-owner : (object_in u.objects m.object).owner ≡ m.owner
+  its-owner =
+      ap (λ (r : ObjectRow). r.owner) (given m.object)
+      ∙ ap (λ (b : Bool). (cond b (record { owner = m.owner; agile = m.agile; direct = 0 }) (made_in t.objects m.object)).owner) (itself m.object)
+
+  there : is_made u.objects m.object ≡ true
+  there = grind (arith, common_steps, new, grown)
+
+  row-of : (w v : ℕ → ℕ → Bool) (b c : Books) → b ≡ c → v m.object m.apartment ≡ w m.object m.apartment
+      → changed b (change w b (Makes m.apartment m.object m.iface)) ≡ changed c (change v c (Makes m.apartment m.object m.iface))
+  row-of w v b c e h =
+      ap (λ (b : Books). changed b (change w b (Makes m.apartment m.object m.iface))) e
+      ∙ ap (λ (x : Bool). changed c (cond x Same (ToProxy m.apartment m.object m.iface 5))) (sym h)
+
+  pub made_whole : IsMade t u m set
+  made_whole = record {
+    row = k.row ∙ row-of (owns_of k.between.objects) (owns_of u.objects) _ _ k.books (k.places.owns m.object m.apartment);
+    made = grown;
+    owner = ap (λ (b : Bool). cond b (Some (object_in u.objects m.object).owner) None) there ∙ ap (λ (n : ℕ). Some n) its-owner;
+    as_made = given;
+    owns = λ x c h. k.places.owns x c ∙ same_owner t.objects k.between.objects _ x c k.objects h;
+    whose = λ x c. k.places.owns x c ∙ owner_new t.objects k.between.objects _ m.object x c k.objects new;
+    direct = λ x. k.places.direct x
+        ∙ ap (λ (b : Bool). direct_in k.between x + count_if (b && eqb x m.object)) (sym (k.places.owns m.object m.apartment))
+        ∙ ap (λ (n : ℕ). n + count_if (owns_of u.objects m.object m.apartment && eqb x m.object)) (ap (λ os. (object_in os x).direct) k.objects ∙ direct_new t.objects _ x refl);
+    elsewhere = λ c x. k.places.elsewhere c x
+        ∙ ap (λ (b : Bool). places_of c x k.between.proxies + count_if (not b && (eqb c m.apartment && eqb x m.object))) (sym (k.places.owns m.object m.apartment))
+        ∙ ap (λ rs. places_of c x rs + count_if (not (owns_of u.objects m.object m.apartment) && (eqb c m.apartment && eqb x m.object))) k.proxies;
+    offers = λ x j. k.kept x j ∙ k.offered x j;
+    issued = omega (arith, k.counted, k.issued);
+  }
+
+-- Room that was made before is no part of it.
+pub made_spare : (t u : Tables) (n : ℕ) (m : NewObject) (set : List ℕ) → IsMade (record t { spare = n }) u m set → IsMade t u m set
+unfolding books_of
+made_spare t u n m set k = record {
+  row = k.row;
+  made = k.made;
+  owner = k.owner;
+  as_made = k.as_made;
+  owns = k.owns;
+  whose = k.whose;
+  direct = k.direct;
+  elsewhere = k.elsewhere;
+  offers = k.offers;
+  issued = k.issued;
+}

@@ -1,4 +1,5 @@
 pub mod Counts
 pub mod Totals
 pub mod Found
+pub mod Makes
 pub mod Numbers

@@ -11,7 +11,7 @@ use Rattle.com_refs_books.specs.Changes.{Books, cookie, changed, ToCookie, Withd
 use Rattle.com_refs_books.specs.declared.keeps.Cookie.{Cookie}
 use Rattle.com_refs_books.specs.Evens.{Even}
 use Rattle.com_refs_books.proofs.Evens.{changed-even}
-use Rattle.com_refs_holders.specs.Tables.{Tables, object_in, direct_in, books_of, cookie_read, owns_of}
+use Rattle.com_refs_holders.specs.Tables.{Tables, object_in, direct_in, books_of, cookie_read, owns_of, made_in}
 use Rattle.com_refs_holders.specs.Places.{SamePlaces, places_of, locals_of, distinct}
 use Rattle.com_refs_holders.specs.Stands.{IsEven, IsHolders}
 use Rattle.com_refs_holders.proofs.Counters.{has_more, sum_more, has_less, sum_less}
@@ -25,6 +25,7 @@ pub same_counted : (t u : Tables) → u.objects ≡ t.objects → u.proxies ≡ 
 same_counted t u eo er = record {
   made = ap (λ os. length os) eo;
   owns = λ x c. ap (λ os. owns_of os x c) eo;
+  as_made = λ x. ap (λ os. made_in os x) eo;
   direct = λ x. ap (λ os. (object_in os x).direct) eo;
   elsewhere = λ c x. ap (λ rs. places_of c x rs) er;
   all_elsewhere = λ x. ap (λ rs. locals_of x rs) er;

@@ -10,7 +10,7 @@ use Rattle.com_stub.specs.declared.counters.CounterRow.{CounterRow}
 use Rattle.com_stub.specs.StubRows.{has_stub}
 use Rattle.com_stub.specs.CounterRows.{has_counter, sum_of}
 use Rattle.com_refs_books.specs.Counting.{count_if}
-use Rattle.com_refs_holders.specs.Tables.{Tables, books_of, owns_of, object_in, direct_in}
+use Rattle.com_refs_holders.specs.Tables.{Tables, books_of, owns_of, object_in, direct_in, made_in}
 use Rattle.com_refs_holders.specs.Places.{OneMore, places_of, locals_of, has_row, distinct}
 use Rattle.com_refs_holders.specs.Stands.{IsEven, IsHolders}
 use Rattle.com_refs_holders.proofs.Rowed.{Gains, has_changed, distinct_changed, places_grown, locals_grown, grown_public, grown_local}
@@ -100,6 +100,7 @@ module _ (f : ProxyRow → ProxyRow) (n : ℕ) (g : Gains f n) (a o i : ℕ) whe
   more_elsewhere t u eo er = record {
     made = ap (λ os. length os) eo;
     owns = λ x c. ap (λ os. owns_of os x c) eo;
+    as_made = λ x. ap (λ os. made_in os x) eo;
     direct = λ x. let e : direct_in u x ≡ direct_in t x = ap (λ os. (object_in os x).direct) eo in grind (arith, common_steps, e);
     elsewhere = λ c x. ap (λ rs. places_of c x rs) er ∙ places_grown f n g a o i t.proxies c x;
     all_elsewhere = λ x. ap (λ rs. locals_of x rs) er ∙ locals_grown f n g a o i t.proxies x;

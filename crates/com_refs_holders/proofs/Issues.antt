@@ -11,8 +11,9 @@ use Rattle.com_stub.specs.CounterRows.{has_counter, changed_counter, more, sum_o
 use Rattle.com_refs_books.specs.Counting.{count_if}
 use Rattle.com_refs_books.specs.Changes.{Books, ToProxy, changed}
 use Rattle.com_refs_books.proofs.Evens.{changed-even, more-even}
+use Rattle.com_refs_holders.specs.declared.TheConstants.{MOST_GIVEN}
 use Rattle.com_refs_holders.specs.declared.ObjectRow.{ObjectRow}
-use Rattle.com_refs_holders.specs.Tables.{Tables, books_of, owns_of, owners_of, object_in, direct_in, direct_more, outstanding_in}
+use Rattle.com_refs_holders.specs.Tables.{Tables, books_of, owns_of, owners_of, object_in, direct_in, direct_more, outstanding_in, made_in}
 use Rattle.com_refs_holders.specs.Places.{OneMore, places_of, locals_of, distinct}
 use Rattle.com_refs_holders.specs.Stands.{IsEven, IsHolders}
 use Rattle.com_refs_holders.proofs.Counters.{has_more, sum_more, count_le}
@@ -70,7 +71,7 @@ issued_places t u a o i k = more_elsewhere (gaining 5) 5 (gains 5) a o i t u k.o
 pub public_fits : (t : Tables) (a o i : ℕ) → IsHolders t → is_connected t.stubs o ≡ true → public_of t.proxies a o i ≤ 5 * t.issued
 public_fits t a o i s h = omega (arith, counted_within t a o i s h, count_le t.counters o i, s.bounded.sums o)
 
-pub local_fits : (t : Tables) (a o i : ℕ) → IsHolders t → t.issued < 2 ^ 28 → local_of t.proxies a o i + 1 < 2 ^ 64
+pub local_fits : (t : Tables) (a o i : ℕ) → IsHolders t → t.issued < MOST_GIVEN → local_of t.proxies a o i + 1 < 2 ^ 64
 local_fits t a o i s few = omega (arith, few, local_le t.proxies a o i, places_le t.proxies a o, s.bounded.locals o)
 
 pub join_public_fits : (t : Tables) (a n : ℕ) (p : P.Packet) → IsHolders t → outstanding_in (is_connected t.stubs) t.packets n ≡ Some p → public_of t.proxies a p.object p.iface + p.refs ≤ 5 * t.issued
@@ -130,6 +131,9 @@ more-object (r ∷ rows) (suc zero) (suc (suc x)) = (refl, refl)
 more-object (r ∷ rows) (suc (suc o)) (suc zero) = (refl, refl)
 more-object (r ∷ rows) (suc (suc o)) (suc (suc x)) = more-object rows (suc o) (suc x)
 
+more_made : (rows : List ObjectRow) (o x : ℕ) → made_in (direct_more o rows) x ≡ made_in rows x
+more_made rows o x = let e = more-object rows o x in rw (e.0, e.1) refl
+
 pub more_owns : (rows : List ObjectRow) (o x c : ℕ) → owns_of (direct_more o rows) x c ≡ owns_of rows x c
 unfolding owns_of
 more_owns rows o x c = let e = more-object rows o x in rw (e.0, e.1) refl
@@ -176,6 +180,7 @@ module _ (t u : Tables) (o : ℕ) (k : Direct t u o) (some : 0 < o) (made : o �
   kept_places a = record {
     made = ap (λ os. length os) k.objects ∙ more_length o t.objects;
     owns = λ x c. ap (λ os. owns_of os x c) k.objects ∙ more_owns t.objects o x c;
+    as_made = λ x. ap (λ os. made_in os x) k.objects ∙ more_made t.objects o x;
     direct = kept_direct;
     elsewhere = λ c x. let e : places_of c x u.proxies ≡ places_of c x t.proxies = ap (λ rs. places_of c x rs) k.proxies in grind (arith, common_steps, e);
     all_elsewhere = λ x. let e : locals_of x u.proxies ≡ locals_of x t.proxies = ap (λ rs. locals_of x rs) k.proxies in grind (arith, common_steps, e);

@@ -15,7 +15,7 @@ use Rattle.com_stub.specs.declared.counters.CounterRow.{CounterRow}
 use Rattle.com_refs_holders.specs.declared.ObjectRow.{ObjectRow}
 use Rattle.com_refs_books.specs.Counting.{sum_below, count_if}
 use Rattle.com_refs_books.specs.Changes.{Books, changed, Change, ToPacket, Split, Same, Marshals, marshal_change, change, given_back, packet_holds_of, cookie_holds_of}
-use Rattle.com_refs_holders.specs.Tables.{Tables, tables, books_of, owns_of, owners_of, direct_less, direct_in, object_in}
+use Rattle.com_refs_holders.specs.Tables.{Tables, tables, books_of, owns_of, owners_of, direct_less, direct_in, object_in, made_in}
 use Rattle.com_refs_holders.specs.Steps.{minted, minted_counters, minted_rows}
 use Rattle.com_refs_books.specs.Evens.{Even}
 use Rattle.com_refs_holders.specs.Stands.{IsEven, IsHolders, Tells, Released}
@@ -198,6 +198,7 @@ pub minted_same : (t u : Tables) (owned : Bool) (m : MarshalMode) (a o i : ℕ) 
 minted_same t u owned m a o i eo er = record {
   made = ap (λ os. length os) eo;
   owns = λ x c. ap (λ os. owns_of os x c) eo;
+  as_made = λ x. ap (λ os. made_in os x) eo;
   direct = λ x. ap (λ os. (object_in os x).direct) eo;
   elsewhere = λ c x. ap (λ rs. places_of c x rs) er ∙ minted-rows (λ rs. places_of c x rs ≡ places_of c x t.proxies) owned m a o i t.proxies refl (λ some. places_split t.proxies a o i c x);
   all_elsewhere = λ x. ap (λ rs. locals_of x rs) er ∙ minted-rows (λ rs. locals_of x rs ≡ locals_of x t.proxies) owned m a o i t.proxies refl (λ some. locals_split t.proxies a o i x);
@@ -228,6 +229,9 @@ pub less_owns : (rows : List ObjectRow) (o x c : ℕ) → owns_of (direct_less o
 unfolding owns_of
 less_owns rows o x c = let e = less-object rows o x in rw (e.0, e.1) refl
 
+less_made : (rows : List ObjectRow) (o x : ℕ) → made_in (direct_less o rows) x ≡ made_in rows x
+less_made rows o x = let e = less-object rows o x in rw (e.0, e.1) refl
+
 pub less_length : (o : ℕ) (rows : List ObjectRow) → length (direct_less o rows) ≡ length rows
 less_length zero rows = refl
 less_length (suc o) rows = length-set rows o _
@@ -251,6 +255,7 @@ pub less_places : (t u : Tables) (a o : ℕ) → 0 < direct_in t o → u.objects
 less_places t u a o some eo er = record {
   made = ap (λ os. length os) eo ∙ less_length o t.objects;
   owns = λ x c. ap (λ os. owns_of os x c) eo ∙ less_owns t.objects o x c;
+  as_made = λ x. ap (λ os. made_in os x) eo ∙ less_made t.objects o x;
   direct = λ x. let e : direct_in u x ≡ (object_in (direct_less o t.objects) x).direct = ap (λ os. (object_in os x).direct) eo in ap (λ (n : ℕ). n + count_if (eqb x o)) e ∙ one-less t.objects o x some;
   elsewhere = λ c x. let e : places_of c x u.proxies ≡ places_of c x t.proxies = ap (λ rs. places_of c x rs) er in grind (arith, common_steps, e);
   all_elsewhere = λ x. let e : locals_of x u.proxies ≡ locals_of x t.proxies = ap (λ rs. locals_of x rs) er in grind (arith, common_steps, e);

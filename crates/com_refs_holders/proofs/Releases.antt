@@ -6,7 +6,7 @@ use Rattle.com_proxy.specs.Rows.{public_of, local_of, IsFree}
 use Rattle.com_stub.specs.StubRows.{is_connected}
 use Rattle.com_stub.specs.CounterRows.{counter_of}
 use Rattle.com_refs_books.specs.Changes.{given_back}
-use Rattle.com_refs_holders.specs.Tables.{Tables, books_of, owns_of, object_in, direct_in}
+use Rattle.com_refs_holders.specs.Tables.{Tables, books_of, owns_of, object_in, direct_in, made_in}
 use Rattle.com_refs_holders.specs.Places.{OneLess}
 use Rattle.com_refs_holders.specs.Stands.{IsHolders, Tells, Released}
 use Rattle.com_refs_holders.proofs.Gives.{OnlyAt, GivesOne, gives_given}
@@ -79,6 +79,7 @@ pub released_places : (t u : Tables) (a o i : ℕ) (gave : Bool) → u.objects �
 released_places t u a o i gave eo r = record {
   made = ap (λ os. length os) eo;
   owns = λ x c. ap (λ os. owns_of os x c) eo;
+  as_made = λ x. ap (λ os. made_in os x) eo;
   direct = λ x. let e : direct_in u x ≡ direct_in t x = ap (λ os. (object_in os x).direct) eo in grind (arith, common_steps, e);
   elsewhere = λ c x. r.places c x;
   all_elsewhere = λ x. r.locals x;

@@ -5,7 +5,7 @@ use Rattle.std.specs.Prelude.{List, [], ◌∷◌, sum_by, length}
 use Rattle.com_proxy.specs.declared.ProxyRow.{ProxyRow}
 use Rattle.com_proxy.specs.Rows.{is_for}
 use Rattle.com_refs_books.specs.Counting.{sum_below, count_if}
-use Rattle.com_refs_holders.specs.Tables.{Tables, owns_of, direct_in}
+use Rattle.com_refs_holders.specs.Tables.{Tables, owns_of, made_in, direct_in}
 
 abbrev pub local_at : (apartment object : ℕ) → ProxyRow → ℕ
 local_at a o row = if row.object == o && row.apartment == a then row.local else 0
@@ -39,6 +39,7 @@ distinct (row ∷ rows) = not (has_row rows row.apartment row.object row.iface) 
 pub record OneMore (t u : Tables) (a o : ℕ) (owned : Bool) : Type 0 where
   pub made : length u.objects ≡ length t.objects
   pub owns : (x c : ℕ) → owns_of u.objects x c ≡ owns_of t.objects x c
+  pub as_made : (x : ℕ) → made_in u.objects x ≡ made_in t.objects x
   pub direct : (x : ℕ) → direct_in u x ≡ direct_in t x + count_if (owned && x == o)
   pub elsewhere : (c x : ℕ) → places_in u c x ≡ places_in t c x + count_if (not owned && (c == a && x == o))
   pub all_elsewhere : (x : ℕ) → locals_of x u.proxies ≡ locals_of x t.proxies + count_if (not owned && x == o)
@@ -47,6 +48,7 @@ pub record OneMore (t u : Tables) (a o : ℕ) (owned : Bool) : Type 0 where
 pub record OneLess (t u : Tables) (a o : ℕ) (owned : Bool) : Type 0 where
   pub made : length u.objects ≡ length t.objects
   pub owns : (x c : ℕ) → owns_of u.objects x c ≡ owns_of t.objects x c
+  pub as_made : (x : ℕ) → made_in u.objects x ≡ made_in t.objects x
   pub direct : (x : ℕ) → direct_in u x + count_if (owned && x == o) ≡ direct_in t x
   pub elsewhere : (c x : ℕ) → places_in u c x + count_if (not owned && (c == a && x == o)) ≡ places_in t c x
   pub all_elsewhere : (x : ℕ) → locals_of x u.proxies + count_if (not owned && x == o) ≡ locals_of x t.proxies
@@ -55,6 +57,7 @@ pub record OneLess (t u : Tables) (a o : ℕ) (owned : Bool) : Type 0 where
 pub record SamePlaces (t u : Tables) : Type 0 where
   pub made : length u.objects ≡ length t.objects
   pub owns : (x c : ℕ) → owns_of u.objects x c ≡ owns_of t.objects x c
+  pub as_made : (x : ℕ) → made_in u.objects x ≡ made_in t.objects x
   pub direct : (x : ℕ) → direct_in u x ≡ direct_in t x
   pub elsewhere : (c x : ℕ) → places_in u c x ≡ places_in t c x
   pub all_elsewhere : (x : ℕ) → locals_of x u.proxies ≡ locals_of x t.proxies

@@ -1,6 +1,6 @@
 -- What contracts see of a `Holders`, and its reading as books.
-use Rattle.std.specs.Prelude.{ℕ, zero, suc, ◌+◌, ◌-◌, Bool, true, false, ◌==◌, ◌&&◌, ◌||◌, if◌then◌else◌}
-use Rattle.std.specs.Prelude.{List, [], map, length, nat_lt, slice_index, Option, Some, None, slice_index_or}
+use Rattle.std.specs.Prelude.{◌≡◌, ℕ, zero, suc, ◌+◌, ◌-◌, Bool, true, false, ◌==◌, ◌&&◌, ◌||◌, if◌then◌else◌}
+use Rattle.std.specs.Prelude.{List, [], map, length, nat_lt, nat_le, slice_index, Option, Some, None, slice_index_or}
 use Rattle.com_base.specs.declared.value.RefValue.{RefValue}
 use Rattle.com_packets.specs.declared.Packet as P
 use Rattle.com_proxy.specs.declared.ProxyRow.{ProxyRow}
@@ -47,6 +47,18 @@ abbrev pub object_in : List ObjectRow → ℕ → ObjectRow
 object_in rows zero = no_object
 object_in rows (suc place) = slice_index_or rows place no_object
 
+-- The object was made: objects are numbered from 1 on, in the order in which they are made.
+abbrev pub is_made : List ObjectRow → ℕ → Bool
+is_made rows o = nat_lt 0 o && nat_le o (length rows)
+
+-- An object as it was made: its owner, and whether every apartment owns it.
+abbrev pub made_in : List ObjectRow → ℕ → ObjectRow
+made_in rows o = record (object_in rows o) { direct = 0 }
+
+-- The owner of an object that was made; 0 of one that every apartment owns.
+abbrev pub owner_in : List ObjectRow → ℕ → Option ℕ
+owner_in rows o = if is_made rows o then Some (object_in rows o).owner else None
+
 -- The direct places of an object: those in apartments that own it.
 abbrev pub direct_in : Tables → ℕ → ℕ
 direct_in t o = (object_in t.objects o).direct
@@ -70,6 +82,10 @@ owners_of rows = map (λ row. row.owner) rows
 -- The interface is in the object's set.
 abbrev pub offers : Tables → (object iface : ℕ) → Bool
 offers t o i = has_counter t.counters o i
+
+-- Each object has the interfaces that it had.
+abbrev pub SameSets : Tables → Tables → Type 0
+SameSets t u = (x j : ℕ) → offers u x j ≡ offers t x j
 
 -- What is not connected reads as nothing.
 abbrev pub packet_read : (ℕ → Bool) → Option P.Packet → Packet

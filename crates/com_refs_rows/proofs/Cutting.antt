@@ -10,7 +10,7 @@ use Rattle.com_refs_books.specs.Ends.{stays, ends}
 use Rattle.com_refs_books.specs.declared.keeps.Packet.{Packet}
 use Rattle.com_refs_books.specs.declared.keeps.Cookie.{Cookie}
 use Rattle.com_refs_holders.specs.Places.{SamePlaces, places_of, locals_of}
-use Rattle.com_refs_holders.specs.Tables.{Tables, books_of, owns_of, object_in}
+use Rattle.com_refs_holders.specs.Tables.{Tables, books_of, owns_of, object_in, made_in}
 use Rattle.com_refs_holders.proofs.Same.{same_books}
 use Rattle.com_refs.proofs.Ends.{holds-kept, holds-same}
 use Rattle.com_refs.proofs.Losses.{live_is}
@@ -23,6 +23,7 @@ pub same_rows : (t u : Tables) → u.objects ≡ t.objects → u.proxies ≡ t.p
 same_rows t u eo er = record {
   made = ap (λ os. length os) eo;
   owns = λ x c. ap (λ os. owns_of os x c) eo;
+  as_made = λ x. ap (λ os. made_in os x) eo;
   direct = λ x. ap (λ os. (object_in os x).direct) eo;
   elsewhere = λ c x. ap (λ rs. places_of c x rs) er;
   all_elsewhere = λ x. ap (λ rs. locals_of x rs) er;
@@ -32,6 +33,7 @@ pub same_all : (t u v : Tables) → SamePlaces t u → SamePlaces u v → SamePl
 same_all t u v a b = record {
   made = b.made ∙ a.made;
   owns = λ x c. b.owns x c ∙ a.owns x c;
+  as_made = λ x. b.as_made x ∙ a.as_made x;
   direct = λ x. b.direct x ∙ a.direct x;
   elsewhere = λ c x. b.elsewhere c x ∙ a.elsewhere c x;
   all_elsewhere = λ x. b.all_elsewhere x ∙ a.all_elsewhere x;

@@ -10,7 +10,7 @@ use crate::rows::bring;
 use com_base::{Memory, RefValue};
 use com_classes::{Class, Classes, is_agile};
 use com_reference_moves::Move;
-use com_refs::Refs;
+use com_refs::{NewObject, Refs};
 
 // The interfaces of a class: IUnknown, and those of its list.
 fn fill_set(set: &mut Vec<u16>, class: &Class) -> Result<(), Memory>
@@ -60,14 +60,14 @@ pub fn make(
     };
     fill_set(set, class)?;
     refs.tells();
-    refs.made(
-        held.object,
+    let making = NewObject {
+        object: held.object,
         owner,
-        are_agile(class),
+        agile: are_agile(class),
         apartment,
-        held.iface,
-        set.as_slice(),
-    )?;
+        iface: held.iface,
+    };
+    refs.make_object(making, set.as_slice())?;
     refs.tells();
     bring(brought, apartment, held);
     Ok(())

@@ -50,20 +50,21 @@ pub struct Stubs {
 impl Model for Stubs {
     ghost use Rattle.std.specs.Prelude.{◌-◌, ◌/◌, vec_len, vec_capacity, min};
     ghost use Rattle.com_stub.specs.Tables.{StubTable, IsStubTable};
+    ghost use Rattle.com_stub.specs.declared.TheConstants.{MOST_INTERFACES};
 
     ghost Value = { StubTable };
 
     ghost view = { λ s. record {
       stubs = s.stubs.items;
       counters = s.counters.rows;
-      spare = min (s.counters.spare / 17) (min s.chains.spare (vec_capacity s.stubs - vec_len s.stubs));
+      spare = min (s.counters.spare / MOST_INTERFACES) (min s.chains.spare (vec_capacity s.stubs - vec_len s.stubs));
     } };
 
     ghost invariant = { λ s. IsStubTable s.stubs.items s.chains };
 }
 
-// The most interfaces that an object's set has.
-const MOST_INTERFACES: u32 = 17;
+/// The most interfaces that an object's set has: IUnknown, and 16 of its class.
+pub const MOST_INTERFACES: u32 = 17;
 
 // True exactly where the object has a stub that is connected.
 fn is_live(stubs: &[StubRow], chains: &Chains, object: u32) -> bool
@@ -119,7 +120,7 @@ impl Stubs {
     /// The only error is want of memory, and then no stub has changed.
     pub fn enroll(&mut self, object: u32, set: &[u16]) -> Result<(), Memory>
         requires new { has_stub self.old.stubs object ≡ false }
-        requires few { length set.now ≤ 17 }
+        requires few { length set.now ≤ MOST_INTERFACES }
         ensures ok { OnOk result (self.new.stubs
             ≡ self.old.stubs ++ record { object = object; is_connected = true } ∷ []) }
         ensures opened { OnOk result (self.new.counters ≡ opened_all object set.now self.old.counters) }

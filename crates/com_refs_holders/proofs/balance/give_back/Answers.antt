@@ -1,6 +1,6 @@
 use Rattle.std.proofs.Common.{arith, ◌∙◌}
 use Rattle.com_refs_holders.proofs.Giving.{publics_less, giving_goes_on}
-use Rattle.com_refs_holders.proofs.give_back.Goals as goal
+use Rattle.com_refs_holders.proofs.balance.give_back.Goals as goal
 
 pub loop-iface-smaller : goal.loop-iface-smaller
 loop-iface-smaller c =

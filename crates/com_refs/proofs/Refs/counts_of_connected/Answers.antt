@@ -2,7 +2,7 @@ use Rattle.std.proofs.Common.{◌≡◌, ◌<◌, ◌^◌, ◌∙◌, sym, arith
 use Rattle.com_proxy.specs.Rows.{public_sum}
 use Rattle.com_stub.specs.CounterRows.{sum_of}
 use Rattle.com_refs.proofs.Reported.{live_normal, live_proxies, live_stub, live_sum}
-use Rattle.com_refs.proofs.Refs.numbers_of_connected.Goals as goal
+use Rattle.com_refs.proofs.Refs.counts_of_connected.Goals as goal
 
 pub returns-clause-packets : goal.returns-clause-packets
 returns-clause-packets c =

@@ -1,6 +1,6 @@
 use Rattle.std.proofs.Common.{◌∙◌, sym}
 use Rattle.com_refs.proofs.Reported.{dead_proxies, dead_stub, dead_normal, dead_tables}
-use Rattle.com_refs.proofs.Refs.numbers.Goals as goal
+use Rattle.com_refs.proofs.Refs.counts.Goals as goal
 
 pub returns-then-not-is_connected-clause-proxies : goal.returns-then-not-is_connected-clause-proxies
 returns-then-not-is_connected-clause-proxies c = rw (← c.self.view_is) (λ n m w. sym (dead_proxies c.self.inside.holders c.args.object (sym c.is_connected.ensures ∙ c.if-not-is_connected.true) n m))

@@ -1,6 +1,6 @@
 use Rattle.std.proofs.Common.{◌∙◌, sym}
 use Rattle.com_refs_holders.proofs.Giving.{only_less, gone, same_public}
-use Rattle.com_refs_holders.proofs.let_go.Goals as goal
+use Rattle.com_refs_holders.proofs.balance.let_go.Goals as goal
 
 pub returns-then-not-free-clause-released : goal.returns-then-not-free-clause-released
 returns-then-not-free-clause-released c = rw c.release-free.ensures.rows (only_less c.args.apartment c.args.held.object c.args.proxies.now.rows c.args.stubs.now.counters c.args.held.iface c.requires.held)

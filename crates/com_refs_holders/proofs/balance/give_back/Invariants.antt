@@ -1,6 +1,6 @@
 use Rattle.std.proofs.Common.{◌≡◌}
 use Rattle.com_refs_holders.specs.Stands.{Giving, publics}
-use Rattle.com_refs_holders.proofs.give_back.Given as goal
+use Rattle.com_refs_holders.proofs.balance.give_back.Given as goal
 
 abbrev pub invariant-loop-iface : goal.invariant-loop-iface
 invariant-loop-iface l = record {

@@ -3,7 +3,7 @@ use Rattle.com_keyed.specs.Indices.{reach}
 use Rattle.com_keyed.proofs.Walking.{Walks}
 use Rattle.com_stub.specs.StubRows.{is_connected, has_stub}
 use Rattle.com_refs_holders.specs.Tables.{is_owned}
-use Rattle.com_refs_holders.proofs.end_all.Given as goal
+use Rattle.com_refs_holders.proofs.lives.end_all.Given as goal
 
 abbrev pub invariant-loop-at : goal.invariant-loop-at
 invariant-loop-at l = record {

@@ -1,7 +1,7 @@
 use Rattle.std.proofs.Common.{◌∙◌, ◌+◌}
 use Rattle.com_refs_holders.proofs.Cuts.{ended_has}
 use Rattle.com_refs_holders.proofs.Owners.{owners_go_on, others_stay, owners_end}
-use Rattle.com_refs_holders.proofs.end_all.Goals as goal
+use Rattle.com_refs_holders.proofs.lives.end_all.Goals as goal
 
 pub loop-at-preserved : goal.loop-at-preserved
 loop-at-preserved c =
