@@ -1,11 +1,9 @@
 -- A turn is such as the ledger asks for.
-use Rattle.std.proofs.Common.{◌≡◌, ℕ, ◌<◌, ◌≤◌, sym, ap, subst, ◌∙◌}
+use Rattle.std.proofs.Common.{◌≡◌, ℕ, ◌<◌, ◌≤◌, sym, ap, ◌∙◌}
 use Rattle.std.specs.Prelude.{List, Option, Some}
 use Rattle.com_body.specs.declared.frame.Outcome.{Outcome}
 use Rattle.com_calls.specs.Kept.{IsNamed}
-use Rattle.com_model.specs.declared.deeds.Deed.{Deed}
 use Rattle.com_model.specs.declared.scenario.Scenario.{Scenario}
-use Rattle.com_model.specs.Deeds.{owned_by}
 use Rattle.com_model.specs.Ends.{limit}
 use Rattle.com_model.specs.Lists.{number_or_zero}
 use Rattle.com_model.specs.Rules.{lane_next}

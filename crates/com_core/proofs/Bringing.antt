@@ -1,7 +1,6 @@
 -- What comes to places by an entry: references that pass a test, where what its step writes and what it carries do; and few of them.
-use Rattle.std.proofs.Common.{◌≡◌, ℕ, zero, suc, Bool, true, false, cond, not, ◌&&◌, ◌||◌, ◌+◌, ◌<◌, ◌≤◌, List, [], ◌∷◌, ◌++◌, length, refl, sym, ap, subst, ◌∙◌, arith}
+use Rattle.std.proofs.Common.{◌≡◌, ℕ, zero, suc, true, false, cond, not, ◌&&◌, ◌+◌, ◌<◌, ◌≤◌, List, [], ◌∷◌, ◌++◌, length, refl, sym, ap, subst, arith}
 use Rattle.std.specs.Prelude.{Option, Some, None, All, slice_index_or}
-use Rattle.com_base.specs.declared.hresult.HResult.{HResult}
 use Rattle.com_base.specs.declared.value.RefValue.{RefValue}
 use Rattle.com_base.specs.declared.value.Value.{Value}
 use Rattle.com_base.specs.declared.value.Value.TheVariants as value
@@ -21,7 +20,7 @@ use Rattle.com_model.specs.Calls.{is_direct, route_of}
 use Rattle.com_model.specs.Frames.{Actor, Body, Script, Nobody, taken_in, value_reference}
 use Rattle.com_model.specs.Places.{Ground}
 use Rattle.com_model.specs.State.{SceneTables}
-use Rattle.com_laws_places.specs.Moves.{Move as Moving, Moves as Movings, moved, all_moved, entered_where, result_moved, slots_where}
+use Rattle.com_laws_places.specs.Moves.{Move as Moving, moved, all_moved, entered_where, result_moved, slots_where}
 use Rattle.com_laws_values.specs.Held.{HeldBy, ValueBy, ResultBy}
 use Rattle.com_laws_values.proofs.Scenes.{OutBy}
 use Rattle.com_laws_values.proofs.Walks.{ActionBy, all-head, all-tail}

@@ -1,7 +1,7 @@
 -- The next entry of a lane is such as the ledger asks for, where the ledger is tied to the lane's state.
 use Rattle.std.proofs.Common.{◌≡◌, ℕ, zero, suc, Bool, true, false, cond, ◌==◌, ◌||◌, ◌&&◌, ◌+◌, ◌-◌, ◌*◌, ◌<◌, ◌≤◌, ◌^◌, List, [], ◌∷◌, length, refl, sym, ap, subst, ◌∙◌, arith}
 use Rattle.std.proofs.lemmas.Grind.{common_steps}
-use Rattle.std.specs.Prelude.{Option, Some, None, All, slice_get, slice_index_or}
+use Rattle.std.specs.Prelude.{Option, Some, None, All, slice_get}
 use Rattle.com_base.specs.declared.hresult.HResult.{HResult}
 use Rattle.com_base.specs.declared.value.RefValue.{RefValue}
 use Rattle.com_base.specs.declared.value.Value.{Value}
@@ -14,7 +14,6 @@ use Rattle.com_body.specs.declared.operands.Asked.{Asked}
 use Rattle.com_body.specs.declared.operands.Asked.TheVariants as asked
 use Rattle.com_classes.specs.declared.classes.Class.{Class}
 use Rattle.com_classes.specs.Lookups.{class_at, has_interface}
-use Rattle.com_classes.specs.Tables.{Tables as ClassTables}
 use Rattle.com_model.specs.declared.deeds.Deed.{Deed}
 use Rattle.com_model.specs.declared.deeds.Deed.TheVariants as deed
 use Rattle.com_model.specs.declared.deeds.Entry.{Entry}
@@ -24,16 +23,16 @@ use Rattle.com_model.specs.declared.scenario.Scenario.{Scenario}
 use Rattle.com_model.specs.Answers.{is_S_OK}
 use Rattle.com_model.specs.Apartments.{next_sta}
 use Rattle.com_refs_books.specs.Changes.{Books}
-use Rattle.com_model.specs.Books.{books, out_values}
-use Rattle.com_model.specs.Calls.{calls, issue}
+use Rattle.com_model.specs.Books.{out_values}
+use Rattle.com_model.specs.Calls.{calls}
 use Rattle.com_model.specs.Ends.{limit}
 use Rattle.com_model.specs.Formed.{EachFrom, Formed, IsClass, IsNative}
 use Rattle.com_model.specs.Deeds.{owned_by}
-use Rattle.com_model.specs.Frames.{Actor, Scene, act, reference, scene, taken_in}
+use Rattle.com_model.specs.Frames.{Actor, Scene, reference, scene, taken_in}
 use Rattle.com_model.specs.Lists.{number_or_zero}
-use Rattle.com_model.specs.Objects.{asked_number, class_of, makes, objects}
+use Rattle.com_model.specs.Objects.{asked_number, makes, objects}
 use Rattle.com_model.specs.Rules.{legal, next}
-use Rattle.com_model.specs.State.{State, StandsFor, books_in, class_in, issue_in, next_of, objects_in, owns_in, running_in, scene_in, sight_of}
+use Rattle.com_model.specs.State.{State, books_in, class_in, issue_in, next_of, owns_in, running_in, scene_in, sight_of}
 use Rattle.com_model.specs.Values.{carried, result_list}
 use Rattle.com_model.proofs.Fines.{FineBy}
 use Rattle.com_model.proofs.Onces.{InRange, Names, call_named, named-in-range}
@@ -49,8 +48,6 @@ use Rattle.com_laws_values.proofs.Packets.{ActBy, values-by}
 use Rattle.com_laws_values.proofs.Scenes.{OutBy, SceneBy, more-scene, outcome-by}
 use Rattle.com_laws_values.proofs.Walks.{all-head, all-tail, more-result, more-value}
 use Rattle.com_model.proofs.Goods.{all-of}
-use Rattle.com_reference_moves.specs.declared.moves.Move.{Move}
-use Rattle.com_reference_moves.specs.Steps.{moves_stepped, movings_of}
 use Rattle.com_reference_moves.specs.Tables.{ground_at}
 use Rattle.com_parts.specs.Tables.{PartTables}
 use Rattle.com_laws_places.specs.Moves.{Move as Moving}
@@ -59,12 +56,12 @@ use Rattle.com_scene.specs.Ranges.{FitsDeed}
 use Rattle.com_refs_holders.specs.Tables.{Tables, offers, owns_of}
 use Rattle.com_stub.specs.StubRows.{is_connected}
 use Rattle.com_turns.specs.Turns.{carried_with}
-use Rattle.com_refs_rows.specs.Books.{Held, books_held}
-use Rattle.com_refs_rows.specs.Entries.{AllGiven, tally}
+use Rattle.com_refs_rows.specs.Books.{Held}
+use Rattle.com_refs_rows.specs.Entries.{tally}
 use Rattle.com_refs_rows.specs.Fits.{FitsBooks, FitsRow, IsAsked, IsHeld}
-use Rattle.com_refs_rows.specs.Moving.{AllKnown, no_move}
+use Rattle.com_refs_rows.specs.Moving.{AllKnown}
 use Rattle.com_refs_rows.specs.Owners.{offers_made}
-use Rattle.com_ledger.specs.Ties.{OffersTie, Ties}
+use Rattle.com_ledger.specs.Ties.{Ties}
 use Rattle.com_core.specs.Making.{Brings}
 use Rattle.com_core.specs.Stands.{IsReached}
 use Rattle.com_core.proofs.Bringing.{AllMoves, CarriesBy, each_moved, gained_by, gained_few}

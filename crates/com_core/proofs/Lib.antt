@@ -6,6 +6,8 @@ pub mod Fitting
 pub mod Bringing
 pub mod Fits
 pub mod Booked
+pub mod Acting
+pub mod Roomy
 pub mod Entries
 pub mod Readings
 pub mod Moved

@@ -447,7 +447,7 @@ impl Running {
     }
 
     // The turn of a lane that can step.
-    #[tactic(auto, using(crate::proofs::Whole::bodies_whole, crate::proofs::Runs::room_for_sta))]
+    #[tactic(auto, using(crate::proofs::Whole::bodies_whole))]
     fn turn_of(
         &self,
         scenario: &Scenario,
@@ -458,9 +458,9 @@ impl Running {
     ) -> Result<Turn, Memory>
         requires none { step.old ≡ None }
         requires sound { Sound self.now.parts self.now.entered.counts }
-        requires few { Few self.now.parts }
         requires core { IsWholeCore (kept_of scenario.now self.now) }
         requires can { can_step_in scenario.now (core_state (kept_of scenario.now self.now)) lane ≡ true }
+        requires room { self.now.parts.entries < limit scenario.now }
         requires row { map kind_of servants.old.items ≡ row }
         ensures whole { IsWhole step.new }
         ensures named { IsNamed self.now.parts.objects self.now.parts.calls }

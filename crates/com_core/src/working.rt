@@ -86,7 +86,6 @@ impl Running {
 
     // The turn of a lane in which a body acts, by a step that was computed before. The only error is want of
     // memory.
-    #[tactic(auto, using(crate::proofs::Runs::room_for_sta))]
     fn given_turn_of(
         &self,
         scenario: &Scenario,
@@ -94,7 +93,8 @@ impl Running {
         lane: u32,
         outcome: &Outcome,
     ) -> Result<Turn, Memory>
-        requires few { Few self.now.parts }
+        requires core { IsWholeCore (kept_of scenario.now self.now) }
+        requires room { self.now.parts.entries < limit scenario.now }
         requires body { is_body (first (openers_at self.now.parts.lanes lane)) ≡ true }
         requires step { (c o a : ℕ) → first (openers_at self.now.parts.lanes lane) ≡ Some (Enters c o a)
             → outcome.now
@@ -193,7 +193,6 @@ impl Running {
     }
 
     // The turn of a lane that can step, in which no body is innermost.
-    #[tactic(auto, using(crate::proofs::Runs::room_for_sta))]
     fn own_turn_of(
         &self,
         scenario: &Scenario,
@@ -202,10 +201,10 @@ impl Running {
         step: &mut Option<Outcome>,
     ) -> Result<Turn, Memory>
         requires none { step.old ≡ None }
-        requires few { Few self.now.parts }
         requires core { IsWholeCore (kept_of scenario.now self.now) }
         requires body { is_body (first (openers_at self.now.parts.lanes lane)) ≡ false }
         requires can { can_step_in scenario.now (core_state (kept_of scenario.now self.now)) lane ≡ true }
+        requires room { self.now.parts.entries < limit scenario.now }
         ensures whole { IsWhole step.new }
         ensures named { IsNamed self.now.parts.objects self.now.parts.calls }
         ensures turn { IfOk result (λ made. IsTurn

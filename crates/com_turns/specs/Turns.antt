@@ -25,6 +25,7 @@ use Rattle.com_model.specs.Rules.{lane_next}
 use Rattle.com_model.specs.State.{is_marshalled_by, scene_read}
 use Rattle.com_model.specs.Values.{carried, result_list}
 use Rattle.com_model.specs.Tables.{LaneSort, lane_sort, script}
+use Rattle.com_rules.specs.Fits.{FitsAction}
 use Rattle.com_scene.specs.Actors.{acting_of}
 use Rattle.com_runtime.specs.Turns.{body_kind}
 use Rattle.com_state.specs.Parts.{Issuing, class_at, issue_at, named_at, openers_at, lanes_after}
@@ -72,6 +73,10 @@ actor_later w l d =
 pub record Steps (w : Seen) (l : ℕ) (a : Acting) (r : Outcome) : Type 0 where
   pub acts : unless_over (actor_seen w l) (outcome_seen w (actor_seen w l)) ≡ a
   pub step : outcome_seen w a ≡ Some r
+
+-- The numbers of each action fit that somebody makes by a step.
+abbrev pub ActsFit : Seen → Type 0
+ActsFit w = (a : Acting) (r : Outcome) → outcome_seen w a ≡ Some r → FitsAction r.action
 
 -- ---- what goes with an entry
 

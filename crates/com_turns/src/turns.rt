@@ -1,7 +1,6 @@
 //! The turn of a lane.
 
-ghost use Rattle.std.specs.Prelude.{◌≡◌, ℕ, ◌+◌, ◌≤◌, ◌^◌, [], IfOk, None, OnOk, Some};
-ghost use Rattle.std.specs.Prelude.{false, length, map, true};
+ghost use Rattle.std.specs.Prelude.{◌≡◌, ℕ, ◌≤◌, [], IfOk, None, OnOk, Some, false, map, true};
 ghost use Rattle.com_model.specs.declared.keeps.Opener.TheVariants.{Enters};
 ghost use Rattle.com_model.specs.Deeds.{deed_of};
 ghost use Rattle.com_model.specs.Frames.{Nobody, is_leave};
@@ -10,18 +9,18 @@ ghost use Rattle.com_model.specs.Rules.{is_script_turn, lane_next, next_by, rule
 ghost use Rattle.com_model.specs.Tables.{lane_sort, lanes};
 ghost use Rattle.com_model.specs.Openers.{is_body};
 ghost use Rattle.com_reference_moves.specs.Steps.{BodiesWhole, IsWhole};
-ghost use Rattle.com_rules.specs.Acts.{Issues, carried_by};
+ghost use Rattle.com_rules.specs.Room.{HasRoom};
 ghost use Rattle.com_scene.specs.Actors.{acting_of};
 ghost use Rattle.com_servant.specs.Rows.{one_served, row};
 ghost use Rattle.com_state.specs.Parts.{openers_at};
-ghost use Rattle.com_turns.specs.Turns.{IsNext, IsTurn, Steps, body_seen, deed_made, kind_seen};
+ghost use Rattle.com_turns.specs.Turns.{ActsFit, IsNext, IsTurn, Steps, body_seen, deed_made, kind_seen};
 ghost use Rattle.com_view.specs.Seen.{bare, sight_by};
 
 use crate::steps::{body_step, script_step};
 use com_base::{Memory, Rows};
 use com_body::{Action, Outcome};
 use com_model::{Deed, Opener};
-use com_rules::{Doing, Found, act, fits, has_room, rule_deed, script_over};
+use com_rules::{Doing, Found, act, rule_deed, script_over};
 use com_scene::Actor;
 use com_servant::Servant;
 use com_view::View;
@@ -35,12 +34,6 @@ pub struct Turn {
     pub acting: Actor,
     /// The entry, and what goes with it.
     pub doing: Doing,
-}
-
-// The answer where a step's action or the numbers of its entry are beyond their ranges. No core comes to such
-// parts; that is not proved.
-fn unproved_fact() -> Memory {
-    Memory
 }
 
 // An entry that is nobody's step.
@@ -60,31 +53,6 @@ fn by_rule(alloc: Global, deed: Deed) -> Turn
     }
 }
 
-// The entry of a step's action.
-fn doing_of<B: Found>(
-    view: &View<'_>,
-    books: &B,
-    alloc: Global,
-    lane: u32,
-    action: &Action,
-) -> Result<Doing, Memory>
-    requires stas { length view.now.lanes.stas + 4 ≤ 2 ^ 32 }
-    ensures deed { IfOk result (λ made. made.deed
-        ≡ deed_of view.now.scenario (sight_by view.now (B.books books.now)) lane action.now) }
-    ensures issued { IfOk result (λ made. Issues view.now.scenario
-        (sight_by view.now (B.books books.now)) lane action.now made.deed made.issued) }
-    ensures carried { IfOk result (λ made. made.carried
-        ≡ carried_by view.now.scenario (B.books books.now) action.now made.deed) }
-{
-    if !has_room(view, books) {
-        return Err(unproved_fact());
-    }
-    if !fits(action) {
-        return Err(unproved_fact());
-    }
-    act(view, books, alloc, lane, action)
-}
-
 // The turn of whoever goes on by a step in a lane.
 fn step_turn<B: Found>(
     view: &View<'_>,
@@ -94,14 +62,15 @@ fn step_turn<B: Found>(
     acting: Actor,
     outcome: &Outcome,
 ) -> Result<Turn, Memory>
-    requires stas { length view.now.lanes.stas + 4 ≤ 2 ^ 32 }
+    requires room { HasRoom view.now (B.books books.now) }
+    requires acts { ActsFit view.now }
     requires steps { Steps view.now lane (acting_of acting) outcome.now }
     requires next { lane_next view.now.scenario (sight_by view.now (B.books books.now)) lane
         ≡ Some (deed_of view.now.scenario (sight_by view.now (B.books books.now)) lane
         outcome.now.action) }
     ensures turn { IfOk result (λ made. IsTurn view.now (B.books books.now) lane (Some outcome.now) made) }
 {
-    let doing = doing_of(view, books, alloc, lane, &outcome.action)?;
+    let doing = act(view, books, alloc, lane, &outcome.action)?;
     Ok(Turn { acting, doing })
 }
 
@@ -125,7 +94,8 @@ fn own_step<B: Found>(
     step: &mut Option<Outcome>,
 ) -> Result<Turn, Memory>
     requires none { step.old ≡ None }
-    requires stas { length view.now.lanes.stas + 4 ≤ 2 ^ 32 }
+    requires room { HasRoom view.now (B.books books.now) }
+    requires acts { ActsFit view.now }
     requires script { is_script_turn (lane_sort view.now.scenario lane)
         (top (bare view.now) lane) ((bare view.now).over lane) ≡ true }
     requires no_final { rule_final (sight_by view.now (B.books books.now)) lane ≡ None }
@@ -152,7 +122,8 @@ fn script_turn<B: Found>(
     step: &mut Option<Outcome>,
 ) -> Result<Turn, Memory>
     requires none { step.old ≡ None }
-    requires stas { length view.now.lanes.stas + 4 ≤ 2 ^ 32 }
+    requires room { HasRoom view.now (B.books books.now) }
+    requires acts { ActsFit view.now }
     requires script { is_script_turn (lane_sort view.now.scenario lane)
         (top (bare view.now) lane) ((bare view.now).over lane) ≡ true }
     ensures whole { IsWhole step.new }
@@ -193,7 +164,8 @@ pub fn own_turn<B: Found>(
     step: &mut Option<Outcome>,
 ) -> Result<Option<Turn>, Memory>
     requires none { step.old ≡ None }
-    requires stas { length view.now.lanes.stas + 4 ≤ 2 ^ 32 }
+    requires room { HasRoom view.now (B.books books.now) }
+    requires acts { ActsFit view.now }
     requires body { is_body (top (bare view.now) lane) ≡ false }
     ensures whole { IsWhole step.new }
     ensures turn { IfOk result (λ made. IsNext view.now (B.books books.now) lane step.new made) }
@@ -213,7 +185,8 @@ pub fn given_turn<B: Found>(
     lane: u32,
     outcome: &Outcome,
 ) -> Result<Turn, Memory>
-    requires stas { length view.now.lanes.stas + 4 ≤ 2 ^ 32 }
+    requires room { HasRoom view.now (B.books books.now) }
+    requires acts { ActsFit view.now }
     requires body { is_body (top (bare view.now) lane) ≡ true }
     requires step { (c o a : ℕ) → first (openers_at view.now.lanes lane) ≡ Some (Enters c o a)
         → outcome.now ≡ body_seen view.now c o }
@@ -222,7 +195,7 @@ pub fn given_turn<B: Found>(
     let Some(Opener::Enters { call, object, .. }) = view.lanes.top(lane) else {
         unreachable!()
     };
-    let doing = doing_of(view, books, alloc, lane, &outcome.action)?;
+    let doing = act(view, books, alloc, lane, &outcome.action)?;
     Ok(Turn {
         acting: Actor::Body { call, object },
         doing,
@@ -241,7 +214,8 @@ fn body_turn<B: Found>(
     step: &mut Option<Outcome>,
 ) -> Result<Option<Turn>, Memory>
     requires none { step.old ≡ None }
-    requires stas { length view.now.lanes.stas + 4 ≤ 2 ^ 32 }
+    requires room { HasRoom view.now (B.books books.now) }
+    requires acts { ActsFit view.now }
     requires body { is_body (top (bare view.now) lane) ≡ true }
     requires bodies { BodiesWhole view.now.scene }
     requires row { map kind_of servants.old.items ≡ row }
@@ -283,7 +257,8 @@ pub fn next_turn<B: Found>(
     step: &mut Option<Outcome>,
 ) -> Result<Option<Turn>, Memory>
     requires none { step.old ≡ None }
-    requires stas { length view.now.lanes.stas + 4 ≤ 2 ^ 32 }
+    requires room { HasRoom view.now (B.books books.now) }
+    requires acts { ActsFit view.now }
     requires bodies { BodiesWhole view.now.scene }
     requires row { map kind_of servants.old.items ≡ row }
     ensures whole { IsWhole step.new }

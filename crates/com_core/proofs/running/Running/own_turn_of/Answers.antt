@@ -1,13 +1,15 @@
 -- A turn is that of what is read of the core.
-use Rattle.std.proofs.Common.{◌≡◌, None, Option, subst}
+use Rattle.std.proofs.Common.{◌≡◌, None, Option, subst, sym}
+use Rattle.com_rules.specs.Room.{HasRoom}
 use Rattle.com_refs_rows.specs.Books.{books_held}
 use Rattle.com_runtime.proofs.Limits.{not-some}
 use Rattle.com_turns.specs.declared.turns.Turn.{Turn}
-use Rattle.com_turns.specs.Turns.{IsNext, IsTurn}
+use Rattle.com_turns.specs.Turns.{ActsFit, IsNext, IsTurn}
 use Rattle.com_view.specs.Seen.{Seen, sight_by}
 use Rattle.com_model.specs.Rules.{lane_next}
 use Rattle.com_core.specs.Stands.{seen_by, state_read}
 use Rattle.com_core.proofs.Turned.{none_next}
+use Rattle.com_core.proofs.Roomy.{acts_seen, room_seen}
 use Rattle.com_core.proofs.running.Running.own_turn_of.Goals as goal
 
 pub returns-clause-turn : goal.returns-clause-turn
@@ -26,3 +28,17 @@ unreachable-requires c =
     (subst (λ (t : Option Turn). IsNext c.view-view.result b c.args.lane c.own_turn.new.step t) (not-some c.in_ok-turn.turn c.in_default.not-Some) c.in_ok-turn.ensures.turn) in
     none_next s (state_read s r.parts b r.fallen.objects r.clock) r.parts b r.fallen.objects r.clock c.args.lane
     c.requires.core.reached c.requires.core.stands c.view-view.ensures.named c.requires.can none
+
+pub own_turn-requires-clause-room : goal.own_turn-requires-clause-room
+own_turn-requires-clause-room c =
+    let s = c.args.scenario.now in
+    let r = c.args.self.now in
+    let b = books_held r.ledger in
+    subst (λ (w : Seen). HasRoom w b) (sym c.view-view.ensures.value)
+    (room_seen s (state_read s r.parts b r.fallen.objects r.clock) r.parts b r.fallen.objects r.clock c.requires.core.reached c.requires.core.stands c.requires.room)
+
+pub own_turn-requires-clause-acts : goal.own_turn-requires-clause-acts
+own_turn-requires-clause-acts c =
+    let s = c.args.scenario.now in
+    let r = c.args.self.now in
+    subst (λ (w : Seen). ActsFit w) (sym c.view-view.ensures.value) (acts_seen (seen_by s r.parts r.fallen.objects r.clock) c.requires.core.reached.formed)
