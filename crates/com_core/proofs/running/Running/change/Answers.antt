@@ -111,8 +111,8 @@ returns-clause-booked c =
     let p = c.begin_parts.new.self in
     let b = c.book.new.self in
     let d = a.entry.now.deed in
-    let g : PartTables → Around = λ t. around t.calls.tables t.objects a.scenario.now.classes a.carried.now (number_or_zero a.basis.running) in
-    let m : Moves = moves_stepped (ground_at a.basis.home v.parts.objects v.parts.calls.tables) v.parts.scene (acting_of a.acting) a.outcome.now (acting_of a.basis.after) a.entry.now in
+    let g : PartTables → Around = λ t. around t.calls.tables t.objects a.scenario.now.classes a.carried.now (number_or_zero a.seat.running) in
+    let m : Moves = moves_stepped (ground_at a.seat.home v.parts.objects v.parts.calls.tables) v.parts.scene (acting_of a.acting) a.outcome.now (acting_of a.basis.after) a.entry.now in
     let same : parts_shown p.parts ≡ parts_shown v.parts = c.begin_parts.ensures.same ∙ ap parts_shown c.prepare.ensures.parts in
     subst (λ (h : Held). Booked (g v.parts) d m v.ledger h) (sym (c.settle.ensures.ledger ∙ c.finish_parts.ensures.ledger))
     (subst (λ (h : Held). Booked (g v.parts) d m h b.ledger) (c.begin_parts.ensures.ledger ∙ c.prepare.ensures.ledger)
