@@ -21,3 +21,4 @@ pub mod Kept
 pub mod Counted
 pub mod Served
 pub mod Worked
+pub mod Quiet

@@ -6,3 +6,4 @@ pub mod Nexts
 pub mod Changes
 pub mod Beginning
 pub mod Making
+pub mod Quiet

@@ -1,10 +1,12 @@
 //! The change of a core by an entry.
 
-ghost use Rattle.std.specs.Prelude.{◌≡◌, ℕ, ◌+◌, ◌<◌, ◌≤◌, ◌^◌, All, IfOk, List, OnErr, OnOk, true};
+ghost use Rattle.std.specs.Prelude.{◌≡◌, ℕ, ◌+◌, ◌<◌, ◌≤◌, ◌^◌, All, IfOk, List, OnErr, OnOk, Option, true};
 ghost use Rattle.std.specs.Prelude.{is_some, length, map, slice_index_or, vec_capacity};
+ghost use Rattle.com_base.specs.declared.value.RefValue.{RefValue};
 ghost use Rattle.com_calls.specs.Kept.{IsNamed};
 ghost use Rattle.com_core.specs.Changes.{Becomes, Settles, sent_by};
 ghost use Rattle.com_core.specs.Making.{Booked, BookedBy, Brings, Changed};
+ghost use Rattle.com_core.specs.Quiet.{is_still};
 ghost use Rattle.com_core.specs.Seen.{IsAsBefore, IsWhole as IsWholeCore, TurnsTo};
 ghost use Rattle.com_core.specs.Seen.{core_state, kept_of};
 ghost use Rattle.com_core.specs.Shown.{held_shown, parts_shown};
@@ -18,6 +20,7 @@ ghost use Rattle.com_ledger.specs.Ties.{Ties};
 ghost use Rattle.com_refs_rows.specs.Books.{books_held};
 ghost use Rattle.com_refs_rows.specs.Entries.{AllGiven, around, most_left, tally};
 ghost use Rattle.com_refs_rows.specs.Fits.{FitsBooks, most_gained};
+ghost use Rattle.com_model.specs.declared.scenario.Scenario.{Scenario};
 ghost use Rattle.com_model.specs.Calls.{lane_of};
 ghost use Rattle.com_model.specs.Clock.{ticked};
 ghost use Rattle.com_model.specs.Ends.{limit};
@@ -49,13 +52,18 @@ use com_servant::Servant;
 use com_turns::{Doing, Turn, actor_after, is_filtered, next_turn};
 use std::alloc::Global;
 
-// What an entry's change rests on of the parts before it: who acts in the lane after the entry, whether the
-// caller's lane of the call of a Verdict has a message filter, the home of the lane, and the apartment in
-// which it runs.
+// What an entry's change of the parts rests on, as it is before it: who acts in the lane after the entry, and
+// whether the caller's lane of the call of a Verdict has a message filter.
 #[derive(Debug, Clone, Copy)]
 struct Basis {
     after: Actor,
     has_filter: bool,
+}
+
+// What an entry's change of the books rests on beside that: the home of the lane before the entry, and the
+// apartment in which it runs.
+#[derive(Debug, Clone, Copy)]
+struct Seat {
     home: Option<u32>,
     running: Option<u32>,
 }
@@ -84,13 +92,22 @@ fn clock_after(deed: &Deed, clock: u64) -> u64
 }
 
 impl Running {
-    // What an entry's change rests on.
-    fn basis(&self, scenario: &Scenario, entry: &Entry) -> Basis
+    // What an entry's change of the books rests on, beside what that of the parts does.
+    fn seat(&self, scenario: &Scenario, lane: u32) -> Seat
         ensures home { result.home ≡ home_seen
-            (seen_by scenario.now self.now.parts self.now.fallen.objects self.now.clock) entry.now.lane }
+            (seen_by scenario.now self.now.parts self.now.fallen.objects self.now.clock) lane }
         ensures running { result.running
-            ≡ running_seen (seen_by scenario.now self.now.parts self.now.fallen.objects self.now.clock)
-            entry.now.lane }
+            ≡ running_seen (seen_by scenario.now self.now.parts self.now.fallen.objects self.now.clock) lane }
+    {
+        let view = self.view(scenario);
+        Seat {
+            home: view.home(lane),
+            running: view.running(lane),
+        }
+    }
+
+    // What an entry's change of the parts rests on.
+    fn basis(&self, scenario: &Scenario, entry: &Entry) -> Basis
         ensures after { length (openers_at self.now.parts.lanes entry.now.lane) < 2 ^ 32
             → entry.now.lane < length self.now.parts.lanes.openers
             → acting_of result.after ≡ actor_later
@@ -104,8 +121,6 @@ impl Running {
         Basis {
             after: actor_after(&view, entry.lane, &entry.deed),
             has_filter: is_filtered(&view, &entry.deed),
-            home: view.home(entry.lane),
-            running: view.running(entry.lane),
         }
     }
 
@@ -141,7 +156,8 @@ impl Running {
     #[tactic(auto, using(crate::proofs::Whole::bodies_whole, crate::proofs::Whole::frame_whole))]
     fn prepare(
         &mut self,
-        basis: Basis,
+        home: Option<u32>,
+        after: Actor,
         acting: Actor,
         outcome: &Option<Outcome>,
         entry: &Entry,
@@ -150,8 +166,8 @@ impl Running {
         requires deed { FitsDeed entry.now.deed }
         requires whole { IsWhole outcome.now }
         ensures moves { OnOk result (self.new.moves ≡ moves_stepped
-            (ground_at basis.home self.old.parts.objects self.old.parts.calls.tables) self.old.parts.scene
-            (acting_of acting) outcome.now (acting_of basis.after) entry.now) }
+            (ground_at home self.old.parts.objects self.old.parts.calls.tables) self.old.parts.scene
+            (acting_of acting) outcome.now (acting_of after) entry.now) }
         ensures body { OnOk result (0 < self.new.entered.spare) }
         ensures dying { OnOk result (most_left self.old.ledger.calls self.old.parts.objects entry.now.deed
             self.new.moves + 1 ≤ self.new.fallen.spare) }
@@ -164,13 +180,13 @@ impl Running {
         ensures clock { self.new.clock ≡ self.old.clock }
     {
         self.moves.fill(
-            basis.home,
+            home,
             self.parts.objects(),
             self.parts.calls(),
             self.parts.scene(),
             acting,
             outcome,
-            basis.after,
+            after,
             entry,
         )?;
         self.make_room(entry)
@@ -182,18 +198,18 @@ impl Running {
     fn book(
         &mut self,
         scenario: &Scenario,
-        basis: Basis,
+        seat: Seat,
         carried: &[RefValue],
         entry: &Entry,
     ) -> Result<(), Memory>
         requires deed { FitsDeed entry.now.deed }
-        requires fits { FitsBooks scenario.now.classes carried.now (number_or_zero basis.running)
+        requires fits { FitsBooks scenario.now.classes carried.now (number_or_zero seat.running)
             (tally self.old.ledger.tables self.old.ledger.calls) entry.now.deed }
         requires known { (gained : List Move) → movings_of gained ≡ self.old.moves.gained
             → AllGiven scenario.now.classes self.old.ledger.tables entry.now.deed gained }
         requires gained { length self.old.moves.gained ≤ most_gained }
         ensures booked { OnOk result (Booked (around self.old.parts.calls.tables self.old.parts.objects
-            scenario.now.classes carried.now (number_or_zero basis.running)) entry.now.deed self.old.moves
+            scenario.now.classes carried.now (number_or_zero seat.running)) entry.now.deed self.old.moves
             self.old.ledger self.new.ledger) }
         ensures few { OnOk result (length self.new.ledger.touched ≤ most_left self.old.ledger.calls
             self.old.parts.objects entry.now.deed self.old.moves) }
@@ -205,8 +221,8 @@ impl Running {
         ensures clock { self.new.clock ≡ self.old.clock }
     {
         let context = Context {
-            home: basis.home,
-            running: basis.running,
+            home: seat.home,
+            running: seat.running,
             objects: self.parts.objects(),
             calls: self.parts.calls(),
             classes: &scenario.classes,
@@ -311,6 +327,48 @@ impl Running {
         self.fallen.settle(released_by(deed), self.fresh.as_slice());
     }
 
+    // Makes of all what an entry makes of it that moves no reference, has no row in the books, and begins and
+    // ends no body: no object begins to die. The only error is want of memory, and then all is as before but
+    // for room, and so is the step.
+    #[tactic(auto, using(crate::proofs::Shown::as_moved, crate::proofs::Shown::held_alike))]
+    fn change_still(
+        &mut self,
+        basis: Basis,
+        acting: Actor,
+        outcome: &mut Option<Outcome>,
+        issued: Option<Issued>,
+        entry: &Entry,
+    ) -> Result<(), Memory>
+        requires still { is_still self.old.parts self.old.ledger outcome.old entry.now.deed ≡ true }
+        requires sound { Sound self.old.parts self.old.entered.counts }
+        requires deed { FitsDeed entry.now.deed }
+        requires whole { IsWhole outcome.old }
+        ensures becomes { OnOk result (Becomes self.old.parts self.new.parts entry.now
+            (acting_of acting) outcome.old
+            (acting_of basis.after) basis.has_filter (sent_by issued) self.old.clock) }
+        ensures bodies { OnOk result (All HasSlots self.new.parts.scene.bodies) }
+        ensures runs { OnOk result ((n : ℕ) → Most n self.old.entered.counts
+            → Most (n + 1) self.new.entered.counts) }
+        ensures entered { OnOk result (self.new.entered.counts
+            ≡ entered_after entry.now.deed (acting_of acting) self.old.entered.counts) }
+        ensures fallen { OnOk result (Settles self.new.parts.objects
+            (holders_of self.new.ledger.tables) self.new.entered.counts
+            self.old.fallen.objects self.new.ledger.touched entry.now.deed (acting_of acting)
+            self.new.fallen.objects) }
+        ensures clock { OnOk result (self.new.clock ≡ ticked entry.now.deed self.old.clock) }
+        ensures booked { OnOk result ((s : Scenario) (home running : Option ℕ) (carried : List RefValue)
+            → BookedBy s self.old.parts home running carried entry.now (acting_of acting) outcome.old
+            (acting_of basis.after) self.old.ledger self.new.ledger) }
+        ensures err { OnErr result (IsAsBefore self.old self.new) }
+        ensures step { OnErr result (outcome.new ≡ outcome.old) }
+    {
+        let begun = self.begin_parts(basis, acting, outcome, issued, entry)?;
+        self.ledger.pass(&entry.deed)?;
+        self.finish_parts(basis, acting, outcome, entry, begun);
+        self.clock = clock_after(&entry.deed, self.clock);
+        Ok(())
+    }
+
     // Makes of all what an entry makes of it, with what it rests on. The only error is want of memory.
     // Whatever may want it comes first: the moves, room, the parts' share, and the books, which change whole
     // or not at all. So where one wants it, all is as before but for room, and so is the step. What comes
@@ -320,6 +378,7 @@ impl Running {
         &mut self,
         scenario: &Scenario,
         basis: Basis,
+        seat: Seat,
         acting: Actor,
         outcome: &mut Option<Outcome>,
         issued: Option<Issued>,
@@ -330,7 +389,7 @@ impl Running {
         requires few { Few self.old.parts }
         requires room { self.old.parts.entries < 1_000_000 }
         requires deed { FitsDeed entry.now.deed }
-        requires fits { FitsBooks scenario.now.classes carried.now (number_or_zero basis.running)
+        requires fits { FitsBooks scenario.now.classes carried.now (number_or_zero seat.running)
             (tally self.old.ledger.tables self.old.ledger.calls) entry.now.deed }
         requires brings { Brings scenario.now self.old.parts self.old.ledger entry.now
             (acting_of acting) outcome.old }
@@ -348,15 +407,15 @@ impl Running {
             self.old.fallen.objects self.new.ledger.touched entry.now.deed (acting_of acting)
             self.new.fallen.objects) }
         ensures clock { OnOk result (self.new.clock ≡ ticked entry.now.deed self.old.clock) }
-        ensures booked { OnOk result (BookedBy scenario.now self.old.parts basis.home basis.running
+        ensures booked { OnOk result (BookedBy scenario.now self.old.parts seat.home seat.running
             carried.now entry.now (acting_of acting) outcome.old (acting_of basis.after) self.old.ledger
             self.new.ledger) }
         ensures err { OnErr result (IsAsBefore self.old self.new) }
         ensures step { OnErr result (outcome.new ≡ outcome.old) }
     {
-        self.prepare(basis, acting, outcome, entry)?;
+        self.prepare(seat.home, basis.after, acting, outcome, entry)?;
         let begun = self.begin_parts(basis, acting, outcome, issued, entry)?;
-        self.book(scenario, basis, carried, entry)?;
+        self.book(scenario, seat, carried, entry)?;
         self.finish_parts(basis, acting, outcome, entry, begun);
         self.settle(&entry.deed, acting);
         self.clock = clock_after(&entry.deed, self.clock);
@@ -396,7 +455,13 @@ impl Running {
         ensures step { OnErr result (outcome.new ≡ outcome.old) }
     {
         let basis = self.basis(scenario, entry);
-        self.change(scenario, basis, acting, outcome, issued, carried, entry)
+        if self.is_still(outcome, &entry.deed) {
+            return self.change_still(basis, acting, outcome, issued, entry);
+        }
+        let seat = self.seat(scenario, entry.lane);
+        self.change(
+            scenario, basis, seat, acting, outcome, issued, carried, entry,
+        )
     }
 
     // The entry of a turn of a lane.

@@ -4,12 +4,16 @@
 //! rules give; what the entry takes from places and brings to them, and all memory that the parts want; then
 //! the books, which change whole or not at all; and then the parts and the objects that begin to die, which
 //! want no memory. So an entry that finds none changes nothing.
+//!
+//! An entry that moves no reference, has no row in the books, and begins and ends no body, is spared the moves,
+//! the search for dying objects, and all of the books but the row of a new call.
 #![tactic(auto)]
 
 mod changing;
 mod laws;
 mod running;
 mod runtime;
+mod still;
 mod working;
 
 pub use com_base::Memory;

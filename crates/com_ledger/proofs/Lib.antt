@@ -14,3 +14,4 @@ pub mod Within
 mod Begins
 mod Keeping
 mod Runs
+pub mod Quiet

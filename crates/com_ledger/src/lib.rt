@@ -15,6 +15,7 @@ mod dying;
 mod ends;
 mod laws;
 mod ledger;
+mod passing;
 mod reads;
 
 pub use com_base::Memory;

@@ -13,7 +13,7 @@ returns-clause-booked c =
     let m = a.self.now.moves in
     let w = a.self.now.ledger in
     let u = c.apply.new.self in
-    let whole : Booked (around c.calls.result.now.tables c.objects.result.now.tables a.scenario.now.classes a.carried.now (number_or_zero a.basis.running)) d m w u = record {
+    let whole : Booked (around c.calls.result.now.tables c.objects.result.now.tables a.scenario.now.classes a.carried.now (number_or_zero a.seat.running)) d m w u = record {
       applies = c.in_ok-apply.ensures.applies;
       loses = c.in_ok-apply.ensures.touched;
       offers = c.in_ok-apply.ensures.offers;
@@ -21,7 +21,7 @@ returns-clause-booked c =
       rise = c.in_ok-apply.ensures.rise;
       totals = c.tells.ensures;
     } in
-    let beside : around c.calls.result.now.tables c.objects.result.now.tables a.scenario.now.classes a.carried.now (number_or_zero a.basis.running)
-    ≡ around p.calls.tables p.objects a.scenario.now.classes a.carried.now (number_or_zero a.basis.running) =
-    λ j. around (c.calls.ensures.value j).tables (c.objects.ensures j) a.scenario.now.classes a.carried.now (number_or_zero a.basis.running) in
+    let beside : around c.calls.result.now.tables c.objects.result.now.tables a.scenario.now.classes a.carried.now (number_or_zero a.seat.running)
+    ≡ around p.calls.tables p.objects a.scenario.now.classes a.carried.now (number_or_zero a.seat.running) =
+    λ j. around (c.calls.ensures.value j).tables (c.objects.ensures j) a.scenario.now.classes a.carried.now (number_or_zero a.seat.running) in
     subst (λ (g : Around). Booked g d m w u) beside whole

@@ -102,20 +102,20 @@ returns-clause-fallen c =
 
 pub book-requires-clause-fits : goal.book-requires-clause-fits
 book-requires-clause-fits c =
-    subst (λ (h : Held). FitsBooks c.args.scenario.now.classes c.args.carried.now (number_or_zero c.args.basis.running) (tally h.tables h.calls) c.args.entry.now.deed) (sym (c.begin_parts.ensures.ledger ∙ c.prepare.ensures.ledger)) c.requires.fits
+    subst (λ (h : Held). FitsBooks c.args.scenario.now.classes c.args.carried.now (number_or_zero c.args.seat.running) (tally h.tables h.calls) c.args.entry.now.deed) (sym (c.begin_parts.ensures.ledger ∙ c.prepare.ensures.ledger)) c.requires.fits
 
 pub book-requires-clause-known : goal.book-requires-clause-known
 book-requires-clause-known c = λ gained is.
     let a = c.args in
-    let moved : c.begin_parts.new.self.moves ≡ moves_stepped (ground_at a.basis.home a.self.now.parts.objects a.self.now.parts.calls.tables) a.self.now.parts.scene (acting_of a.acting) a.outcome.now (acting_of a.basis.after) a.entry.now =
+    let moved : c.begin_parts.new.self.moves ≡ moves_stepped (ground_at a.seat.home a.self.now.parts.objects a.self.now.parts.calls.tables) a.self.now.parts.scene (acting_of a.acting) a.outcome.now (acting_of a.basis.after) a.entry.now =
     c.begin_parts.ensures.moves ∙ c.in_ok-prepare.ensures.moves in
     subst (λ (h : Held). AllGiven a.scenario.now.classes h.tables a.entry.now.deed gained) (sym (c.begin_parts.ensures.ledger ∙ c.prepare.ensures.ledger))
-    (c.requires.brings.known a.basis.home (acting_of a.basis.after) gained (is ∙ ap (λ (m : Moves). m.gained) moved))
+    (c.requires.brings.known a.seat.home (acting_of a.basis.after) gained (is ∙ ap (λ (m : Moves). m.gained) moved))
 
 pub book-requires-clause-gained : goal.book-requires-clause-gained
 book-requires-clause-gained c =
     let a = c.args in
-    subst (λ (m : Moves). length m.gained ≤ 8) (sym (c.begin_parts.ensures.moves ∙ c.in_ok-prepare.ensures.moves)) (c.requires.brings.few a.basis.home (acting_of a.basis.after))
+    subst (λ (m : Moves). length m.gained ≤ 8) (sym (c.begin_parts.ensures.moves ∙ c.in_ok-prepare.ensures.moves)) (c.requires.brings.few a.seat.home (acting_of a.basis.after))
 
 pub returns-clause-booked : goal.returns-clause-booked
 returns-clause-booked c =
@@ -124,8 +124,8 @@ returns-clause-booked c =
     let p = c.begin_parts.new.self in
     let b = c.book.new.self in
     let d = a.entry.now.deed in
-    let g : PartTables → Around = λ t. around t.calls.tables t.objects a.scenario.now.classes a.carried.now (number_or_zero a.basis.running) in
-    let m : Moves = moves_stepped (ground_at a.basis.home v.parts.objects v.parts.calls.tables) v.parts.scene (acting_of a.acting) a.outcome.now (acting_of a.basis.after) a.entry.now in
+    let g : PartTables → Around = λ t. around t.calls.tables t.objects a.scenario.now.classes a.carried.now (number_or_zero a.seat.running) in
+    let m : Moves = moves_stepped (ground_at a.seat.home v.parts.objects v.parts.calls.tables) v.parts.scene (acting_of a.acting) a.outcome.now (acting_of a.basis.after) a.entry.now in
     let same : parts_shown p.parts ≡ parts_shown v.parts = c.begin_parts.ensures.same ∙ ap parts_shown c.prepare.ensures.parts in
     subst (λ (h : Held). Booked (g v.parts) d m v.ledger h) (sym (c.settle.ensures.ledger ∙ c.finish_parts.ensures.ledger))
     (subst (λ (h : Held). Booked (g v.parts) d m h b.ledger) (c.begin_parts.ensures.ledger ∙ c.prepare.ensures.ledger)

@@ -1,18 +1,49 @@
 -- All that an entry changes, with what its change rests on.
-use Rattle.std.proofs.Common.{ℕ, sym, subst}
+use Rattle.std.proofs.Common.{ℕ, refl, sym, subst}
 use Rattle.std.specs.Prelude.{Option}
 use Rattle.com_model.specs.Lists.{number_or_zero}
 use Rattle.com_refs_rows.specs.Entries.{tally}
 use Rattle.com_refs_rows.specs.Fits.{FitsBooks}
 use Rattle.com_scene.specs.Actors.{acting_of}
+use Rattle.com_view.specs.Seen.{Seen, home_seen, running_seen}
+use Rattle.com_core.specs.Stands.{seen_by}
 use Rattle.com_core.proofs.Runs.{entries_made, few_made, sound_made}
 use Rattle.com_core.proofs.Made.{changed_made}
+use Rattle.com_core.proofs.Quiet.{then_ok}
 use Rattle.com_core.proofs.running.Running.make.Goals as goal
+
+-- ---- an entry that moves no reference, has no row in the books, and begins and ends no body
+
+pub returns-then-is_still-clause-few : goal.returns-then-is_still-clause-few
+returns-then-is_still-clause-few c =
+    let m = c.change_still.ensures in
+    few_made c.change_still.result c.args.self.now c.change_still.new.self _ _ _ _ _ _ m.becomes m.err c.requires.room c.requires.few
+
+pub returns-then-is_still-clause-sound : goal.returns-then-is_still-clause-sound
+returns-then-is_still-clause-sound c =
+    let m = c.change_still.ensures in
+    sound_made c.change_still.result c.args.self.now c.change_still.new.self _ _ _ _ _ _ m.becomes m.bodies m.runs m.err c.requires.sound
+
+pub returns-then-is_still-clause-entries : goal.returns-then-is_still-clause-entries
+returns-then-is_still-clause-entries c = entries_made c.change_still.result c.args.self.now.parts c.change_still.new.self.parts _ _ _ _ _ _ _ c.change_still.ensures.becomes
+
+pub returns-then-is_still-clause-changed : goal.returns-then-is_still-clause-changed
+returns-then-is_still-clause-changed c =
+    let s = c.args.scenario.now in
+    let v = c.args.self.now in
+    let before = c.basis-basis in
+    let m = c.change_still.ensures in
+    let w : Seen = seen_by s v.parts v.fallen.objects v.clock in
+    changed_made c.change_still.result s v c.change_still.new.self c.args.entry.now (acting_of c.args.acting) _ (acting_of before.result.after)
+    before.result.has_filter (home_seen w c.args.entry.now.lane) (running_seen w c.args.entry.now.lane) c.args.carried.now _ before.ensures.after before.ensures.has_filter refl refl
+    m.becomes m.entered m.fallen (then_ok c.change_still.result (λ f. f s (home_seen w c.args.entry.now.lane) (running_seen w c.args.entry.now.lane) c.args.carried.now) m.booked)
+
+-- ---- every other
 
 pub change-requires-clause-fits : goal.change-requires-clause-fits
 change-requires-clause-fits c =
     let w = c.args.self.now.ledger in
-    subst (λ (x : Option ℕ). FitsBooks c.args.scenario.now.classes c.args.carried.now (number_or_zero x) (tally w.tables w.calls) c.args.entry.now.deed) (sym c.basis-basis.ensures.running) c.requires.fits
+    subst (λ (x : Option ℕ). FitsBooks c.args.scenario.now.classes c.args.carried.now (number_or_zero x) (tally w.tables w.calls) c.args.entry.now.deed) (sym c.seat-seat.ensures.running) c.requires.fits
 
 pub returns-clause-few : goal.returns-clause-few
 returns-clause-few c =
@@ -30,7 +61,8 @@ returns-clause-entries c = entries_made c.change.result c.args.self.now.parts c.
 pub returns-clause-changed : goal.returns-clause-changed
 returns-clause-changed c =
     let before = c.basis-basis in
+    let place = c.seat-seat in
     let m = c.change.ensures in
     changed_made c.change.result c.args.scenario.now c.args.self.now c.change.new.self c.args.entry.now (acting_of c.args.acting) _ (acting_of before.result.after)
-    before.result.has_filter before.result.home before.result.running c.args.carried.now _ before.ensures.after before.ensures.has_filter before.ensures.home before.ensures.running
+    before.result.has_filter place.result.home place.result.running c.args.carried.now _ before.ensures.after before.ensures.has_filter place.ensures.home place.ensures.running
     m.becomes m.entered m.fallen m.booked
