@@ -10,7 +10,7 @@ use Rattle.com_slots.specs.Table.{held_in}
 use Rattle.com_stub.specs.StubRows.{is_connected}
 use Rattle.com_refs_books.specs.Counting.{count_if}
 use Rattle.com_refs_books.specs.Changes.{Books, held_outside, packet_holds, cookie_holds, changed, change, ToProxy, Same, Makes}
-use Rattle.com_refs_holders.specs.Tables.{Tables, books_of, packet_read, cookie_read, owns_of, no_object, object_in, direct_in, is_made, made_in, owner_in}
+use Rattle.com_refs_holders.specs.Tables.{Tables, books_of, packet_read, cookie_read, owns_of, no_object, object_in, direct_in, is_made, made_in}
 use Rattle.com_refs_holders.specs.Makes.{MadeWithPlace}
 use Rattle.com_refs_holders.specs.Places.{OneMore, locals_of, places_of, has_row}
 use Rattle.com_refs_holders.specs.Stands.{Known}

@@ -11,9 +11,10 @@ use crate::{MOST_GIVEN, MOST_INTERFACES, Memory, NewObject, Refs};
 
 impl Refs {
     /// An object of the owner's is made, the next by its number, and the apartment has a place for it by an
-    /// interface of its set, of at most `MOST_INTERFACES`. In the owner's apartment the place is a direct one; elsewhere a
-    /// proxy has it, with 5 public references. The only error is want of memory, and then nothing changed; it
-    /// does not come where there is room for a call. Source: Essential COM, chapter 5, on stubs.
+    /// interface of its set, of at most `MOST_INTERFACES`. In the owner's apartment the place is a direct
+    /// one; elsewhere a proxy has it, with 5 public references. The only error is want of memory, and then
+    /// nothing changed; it does not come where there is room for a call. Source: Essential COM, chapter 5, on
+    /// stubs.
     pub fn made(
         &mut self,
         object: u32,

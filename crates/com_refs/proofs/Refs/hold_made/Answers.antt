@@ -1,4 +1,4 @@
-use Rattle.std.proofs.Common.{◌≡◌, ℕ, Bool, eqb, not, ◌&&◌, ◌+◌, ◌∷◌, [], refl, sym, ap, ◌∙◌, arith, take, drop, length, ◌++◌}
+use Rattle.std.proofs.Common.{◌≡◌, Bool, not, ◌+◌, ◌∷◌, [], refl, sym, ap, ◌∙◌, arith, take, drop, length, ◌++◌}
 use Rattle.std.proofs.lemmas.Grind.{common_steps}
 use Rattle.com_refs_holders.specs.Makes.{MadeWithPlace}
 use Rattle.com_refs_holders.specs.Tables.{owns_of, object_in}
