@@ -10,6 +10,7 @@ use Rattle.com_model.specs.declared.deeds.Deed.{Deed}
 use Rattle.com_model.specs.declared.deeds.Deed.TheVariants as deed
 use Rattle.com_model.specs.Answers.{is_S_OK}
 use Rattle.com_model.specs.Deeds.{cookie_number}
+use Rattle.com_refs_holders.specs.declared.TheConstants.{MOST_GIVEN}
 use Rattle.com_refs_holders.specs.Tables.{Tables, offers, owns_of}
 use Rattle.com_refs_rows.specs.Entries.{Tally}
 use Rattle.com_refs_rows.specs.Moving.{AllKnown}
@@ -95,4 +96,4 @@ pub record FitsBooks (t : ClassTables) (carried : List RefValue) (apartment : �
     : Type 0 where
   pub row : FitsRow t carried apartment w d
   pub few : length carried ≤ 4
-  pub room : w.tables.issued + most_given ≤ 2 ^ 28
+  pub room : w.tables.issued + most_given ≤ MOST_GIVEN

@@ -23,7 +23,7 @@ use com_base::{HResult, MarshalMode, Memory, RefValue};
 use com_body::Asked;
 use com_classes::Classes;
 use com_reference_moves::Move;
-use com_refs::Refs;
+use com_refs::{MOST_GIVEN, Refs};
 
 // A reference by an interface that has a number of 16 bits.
 fn reference(object: u32, iface: u32) -> RefValue
@@ -48,7 +48,7 @@ pub fn enter_made(
 ) -> Result<(), Memory>
     requires making { IsMaking classes.now (length refs.old.objects) object owner class iface }
     requires iface { HasInterface object iface }
-    requires few { refs.old.issued + 1 < 2 ^ 28 }
+    requires few { refs.old.issued + 1 < MOST_GIVEN }
     requires place { vec_len brought.old < vec_capacity brought.old }
     requires room { 0 < refs.old.spare }
     ensures row { OnOk result
@@ -87,7 +87,7 @@ pub fn enter_query(
 )
     requires asked { IsAsked refs.old apartment object iface (is_S_OK hr) }
     requires iface { HasInterface object iface }
-    requires few { refs.old.issued < 2 ^ 28 }
+    requires few { refs.old.issued < MOST_GIVEN }
     requires room { 0 < refs.old.spare }
     requires place { vec_len brought.old < vec_capacity brought.old }
     ensures row { RowsOf apartment
@@ -118,7 +118,7 @@ pub fn enter_unmarshal(
     apartment: u32,
     packet: Option<u32>,
 )
-    requires few { refs.old.issued < 2 ^ 28 }
+    requires few { refs.old.issued < MOST_GIVEN }
     requires place { vec_len brought.old < vec_capacity brought.old }
     requires room { 0 < refs.old.spare }
     ensures row { (held : Option RefValue) (n : ℕ) (hr : HResult)
@@ -145,7 +145,7 @@ pub fn enter_marshal(
     held: Option<RefValue>,
 )
     requires held { IsHeld refs.old held }
-    requires few { refs.old.issued < 2 ^ 28 }
+    requires few { refs.old.issued < MOST_GIVEN }
     requires room { 0 < refs.old.spare }
     ensures row { (n : ℕ) (hr : HResult) (bytes : Option (List ℕ)) (brought : List Move)
         → RowsOf apartment (deed.Marshal packet mode held n hr bytes) refs.old refs.new brought brought }
@@ -166,7 +166,7 @@ pub fn enter_marshal(
 /// The row of a cookie of a reference.
 pub fn enter_register(refs: &mut Refs, cookie: Option<u32>, held: Option<RefValue>)
     requires held { IsHeld refs.old held }
-    requires few { refs.old.issued < 2 ^ 28 }
+    requires few { refs.old.issued < MOST_GIVEN }
     requires room { 0 < refs.old.spare }
     ensures row { (a : ℕ) (hr : HResult) (brought : List Move)
         → RowsOf a (deed.Register cookie held hr) refs.old refs.new brought brought }
@@ -193,7 +193,7 @@ pub fn enter_get(
     held: Option<RefValue>,
 )
     requires kept { IsGotten refs.old.cookies refs.old.stubs cookie.now held }
-    requires few { refs.old.issued < 2 ^ 28 }
+    requires few { refs.old.issued < MOST_GIVEN }
     requires room { 0 < refs.old.spare }
     requires place { vec_len brought.old < vec_capacity brought.old }
     ensures row { (n : ℕ) (hr : HResult)
@@ -213,7 +213,7 @@ pub fn enter_get(
 
 /// The row of a result's packet that is read: its call's answer is its body's Leave.
 pub fn enter_back(refs: &mut Refs, brought: &mut Vec<Move>, apartment: u32, number: u32)
-    requires few { refs.old.issued < 2 ^ 28 }
+    requires few { refs.old.issued < MOST_GIVEN }
     requires place { vec_len brought.old < vec_capacity brought.old }
     requires room { 0 < refs.old.spare }
     ensures row { Gained apartment (back_rows apartment true

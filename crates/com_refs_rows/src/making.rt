@@ -1,5 +1,5 @@
 //! The row of a new object.
-ghost use Rattle.std.specs.Prelude.{◌≡◌, ◌+◌, ◌<◌, ◌≤◌, ◌^◌, ◌++◌, ◌∷◌, [], OnOk, Some, length};
+ghost use Rattle.std.specs.Prelude.{◌≡◌, ◌+◌, ◌<◌, ◌≤◌, ◌++◌, ◌∷◌, [], OnOk, Some, length};
 ghost use Rattle.std.specs.Prelude.{OnErr, vec_len, vec_capacity};
 ghost use Rattle.com_model.specs.Tables.{has_agile_model};
 ghost use Rattle.com_refs_rows.specs.Books.{KeepsHeld, Made, moved_to};
@@ -10,7 +10,7 @@ use crate::rows::bring;
 use com_base::{Memory, RefValue};
 use com_classes::{Class, Classes, is_agile};
 use com_reference_moves::Move;
-use com_refs::{NewObject, Refs};
+use com_refs::{MOST_GIVEN, NewObject, Refs};
 
 // The interfaces of a class: IUnknown, and those of its list.
 fn fill_set(set: &mut Vec<u16>, class: &Class) -> Result<(), Memory>
@@ -40,7 +40,7 @@ pub fn make(
     class: u32,
 ) -> Result<(), Memory>
     requires made { IsNextMade classes.now (length refs.old.objects) held.object class held.iface }
-    requires few { refs.old.issued + 1 < 2 ^ 28 }
+    requires few { refs.old.issued + 1 < MOST_GIVEN }
     requires place { vec_len brought.old < vec_capacity brought.old }
     requires room { 0 < refs.old.spare }
     ensures brought { OnOk result (brought.new.items ≡ brought.old.items ++ moved_to apartment held ∷ []) }
