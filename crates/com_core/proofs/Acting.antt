@@ -1,6 +1,6 @@
 -- In a formed scenario the numbers of each action fit: an interface that is asked for is declared, and the bytes that a buffer gets are few.
 use Rattle.std.proofs.lemmas.List.Elements.{All-cons, All-drop, All-nil}
-use Rattle.std.specs.Prelude.{ℕ, zero, suc, ◌+◌, Bool, true, false, cond, ◌==◌, ◌&&◌, List, [], ◌∷◌, drop, Option, Some, None, All, option_map, option_and_then, unwrap_or, find, slice_get, slice_index_or}
+use Rattle.std.specs.Prelude.{ℕ, zero, suc, ◌+◌, ◌≤◌, Bool, true, false, cond, ◌==◌, ◌&&◌, List, [], ◌∷◌, length, drop, Option, Some, None, All, option_map, option_and_then, unwrap_or, find, slice_get, slice_index_or}
 use Rattle.com_body.specs.declared.statements.Stmt.{Stmt}
 use Rattle.com_body.specs.declared.statements.Stmt.TheVariants as stmt
 use Rattle.com_body.specs.declared.actions.Action.{Action}

@@ -1,5 +1,5 @@
 -- What a still entry leaves as it was.
-use Rattle.std.proofs.Common.{◌≡◌, ℕ, ◌+◌, ◌==◌, Bool, true, false, not, ◌&&◌, cond, List, [], length, refl, sym, ap, subst, ◌∙◌, arith, eqb-true, filter}
+use Rattle.std.proofs.Common.{◌≡◌, ℕ, ◌+◌, ◌≤◌, ◌==◌, ◌||◌, Bool, true, false, not, ◌&&◌, cond, List, [], length, refl, sym, ap, subst, ◌∙◌, arith, eqb-true, filter}
 use Rattle.std.proofs.lemmas.List.{append-nil}
 use Rattle.std.specs.Prelude.{Option, Some, None, Result, Ok, Err, OnOk, is_some}
 use Rattle.com_base.specs.declared.hresult.HResult.{HResult}
@@ -13,6 +13,7 @@ use Rattle.com_body.specs.declared.operands.Destination.TheVariants as destinati
 use Rattle.com_ledger.specs.Bodies.{entered_after}
 use Rattle.com_ledger.specs.Falling.{begins_by, other_object, placed_in}
 use Rattle.com_ledger.specs.Most.{Most}
+use Rattle.com_ledger.specs.Ties.{Notes}
 use Rattle.com_ledger.specs.Quiet.{LeavesBooks, calls_passed}
 use Rattle.com_ledger.proofs.Quiet.{back_leaves, out_leaves, quiet_leaves}
 use Rattle.com_laws_places.specs.Moves.{Move as Moving, Moves, entered_where, moved, no_moves, result_moved, slots_where, together}
@@ -22,7 +23,8 @@ use Rattle.com_model.specs.declared.deeds.Entry.{Entry}
 use Rattle.com_model.specs.Apartments.{ends_sta}
 use Rattle.com_model.specs.Calls.{is_direct, route_of}
 use Rattle.com_model.specs.Frames.{Actor, value_reference}
-use Rattle.com_model.specs.Objects.{finals}
+use Rattle.com_model.specs.declared.keeps.Making.{Making}
+use Rattle.com_model.specs.Objects.{finals, makes}
 use Rattle.com_model.specs.Places.{Ground, left_value}
 use Rattle.com_objects.specs.Settled.{DieBut, Falls, Rise, without}
 use Rattle.com_objects.proofs.Settling.{settled, without_none}
@@ -34,11 +36,13 @@ use Rattle.com_reference_moves.specs.Tables.{ground_at}
 use Rattle.com_refs.specs.Counts.{holders_of}
 use Rattle.com_refs.specs.Totals.{Totals}
 use Rattle.com_refs_holders.specs.Places.{Counts}
-use Rattle.com_refs_holders.specs.Tables.{Tables}
+use Rattle.com_refs_holders.specs.Tables.{Tables, offers}
+use Rattle.com_classes.specs.Tables.{Tables as ClassTables}
 use Rattle.com_refs_rows.specs.Books.{Held}
+use Rattle.com_refs_rows.specs.Fits.{most_given}
+use Rattle.com_refs_rows.specs.Owners.{OffersMore}
 use Rattle.com_refs_rows.specs.Calls.{call_at}
 use Rattle.com_refs_rows.specs.Entries.{Applies, Around, tally}
-use Rattle.com_refs_rows.specs.Moving.{Touches}
 use Rattle.com_refs_rows.proofs.Changing.{same_moves}
 use Rattle.com_state.specs.Parts.{ObjectTables}
 use Rattle.com_state.specs.SceneParts.{destination_at}
@@ -200,20 +204,33 @@ still_entry p w a r b e q =
 
 -- ---- the books
 
-still-touches : (t u : Tables) (xs : List ℕ) → u ≡ t → Touches t u [] xs
-still-touches t u xs e = record {
-  kept = λ o m. absurd (clash m);
-  all = λ o some none. let same : holders_of u o ≡ holders_of t o = ap (λ (v : Tables). holders_of v o) e in absurd (omega (arith, some, none, same));
+still-notes : (t u : Tables) (xs : List ℕ) → u ≡ t → Notes t u xs
+still-notes t u xs e = record {
+  all = λ o first some none. let same : holders_of u o ≡ holders_of t o = ap (λ (v : Tables). holders_of v o) e in absurd (omega (arith, some, none, same));
 }
 
-pub still_booked : (g : Around) (d : Deed) (w u : Held) (m : Moves) → m ≡ no_moves → u.tables ≡ w.tables → u.touched ≡ []
+or-no : (b : Bool) → (b || false) ≡ true → b ≡ true
+or-no true q = refl
+or-no false q = q
+
+offered-alike : (classes : ClassTables) (making : Option Making) (t u : Tables) → making ≡ None → u ≡ t → OffersMore classes making t u
+offered-alike classes making t u none same =
+    subst (λ (v : Tables). OffersMore classes making t v) (sym same)
+    (subst (λ (x : Option Making). OffersMore classes x t t) (sym none) (λ o i q. or-no (offers t o i) q))
+
+given-alike : (n : ℕ) → n ≤ n + most_given
+given-alike n = omega arith
+
+pub still_booked : (g : Around) (d : Deed) (w u : Held) (m : Moves) → m ≡ no_moves → makes d ≡ None → u.tables ≡ w.tables → u.touched ≡ []
     → Applies g d [] [] (tally w.tables w.calls) (tally u.tables u.calls)
     → ((n : ℕ) (places : ℕ → ℕ → ℕ) → Counts n places u.tables → Totals n places u.tables) → Booked g d m w u
-still_booked g d w u m none same nothing applies totals = subst (λ (x : Moves). Booked g d x w u) (sym none) (record {
+still_booked g d w u m none makes_none same nothing applies totals = subst (λ (x : Moves). Booked g d x w u) (sym none) (record {
   applies = λ gained lost eg el.
       subst (λ (ms : List Move). Applies g d ms lost (tally w.tables w.calls) (tally u.tables u.calls)) (sym (same_moves gained [] eg))
       (subst (λ (ms : List Move). Applies g d [] ms (tally w.tables w.calls) (tally u.tables u.calls)) (sym (same_moves lost [] el)) applies);
-  loses = λ gained lost eg el s x carries n places later low gs ls made counts both. still-touches w.tables u.tables u.touched same;
+  loses = λ gained lost eg el s x carries n places later low gs ls made counts both. still-notes w.tables u.tables u.touched same;
+  offers = offered-alike g.classes (makes d) w.tables u.tables makes_none same;
+  issued = subst (λ (v : Tables). v.issued ≤ w.tables.issued + most_given) (sym same) (given-alike w.tables.issued);
   rise = subst (λ (xs : List ℕ). Rise 0 xs (length u.tables.objects)) (sym nothing) (omega arith);
   totals = totals;
 })

@@ -83,5 +83,5 @@ returns-clause-booked c = λ s home running carried.
     subst (λ (cs : List CallPackets). LeavesBooks g d b.tables b.calls cs) (sym c.in_ok-pass.ensures.calls)
     (subst (λ (h : Held). LeavesBooks g d h.tables h.calls (calls_passed d h.calls)) (sym c.begin_parts.ensures.ledger) (still.books g)) in
     let passed : Booked g d m b y =
-    still_booked g d b y m (still.moves home) c.pass.ensures.tables c.in_ok-pass.ensures.touched (c.in_ok-pass.ensures.applies g leaves) c.pass.ensures.totals in
+    still_booked g d b y m (still.moves home) leaves.makes_none c.pass.ensures.tables c.in_ok-pass.ensures.touched (c.in_ok-pass.ensures.applies g leaves) c.pass.ensures.totals in
     subst (λ (h : Held). Booked g d m v.ledger h) (sym c.finish_parts.ensures.ledger) (subst (λ (h : Held). Booked g d m h y) c.begin_parts.ensures.ledger passed)
