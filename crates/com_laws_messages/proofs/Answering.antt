@@ -1,9 +1,9 @@
 -- What the next entry of a lane tells and brings fits the types that hold it, where what the rules look at does.
-use Rattle.std.proofs.Common.{subst, arith, rules}
+use Rattle.std.proofs.Common.{subst, arith}
 use Rattle.std.proofs.lemmas.Str.{IsUtf8-nil}
 use Rattle.std.proofs.lemmas.Grind.{common_steps}
 use Rattle.std.proofs.lemmas.List.Elements.{All-cons, All-nil}
-use Rattle.std.specs.Prelude.{◌≡◌, refl, ℕ, ℤ, ◌+◌, ◌^◌, ◌<◌, pos, Bool, true, false, cond, not, ◌&&◌, ◌==◌, nat_le, List, [], ◌∷◌, length, replicate, is_none, Option, Some, None, All, Result, Ok, Err}
+use Rattle.std.specs.Prelude.{◌≡◌, refl, ℕ, ℤ, ◌+◌, ◌^◌, ◌<◌, Bool, true, false, cond, not, ◌&&◌, ◌==◌, nat_le, List, [], ◌∷◌, length, replicate, is_none, Option, Some, None, All, Result, Ok, Err}
 use Rattle.com_base.specs.declared.hresult.HResult.{HResult}
 use Rattle.com_base.specs.declared.value.RefValue.{RefValue}
 use Rattle.com_base.specs.declared.value.Kind.{Kind}
@@ -36,16 +36,16 @@ use Rattle.com_model.specs.Openers.{running_call}
 use Rattle.com_model.specs.Calls.{object_of, is_marshalled}
 use Rattle.com_model.specs.declared.keeps.Issue.{Issue}
 use Rattle.com_model.specs.Values.{if_live, sent_value, sent_values, sent_result, given_or_default}
-use Rattle.com_model.specs.Frames.{reference, answer_in, cookie_in}
+use Rattle.com_model.specs.Frames.{answer_in, cookie_in}
 use Rattle.com_model.specs.Endings.{Answer, answer_of, without_value, verdict_answer}
 use Rattle.com_model.specs.declared.keeps.Ending.{Ending}
 use Rattle.com_model.specs.declared.keeps.Ending.TheVariants.{AtIssue, AtAdmission, ByVerdict, ByRetry, ByCancel, ByDisconnection, ByLeave}
 use Rattle.com_refs_books.specs.declared.keeps.Cookie.{Cookie}
-use Rattle.com_refs_books.specs.Changes.{Books, packet, cookie}
+use Rattle.com_refs_books.specs.Changes.{Books, cookie}
 use Rattle.com_model.specs.Books.{out_values}
 use Rattle.com_model.specs.Issue.{call_refusal, action_refusal, or_ok}
 use Rattle.com_model.specs.Sight.{Sight}
-use Rattle.com_model.specs.Deeds.{deed_of, new_home, has_mode, initialised, uninitialised, in_sta, filter_set, creator, placing, made_as, created_of, created, owned_by, offers, query_answer, object_in, queried, hold_refusal, marshalled, registered, named_packet, Named, NamesPacket, Refuses, named_or, named_in, named_by, gained_refs, unmarshalled, dropped, cookie_number, got_with, got, revoked, disconnect_answer, takes_words, word_answer, called, left_as, left_by}
+use Rattle.com_model.specs.Deeds.{deed_of, has_mode, initialised, uninitialised, in_sta, creator, placing, made_as, created_of, created, owned_by, offers, query_answer, hold_refusal, marshalled, registered, named_packet, Named, NamesPacket, Refuses, named_or, named_in, named_by, unmarshalled, dropped, cookie_number, got_with, got, revoked, disconnect_answer, takes_words, called, left_as, left_by}
 use Rattle.com_model.specs.Rules.{posted_to_sta, call_sort, verdict_on, is_handled_in, arguments_gone, admission, due_of, result_gone, packet_left, answered, after_script}
 use Rattle.com_model.proofs.Fines.{cond-is}
 use Rattle.com_laws_safety.proofs.Sources.{IsRest, Source, by_body, by_script, by_end, by_final, by_own, by_answer, by_inbox, by_retry, by_again, by_rest}

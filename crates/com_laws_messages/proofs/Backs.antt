@@ -4,25 +4,22 @@ use Rattle.std.proofs.lemmas.Bool.{false_from_ne_true}
 use Rattle.std.proofs.lemmas.List.Elements.{All-cons, All-nil}
 use Rattle.std.specs.Prelude.{◌≡◌, refl, ℕ, ◌+◌, ◌*◌, ◌^◌, ◌<◌, ◌≤◌, Bool, true, false, cond, not, ◌==◌, ◌&&◌, ◌||◌, List, [], ◌∷◌, length, map, Option, Some, None, is_some, option_map, All, Result, Ok}
 use Rattle.com_base.specs.declared.hresult.HResult.{HResult}
-use Rattle.com_base.specs.declared.standard.StdFields.{StdFields}
 use Rattle.com_base.specs.declared.value.Kind.{Kind}
-use Rattle.com_base.specs.declared.value.RefValue.{RefValue}
 use Rattle.com_base.specs.declared.value.Value.{Value}
 use Rattle.com_classes.specs.Lookups.{method_at}
 use Rattle.com_model.specs.declared.deeds.Deed.{Deed}
 use Rattle.com_model.specs.declared.deeds.Deed.TheVariants as deed
 use Rattle.com_model.specs.declared.deeds.Entry.{Entry}
-use Rattle.com_model.specs.declared.deeds.Route.{Route}
 use Rattle.com_model.specs.declared.scenario.Scenario.{Scenario}
 use Rattle.com_model.specs.Answers.{RPC_E_CLIENT_CANTUNMARSHAL_DATA}
 use Rattle.com_model.specs.Lists.{first, is_number, number_or_zero, or_else}
 use Rattle.com_model.specs.Tables.{result_kind}
 use Rattle.com_model.specs.Apartments.{running}
 use Rattle.com_model.specs.Objects.{objects, named}
-use Rattle.com_model.specs.Calls.{issues, issue_or, issue, returns, returned, calls, target, admitted, route_of, is_marshalled}
+use Rattle.com_model.specs.Calls.{issue, returns, returned, calls, target, admitted, route_of, is_marshalled}
 use Rattle.com_model.specs.declared.keeps.Issue.{Issue}
 use Rattle.ndr_args.specs.Written.{CanSendAll}
-use Rattle.com_model.specs.Values.{carried, result_list, wires, reply_bytes}
+use Rattle.com_model.specs.Values.{result_list, wires, reply_bytes}
 use Rattle.com_model.specs.Frames.{Scene, scene, act}
 use Rattle.com_model.specs.Endings.{Answer, answer_of, without_value, end_effect, ends, filtered, can_be_cut, ending, is_leave}
 use Rattle.com_model.specs.declared.keeps.Ending.{Ending}
@@ -34,8 +31,7 @@ use Rattle.com_model.specs.Formed.{Formed}
 use Rattle.com_model.specs.Issue.{at_issue}
 use Rattle.com_model.specs.Sight.{Sight, sight}
 use Rattle.com_model.specs.Deeds.{reply_for, named_packet}
-use Rattle.com_model.specs.Rules.{result_gone, back_answer, next, legal}
-use Rattle.com_model.specs.Safe.{event, stage, ComesOnce}
+use Rattle.com_model.specs.Rules.{result_gone, back_answer, legal}
 use Rattle.com_model.proofs.Goods.{GoodValue, GoodResult}
 use Rattle.com_model.proofs.Scenes.{faces}
 use Rattle.com_model.proofs.Comes.{next-comes}
@@ -43,8 +39,8 @@ use Rattle.com_model.proofs.Onces.{legal-once}
 use Rattle.com_laws_safety.proofs.Caused.{legal-own}
 use Rattle.com_laws_safety.proofs.Small.{same-number}
 use Rattle.com_laws_balance.proofs.Makings.{fine-next}
-use Rattle.com_laws_ranges.proofs.Numbers.{FewBooks, books-few, objects-few}
-use Rattle.com_laws_balance.proofs.Results.{ends-is, not-left, out-number, same-issue, leave-issue, NotLeft}
+use Rattle.com_laws_ranges.proofs.Numbers.{books-few, objects-few}
+use Rattle.com_laws_balance.proofs.Results.{ends-is, not-left, out-number, same-issue, NotLeft}
 use Rattle.com_laws_balance.proofs.Leavings.{or-some, no-leave-again}
 use Rattle.com_laws_balance.proofs.Says.{Says, next-says}
 use Rattle.com_print_scenario.specs.Ranges.{FitsTypes}

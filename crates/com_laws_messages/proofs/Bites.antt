@@ -1,6 +1,5 @@
 -- The laws fail of a writer that swaps two arguments or takes the fields of another packet, and of a Back that keeps an old value.
 use Rattle.std.proofs.Common.{sym, ap, ◌∙◌, arith}
-use Rattle.std.specs.Int.{w16, w64, to_le_bytes}
 use Rattle.std.specs.Prelude.{◌≡◌, refl, ℕ, pos, List, [], ◌∷◌, map, Option, Some, None, Result, Ok}
 use Rattle.com_base.specs.declared.guid.Guid.{Guid}
 use Rattle.com_base.specs.declared.hresult.HResult.{HResult}

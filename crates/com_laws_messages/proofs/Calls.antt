@@ -1,11 +1,8 @@
 -- In every legal history within the limit the request of each marshalled call stands: it may be sent, and says what was sent.
-use Rattle.std.proofs.Common.{subst, sym, ap, ◌∙◌, eqb-true, length-append, arith}
-use Rattle.std.specs.Prelude.{◌≡◌, refl, ℕ, suc, ◌+◌, ◌*◌, ◌^◌, ◌<◌, ◌≤◌, Bool, true, false, cond, ◌==◌, ◌&&◌, List, [], ◌∷◌, length, map, Option, Some, None, All}
-use Rattle.com_base.specs.declared.standard.StdFields.{StdFields}
+use Rattle.std.proofs.Common.{subst, sym, ap, eqb-true, arith}
+use Rattle.std.specs.Prelude.{◌≡◌, refl, ℕ, suc, ◌+◌, ◌*◌, ◌^◌, ◌<◌, ◌≤◌, Bool, true, false, cond, ◌==◌, List, [], ◌∷◌, length, Option, Some}
 use Rattle.com_base.specs.declared.value.Kind.{Kind}
-use Rattle.com_base.specs.declared.value.RefValue.{RefValue}
 use Rattle.com_base.specs.declared.value.Value.{Value}
-use Rattle.com_body.specs.declared.actions.Action.{Action}
 use Rattle.com_body.specs.declared.actions.Action.TheVariants as action
 use Rattle.com_classes.specs.Lookups.{method_at}
 use Rattle.com_model.specs.declared.deeds.Deed.{Deed}
@@ -13,41 +10,31 @@ use Rattle.com_model.specs.declared.deeds.Deed.TheVariants as deed
 use Rattle.com_model.specs.declared.deeds.Entry.{Entry}
 use Rattle.com_model.specs.declared.deeds.Route.{Route}
 use Rattle.com_model.specs.declared.scenario.Scenario.{Scenario}
-use Rattle.com_model.specs.Ends.{limit}
-use Rattle.com_model.specs.Lists.{number_or_zero, any_of}
+use Rattle.com_model.specs.Lists.{number_or_zero}
 use Rattle.com_model.specs.Tables.{parameters}
 use Rattle.com_model.specs.Apartments.{running}
 use Rattle.com_model.specs.Calls.{issues, issue_or, issue, route_of, cause_of, is_marshalled}
 use Rattle.com_model.specs.declared.keeps.Issue.{Issue}
-use Rattle.com_model.specs.Values.{sent_values, carried}
-use Rattle.com_model.specs.Frames.{scene, act}
+use Rattle.com_model.specs.Values.{sent_values}
+use Rattle.com_model.specs.Frames.{scene}
 use Rattle.com_model.specs.Endings.{ending, is_leave}
 use Rattle.com_model.specs.Places.{ground}
-use Rattle.com_model.specs.Books.{out_values, books}
+use Rattle.com_model.specs.Books.{books}
 use Rattle.com_model.specs.Formed.{Formed}
 use Rattle.com_model.specs.Issue.{own_values, values_or, sent}
 use Rattle.com_model.specs.Sight.{sight}
 use Rattle.com_model.specs.Deeds.{next_cause}
-use Rattle.com_model.specs.Rules.{is_gone, arguments_gone, next, legal}
-use Rattle.com_model.specs.Safe.{EachEntry, OwnReply}
-use Rattle.com_refs_books.specs.declared.keeps.Packet.{Packet}
-use Rattle.com_laws_safety.proofs.Caused.{legal-own}
+use Rattle.com_model.specs.Rules.{legal}
 use Rattle.com_laws_safety.proofs.Small.{same-number}
-use Rattle.com_laws_balance.proofs.Says.{Says, next-says}
-use Rattle.com_laws_ranges.proofs.Numbers.{FewBooks, books-few, out-few}
+use Rattle.com_laws_ranges.proofs.Numbers.{books-few, out-few}
 use Rattle.com_print_scenario.specs.Ranges.{FitsTypes}
 use Rattle.com_laws_messages.specs.Messages.{requests, message_or, request, parameters_of}
-use Rattle.com_laws_messages.specs.Carried.{SendsRequest, Sends, ReadsRequest, Reads}
-use Rattle.com_laws_messages.proofs.Fields.{AreNew, fields_from}
 use Rattle.com_laws_messages.proofs.Outs.{OutGives, out-gives}
-use Rattle.com_laws_messages.proofs.Walking.{CanCarry}
 use Rattle.com_laws_messages.proofs.Carrying.{Carries, legal-carries}
-use Rattle.com_laws_messages.proofs.Sending.{FieldsFit}
-use Rattle.com_laws_messages.proofs.Naming.{none-gone}
-use Rattle.com_laws_messages.proofs.Requests.{Stands, Standing, new-standing, stands-later, old-arguments, stands-read}
+use Rattle.com_laws_messages.proofs.Requests.{Stands, Standing, new-standing, stands-later, old-arguments}
 use Rattle.com_laws_messages.proofs.Holding.{held-few}
 use Rattle.com_laws_messages.proofs.Literals.{scenario-clean, iids-fit}
-use Rattle.com_laws_messages.proofs.Fitting.{RefsFit, fields-fit, sent-fit, named-fits, cause-fits, limit-low}
+use Rattle.com_laws_messages.proofs.Fitting.{RefsFit, fields-fit, sent-fit, named-fits, cause-fits}
 
 -- ---- a call as it is issued
 

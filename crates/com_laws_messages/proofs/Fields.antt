@@ -2,7 +2,7 @@
 use Rattle.std.proofs.Common.{subst, sym, ap, ◌∙◌, append_assoc, length-append, arith}
 use Rattle.std.proofs.lemmas.Grind.{common_steps}
 use Rattle.std.proofs.lemmas.Nat.{from_le_bytes-to_le_bytes_8}
-use Rattle.std.specs.Prelude.{◌≡◌, refl, ℕ, zero, suc, ◌+◌, ◌-◌, ◌/◌, ◌^◌, ◌≤◌, ◌<◌, Bool, true, false, cond, ◌==◌, ◌&&◌, nat_le, List, [], ◌∷◌, ◌++◌, length, map, slice_index_or}
+use Rattle.std.specs.Prelude.{◌≡◌, refl, ℕ, zero, suc, ◌+◌, ◌-◌, ◌/◌, ◌^◌, ◌≤◌, Bool, true, false, cond, ◌==◌, ◌&&◌, nat_le, List, [], ◌∷◌, ◌++◌, length, map, slice_index_or}
 use Rattle.com_base.specs.declared.standard.StdFields.{StdFields}
 use Rattle.com_base.specs.declared.value.RefValue.{RefValue}
 use Rattle.com_base.specs.declared.value.MarshalMode.TheVariants as marshal
@@ -11,7 +11,7 @@ use Rattle.com_model.specs.Sight.{Sight}
 use Rattle.com_model.specs.Deeds.{packet_fields}
 use Rattle.com_refs_books.specs.Counting.{numbers_from}
 use Rattle.com_refs_books.specs.declared.keeps.Packet.{Packet}
-use Rattle.com_refs_books.specs.Changes.{Books, no_packet, packet, Change, ToProxy, ToPacket, Split, Join, Return, ToCookie, Withdraw, Same, new_packet, changed, Row, Marshals, marshal_change, change, marshal_all, entered_rows, made_since}
+use Rattle.com_refs_books.specs.Changes.{Books, no_packet, packet, Change, ToProxy, ToPacket, Split, Join, Return, ToCookie, Withdraw, Same, new_packet, changed, Marshals, marshal_change, change, marshal_all, entered_rows}
 use Rattle.com_model.proofs.Fines.{cond-is}
 use Rattle.com_laws_balance.proofs.Packets.{AllLive}
 use Rattle.com_exchange.specs.Received.{reference_in_fields, packet_in_fields}

@@ -1,15 +1,13 @@
 -- The numbers of what an Out sends fit the types that hold them, within the limit of entries.
-use Rattle.std.proofs.Common.{subst, sym, ap, arith}
+use Rattle.std.proofs.Common.{subst, sym, arith}
 use Rattle.std.proofs.lemmas.List.Elements.{All-cons, All-nil}
 use Rattle.std.specs.Int.{w64, byte_at, bytes_low_first, to_le_bytes}
-use Rattle.std.specs.Prelude.{◌≡◌, refl, ℕ, zero, suc, ◌+◌, ◌*◌, ◌%◌, ◌/◌, ◌^◌, ◌≤◌, ◌<◌, Bool, true, false, cond, ◌==◌, List, [], ◌∷◌, length, Option, Some, None, All}
-use Rattle.com_base.specs.declared.standard.StdFields.{StdFields}
+use Rattle.std.specs.Prelude.{◌≡◌, refl, ℕ, zero, suc, ◌+◌, ◌%◌, ◌/◌, ◌^◌, ◌≤◌, ◌<◌, ◌==◌, List, [], ◌∷◌, length, Option, Some, None, All}
 use Rattle.com_base.specs.declared.value.RefValue.{RefValue}
 use Rattle.com_base.specs.declared.value.Value.{Value}
 use Rattle.com_base.specs.declared.value.Value.TheVariants as value
-use Rattle.com_base.specs.declared.value.MarshalMode.TheVariants as marshal
 use Rattle.com_base.specs.Guids.{IsBytes, IsGuid}
-use Rattle.com_classes.specs.Lookups.{interface_at, method_at}
+use Rattle.com_classes.specs.Lookups.{interface_at}
 use Rattle.com_wire.proofs.Fields.{wide64}
 use Rattle.objref.specs.Grammar.{IsStdFields}
 use Rattle.com_model.specs.declared.deeds.Deed.{Deed}
@@ -18,25 +16,22 @@ use Rattle.com_model.specs.declared.deeds.Entry.{Entry}
 use Rattle.com_model.specs.declared.deeds.Route.{Route}
 use Rattle.com_model.specs.declared.scenario.Scenario.{Scenario}
 use Rattle.com_model.specs.Ends.{limit}
-use Rattle.com_model.specs.Tables.{parameters}
 use Rattle.com_model.specs.Openers.{openers, running_call}
 use Rattle.com_model.specs.Apartments.{stas}
 use Rattle.com_model.specs.Objects.{objects, named}
-use Rattle.com_model.specs.Calls.{issues, issue_or, issue, cause_of, causes, cause_for, is_marshalled}
+use Rattle.com_model.specs.Calls.{issues, issue_or, issue, cause_of, causes, cause_for}
 use Rattle.com_model.specs.declared.keeps.Issue.{Issue}
 use Rattle.com_model.specs.Values.{carried}
-use Rattle.com_model.specs.Books.{books}
 use Rattle.com_model.specs.Formed.{Formed}
 use Rattle.com_model.specs.Issue.{sent}
 use Rattle.com_model.specs.Sight.{Sight, sight}
 use Rattle.com_model.specs.Deeds.{iid_of, ipid, packet_fields, next_cause}
 use Rattle.com_model.specs.Rules.{next, legal}
 use Rattle.com_refs_books.specs.declared.keeps.Packet.{Packet}
-use Rattle.com_refs_books.specs.Changes.{new_packet}
 use Rattle.com_model.proofs.Fines.{cond-is}
 use Rattle.com_model.proofs.Goods.{all-or, GoodValue}
 use Rattle.com_model.proofs.Scenes.{faces}
-use Rattle.com_model.proofs.Kept.{Kept, legal-kept}
+use Rattle.com_model.proofs.Kept.{legal-kept}
 use Rattle.com_laws_balance.proofs.Carries.{all-head, all-tail}
 use Rattle.com_laws_ranges.proofs.Numbers.{causes-few, objects-few, stas-few}
 use Rattle.com_laws_messages.proofs.Fields.{IsNew, AreNew, fields_from}

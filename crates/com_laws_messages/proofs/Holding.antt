@@ -1,10 +1,8 @@
 -- How many public references there are after so many entries: no more than twenty for each.
-use Rattle.std.proofs.Common.{subst, sym, ap, ◌∙◌, eqb-true, length-append, arith}
+use Rattle.std.proofs.Common.{subst, sym, ap, eqb-true, arith}
 use Rattle.std.proofs.lemmas.Bool.{ltb-true, ltb-false}
 use Rattle.std.proofs.lemmas.Grind.{common_steps}
-use Rattle.std.specs.Prelude.{◌≡◌, refl, ℕ, zero, suc, ◌+◌, ◌-◌, ◌*◌, ◌/◌, ◌≤◌, ◌<◌, pos, negsuc, Bool, true, false, cond, not, ◌==◌, ◌&&◌, nat_le, nat_lt, List, [], ◌∷◌, ◌++◌, length, map, Option, Some, None}
-use Rattle.com_base.specs.declared.hresult.HResult.{HResult}
-use Rattle.com_base.specs.declared.value.RefValue.{RefValue}
+use Rattle.std.specs.Prelude.{◌≡◌, refl, ℕ, zero, suc, ◌+◌, ◌-◌, ◌*◌, ◌/◌, ◌≤◌, ◌<◌, pos, Bool, true, false, cond, not, ◌==◌, ◌&&◌, nat_le, nat_lt, List, [], ◌∷◌, length, map, Option, Some, None}
 use Rattle.com_base.specs.declared.value.Value.{Value}
 use Rattle.com_base.specs.declared.value.MarshalMode.{MarshalMode}
 use Rattle.com_base.specs.declared.value.MarshalMode.TheVariants as marshal
@@ -17,7 +15,6 @@ use Rattle.com_model.specs.declared.scenario.Scenario.{Scenario}
 use Rattle.com_model.specs.Answers.{is_S_OK}
 use Rattle.com_model.specs.Lists.{number_or_zero}
 use Rattle.com_model.specs.Apartments.{running, apartments, next_sta}
-use Rattle.com_model.specs.Objects.{objects}
 use Rattle.com_model.specs.Values.{carried, result_list}
 use Rattle.com_model.specs.Frames.{Scene, scene, act}
 use Rattle.com_model.specs.Endings.{ending, is_leave}
@@ -26,7 +23,7 @@ use Rattle.com_refs_books.specs.Counting.{sum_below, numbers_from}
 use Rattle.com_refs_books.specs.Changes.{Books, packet, cookie, Change, ToProxy, ToPacket, Split, Join, Return, ToCookie, Withdraw, Same, changed, Row, Makes, Takes, Asks, Marshals, Unmarshals, Drops, Registers, Revokes, marshal_change, unmarshal_change, change, marshal_all, entered_rows, made_since, held}
 use Rattle.com_model.specs.Books.{out_values, reply_rows, back_rows, rows, kept, most, closed, books}
 use Rattle.com_model.specs.Formed.{Formed}
-use Rattle.com_model.specs.Safe.{EachPrefix, Balanced}
+use Rattle.com_model.specs.Safe.{Balanced}
 use Rattle.com_model.specs.Rules.{legal}
 use Rattle.com_model.proofs.Fines.{cond-is}
 use Rattle.com_model.proofs.Kept.{legal-kept}

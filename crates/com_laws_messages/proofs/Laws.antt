@@ -1,6 +1,6 @@
 -- The laws of messages, entry by entry.
 use Rattle.std.proofs.Common.{subst, sym, arith}
-use Rattle.std.specs.Prelude.{◌≡◌, ℕ, ◌+◌, ◌^◌, ◌≤◌, Bool, true, false, ◌&&◌, List, [], ◌∷◌, length, Option, Some, None}
+use Rattle.std.specs.Prelude.{◌≡◌, ℕ, ◌+◌, ◌^◌, ◌≤◌, Bool, true, false, ◌&&◌, List, [], ◌∷◌, length, Some, None}
 use Rattle.com_base.specs.declared.standard.StdFields.{StdFields}
 use Rattle.com_classes.specs.Lookups.{method_at}
 use Rattle.com_model.specs.declared.deeds.Deed.{Deed}

@@ -1,6 +1,6 @@
 -- What an Out says that the rules give to its lane: the causality and the bytes of the call that its lane makes.
 use Rattle.std.proofs.Common.{subst, sym, ap, ◌∙◌}
-use Rattle.std.specs.Prelude.{◌≡◌, refl, ℕ, Bool, true, false, ◌==◌, List, [], ◌∷◌, Option, Some, None, option_map}
+use Rattle.std.specs.Prelude.{◌≡◌, ℕ, Bool, true, ◌==◌, List, ◌∷◌, Option, Some, None, option_map}
 use Rattle.com_base.specs.declared.hresult.HResult.{HResult}
 use Rattle.com_base.specs.declared.value.RefValue.{RefValue}
 use Rattle.com_base.specs.declared.value.Value.{Value}
@@ -18,7 +18,6 @@ use Rattle.com_model.specs.Tables.{parameters}
 use Rattle.com_model.specs.Calls.{is_marshalled}
 use Rattle.com_model.specs.declared.keeps.Issue.{Issue}
 use Rattle.com_model.specs.Values.{sent_values}
-use Rattle.com_model.specs.Frames.{act}
 use Rattle.com_model.specs.Books.{books, out_values}
 use Rattle.com_model.specs.Issue.{call_refusal, own_values, sent}
 use Rattle.com_model.specs.Sight.{Sight, sight}

@@ -1,10 +1,10 @@
 -- A reply is read again as what was written.
 use Rattle.std.proofs.Common.{subst, sym, ap, ◌∙◌, append_assoc, append-nil, length-append, arith}
-use Rattle.std.proofs.lemmas.Bool.{ltb-false, le-ltb}
+use Rattle.std.proofs.lemmas.Bool.{le-ltb}
 use Rattle.std.proofs.lemmas.List.{length-replicate}
 use Rattle.std.specs.List.{AllByRecursion}
 use Rattle.std.specs.Int.{w32}
-use Rattle.std.specs.Prelude.{◌≡◌, refl, ℕ, zero, suc, ◌+◌, ◌-◌, ◌*◌, ◌^◌, ◌<◌, ◌≤◌, Bool, true, false, cond, nat_lt, List, [], ◌∷◌, ◌++◌, length, drop, map, Option, Some, None, Result, Ok}
+use Rattle.std.specs.Prelude.{◌≡◌, refl, ℕ, ◌+◌, ◌-◌, ◌*◌, ◌^◌, ◌<◌, ◌≤◌, false, nat_lt, List, [], ◌++◌, length, drop, map, Option, Some, None, Result, Ok}
 use Rattle.com_base.specs.declared.hresult.HResult.{HResult}
 use Rattle.com_base.specs.declared.standard.StdFields.{StdFields}
 use Rattle.com_base.specs.declared.value.Kind.{Kind}
@@ -17,18 +17,17 @@ use Rattle.orpc.proofs.Spelled.{reply_again, length-that}
 use Rattle.ndr_args.specs.declared.wire.Wire.{Wire}
 use Rattle.ndr_args.specs.declared.wire.ArgFault.{ArgFault}
 use Rattle.ndr_args.specs.Grammar.{gap, zeros, IsArgs}
-use Rattle.ndr_args.specs.Reading.{args_at, zeros_at, u32_field}
+use Rattle.ndr_args.specs.Reading.{args_at, zeros_at}
 use Rattle.ndr_args.specs.Written.{CanSendAll, IsInRange, written_args}
 use Rattle.ndr_args.proofs.Spelled.{zeros_again, u32_again}
 use Rattle.ndr_args.proofs.Streams.{args_again, args_written}
-use Rattle.com_model.specs.Answers.{hresult}
 use Rattle.com_model.specs.Lists.{first}
 use Rattle.com_model.specs.Values.{carried, wires, result_list, with_answer, reply_bytes}
 use Rattle.com_exchange.specs.declared.receiving.RequestError.{RequestError}
-use Rattle.com_exchange.specs.Received.{reference_in_fields, packet_in_fields, values_in, packets_in}
+use Rattle.com_exchange.specs.Received.{reference_in_fields, packet_in_fields, packets_in}
 use Rattle.com_exchange.proofs.Receivings.{values_back, packets_back, behind}
 use Rattle.com_laws_messages.specs.Carried.{fields_in, fields_read, fields_before, fields_of_reply}
-use Rattle.com_laws_messages.specs.Replies.{Reply, answer_at_end, kinds_before, ends_with_four, result_at, with_result, with_answer as said, with_header, reply_in}
+use Rattle.com_laws_messages.specs.Replies.{Reply, answer_at_end, kinds_before, result_at, with_result, with_answer as said, with_header, reply_in}
 
 front-dropped : (a b : List ℕ) → drop (length a) (a ++ b) ≡ b
 front-dropped a b = behind a b (length a) refl

@@ -1,8 +1,7 @@
 -- The request of each call that was marshalled says what its Out sent, as long as the history goes on.
 use Rattle.std.proofs.Common.{subst, sym, ap, ◌∙◌, eqb-true, length-append, arith}
 use Rattle.std.proofs.lemmas.Bool.{false_from_ne_true}
-use Rattle.std.specs.Prelude.{◌≡◌, refl, ℕ, zero, suc, ◌+◌, ◌-◌, ◌^◌, ◌<◌, ◌≤◌, Bool, true, false, cond, ◌==◌, List, [], ◌∷◌, ◌++◌, length, map, Option, Some, None, All, Result, Ok}
-use Rattle.com_base.specs.declared.hresult.HResult.{HResult}
+use Rattle.std.specs.Prelude.{◌≡◌, refl, ℕ, ◌+◌, ◌^◌, ◌<◌, ◌≤◌, Bool, true, false, cond, ◌==◌, List, [], ◌∷◌, ◌++◌, length, map, Option, Some, None, All, Result, Ok}
 use Rattle.com_base.specs.declared.standard.StdFields.{StdFields}
 use Rattle.com_base.specs.declared.value.Kind.{Kind}
 use Rattle.com_base.specs.declared.value.Kind.TheVariants as kind
@@ -22,8 +21,7 @@ use Rattle.com_model.specs.Lists.{number_or_zero}
 use Rattle.com_model.specs.Tables.{parameters}
 use Rattle.com_model.specs.Apartments.{running}
 use Rattle.com_model.specs.Objects.{objects, named, owns}
-use Rattle.com_model.specs.Calls.{issues, issue_or, issue, cause_of, route_of, is_marshalled}
-use Rattle.com_model.specs.declared.keeps.Issue.{Issue}
+use Rattle.com_model.specs.Calls.{issue, cause_of, is_marshalled}
 use Rattle.com_model.specs.Values.{if_live, sent_values, carried, wires, cause_guid, request_bytes}
 use Rattle.ndr_args.specs.declared.wire.Wire.{Wire}
 use Rattle.ndr_args.specs.declared.wire.ArgFault.{ArgFault}
@@ -35,9 +33,9 @@ use Rattle.com_model.specs.Places.{Ground, ground}
 use Rattle.com_refs_books.specs.declared.keeps.Packet.{Packet}
 use Rattle.com_refs_books.specs.Counting.{numbers_from}
 use Rattle.com_refs_books.specs.Changes.{Books, packet, Change, ToProxy, ToPacket, Split, Join, Return, ToCookie, Withdraw, Same, changed, Row, change, marshal_all, entered_rows, made_since}
-use Rattle.com_model.specs.Books.{out_values, rows, kept, most, closed, books}
+use Rattle.com_model.specs.Books.{out_values, rows, most, closed, books}
 use Rattle.com_model.specs.Formed.{Formed}
-use Rattle.com_model.specs.Issue.{own_values, values_or, sent}
+use Rattle.com_model.specs.Issue.{sent}
 use Rattle.com_model.specs.Sight.{Sight, sight}
 use Rattle.com_model.specs.Deeds.{iid_of, ipid, written_refs, packet_fields, named_packet, fields_since, with_packets, out_bytes}
 use Rattle.com_model.specs.Rules.{legal}
@@ -53,9 +51,9 @@ use Rattle.com_exchange.specs.declared.receiving.RequestError.{RequestError}
 use Rattle.com_exchange.specs.Received.{Sendable, reference_in_fields, packet_in_fields}
 use Rattle.com_exchange.proofs.Receivings.{again, wires_again}
 use Rattle.com_laws_messages.specs.Carried.{fields_in, fields_read, ReadsRequest}
-use Rattle.com_laws_messages.specs.Messages.{requests, message_or, request, parameters_of}
+use Rattle.com_laws_messages.specs.Messages.{request, parameters_of}
 use Rattle.com_laws_messages.proofs.Fields.{AreNew, Added, FewHeld, as-many-new, marshals-add, at_number, packet-at, fields_from, fields-are, fields-name, fields-number}
-use Rattle.com_laws_messages.proofs.Outs.{OutGives, out-gives, sent-own}
+use Rattle.com_laws_messages.proofs.Outs.{OutGives, sent-own}
 use Rattle.com_laws_messages.proofs.Naming.{FieldsOf, AllFields, AllThere, all-named, new-fields}
 use Rattle.com_laws_messages.proofs.Walking.{CanCarry}
 use Rattle.com_laws_messages.proofs.Sending.{FieldsFit, values-kind, can-send, in-range, few-wires, wires-many, carried-few}

@@ -1,9 +1,8 @@
 -- The reply of each marshalled call that was ended by its Leave says what the Leave sent, as long as the history goes on.
-use Rattle.std.proofs.Common.{subst, sym, ap, ◌∙◌, eqb-true, length-append, arith}
-use Rattle.std.proofs.lemmas.Bool.{false_from_ne_true}
+use Rattle.std.proofs.Common.{subst, sym, ap, ◌∙◌, length-append, arith}
 use Rattle.std.proofs.lemmas.List.Elements.{All-cons, All-nil}
 use Rattle.std.specs.List.{AllByRecursion}
-use Rattle.std.specs.Prelude.{◌≡◌, refl, ℕ, zero, suc, ◌+◌, ◌*◌, ◌^◌, ◌<◌, ◌≤◌, Bool, true, false, cond, not, ◌==◌, ◌&&◌, ◌||◌, List, [], ◌∷◌, ◌++◌, length, map, Option, Some, None, is_some, All}
+use Rattle.std.specs.Prelude.{◌≡◌, refl, ℕ, zero, suc, ◌+◌, ◌*◌, ◌^◌, ◌≤◌, Bool, true, false, cond, not, ◌&&◌, List, [], ◌∷◌, length, map, Option, Some, None, All}
 use Rattle.com_base.specs.declared.hresult.HResult.{HResult}
 use Rattle.com_base.specs.declared.standard.StdFields.{StdFields}
 use Rattle.com_base.specs.declared.value.Kind.{Kind}
@@ -13,39 +12,27 @@ use Rattle.com_base.specs.Values.{as_kind}
 use Rattle.com_body.specs.declared.actions.Action.{Action}
 use Rattle.com_classes.specs.Lookups.{method_at}
 use Rattle.ndr_args.specs.Written.{CanSendAll, IsInRange}
-use Rattle.com_model.specs.declared.deeds.Deed.{Deed}
 use Rattle.com_model.specs.declared.deeds.Deed.TheVariants as deed
 use Rattle.com_model.specs.declared.deeds.Entry.{Entry}
 use Rattle.com_model.specs.declared.scenario.Scenario.{Scenario}
 use Rattle.com_model.specs.Answers.{is_failure}
-use Rattle.com_model.specs.Lists.{first, is_number, number_or_zero, or_else}
+use Rattle.com_model.specs.Lists.{number_or_zero}
 use Rattle.com_model.specs.Tables.{result_kind}
 use Rattle.com_model.specs.Apartments.{running}
-use Rattle.com_model.specs.Objects.{named}
-use Rattle.com_model.specs.Calls.{issues, issue_or, issue, returns, returned, calls, target, admitted, route_of, is_marshalled}
+use Rattle.com_model.specs.Calls.{returned, is_marshalled}
 use Rattle.com_model.specs.declared.keeps.Issue.{Issue}
 use Rattle.com_model.specs.Values.{sent_value, sent_result, given_or_default, carried, result_list, wires, reply_bytes}
 use Rattle.com_model.specs.Frames.{Scene, scene, act}
-use Rattle.com_model.specs.Endings.{end_effect, ends, filtered, can_be_cut, ending, is_leave}
-use Rattle.com_model.specs.declared.keeps.Ending.{Ending}
-use Rattle.com_model.specs.declared.keeps.Ending.TheVariants.{ByLeave}
+use Rattle.com_model.specs.Endings.{ending, is_leave}
 use Rattle.com_model.specs.Places.{Ground, ground}
 use Rattle.com_refs_books.specs.declared.keeps.Packet.{Packet}
 use Rattle.com_refs_books.specs.Counting.{numbers_from}
 use Rattle.com_refs_books.specs.Changes.{Books, packet, marshal_all, entered_rows, made_since, first_of}
-use Rattle.com_model.specs.Books.{rows, most, closed, books}
-use Rattle.com_model.specs.Formed.{Formed}
+use Rattle.com_model.specs.Books.{most, closed, books}
 use Rattle.com_model.specs.Sight.{Sight, sight}
 use Rattle.com_model.specs.Deeds.{packet_fields, fields_since, with_packets, reply_for}
-use Rattle.com_model.specs.Rules.{next, legal}
-use Rattle.com_model.specs.Safe.{event, stage, ComesOnce}
-use Rattle.com_model.proofs.Comes.{next-comes}
-use Rattle.com_model.proofs.Onces.{legal-once}
 use Rattle.com_laws_safety.proofs.Small.{same-number}
 use Rattle.com_laws_balance.proofs.Packets.{Grown, AllLive}
-use Rattle.com_laws_balance.proofs.Results.{ends-is, not-left, out-number, same-issue, leave-issue, NotLeft}
-use Rattle.com_laws_balance.proofs.Leavings.{or-some, no-leave-again}
-use Rattle.com_laws_balance.proofs.Says.{Says, next-says}
 use Rattle.com_laws_balance.proofs.Sendings.{end-grown}
 use Rattle.com_exchange.specs.Received.{reference_in_fields, packet_in_fields}
 use Rattle.com_laws_messages.specs.Messages.{as_list}
@@ -54,8 +41,8 @@ use Rattle.com_laws_messages.proofs.Fields.{AreNew, FewHeld, as-many-new, fields
 use Rattle.com_laws_messages.proofs.Walking.{CanCarry, ResultCan, IsShort}
 use Rattle.com_laws_messages.proofs.Sending.{AllOf, FieldsFit, value-kind, can-send, in-range, few-wires, carried-few, one-result}
 use Rattle.com_laws_messages.proofs.Naming.{AllFields, new-fields}
-use Rattle.com_laws_messages.proofs.Requests.{Marshalled, marshals, live-values, rows-keep, all-later, other-key}
-use Rattle.com_laws_messages.proofs.Leaves.{LeaveGives, leave-gives}
+use Rattle.com_laws_messages.proofs.Requests.{Marshalled, marshals, live-values}
+use Rattle.com_laws_messages.proofs.Leaves.{LeaveGives}
 
 -- The bytes are a reply that says this, the reference by the fields of this packet.
 pub record Replied (s : Scenario) (h : List Entry) (kind : Option Kind) (bytes : Option (List ℕ)) (hr : HResult) (v : Option Value) (number : Option ℕ) : Type 0 where

@@ -1,18 +1,17 @@
 -- Values of declared kinds that a message can carry may be sent, each reference by a packet whose fields are in their ranges.
-use Rattle.std.proofs.Common.{ap, sym, arith}
+use Rattle.std.proofs.Common.{ap, arith}
 use Rattle.std.specs.List.{AllByRecursion}
 use Rattle.std.specs.Prelude.{◌≡◌, refl, ℕ, suc, ◌+◌, ◌*◌, ◌^◌, ◌≤◌, Bool, true, false, cond, List, [], ◌∷◌, length, Option, Some, None, All}
 use Rattle.com_base.specs.declared.standard.StdFields.{StdFields}
 use Rattle.com_base.specs.declared.value.Kind.{Kind}
 use Rattle.com_base.specs.declared.value.Kind.TheVariants as kind
-use Rattle.com_base.specs.declared.value.RefValue.{RefValue}
 use Rattle.com_base.specs.declared.value.Value.{Value}
 use Rattle.com_base.specs.declared.value.Value.TheVariants as value
 use Rattle.com_base.specs.Values.{as_kind, default_of, has_kind}
 use Rattle.objref.specs.Grammar.{IsStdFields}
 use Rattle.ndr_args.specs.declared.wire.Wire.{Wire}
 use Rattle.ndr_args.specs.declared.wire.Wire.TheVariants as wire
-use Rattle.ndr_args.specs.Written.{HasKind, CanSend, CanSendAll, IsInRange}
+use Rattle.ndr_args.specs.Written.{HasKind, CanSendAll, IsInRange}
 use Rattle.ndr_args.proofs.Streams.{as_many}
 use Rattle.com_model.specs.Lists.{first, without_first}
 use Rattle.com_model.specs.Values.{if_live, sent_value, sent_values, wires, carried, result_list}

@@ -2,11 +2,11 @@
 use Rattle.std.proofs.Common.{arith}
 use Rattle.std.proofs.lemmas.Int.{wrapping_add_is, wrapping_sub_is, SFits-int_wrap, fits_signed_from_abs}
 use Rattle.std.proofs.Common.{subst, sym}
-use Rattle.std.proofs.lemmas.List.Elements.{All-set, All-map, All-drop, All-append, All-replicate, All-cons, All-nil}
+use Rattle.std.proofs.lemmas.List.Elements.{All-set, All-map, All-drop, All-append, All-replicate, All-cons}
 use Rattle.std.specs.Int.{w64, int_wrapping_add, int_wrapping_sub}
 use Rattle.std.specs.Int.RustNames.{FitsSigned}
 use Rattle.std.specs.Str.{IsUtf8}
-use Rattle.std.specs.Prelude.{◌≡◌, ℕ, zero, suc, ◌+◌, ◌%◌, ◌^◌, ◌<◌, ◌≤◌, Bool, true, false, cond, ℤ, pos, negsuc, List, [], ◌∷◌, length, drop, Option, Some, None, All}
+use Rattle.std.specs.Prelude.{ℕ, zero, suc, ◌+◌, ◌^◌, ◌<◌, ◌≤◌, Bool, true, false, ℤ, pos, List, [], ◌∷◌, length, drop, Option, Some, None, All}
 use Rattle.com_base.specs.declared.hresult.HResult.{HResult}
 use Rattle.com_base.specs.declared.value.Value.{Value}
 use Rattle.com_base.specs.declared.value.Value.TheVariants as value
@@ -29,7 +29,6 @@ use Rattle.com_body.specs.Frames.{FrameView, with_register, moved, entered, plai
 use Rattle.com_body.specs.Operands.{number_in, value_of, number_of, argument_of, answer_of, given_value, truth}
 use Rattle.com_body.specs.BodySteps.{Effect, Goes, Acts, effect_of, walk, body_step}
 use Rattle.com_model.proofs.Goods.{all-of, all-or}
-use Rattle.com_model.proofs.Fines.{cond-is}
 use Rattle.com_laws_balance.proofs.Carries.{all-head, all-tail}
 
 -- What a message can carry.
