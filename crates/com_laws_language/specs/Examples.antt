@@ -1,0 +1,33 @@
+-- A text that spells a scenario, and one with the same sections that spells none.
+use Rattle.std.specs.Prelude.{ℕ, List, [], ◌∷◌, ◌++◌, Some, codes}
+use Rattle.com_body.specs.declared.statements.Stmt.TheVariants as stmts
+use Rattle.com_classes.specs.BuiltIns.{built_in_interfaces}
+use Rattle.com_model.specs.declared.scenario.Scenario.{Scenario}
+
+-- a filter without rules
+abbrev pub filter_section : List ℕ
+filter_section = codes "filter F" ++ 10 ∷ codes "end" ++ 10 ∷ []
+
+-- a script that names it
+abbrev pub thread_section : List ℕ
+thread_section = codes "thread" ++ 10 ∷ codes "setfilter F" ++ 10 ∷ codes "end" ++ 10 ∷ []
+
+abbrev pub header_line : List ℕ
+header_line = codes "scenario 1" ++ 10 ∷ []
+
+abbrev pub filter_first : List ℕ
+filter_first = header_line ++ filter_section ++ thread_section
+
+abbrev pub thread_first : List ℕ
+thread_first = header_line ++ thread_section ++ filter_section
+
+-- what the first one spells
+abbrev pub filtered : Scenario
+filtered = record {
+  version = 1;
+  pool = 1;
+  classes = record { interfaces = built_in_interfaces; classes = [] };
+  filters = [] ∷ [];
+  threads = (stmts.SetFilter (Some 1) ∷ []) ∷ [];
+  picks = [];
+}

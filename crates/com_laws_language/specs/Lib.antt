@@ -1,0 +1,6 @@
+pub mod Sections
+pub mod Orders
+pub mod Parts
+pub mod Spelling
+pub mod Laws
+pub mod Examples
