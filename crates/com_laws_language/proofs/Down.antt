@@ -62,11 +62,12 @@ module _ (v : ℕ) (above rest : List Part) (st : State) (r : Ready v above st) 
   pool_down : (head : Line) (n : ℕ) → IsWithinLimits (above ++ of_lanes n ∷ rest) → IsPool head n → Reads (pool head) (of_lanes n)
   unfolding from
   pool_down head n h d =
-      let none = no_lanes (flat_map lanes_in above) (few_before lanes_in above (of_lanes n) rest 1 h.pools) in
-      (state_at v (above ++ of_lanes n ∷ []),
-      one_line st _ head (ready_step v above st head (codes "pool") begins.Pool _ r d.begins refl refl
-          (pool_reads (state_at v above) d.begins.first head n (ap (λ (xs : List ℕ). is_some (slice_get xs 0)) none) d ∙ ap Ok (sym (with_lanes v above n none)))),
-      outside refl)
+      let none = no_lanes (flat_map lanes_in above) (few_before lanes_in above (of_lanes n) rest 1 h.pools) in (
+        state_at v (above ++ of_lanes n ∷ []),
+        one_line st _ head (ready_step v above st head (codes "pool") begins.Pool _ r d.begins refl refl
+            (pool_reads (state_at v above) d.begins.first head n (ap (λ (xs : List ℕ). is_some (slice_get xs 0)) none) d ∙ ap Ok (sym (with_lanes v above n none)))),
+        outside refl,
+      )
 
   interface_down : (head : Line) (lines : List Line) (i : Interface) → IsWithinLimits (above ++ of_interface i ∷ rest) → IsInterface above head lines i → Reads (interface head lines) (of_interface i)
   unfolding from
@@ -75,12 +76,13 @@ module _ (v : ℕ) (above rest : List Part) (st : State) (r : Ready v above st) 
       let own = flat_map interface_in above in
       let few = few_before interface_in above (of_interface i) rest 60 h.interfaces in
       let free = lt-leb 64 (length (map name_of_interface (built_in_interfaces ++ own))) (omega (arith, few, length-map own name_of_interface)) in
-      let i0 = new_interface i.name i.iid in
-      (interface_begun S i,
-      binds (step st head) _ (interface_begun S i0) _
-          (ready_step v above st head (codes "interface") begins.Interface _ r d.begins refl refl (interface_reads S d.begins.first head i.name i.iid d.word free d.named d.name d.iid d.no_more))
-          (methods_read (interface_begun S i0) i0 lines i.methods d.methods d.few),
-      behind i refl (sym (with_interface v above i)))
+      let i0 = new_interface i.name i.iid in (
+        interface_begun S i,
+        binds (step st head) _ (interface_begun S i0) _
+            (ready_step v above st head (codes "interface") begins.Interface _ r d.begins refl refl (interface_reads S d.begins.first head i.name i.iid d.word free d.named d.name d.iid d.no_more))
+            (methods_read (interface_begun S i0) i0 lines i.methods d.methods d.few),
+        behind i refl (sym (with_interface v above i)),
+      )
 
   class_down : (head : Line) (lines : List BodyLines) (last : Line) (c : Class) → IsWithinLimits (above ++ of_class c ∷ rest) → IsClass above head lines last c → Reads (class head lines last) (of_class c)
   unfolding from
@@ -89,26 +91,28 @@ module _ (v : ℕ) (above rest : List Part) (st : State) (r : Ready v above st) 
       let few = few_before class_in above (of_class c) rest 64 h.classes in
       let free = lt-leb 64 (length (map name_of_class (flat_map class_in above))) (omega (arith, few, length-map (flat_map class_in above) name_of_class)) in
       let c0 = new_class c.name c.clsid c.model c.interfaces in
-      let T = class_begun S c0 in
-      (state_at v (above ++ of_class c ∷ []),
-      joins st (head ∷ flat_map body_lines lines) (last ∷ []) (record T { section = within.Class (record c0 { bodies = c.bodies }) }) _
-          (binds (step st head) _ T _
-              (ready_step v above st head (codes "class") begins.Class _ r d.begins refl refl (class_reads S d.begins.first head c d.word free d.named d.name d.clsid d.model d.interfaces))
-              (bodies_read T c0 lines c.bodies d.bodies))
-          (one_line _ _ last (class_end T (record c0 { bodies = c.bodies }) last d.closed)
-          ∙ ap (λ (n : Native). Ok (class_added S (record c { native = n }))) (sym d.written) ∙ ap Ok (sym (with_class v above c))),
-      outside refl)
+      let T = class_begun S c0 in (
+        state_at v (above ++ of_class c ∷ []),
+        joins st (head ∷ flat_map body_lines lines) (last ∷ []) (record T { section = within.Class (record c0 { bodies = c.bodies }) }) _
+            (binds (step st head) _ T _
+            (ready_step v above st head (codes "class") begins.Class _ r d.begins refl refl (class_reads S d.begins.first head c d.word free d.named d.name d.clsid d.model d.interfaces))
+            (bodies_read T c0 lines c.bodies d.bodies))
+            (one_line _ _ last (class_end T (record c0 { bodies = c.bodies }) last d.closed)
+            ∙ ap (λ (n : Native). Ok (class_added S (record c { native = n }))) (sym d.written) ∙ ap Ok (sym (with_class v above c))),
+        outside refl,
+      )
 
   native_down : (head : Line) (c : Class) → IsWithinLimits (above ++ of_class c ∷ rest) → IsNative above head c → Reads (native head) (of_class c)
   unfolding from
   native_down head c h d =
       let S = state_at v above in
       let few = few_before class_in above (of_class c) rest 64 h.classes in
-      let free = lt-leb 64 (length (map name_of_class (flat_map class_in above))) (omega (arith, few, length-map (flat_map class_in above) name_of_class)) in
-      (state_at v (above ++ of_class c ∷ []),
-      one_line st _ head (ready_step v above st head (codes "native") begins.Native _ r d.begins refl refl
-          (native_reads S d.begins.first head c free d.word d.named d.name d.clsid d.model d.kind d.no_more d.interfaces d.bodies ∙ ap Ok (sym (with_class v above c)))),
-      outside refl)
+      let free = lt-leb 64 (length (map name_of_class (flat_map class_in above))) (omega (arith, few, length-map (flat_map class_in above) name_of_class)) in (
+        state_at v (above ++ of_class c ∷ []),
+        one_line st _ head (ready_step v above st head (codes "native") begins.Native _ r d.begins refl refl
+            (native_reads S d.begins.first head c free d.word d.named d.name d.clsid d.model d.kind d.no_more d.interfaces d.bodies ∙ ap Ok (sym (with_class v above c)))),
+        outside refl,
+      )
 
   filter_down : (head : Line) (lines : List Line) (last : Line) (name : List ℕ) (rules : List Rule) → IsWithinLimits (above ++ of_filter name rules ∷ rest) → IsFilter above head lines last name rules → Reads (filter head lines last) (of_filter name rules)
   unfolding from
@@ -116,14 +120,15 @@ module _ (v : ℕ) (above rest : List Part) (st : State) (r : Ready v above st) 
       let S = state_at v above in
       let few = few_before filter_name_in above (of_filter name rules) rest 16 h.filters in
       let free = lt-leb 16 (length (flat_map filter_name_in above)) (omega (arith, few)) in
-      let T = filter_begun S name [] in
-      (state_at v (above ++ of_filter name rules ∷ []),
-      joins st (head ∷ lines) (last ∷ []) (record T { section = within.Filter rules }) _
-          (binds (step st head) _ T _
-              (ready_step v above st head (codes "filter") begins.Filter _ r d.begins refl refl (filter_reads S d.begins.first head name d.word free d.named d.same d.no_more))
-              (rules_read T [] lines rules d.ruled d.few))
-          (one_line _ _ last (filter_end T rules last d.closed) ∙ ap Ok (sym (with_filter v above name rules))),
-      outside refl)
+      let T = filter_begun S name [] in (
+        state_at v (above ++ of_filter name rules ∷ []),
+        joins st (head ∷ lines) (last ∷ []) (record T { section = within.Filter rules }) _
+            (binds (step st head) _ T _
+            (ready_step v above st head (codes "filter") begins.Filter _ r d.begins refl refl (filter_reads S d.begins.first head name d.word free d.named d.same d.no_more))
+            (rules_read T [] lines rules d.ruled d.few))
+            (one_line _ _ last (filter_end T rules last d.closed) ∙ ap Ok (sym (with_filter v above name rules))),
+        outside refl,
+      )
 
   thread_down : (head : Line) (lines : List Line) (last : Line) (script : List Stmt) → IsWithinLimits (above ++ of_script script ∷ rest) → IsThread above head lines last script → Reads (thread head lines last) (of_script script)
   unfolding from
@@ -132,22 +137,24 @@ module _ (v : ℕ) (above rest : List Part) (st : State) (r : Ready v above st) 
       let few = few_before script_in above (of_script script) rest 16 h.threads in
       let free = lt-leb 16 (length (flat_map script_in above)) (omega (arith, few)) in
       let q = statements_read 2000 programs.Script S (λ code. record S { section = within.Thread code }) (script_next S) no_code lines script d.statements (short script 2000 d.whole) in
-      let sound = subst (λ (ss : List Stmt). fault_of ss 2000 ≡ None) (sym q.1) d.whole in
-      (state_at v (above ++ of_script script ∷ []),
-      joins st (head ∷ lines) (last ∷ []) (thread_begun S q.0) _
-          (binds (step st head) _ (thread_begun S no_code) _
-              (ready_step v above st head (codes "thread") begins.Thread _ r d.begins refl refl (thread_reads S d.begins.first head free d.no_more))
-              q.2)
-          (one_line _ _ last (thread_end S q.0 last sound d.closed) ∙ ap (λ (ss : List Stmt). Ok (script_added S ss)) q.1 ∙ ap Ok (sym (with_script v above script))),
-      outside refl)
+      let sound = subst (λ (ss : List Stmt). fault_of ss 2000 ≡ None) (sym q.1) d.whole in (
+        state_at v (above ++ of_script script ∷ []),
+        joins st (head ∷ lines) (last ∷ []) (thread_begun S q.0) _
+            (binds (step st head) _ (thread_begun S no_code) _
+            (ready_step v above st head (codes "thread") begins.Thread _ r d.begins refl refl (thread_reads S d.begins.first head free d.no_more))
+            q.2)
+            (one_line _ _ last (thread_end S q.0 last sound d.closed) ∙ ap (λ (ss : List Stmt). Ok (script_added S ss)) q.1 ∙ ap Ok (sym (with_script v above script))),
+        outside refl,
+      )
 
   picks_down : (head : Line) (lanes : List ℕ) → IsPicks head lanes → Reads (picks head) (of_picks lanes)
   unfolding from
-  picks_down head lanes d =
-      (state_at v (above ++ of_picks lanes ∷ []),
-      one_line st _ head (ready_step v above st head (codes "picks") begins.Picks _ r d.begins refl refl
-          (picks_reads (state_at v above) d.begins.first head lanes d ∙ ap Ok (sym (with_picks v above lanes)))),
-      outside refl)
+  picks_down head lanes d = (
+    state_at v (above ++ of_picks lanes ∷ []),
+    one_line st _ head (ready_step v above st head (codes "picks") begins.Picks _ r d.begins refl refl
+        (picks_reads (state_at v above) d.begins.first head lanes d ∙ ap Ok (sym (with_picks v above lanes)))),
+    outside refl,
+  )
 
   section_down : (section : Section) (part : Part) → IsWithinLimits (above ++ part ∷ rest) → Declares above section part → Reads section part
   section_down (pool head) (of_lanes n) h d = pool_down head n h d

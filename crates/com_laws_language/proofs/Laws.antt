@@ -32,10 +32,10 @@ spelled_is_read text s h =
     let v = s.version in
     let q = sections_down v h.sections [] h.parts (state_at v []) (outside refl) h.declared h.limits in
     let all : steps (begun built_in_interfaces) (with_words (lines_of text)) ≡ Ok q.0 =
-        ap (λ (ls : List Line). steps (begun built_in_interfaces) ls) h.lines ∙ binds (step (begun built_in_interfaces) h.header) _ (state_at v []) _ (head_down v h.header h.headed) q.1 in
+    ap (λ (ls : List Line). steps (begun built_in_interfaces) ls) h.lines ∙ binds (step (begun built_in_interfaces) h.header) _ (state_at v []) _ (head_down v h.header h.headed) q.1 in
     binds (read (begun built_in_interfaces) (lines_of text)) _ (outlined (state_at v h.parts)) _
-        (steps_read (begun built_in_interfaces) q.0 (lines_of text) (outlined (state_at v h.parts)) (text_ended text) all (λ line column. ready_end v h.parts q.0 line column q.2))
-        (ap Ok (made v h.parts ∙ sym h.made))
+    (steps_read (begun built_in_interfaces) q.0 (lines_of text) (outlined (state_at v h.parts)) (text_ended text) all (λ line column. ready_end v h.parts q.0 line column q.2))
+    (ap Ok (made v h.parts ∙ sym h.made))
 
 pub read_is_spelled : IsSpelled
 unfolding reading
@@ -47,10 +47,13 @@ read_is_spelled text s e =
     let is : s ≡ scenario_with c.version d.parts = sym (ok_same _ s a.2) ∙ ap scenario_of d.is ∙ made c.version d.parts in
     let version : c.version ≡ s.version = ap (λ (t : Scenario). t.version) (sym is) in
     record {
-      header = c.header; sections = d.sections; parts = d.parts;
+      header = c.header;
+      sections = d.sections;
+      parts = d.parts;
       lines = c.lines_are ∙ ap (λ (ls : List Line). c.header ∷ ls) d.read;
       headed = subst (λ (n : ℕ). IsHeader c.header n) version c.headed;
-      declared = d.whole.order; limits = d.whole.limits;
+      declared = d.whole.order;
+      limits = d.whole.limits;
       made = is ∙ ap (λ (n : ℕ). scenario_with n d.parts) version;
     }
 

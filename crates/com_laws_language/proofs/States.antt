@@ -105,12 +105,12 @@ module _ (v : ℕ) (ps : List Part) where
   pub with_interface : (i : Interface) → state_at v (ps ++ of_interface i ∷ []) ≡ interface_closed (interface_begun (state_at v ps) i) i
   unfolding from
   with_interface i = grown v ps (of_interface i) (flat_map lanes_in ps) (flat_map interface_in ps ++ i ∷ []) (flat_map class_in ps) (flat_map filter_name_in ps) (flat_map filter_in ps) (flat_map script_in ps) (flat_map picks_in ps) (append-nil _) refl (append-nil _) (append-nil _) (append-nil _) (append-nil _) (append-nil _)
-    ∙ rw (map_push name_of_interface (flat_map interface_in ps) i, map_push iid_of (flat_map interface_in ps) i) refl
+      ∙ rw (map_push name_of_interface (flat_map interface_in ps) i, map_push iid_of (flat_map interface_in ps) i) refl
 
   pub with_class : (c : Class) → state_at v (ps ++ of_class c ∷ []) ≡ class_added (state_at v ps) c
   unfolding from
   with_class c = grown v ps (of_class c) (flat_map lanes_in ps) (flat_map interface_in ps) (flat_map class_in ps ++ c ∷ []) (flat_map filter_name_in ps) (flat_map filter_in ps) (flat_map script_in ps) (flat_map picks_in ps) (append-nil _) (append-nil _) refl (append-nil _) (append-nil _) (append-nil _) (append-nil _)
-    ∙ rw (map_push name_of_class (flat_map class_in ps) c, map_push clsid_of (flat_map class_in ps) c) refl
+      ∙ rw (map_push name_of_class (flat_map class_in ps) c, map_push clsid_of (flat_map class_in ps) c) refl
 
   pub with_filter : (name : List ℕ) (rules : List Rule) → state_at v (ps ++ of_filter name rules ∷ []) ≡ filter_added (state_at v ps) name rules
   unfolding from

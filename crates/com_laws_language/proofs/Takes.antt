@@ -126,7 +126,7 @@ methods_read st i (l ∷ ls) (m ∷ ms) h few =
     let more = append_assoc i.methods (m ∷ []) ms in
     let j = record i { methods = i.methods ++ m ∷ [] } in
     binds (step (record st { section = within.Interface i }) l) _ (record st { section = within.Interface j }) _ (method_step st i l m h.0 (lt-leb 32 (length i.methods) (omega (arith, few, length-append i.methods (m ∷ ms)))))
-        (methods_read st j ls ms h.1 (subst (λ (ks : List Method). length ks ≤ 32) (sym more) few) ∙ ap (λ (ks : List Method). Ok (record st { section = within.Interface (record i { methods = ks }) })) more)
+    (methods_read st j ls ms h.1 (subst (λ (ks : List Method). length ks ≤ 32) (sym more) few) ∙ ap (λ (ks : List Method). Ok (record st { section = within.Interface (record i { methods = ks }) })) more)
 
 -- ---- ends
 
@@ -177,7 +177,7 @@ rules_read st done (l ∷ ls) [] h few = absurd h
 rules_read st done (l ∷ ls) (r ∷ rs) h few =
     let more = append_assoc done (r ∷ []) rs in
     binds (step (record st { section = within.Filter done }) l) _ (record st { section = within.Filter (done ++ r ∷ []) }) _ (rule_step st done l r h.0 (lt-leb 32 (length done) (omega (arith, few, length-append done (r ∷ rs)))))
-        (rules_read st (done ++ r ∷ []) ls rs h.1 (subst (λ (ks : List Rule). length ks ≤ 32) (sym more) few) ∙ ap (λ (ks : List Rule). Ok (record st { section = within.Filter ks })) more)
+    (rules_read st (done ++ r ∷ []) ls rs h.1 (subst (λ (ks : List Rule). length ks ≤ 32) (sym more) few) ∙ ap (λ (ks : List Rule). Ok (record st { section = within.Filter ks })) more)
 
 -- ---- statements
 
@@ -244,8 +244,8 @@ body_reads st c lines b h =
     let q = statements_read 200 (program_of c.model) st (λ code. record st { section = within.Body c n code }) (body_next st c n) no_code lines.statements b.body h.statements (short b.body 200 h.whole) in
     let sound = subst (λ (ss : List Stmt). fault_of ss 200 ≡ None) (sym q.1) h.whole in
     joins (record st { section = within.Class c }) (lines.head ∷ lines.statements) (lines.last ∷ []) (record st { section = within.Body c n q.0 }) _
-        (binds (step (record st { section = within.Class c }) lines.head) _ (record st { section = within.Body c n no_code }) _ (body_begins st c lines.head n h.begins h.method h.once h.no_more) q.2)
-        (one_line _ _ lines.last (body_end st c n q.0 lines.last sound h.closed) ∙ ap (λ (ss : List Stmt). Ok (record st { section = within.Class (with_body c n ss) })) q.1)
+    (binds (step (record st { section = within.Class c }) lines.head) _ (record st { section = within.Body c n no_code }) _ (body_begins st c lines.head n h.begins h.method h.once h.no_more) q.2)
+    (one_line _ _ lines.last (body_end st c n q.0 lines.last sound h.closed) ∙ ap (λ (ss : List Stmt). Ok (record st { section = within.Class (with_body c n ss) })) q.1)
 
 pub bodies_read : (st : State) (c : Class) (lines : List BodyLines) (bs : List MethodBody) → InOrder (IsBody st.names c.model) c.bodies lines bs
     → steps (record st { section = within.Class c }) (flat_map body_lines lines) ≡ Ok (record st { section = within.Class (record c { bodies = c.bodies ++ bs }) })
@@ -255,4 +255,4 @@ bodies_read st c (l ∷ ls) [] h = absurd h
 bodies_read st c (l ∷ ls) (b ∷ bs) h =
     let d = record c { bodies = c.bodies ++ b ∷ [] } in
     joins (record st { section = within.Class c }) (body_lines l) (flat_map body_lines ls) (record st { section = within.Class d }) _ (body_reads st c l b h.0)
-        (bodies_read st d ls bs h.1 ∙ ap (λ (ks : List MethodBody). Ok (record st { section = within.Class (record c { bodies = ks }) })) (append_assoc c.bodies (b ∷ []) bs))
+    (bodies_read st d ls bs h.1 ∙ ap (λ (ks : List MethodBody). Ok (record st { section = within.Class (record c { bodies = ks }) })) (append_assoc c.bodies (b ∷ []) bs))

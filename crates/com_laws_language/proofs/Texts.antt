@@ -94,9 +94,9 @@ head_words : (v : ℕ) (one two : WordAt) (more : Line) → one.bytes ≡ codes 
 unfolding step header_line version_at from
 head_words v one two more scenario number plain ends =
     binds (version_by None (one ∷ two ∷ more) one two two.sort) _ v _
-        (no_comment (one ∷ two ∷ more) one two two.sort plain
-        ∙ ap (λ (b : Bool). cond (not b) (Err (fault_at 1 one)) (version_ended (one ∷ two ∷ more) two (version_of two.bytes))) (bytes_same one.bytes (codes "scenario") scenario)
-        ∙ ap (version_ended (one ∷ two ∷ more) two) number ∙ binds (end_at (one ∷ two ∷ more) 2) _ tt _ ends refl) refl
+    (no_comment (one ∷ two ∷ more) one two two.sort plain
+    ∙ ap (λ (b : Bool). cond (not b) (Err (fault_at 1 one)) (version_ended (one ∷ two ∷ more) two (version_of two.bytes))) (bytes_same one.bytes (codes "scenario") scenario)
+    ∙ ap (version_ended (one ∷ two ∷ more) two) number ∙ binds (end_at (one ∷ two ∷ more) 2) _ tt _ ends refl) refl
 
 pub head_down : (v : ℕ) (line : Line) → IsHeader line v → step (begun built_in_interfaces) line ≡ Ok (state_at v [])
 head_down v line h = ap (λ (l : Line). step (begun built_in_interfaces) l) h.words
@@ -174,6 +174,7 @@ compared_found v one two more e = by (bytes_eq one.bytes (codes "scenario")) ref
     versioned : (o : Option ℕ) → version_of two.bytes ≡ o → version_ended (one ∷ two ∷ more) two o ≡ Ok v → (version_of two.bytes ≡ Some v) × (end_at (one ∷ two ∷ more) 2 ≡ Ok tt)
     versioned None h e = never _ _ _ e
     versioned (Some n) h e = let a = bound (end_at (one ∷ two ∷ more) 2) _ v e in (h ∙ ap Some (ok_same n v a.2), a.1)
+
     by : (b : Bool) → bytes_eq one.bytes (codes "scenario") ≡ b → cond (not b) (Err (fault_at 1 one)) (version_ended (one ∷ two ∷ more) two (version_of two.bytes)) ≡ Ok v
         → (one.bytes ≡ codes "scenario") × (version_of two.bytes ≡ Some v) × (end_at (one ∷ two ∷ more) 2 ≡ Ok tt)
     by true h e = let q = versioned (version_of two.bytes) refl e in (same_bytes one.bytes (codes "scenario") h, q.0, q.1)
@@ -203,7 +204,10 @@ head_line_up w (two ∷ ws) ls next o line column f mid e g =
     let a = bound (version_by None (w ∷ two ∷ ws) w two two.sort) _ mid e in
     let same : state_at a.0 [] ≡ mid = ok_same _ mid a.2 in
     record {
-      version = a.0; header = w ∷ two ∷ ws; rest = with_words ls; lines_are = refl;
+      version = a.0;
+      header = w ∷ two ∷ ws;
+      rest = with_words ls;
+      lines_are = refl;
       headed = version_found a.0 w two ws two.sort refl a.1;
       stands = lines_up a.0 ls [] (state_at a.0 []) next (empty_top a.0) (subst (λ (s : State). steps s (with_words ls) ≡ Ok next) (sym same) g);
     }
@@ -235,7 +239,10 @@ ended_open st end line column o P s x e = never P _ o (sym (ap (λ (t : State). 
 pub end_up : (v : ℕ) (lines : List Line) (next : State) (line column : ℕ) (o : Outline) → Standing v lines next → finish next line column ≡ Ok o → IsRead v lines o
 unfolding finish from
 end_up v lines next line column o (at_top t) e = record {
-  sections = t.sections; parts = t.parts; read = t.read; whole = t.whole;
+  sections = t.sections;
+  parts = t.parts;
+  read = t.read;
+  whole = t.whole;
   is = ok_same o (outlined (state_at v t.parts)) (sym e ∙ ap (λ (s : State). finish s line column) t.is);
 }
 end_up v lines next line column o (at_interface t) e =

@@ -54,7 +54,14 @@ module _ (v : ℕ) (sections : List Section) (parts : List Part) (h : Whole v se
   interface_up b e =
       let p = interface_found (state_at v parts) next w line e in
       at_interface (record {
-        sections = sections; parts = parts; head = line; more = []; i = new_interface p.0.bytes p.1; read = refl; whole = h; room = room_for_interface (flat_map interface_in parts) p.2;
+        sections = sections;
+        parts = parts;
+        head = line;
+        more = [];
+        i = new_interface p.0.bytes p.1;
+        read = refl;
+        whole = h;
+        room = room_for_interface (flat_map interface_in parts) p.2;
         declares = record { begins = begun_by line w _ first b; word = p.0; named = p.3; name = refl; iid = p.4; no_more = p.5; methods = tt; few = omega arith };
         is = p.6;
       })
@@ -64,7 +71,14 @@ module _ (v : ℕ) (sections : List Section) (parts : List Part) (h : Whole v se
   class_up b e =
       let p = class_found (state_at v parts) next w line e in
       at_class (record {
-        sections = sections; parts = parts; head = line; bodies = []; c = new_class p.0.bytes p.1 p.2 p.3; read = refl; whole = h; room = room_for_class (flat_map class_in parts) p.4;
+        sections = sections;
+        parts = parts;
+        head = line;
+        bodies = [];
+        c = new_class p.0.bytes p.1 p.2 p.3;
+        read = refl;
+        whole = h;
+        room = room_for_class (flat_map class_in parts) p.4;
         declares = record { begins = begun_by line w _ first b; word = p.0; named = p.5; name = refl; clsid = p.6; model = p.7; written = refl; interfaces = p.8; bodies = tt };
         is = p.9;
       })
@@ -75,16 +89,31 @@ module _ (v : ℕ) (sections : List Section) (parts : List Part) (h : Whole v se
       let p = native_found (state_at v parts) next w line e in
       let c = new_native p.0.bytes p.1 p.2 p.3 in
       at_top (closed v sections parts (native line) (of_class c) _ next h
-          (record { begins = begun_by line w _ first b; word = p.0; named = p.5; name = refl; clsid = p.6; model = p.7; kind = p.8; no_more = p.9; interfaces = refl; bodies = refl })
-          (more_classes parts h.limits c (room_for_class (flat_map class_in parts) p.4)) refl (p.10 ∙ sym (with_class v parts c)))
+      (record { begins = begun_by line w _ first b; word = p.0; named = p.5; name = refl; clsid = p.6; model = p.7; kind = p.8; no_more = p.9; interfaces = refl; bodies = refl })
+      (more_classes parts h.limits c (room_for_class (flat_map class_in parts) p.4)) refl (p.10 ∙ sym (with_class v parts c)))
 
   filter_up : w.bytes ≡ codes "filter" → filter_line (state_at v parts) w line ≡ Ok next → Next
   unfolding from
   filter_up b e =
       let p = filter_found (state_at v parts) next w line e in
       at_filter (record {
-        sections = sections; parts = parts; head = line; more = []; name = p.0.bytes; rules = []; read = refl; whole = h; room = leb-false 16 _ p.1;
-        begins = begun_by line w _ first b; word = p.0; named = p.2; same = refl; no_more = p.3; ruled = tt; few = omega arith; is = p.4;
+        sections = sections;
+        parts = parts;
+        head = line;
+        more = [];
+        name = p.0.bytes;
+        rules = [];
+        read = refl;
+        whole = h;
+        room = leb-false 16 _ p.1;
+        begins = begun_by line w _ first b;
+        word = p.0;
+        named = p.2;
+        same = refl;
+        no_more = p.3;
+        ruled = tt;
+        few = omega arith;
+        is = p.4;
       })
 
   thread_up : w.bytes ≡ codes "thread" → thread_line (state_at v parts) w line ≡ Ok next → Next
@@ -92,8 +121,18 @@ module _ (v : ℕ) (sections : List Section) (parts : List Part) (h : Whole v se
   thread_up b e =
       let p = thread_found (state_at v parts) next w line e in
       at_thread (record {
-        sections = sections; parts = parts; head = line; more = []; code = no_code; read = refl; whole = h; room = leb-false 16 _ p.0;
-        begins = begun_by line w _ first b; no_more = p.1; stated = tt; is = p.2;
+        sections = sections;
+        parts = parts;
+        head = line;
+        more = [];
+        code = no_code;
+        read = refl;
+        whole = h;
+        room = leb-false 16 _ p.0;
+        begins = begun_by line w _ first b;
+        no_more = p.1;
+        stated = tt;
+        is = p.2;
       })
 
   picks_up : w.bytes ≡ codes "picks" → picks_line (state_at v parts) line ≡ Ok next → Next
@@ -130,7 +169,7 @@ longer front head more lines line e = ap (λ (l : List Line). l ++ line ∷ []) 
 
 interface_more : (v : ℕ) (lines : List Line) (st : State) (line : Line) (w : WordAt) (next : State) (t : AtInterface v lines st) → first_at line ≡ Ok w → (b : Bool) → bytes_eq w.bytes (codes "method") ≡ b
     → cond b (method_line (interface_begun (state_at v t.parts) t.i).names.interfaces t.i w line >>= λ more. Ok (record (interface_begun (state_at v t.parts) t.i) { section = within.Interface more }))
-        (top_line (interface_closed (interface_begun (state_at v t.parts) t.i) t.i) line) ≡ Ok next
+    (top_line (interface_closed (interface_begun (state_at v t.parts) t.i) t.i) line) ≡ Ok next
     → Standing v (lines ++ line ∷ []) next
 unfolding from
 interface_more v lines st line w next t first true b e =
@@ -141,11 +180,21 @@ interface_more v lines st line w next t first true b e =
     let few = leb-false 32 (length t.i.methods) q.1 in
     let i = record (t.i) { methods = t.i.methods ++ q.0 ∷ [] } in
     at_interface (record {
-      sections = t.sections; parts = t.parts; head = t.head; more = t.more ++ line ∷ []; i = i;
+      sections = t.sections;
+      parts = t.parts;
+      head = t.head;
+      more = t.more ++ line ∷ [];
+      i = i;
       read = longer (flat_map section_lines t.sections) t.head t.more lines line t.read;
-      whole = t.whole; room = t.room;
+      whole = t.whole;
+      room = t.room;
       declares = record {
-        begins = d.begins; word = d.word; named = d.named; name = d.name; iid = d.iid; no_more = d.no_more;
+        begins = d.begins;
+        word = d.word;
+        named = d.named;
+        name = d.name;
+        iid = d.iid;
+        no_more = d.no_more;
         methods = order_push (IsMethod ((names_below t.parts).interfaces ++ t.i.name ∷ [])) [] t.more t.i.methods line q.0 d.methods (record { begins = begun_by line w _ first (same_bytes w.bytes (codes "method") b); spells = q.2 });
         few = omega (arith, few, length-append t.i.methods (q.0 ∷ []));
       };
@@ -156,30 +205,41 @@ interface_more v lines st line w next t first false b e =
     let section = interface t.head t.more in
     let e' = subst (λ (s : State). top_line s line ≡ Ok next) (sym (with_interface v t.parts t.i)) e in
     moved v lines _ line next (t.read ∙ sym (flat_push section_lines t.sections section))
-        (top_up v (t.sections ++ section ∷ []) (t.parts ++ of_interface t.i ∷ []) (whole_push v t.sections t.parts section (of_interface t.i) t.whole t.declares few) line next e')
+    (top_up v (t.sections ++ section ∷ []) (t.parts ++ of_interface t.i ∷ []) (whole_push v t.sections t.parts section (of_interface t.i) t.whole t.declares few) line next e')
 
 -- ---- filters
 
 filter_more : (v : ℕ) (lines : List Line) (st : State) (line : Line) (w : WordAt) (next : State) (t : AtFilter v lines st) → first_at line ≡ Ok w → (b : Bool) → bytes_eq w.bytes (codes "end") ≡ b
     → cond b (filter_ended (filter_begun (state_at v t.parts) t.name t.rules) t.rules line)
-        (ruled t.rules w line (rule_word_of w.bytes) >>= λ more. Ok (record (filter_begun (state_at v t.parts) t.name t.rules) { section = within.Filter more })) ≡ Ok next
+    (ruled t.rules w line (rule_word_of w.bytes) >>= λ more. Ok (record (filter_begun (state_at v t.parts) t.name t.rules) { section = within.Filter more })) ≡ Ok next
     → Standing v (lines ++ line ∷ []) next
 unfolding from
 filter_more v lines st line w next t first true b e =
     let p = bound (end_at line 1) _ next e in
     let last : IsEnd line = record { begins = begun_by line w _ first (same_bytes w.bytes (codes "end") b); alone = p.1 } in
     at_top (closed v t.sections t.parts (filter t.head t.more line) (of_filter t.name t.rules) _ next t.whole
-        (record { begins = t.begins; word = t.word; named = t.named; same = t.same; no_more = t.no_more; ruled = t.ruled; few = t.few; closed = last })
-        (more_filters t.parts t.whole.limits t.name t.rules t.room) (longer (flat_map section_lines t.sections) t.head t.more lines line t.read) (sym (ok_same _ _ p.2) ∙ sym (with_filter v t.parts t.name t.rules)))
+    (record { begins = t.begins; word = t.word; named = t.named; same = t.same; no_more = t.no_more; ruled = t.ruled; few = t.few; closed = last })
+    (more_filters t.parts t.whole.limits t.name t.rules t.room) (longer (flat_map section_lines t.sections) t.head t.more lines line t.read) (sym (ok_same _ _ p.2) ∙ sym (with_filter v t.parts t.name t.rules)))
 filter_more v lines st line w next t first false b e =
     let S = state_at v t.parts in
     let p = bound (ruled t.rules w line (rule_word_of w.bytes)) _ next e in
     let q = rule_found t.rules p.0 w line first p.1 in
     let few = leb-false 32 (length t.rules) q.1 in
     at_filter (record {
-      sections = t.sections; parts = t.parts; head = t.head; more = t.more ++ line ∷ []; name = t.name; rules = t.rules ++ q.0 ∷ [];
+      sections = t.sections;
+      parts = t.parts;
+      head = t.head;
+      more = t.more ++ line ∷ [];
+      name = t.name;
+      rules = t.rules ++ q.0 ∷ [];
       read = longer (flat_map section_lines t.sections) t.head t.more lines line t.read;
-      whole = t.whole; room = t.room; begins = t.begins; word = t.word; named = t.named; same = t.same; no_more = t.no_more;
+      whole = t.whole;
+      room = t.room;
+      begins = t.begins;
+      word = t.word;
+      named = t.named;
+      same = t.same;
+      no_more = t.no_more;
       ruled = order_push IsRule [] t.more t.rules line q.0 t.ruled q.2;
       few = omega (arith, few, length-append t.rules (q.0 ∷ []));
       is = sym (ok_same _ _ p.2) ∙ ap (λ (r : List Rule). filter_begun S t.name r) q.3;
@@ -196,7 +256,7 @@ stated_more limit p names lines code next w line h first e =
 
 thread_more : (v : ℕ) (lines : List Line) (st : State) (line : Line) (w : WordAt) (next : State) (t : AtThread v lines st) → first_at line ≡ Ok w → (b : Bool) → bytes_eq w.bytes (codes "end") ≡ b
     → cond b (thread_ended (thread_begun (state_at v t.parts) t.code) t.code line)
-        (program_line programs.Script 2000 (thread_begun (state_at v t.parts) t.code).names t.code w line >>= λ more. Ok (record (thread_begun (state_at v t.parts) t.code) { section = within.Thread more })) ≡ Ok next
+    (program_line programs.Script 2000 (thread_begun (state_at v t.parts) t.code).names t.code w line >>= λ more. Ok (record (thread_begun (state_at v t.parts) t.code) { section = within.Thread more })) ≡ Ok next
     → Standing v (lines ++ line ∷ []) next
 unfolding from
 thread_more v lines st line w next t first true b e =
@@ -205,16 +265,23 @@ thread_more v lines st line w next t first true b e =
     let r = bound (end_at line 1) _ next p.2 in
     let last : IsEnd line = record { begins = begun_by line w _ first (same_bytes w.bytes (codes "end") b); alone = r.1 } in
     at_top (closed v t.sections t.parts (thread t.head t.more line) (of_script t.code.statements) _ next t.whole
-        (record { begins = t.begins; no_more = t.no_more; statements = t.stated; whole = q.0; closed = last })
-        (more_scripts t.parts t.whole.limits t.code.statements t.room) (longer (flat_map section_lines t.sections) t.head t.more lines line t.read)
-        (sym (ok_same _ _ r.2) ∙ ap (λ (ss : List Stmt). script_added (state_at v t.parts) ss) q.1 ∙ sym (with_script v t.parts t.code.statements)))
+    (record { begins = t.begins; no_more = t.no_more; statements = t.stated; whole = q.0; closed = last })
+    (more_scripts t.parts t.whole.limits t.code.statements t.room) (longer (flat_map section_lines t.sections) t.head t.more lines line t.read)
+    (sym (ok_same _ _ r.2) ∙ ap (λ (ss : List Stmt). script_added (state_at v t.parts) ss) q.1 ∙ sym (with_script v t.parts t.code.statements)))
 thread_more v lines st line w next t first false b e =
     let S = state_at v t.parts in
     let p = bound (program_line programs.Script 2000 (thread_begun S t.code).names t.code w line) _ next e in
     at_thread (record {
-      sections = t.sections; parts = t.parts; head = t.head; more = t.more ++ line ∷ []; code = p.0;
+      sections = t.sections;
+      parts = t.parts;
+      head = t.head;
+      more = t.more ++ line ∷ [];
+      code = p.0;
       read = longer (flat_map section_lines t.sections) t.head t.more lines line t.read;
-      whole = t.whole; room = t.room; begins = t.begins; no_more = t.no_more;
+      whole = t.whole;
+      room = t.room;
+      begins = t.begins;
+      no_more = t.no_more;
       stated = stated_more 2000 programs.Script (names_below t.parts) t.more t.code p.0 w line t.stated first p.1;
       is = sym (ok_same _ _ p.2);
     })
@@ -228,26 +295,48 @@ unfolding from
 class_more v lines st line w next t first true b d f e =
     let p = body_head_found (class_begun (state_at v t.parts) t.c) next t.c line e in
     at_body (record {
-      sections = t.sections; parts = t.parts; head = t.head; bodies = t.bodies; c = t.c; first = line; statements = []; number = p.0; code = no_code;
+      sections = t.sections;
+      parts = t.parts;
+      head = t.head;
+      bodies = t.bodies;
+      c = t.c;
+      first = line;
+      statements = [];
+      number = p.0;
+      code = no_code;
       read = longer (flat_map section_lines t.sections) t.head (flat_map body_lines t.bodies) lines line t.read;
-      whole = t.whole; room = t.room; declares = t.declares;
-      begins = begun_by line w _ first (same_bytes w.bytes (codes "body") b); method = p.1; once = p.2; no_more = p.3; stated = tt; is = p.4;
+      whole = t.whole;
+      room = t.room;
+      declares = t.declares;
+      begins = begun_by line w _ first (same_bytes w.bytes (codes "body") b);
+      method = p.1;
+      once = p.2;
+      no_more = p.3;
+      stated = tt;
+      is = p.4;
     })
 class_more v lines st line w next t first false b true f e =
     let p = bound (end_at line 1) _ next e in
     let d = t.declares in
     let last : IsEnd line = record { begins = begun_by line w _ first (same_bytes w.bytes (codes "end") f); alone = p.1 } in
     at_top (closed v t.sections t.parts (class t.head t.bodies line) (of_class t.c) _ next t.whole
-        (record { begins = d.begins; word = d.word; named = d.named; name = d.name; clsid = d.clsid; model = d.model; written = d.written; interfaces = d.interfaces; bodies = d.bodies; closed = last })
-        (more_classes t.parts t.whole.limits t.c t.room) (longer (flat_map section_lines t.sections) t.head (flat_map body_lines t.bodies) lines line t.read)
-        (sym (ok_same _ _ p.2) ∙ sym (with_class v t.parts t.c)))
+    (record { begins = d.begins; word = d.word; named = d.named; name = d.name; clsid = d.clsid; model = d.model; written = d.written; interfaces = d.interfaces; bodies = d.bodies; closed = last })
+    (more_classes t.parts t.whole.limits t.c t.room) (longer (flat_map section_lines t.sections) t.head (flat_map body_lines t.bodies) lines line t.read)
+    (sym (ok_same _ _ p.2) ∙ sym (with_class v t.parts t.c)))
 class_more v lines st line w next t first false b false f e = never _ _ _ e
 
 -- a body more
 body_closed : (above : List Part) (head : Line) (bodies : List BodyLines) (c : Class) (lines : BodyLines) (number : MethodNumber) (body : List Stmt) → IsOpenClass above head bodies c
     → IsBody (names_inside above c.name) c.model c.bodies lines (record { iface = number.iface; method = number.method; body = body }) → IsOpenClass above head (bodies ++ lines ∷ []) (with_body c number body)
 body_closed above head bodies c lines number body d b = record {
-  begins = d.begins; word = d.word; named = d.named; name = d.name; clsid = d.clsid; model = d.model; written = d.written; interfaces = d.interfaces;
+  begins = d.begins;
+  word = d.word;
+  named = d.named;
+  name = d.name;
+  clsid = d.clsid;
+  model = d.model;
+  written = d.written;
+  interfaces = d.interfaces;
   bodies = order_push (IsBody (names_inside above c.name) c.model) [] bodies c.bodies lines (record { iface = number.iface; method = number.method; body = body }) d.bodies b;
 }
 
@@ -260,7 +349,7 @@ body_read front head bodies first statements lines line e =
 
 body_more : (v : ℕ) (lines : List Line) (st : State) (line : Line) (w : WordAt) (next : State) (t : AtBody v lines st) → first_at line ≡ Ok w → (b : Bool) → bytes_eq w.bytes (codes "end") ≡ b
     → cond b (body_ended (record (class_begun (state_at v t.parts) t.c) { section = within.Body t.c t.number t.code }) t.c t.number t.code line)
-        (program_line (program_of t.c.model) 200 (class_begun (state_at v t.parts) t.c).names t.code w line >>= λ more. Ok (record (class_begun (state_at v t.parts) t.c) { section = within.Body t.c t.number more })) ≡ Ok next
+    (program_line (program_of t.c.model) 200 (class_begun (state_at v t.parts) t.c).names t.code w line >>= λ more. Ok (record (class_begun (state_at v t.parts) t.c) { section = within.Body t.c t.number more })) ≡ Ok next
     → Standing v (lines ++ line ∷ []) next
 unfolding from
 body_more v lines st line w next t first true b e =
@@ -271,9 +360,14 @@ body_more v lines st line w next t first true b e =
     let last : IsEnd line = record { begins = begun_by line w _ first (same_bytes w.bytes (codes "end") b); alone = r.1 } in
     let text : BodyLines = record { head = t.first; statements = t.statements; last = line } in
     at_class (record {
-      sections = t.sections; parts = t.parts; head = t.head; bodies = t.bodies ++ text ∷ []; c = with_body t.c t.number t.code.statements;
+      sections = t.sections;
+      parts = t.parts;
+      head = t.head;
+      bodies = t.bodies ++ text ∷ [];
+      c = with_body t.c t.number t.code.statements;
       read = body_read (flat_map section_lines t.sections) t.head t.bodies t.first t.statements lines line t.read;
-      whole = t.whole; room = t.room;
+      whole = t.whole;
+      room = t.room;
       declares = body_closed t.parts t.head t.bodies t.c text t.number t.code.statements t.declares (record { begins = t.begins; method = t.method; once = t.once; no_more = t.no_more; statements = t.stated; whole = q.0; closed = last });
       is = sym (ok_same _ _ r.2) ∙ ap (λ (ss : List Stmt). record (class_begun S t.c) { section = within.Class (with_body t.c t.number ss) }) q.1;
     })
@@ -281,10 +375,24 @@ body_more v lines st line w next t first false b e =
     let S = state_at v t.parts in
     let p = bound (program_line (program_of t.c.model) 200 (class_begun S t.c).names t.code w line) _ next e in
     at_body (record {
-      sections = t.sections; parts = t.parts; head = t.head; bodies = t.bodies; c = t.c; first = t.first; statements = t.statements ++ line ∷ []; number = t.number; code = p.0;
+      sections = t.sections;
+      parts = t.parts;
+      head = t.head;
+      bodies = t.bodies;
+      c = t.c;
+      first = t.first;
+      statements = t.statements ++ line ∷ [];
+      number = t.number;
+      code = p.0;
       read = longer (flat_map section_lines t.sections) t.head (flat_map body_lines t.bodies ++ t.first ∷ t.statements) lines line t.read
           ∙ ap (λ (l : List Line). flat_map section_lines t.sections ++ t.head ∷ l) (append_assoc (flat_map body_lines t.bodies) (t.first ∷ t.statements) (line ∷ []));
-      whole = t.whole; room = t.room; declares = t.declares; begins = t.begins; method = t.method; once = t.once; no_more = t.no_more;
+      whole = t.whole;
+      room = t.room;
+      declares = t.declares;
+      begins = t.begins;
+      method = t.method;
+      once = t.once;
+      no_more = t.no_more;
       stated = stated_more 200 (program_of t.c.model) (names_inside t.parts t.c.name) t.statements t.code p.0 w line t.stated first p.1;
       is = sym (ok_same _ _ p.2);
     })
