@@ -2,6 +2,7 @@
 use Rattle.std.proofs.Common.{◌≡◌, ℕ, inl, inr, ◌⊎◌, ◌++◌, List, [], ◌∷◌, flat_map, Result, Ok, Err, refl, sym, ap, ◌∙◌, subst}
 use Rattle.com_classes.specs.BuiltIns.{built_in_interfaces}
 use Rattle.com_model.specs.declared.scenario.Scenario.{Scenario}
+use Rattle.com_text.specs.Words.{LineAt}
 use Rattle.com_text.specs.Scanning.{lines_of}
 use Rattle.com_read_operands.specs.declared.faults.Fault.{Fault}
 use Rattle.com_read_operands.specs.Reading.{◌>>=◌, Fails, Gives}
@@ -19,6 +20,7 @@ use Rattle.com_laws_language.specs.Laws.{IsReading, IsSpelled, IsOne, Answers, I
 use Rattle.com_laws_language.proofs.Lists.{ok_same, bound, binds, never}
 use Rattle.com_laws_language.proofs.States.{from, state_at}
 use Rattle.com_laws_language.proofs.Takes.{steps}
+use Rattle.com_laws_language.proofs.Cut.{lines_of_are, lines_there}
 use Rattle.com_laws_language.proofs.Down.{outside, sections_down, ready_end}
 use Rattle.com_laws_language.proofs.Texts.{text_ended, read_steps, steps_read, head_down, head_up, end_up}
 
@@ -30,9 +32,10 @@ pub spelled_is_read : IsReading
 unfolding reading
 spelled_is_read text s h =
     let v = s.version in
+    let same : lines_of text ≡ h.cut = ap lines_of h.joined ∙ lines_of_are h.pieces h.cut h.worded in
     let q = sections_down v h.sections [] h.parts (state_at v []) (outside refl) h.declared h.limits in
     let all : steps (begun built_in_interfaces) (with_words (lines_of text)) ≡ Ok q.0 =
-    ap (λ (ls : List Line). steps (begun built_in_interfaces) ls) h.lines ∙ binds (step (begun built_in_interfaces) h.header) _ (state_at v []) _ (head_down v h.header h.headed) q.1 in
+    ap (λ (ls : List LineAt). steps (begun built_in_interfaces) (with_words ls)) same ∙ ap (λ (ls : List Line). steps (begun built_in_interfaces) ls) h.lines ∙ binds (step (begun built_in_interfaces) h.header) _ (state_at v []) _ (head_down v h.header h.headed) q.1 in
     binds (read (begun built_in_interfaces) (lines_of text)) _ (outlined (state_at v h.parts)) _
     (steps_read (begun built_in_interfaces) q.0 (lines_of text) (outlined (state_at v h.parts)) (text_ended text) all (λ line column. ready_end v h.parts q.0 line column q.2))
     (ap Ok (made v h.parts ∙ sym h.made))
@@ -46,7 +49,12 @@ read_is_spelled text s e =
     let d = end_up c.version c.rest b.0 b.1 b.2 a.0 c.stands b.4 in
     let is : s ≡ scenario_with c.version d.parts = sym (ok_same _ s a.2) ∙ ap scenario_of d.is ∙ made c.version d.parts in
     let version : c.version ≡ s.version = ap (λ (t : Scenario). t.version) (sym is) in
+    let k = lines_there text in
     record {
+      pieces = k.0;
+      cut = lines_of text;
+      joined = k.1;
+      worded = k.2;
       header = c.header;
       sections = d.sections;
       parts = d.parts;

@@ -8,3 +8,5 @@ pub mod Down
 pub mod Texts
 pub mod Laws
 pub mod Bites
+pub mod Scans
+pub mod Cut

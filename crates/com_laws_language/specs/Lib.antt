@@ -1,3 +1,4 @@
+pub mod Words
 pub mod Sections
 pub mod Orders
 pub mod Parts

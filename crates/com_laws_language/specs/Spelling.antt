@@ -2,6 +2,7 @@
 -- words and lines.
 use Rattle.std.specs.Prelude.{◌≡◌, ℕ, ◌≤◌, true, false, List, [], ◌∷◌, ◌++◌, length, drop, flat_map, Some, None}
 use Rattle.std.specs.Prelude.{Ok, codes}
+use Rattle.std.specs.List.{join_with_byte}
 use Rattle.com_body.specs.declared.frame.Native.TheVariants as natives
 use Rattle.com_body.specs.declared.statements.Stmt.{Stmt}
 use Rattle.com_body.specs.Bodies.{fault_of}
@@ -12,8 +13,7 @@ use Rattle.com_classes.specs.declared.classes.MethodBody.{MethodBody}
 use Rattle.com_classes.specs.declared.classes.ThreadingModel.{ThreadingModel}
 use Rattle.com_filter.specs.declared.Rule.{Rule}
 use Rattle.com_model.specs.declared.scenario.Scenario.{Scenario}
-use Rattle.com_text.specs.Words.{WordAt, is_remark}
-use Rattle.com_text.specs.Scanning.{lines_of}
+use Rattle.com_text.specs.Words.{WordAt, LineAt, is_remark}
 use Rattle.com_read_operands.specs.Reading.{first_at, end_at, number_at}
 use Rattle.com_read_statements.specs.declared.calls.MethodNumber.{MethodNumber}
 use Rattle.com_read_statements.specs.declared.keywords.Keyword.{Keyword}
@@ -30,6 +30,7 @@ use Rattle.com_read_lines.specs.Declaring.{model_at, native_at, natives_of, list
 use Rattle.com_read_lines.specs.Methods.{method_of}
 use Rattle.com_read_lines.specs.Rules.{rule_word_of, rule_of}
 use Rattle.com_read_sections.specs.Opened.{has_body, program_of}
+use Rattle.com_laws_language.specs.Words.{AreLines}
 use Rattle.com_laws_language.specs.Orders.{InOrder}
 use Rattle.com_laws_language.specs.Sections.{Line, with_words, BodyLines, Section, section_lines}
 use Rattle.com_laws_language.specs.Sections.{pool, interface, class, native, filter, thread, picks}
@@ -181,13 +182,18 @@ pub record IsHeader (line : Line) (version : ℕ) : Type 0 where
   pub no_comment : is_remark two.sort ≡ false
   pub no_more : end_at line 2 ≡ Ok tt
 
--- A text spells a scenario where its lines with words are a header and the lines of sections, each section
--- declares a part below those above it, there are not too many parts of a kind, and the scenario is these parts.
+-- A text spells a scenario where it is pieces with a byte 10 between each two, the pieces are lines of words, the
+-- lines with words are a header and the lines of sections, each section declares a part below those above it,
+-- there are not too many parts of a kind, and the scenario is these parts.
 pub record Spells (text : List ℕ) (s : Scenario) : Type 0 where
+  pub pieces : List (List ℕ)
+  pub cut : List LineAt
   pub header : Line
   pub sections : List Section
   pub parts : List Part
-  pub lines : with_words (lines_of text) ≡ header ∷ flat_map section_lines sections
+  pub joined : text ≡ join_with_byte 10 pieces
+  pub worded : AreLines 1 0 pieces cut
+  pub lines : with_words cut ≡ header ∷ flat_map section_lines sections
   pub headed : IsHeader header s.version
   pub declared : InOrder Declares [] sections parts
   pub limits : IsWithinLimits parts
