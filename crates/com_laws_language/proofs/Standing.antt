@@ -27,7 +27,7 @@ use Rattle.com_laws_language.proofs.States.{state_at, interface_begun, class_beg
 
 -- ---- whole sections, and the parts that they declare
 
-pub record Whole (v : ℕ) (sections : List Section) (parts : List Part) : Type 0 where
+pub record Whole (sections : List Section) (parts : List Part) : Type 0 where
   pub order : InOrder Declares [] sections parts
   pub limits : IsWithinLimits parts
 
@@ -35,7 +35,7 @@ pub record AtTop (v : ℕ) (lines : List Line) (st : State) : Type 0 where
   pub sections : List Section
   pub parts : List Part
   pub read : lines ≡ flat_map section_lines sections
-  pub whole : Whole v sections parts
+  pub whole : Whole sections parts
   pub is : st ≡ state_at v parts
 
 pub record AtInterface (v : ℕ) (lines : List Line) (st : State) : Type 0 where
@@ -45,7 +45,7 @@ pub record AtInterface (v : ℕ) (lines : List Line) (st : State) : Type 0 where
   pub more : List Line
   pub i : Interface
   pub read : lines ≡ flat_map section_lines sections ++ head ∷ more
-  pub whole : Whole v sections parts
+  pub whole : Whole sections parts
   pub room : length (flat_map interface_in parts) < 60
   pub declares : IsInterface parts head more i
   pub is : st ≡ interface_begun (state_at v parts) i
@@ -69,7 +69,7 @@ pub record AtClass (v : ℕ) (lines : List Line) (st : State) : Type 0 where
   pub bodies : List BodyLines
   pub c : Class
   pub read : lines ≡ flat_map section_lines sections ++ head ∷ flat_map body_lines bodies
-  pub whole : Whole v sections parts
+  pub whole : Whole sections parts
   pub room : length (flat_map class_in parts) < 64
   pub declares : IsOpenClass parts head bodies c
   pub is : st ≡ class_begun (state_at v parts) c
@@ -85,7 +85,7 @@ pub record AtBody (v : ℕ) (lines : List Line) (st : State) : Type 0 where
   pub number : MethodNumber
   pub code : CodeAt
   pub read : lines ≡ flat_map section_lines sections ++ (head ∷ (flat_map body_lines bodies ++ first ∷ statements))
-  pub whole : Whole v sections parts
+  pub whole : Whole sections parts
   pub room : length (flat_map class_in parts) < 64
   pub declares : IsOpenClass parts head bodies c
   pub begins : Begins first (codes "body")
@@ -103,7 +103,7 @@ pub record AtFilter (v : ℕ) (lines : List Line) (st : State) : Type 0 where
   pub name : List ℕ
   pub rules : List Rule
   pub read : lines ≡ flat_map section_lines sections ++ head ∷ more
-  pub whole : Whole v sections parts
+  pub whole : Whole sections parts
   pub room : length (flat_map filter_name_in parts) < 16
   pub begins : Begins head (codes "filter")
   pub word : WordAt
@@ -121,7 +121,7 @@ pub record AtThread (v : ℕ) (lines : List Line) (st : State) : Type 0 where
   pub more : List Line
   pub code : CodeAt
   pub read : lines ≡ flat_map section_lines sections ++ head ∷ more
-  pub whole : Whole v sections parts
+  pub whole : Whole sections parts
   pub room : length (flat_map script_in parts) < 16
   pub begins : Begins head (codes "thread")
   pub no_more : end_at head 1 ≡ Ok tt
@@ -186,15 +186,15 @@ room_for_class cs e = let few = leb-false 64 (length (map name_of_class cs)) e i
 
 -- ---- one section more
 
-pub whole_push : (v : ℕ) (sections : List Section) (parts : List Part) (section : Section) (part : Part) → Whole v sections parts → Declares parts section part → IsWithinLimits (parts ++ part ∷ []) → Whole v (sections ++ section ∷ []) (parts ++ part ∷ [])
-whole_push v sections parts section part h d few = record { order = order_push Declares [] sections parts section part h.order d; limits = few }
+pub whole_push : (sections : List Section) (parts : List Part) (section : Section) (part : Part) → Whole sections parts → Declares parts section part → IsWithinLimits (parts ++ part ∷ []) → Whole (sections ++ section ∷ []) (parts ++ part ∷ [])
+whole_push sections parts section part h d few = record { order = order_push Declares [] sections parts section part h.order d; limits = few }
 
-pub closed : (v : ℕ) (sections : List Section) (parts : List Part) (section : Section) (part : Part) (lines : List Line) (st : State) → Whole v sections parts → Declares parts section part → IsWithinLimits (parts ++ part ∷ [])
+pub closed : (v : ℕ) (sections : List Section) (parts : List Part) (section : Section) (part : Part) (lines : List Line) (st : State) → Whole sections parts → Declares parts section part → IsWithinLimits (parts ++ part ∷ [])
     → lines ≡ flat_map section_lines sections ++ section_lines section → st ≡ state_at v (parts ++ part ∷ []) → AtTop v lines st
 closed v sections parts section part lines st h d few e is = record {
   sections = sections ++ section ∷ [];
   parts = parts ++ part ∷ [];
   read = e ∙ sym (flat_push section_lines sections section);
-  whole = whole_push v sections parts section part h d few;
+  whole = whole_push sections parts section part h d few;
   is = is;
 }

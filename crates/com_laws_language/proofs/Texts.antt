@@ -230,7 +230,7 @@ pub record IsRead (v : ℕ) (lines : List Line) (o : Outline) : Type 0 where
   pub sections : List Section
   pub parts : List Part
   pub read : lines ≡ flat_map section_lines sections
-  pub whole : Whole v sections parts
+  pub whole : Whole sections parts
   pub is : o ≡ outlined (state_at v parts)
 
 ended_open : (st end : State) (line column : ℕ) (o : Outline) (P : Type 0) → st ≡ end → ◌≡◌ {A = Result Outline Fault} (finish end line column) (Err (record { number = 11; line = line; column = column })) → finish st line column ≡ Ok o → P
@@ -251,7 +251,7 @@ end_up v lines next line column o (at_interface t) e =
       sections = t.sections ++ section ∷ [];
       parts = t.parts ++ of_interface t.i ∷ [];
       read = t.read ∙ sym (flat_push section_lines t.sections section);
-      whole = whole_push v t.sections t.parts section (of_interface t.i) t.whole t.declares (more_interfaces t.parts t.whole.limits t.i t.room);
+      whole = whole_push t.sections t.parts section (of_interface t.i) t.whole t.declares (more_interfaces t.parts t.whole.limits t.i t.room);
       is = ok_same o (outlined (state_at v (t.parts ++ of_interface t.i ∷ []))) (sym e ∙ ap (λ (s : State). finish s line column) t.is ∙ ap (λ (s : State). Ok (outlined s)) (sym (with_interface v t.parts t.i)));
     }
 end_up v lines next line column o (at_class t) e = ended_open next _ line column o _ t.is refl e

@@ -38,7 +38,7 @@ begun_by line w word e s = record { first = w; stands = e; same = s }
 
 -- ---- outside of sections
 
-module _ (v : ℕ) (sections : List Section) (parts : List Part) (h : Whole v sections parts) (line : Line) (w : WordAt) (first : first_at line ≡ Ok w) (next : State) where
+module _ (v : ℕ) (sections : List Section) (parts : List Part) (h : Whole sections parts) (line : Line) (w : WordAt) (first : first_at line ≡ Ok w) (next : State) where
   abbrev Next : Type 0
   Next = Standing v (flat_map section_lines sections ++ line ∷ []) next
 
@@ -151,7 +151,7 @@ module _ (v : ℕ) (sections : List Section) (parts : List Part) (h : Whole v se
   by_word (Some begins.Thread) s e = thread_up (section_word w.bytes begins.Thread s) e
   by_word (Some begins.Picks) s e = picks_up (section_word w.bytes begins.Picks s) e
 
-top_up : (v : ℕ) (sections : List Section) (parts : List Part) → Whole v sections parts → (line : Line) (next : State) → top_line (state_at v parts) line ≡ Ok next → Standing v (flat_map section_lines sections ++ line ∷ []) next
+top_up : (v : ℕ) (sections : List Section) (parts : List Part) → Whole sections parts → (line : Line) (next : State) → top_line (state_at v parts) line ≡ Ok next → Standing v (flat_map section_lines sections ++ line ∷ []) next
 unfolding top_line
 top_up v sections parts h line next e =
     let a = bound (first_at line) _ next e in
@@ -205,7 +205,7 @@ interface_more v lines st line w next t first false b e =
     let section = interface t.head t.more in
     let e' = subst (λ (s : State). top_line s line ≡ Ok next) (sym (with_interface v t.parts t.i)) e in
     moved v lines _ line next (t.read ∙ sym (flat_push section_lines t.sections section))
-    (top_up v (t.sections ++ section ∷ []) (t.parts ++ of_interface t.i ∷ []) (whole_push v t.sections t.parts section (of_interface t.i) t.whole t.declares few) line next e')
+    (top_up v (t.sections ++ section ∷ []) (t.parts ++ of_interface t.i ∷ []) (whole_push t.sections t.parts section (of_interface t.i) t.whole t.declares few) line next e')
 
 -- ---- filters
 
