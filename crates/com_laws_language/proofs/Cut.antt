@@ -1,5 +1,5 @@
 -- Every text has lines, and every line words.
-use Rattle.std.proofs.Common.{◌≡◌, ℕ, zero, suc, ◌+◌, ◌≤◌, inl, inr, ◌⊎◌, Bool, true, false, cond, List, [], ◌∷◌, ◌++◌, length, Option, Some, None, refl, sym, ap, ◌∙◌, subst, arith, append_assoc, append-nil, length-append, slice_index, ◌==◌, ◌&&◌}
+use Rattle.std.proofs.Common.{◌≡◌, ℕ, zero, suc, ◌+◌, ◌≤◌, Bool, true, false, cond, List, [], ◌∷◌, ◌++◌, length, Option, Some, None, refl, sym, ap, ◌∙◌, subst, arith, append_assoc, append-nil, length-append, slice_index, ◌==◌, ◌&&◌}
 use Rattle.std.specs.List.{join_with_byte}
 use Rattle.std.proofs.lemmas.Bool.{eqb-true}
 use Rattle.com_text.specs.declared.word.Sort.TheVariants as sorts
@@ -9,8 +9,8 @@ use Rattle.com_text.specs.declared.scan.Within.{Within}
 use Rattle.com_text.specs.declared.scan.Within.TheVariants as within
 use Rattle.com_text.specs.Words.{WordAt, LineAt}
 use Rattle.com_text.specs.Scanning.{Scanning, class_of, ends_line, turn, moved, after, sorted, gave, at_line, ended, lines_from, lines_of}
-use Rattle.com_laws_language.specs.Words.{first_of, Each, is_blank, in_word, opens_word, in_literal, in_line, ahead, stray_in, word_in, opens_bytes, ends_apart, IsWord, plain_word, text_word, bytes_word, open_text, open_bytes, comment, IsQuiet, IsLine, line_in, AreLines}
-use Rattle.com_laws_language.proofs.Scans.{scan, between, quote_is, semicolon_is, line_scanned}
+use Rattle.com_laws_language.specs.Words.{first_of, Each, is_blank, in_word, opens_word, in_literal, in_line, ahead, stray_in, word_in, opens_bytes, ends_apart, IsWord, plain_word, text_word, bytes_word, open_text, open_bytes, comment, IsLine, line_in, AreLines}
+use Rattle.com_laws_language.proofs.Scans.{scan, quote_is, semicolon_is, line_scanned}
 
 -- ---- the first bytes of a class
 

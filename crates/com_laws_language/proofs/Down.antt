@@ -1,5 +1,5 @@
 -- Sections that declare parts are read as these parts.
-use Rattle.std.proofs.Common.{◌≡◌, ℕ, ◌+◌, ◌≤◌, Bool, true, false, cond, List, [], ◌∷◌, ◌++◌, length, map, flat_map, slice_get, Option, Some, None, is_some, Result, Ok, Err, refl, sym, ap, ◌∙◌, subst, arith, nat_le, codes, bytes_eq, append_assoc, append-nil}
+use Rattle.std.proofs.Common.{◌≡◌, ℕ, ◌+◌, ◌≤◌, false, cond, List, [], ◌∷◌, ◌++◌, length, map, flat_map, slice_get, Some, None, is_some, Result, Ok, refl, sym, ap, ◌∙◌, subst, arith, codes, bytes_eq, append_assoc, append-nil}
 use Rattle.std.proofs.lemmas.List.{length-map}
 use Rattle.std.proofs.lemmas.Bool.{lt-leb}
 use Rattle.com_body.specs.declared.frame.Native.{Native}
@@ -9,14 +9,12 @@ use Rattle.com_classes.specs.declared.interfaces.Interface.{Interface}
 use Rattle.com_classes.specs.declared.classes.Class.{Class}
 use Rattle.com_classes.specs.BuiltIns.{built_in_interfaces}
 use Rattle.com_filter.specs.declared.Rule.{Rule}
-use Rattle.com_text.specs.Words.{WordAt}
 use Rattle.com_read_operands.specs.declared.faults.Fault.{Fault}
-use Rattle.com_read_operands.specs.Reading.{◌>>=◌, first_at}
+use Rattle.com_read_operands.specs.Reading.{first_at}
 use Rattle.com_read_statements.specs.declared.keywords.Program.TheVariants as programs
-use Rattle.com_read_lines.specs.Codes.{CodeAt, no_code}
+use Rattle.com_read_lines.specs.Codes.{no_code}
 use Rattle.com_read_sections.specs.declared.begin.SectionWord.{SectionWord}
 use Rattle.com_read_sections.specs.declared.begin.SectionWord.TheVariants as begins
-use Rattle.com_read_sections.specs.declared.outline.Outline.{Outline}
 use Rattle.com_read_sections.specs.declared.state.State.{State}
 use Rattle.com_read_sections.specs.declared.state.Section.{Section as Open}
 use Rattle.com_read_sections.specs.declared.state.Section.TheVariants as within
@@ -28,7 +26,7 @@ use Rattle.com_laws_language.specs.Sections.{Line, BodyLines, body_lines, Sectio
 use Rattle.com_laws_language.specs.Parts.{Part, of_lanes, of_interface, of_class, of_filter, of_script, of_picks, lanes_in, interface_in, class_in, filter_name_in, script_in, name_of_class, name_of_interface, IsWithinLimits}
 use Rattle.com_laws_language.specs.Spelling.{Begins, IsPool, IsInterface, IsClass, IsNative, IsFilter, IsThread, IsPicks, Declares}
 use Rattle.com_laws_language.proofs.Lists.{binds, few_before}
-use Rattle.com_laws_language.proofs.States.{from, state_at, pooled, interface_begun, class_begun, class_added, filter_begun, filter_added, thread_begun, script_added, picked, with_lanes, with_interface, with_class, with_filter, with_script, with_picks}
+use Rattle.com_laws_language.proofs.States.{from, state_at, interface_begun, class_begun, class_added, filter_begun, thread_begun, script_added, with_lanes, with_interface, with_class, with_filter, with_script, with_picks}
 use Rattle.com_laws_language.proofs.Found.{new_interface, new_class}
 use Rattle.com_laws_language.proofs.Takes.{steps, joins, one_line, worded_step, top_reads, other, pool_reads, interface_reads, class_reads, native_reads, filter_reads, thread_reads, picks_reads, methods_read, filter_end, thread_end, class_end, rules_read, short, statements_read, script_next, bodies_read}
 

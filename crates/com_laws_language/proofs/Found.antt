@@ -1,5 +1,5 @@
 -- What a line says where the reader takes it.
-use Rattle.std.proofs.Common.{◌≡◌, ℕ, ◌+◌, ◌≤◌, ◌⊎◌, inl, inr, Bool, true, false, cond, List, [], ◌∷◌, ◌++◌, length, drop, Option, Some, None, is_some, Result, Ok, Err, refl, sym, ap, ◌∙◌, subst, nat_le, codes, bytes_eq}
+use Rattle.std.proofs.Common.{◌≡◌, ℕ, Bool, true, false, cond, List, [], ◌∷◌, ◌++◌, length, drop, Option, Some, None, is_some, Result, Ok, Err, refl, sym, ap, subst, nat_le, codes, bytes_eq}
 use Rattle.com_base.specs.declared.guid.Guid.{Guid}
 use Rattle.com_body.specs.declared.frame.Native.{Native}
 use Rattle.com_body.specs.declared.frame.Native.TheVariants as natives
@@ -23,11 +23,11 @@ use Rattle.com_read_statements.specs.Keywords.{keyword_of, takes}
 use Rattle.com_read_statements.specs.Calls.{method_at}
 use Rattle.com_read_statements.specs.Statements.{stmt_of}
 use Rattle.com_read_lines.specs.declared.rules.RuleWord.{RuleWord}
-use Rattle.com_read_lines.specs.Codes.{CodeAt, code_more, no_code, first_position, spotted, checked_by, checked}
+use Rattle.com_read_lines.specs.Codes.{CodeAt, no_code, spotted, checked_by, checked}
 use Rattle.com_read_lines.specs.Declaring.{free_guid_at, free_name_at, interface_name_at, filter_name_at, model_at, native_at, natives_of, listed_at, picks_on}
 use Rattle.com_read_lines.specs.Methods.{method_of}
 use Rattle.com_read_lines.specs.Rules.{rule_word_of, rule_of}
-use Rattle.com_read_lines.specs.Programs.{spot_at, stated, allowed, program_line}
+use Rattle.com_read_lines.specs.Programs.{stated, allowed, program_line}
 use Rattle.com_read_sections.specs.declared.begin.SectionWord.{SectionWord}
 use Rattle.com_read_sections.specs.declared.begin.SectionWord.TheVariants as begins
 use Rattle.com_read_sections.specs.declared.state.State.{State}

@@ -1,22 +1,17 @@
 -- The reading of a text is what the text spells.
-use Rattle.std.proofs.Common.{◌≡◌, ℕ, inl, inr, ◌⊎◌, ◌++◌, List, [], ◌∷◌, flat_map, Result, Ok, Err, refl, sym, ap, ◌∙◌, subst}
+use Rattle.std.proofs.Common.{◌≡◌, ℕ, inl, inr, List, [], ◌∷◌, Ok, Err, refl, sym, ap, ◌∙◌, subst}
 use Rattle.com_classes.specs.BuiltIns.{built_in_interfaces}
 use Rattle.com_model.specs.declared.scenario.Scenario.{Scenario}
 use Rattle.com_text.specs.Words.{LineAt}
 use Rattle.com_text.specs.Scanning.{lines_of}
-use Rattle.com_read_operands.specs.declared.faults.Fault.{Fault}
-use Rattle.com_read_operands.specs.Reading.{◌>>=◌, Fails, Gives}
-use Rattle.com_read_operands.specs.declared.faults.ScenarioError.{ScenarioError}
 use Rattle.com_read_operands.specs.declared.faults.ScenarioError.TheVariants as errors
-use Rattle.com_read_sections.specs.declared.outline.Outline.{Outline}
-use Rattle.com_read_sections.specs.declared.state.State.{State}
 use Rattle.com_read_sections.specs.Opened.{step}
 use Rattle.com_read_sections.specs.Outlines.{outlined, begun, read}
 use Rattle.com_scenario.specs.Scenarios.{scenario_of, reading}
-use Rattle.com_laws_language.specs.Sections.{Line, with_words, section_lines}
+use Rattle.com_laws_language.specs.Sections.{Line, with_words}
 use Rattle.com_laws_language.specs.Parts.{Part, scenario_with}
-use Rattle.com_laws_language.specs.Spelling.{IsHeader, Spells}
-use Rattle.com_laws_language.specs.Laws.{IsReading, IsSpelled, IsOne, Answers, IsAnswered, IsTaken}
+use Rattle.com_laws_language.specs.Spelling.{IsHeader}
+use Rattle.com_laws_language.specs.Laws.{IsReading, IsSpelled, IsOne, IsAnswered, IsTaken}
 use Rattle.com_laws_language.proofs.Lists.{ok_same, bound, binds, never}
 use Rattle.com_laws_language.proofs.States.{from, state_at}
 use Rattle.com_laws_language.proofs.Takes.{steps}

@@ -1,5 +1,5 @@
 -- What was read so far is sections, and what is open of one more.
-use Rattle.std.proofs.Common.{◌≡◌, ℕ, ◌+◌, ◌≤◌, ◌<◌, false, List, [], ◌∷◌, ◌++◌, length, map, flat_map, None, Ok, refl, sym, ap, ◌∙◌, arith, is_some, slice_get, nat_le, codes, true, Bool}
+use Rattle.std.proofs.Common.{◌≡◌, ℕ, ◌+◌, ◌≤◌, ◌<◌, false, List, [], ◌∷◌, ◌++◌, length, map, flat_map, Ok, refl, sym, ap, ◌∙◌, arith, is_some, slice_get, nat_le, codes}
 use Rattle.std.proofs.lemmas.List.{length-map}
 use Rattle.std.proofs.lemmas.Bool.{leb-false}
 use Rattle.com_body.specs.declared.frame.Native.TheVariants as natives
@@ -20,7 +20,7 @@ use Rattle.com_read_sections.specs.declared.state.Section.TheVariants as within
 use Rattle.com_read_sections.specs.Opened.{has_body, program_of}
 use Rattle.com_laws_language.specs.Orders.{InOrder}
 use Rattle.com_laws_language.specs.Sections.{Line, BodyLines, body_lines, Section, section_lines}
-use Rattle.com_laws_language.specs.Parts.{Part, of_lanes, of_interface, of_class, of_filter, of_script, of_picks, lanes_in, interface_in, class_in, filter_name_in, filter_in, script_in, name_of_class, name_of_interface, names_below, clsids_below, IsWithinLimits}
+use Rattle.com_laws_language.specs.Parts.{Part, of_lanes, of_interface, of_class, of_filter, of_script, of_picks, lanes_in, interface_in, class_in, filter_name_in, script_in, name_of_class, name_of_interface, names_below, clsids_below, IsWithinLimits}
 use Rattle.com_laws_language.specs.Spelling.{Begins, IsStatement, IsRule, IsBody, IsInterface, names_inside, Declares}
 use Rattle.com_laws_language.proofs.Lists.{flat_push, few_push, order_push}
 use Rattle.com_laws_language.proofs.States.{state_at, interface_begun, class_begun, filter_begun, thread_begun}

@@ -1,12 +1,12 @@
 -- What the reader knows outside of sections, by the parts above.
-use Rattle.std.proofs.Common.{◌≡◌, ℕ, List, [], ◌∷◌, ◌++◌, map, flat_map, slice_get, Some, refl, sym, ap, ◌∙◌, append-nil}
+use Rattle.std.proofs.Common.{◌≡◌, ℕ, List, [], ◌∷◌, ◌++◌, map, flat_map, slice_get, Some, refl, ap, ◌∙◌, append-nil}
 use Rattle.std.proofs.lemmas.List.{map_push}
 use Rattle.com_body.specs.declared.statements.Stmt.{Stmt}
 use Rattle.com_classes.specs.declared.interfaces.Interface.{Interface}
 use Rattle.com_classes.specs.declared.classes.Class.{Class}
 use Rattle.com_classes.specs.BuiltIns.{built_in_interfaces}
 use Rattle.com_filter.specs.declared.Rule.{Rule}
-use Rattle.com_read_lines.specs.Codes.{CodeAt, no_code}
+use Rattle.com_read_lines.specs.Codes.{CodeAt}
 use Rattle.com_read_sections.specs.declared.state.State.{State}
 use Rattle.com_read_sections.specs.declared.state.Section.TheVariants as within
 use Rattle.com_read_sections.specs.Opened.{interface_closed}

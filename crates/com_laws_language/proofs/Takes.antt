@@ -1,10 +1,10 @@
 -- What the reader makes of a line that says this.
-use Rattle.std.proofs.Common.{◌≡◌, ℕ, ◌+◌, ◌≤◌, ◌<◌, Bool, true, false, cond, List, [], ◌∷◌, ◌++◌, length, flat_map, drop, Option, Some, None, is_some, Result, Ok, Err, refl, sym, ap, ◌∙◌, subst, arith, nat_le, nat_lt, codes, bytes_eq, append_assoc, append-nil, length-append}
+use Rattle.std.proofs.Common.{◌≡◌, ℕ, ◌≤◌, Bool, true, false, cond, List, [], ◌∷◌, ◌++◌, length, flat_map, drop, Option, Some, None, is_some, Result, Ok, Err, refl, sym, ap, ◌∙◌, subst, arith, nat_le, nat_lt, codes, bytes_eq, append_assoc, append-nil, length-append}
 use Rattle.std.proofs.lemmas.Bool.{lt-leb, ltb-false}
 use Rattle.com_base.specs.declared.guid.Guid.{Guid}
 use Rattle.com_body.specs.declared.statements.Stmt.{Stmt}
 use Rattle.com_body.specs.declared.body.BodyFault.{BodyFault}
-use Rattle.com_body.specs.Bodies.{first_past_end, fault_of}
+use Rattle.com_body.specs.Bodies.{fault_of}
 use Rattle.com_classes.specs.declared.interfaces.Interface.{Interface}
 use Rattle.com_classes.specs.declared.interfaces.Method.{Method}
 use Rattle.com_classes.specs.declared.classes.Class.{Class}
@@ -12,31 +12,29 @@ use Rattle.com_classes.specs.declared.classes.MethodBody.{MethodBody}
 use Rattle.com_filter.specs.declared.Rule.{Rule}
 use Rattle.com_text.specs.Words.{WordAt}
 use Rattle.com_read_operands.specs.declared.faults.Fault.{Fault}
-use Rattle.com_read_operands.specs.Reading.{◌>>=◌, fault_at, first_at, end_at, number_at}
+use Rattle.com_read_operands.specs.Reading.{◌>>=◌, fault_at, first_at, end_at}
 use Rattle.com_read_statements.specs.declared.calls.MethodNumber.{MethodNumber}
 use Rattle.com_read_statements.specs.declared.keywords.Program.{Program}
 use Rattle.com_read_statements.specs.declared.keywords.Program.TheVariants as programs
 use Rattle.com_read_statements.specs.declared.keywords.Keyword.{Keyword}
 use Rattle.com_read_statements.specs.declared.names.Names.{Names}
-use Rattle.com_read_statements.specs.Keywords.{keyword_of, takes}
+use Rattle.com_read_statements.specs.Keywords.{keyword_of}
 use Rattle.com_read_statements.specs.Calls.{method_at}
-use Rattle.com_read_statements.specs.Statements.{stmt_of}
 use Rattle.com_read_lines.specs.declared.rules.RuleWord.{RuleWord}
 use Rattle.com_read_lines.specs.Codes.{CodeAt, code_more, no_code, checked_by, checked}
 use Rattle.com_read_lines.specs.Declaring.{free_guid_at, free_name_at, interface_name_at, filter_name_at, model_at, native_at, natives_of, listed_at, picks_on}
-use Rattle.com_read_lines.specs.Methods.{method_of}
 use Rattle.com_read_lines.specs.Rules.{rule_word_of, rule_of}
-use Rattle.com_read_lines.specs.Programs.{spot_at, stated, allowed, program_line}
+use Rattle.com_read_lines.specs.Programs.{spot_at, program_line}
 use Rattle.com_read_sections.specs.declared.begin.SectionWord.{SectionWord}
 use Rattle.com_read_sections.specs.declared.state.State.{State}
 use Rattle.com_read_sections.specs.declared.state.Section.TheVariants as within
 use Rattle.com_read_sections.specs.Beginning.{section_word_of, pool_line, interface_line, class_line, native_line, filter_line, thread_line, picks_line, top_by, top_line}
-use Rattle.com_read_sections.specs.Opened.{method_line, inner_interface, has_body, body_head, class_ended, inner_class, program_of, with_body, body_ended, inner_body, thread_ended, inner_thread, filter_ended, ruled, inner_filter, by_section, step}
+use Rattle.com_read_sections.specs.Opened.{method_line, inner_interface, has_body, body_head, class_ended, inner_class, program_of, with_body, inner_body, inner_thread, ruled, inner_filter, by_section, step}
 use Rattle.com_laws_language.specs.Orders.{InOrder}
 use Rattle.com_laws_language.specs.Sections.{Line, BodyLines, body_lines}
-use Rattle.com_laws_language.specs.Spelling.{Begins, IsEnd, IsMethod, IsStatement, IsRule, IsBody, number_of_body, IsPool, IsNative, IsPicks}
+use Rattle.com_laws_language.specs.Spelling.{Begins, IsEnd, IsMethod, IsStatement, IsRule, IsBody, number_of_body, IsPool, IsPicks}
 use Rattle.com_laws_language.proofs.Lists.{ok_same, bound, binds, bytes_same, same_bytes}
-use Rattle.com_laws_language.proofs.States.{pooled, interface_begun, class_begun, class_added, filter_begun, filter_added, thread_begun, script_added, picked}
+use Rattle.com_laws_language.proofs.States.{pooled, interface_begun, class_begun, class_added, filter_begun, thread_begun, picked}
 use Rattle.com_laws_language.proofs.Found.{new_interface, new_class}
 
 -- ---- lines one after another

@@ -1,12 +1,12 @@
 -- A text's lines: the header, and the lines of sections.
-use Rattle.std.proofs.Common.{◌≡◌, ℕ, ◌+◌, inl, inr, ◌⊎◌, Bool, true, false, cond, not, List, [], ◌∷◌, ◌++◌, length, flat_map, Option, Some, None, Result, Ok, Err, refl, sym, ap, ◌∙◌, subst, arith, codes, bytes_eq, append_assoc, append-nil, slice_index}
+use Rattle.std.proofs.Common.{◌≡◌, ℕ, ◌+◌, inl, inr, ◌⊎◌, Bool, true, false, cond, not, List, [], ◌∷◌, ◌++◌, flat_map, Option, Some, None, Result, Ok, Err, refl, sym, ap, ◌∙◌, subst, arith, codes, bytes_eq, append_assoc, append-nil, slice_index}
 use Rattle.com_classes.specs.BuiltIns.{built_in_interfaces}
 use Rattle.com_text.specs.declared.word.Sort.{Sort}
 use Rattle.com_text.specs.declared.word.Sort.TheVariants as sorts
 use Rattle.com_text.specs.Words.{WordAt, LineAt, is_remark}
 use Rattle.com_text.specs.Scanning.{Scanning, class_of, ends_line, after, gave, at_line, ended, lines_from, lines_of}
 use Rattle.com_read_operands.specs.declared.faults.Fault.{Fault}
-use Rattle.com_read_operands.specs.Reading.{◌>>=◌, fault_at, end_at}
+use Rattle.com_read_operands.specs.Reading.{fault_at, end_at}
 use Rattle.com_read_lines.specs.Header.{version_of, compared, version_by, version_at, ended as version_ended}
 use Rattle.com_read_sections.specs.declared.outline.Outline.{Outline}
 use Rattle.com_read_sections.specs.declared.state.State.{State}
@@ -16,13 +16,13 @@ use Rattle.com_read_sections.specs.Header.{lone, header_line}
 use Rattle.com_read_sections.specs.Opened.{by_section, step}
 use Rattle.com_read_sections.specs.Outlines.{outlined, finished, finish, begun, read}
 use Rattle.com_laws_language.specs.Sections.{Line, worded, with_words, Section, section_lines, interface}
-use Rattle.com_laws_language.specs.Parts.{Part, of_interface, IsWithinLimits}
+use Rattle.com_laws_language.specs.Parts.{Part, of_interface}
 use Rattle.com_laws_language.specs.Spelling.{IsHeader}
 use Rattle.com_laws_language.proofs.Lists.{ok_same, bound, binds, never, same_bytes, bytes_same, flat_push}
 use Rattle.com_laws_language.proofs.States.{from, state_at, with_interface}
-use Rattle.com_laws_language.proofs.Standing.{Whole, AtTop, Standing, at_top, at_interface, at_class, at_body, at_filter, at_thread, more_interfaces, whole_push}
+use Rattle.com_laws_language.proofs.Standing.{Whole, Standing, at_top, at_interface, at_class, at_body, at_filter, at_thread, more_interfaces, whole_push}
 use Rattle.com_laws_language.proofs.Up.{line_up}
-use Rattle.com_laws_language.proofs.Takes.{steps, worded_step}
+use Rattle.com_laws_language.proofs.Takes.{steps}
 
 -- ---- the last line is the only one that says so
 

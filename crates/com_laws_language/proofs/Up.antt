@@ -1,15 +1,11 @@
 -- Each line keeps what stands: what the reader takes is sections.
-use Rattle.std.proofs.Common.{◌≡◌, ℕ, ◌+◌, ◌≤◌, ◌<◌, Bool, true, false, cond, List, [], ◌∷◌, ◌++◌, length, map, flat_map, Option, Some, None, Result, Ok, Err, refl, sym, ap, ◌∙◌, subst, arith, is_some, nat_le, codes, bytes_eq, append_assoc, append-nil, length-append}
+use Rattle.std.proofs.Common.{◌≡◌, ℕ, Bool, true, false, cond, List, [], ◌∷◌, ◌++◌, length, flat_map, Option, Some, None, Ok, Err, refl, sym, ap, ◌∙◌, subst, arith, codes, bytes_eq, append_assoc, length-append}
 use Rattle.std.proofs.lemmas.Bool.{leb-false}
-use Rattle.com_body.specs.declared.frame.Native.TheVariants as natives
 use Rattle.com_body.specs.declared.statements.Stmt.{Stmt}
-use Rattle.com_body.specs.Bodies.{fault_of}
 use Rattle.com_classes.specs.declared.interfaces.Interface.{Interface}
 use Rattle.com_classes.specs.declared.classes.Class.{Class}
-use Rattle.com_classes.specs.declared.classes.MethodBody.{MethodBody}
 use Rattle.com_filter.specs.declared.Rule.{Rule}
 use Rattle.com_text.specs.Words.{WordAt}
-use Rattle.com_read_operands.specs.declared.faults.Fault.{Fault}
 use Rattle.com_read_operands.specs.Reading.{◌>>=◌, fault_at, first_at, end_at}
 use Rattle.com_read_statements.specs.declared.calls.MethodNumber.{MethodNumber}
 use Rattle.com_read_statements.specs.declared.keywords.Program.{Program}
@@ -23,15 +19,15 @@ use Rattle.com_read_sections.specs.declared.begin.SectionWord.TheVariants as beg
 use Rattle.com_read_sections.specs.declared.state.State.{State}
 use Rattle.com_read_sections.specs.declared.state.Section.TheVariants as within
 use Rattle.com_read_sections.specs.Beginning.{section_word_of, pool_line, interface_line, class_line, native_line, filter_line, thread_line, picks_line, top_by, top_line}
-use Rattle.com_read_sections.specs.Opened.{interface_closed, method_line, inner_interface, body_head, class_ended, inner_class, program_of, with_body, body_ended, inner_body, thread_ended, inner_thread, filter_ended, ruled, inner_filter, by_section, step}
+use Rattle.com_read_sections.specs.Opened.{interface_closed, method_line, inner_interface, body_head, class_ended, inner_class, program_of, with_body, body_ended, inner_body, thread_ended, inner_thread, filter_ended, ruled, inner_filter, step}
 use Rattle.com_laws_language.specs.Orders.{InOrder}
 use Rattle.com_laws_language.specs.Sections.{Line, BodyLines, body_lines, Section, section_lines, pool, interface, class, native, filter, thread, picks}
-use Rattle.com_laws_language.specs.Parts.{Part, of_lanes, of_interface, of_class, of_filter, of_script, of_picks, lanes_in, interface_in, class_in, filter_name_in, script_in, names_below}
-use Rattle.com_laws_language.specs.Spelling.{Begins, IsEnd, IsMethod, IsStatement, IsRule, IsBody, IsInterface, IsClass, names_inside, number_of_body}
+use Rattle.com_laws_language.specs.Parts.{Part, of_lanes, of_interface, of_class, of_filter, of_script, of_picks, lanes_in, interface_in, class_in, names_below}
+use Rattle.com_laws_language.specs.Spelling.{Begins, IsEnd, IsMethod, IsStatement, IsRule, IsBody, names_inside}
 use Rattle.com_laws_language.proofs.Lists.{ok_same, bound, never, same_bytes, order_push, flat_push}
-use Rattle.com_laws_language.proofs.States.{from, state_at, pooled, interface_begun, class_begun, class_added, filter_begun, filter_added, thread_begun, script_added, picked, with_lanes, with_interface, with_class, with_filter, with_script, with_picks}
-use Rattle.com_laws_language.proofs.Found.{spelled_as, section_word, new_interface, new_class, new_native, pool_found, interface_found, class_found, native_found, filter_found, thread_found, picks_found, method_found, rule_found, statement_found, checked_found, body_head_found}
-use Rattle.com_laws_language.proofs.Standing.{Whole, AtTop, AtInterface, IsOpenClass, AtClass, AtBody, AtFilter, AtThread, Standing, at_top, at_interface, at_class, at_body, at_filter, at_thread, more_lanes, more_interfaces, more_classes, more_filters, more_scripts, more_picks, none_yet, room_for_interface, room_for_class, whole_push, closed}
+use Rattle.com_laws_language.proofs.States.{from, state_at, interface_begun, class_begun, filter_begun, thread_begun, script_added, with_lanes, with_interface, with_class, with_filter, with_script, with_picks}
+use Rattle.com_laws_language.proofs.Found.{section_word, new_interface, new_class, new_native, pool_found, interface_found, class_found, native_found, filter_found, thread_found, picks_found, method_found, rule_found, statement_found, checked_found, body_head_found}
+use Rattle.com_laws_language.proofs.Standing.{Whole, AtInterface, IsOpenClass, AtClass, AtBody, AtFilter, AtThread, Standing, at_top, at_interface, at_class, at_body, at_filter, at_thread, more_lanes, more_interfaces, more_classes, more_filters, more_scripts, more_picks, none_yet, room_for_interface, room_for_class, whole_push, closed}
 
 pub begun_by : (line : Line) (w : WordAt) (word : List ℕ) → first_at line ≡ Ok w → w.bytes ≡ word → Begins line word
 begun_by line w word e s = record { first = w; stands = e; same = s }
