@@ -1,0 +1,12 @@
+pub mod Lists
+pub mod States
+pub mod Found
+pub mod Standing
+pub mod Up
+pub mod Takes
+pub mod Down
+pub mod Texts
+pub mod Laws
+pub mod Bites
+pub mod Scans
+pub mod Cut
