@@ -1,6 +1,7 @@
 -- What sections declare, what may be named below them, and the scenario that they are together.
-use Rattle.std.specs.Prelude.{ℕ, ◌≤◌, List, [], ◌∷◌, ◌++◌, length, map, flat_map, slice_get, unwrap_or}
+use Rattle.std.specs.Prelude.{ℕ, ◌-◌, ◌≤◌, List, [], ◌∷◌, ◌++◌, length, map, flat_map, slice_get, unwrap_or}
 use Rattle.com_base.specs.declared.guid.Guid.{Guid}
+use Rattle.com_base.specs.declared.limits.TheConstants.{CLASS_LIMIT, FILTER_LIMIT, INTERFACE_LIMIT, THREAD_LIMIT}
 use Rattle.com_body.specs.declared.statements.Stmt.{Stmt}
 use Rattle.com_classes.specs.declared.interfaces.Interface.{Interface}
 use Rattle.com_classes.specs.declared.classes.Class.{Class}
@@ -107,7 +108,7 @@ scenario_with version parts = record {
 -- How many parts of a kind there may be.
 pub record IsWithinLimits (parts : List Part) : Type 0 where
   pub pools : length (flat_map lanes_in parts) ≤ 1
-  pub interfaces : length (own_interfaces parts) ≤ 60
-  pub classes : length (classes_of parts) ≤ 64
-  pub filters : length (flat_map filter_name_in parts) ≤ 16
-  pub threads : length (flat_map script_in parts) ≤ 16
+  pub interfaces : length (own_interfaces parts) ≤ INTERFACE_LIMIT - length built_in_interfaces
+  pub classes : length (classes_of parts) ≤ CLASS_LIMIT
+  pub filters : length (flat_map filter_name_in parts) ≤ FILTER_LIMIT
+  pub threads : length (flat_map script_in parts) ≤ THREAD_LIMIT

@@ -3,6 +3,7 @@
 use Rattle.std.specs.Prelude.{◌≡◌, ℕ, ◌≤◌, true, false, List, [], ◌∷◌, ◌++◌, length, drop, flat_map, Some, None}
 use Rattle.std.specs.Prelude.{Ok, codes}
 use Rattle.std.specs.List.{join_with_byte}
+use Rattle.com_base.specs.declared.limits.TheConstants.{BODY_LIMIT, METHOD_LIMIT, POOL_LIMIT, RULE_LIMIT, SCRIPT_LIMIT}
 use Rattle.com_body.specs.declared.frame.Native.TheVariants as natives
 use Rattle.com_body.specs.declared.statements.Stmt.{Stmt}
 use Rattle.com_body.specs.Bodies.{fault_of}
@@ -74,8 +75,8 @@ pub record IsRule (above : List Rule) (line : Line) (r : Rule) : Type 0 where
 abbrev pub number_of_body : MethodBody → MethodNumber
 number_of_body b = record { iface = b.iface; method = b.method }
 
--- A body: for a method that no body above it in the class is for; at most 200 statements, and no skip passes
--- its end.
+-- A body: for a method that no body above it in the class is for; at most `BODY_LIMIT` statements, and no skip
+-- passes its end.
 pub record IsBody (names : Names) (model : ThreadingModel) (above : List MethodBody) (lines : BodyLines)
     (b : MethodBody) : Type 0 where
   pub begins : Begins lines.head (codes "body")
@@ -83,17 +84,17 @@ pub record IsBody (names : Names) (model : ThreadingModel) (above : List MethodB
   pub once : has_body above (number_of_body b) ≡ false
   pub no_more : end_at lines.head 2 ≡ Ok tt
   pub statements : InOrder (IsStatement (program_of model) names) [] lines.statements b.body
-  pub whole : fault_of b.body 200 ≡ None
+  pub whole : fault_of b.body BODY_LIMIT ≡ None
   pub closed : IsEnd lines.last
 
 -- ---- sections, below the parts that stand above them
 
 pub record IsPool (head : Line) (lanes : ℕ) : Type 0 where
   pub begins : Begins head (codes "pool")
-  pub number : number_at 1 8 head 1 ≡ Ok lanes
+  pub number : number_at 1 POOL_LIMIT head 1 ≡ Ok lanes
   pub no_more : end_at head 2 ≡ Ok tt
 
--- An interface may name itself in its methods, of which there are at most 32.
+-- An interface may name itself in its methods, of which there are at most `METHOD_LIMIT`.
 pub record IsInterface (above : List Part) (head : Line) (lines : List Line) (i : Interface) : Type 0 where
   pub begins : Begins head (codes "interface")
   pub word : WordAt
@@ -102,7 +103,7 @@ pub record IsInterface (above : List Part) (head : Line) (lines : List Line) (i 
   pub iid : free_guid_at (iids_below above) head 2 ≡ Ok i.iid
   pub no_more : end_at head 3 ≡ Ok tt
   pub methods : InOrder (IsMethod ((names_below above).interfaces ++ i.name ∷ [])) [] lines i.methods
-  pub few : length i.methods ≤ 32
+  pub few : length i.methods ≤ METHOD_LIMIT
 
 -- A class may name itself in its bodies.
 abbrev pub names_inside : List Part → List ℕ → Names
@@ -133,7 +134,7 @@ pub record IsNative (above : List Part) (head : Line) (c : Class) : Type 0 where
   pub interfaces : c.interfaces ≡ natives_of c.native
   pub bodies : c.bodies ≡ []
 
--- At most 32 rules.
+-- At most `RULE_LIMIT` rules.
 pub record IsFilter (above : List Part) (head : Line) (lines : List Line) (last : Line) (name : List ℕ)
     (rules : List Rule) : Type 0 where
   pub begins : Begins head (codes "filter")
@@ -142,16 +143,16 @@ pub record IsFilter (above : List Part) (head : Line) (lines : List Line) (last 
   pub same : name ≡ word.bytes
   pub no_more : end_at head 2 ≡ Ok tt
   pub ruled : InOrder IsRule [] lines rules
-  pub few : length rules ≤ 32
+  pub few : length rules ≤ RULE_LIMIT
   pub closed : IsEnd last
 
--- At most 2,000 statements, and no skip passes the end.
+-- At most `SCRIPT_LIMIT` statements, and no skip passes the end.
 pub record IsThread (above : List Part) (head : Line) (lines : List Line) (last : Line) (script : List Stmt)
     : Type 0 where
   pub begins : Begins head (codes "thread")
   pub no_more : end_at head 1 ≡ Ok tt
   pub statements : InOrder (IsStatement programs.Script (names_below above)) [] lines script
-  pub whole : fault_of script 2000 ≡ None
+  pub whole : fault_of script SCRIPT_LIMIT ≡ None
   pub closed : IsEnd last
 
 pub record IsPicks (head : Line) (lanes : List ℕ) : Type 0 where
