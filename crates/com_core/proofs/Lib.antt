@@ -21,4 +21,5 @@ pub mod Kept
 pub mod Counted
 pub mod Served
 pub mod Worked
+pub mod Taken
 pub mod Quiet
