@@ -106,9 +106,9 @@ fn begin_by<C: Runtime, K: Sink>(
     let mut entries = Vec::new(alloc);
     'turns: loop {
         match stream.step(alloc, scenario, runtime, servants, sink)? {
-            Step::Made(entry) => {
-                drawing.push_entry(alloc, scenario, &entry, &mut text)?;
-                keep(is_kept, &mut entries, entry)?;
+            Step::Made => {
+                drawing.push_entry(alloc, scenario, runtime.last(), &mut text)?;
+                keep(is_kept, &mut entries, runtime)?;
             }
             Step::Over(ended) => {
                 let begun = with_report(alloc, scenario, runtime, drawing, text, ended)?;

@@ -22,3 +22,4 @@ pub mod Counted
 pub mod Served
 pub mod Worked
 pub mod Quiet
+pub mod Tried

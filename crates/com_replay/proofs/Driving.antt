@@ -291,28 +291,35 @@ pub driving_start_at : (s : Scenario) (start : Option (List ℕ)) (from : List �
 driving_start_at s start from st tried last lines e t l none =
     driving_start s start from (record { state = st; picks = drop tried s.picks; last = last; lines = lines; held = start; steps = from }) e (ap (λ (n : ℕ). drop n s.picks) t) l none refl refl
 
-pub driving_on_step : (s : Scenario) (start : Option (List ℕ)) (from : List ℕ) (m n : Moment) (step : Step) → Formed s → Driving s start from m → StepsTo s m n step → over_of step ≡ None → Driving s start from n
-driving_on_step s start from m n (Made e) f p q is = driving_on s start from m n e f p q
-driving_on_step s start from m n (Over x) f p q is = cc
+pub driving_on_step : (s : Scenario) (start : Option (List ℕ)) (from : List ℕ) (m n : Moment) (e : Entry) (step : Step) → Formed s → Driving s start from m → StepsTo s m n e step → over_of step ≡ None → Driving s start from n
+driving_on_step s start from m n e Made f p q is = driving_on s start from m n e f p q
+driving_on_step s start from m n e (Over x) f p q is = cc
+
+-- The state that a runtime has after its last entry was taken is the one before.
+pub driving_same : (s : Scenario) (start : Option (List ℕ)) (from : List ℕ) (st new : State) (picks : List ℕ) (last : ℕ) (lines : List ℕ) (held : Option (List ℕ)) (steps : List ℕ) → new ≡ st
+    → Driving s start from (record { state = st; picks = picks; last = last; lines = lines; held = held; steps = steps })
+    → Driving s start from (record { state = new; picks = picks; last = last; lines = lines; held = held; steps = steps })
+driving_same s start from st new picks last lines held steps e d =
+    subst (λ (x : State). Driving s start from (record { state = x; picks = picks; last = last; lines = lines; held = held; steps = steps })) (sym e) d
 
 fewer : (most a b : ℕ) → a < most → b ≡ a + 1 → most - b < most - a
 fewer most a b h k = omega (arith, h, k)
 
-pub driving_smaller : (s : Scenario) (start : Option (List ℕ)) (from : List ℕ) (m n : Moment) (step : Step) → Driving s start from m → StepsTo s m n step → over_of step ≡ None → limit s - n.state.entries < limit s - m.state.entries
-driving_smaller s start from m n (Made e) p q is =
+pub driving_smaller : (s : Scenario) (start : Option (List ℕ)) (from : List ℕ) (m n : Moment) (e : Entry) (step : Step) → Driving s start from m → StepsTo s m n e step → over_of step ≡ None → limit s - n.state.entries < limit s - m.state.entries
+driving_smaller s start from m n e Made p q is =
     fewer (limit s) m.state.entries n.state.entries
     (below_limit s m.state q.turn.goes_on (driving_within s start from m p))
     (one_entry s m.state n.state e.lane e q.turn.next)
-driving_smaller s start from m n (Over x) p q is = cc
+driving_smaller s start from m n e (Over x) p q is = cc
 
-pub driving_over_step : (s : Scenario) (start : Option (List ℕ)) (from : List ℕ) (m n : Moment) (step : Step) (x : Ended) → Driving s start from m → StepsTo s m n step → over_of step ≡ Some x → Ending s start from n x
-driving_over_step s start from m n (Made e) x p q is = cc
-driving_over_step s start from m n (Over y) x p q is =
+pub driving_over_step : (s : Scenario) (start : Option (List ℕ)) (from : List ℕ) (m n : Moment) (e : Entry) (step : Step) (x : Ended) → Driving s start from m → StepsTo s m n e step → over_of step ≡ Some x → Ending s start from n x
+driving_over_step s start from m n e Made x p q is = cc
+driving_over_step s start from m n e (Over y) x p q is =
     subst (λ (k : Moment). Ending s start from k x) (sym q.same) (driving_over s start from m x p (q.ended ∙ is))
 
-pub reached_over_step : (s : Scenario) (start : Option (List ℕ)) (from : List ℕ) (m n : Moment) (step : Step) (x : Ended) → Formed s → Driving s start from m → StepsTo s m n step → over_of step ≡ Some x → Reached s n.state
-reached_over_step s start from m n (Made e) x f p q is = cc
-reached_over_step s start from m n (Over y) x f p q is =
+pub reached_over_step : (s : Scenario) (start : Option (List ℕ)) (from : List ℕ) (m n : Moment) (e : Entry) (step : Step) (x : Ended) → Formed s → Driving s start from m → StepsTo s m n e step → over_of step ≡ Some x → Reached s n.state
+reached_over_step s start from m n e Made x f p q is = cc
+reached_over_step s start from m n e (Over y) x f p q is =
     subst (λ (k : Moment). Reached s k.state) (sym q.same) (reached_by s m.state p.history f p.stands)
 
 pub on-ok : {A E : Type 0} (r : Result A E) (P : Type 0) → P → OnOk r P

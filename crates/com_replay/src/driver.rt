@@ -14,7 +14,7 @@ use crate::replayed::Replayed;
 use crate::stream::{Step, Stream};
 use com_io::Sink;
 use com_model::{Ended, Scenario};
-use com_runtime::Runtime;
+use com_schedule::Tries;
 use com_servant::Servant;
 use std::alloc::Global;
 
@@ -24,7 +24,7 @@ use std::alloc::Global;
 ///
 /// `WriteFault` comes only where the sink's count of faults rose in this call, and `Memory` is want of
 /// memory. Whatever is answered, what was written is a prefix of the whole text.
-pub fn drive<C: Runtime, K: Sink>(
+pub fn drive<C: Tries, K: Sink>(
     alloc: Global,
     scenario: &Scenario,
     runtime: &mut C,
@@ -59,7 +59,7 @@ fn over(step: Step) -> Option<Ended>
     ensures { result ≡ over_of step }
 {
     match step {
-        Step::Made(_) => None,
+        Step::Made => None,
         Step::Over(ended) => Some(ended),
     }
 }

@@ -17,7 +17,7 @@ use com_base::Memory;
 use com_core::Core;
 use com_io::Sink;
 use com_model::{Ended, Entry, Scenario};
-use com_runtime::Runtime;
+use com_schedule::Tries;
 use com_servant::Servant;
 use std::alloc::Global;
 use std::sync::Arc;
@@ -70,7 +70,7 @@ pub fn keep<K: Sink>(
 }
 
 // Plays and writes the history of a runtime that has made no entry, and keeps it.
-fn keep_by<C: Runtime, K: Sink>(
+fn keep_by<C: Tries, K: Sink>(
     alloc: Global,
     scenario: &Scenario,
     runtime: &mut C,
@@ -95,7 +95,7 @@ fn keep_by<C: Runtime, K: Sink>(
     let mut entries = Vec::new(alloc);
     'turns: loop {
         match stream.step(alloc, scenario, runtime, servants, sink)? {
-            Step::Made(entry) => add(&mut entries, entry)?,
+            Step::Made => add(&mut entries, runtime.take_last())?,
             Step::Over(ended) => {
                 stream.finish(alloc, scenario, runtime, ended, sink)?;
                 return Ok(Recorded { entries, ended });

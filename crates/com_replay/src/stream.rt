@@ -1,5 +1,5 @@
 //! A history entry by entry: each step is one turn of the schedule and one line.
-ghost use Rattle.std.specs.Prelude.{◌≡◌, ◌≤◌, ◌++◌, [], true, None, IfOk, IfSome, OnOk};
+ghost use Rattle.std.specs.Prelude.{◌≡◌, ◌≤◌, ◌++◌, [], IfOk, OnOk};
 ghost use Rattle.std.specs.Prelude.{Err, OnErr, map, drop};
 ghost use Rattle.com_io.specs.Faults.{Rose};
 ghost use Rattle.com_io.specs.Told.{Gains, GainsPrefix};
@@ -9,26 +9,25 @@ ghost use Rattle.com_model.specs.Tables.{lanes};
 ghost use Rattle.com_model.specs.Ends.{limit};
 ghost use Rattle.com_servant.specs.Rows.{row};
 ghost use Rattle.com_replay.specs.declared.lines.ReplayError.TheVariants as replay_error;
-ghost use Rattle.com_runtime.specs.Standings.{standing_of, ended_now, none_can_in, CanGo, HasTurn, Reached};
-ghost use Rattle.com_runtime.specs.declared.runtime.Standing.TheVariants as standing;
-ghost use Rattle.com_runtime.specs.Turns.{IsTurn, served_in};
-ghost use Rattle.com_replay.specs.Steps.{StepsTo, Fails};
+ghost use Rattle.com_runtime.specs.Standings.{Reached};
+ghost use Rattle.com_replay.specs.Steps.{IsLaneTurn, StepsTo, TurnsTo, Fails};
 
 use crate::finish::finish;
 use crate::lines::{ReplayError, show};
 use crate::replayed::Replayed;
 use com_base::{ByteList, Memory};
 use com_io::Sink;
-use com_model::{Ended, Entry, Scenario};
-use com_runtime::{Chosen, Runtime, Standing, choose, end_of, stand};
+use com_model::{Ended, Scenario};
+use com_runtime::{Runtime, Standing, end_of};
+use com_schedule::{Tries, take_turn};
 use com_servant::Servant;
 use std::alloc::Global;
 
 /// What a step of a stream did.
-#[derive(Debug, Drop)]
+#[derive(Debug, Clone, Copy, PartialEq, Eq)]
 pub enum Step {
-    /// A turn was made: its entry.
-    Made(Entry),
+    /// A turn was made. The runtime lends its entry.
+    Made,
     /// The history has ended: nothing was done.
     Over(Ended),
 }
@@ -56,90 +55,99 @@ impl Stream {
         }
     }
 
-    // Has the lane whose turn it is make its entry.
-    #[tactic(auto, using(com_runtime::proofs::Limits::below_limit))]
-    fn lane_turn<C: Runtime>(
+    // Has the lane whose turn it is make its entry, where there is room for one and a lane can step.
+    #[tactic(auto, using(crate::proofs::Turning::no_room))]
+    fn lane_turn<C: Tries>(
         &mut self,
         alloc: Global,
         scenario: &Scenario,
         runtime: &mut C,
-        chosen: Chosen,
         servants: &mut Vec<Box<dyn Servant + Send>>,
-    ) -> Result<Entry, Memory>
+    ) -> Result<bool, Memory>
         requires scenario { C.scenario runtime.old ≡ scenario.now }
-        requires runs { standing_of scenario.now (C.state runtime.old) ≡ standing.Runs }
-        requires goes { CanGo (C.scenario runtime.old) (C.state runtime.old) chosen.lane }
-        requires turn { HasTurn (C.scenario runtime.old) (C.state runtime.old)
-            (drop self.old.tried scenario.now.picks) self.old.last
-            chosen.lane (drop chosen.tried scenario.now.picks) }
-        requires goes_on { ended_now scenario.now (C.state runtime.old) ≡ None }
-        requires entries { (C.state runtime.old).entries ≤ limit scenario.now }
         requires last { self.old.last ≤ lanes scenario.now }
         requires reached { Reached (C.scenario runtime.old) (C.state runtime.old) }
         requires row { map kind_of servants.old.items ≡ row }
         ensures scenario { C.scenario runtime.new ≡ scenario.now }
-        ensures turn { IfOk result (λ entry. IsTurn scenario.now (C.state runtime.old)
-            (drop self.old.tried scenario.now.picks) self.old.last
-            entry (C.state runtime.new) (drop self.new.tried scenario.now.picks) self.new.last) }
+        ensures turn { IfOk result (λ made. IsLaneTurn scenario.now (record {
+          state = C.state runtime.old;
+          picks = drop self.old.tried scenario.now.picks;
+          last = self.old.last;
+          steps = map stepped servants.old.items;
+        }) (record {
+          state = C.state runtime.new;
+          picks = drop self.new.tried scenario.now.picks;
+          last = self.new.last;
+          steps = map stepped servants.new.items;
+        }) (C.made runtime.new) made) }
         ensures last { self.new.last ≤ lanes scenario.now }
         ensures lines { self.new.lines ≡ self.old.lines }
         ensures row { map kind_of servants.new.items ≡ row }
-        ensures served { IfOk result (λ entry. map stepped servants.new.items
-            ≡ served_in scenario.now (C.state runtime.old) entry.lane (map stepped servants.old.items)) }
     {
+        if runtime.entries() >= scenario.limit() {
+            return Ok(false);
+        }
+        let picks = scenario.picks.as_slice();
+        let Some(chosen) = take_turn(alloc, runtime, picks, self.tried, self.last, servants)? else {
+            return Ok(false);
+        };
         self.tried = chosen.tried;
         self.last = chosen.lane;
-        runtime.step(alloc, chosen.lane, servants)
+        Ok(true)
     }
 
-    // Has the lane whose turn it is make its entry, or the clock where no lane can step.
-    #[tactic(auto, using(com_runtime::proofs::Limits::below_limit, com_runtime::proofs::Limits::not_finished, com_runtime::proofs::Limits::not_stuck, com_runtime::proofs::Choices::not_runs))]
-    fn turn<C: Runtime>(
+    // Has the lane whose turn it is make its entry, or the clock where no lane can step. Where the history
+    // has ended, nothing is done.
+    fn turn<C: Tries>(
         &mut self,
         alloc: Global,
         scenario: &Scenario,
         runtime: &mut C,
-        standing: Standing,
-        chosen: Option<Chosen>,
         servants: &mut Vec<Box<dyn Servant + Send>>,
-    ) -> Result<Entry, Memory>
+    ) -> Result<Step, Memory>
         requires scenario { C.scenario runtime.old ≡ scenario.now }
-        requires standing { standing ≡ standing_of scenario.now (C.state runtime.old) }
-        requires goes { IfSome chosen (λ chosen. CanGo (C.scenario runtime.old)
-            (C.state runtime.old) chosen.lane) }
-        requires turn { IfSome chosen (λ chosen. HasTurn (C.scenario runtime.old) (C.state runtime.old)
-            (drop self.old.tried scenario.now.picks) self.old.last
-            chosen.lane (drop chosen.tried scenario.now.picks)) }
-        requires none { chosen ≡ None → none_can_in (C.scenario runtime.old) (C.state runtime.old) ≡ true }
-        requires goes_on { ended_now scenario.now (C.state runtime.old) ≡ None }
         requires entries { (C.state runtime.old).entries ≤ limit scenario.now }
         requires last { self.old.last ≤ lanes scenario.now }
         requires reached { Reached (C.scenario runtime.old) (C.state runtime.old) }
         requires row { map kind_of servants.old.items ≡ row }
         ensures scenario { C.scenario runtime.new ≡ scenario.now }
-        ensures turn { IfOk result (λ entry. IsTurn scenario.now (C.state runtime.old)
-            (drop self.old.tried scenario.now.picks) self.old.last
-            entry (C.state runtime.new) (drop self.new.tried scenario.now.picks) self.new.last) }
+        ensures turn { IfOk result (λ step. TurnsTo scenario.now (record {
+          state = C.state runtime.old;
+          picks = drop self.old.tried scenario.now.picks;
+          last = self.old.last;
+          steps = map stepped servants.old.items;
+        }) (record {
+          state = C.state runtime.new;
+          picks = drop self.new.tried scenario.now.picks;
+          last = self.new.last;
+          steps = map stepped servants.new.items;
+        }) (C.made runtime.new) step) }
         ensures last { self.new.last ≤ lanes scenario.now }
         ensures lines { self.new.lines ≡ self.old.lines }
         ensures row { map kind_of servants.new.items ≡ row }
-        ensures served { IfOk result (λ entry. map stepped servants.new.items
-            ≡ served_in scenario.now (C.state runtime.old) entry.lane (map stepped servants.old.items)) }
     {
+        let made = self.lane_turn(alloc, scenario, runtime, servants)?;
+        if made {
+            return Ok(Step::Made);
+        }
+        let standing = runtime.standing();
+        if let Some(ended) = end_of(scenario, runtime, standing) {
+            return Ok(Step::Over(ended));
+        }
         match standing {
-            Standing::Runs => match chosen {
-                Some(chosen) => self.lane_turn(alloc, scenario, runtime, chosen, servants),
-                None => unreachable!(),
-            },
-            Standing::Ticks => runtime.tick(),
+            Standing::Ticks => {
+                runtime.let_tick()?;
+                Ok(Step::Made)
+            }
+            Standing::Runs => unreachable!(),
             Standing::Finished => unreachable!(),
             Standing::Stuck => unreachable!(),
         }
     }
 
     /// Makes one turn of the schedule, and its line: the picks are tried first, each once, and then the lanes
-    /// behind the last one and from 1 on; the clock goes on where no lane can step. Where the history has
-    /// ended, nothing is done.
+    /// behind the last one and from 1 on; the clock goes on where no lane can step. The runtime lends the
+    /// turn's entry then. Where the history has ended, nothing is done.
     ///
     /// The runtime's state stands for a history of the scenario, which is formed; and it did not run out of
     /// memory in the middle of an entry. At Ok that is so again.
@@ -147,8 +155,8 @@ impl Stream {
     /// `WriteFault` comes only where the sink's count of faults rose in this call, and `Memory` is want of
     /// memory. After either the lines may be broken off: what was written is a prefix of what was kept and
     /// the turn's line.
-    #[tactic(auto, using(crate::proofs::Turning::step_over, crate::proofs::Turning::step_made, crate::proofs::Turning::step_failed, crate::proofs::Turning::step_began, com_runtime::proofs::Choices::same_turn, com_runtime::proofs::Resting::same_reached))]
-    pub fn step<C: Runtime, K: Sink>(
+    #[tactic(auto, using(crate::proofs::Turning::step_failed, com_runtime::proofs::Resting::same_reached))]
+    pub fn step<C: Tries, K: Sink>(
         &mut self,
         alloc: Global,
         scenario: &Scenario,
@@ -180,7 +188,7 @@ impl Stream {
           lines = self.new.lines;
           held = K.held sink.new;
           steps = map stepped servants.new.items;
-        }) step) }
+        }) (C.made runtime.new) step) }
         ensures prefix { OnErr result (Fails scenario.now (record {
           state = C.state runtime.old;
           picks = drop self.old.tried scenario.now.picks;
@@ -193,22 +201,22 @@ impl Stream {
             → Rose (K.faults_of sink.old) (K.faults_of sink.new) }
         ensures counts { K.faults_of sink.old ≤ K.faults_of sink.new }
     {
-        let chosen = choose(runtime, scenario.picks.as_slice(), self.tried, self.last);
-        let standing = stand(runtime, chosen);
-        if let Some(ended) = end_of(scenario, runtime, standing) {
-            return Ok(Step::Over(ended));
+        let step = self.turn(alloc, scenario, runtime, servants)?;
+        match step {
+            Step::Over(ended) => Ok(Step::Over(ended)),
+            Step::Made => {
+                let place = runtime.entries();
+                show(
+                    alloc,
+                    scenario.version,
+                    place,
+                    runtime.last(),
+                    &mut self.lines,
+                    sink,
+                )?;
+                Ok(Step::Made)
+            }
         }
-        let entry = self.turn(alloc, scenario, runtime, standing, chosen, servants)?;
-        let place = runtime.entries();
-        show(
-            alloc,
-            scenario.version,
-            place,
-            &entry,
-            &mut self.lines,
-            sink,
-        )?;
-        Ok(Step::Made(entry))
     }
 
     /// Writes the lines that are kept, and the report of a runtime whose history has ended so.

@@ -8,5 +8,5 @@ use Rattle.com_core.proofs.runtime.CoreJobs.job.Goals as goal
 
 pub returns-clause-shape : goal.returns-clause-shape
 returns-clause-shape c =
-    let v = c.args.self.now in
+    let v = c.args.self.now.core in
     IfOk-weaker c.job.result _ (λ (x : Job). HasShape x.frame) (λ x e. job-shape v.scenario (core_state v) c.args.lane x c.requires.reached e) c.job.ensures.job

@@ -1,13 +1,33 @@
+-- A turn is that of the lane that has it, or of the clock.
 use Rattle.std.proofs.Common.{sym, ◌∙◌}
-use Rattle.com_replay.proofs.Turning.{turn_of_tick, tick_serves}
+use Rattle.com_runtime.proofs.Choices.{not_runs}
+use Rattle.com_runtime.proofs.Limits.{not-some, not_finished, not_stuck}
+use Rattle.com_replay.proofs.Turning.{none_left, reached_left, room_left, turn_by_clock, turn_by_lane, turn_by_none, turn_over, within_left}
 use Rattle.com_replay.proofs.stream.Stream.turn.Goals as goal
 
-pub returns-in-Ticks-clause-turn : goal.returns-in-Ticks-clause-turn
-returns-in-Ticks-clause-turn g c =
-    turn_of_tick c.tick.result (g.C.Runtime.scenario c.args.runtime.now) c.args.scenario.now (g.C.Runtime.state c.args.runtime.now) (g.C.Runtime.state c.tick.new.self) _ _
-    c.requires.scenario c.requires.goes_on (sym c.in-Ticks.is ∙ c.requires.standing) c.tick.ensures.entry
+pub returns-then-made-clause-turn : goal.returns-then-made-clause-turn
+returns-then-made-clause-turn g c = turn_by_lane _ _ _ _ c.in_ok-made.made c.if-made.true c.in_ok-made.ensures.turn
 
-pub returns-in-Ticks-clause-served : goal.returns-in-Ticks-clause-served
-returns-in-Ticks-clause-served g c =
-    tick_serves c.tick.result (g.C.Runtime.scenario c.args.runtime.now) c.args.scenario.now (g.C.Runtime.state c.args.runtime.now) (g.C.Runtime.state c.tick.new.self) _
-    c.requires.scenario c.tick.ensures.entry
+pub standing-standing-requires : goal.standing-standing-requires
+standing-standing-requires g c =
+    let no = (turn_by_none c.args.scenario.now _ _ (g.C.Tries.made c.lane_turn.new.runtime) c.in_ok-made.made c.if-made.false c.in_ok-made.ensures.turn) in
+    reached_left _ _ c.args.scenario.now _ _ c.requires.scenario c.in_ok-made.ensures.scenario no c.requires.reached
+
+pub returns-in-Some-clause-turn : goal.returns-in-Some-clause-turn
+returns-in-Some-clause-turn g c = turn_over c.args.scenario.now _ _ c.in-Some.ended (turn_by_none c.args.scenario.now _ _ (g.C.Tries.made c.lane_turn.new.runtime) c.in_ok-made.made c.if-made.false c.in_ok-made.ensures.turn) (sym c.end_of.ensures ∙ c.in-Some.is)
+
+pub let_tick-requires-clause-reached : goal.let_tick-requires-clause-reached
+let_tick-requires-clause-reached g c =
+    let no = (turn_by_none c.args.scenario.now _ _ (g.C.Tries.made c.lane_turn.new.runtime) c.in_ok-made.made c.if-made.false c.in_ok-made.ensures.turn) in
+    reached_left _ _ c.args.scenario.now _ _ c.requires.scenario c.in_ok-made.ensures.scenario no c.requires.reached
+
+pub let_tick-requires-clause-room : goal.let_tick-requires-clause-room
+let_tick-requires-clause-room g c =
+    let no = (turn_by_none c.args.scenario.now _ _ (g.C.Tries.made c.lane_turn.new.runtime) c.in_ok-made.made c.if-made.false c.in_ok-made.ensures.turn) in
+    room_left _ c.args.scenario.now _ c.in_ok-made.ensures.scenario (sym c.end_of.ensures ∙ not-some c.end_of.result c.in_default.not-Some) (within_left c.args.scenario.now _ _ no c.requires.entries)
+
+pub returns-in-Ticks-clause-turn : goal.returns-in-Ticks-clause-turn
+returns-in-Ticks-clause-turn g c = ?
+
+pub unreachable-requires : goal.unreachable-requires
+unreachable-requires g c = ?
