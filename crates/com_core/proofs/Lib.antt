@@ -21,5 +21,6 @@ pub mod Kept
 pub mod Counted
 pub mod Served
 pub mod Worked
+pub mod Taken
 pub mod Quiet
 pub mod Tried

@@ -11,6 +11,7 @@ use Rattle.com_model.specs.declared.scenario.Scenario.{Scenario}
 use Rattle.com_model.specs.Books.{out_values}
 use Rattle.com_model.specs.Calls.{issues, lane_of}
 use Rattle.com_model.specs.Clock.{ticked}
+use Rattle.com_model.specs.Ends.{limit}
 use Rattle.com_model.specs.Frames.{Actor, Nobody}
 use Rattle.com_calls.specs.Waits.{next_wait}
 use Rattle.com_runtime.specs.declared.runtime.Standing.TheVariants as standing
@@ -21,11 +22,9 @@ use Rattle.com_model.specs.Rules.{lane_next}
 use Rattle.com_model.specs.Sight.{Sight}
 use Rattle.com_model.specs.State.{State, is_marshalled_by, next_of, openers_in, sight_of}
 use Rattle.com_model.specs.Tables.{lanes}
-use Rattle.com_laws_ranges.proofs.Fitting.{entry-fits}
 use Rattle.com_laws_ranges.proofs.Standing.{few}
 use Rattle.com_parts.specs.Tables.{PartTables}
 use Rattle.com_scene.specs.Actors.{acting_of}
-use Rattle.com_scene.specs.Ranges.{FitsDeed}
 use Rattle.com_state.specs.After.{actor_after, filtered_by}
 use Rattle.com_state.specs.Parts.{Issuing, LaneTables, issue_at, openers_at}
 use Rattle.com_view.specs.Reads.{Reads}
@@ -37,11 +36,12 @@ use Rattle.com_turns.proofs.Stands.{acting_stands, after_stands, filtered_stands
 use Rattle.com_refs_rows.specs.Books.{Held, books_held}
 use Rattle.com_core.specs.declared.running.Running.{Running}
 use Rattle.com_core.specs.Seen.{IsWhole, TurnsTo, core_state, kept_of}
-use Rattle.com_core.specs.Changes.{sent_by}
+use Rattle.com_core.specs.Changes.{Takes, sent_by}
 use Rattle.com_core.specs.Making.{Changed, IsCore, MakesNext}
 use Rattle.com_core.specs.Stands.{IsGiven, IsReached, IsSent, Stands, seen_by}
 use Rattle.com_core.proofs.Booking.{booked_later}
 use Rattle.com_core.proofs.Entries.{reads_state}
+use Rattle.com_core.proofs.Taken.{next_taken}
 
 abbrev issuing_by : Scenario → Sight → ℕ → Deed → Issuing
 issuing_by s v l d = record {
@@ -91,12 +91,6 @@ none_next s st p b fallen clock l r h n can none =
     both : (c : Bool) → c ≡ true → c ≡ false → ⊥
     both c e f = cc
 
--- The numbers of a turn's entry fit.
-pub turn_fits : (s : Scenario) (st : State) (p : PartTables) (b : Books) (fallen : List ℕ) (clock l : ℕ) (o : Option Outcome) (t : Turn) → IsReached s st → Stands st p b fallen clock
-    → IsNamed p.objects p.calls → 1 ≤ l → l ≤ lanes s → IsTurn (seen_by s p fallen clock) b l o t → FitsDeed t.doing.deed
-turn_fits s st p b fallen clock l o t r h n low high k =
-    entry-fits s st r.history l t.doing.deed r.formed r.stands (turn_next s st p b fallen clock l o t r h n low high k)
-
 -- With what its change rests on.
 pub turn_given : (s : Scenario) (st : State) (p : PartTables) (b : Books) (fallen : List ℕ) (clock l : ℕ) (o : Option Outcome) (t : Turn) (follows : Actor) (filtered : Bool)
     → IsReached s st → Stands st p b fallen clock → IsNamed p.objects p.calls → IsTurn (seen_by s p fallen clock) b l o t
@@ -113,6 +107,28 @@ turn_given s st p b fallen clock l o t follows filtered r h n k f g =
       filter = g ∙ filtered_stands w b st l t.doing.deed reads;
       sent = sent-turn w b st l t.doing.deed t.doing.issued reads k.issued;
     }
+
+few-enough : (p : PartTables) (st : State) (n : ℕ) → p.entries ≡ st.entries → p.entries < n → st.entries ≤ n
+few-enough p st n e h = omega (arith, e, h)
+
+-- The parts take a turn's entry.
+pub turn_taken : (s : Scenario) (st : State) (p : PartTables) (b : Books) (fallen : List ℕ) (clock l : ℕ) (o : Option Outcome) (t : Turn) → IsReached s st → Stands st p b fallen clock
+    → IsNamed p.objects p.calls → 1 ≤ l → l ≤ lanes s → p.entries < limit s → IsTurn (seen_by s p fallen clock) b l o t
+    → Takes p clock o (sent_by t.doing.issued) (record { lane = l; deed = t.doing.deed })
+turn_taken s st p b fallen clock l o t r h n low high room k =
+    let w : Seen = seen_by s p fallen clock in
+    let reads : Reads w b st = reads_state s st p b fallen clock r h n in
+    next_taken s st p b fallen clock l t.doing.deed o (sent_by t.doing.issued) r h (few-enough p st (limit s) h.entries room)
+    (turn_next s st p b fallen clock l o t r h n low high k)
+    (k.outcome ∙ step_stands w b st l t.doing.deed reads) (sent-turn w b st l t.doing.deed t.doing.issued reads k.issued)
+
+-- And the clock's, where the clock goes on.
+pub tick_taken : (s : Scenario) (st : State) (p : PartTables) (b : Books) (fallen : List ℕ) (clock t : ℕ) → IsReached s st → Stands st p b fallen clock → p.entries < limit s
+    → standing_of s st ≡ standing.Ticks → next_wait p.calls clock ≡ Some t → Takes p clock None None (record { lane = 0; deed = deed.Tick t })
+tick_taken s st p b fallen clock t r h room due e =
+    let given : IsGiven s st (record { lane = 0; deed = deed.Tick t }) Nobody None (actor_after s st (record { lane = 0; deed = deed.Tick t })) false None =
+    clock_given s st t (actor_after s st (record { lane = 0; deed = deed.Tick t })) r refl in
+    next_taken s st p b fallen clock 0 (deed.Tick t) None None r h (few-enough p st (limit s) h.entries room) (tick_next s st p b fallen clock t h due e) given.step given.sent
 
 -- Where a turn was made and all but the books has changed by it, that was the next entry of the state.
 pub next_made : (s : Scenario) (st : State) (p q : PartTables) (b : Books) (w u : Held) (entered more fallen later : List ℕ) (clock l : ℕ) (o : Option Outcome) (t : Turn)

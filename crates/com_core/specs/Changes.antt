@@ -1,15 +1,17 @@
 -- What an entry makes of the parts of a core, and of the list of the dying.
-use Rattle.std.specs.Prelude.{◌≡◌, ℕ, ◌+◌, Bool, List, Option, Some, None, filter, length}
+use Rattle.std.specs.Prelude.{◌≡◌, ℕ, ◌+◌, ◌<◌, ◌^◌, Bool, List, Option, Some, None, filter, length}
 use Rattle.com_body.specs.declared.frame.Outcome.{Outcome}
 use Rattle.com_calls.specs.declared.rows.Issued.{Issued}
 use Rattle.com_model.specs.declared.deeds.Deed.{Deed}
 use Rattle.com_model.specs.declared.deeds.Entry.{Entry}
+use Rattle.com_model.specs.Calls.{issues, object_of}
 use Rattle.com_model.specs.Dying.{fallen_more}
 use Rattle.com_model.specs.Frames.{Actor}
 use Rattle.com_model.specs.Objects.{finals}
 use Rattle.com_objects.specs.Settled.{DieBut, Falls}
 use Rattle.com_parts.specs.declared.change.Sent.{Sent}
 use Rattle.com_parts.specs.Changes.{issuing_of, moment_at}
+use Rattle.com_parts.specs.Fits.{Fits, HasIssued, IsWriting}
 use Rattle.com_parts.specs.Tables.{PartTables}
 use Rattle.com_state.specs.Parts.{ObjectTables, lanes_after, objects_after, calls_after, named_at}
 use Rattle.com_state.specs.SceneParts.{rows_after}
@@ -19,6 +21,14 @@ use Rattle.com_ledger.specs.Falling.{begins_by, other_object, placed_in}
 abbrev pub sent_by : Option Issued → Option Sent
 sent_by None = None
 sent_by (Some x) = Some (record { refusal = x.refusal; values = x.values })
+
+-- The parts take an entry, with the clock before it, the step of whoever makes it, and what the call has that
+-- it issues: there is what it names, and no number that it counts goes past its type.
+pub record Takes (p : PartTables) (clock : ℕ) (r : Option Outcome) (x : Option Sent) (e : Entry) : Type 0 where
+  pub fits : Fits p.lanes p.objects p.calls e.lane e.deed clock
+  pub writes : IsWriting r
+  pub sent : HasIssued e.deed x
+  pub target : named_at p.objects (object_of (issues e.lane e.deed)) + 1 < 2 ^ 32
 
 -- The parts after an entry: with who acts, the step of whoever does, who acts afterwards, whether the caller
 -- of the call that a Verdict names has a filter, what the call has that it issues, and the clock before it.

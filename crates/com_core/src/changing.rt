@@ -4,7 +4,7 @@ ghost use Rattle.std.specs.Prelude.{◌≡◌, ℕ, ◌+◌, ◌<◌, ◌≤◌,
 ghost use Rattle.std.specs.Prelude.{is_some, length, map, slice_index_or, vec_capacity};
 ghost use Rattle.com_base.specs.declared.value.RefValue.{RefValue};
 ghost use Rattle.com_calls.specs.Kept.{IsNamed};
-ghost use Rattle.com_core.specs.Changes.{Becomes, Settles, sent_by};
+ghost use Rattle.com_core.specs.Changes.{Becomes, Settles, Takes, sent_by};
 ghost use Rattle.com_core.specs.Making.{Booked, BookedBy, Brings, Changed};
 ghost use Rattle.com_core.specs.Quiet.{is_still};
 ghost use Rattle.com_core.specs.Seen.{IsAsBefore, IsWhole as IsWholeCore, TriesTo, TurnsTo};
@@ -21,7 +21,7 @@ ghost use Rattle.com_refs_rows.specs.Books.{books_held};
 ghost use Rattle.com_refs_rows.specs.Entries.{AllGiven, around, most_left, tally};
 ghost use Rattle.com_refs_rows.specs.Fits.{FitsBooks, most_gained};
 ghost use Rattle.com_model.specs.declared.scenario.Scenario.{Scenario};
-ghost use Rattle.com_model.specs.Calls.{lane_of};
+ghost use Rattle.com_model.specs.Calls.{issues, lane_of, object_of};
 ghost use Rattle.com_model.specs.Clock.{ticked};
 ghost use Rattle.com_model.specs.Ends.{limit};
 ghost use Rattle.com_model.specs.Lists.{number_or_zero};
@@ -30,13 +30,14 @@ ghost use Rattle.com_reference_moves.specs.declared.moves.Move.{Move};
 ghost use Rattle.com_reference_moves.specs.Steps.{IsWhole, moves_stepped, movings_of};
 ghost use Rattle.com_reference_moves.specs.Tables.{ground_at};
 ghost use Rattle.com_parts.specs.Begins.{IsBegun};
+ghost use Rattle.com_parts.specs.Fits.{Fits, HasIssued, IsWriting};
 ghost use Rattle.com_refs.specs.Counts.{holders_of};
 ghost use Rattle.com_scene.specs.Actors.{acting_of};
 ghost use Rattle.com_scene.specs.Kept.{HasSlots};
 ghost use Rattle.com_scene.specs.Ranges.{FitsDeed};
 ghost use Rattle.com_servant.specs.Rows.{one_served, row};
 ghost use Rattle.com_state.specs.After.{filtered_by};
-ghost use Rattle.com_state.specs.Parts.{issue_at, openers_at};
+ghost use Rattle.com_state.specs.Parts.{issue_at, named_at, openers_at};
 ghost use Rattle.com_turns.specs.Turns.{IsNext, IsTurn, actor_later, kind_seen};
 ghost use Rattle.com_view.specs.Seen.{filter_seen, home_seen, running_seen};
 
@@ -233,19 +234,23 @@ impl Running {
         Ok(())
     }
 
-    // Begins the change of the parts by an entry: takes all memory that they want for it. The step is only
-    // read. The only error is want of memory. Whatever is answered, the parts are as before but for room.
-    #[tactic(auto, using(crate::proofs::Whole::frame_fits, crate::proofs::Shown::parts_alike))]
+    // Begins the change of the parts by an entry that they take: takes all memory that they want for it. The
+    // only error is want of memory. Whatever is answered, the parts are as before but for room.
+    #[tactic(auto, using(crate::proofs::Shown::parts_alike))]
     fn begin_parts(
         &mut self,
         basis: Basis,
         acting: Actor,
-        outcome: &Option<Outcome>,
         issued: Option<Issued>,
         entry: &Entry,
     ) -> Result<Begun, Memory>
-        requires whole { IsWhole outcome.now }
-        ensures begun { IfOk result (λ begun. IsBegun self.new.parts (acting_of acting) outcome.now
+        requires fits { Fits self.old.parts.lanes self.old.parts.objects self.old.parts.calls
+            entry.now.lane entry.now.deed self.old.clock }
+        requires sent { HasIssued entry.now.deed (sent_by issued) }
+        requires target { named_at self.old.parts.objects (object_of (issues entry.now.lane entry.now.deed))
+            + 1 < 2 ^ 32 }
+        requires room { self.old.parts.entries < 1_000_000 }
+        ensures begun { IfOk result (λ begun. IsBegun self.new.parts (acting_of acting)
             (acting_of basis.after) entry.now.lane entry.now.deed begun) }
         ensures issued { IfOk result (λ begun. begun.calling.issued ≡ sent_by issued) }
         ensures has_filter { IfOk result (λ begun. begun.calling.has_filter ≡ basis.has_filter) }
@@ -267,7 +272,7 @@ impl Running {
             clock: self.clock,
             issued: sent_of(issued),
         };
-        self.parts.begin(change, outcome)
+        self.parts.begin(change)
     }
 
     // The parts after an entry by which their change was begun. It takes no memory.
@@ -283,7 +288,8 @@ impl Running {
         requires bodies { All HasSlots self.old.parts.scene.bodies }
         requires deed { FitsDeed entry.now.deed }
         requires whole { IsWhole outcome.old }
-        requires begun { IsBegun self.old.parts (acting_of acting) outcome.old (acting_of basis.after)
+        requires writes { IsWriting outcome.old }
+        requires begun { IsBegun self.old.parts (acting_of acting) (acting_of basis.after)
             entry.now.lane entry.now.deed begun }
         ensures becomes { Becomes self.old.parts self.new.parts entry.now (acting_of acting) outcome.old
             (acting_of basis.after) begun.calling.has_filter begun.calling.issued begun.calling.clock }
@@ -341,7 +347,8 @@ impl Running {
     ) -> Result<(), Memory>
         requires still { is_still self.old.parts self.old.ledger outcome.old entry.now.deed ≡ true }
         requires sound { Sound self.old.parts self.old.entered.counts }
-        requires deed { FitsDeed entry.now.deed }
+        requires room { self.old.parts.entries < 1_000_000 }
+        requires takes { Takes self.old.parts self.old.clock outcome.old (sent_by issued) entry.now }
         requires whole { IsWhole outcome.old }
         ensures becomes { OnOk result (Becomes self.old.parts self.new.parts entry.now
             (acting_of acting) outcome.old
@@ -362,7 +369,7 @@ impl Running {
         ensures err { OnErr result (IsAsBefore self.old self.new) }
         ensures step { OnErr result (outcome.new ≡ outcome.old) }
     {
-        let begun = self.begin_parts(basis, acting, outcome, issued, entry)?;
+        let begun = self.begin_parts(basis, acting, issued, entry)?;
         self.ledger.pass(&entry.deed)?;
         self.finish_parts(basis, acting, outcome, entry, begun);
         self.clock = clock_after(&entry.deed, self.clock);
@@ -388,7 +395,7 @@ impl Running {
         requires sound { Sound self.old.parts self.old.entered.counts }
         requires few { Few self.old.parts }
         requires room { self.old.parts.entries < 1_000_000 }
-        requires deed { FitsDeed entry.now.deed }
+        requires takes { Takes self.old.parts self.old.clock outcome.old (sent_by issued) entry.now }
         requires fits { FitsBooks scenario.now.classes carried.now (number_or_zero seat.running)
             (tally self.old.ledger.tables self.old.ledger.calls) entry.now.deed }
         requires brings { Brings scenario.now self.old.parts self.old.ledger entry.now
@@ -414,7 +421,7 @@ impl Running {
         ensures step { OnErr result (outcome.new ≡ outcome.old) }
     {
         self.prepare(seat.home, basis.after, acting, outcome, entry)?;
-        let begun = self.begin_parts(basis, acting, outcome, issued, entry)?;
+        let begun = self.begin_parts(basis, acting, issued, entry)?;
         self.book(scenario, seat, carried, entry)?;
         self.finish_parts(basis, acting, outcome, entry, begun);
         self.settle(&entry.deed, acting);
@@ -436,7 +443,7 @@ impl Running {
         requires few { Few self.old.parts }
         requires whole { IsWhole outcome.old }
         requires room { self.old.parts.entries < 1_000_000 }
-        requires deed { FitsDeed entry.now.deed }
+        requires takes { Takes self.old.parts self.old.clock outcome.old (sent_by issued) entry.now }
         requires fits { FitsBooks scenario.now.classes carried.now (number_or_zero (running_seen
             (seen_by scenario.now self.old.parts self.old.fallen.objects self.old.clock) entry.now.lane))
             (tally self.old.ledger.tables self.old.ledger.calls) entry.now.deed }

@@ -8,6 +8,7 @@ ghost use Rattle.com_refs_rows.specs.Books.{books_held};
 ghost use Rattle.com_ledger.specs.Ties.{IsNew};
 ghost use Rattle.com_model.specs.Ends.{state_of};
 ghost use Rattle.com_model.specs.Lists.{is_member};
+ghost use Rattle.com_model.specs.Tables.{lanes as all_lanes};
 
 use com_base::Memory;
 use com_body::Outcome;
@@ -53,9 +54,10 @@ pub fn forget(step: &mut Option<Outcome>)
 }
 
 impl Running {
-    /// All before the first entry. The only error is want of memory.
+    /// All before the first entry of a scenario, which has so many lanes. The only error is want of memory.
     #[tactic(auto, using(crate::proofs::Whole::new_whole, crate::proofs::Runs::none_run, crate::proofs::Runs::none_made))]
-    pub fn new(alloc: Global, scenario: &Scenario) -> Result<Running, Memory>
+    pub fn new(alloc: Global, scenario: &Scenario, lanes: u32) -> Result<Running, Memory>
+        requires { lanes ≡ all_lanes scenario.now }
         ensures sound { IfOk result (λ running. Sound running.parts running.entered.counts) }
         ensures stands { IfOk result (λ running.
             BeginsParts scenario.now running.parts running.fallen.objects) }
@@ -65,7 +67,7 @@ impl Running {
         ensures entries { IfOk result (λ running. running.parts.entries ≡ 0) }
         ensures clock { IfOk result (λ running. running.clock ≡ 0) }
     {
-        let parts = Parts::new(alloc, scenario)?;
+        let parts = Parts::new(alloc, scenario, lanes)?;
         let entered = no_bodies(alloc)?;
         Ok(Running {
             parts,

@@ -94,7 +94,7 @@ impl Core {
         let Some(count) = scenario.lanes() else {
             unreachable!()
         };
-        let running = Running::new(alloc, &scenario)?;
+        let running = Running::new(alloc, &scenario, count)?;
         Ok(Core {
             scenario,
             count,

@@ -1,6 +1,5 @@
 -- What the parts are where a change was begun.
-use Rattle.std.proofs.Common.{◌≡◌, ℕ, ◌<◌, ◌^◌, Option, sym, subst, length, is_none, ◌∙◌, ap}
-use Rattle.com_body.specs.declared.frame.Outcome.{Outcome}
+use Rattle.std.proofs.Common.{◌≡◌, ℕ, ◌<◌, ◌^◌, sym, subst, length, is_none, ◌∙◌, ap}
 use Rattle.com_calls.specs.Kept.{Kept, with_room}
 use Rattle.com_lanes.specs.Rooms.{LaneRows, HasSpace}
 use Rattle.com_model.specs.declared.deeds.Deed.{Deed}
@@ -15,7 +14,7 @@ use Rattle.com_scene.specs.Rooms.{SceneRows}
 use Rattle.com_state.specs.Parts.{LaneTables, ObjectTables, named_at, openers_at}
 use Rattle.com_parts.specs.declared.change.Begun.{Begun}
 use Rattle.com_parts.specs.Begins.{IsBegun}
-use Rattle.com_parts.specs.Fits.{Fits, HasIssued, HasPlace, IsWriting, left_in}
+use Rattle.com_parts.specs.Fits.{Fits, HasIssued, HasPlace, left_in}
 use Rattle.com_parts.specs.Tables.{PartTables, rooms_of}
 use Rattle.com_parts.specs.Whole.{IsWhole}
 use Rattle.com_parts.proofs.Wholes.{whole_roomy, same_homes}
@@ -32,16 +31,15 @@ fits-kept l l' o o' b b' lane clock r i d p q e f = subst (λ (x : LaneTables). 
 abbrev pub parts_of : LaneRows → ObjectRows → Kept → SceneRows → ℕ → PartTables
 parts_of k m b s n = record { lanes = k.tables; objects = m.tables; calls = b; scene = s.tables; entries = n; rooms = rooms_of k m s }
 
-pub begun_is : (k k' : LaneRows) (m m' : ObjectRows) (b b' : Kept) (s : SceneRows) (n lane r i : ℕ) (acting after : Acting) (step : Option Outcome) (d : Deed) (x : Begun)
+pub begun_is : (k k' : LaneRows) (m m' : ObjectRows) (b b' : Kept) (s : SceneRows) (n lane r i : ℕ) (acting after : Acting) (d : Deed) (x : Begun)
     → k'.tables ≡ k.tables → m'.tables ≡ m.tables → b' ≡ with_room b r i
-    → Fits k.tables m.tables b lane d x.calling.clock → IsWriting step → n < 2 ^ 28 → length b.apartments ≡ length b.tables.issues
+    → Fits k.tables m.tables b lane d x.calling.clock → n < 2 ^ 28 → length b.apartments ≡ length b.tables.issues
     → HasSpace k' lane d → HasRowFor m' d → HasPlace d x.calling.apartment b' → IsPrepared acting after d s.room s.taken → HasIssued d x.calling.issued → x.calling.value ≡ left_in d
     → NamesOwners (named_at m.tables) (ends_sta d) x.owners.items
     → x.calling.apartment ≡ named_at m.tables (object_of (issues lane d)) → x.calling.is_outermost ≡ is_none (running_call (openers_at k'.tables lane))
-    → IsBegun (parts_of k' m' b' s n) acting step after lane d x
-begun_is k k' m m' b b' s n lane r i acting after step d x p q e fits writes few homes space row place ready issued value owners home outer = record {
+    → IsBegun (parts_of k' m' b' s n) acting after lane d x
+begun_is k k' m m' b b' s n lane r i acting after d x p q e fits few homes space row place ready issued value owners home outer = record {
   fits = fits-kept k.tables k'.tables m.tables m'.tables b b' lane x.calling.clock r i d p q e fits;
-  writes = writes;
   few = few;
   homes = same_homes b b' r i e homes;
   lanes = space;

@@ -1,8 +1,9 @@
 //! What an entry makes of the parts.
-ghost use Rattle.std.specs.Prelude.{◌≡◌, ◌+◌, ◌<◌, ◌^◌, length, is_none, IsTrue, IfOk, OnOk};
+ghost use Rattle.std.specs.Prelude.{◌≡◌, ◌+◌, ◌<◌, ◌^◌, length, is_none, IfOk, OnOk};
 ghost use Rattle.com_calls.specs.Kept.{with_room};
 ghost use Rattle.com_lanes.specs.Changes.{NamesStas, HasRoom};
 ghost use Rattle.com_lanes.specs.Rooms.{HasSpace};
+ghost use Rattle.com_model.specs.Calls.{issues, object_of};
 ghost use Rattle.com_model.specs.Objects.{finals};
 ghost use Rattle.com_model.specs.Openers.{running_call};
 ghost use Rattle.com_objects.specs.Kept.{IsMade};
@@ -15,8 +16,7 @@ ghost use Rattle.com_parts.specs.Changes.{FitsFrame, IsSame, issuing_of, moment_
 ghost use Rattle.com_parts.specs.Fits.{Fits, HasIssued, HasPlace, IsWriting};
 
 use crate::change::{Begun, Calling, Change};
-use crate::fits::{fits, is_writing};
-use crate::issue::{change_calls, has_issued, left_value, make_room, target_of};
+use crate::issue::{change_calls, left_value, make_room, target_of};
 use crate::owners::owners_for;
 use crate::parts::Parts;
 use com_base::Memory;
@@ -26,15 +26,6 @@ use com_lanes::Lanes;
 use com_model::Deed;
 use com_objects::Objects;
 use com_scene::Actor;
-
-// The most entries that change the parts, far above the limit of entries of a scenario.
-const MOST_ENTRIES: u32 = 0x1000_0000;
-
-// The answer where an entry is none that the rules give: one that names a call, an object or an apartment
-// that there is not, or a number beyond its range. That no core asks for one is not proved here.
-fn unproved_fact() -> Memory {
-    Memory
-}
 
 // Makes room for all rows that an entry brings, where a call that it issues goes to an object of this
 // apartment. The only error is want of memory.
@@ -46,7 +37,8 @@ fn reserve(
     deed: &Deed,
     apartment: u32,
 ) -> Result<(), Memory>
-    requires { length calls.old.tables.issues + 1 < 2 ^ 32 }
+    requires calls { length calls.old.tables.issues + 1 < 2 ^ 32 }
+    requires apartment { apartment + 1 < 2 ^ 32 }
     ensures lanes { lanes.new.tables ≡ lanes.old.tables }
     ensures objects { objects.new.tables ≡ objects.old.tables }
     ensures calls { calls.new ≡ with_room calls.old calls.new.room calls.new.inboxes }
@@ -88,52 +80,31 @@ fn is_outermost(lanes: &Lanes, lane: u32) -> bool
 
 #[tactic(auto, using(crate::proofs::Starts::whole_kept, crate::proofs::Counts::has_room))]
 impl Parts {
-    // Whether the parts take an entry.
-    fn takes(&self, change: &Change<'_>, outcome: &Option<Outcome>) -> bool
-        ensures fits { IsTrue result → Fits self.now.lanes self.now.objects self.now.calls
-            change.now.lane change.now.deed.now change.now.clock }
-        ensures writes { IsTrue result → IsWriting outcome.now }
-        ensures issued { IsTrue result → HasIssued change.now.deed.now change.now.issued }
-        ensures few { IsTrue result → self.now.entries < 2 ^ 28 }
-        ensures all { Fits self.now.lanes self.now.objects self.now.calls
-            change.now.lane change.now.deed.now change.now.clock → IsWriting outcome.now
-            → HasIssued change.now.deed.now change.now.issued → self.now.entries < 2 ^ 28
-            → IsTrue result }
-        ensures homes { length self.now.calls.apartments ≡ length self.now.calls.tables.issues }
+    // The calls have an apartment each.
+    fn homes(&self)
+        ensures { length self.now.calls.apartments ≡ length self.now.calls.tables.issues }
     {
         let _calls = self.calls.len();
-        if self.entries >= MOST_ENTRIES || !is_writing(outcome) {
-            return false;
-        }
-        if !has_issued(change.deed, &change.issued) {
-            return false;
-        }
-        fits(
-            &self.lanes,
-            &self.objects,
-            &self.calls,
-            change.lane,
-            change.deed,
-            change.clock,
-        )
     }
 
-    /// Begins a change by an entry: takes all memory that the entry needs. `outcome` has the step of whoever
-    /// makes the entry by one; it is only read. The only error is want of memory. Whatever is answered, the
-    /// parts stay as they are, but for room.
-    pub fn begin(&mut self, change: Change<'_>, outcome: &Option<Outcome>) -> Result<Begun, Memory>
-        requires frame { FitsFrame (acting_of change.acting) outcome.now }
+    /// Begins a change by an entry that the parts take: takes all memory that the entry needs. The only error
+    /// is want of memory. Whatever is answered, the parts stay as they are, but for room.
+    pub fn begin(&mut self, change: Change<'_>) -> Result<Begun, Memory>
+        requires fits { Fits self.old.lanes self.old.objects self.old.calls change.lane change.deed.now
+            change.clock }
+        requires issued { HasIssued change.deed.now change.issued }
+        requires target { named_at self.old.objects (object_of (issues change.lane change.deed.now)) + 1
+            < 2 ^ 32 }
+        requires few { self.old.entries < 2 ^ 28 }
         ensures same { IsSame self.old self.new }
         ensures scene { self.new.scene ≡ self.old.scene }
-        ensures begun { IfOk result (λ begun. IsBegun self.new (acting_of change.entry.acting) outcome.now
+        ensures begun { IfOk result (λ begun. IsBegun self.new (acting_of change.entry.acting)
             (acting_of change.entry.after) change.entry.lane change.entry.deed.now begun) }
         ensures issued { IfOk result (λ begun. begun.calling.issued ≡ change.entry.issued) }
         ensures has_filter { IfOk result (λ begun. begun.calling.has_filter ≡ change.entry.has_filter) }
         ensures clock { IfOk result (λ begun. begun.calling.clock ≡ change.entry.clock) }
     {
-        if !self.takes(&change, outcome) {
-            return Err(unproved_fact());
-        }
+        self.homes();
         let Change {
             lane,
             deed,
@@ -167,8 +138,8 @@ impl Parts {
     }
 
     /// Finishes a change that was begun by the entry: the lanes, the objects, the calls and the scene after
-    /// it. It takes no memory, and cannot fail. `acting`, `after` and `outcome` are those with which it was
-    /// begun; what is left of the step has no use any more.
+    /// it. It takes no memory, and cannot fail. `acting` and `after` are those with which it was begun, and
+    /// `outcome` has the step of whoever makes the entry by one; what is left of the step has no use any more.
     pub fn finish(
         &mut self,
         lane: u32,
@@ -179,8 +150,8 @@ impl Parts {
         begun: Begun,
     )
         requires frame { FitsFrame (acting_of acting) outcome.old }
-        requires begun { IsBegun self.old (acting_of acting) outcome.old (acting_of after) lane deed.now
-            begun }
+        requires writes { IsWriting outcome.old }
+        requires begun { IsBegun self.old (acting_of acting) (acting_of after) lane deed.now begun }
         ensures lanes { self.new.lanes
             ≡ lanes_after self.old.lanes (record { lane = lane; deed = deed.now }) }
         ensures objects { self.new.objects

@@ -1,5 +1,5 @@
 //! What the calls make of an entry.
-ghost use Rattle.std.specs.Prelude.{◌≡◌, ◌+◌, ◌<◌, ◌^◌, ◌↔◌, ℕ, Bool, List, Option, IsTrue, IsSome, is_some};
+ghost use Rattle.std.specs.Prelude.{◌≡◌, ◌+◌, ◌<◌, ◌^◌, ℕ, Bool, List, Option, IsSome, is_some};
 ghost use Rattle.std.specs.Prelude.{IfOk, OnOk, length};
 ghost use Rattle.com_calls.specs.Kept.{IsNamed, with_call, with_room, with_tables};
 ghost use Rattle.com_calls.specs.Steps.{delay_of, out_entry};
@@ -28,35 +28,14 @@ pub(crate) fn target_of(objects: &Objects, deed: &Deed) -> u32
 // Room for the call that an entry issues, to an object of this apartment. The only error is want of memory,
 // and then nothing has changed.
 pub(crate) fn make_room(calls: &mut Calls, deed: &Deed, apartment: u32) -> Result<(), Memory>
-    requires { length calls.old.tables.issues + 1 < 2 ^ 32 }
+    requires calls { length calls.old.tables.issues + 1 < 2 ^ 32 }
+    requires apartment { apartment + 1 < 2 ^ 32 }
     ensures kept { calls.new ≡ with_room calls.old calls.new.room calls.new.inboxes }
     ensures place { OnOk result (HasPlace deed.now apartment calls.new) }
 {
     match deed {
-        Deed::Out { .. } => room_for(calls, apartment),
+        Deed::Out { .. } => calls.reserve(apartment),
         _ => Ok(()),
-    }
-}
-
-fn room_for(calls: &mut Calls, apartment: u32) -> Result<(), Memory>
-    requires { length calls.old.tables.issues + 1 < 2 ^ 32 }
-    ensures kept { calls.new ≡ with_room calls.old calls.new.room calls.new.inboxes }
-    ensures room { OnOk result (length calls.new.tables.issues < calls.new.room) }
-    ensures inbox { OnOk result (apartment < calls.new.inboxes) }
-{
-    if apartment == u32::MAX {
-        return Err(Memory);
-    }
-    calls.reserve(apartment)
-}
-
-// Whether an Out comes with what it issues.
-pub(crate) fn has_issued(deed: &Deed, issued: &Option<Sent>) -> bool
-    ensures { IsTrue result ↔ HasIssued deed.now issued.now }
-{
-    match deed {
-        Deed::Out { .. } => issued.is_some(),
-        _ => true,
     }
 }
 

@@ -7,7 +7,6 @@
 
 mod apply;
 mod change;
-mod fits;
 mod issue;
 mod owners;
 mod parts;

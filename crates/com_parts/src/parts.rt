@@ -2,7 +2,7 @@
 ghost use Rattle.std.specs.Prelude.{◌≡◌, IfOk, []};
 ghost use Rattle.com_calls.specs.Kept.{IsNamed, no_tables};
 ghost use Rattle.com_lanes.specs.First.{first_lanes};
-ghost use Rattle.com_model.specs.Tables.{lanes, threads};
+ghost use Rattle.com_model.specs.Tables.{lanes as all_lanes, threads};
 ghost use Rattle.com_scene.specs.Scenes.{new_scene};
 
 use com_base::Memory;
@@ -45,17 +45,16 @@ impl Model for Parts {
 
 impl Parts {
     #[tactic(auto, using(crate::proofs::Wholes::whole_new))]
-    /// The parts before the first entry of a scenario. The only error is want of memory.
-    pub fn new(alloc: Global, scenario: &Scenario) -> Result<Parts, Memory>
-        ensures lanes { IfOk result (λ parts. parts.lanes ≡ first_lanes (lanes scenario.now)) }
+    /// The parts before the first entry of a scenario, which has so many lanes. The only error is want of
+    /// memory.
+    pub fn new(alloc: Global, scenario: &Scenario, lanes: u32) -> Result<Parts, Memory>
+        requires { lanes ≡ all_lanes scenario.now }
+        ensures lanes { IfOk result (λ parts. parts.lanes ≡ first_lanes (all_lanes scenario.now)) }
         ensures objects { IfOk result (λ parts. parts.objects ≡ record { makings = []; finaled = [] }) }
         ensures calls { IfOk result (λ parts. parts.calls.tables ≡ no_tables) }
         ensures scene { IfOk result (λ parts. parts.scene ≡ new_scene (threads scenario.now)) }
         ensures entries { IfOk result (λ parts. parts.entries ≡ 0) }
     {
-        let Some(lanes) = scenario.lanes() else {
-            return Err(Memory);
-        };
         let threads = scenario.threads.len() as u32;
         Ok(Parts {
             lanes: Lanes::new(alloc, lanes)?,

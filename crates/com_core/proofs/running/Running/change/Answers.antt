@@ -1,11 +1,14 @@
 -- What holds of a core after an entry.
-use Rattle.std.proofs.Common.{◌≡◌, ◌≤◌, ℕ, List, All, ap, arith, length, vec_capacity, ◌∙◌, subst, sym}
+use Rattle.std.proofs.Common.{◌≡◌, ◌≤◌, ℕ, ◌+◌, ◌<◌, ◌^◌, List, All, ap, arith, length, vec_capacity, ◌∙◌, subst, sym}
 use Rattle.com_ledger.specs.Most.{Most}
+use Rattle.com_model.specs.Calls.{issues, object_of}
 use Rattle.com_model.specs.Lists.{number_or_zero}
 use Rattle.com_reference_moves.specs.Steps.{moves_stepped}
 use Rattle.com_reference_moves.specs.Tables.{ground_at}
 use Rattle.com_objects.specs.Lists.{BodyCounts, DyingList}
+use Rattle.com_parts.specs.Fits.{Fits}
 use Rattle.com_parts.specs.Tables.{PartTables}
+use Rattle.com_state.specs.Parts.{named_at}
 use Rattle.com_laws_places.specs.Moves.{Moves}
 use Rattle.com_refs.specs.Counts.{holders_of}
 use Rattle.com_scene.specs.Actors.{acting_of}
@@ -19,6 +22,38 @@ use Rattle.com_core.specs.Shown.{parts_shown}
 use Rattle.com_core.proofs.Made.{becomes_finished}
 use Rattle.com_core.proofs.Runs.{few_run}
 use Rattle.com_core.proofs.running.Running.change.Goals as goal
+
+-- ---- the parts take the entry
+
+pub prepare-requires-clause-deed : goal.prepare-requires-clause-deed
+prepare-requires-clause-deed c = c.requires.takes.fits.deed
+
+pub book-requires-clause-deed : goal.book-requires-clause-deed
+book-requires-clause-deed c = c.requires.takes.fits.deed
+
+pub finish_parts-requires-clause-deed : goal.finish_parts-requires-clause-deed
+finish_parts-requires-clause-deed c = c.requires.takes.fits.deed
+
+pub finish_parts-requires-clause-writes : goal.finish_parts-requires-clause-writes
+finish_parts-requires-clause-writes c = c.requires.takes.writes
+
+pub begin_parts-requires-clause-sent : goal.begin_parts-requires-clause-sent
+begin_parts-requires-clause-sent c = c.requires.takes.sent
+
+pub begin_parts-requires-clause-fits : goal.begin_parts-requires-clause-fits
+begin_parts-requires-clause-fits c =
+    let v = c.args.self.now in
+    let e = c.args.entry.now in
+    subst (λ (p : PartTables). Fits p.lanes p.objects p.calls e.lane e.deed c.prepare.new.self.clock) (sym c.prepare.ensures.parts)
+    (subst (λ (k : ℕ). Fits v.parts.lanes v.parts.objects v.parts.calls e.lane e.deed k) (sym c.prepare.ensures.clock) c.requires.takes.fits)
+
+pub begin_parts-requires-clause-target : goal.begin_parts-requires-clause-target
+begin_parts-requires-clause-target c =
+    let e = c.args.entry.now in
+    subst (λ (p : PartTables). named_at p.objects (object_of (issues e.lane e.deed)) + 1 < 2 ^ 32) (sym c.prepare.ensures.parts) c.requires.takes.target
+
+pub begin_parts-requires-clause-room : goal.begin_parts-requires-clause-room
+begin_parts-requires-clause-room c = subst (λ (p : PartTables). p.entries < 1_000_000) (sym c.prepare.ensures.parts) c.requires.room
 
 -- ---- the parts
 

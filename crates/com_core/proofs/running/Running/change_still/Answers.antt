@@ -1,5 +1,5 @@
 -- What holds of a core after an entry that moves no reference, has no row in the books, and begins and ends no body.
-use Rattle.std.proofs.Common.{◌≡◌, List, [], All, ap, ◌∙◌, subst, sym}
+use Rattle.std.proofs.Common.{◌≡◌, ℕ, List, [], Option, All, ap, ◌∙◌, subst, sym}
 use Rattle.com_ledger.specs.Quiet.{LeavesBooks, calls_passed}
 use Rattle.com_model.specs.Lists.{number_or_zero}
 use Rattle.com_laws_places.specs.Moves.{Moves}
@@ -19,6 +19,23 @@ use Rattle.com_core.specs.Quiet.{Still}
 use Rattle.com_core.proofs.Made.{becomes_finished}
 use Rattle.com_core.proofs.Quiet.{still_booked, still_entry, still_most, still_settles}
 use Rattle.com_core.proofs.running.Running.change_still.Goals as goal
+
+-- ---- the parts take the entry
+
+pub begin_parts-requires-clause-fits : goal.begin_parts-requires-clause-fits
+begin_parts-requires-clause-fits c = c.requires.takes.fits
+
+pub begin_parts-requires-clause-sent : goal.begin_parts-requires-clause-sent
+begin_parts-requires-clause-sent c = c.requires.takes.sent
+
+pub begin_parts-requires-clause-target : goal.begin_parts-requires-clause-target
+begin_parts-requires-clause-target c = c.requires.takes.target
+
+pub finish_parts-requires-clause-deed : goal.finish_parts-requires-clause-deed
+finish_parts-requires-clause-deed c = c.requires.takes.fits.deed
+
+pub finish_parts-requires-clause-writes : goal.finish_parts-requires-clause-writes
+finish_parts-requires-clause-writes c = c.requires.takes.writes
 
 -- ---- the parts
 

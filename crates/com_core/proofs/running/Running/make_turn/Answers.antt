@@ -12,7 +12,7 @@ use Rattle.com_view.specs.Seen.{running_seen}
 use Rattle.com_core.specs.Changes.{sent_by}
 use Rattle.com_core.specs.Making.{Changed}
 use Rattle.com_core.specs.Stands.{seen_by, state_read}
-use Rattle.com_core.proofs.Turned.{turn_fits, turn_made}
+use Rattle.com_core.proofs.Turned.{turn_made, turn_taken}
 use Rattle.com_core.proofs.running.Running.make_turn.Goals as goal
 
 pub make-requires-clause-fits : goal.make-requires-clause-fits
@@ -33,13 +33,13 @@ make-requires-clause-brings c =
     turn_brings s (state_read s v.parts b v.fallen.objects v.clock) v.parts v.fallen.objects v.clock c.args.lane c.args.outcome.now c.args.made v.ledger
     c.requires.core.reached c.requires.core.stands c.requires.named c.requires.above c.requires.below c.requires.turn c.requires.ties
 
-pub make-requires-clause-deed : goal.make-requires-clause-deed
-make-requires-clause-deed c =
+pub make-requires-clause-takes : goal.make-requires-clause-takes
+make-requires-clause-takes c =
     let s = c.args.scenario.now in
     let v = c.args.self.now in
     let b = books_held v.ledger in
-    turn_fits s (state_read s v.parts b v.fallen.objects v.clock) v.parts b v.fallen.objects v.clock c.args.lane c.args.outcome.now c.args.made
-    c.requires.core.reached c.requires.core.stands c.requires.named c.requires.above c.requires.below c.requires.turn
+    turn_taken s (state_read s v.parts b v.fallen.objects v.clock) v.parts b v.fallen.objects v.clock c.args.lane c.args.outcome.now c.args.made
+    c.requires.core.reached c.requires.core.stands c.requires.named c.requires.above c.requires.below c.requires.room c.requires.turn
 
 pub returns-clause-next : goal.returns-clause-next
 returns-clause-next c =

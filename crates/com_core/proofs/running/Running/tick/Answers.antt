@@ -7,7 +7,7 @@ use Rattle.com_refs_rows.specs.Books.{books_held}
 use Rattle.com_core.specs.Stands.{state_read}
 use Rattle.com_core.proofs.Ticking.{time_waits}
 use Rattle.com_core.proofs.Fits.{brings_tick, fits_tick}
-use Rattle.com_core.proofs.Turned.{clock_made}
+use Rattle.com_core.proofs.Turned.{clock_made, tick_taken}
 use Rattle.com_model.specs.Frames.{Nobody}
 use Rattle.com_core.proofs.running.Running.tick.Goals as goal
 
@@ -27,6 +27,15 @@ make-requires-clause-fits c =
 
 pub make-requires-clause-brings : goal.make-requires-clause-brings
 make-requires-clause-brings c = brings_tick c.args.scenario.now c.args.self.now.parts c.args.self.now.ledger 0 c.in-Some.clock Nobody
+
+pub make-requires-clause-takes : goal.make-requires-clause-takes
+make-requires-clause-takes c =
+    let s = c.args.scenario.now in
+    let v = c.args.self.now in
+    let b = books_held v.ledger in
+    let time : next_wait v.parts.calls v.clock ≡ Some c.in-Some.clock = ap (λ (k : Kept). next_wait k v.clock) (sym c.calls.ensures.value) ∙ sym c.next_time.ensures ∙ c.in-Some.is in
+    tick_taken s (state_read s v.parts b v.fallen.objects v.clock) v.parts b v.fallen.objects v.clock c.in-Some.clock
+    c.requires.core.reached c.requires.core.stands c.requires.room c.requires.due time
 
 pub returns-clause-next : goal.returns-clause-next
 returns-clause-next c =
