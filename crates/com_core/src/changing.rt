@@ -1,6 +1,6 @@
 //! The change of a core by an entry.
 
-ghost use Rattle.std.specs.Prelude.{◌≡◌, ℕ, ◌+◌, ◌<◌, ◌≤◌, ◌^◌, All, IfOk, List, OnErr, OnOk, Option};
+ghost use Rattle.std.specs.Prelude.{◌≡◌, ℕ, ◌+◌, ◌<◌, ◌≤◌, ◌^◌, All, IfOk, List, OnErr, OnOk, Option, true};
 ghost use Rattle.std.specs.Prelude.{is_some, length, map, slice_index_or, vec_capacity};
 ghost use Rattle.com_base.specs.declared.value.RefValue.{RefValue};
 ghost use Rattle.com_calls.specs.Kept.{IsNamed};
