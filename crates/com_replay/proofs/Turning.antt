@@ -14,14 +14,17 @@ use Rattle.com_model.specs.Tables.{lanes}
 use Rattle.com_model.specs.Text.{line_text}
 use Rattle.com_model.proofs.Sights.{same-next}
 use Rattle.com_runtime.proofs.Runs.{stands-later}
+use Rattle.com_runtime.specs.declared.runtime.Standing.{Standing}
 use Rattle.com_runtime.specs.declared.runtime.Standing.TheVariants as standing
 use Rattle.com_runtime.specs.Standings.{standing_of, ended_now, none_can_in, Reached}
 use Rattle.com_runtime.specs.declared.schedule.Chosen.{Chosen}
 use Rattle.com_schedule.specs.Tried.{NoTurn, TakesTurn, TurnTried}
 use Rattle.com_runtime.specs.Turns.{IsNext, IsTurn, GoesOn, next_line, served_in}
-use Rattle.com_replay.specs.Steps.{Moment, Place, IsMade, IsOver, Fails, HasEnded, HasNoTurn, IsLaneTurn, IsTurned}
-use Rattle.com_runtime.proofs.Choices.{turn_ticks}
-use Rattle.com_runtime.proofs.Limits.{below_limit, one_entry}
+use Rattle.com_replay.specs.declared.stream.Step.{Step}
+use Rattle.com_replay.specs.declared.stream.Step.TheVariants.{Made, Over}
+use Rattle.com_replay.specs.Steps.{Moment, Place, StepsTo, TurnsTo, IsMade, IsOver, Fails, HasEnded, HasNoTurn, IsLaneTurn, IsTurned}
+use Rattle.com_runtime.proofs.Choices.{not_runs, turn_ticks}
+use Rattle.com_runtime.proofs.Limits.{below_limit, not_finished, not_stuck, one_entry}
 
 last-same : (l last : ℕ) → l ≡ 0 → last ≡ last_after l last
 last-same zero last e = refl
@@ -173,3 +176,58 @@ step_began_at r s st new picks picks_new last last_new place lines kept old held
     on-err r _
     (step_began s (record { state = st; picks = picks; last = last; lines = lines; held = old; steps = steps }) held new picks_new last_new place e t p
     (subst (λ (x : List ℕ). GainsPrefix old held (x ++ line_text s.version place e)) k g))
+
+-- ---- where no lane had the turn, and the history has not ended
+
+by-standing : (s : Scenario) (st : State) (x : Standing) → x ≡ standing_of s st → ended_now s st ≡ None → none_can_in s st ≡ true → standing.Ticks ≡ standing_of s st
+by-standing s st standing.Runs is e n = absurd (not_runs s st is n)
+by-standing s st standing.Ticks is e n = is
+by-standing s st standing.Finished is e n = absurd (not_finished s st is e)
+by-standing s st standing.Stuck is e n = absurd (not_stuck s st is e)
+
+clock-due : (s : Scenario) (p q : Place) → HasNoTurn s p q → ended_now s q.state ≡ None → p.state.entries ≤ limit s → standing.Ticks ≡ standing_of s q.state
+clock-due s p q h e n = by-standing s q.state (standing_of s q.state) refl e (none_left s p q h e (within_left s p q h n))
+
+pub tick_due : (w s : Scenario) (p q : Place) → HasNoTurn s p q → w ≡ s → ended_now s q.state ≡ None → p.state.entries ≤ limit s → standing_of w q.state ≡ standing.Ticks
+tick_due w s p q h is e n = subst (λ (k : Scenario). standing_of k q.state ≡ standing.Ticks) (sym is) (sym (clock-due s p q h e n))
+
+pub tick_room : (w s : Scenario) (p q : Place) → HasNoTurn s p q → w ≡ s → ended_now s q.state ≡ None → p.state.entries ≤ limit s → q.state.entries < limit w
+tick_room w s p q h is e n = room_left w s q is e (within_left s p q h n)
+
+pub tick_turned : (w s : Scenario) (p q : Place) (new : State) (e : Entry) → HasNoTurn s p q → w ≡ s → ended_now s q.state ≡ None → p.state.entries ≤ limit s → IsNext w q.state 0 e new → IsTurned s p (place new q.picks q.last q.steps) e
+tick_turned w s p q new e h is goes n next = turn_by_clock w s p q new e is h goes (clock-due s p q h goes n) next
+
+-- ---- a step, by the turn that it makes
+
+turned-made : (s : Scenario) (p q : Place) (e : Entry) (x : Step) → x ≡ Made → TurnsTo s p q e x → IsTurned s p q e
+turned-made s p q e x is t = subst (λ (y : Step). TurnsTo s p q e y) is t
+
+turned-over : (s : Scenario) (p q : Place) (e : Entry) (x : Step) (y : Ended) → x ≡ Over y → TurnsTo s p q e x → HasEnded s p q y
+turned-over s p q e x y is t = subst (λ (z : Step). TurnsTo s p q e z) is t
+
+pub over_at : (s : Scenario) (p q : Place) (e : Entry) (x : Step) (y : Ended) (lines kept : List ℕ) (held : Option (List ℕ)) → TurnsTo s p q e x → x ≡ Over y → kept ≡ lines → IsOver s (moment p lines held) (moment q kept held) y
+over_at s p q e x y lines kept held t is k = step_over_at s p q lines kept held y (turned-over s p q e x y is t) k
+
+pub over_within : (s : Scenario) (p q : Place) (e : Entry) (x : Step) (y : Ended) → TurnsTo s p q e x → x ≡ Over y → p.state.entries ≤ limit s → q.state.entries ≤ limit s
+over_within s p q e x y t is w = subst (λ (z : Place). z.state.entries ≤ limit s) (sym (turned-over s p q e x y is t).same) w
+
+pub over_reached : (s : Scenario) (p q : Place) (e : Entry) (x : Step) (y : Ended) → TurnsTo s p q e x → x ≡ Over y → Reached s p.state → Reached s q.state
+over_reached s p q e x y t is r = subst (λ (z : Place). Reached s z.state) (sym (turned-over s p q e x y is t).same) r
+
+pub made_within : (s : Scenario) (p q : Place) (e : Entry) (x : Step) → TurnsTo s p q e x → x ≡ Made → p.state.entries ≤ limit s → q.state.entries ≤ limit s
+made_within s p q e x t is w = within_turn s p.state q.state p.picks q.picks p.last q.last e w (turned-made s p q e x is t).turn
+
+pub made_reached : (s : Scenario) (p q : Place) (e : Entry) (x : Step) → TurnsTo s p q e x → x ≡ Made → Reached s p.state → Reached s q.state
+made_reached s p q e x t is r = reached_turn s p.state q.state p.picks q.picks p.last q.last e r (turned-made s p q e x is t).turn
+
+pub made_at : (s : Scenario) (p q : Place) (e l : Entry) (x : Step) (place : ℕ) (lines kept lines_new : List ℕ) (held held_new : Option (List ℕ)) → TurnsTo s p q e x → x ≡ Made → l ≡ e → kept ≡ lines → place ≡ q.state.entries → GoesOn held held_new kept lines_new (line_text s.version place l) → IsMade s (moment p lines held) (moment q lines_new held_new) e
+made_at s p q e l x place lines kept lines_new held held_new t is same k n g =
+    let m : IsTurned s p q e = turned-made s p q e x is t in
+    step_made_at s p.state q.state p.picks q.picks p.last q.last place lines lines_new kept held held_new p.steps q.steps e k m.turn n
+    (subst (λ (y : Entry). GoesOn held held_new kept lines_new (line_text s.version place y)) same g) m.steps
+
+pub began_at : {A E : Type 0} (r : Result A E) (s : Scenario) (p q : Place) (e l : Entry) (x : Step) (place : ℕ) (lines kept : List ℕ) (old held : Option (List ℕ)) → TurnsTo s p q e x → x ≡ Made → l ≡ e → kept ≡ lines → place ≡ q.state.entries → GainsPrefix old held (kept ++ line_text s.version place l) → OnErr r (Fails s (moment p lines old) held)
+began_at r s p q e l x place lines kept old held t is same k n g =
+    let m : IsTurned s p q e = turned-made s p q e x is t in
+    step_began_at r s p.state q.state p.picks q.picks p.last q.last place lines kept old held p.steps e k m.turn n
+    (subst (λ (y : Entry). GainsPrefix old held (kept ++ line_text s.version place y)) same g)

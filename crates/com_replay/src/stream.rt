@@ -134,15 +134,8 @@ impl Stream {
         if let Some(ended) = end_of(scenario, runtime, standing) {
             return Ok(Step::Over(ended));
         }
-        match standing {
-            Standing::Ticks => {
-                runtime.let_tick()?;
-                Ok(Step::Made)
-            }
-            Standing::Runs => unreachable!(),
-            Standing::Finished => unreachable!(),
-            Standing::Stuck => unreachable!(),
-        }
+        runtime.let_tick()?;
+        Ok(Step::Made)
     }
 
     /// Makes one turn of the schedule, and its line: the picks are tried first, each once, and then the lanes

@@ -26,12 +26,12 @@ pub turns-preserved : goal.turns-preserved
 turns-preserved g c =
     let made = made_of c.args.scenario.now _ _ _ (g.C.Tries.made c.step.new.runtime) c.in-Made.is c.in_ok-step.ensures.step in
     record {
-      driving = driving_same c.args.scenario.now _ _ _ _ _ _ _ _ _ c.take_last-in-Made.ensures.state
+      driving = driving_same c.args.scenario.now _ _ _ _ _ _ _ _ _ c.take_last.ensures.state
           (driving_on c.args.scenario.now _ _ _ _ (g.C.Tries.made c.step.new.runtime) c.requires.formed c.turns.invariant.driving made);
-      recording = recording_same c.args.scenario.now _ _ _ _ _ c.take_last-in-Made.ensures.state
+      recording = recording_same c.args.scenario.now _ _ _ _ _ c.take_last.ensures.state
           (recording_goes_on c.args.scenario.now _ _ (g.C.Tries.made c.step.new.runtime) _ _ c.requires.formed made c.turns.invariant.recording
-          (c.in_ok-add-in-Made.ensures ∙ ap (λ (e : Entry). c.turns.entries.items ++ e ∷ []) c.take_last-in-Made.ensures.entry));
-      same = c.take_last-in-Made.ensures.scenario ∙ c.in_ok-step.ensures.scenario;
+          (c.in_ok-add-in-Made.ensures ∙ ap (λ (e : Entry). c.turns.entries.items ++ e ∷ []) c.take_last.ensures.entry));
+      same = c.take_last.ensures.scenario ∙ c.in_ok-step.ensures.scenario;
       last = c.in_ok-step.ensures.last;
       kinds = c.in_ok-step.ensures.row;
       faults = omega arith;
@@ -39,7 +39,7 @@ turns-preserved g c =
 
 pub turns-smaller : goal.turns-smaller
 turns-smaller g c =
-    recording_smaller_at c.args.scenario.now _ _ (g.C.Tries.made c.step.new.runtime) _ _ c.take_last-in-Made.ensures.state (made_of c.args.scenario.now _ _ _ (g.C.Tries.made c.step.new.runtime) c.in-Made.is c.in_ok-step.ensures.step)
+    recording_smaller_at c.args.scenario.now _ _ (g.C.Tries.made c.step.new.runtime) _ _ c.take_last.ensures.state (made_of c.args.scenario.now _ _ _ (g.C.Tries.made c.step.new.runtime) c.in-Made.is c.in_ok-step.ensures.step)
     c.turns.invariant.recording
 
 pub returns-in_err-add-in-Made-clause-prefix : goal.returns-in_err-add-in-Made-clause-prefix

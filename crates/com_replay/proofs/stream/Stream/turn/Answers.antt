@@ -1,8 +1,7 @@
 -- A turn is that of the lane that has it, or of the clock.
 use Rattle.std.proofs.Common.{sym, ◌∙◌}
-use Rattle.com_runtime.proofs.Choices.{not_runs}
-use Rattle.com_runtime.proofs.Limits.{not-some, not_finished, not_stuck}
-use Rattle.com_replay.proofs.Turning.{none_left, reached_left, room_left, turn_by_clock, turn_by_lane, turn_by_none, turn_over, within_left}
+use Rattle.com_runtime.proofs.Limits.{not-some}
+use Rattle.com_replay.proofs.Turning.{reached_left, tick_due, tick_room, tick_turned, turn_by_lane, turn_by_none, turn_over}
 use Rattle.com_replay.proofs.stream.Stream.turn.Goals as goal
 
 pub returns-then-made-clause-turn : goal.returns-then-made-clause-turn
@@ -21,13 +20,18 @@ let_tick-requires-clause-reached g c =
     let no = (turn_by_none c.args.scenario.now _ _ (g.C.Tries.made c.lane_turn.new.runtime) c.in_ok-made.made c.if-made.false c.in_ok-made.ensures.turn) in
     reached_left _ _ c.args.scenario.now _ _ c.requires.scenario c.in_ok-made.ensures.scenario no c.requires.reached
 
+pub let_tick-requires-clause-due : goal.let_tick-requires-clause-due
+let_tick-requires-clause-due g c =
+    let no = (turn_by_none c.args.scenario.now _ _ (g.C.Tries.made c.lane_turn.new.runtime) c.in_ok-made.made c.if-made.false c.in_ok-made.ensures.turn) in
+    tick_due _ c.args.scenario.now _ _ no c.in_ok-made.ensures.scenario (sym c.end_of.ensures ∙ not-some c.end_of.result c.in_default.not-Some) c.requires.entries
+
 pub let_tick-requires-clause-room : goal.let_tick-requires-clause-room
 let_tick-requires-clause-room g c =
     let no = (turn_by_none c.args.scenario.now _ _ (g.C.Tries.made c.lane_turn.new.runtime) c.in_ok-made.made c.if-made.false c.in_ok-made.ensures.turn) in
-    room_left _ c.args.scenario.now _ c.in_ok-made.ensures.scenario (sym c.end_of.ensures ∙ not-some c.end_of.result c.in_default.not-Some) (within_left c.args.scenario.now _ _ no c.requires.entries)
+    tick_room _ c.args.scenario.now _ _ no c.in_ok-made.ensures.scenario (sym c.end_of.ensures ∙ not-some c.end_of.result c.in_default.not-Some) c.requires.entries
 
-pub returns-in-Ticks-clause-turn : goal.returns-in-Ticks-clause-turn
-returns-in-Ticks-clause-turn g c = ?
-
-pub unreachable-requires : goal.unreachable-requires
-unreachable-requires g c = ?
+pub returns-clause-turn : goal.returns-clause-turn
+returns-clause-turn g c =
+    let no = (turn_by_none c.args.scenario.now _ _ (g.C.Tries.made c.lane_turn.new.runtime) c.in_ok-made.made c.if-made.false c.in_ok-made.ensures.turn) in
+    tick_turned _ c.args.scenario.now _ _ (g.C.Runtime.state c.let_tick.new.self) (g.C.Tries.made c.let_tick.new.self) no c.in_ok-made.ensures.scenario
+    (sym c.end_of.ensures ∙ not-some c.end_of.result c.in_default.not-Some) c.requires.entries c.in_ok-let_tick.ensures.entry
