@@ -1,4 +1,4 @@
-use Rattle.std.proofs.Common.{arith, ap}
+use Rattle.std.proofs.Common.{arith, ap, ◌∙◌}
 use Rattle.com_replay.specs.Steps.{over_of as end_of}
 use Rattle.com_replay.proofs.Driving.{driving_on, driving_over_step, driving_same, driving_start_at}
 use Rattle.com_replay.proofs.Recording.{made_of, over_of}
