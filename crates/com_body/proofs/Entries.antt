@@ -1,10 +1,11 @@
 -- The registers and slots with which a frame begins.
 use Rattle.std.proofs.Common.{◌≡◌, ℕ, zero, suc, ◌+◌, ◌-◌, ◌<◌, ◌≤◌, List, [], ◌∷◌, ◌++◌, length, take, set, replicate, get_or, Option, None, ◌⊎◌, inl, inr, refl, sym, ap, ◌∙◌, arith, append_assoc, length-append}
-use Rattle.std.proofs.lemmas.List.{take_more, append-nil, length-set}
+use Rattle.std.proofs.lemmas.List.{take_more, append-nil, length-set, length-replicate}
+use Rattle.com_base.specs.declared.limits.TheConstants.{REGISTER_COUNT, SLOT_COUNT}
 use Rattle.com_base.specs.declared.value.RefValue.{RefValue}
 use Rattle.com_base.specs.declared.value.Value.{Value}
 use Rattle.com_base.specs.declared.value.Value.TheVariants as value
-use Rattle.com_body.specs.Frames.{plain_values, references, no_number, padded}
+use Rattle.com_body.specs.Frames.{plain_values, references, no_number, padded, entered}
 
 plain-append : (xs ys : List Value) → plain_values (xs ++ ys) ≡ plain_values xs ++ plain_values ys
 plain-append [] ys = refl
@@ -52,14 +53,34 @@ replicate-more : {A : Type 0} (k : ℕ) (x : A) → replicate k x ++ x ∷ [] �
 replicate-more zero x = refl
 replicate-more (suc k) x = ap (λ l. x ∷ l) (replicate-more k x)
 
+-- the slots with which a frame begins are all that there are
+pub entered_count : (values : List Value) → length values ≤ 4 → length (entered values).slots ≡ SLOT_COUNT
+entered_count values few =
+    let held : length (references values) ≤ length values = references_length values in
+    let nulls : List (Option RefValue) = replicate (SLOT_COUNT - length (references values)) None in
+    let both : length (entered values).slots ≡ length (references values) + length nulls = length-append (references values) nulls in
+    let more : length nulls ≡ SLOT_COUNT - length (references values) = length-replicate (SLOT_COUNT - length (references values)) None in
+    omega (arith, held, both, more, few)
+
 -- one more Int 0 among those that were set changes no register
-pub padded_more : (xs : List Value) → length xs < 16 → padded (xs ++ no_number ∷ []) ≡ padded xs
+pub padded_more : (xs : List Value) → length xs < REGISTER_COUNT → padded (xs ++ no_number ∷ []) ≡ padded xs
 padded_more xs within =
     let count : length (xs ++ no_number ∷ []) ≡ length xs + 1 = length-append xs (no_number ∷ []) in
-    let more : suc (16 - (length xs + 1)) ≡ 16 - length xs = omega (arith, within) in
-    ap (λ n. (xs ++ no_number ∷ []) ++ replicate (16 - n) no_number) count ∙
-    append_assoc xs (no_number ∷ []) (replicate (16 - (length xs + 1)) no_number) ∙
+    let more : suc (REGISTER_COUNT - (length xs + 1)) ≡ REGISTER_COUNT - length xs = omega (arith, within) in
+    ap (λ n. (xs ++ no_number ∷ []) ++ replicate (REGISTER_COUNT - n) no_number) count ∙
+    append_assoc xs (no_number ∷ []) (replicate (REGISTER_COUNT - (length xs + 1)) no_number) ∙
     ap (λ n. xs ++ replicate n no_number) more
+
+-- the registers that were set, and those behind them, are all that there are
+pub padded_length : (xs : List Value) → length xs ≤ REGISTER_COUNT → length (padded xs) ≡ REGISTER_COUNT
+padded_length xs within =
+    let both : length (padded xs) ≡ length xs + length (replicate (REGISTER_COUNT - length xs) no_number) = length-append xs (replicate (REGISTER_COUNT - length xs) no_number) in
+    let more : length (replicate (REGISTER_COUNT - length xs) no_number) ≡ REGISTER_COUNT - length xs = length-replicate (REGISTER_COUNT - length xs) no_number in
+    omega (arith, both, more, within)
+
+-- a write changes no number of places
+pub set_count : (slots : List (Option RefValue)) (n : ℕ) (held : Option RefValue) → length (set slots n held) ≡ length slots
+set_count slots n held = length-set slots n held
 
 -- a write to a register that was set
 set-before : (xs ys : List Value) (n : ℕ) (x : Value) → n < length xs → set (xs ++ ys) n x ≡ set xs n x ++ ys
@@ -69,8 +90,8 @@ set-before (y ∷ xs) ys (suc n) x within = ap (λ l. y ∷ l) (set-before xs ys
 
 pub padded_set : (xs : List Value) (n : ℕ) (x : Value) → n < length xs → padded (set xs n x) ≡ set (padded xs) n x
 padded_set xs n x within =
-    ap (λ k. set xs n x ++ replicate (16 - k) no_number) (length-set xs n x) ∙
-    sym (set-before xs (replicate (16 - length xs) no_number) n x within)
+    ap (λ k. set xs n x ++ replicate (REGISTER_COUNT - k) no_number) (length-set xs n x) ∙
+    sym (set-before xs (replicate (REGISTER_COUNT - length xs) no_number) n x within)
 
 -- a write to the first free place of a list that is filled up
 set-first : {A : Type 0} (xs : List A) (k : ℕ) (x d : A) → set (xs ++ replicate (suc k) d) (length xs) x ≡ (xs ++ x ∷ []) ++ replicate k d
@@ -96,19 +117,19 @@ one_reference (value.Guid n) = inl refl
 
 -- the slots after one more value
 pub slots_more : (rs more one : List (Option RefValue)) (slots after : List (Option RefValue)) (taken next : ℕ) →
-    more ≡ rs ++ one → taken ≡ length rs → slots ≡ rs ++ replicate (8 - length rs) None → length rs < 8 →
+    more ≡ rs ++ one → taken ≡ length rs → slots ≡ rs ++ replicate (SLOT_COUNT - length rs) None → length rs < SLOT_COUNT →
     (one ≡ [] → (after ≡ slots) × (next ≡ taken)) →
     ((h : Option RefValue) → one ≡ h ∷ [] → (after ≡ set slots taken h) × (next ≡ taken + 1)) →
     (one ≡ []) ⊎ ((h : Option RefValue) × (one ≡ h ∷ [])) →
-    (next ≡ length more) × (after ≡ more ++ replicate (8 - length more) None)
+    (next ≡ length more) × (after ≡ more ++ replicate (SLOT_COUNT - length more) None)
 slots_more rs more one slots after taken next grown count filled_up room none some (inl e) =
     let same : more ≡ rs = grown ∙ ap (λ l. rs ++ l) e ∙ append-nil rs in
     let got = none e in
-    (got.1 ∙ count ∙ ap length (sym same), got.0 ∙ filled_up ∙ ap (λ l. l ++ replicate (8 - length l) None) (sym same))
+    (got.1 ∙ count ∙ ap length (sym same), got.0 ∙ filled_up ∙ ap (λ l. l ++ replicate (SLOT_COUNT - length l) None) (sym same))
 slots_more rs more one slots after taken next grown count filled_up room none some (inr (h, e)) =
     let same : more ≡ rs ++ h ∷ [] = grown ∙ ap (λ l. rs ++ l) e in
     let got = some h e in
     let long : length (rs ++ h ∷ []) ≡ length rs + 1 = length-append rs (h ∷ []) in
-    let put : set slots taken h ≡ (rs ++ h ∷ []) ++ replicate (8 - length (rs ++ h ∷ [])) None =
-    ap (λ l. set l taken h) filled_up ∙ ap (λ n. set (rs ++ replicate (8 - length rs) None) n h) count ∙ set_next rs 8 h room in
-    (got.1 ∙ ap (λ n. n + 1) count ∙ sym long ∙ ap length (sym same), got.0 ∙ put ∙ ap (λ l. l ++ replicate (8 - length l) None) (sym same))
+    let put : set slots taken h ≡ (rs ++ h ∷ []) ++ replicate (SLOT_COUNT - length (rs ++ h ∷ [])) None =
+    ap (λ l. set l taken h) filled_up ∙ ap (λ n. set (rs ++ replicate (SLOT_COUNT - length rs) None) n h) count ∙ set_next rs SLOT_COUNT h room in
+    (got.1 ∙ ap (λ n. n + 1) count ∙ sym long ∙ ap length (sym same), got.0 ∙ put ∙ ap (λ l. l ++ replicate (SLOT_COUNT - length l) None) (sym same))

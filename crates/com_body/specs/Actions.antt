@@ -1,5 +1,6 @@
 -- The action that a statement is, with its operands' values.
 use Rattle.std.specs.Prelude.{None}
+use Rattle.com_base.specs.declared.hresult.TheConstants.HResult.{S_OK}
 use Rattle.com_body.specs.declared.statements.Stmt.{Stmt}
 use Rattle.com_body.specs.declared.statements.Stmt.TheVariants as stmt
 use Rattle.com_body.specs.declared.actions.Action.{Action}
@@ -10,7 +11,7 @@ use Rattle.com_body.specs.Operands.{slot_of, held_at, number_of, arguments_of, a
 
 -- `leave S_OK` with no value: what stands at a body's end.
 abbrev pub leave_ok : Action
-leave_ok = action.Leave (record { 0 = 0 }) None
+leave_ok = action.Leave S_OK None
 
 -- The action of a statement that is one, on this frame and these cells. First those on lanes and apartments;
 -- no other statement is an action.

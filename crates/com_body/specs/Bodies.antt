@@ -1,6 +1,8 @@
 -- Which lists of statements are bodies.
 use Rattle.std.specs.Prelude.{◌≡◌, ℕ, ◌+◌, ◌<◌, ◌^◌, List, [], ◌∷◌, Option, Some, None, All, length, nat_lt}
 use Rattle.std.specs.Prelude.{if◌then◌else◌}
+use Rattle.com_base.specs.declared.limits.TheConstants.{BUFFER_COUNT, CELL_COUNT, LINK_COUNT}
+use Rattle.com_base.specs.declared.limits.TheConstants.{REGISTER_COUNT, SLOT_COUNT}
 use Rattle.com_body.specs.declared.statements.Stmt.{Stmt}
 use Rattle.com_body.specs.declared.statements.Stmt.TheVariants as stmt
 use Rattle.com_body.specs.declared.operands.Op.{Op}
@@ -18,59 +20,59 @@ use Rattle.com_body.specs.declared.operands.Destination.TheVariants as destinati
 use Rattle.com_body.specs.declared.body.BodyFault.{BodyFault}
 use Rattle.com_body.specs.declared.body.BodyFault.TheVariants as fault
 
--- Registers are 0 to 15, slots 0 to 7, cells 0 to 7, links 0 to 3 and packet buffers 0 to 63.
+-- Registers, slots, cells, links and packet buffers are numbered from 0 to below their count.
 abbrev pub IsOp : Op → Type 0
-IsOp (op.Register number) = number < 16
+IsOp (op.Register number) = number < REGISTER_COUNT
 IsOp (op.Literal v) = Unit {0}
 
 abbrev pub IsPlace : Place → Type 0
-IsPlace (place.Slot number) = number < 8
-IsPlace (place.Link number) = number < 4
+IsPlace (place.Slot number) = number < SLOT_COUNT
+IsPlace (place.Link number) = number < LINK_COUNT
 
 abbrev pub IsArg : Arg → Type 0
 IsArg (arg.Op operand) = IsOp operand
-IsArg (arg.Slot number) = number < 8
+IsArg (arg.Slot number) = number < SLOT_COUNT
 IsArg arg.Null = Unit {0}
 
 abbrev pub IsCode : Code → Type 0
 IsCode (code.Literal answer) = Unit {0}
-IsCode (code.Register number) = number < 16
+IsCode (code.Register number) = number < REGISTER_COUNT
 
 abbrev pub IsGiven : Given → Type 0
 IsGiven given.Nothing = Unit {0}
 IsGiven (given.Op operand) = IsOp operand
-IsGiven (given.Slot number) = number < 8
+IsGiven (given.Slot number) = number < SLOT_COUNT
 
 abbrev pub IsDestination : Destination → Type 0
 IsDestination destination.Nowhere = Unit {0}
-IsDestination (destination.Register number) = number < 16
-IsDestination (destination.Slot number) = number < 8
+IsDestination (destination.Register number) = number < REGISTER_COUNT
+IsDestination (destination.Slot number) = number < SLOT_COUNT
 
 -- Each number of a register, slot, cell, link or buffer in a statement is in its range.
 abbrev pub IsInRange : Stmt → Type 0
-IsInRange (stmt.Set to from) = (to < 16) × IsOp from
-IsInRange (stmt.Add to from) = (to < 16) × IsOp from
-IsInRange (stmt.Sub to from) = (to < 16) × IsOp from
-IsInRange (stmt.Less to left right) = (to < 16) × IsOp left × IsOp right
-IsInRange (stmt.Same to left right) = (to < 16) × (left < 8) × (right < 8)
-IsInRange (stmt.Load to cell) = (to < 16) × (cell < 8)
-IsInRange (stmt.Store cell from) = (cell < 8) × IsOp from
+IsInRange (stmt.Set to from) = (to < REGISTER_COUNT) × IsOp from
+IsInRange (stmt.Add to from) = (to < REGISTER_COUNT) × IsOp from
+IsInRange (stmt.Sub to from) = (to < REGISTER_COUNT) × IsOp from
+IsInRange (stmt.Less to left right) = (to < REGISTER_COUNT) × IsOp left × IsOp right
+IsInRange (stmt.Same to left right) = (to < REGISTER_COUNT) × (left < SLOT_COUNT) × (right < SLOT_COUNT)
+IsInRange (stmt.Load to cell) = (to < REGISTER_COUNT) × (cell < CELL_COUNT)
+IsInRange (stmt.Store cell from) = (cell < CELL_COUNT) × IsOp from
 IsInRange (stmt.Skip count) = Unit {0}
-IsInRange (stmt.SkipZero register count) = register < 16
-IsInRange (stmt.Create slot class iface) = slot < 8
-IsInRange (stmt.Query to from iface) = (to < 8) × (from < 8)
+IsInRange (stmt.SkipZero register count) = register < REGISTER_COUNT
+IsInRange (stmt.Create slot class iface) = slot < SLOT_COUNT
+IsInRange (stmt.Query to from iface) = (to < SLOT_COUNT) × (from < SLOT_COUNT)
 IsInRange (stmt.Copy to from) = IsPlace to × IsPlace from
 IsInRange (stmt.Release place) = IsPlace place
 IsInRange (stmt.Call slot iface method args destination) =
-    (slot < 8) × All IsArg args × IsDestination destination
-IsInRange (stmt.Marshal buffer slot mode) = (buffer < 64) × (slot < 8)
-IsInRange (stmt.Unmarshal slot buffer) = (slot < 8) × (buffer < 64)
-IsInRange (stmt.Drop buffer) = buffer < 64
-IsInRange (stmt.Raw buffer bytes) = buffer < 64
-IsInRange (stmt.Register to slot) = (to < 16) × (slot < 8)
-IsInRange (stmt.Get slot cookie) = (slot < 8) × IsOp cookie
+    (slot < SLOT_COUNT) × All IsArg args × IsDestination destination
+IsInRange (stmt.Marshal buffer slot mode) = (buffer < BUFFER_COUNT) × (slot < SLOT_COUNT)
+IsInRange (stmt.Unmarshal slot buffer) = (slot < SLOT_COUNT) × (buffer < BUFFER_COUNT)
+IsInRange (stmt.Drop buffer) = buffer < BUFFER_COUNT
+IsInRange (stmt.Raw buffer bytes) = buffer < BUFFER_COUNT
+IsInRange (stmt.Register to slot) = (to < REGISTER_COUNT) × (slot < SLOT_COUNT)
+IsInRange (stmt.Get slot cookie) = (slot < SLOT_COUNT) × IsOp cookie
 IsInRange (stmt.Revoke cookie) = IsOp cookie
-IsInRange (stmt.Disconnect slot) = slot < 8
+IsInRange (stmt.Disconnect slot) = slot < SLOT_COUNT
 IsInRange (stmt.Post lane word) = IsOp lane × IsOp word
 IsInRange (stmt.Quit lane) = IsOp lane
 IsInRange (stmt.Leave answer given) = IsCode answer × IsGiven given

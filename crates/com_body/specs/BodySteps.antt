@@ -3,6 +3,7 @@ use Rattle.std.specs.Prelude.{ℕ, zero, suc, ◌+◌, pos, List, [], ◌∷◌,
 use Rattle.std.specs.Prelude.{slice_index_or, slice_set}
 use Rattle.std.specs.Int.{w64, int_wrapping_add, int_wrapping_sub}
 use Rattle.std.specs.Ordering.{int_eq}
+use Rattle.com_base.specs.declared.hresult.TheConstants.HResult.{E_NOTIMPL}
 use Rattle.com_base.specs.declared.value.Value.TheVariants as value
 use Rattle.com_body.specs.declared.statements.Stmt.{Stmt}
 use Rattle.com_body.specs.declared.statements.Stmt.TheVariants as stmt
@@ -60,4 +61,4 @@ body_step statements frame cells = walk (drop frame.place statements) 0 frame ce
 
 -- The body of a method that was given none: `leave E_NOTIMPL`.
 abbrev pub no_body : List Stmt
-no_body = stmt.Leave (code.Literal (record { 0 = 0x80004001 })) given.Nothing ∷ []
+no_body = stmt.Leave (code.Literal E_NOTIMPL) given.Nothing ∷ []

@@ -1,11 +1,13 @@
 -- Frames: where a body or a script stands, and how one begins.
 use Rattle.std.specs.Prelude.{ℕ, ◌+◌, ◌-◌, List, [], ◌∷◌, ◌++◌, Option, None, pos, length, replicate}
 use Rattle.std.specs.Prelude.{slice_set}
+use Rattle.com_base.specs.declared.limits.TheConstants.{REGISTER_COUNT, SLOT_COUNT}
 use Rattle.com_base.specs.declared.value.RefValue.{RefValue}
 use Rattle.com_base.specs.declared.value.Value.{Value}
 use Rattle.com_base.specs.declared.value.Value.TheVariants as value
 
--- What contracts see of a frame: the number of the next statement, 16 values and 8 references.
+-- What contracts see of a frame: the number of the next statement, `REGISTER_COUNT` values and `SLOT_COUNT`
+-- references.
 pub record FrameView : Type 0 where
   pub place : ℕ
   pub registers : List Value
@@ -27,17 +29,17 @@ references (other ∷ rest) = references rest
 abbrev pub no_number : Value
 no_number = value.Int (pos 0)
 
--- The 16 registers of which only the first may have been set: those behind are the Int 0.
+-- All registers, of which only the first may have been set: those behind are the Int 0.
 abbrev pub padded : List Value → List Value
-padded values = values ++ replicate (16 - length values) no_number
+padded values = values ++ replicate (REGISTER_COUNT - length values) no_number
 
 -- A frame at Enter: the values that are no references stand in the registers from the first on, and the
 -- references in the slots from the first on. All other registers are the Int 0, and all other slots are null.
 abbrev pub entered : List Value → FrameView
 entered values = record {
   place = 0;
-  registers = plain_values values ++ replicate (16 - length (plain_values values)) no_number;
-  slots = references values ++ replicate (8 - length (references values)) None;
+  registers = plain_values values ++ replicate (REGISTER_COUNT - length (plain_values values)) no_number;
+  slots = references values ++ replicate (SLOT_COUNT - length (references values)) None;
 }
 
 -- A frame with another value in one register.

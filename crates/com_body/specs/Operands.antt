@@ -3,6 +3,7 @@ use Rattle.std.specs.Prelude.{ℕ, ◌%◌, ◌^◌, ℤ, pos, List, Bool, true,
 use Rattle.std.specs.Prelude.{replicate, if◌then◌else◌, slice_index_or}
 use Rattle.std.specs.Int.{w64, cast_unsigned}
 use Rattle.com_base.specs.declared.hresult.HResult.{HResult}
+use Rattle.com_base.specs.declared.limits.TheConstants.{CELL_COUNT, LINK_COUNT}
 use Rattle.com_base.specs.declared.value.RefValue.{RefValue}
 use Rattle.com_base.specs.declared.value.Value.{Value}
 use Rattle.com_base.specs.declared.value.Value.TheVariants as value
@@ -21,7 +22,7 @@ use Rattle.com_body.specs.Frames.{FrameView}
 
 -- The cells of a new object.
 abbrev pub new_cells : Cells
-new_cells = record { numbers = replicate 8 (pos 0); links = replicate 4 None }
+new_cells = record { numbers = replicate CELL_COUNT (pos 0); links = replicate LINK_COUNT None }
 
 -- The number of a value: its Int, and 0 where it is no Int.
 abbrev pub number_in : Value → ℤ

@@ -2,40 +2,43 @@
 
 ghost use Rattle.std.specs.Prelude.{◌≡◌, ◌<◌, ◌≤◌, ◌+◌, Option, [], ◌∷◌, ◌++◌, IfOk};
 ghost use Rattle.std.specs.Prelude.{OnOk, length, slice_set, vec_len, vec_capacity};
+ghost use Rattle.com_base.specs.declared.limits.TheConstants.{PARAMETER_LIMIT, REGISTER_COUNT, SLOT_COUNT};
 ghost use Rattle.com_body.specs.Frames.{entered, padded, plain_values, references, with_register};
 ghost use Rattle.com_body.specs.Frames.{with_slot};
 ghost use Rattle.com_body.specs.Operands.{new_cells, register_of, slot_of};
 
 use crate::actions::Action;
-use com_base::{Memory, RefValue, Value};
+use com_base::{CELL_COUNT, LINK_COUNT, Memory, REGISTER_COUNT, RefValue, SLOT_COUNT, Value};
 use std::alloc::Global;
 use std::marker::Model;
 
-/// Where a body or a script stands: its program counter, which is the index of the next statement, 16
-/// registers and 8 slots.
+/// Where a body or a script stands: its program counter, which is the index of the next statement, its
+/// registers and its slots.
 ///
 /// Contracts see a frame as the record of these three: the program counter, which is called `place` here, the
 /// list of values and the list of references.
 #[derive(Debug, Drop)]
 pub struct Frame {
     place: u32,
-    // Only the registers up to the last that was set, with room for all 16.
+    // Only the registers up to the last that was set, with room for all.
     registers: Vec<Value>,
     // The Int 0, which each register behind those holds.
     zero: Value,
-    slots: [Option<RefValue>; 8],
+    slots: [Option<RefValue>; SLOT_COUNT as usize],
 }
 
 impl Model for Frame {
-    ghost use Rattle.std.specs.Prelude.{◌≡◌, ◌≤◌, vec_len, vec_capacity};
+    ghost use Rattle.std.specs.Prelude.{◌≡◌, ◌≤◌, length, vec_len, vec_capacity};
+    ghost use Rattle.com_base.specs.declared.limits.TheConstants.{REGISTER_COUNT, SLOT_COUNT};
     ghost use Rattle.com_body.specs.Frames.{FrameView, padded, no_number};
 
     ghost Value = { FrameView };
 
     ghost view = { λ a. record { place = a.place; registers = padded a.registers.items; slots = a.slots } };
 
-    ghost invariant = { λ a. (vec_len a.registers ≤ 16) × (16 ≤ vec_capacity a.registers)
-        × (a.zero ≡ no_number) };
+    ghost invariant = { λ a. (vec_len a.registers ≤ REGISTER_COUNT)
+        × (REGISTER_COUNT ≤ vec_capacity a.registers)
+        × (a.zero ≡ no_number) × (length a.slots ≡ SLOT_COUNT) };
 }
 
 impl Frame {
@@ -43,8 +46,9 @@ impl Frame {
     /// references stand in the registers from the first on, in their order, and the references in the slots
     /// from the first on. All other registers are the Int 0, and all other slots are null. The only error is
     /// want of memory.
+    #[tactic(auto, using(crate::proofs::Entries::entered_count))]
     pub fn enter(alloc: Global, values: &[Value]) -> Result<Frame, Memory>
-        requires { length values.now ≤ 4 }
+        requires { length values.now ≤ PARAMETER_LIMIT }
         ensures { IfOk result (λ frame. frame ≡ entered values.now) }
     {
         Ok(Frame {
@@ -53,6 +57,16 @@ impl Frame {
             zero: Value::Int(0),
             slots: entered_slots(values),
         })
+    }
+
+    /// A frame has all of its registers and slots at any time. This call says so and does nothing.
+    #[inline]
+    #[tactic(auto, using(crate::proofs::Entries::padded_length))]
+    pub fn has_shape(&self)
+        ensures registers { length self.now.registers ≡ REGISTER_COUNT }
+        ensures slots { length self.now.slots ≡ SLOT_COUNT }
+    {
+        let _registers = &self.registers;
     }
 
     /// The program counter: the index of the next statement, from 0. At the end of a body it is the number of
@@ -72,10 +86,10 @@ impl Frame {
         self.place = place;
     }
 
-    /// The value in a register, 0 to 15.
+    /// The value in a register.
     #[inline]
     pub fn register(&self, number: u8) -> &Value
-        requires { number < 16 }
+        requires { number < REGISTER_COUNT }
         ensures { result.now ≡ register_of self.now number }
     {
         match self.registers.get(number as usize) {
@@ -84,20 +98,20 @@ impl Frame {
         }
     }
 
-    /// The reference in a slot, 0 to 7, or None for null.
+    /// The reference in a slot, or None for null.
     #[inline]
     pub fn slot(&self, number: u8) -> Option<RefValue>
-        requires { number < 8 }
+        requires { number < SLOT_COUNT }
         ensures { result ≡ slot_of self.now number }
     {
         self.slots[number as usize]
     }
 
-    /// Puts a value in a register, 0 to 15, and leaves all else.
+    /// Puts a value in a register, and leaves all else.
     #[inline]
     #[tactic(auto, using(crate::proofs::Entries::padded_set))]
     pub fn set_register(&mut self, number: u8, value: Value)
-        requires { number < 16 }
+        requires { number < REGISTER_COUNT }
         ensures { self.new ≡ with_register self.old number value }
     {
         let number = number as usize;
@@ -105,10 +119,11 @@ impl Frame {
         self.registers[number] = value;
     }
 
-    /// Puts a reference, or null, in a slot, 0 to 7, and leaves all else.
+    /// Puts a reference, or null, in a slot, and leaves all else.
     #[inline]
+    #[tactic(auto, using(crate::proofs::Entries::set_count))]
     pub fn set_slot(&mut self, number: u8, held: Option<RefValue>)
-        requires { number < 8 }
+        requires { number < SLOT_COUNT }
         ensures { self.new ≡ with_slot self.old number held }
     {
         self.slots[number as usize] = held;
@@ -118,7 +133,7 @@ impl Frame {
     pub fn copy(&self, alloc: Global) -> Result<Frame, Memory>
         ensures { IfOk result (λ frame. frame ≡ self.now) }
     {
-        let mut registers = Vec::with_capacity(alloc, 16)?;
+        let mut registers = Vec::with_capacity(alloc, REGISTER_COUNT as usize)?;
         for value in &self.registers {
             append_copy(&mut registers, value)?;
         }
@@ -161,15 +176,15 @@ fn append_plain(registers: &mut Vec<Value>, value: &Value) -> Result<(), Memory>
     Ok(())
 }
 
-// The values in the registers at Enter, with room for all 16.
+// The values in the registers at Enter, with room for all.
 #[tactic(auto, using(crate::proofs::Entries::plain_more))]
 fn entered_registers(alloc: Global, values: &[Value]) -> Result<Vec<Value>, Memory>
-    requires { length values.now ≤ 4 }
+    requires { length values.now ≤ PARAMETER_LIMIT }
     ensures list { IfOk result (λ registers. registers.items ≡ plain_values values.now) }
-    ensures count { IfOk result (λ registers. vec_len registers ≤ 4) }
-    ensures room { IfOk result (λ registers. vec_capacity registers ≡ 16) }
+    ensures count { IfOk result (λ registers. vec_len registers ≤ PARAMETER_LIMIT) }
+    ensures room { IfOk result (λ registers. vec_capacity registers ≡ REGISTER_COUNT) }
 {
-    let mut registers = Vec::with_capacity(alloc, 16)?;
+    let mut registers = Vec::with_capacity(alloc, REGISTER_COUNT as usize)?;
     for value in values {
         append_plain(&mut registers, value)?;
     }
@@ -179,8 +194,8 @@ fn entered_registers(alloc: Global, values: &[Value]) -> Result<Vec<Value>, Memo
 // Appends the Int 0 until there are `count` values.
 #[tactic(auto, using(crate::proofs::Entries::padded_more))]
 fn fill(registers: &mut Vec<Value>, count: usize)
-    requires within { (vec_len registers.old ≤ count) × (count ≤ 16) }
-    requires room { 16 ≤ vec_capacity registers.old }
+    requires within { (vec_len registers.old ≤ count) × (count ≤ REGISTER_COUNT) }
+    requires room { REGISTER_COUNT ≤ vec_capacity registers.old }
     ensures list { padded registers.new.items ≡ padded registers.old.items }
     ensures count { vec_len registers.new ≡ count }
     ensures room { vec_capacity registers.new ≡ vec_capacity registers.old }
@@ -193,10 +208,10 @@ fn fill(registers: &mut Vec<Value>, count: usize)
 // Appends the Int 0 until the register with this number is there.
 #[inline]
 fn reach(registers: &mut Vec<Value>, number: usize)
-    requires within { (vec_len registers.old ≤ 16) × (number < 16) }
-    requires room { 16 ≤ vec_capacity registers.old }
+    requires within { (vec_len registers.old ≤ REGISTER_COUNT) × (number < REGISTER_COUNT) }
+    requires room { REGISTER_COUNT ≤ vec_capacity registers.old }
     ensures list { padded registers.new.items ≡ padded registers.old.items }
-    ensures there { (number < vec_len registers.new) × (vec_len registers.new ≤ 16) }
+    ensures there { (number < vec_len registers.new) × (vec_len registers.new ≤ REGISTER_COUNT) }
     ensures room { vec_capacity registers.new ≡ vec_capacity registers.old }
 {
     if number >= registers.len() {
@@ -205,11 +220,11 @@ fn reach(registers: &mut Vec<Value>, number: usize)
 }
 
 // The slots at Enter.
-fn entered_slots(values: &[Value]) -> [Option<RefValue>; 8]
-    requires { length values.now ≤ 4 }
+fn entered_slots(values: &[Value]) -> [Option<RefValue>; SLOT_COUNT as usize]
+    requires { length values.now ≤ PARAMETER_LIMIT }
     ensures { result ≡ (entered values.now).slots }
 {
-    let mut slots = [None; 8];
+    let mut slots = [None; SLOT_COUNT as usize];
     let mut taken = 0;
     for value in values {
         taken = put_reference(&mut slots, taken, value);
@@ -219,8 +234,12 @@ fn entered_slots(values: &[Value]) -> [Option<RefValue>; 8]
 
 // Puts the value into the slot with this number, if it is a reference, and answers the number of the next
 // slot.
-fn put_reference(slots: &mut [Option<RefValue>; 8], taken: usize, value: &Value) -> usize
-    requires { taken < 8 }
+fn put_reference(
+    slots: &mut [Option<RefValue>; SLOT_COUNT as usize],
+    taken: usize,
+    value: &Value,
+) -> usize
+    requires { taken < SLOT_COUNT }
     ensures none { references (value.now ∷ []) ≡ [] → (slots.new ≡ slots.old) × (result ≡ taken) }
     ensures some { (held : Option RefValue) → references (value.now ∷ []) ≡ held ∷ [] →
         (slots.new ≡ slice_set slots.old taken held) × (result ≡ taken + 1) }
@@ -234,13 +253,13 @@ fn put_reference(slots: &mut [Option<RefValue>; 8], taken: usize, value: &Value)
     }
 }
 
-/// What an object keeps between calls: 8 numbers and 4 links, which are references to other objects.
+/// What an object keeps between calls: numbers, and links, which are references to other objects.
 #[derive(Debug, Clone, Copy, PartialEq, Eq)]
 pub struct Cells {
-    /// The cells c0 to c7.
-    pub numbers: [i64; 8],
-    /// The links k0 to k3, each None for null.
-    pub links: [Option<RefValue>; 4],
+    /// The cells, of which `c0` is the first.
+    pub numbers: [i64; CELL_COUNT as usize],
+    /// The links, of which `k0` is the first, each None for null.
+    pub links: [Option<RefValue>; LINK_COUNT as usize],
 }
 
 impl Cells {
@@ -249,8 +268,8 @@ impl Cells {
         ensures { result ≡ new_cells }
     {
         Cells {
-            numbers: [0; 8],
-            links: [None; 4],
+            numbers: [0; CELL_COUNT as usize],
+            links: [None; LINK_COUNT as usize],
         }
     }
 }

@@ -22,8 +22,7 @@ pub fn number_in(value: &Value) -> i64
     }
 }
 
-/// The number of an operand: its literal, or what its register from 0 to 15 holds, and 0 where that is no
-/// Int.
+/// The number of an operand: its literal, or what its register holds, and 0 where that is no Int.
 #[inline]
 pub fn number_of(frame: &Frame, operand: &Op) -> i64
     requires { IsOp operand.now }
@@ -35,8 +34,8 @@ pub fn number_of(frame: &Frame, operand: &Op) -> i64
     }
 }
 
-/// A copy of the value of an operand: of its literal, or of what its register from 0 to 15 holds. The only
-/// error is want of memory.
+/// A copy of the value of an operand: of its literal, or of what its register holds. The only error is want of
+/// memory.
 #[inline]
 pub fn value_of(frame: &Frame, operand: &Op) -> Result<Value, Memory>
     requires { IsOp operand.now }
@@ -48,8 +47,7 @@ pub fn value_of(frame: &Frame, operand: &Op) -> Result<Value, Memory>
     }
 }
 
-/// The reference at a place, None for null: in a slot of the frame, from 0 to 7, or in a link of the object,
-/// from 0 to 3.
+/// The reference at a place, None for null: in a slot of the frame, or in a link of the object.
 #[inline]
 pub fn held_at(frame: &Frame, cells: &Cells, place: Place) -> Option<RefValue>
     requires { IsPlace place }
@@ -85,8 +83,8 @@ pub fn arguments_of(alloc: Global, frame: &Frame, args: &[Arg]) -> Result<Rows<V
     Ok(Rows::from_vec(values))
 }
 
-/// The HRESULT that a body leaves with: a literal, or the lowest 32 bits of what a register from 0 to 15
-/// holds, and S_OK where that is no Int.
+/// The HRESULT that a body leaves with: a literal, or the lowest 32 bits of what a register holds, and S_OK where
+/// that is no Int.
 pub fn answer_of(frame: &Frame, answer: Code) -> HResult
     requires { IsCode answer }
     ensures { result ≡ answer_of frame.now answer }

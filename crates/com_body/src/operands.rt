@@ -13,7 +13,7 @@ pub enum Asked {
     Guid(Guid),
 }
 
-/// A value to be read when the statement is done: a register, 0 to 15, or a literal.
+/// A value to be read when the statement is done: a register or a literal.
 #[derive(Debug, Drop)]
 pub enum Op {
     /// The value that the register holds.
@@ -25,9 +25,9 @@ pub enum Op {
 /// Where a reference stands.
 #[derive(Debug, Clone, Copy, PartialEq, Eq)]
 pub enum Place {
-    /// A slot of the frame, 0 to 7.
+    /// A slot of the frame.
     Slot(u8),
-    /// A link of the object whose body runs, 0 to 3.
+    /// A link of the object whose body runs.
     Link(u8),
 }
 
@@ -36,7 +36,7 @@ pub enum Place {
 pub enum Arg {
     /// A register's value or a literal.
     Op(Op),
-    /// The reference in a slot, 0 to 7.
+    /// The reference in a slot.
     Slot(u8),
     /// The null reference.
     Null,
@@ -47,7 +47,7 @@ pub enum Arg {
 pub enum Code {
     /// The HRESULT that is written in the statement.
     Literal(HResult),
-    /// The low 32 bits of the number of a register, 0 to 15.
+    /// The low 32 bits of the number of a register.
     Register(u8),
 }
 
@@ -58,7 +58,7 @@ pub enum Given {
     Nothing,
     /// A register's value or a literal.
     Op(Op),
-    /// The reference in a slot, 0 to 7.
+    /// The reference in a slot.
     Slot(u8),
 }
 
@@ -67,8 +67,8 @@ pub enum Given {
 pub enum Destination {
     /// The result is not kept.
     Nowhere,
-    /// A register, 0 to 15.
+    /// A register.
     Register(u8),
-    /// A slot, 0 to 7.
+    /// A slot.
     Slot(u8),
 }

@@ -5,8 +5,8 @@ use com_base::{ByteList, MarshalMode, Mode, Rows};
 
 /// One statement, as it is written.
 ///
-/// Registers are 0 to 15, slots 0 to 7, cells 0 to 7, links 0 to 3 and packet buffers 0 to 63. The first nine
-/// are local: they change only the frame and the cells. All others are actions.
+/// Registers, slots, cells, links and packet buffers are numbered from 0 to below their count. The first nine are
+/// local: they change only the frame and the cells. All others are actions.
 #[derive(Debug, Drop)]
 pub enum Stmt {
     /// The register takes the value.

@@ -1,5 +1,6 @@
 -- The built-in interfaces, with their methods and the bodies of their classes.
 use Rattle.std.specs.Prelude.{List, [], ◌∷◌, true, false, Some, None, pos, codes}
+use Rattle.com_base.specs.declared.limits.TheConstants.{ANSWER_REGISTER}
 use Rattle.com_base.specs.declared.value.Kind.TheVariants as kind
 use Rattle.com_base.specs.declared.value.Value.TheVariants as value
 use Rattle.com_body.specs.declared.statements.Stmt.{Stmt}
@@ -91,7 +92,7 @@ relay_bodies =
     (stmt.Copy (place.Link 0) (place.Slot 0) ∷ stmt.Leave with_ok given.Nothing ∷ []) ∷
     (stmt.Copy (place.Slot 0) (place.Link 0) ∷
     stmt.Call 0 1 0 (arg.Op (op.Register 0) ∷ []) (destination.Register 1) ∷
-    stmt.Leave (code.Register 15) (given.Op (op.Register 1)) ∷ []) ∷ []
+    stmt.Leave (code.Register ANSWER_REGISTER) (given.Op (op.Register 1)) ∷ []) ∷ []
 
 -- ILatch.set and ILatch.test: cell 0 is 1 once it was set.
 abbrev pub latch_bodies : List (List Stmt)

@@ -1,6 +1,7 @@
 -- What the tables keep beside what contracts see.
 use Rattle.std.specs.Prelude.{◌≡◌, ℕ, ◌≤◌, ◌&&◌, ◌==◌, Bool, List, map, length}
 use Rattle.std.specs.Str.{bytes_eq}
+use Rattle.com_base.specs.declared.limits.TheConstants.{CLASS_LIMIT, INTERFACE_LIMIT}
 use Rattle.com_base.specs.declared.guid.Guid.{Guid}
 use Rattle.com_body.specs.declared.statements.Stmt.{Stmt}
 use Rattle.com_classes.specs.declared.interfaces.Interface.{Interface}
@@ -22,8 +23,8 @@ pub record IsIndexed (ikeys : List (ℕ × ℕ × ℕ × List ℕ)) (interfaces 
     (counters relays latches : List (List Stmt)) : Type 0 where
   pub interface_keys : ikeys ≡ map (λ i. key_of i.iid) interfaces
   pub class_keys : ckeys ≡ map (λ c. key_of c.clsid) classes
-  pub few_interfaces : length interfaces ≤ 64
-  pub few_classes : length classes ≤ 64
+  pub few_interfaces : length interfaces ≤ INTERFACE_LIMIT
+  pub few_classes : length classes ≤ CLASS_LIMIT
   pub counter : counters ≡ counter_bodies
   pub relay : relays ≡ relay_bodies
   pub latch : latches ≡ latch_bodies

@@ -5,6 +5,7 @@ use Rattle.std.specs.Prelude.{option_and_then}
 use Rattle.std.specs.List.{list_any}
 use Rattle.std.specs.Option.{option_map}
 use Rattle.std.specs.Str.{bytes_eq}
+use Rattle.com_base.specs.declared.limits.TheConstants.{CLASS_LIMIT, INTERFACE_LIMIT}
 use Rattle.com_base.specs.declared.guid.Guid.{Guid}
 use Rattle.com_body.specs.declared.statements.Stmt.{Stmt}
 use Rattle.com_body.specs.declared.frame.Native.{Native}
@@ -77,12 +78,12 @@ body_of t class iface method = unwrap_or (body_at t class iface method) no_body
 abbrev pub interface_refusal : Tables → Interface → Option ClassError
 interface_refusal t i =
     if is_some (find_interface t i.iid) then Some error.Repeated
-    else if nat_le 64 (length t.interfaces) then Some error.Full
+    else if nat_le INTERFACE_LIMIT (length t.interfaces) then Some error.Full
     else None
 
 -- Why a class is not taken, other than for want of memory: its CLSID is there, or else there are 64.
 abbrev pub class_refusal : Tables → Class → Option ClassError
 class_refusal t c =
     if is_some (find_class t c.clsid) then Some error.Repeated
-    else if nat_le 64 (length t.classes) then Some error.Full
+    else if nat_le CLASS_LIMIT (length t.classes) then Some error.Full
     else None

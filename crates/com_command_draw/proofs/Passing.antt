@@ -70,9 +70,24 @@ passing_on s m n e d later text longer is_kept kept more f made p draws writes k
       kept_is = λ k. keeps k ∙ ap (λ (es : List Entry). es ++ (e ∷ [])) (p.kept_is k);
     }
 
+-- The runtime lends the entry that is drawn, and keeps its state where the entry is taken.
+pub passing_on_at : (s : Scenario) (m n : Moment) (e l : Entry) (new : State) (d later : Picture) (text longer : List ℕ) (is_kept : Bool) (kept more : List Entry)
+    → l ≡ e → new ≡ n.state → Formed s → IsMade s m n e → Passing s m.state m.picks m.last d text is_kept kept
+    → later ≡ after s d l → longer ≡ text ++ entry_text s d l → (is_kept ≡ true → more ≡ kept ++ (e ∷ []))
+    → Passing s new n.picks n.last later longer is_kept more
+passing_on_at s m n e l new d later text longer is_kept kept more is same f made p draws writes keeps =
+    subst (λ (x : State). Passing s x n.picks n.last later longer is_kept more) (sym same)
+    (passing_on s m n e d later text longer is_kept kept more f made p
+    (draws ∙ ap (λ (x : Entry). after s d x) is) (writes ∙ ap (λ (x : Entry). text ++ entry_text s d x) is) keeps)
+
 pub passing_smaller : (s : Scenario) (m n : Moment) (e : Entry) (d : Picture) (text : List ℕ) (is_kept : Bool) (kept : List Entry)
     → IsMade s m n e → Passing s m.state m.picks m.last d text is_kept kept → limit s - n.state.entries < limit s - m.state.entries
 passing_smaller s m n e d text is_kept kept made p = recording_smaller s m n e p.entries made p.recording
+
+pub passing_smaller_at : (s : Scenario) (m n : Moment) (e : Entry) (new : State) (d : Picture) (text : List ℕ) (is_kept : Bool) (kept : List Entry)
+    → new ≡ n.state → IsMade s m n e → Passing s m.state m.picks m.last d text is_kept kept → limit s - new.entries < limit s - m.state.entries
+passing_smaller_at s m n e new d text is_kept kept same made p =
+    subst (λ (x : State). limit s - x.entries < limit s - m.state.entries) (sym same) (passing_smaller s m n e d text is_kept kept made p)
 
 pub passing_within : (s : Scenario) (st : State) (picks : List ℕ) (last : ℕ) (d : Picture) (text : List ℕ) (is_kept : Bool) (kept : List Entry)
     → Passing s st picks last d text is_kept kept → st.entries ≤ limit s

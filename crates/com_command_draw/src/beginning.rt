@@ -14,8 +14,9 @@ use com_base::{ByteList, Memory, Rows};
 use com_draw::Drawing;
 use com_io::{Discard, Sink};
 use com_model::{Counts, Ended, Entry, Scenario};
-use com_replay::{Core, ReplayError, Step, Stream, let_go};
+use com_replay::{Core, Course, ReplayError, Turned, let_go};
 use com_runtime::{Runtime, all_counts};
+use com_schedule::Tries;
 use com_servant::Servant;
 use std::alloc::{AllocError, Global};
 use std::sync::Arc;
@@ -69,20 +70,24 @@ fn with_report<C: Runtime>(
     })
 }
 
-// Puts an entry behind the others, where they are kept. The only error is want of memory.
-fn keep(is_kept: bool, entries: &mut Vec<Entry>, entry: Entry) -> Result<(), Memory>
-    ensures { OnOk result (is_kept ≡ true → entries.new.items ≡ entries.old.items ++ (entry ∷ [])) }
+// Takes the entry that a runtime made last and puts it behind the others, where they are kept. The only error is
+// want of memory.
+fn keep<C: Tries>(is_kept: bool, entries: &mut Vec<Entry>, runtime: &mut C) -> Result<(), Memory>
+    ensures entries { OnOk result (is_kept ≡ true
+        → entries.new.items ≡ entries.old.items ++ (C.made runtime.old ∷ [])) }
+    ensures state { C.state runtime.new ≡ C.state runtime.old }
+    ensures scenario { C.scenario runtime.new ≡ C.scenario runtime.old }
 {
     if !is_kept {
         return Ok(());
     }
-    entries.push(entry)?;
+    entries.push(runtime.take_last())?;
     Ok(())
 }
 
 // Draws the history that a runtime makes which has made no entry: each entry as it is made. The entries are
 // kept where that is asked for.
-fn begin_by<C: Runtime, K: Sink>(
+fn begin_by<C: Tries, K: Sink>(
     alloc: Global,
     scenario: &Scenario,
     runtime: &mut C,
@@ -100,17 +105,17 @@ fn begin_by<C: Runtime, K: Sink>(
         ≡ whole_served scenario.now (map stepped servants.old.items)) }
     ensures row { map kind_of servants.new.items ≡ row }
 {
-    let mut stream = Stream::new(alloc);
+    let mut course = Course::new(alloc);
     let mut text = ByteList::new(alloc);
     let mut drawing = Drawing::begin(alloc, scenario, &mut text)?;
     let mut entries = Vec::new(alloc);
     'turns: loop {
-        match stream.step(alloc, scenario, runtime, servants, sink)? {
-            Step::Made(entry) => {
-                drawing.push_entry(alloc, scenario, &entry, &mut text)?;
-                keep(is_kept, &mut entries, entry)?;
+        match course.step(alloc, scenario, runtime, servants, sink)? {
+            Turned::Made => {
+                drawing.push_entry(alloc, scenario, runtime.last(), &mut text)?;
+                keep(is_kept, &mut entries, runtime)?;
             }
-            Step::Over(ended) => {
+            Turned::Over(ended) => {
                 let begun = with_report(alloc, scenario, runtime, drawing, text, ended)?;
                 return Ok((begun, entries));
             }

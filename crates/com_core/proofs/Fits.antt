@@ -31,7 +31,7 @@ use Rattle.com_model.specs.Deeds.{owned_by}
 use Rattle.com_model.specs.Frames.{Actor, Scene, reference, scene, taken_in}
 use Rattle.com_model.specs.Lists.{number_or_zero}
 use Rattle.com_model.specs.Objects.{asked_number, makes, objects}
-use Rattle.com_model.specs.Rules.{legal, next}
+use Rattle.com_model.specs.Rules.{legal}
 use Rattle.com_model.specs.State.{State, books_in, class_in, issue_in, next_of, owns_in, running_in, scene_in, sight_of}
 use Rattle.com_model.specs.Values.{carried, result_list}
 use Rattle.com_model.proofs.Fines.{FineBy}

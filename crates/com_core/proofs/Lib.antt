@@ -23,3 +23,5 @@ pub mod Served
 pub mod Worked
 pub mod Taken
 pub mod Quiet
+pub mod Tried
+pub mod OpenWork

@@ -10,15 +10,15 @@ use Rattle.com_core.specs.Seen.{CoreView, core_state}
 use Rattle.com_core.specs.Stands.{seen_by}
 use Rattle.com_servant.specs.Rows.{one_served}
 
-served-read : (s : Scenario) (st : State) (l : ℕ) (steps : List ℕ) → 1 ≤ l
+pub served_read : (s : Scenario) (st : State) (l : ℕ) (steps : List ℕ) → 1 ≤ l
     → one_served (body_kind s (class_in st) (first (openers_in st l))) steps ≡ served_in s st l steps
 unfolding served_in
-served-read s st zero steps h = absurd (omega (arith, h))
-served-read s st (suc l) steps h = refl
+served_read s st zero steps h = absurd (omega (arith, h))
+served_read s st (suc l) steps h = refl
 
 pub served_core : {E F : Type 0} (r : Result E F) (w : Scenario) (v c : CoreView) (l : ℕ) (old new : List ℕ) → w ≡ v.scenario → v ≡ c → 1 ≤ l
     → OnOk r (new ≡ one_served (kind_seen (seen_by w v.parts v.fallen v.clock) l) old) → OnOk r (new ≡ served_in c.scenario (core_state c) l old)
 served_core (Ok e) w v c l old new same is h q =
     q ∙ ap (λ (s : Scenario). one_served (kind_seen (seen_by s v.parts v.fallen v.clock) l) old) same
-    ∙ served-read v.scenario (core_state v) l old h ∙ ap (λ (x : CoreView). served_in x.scenario (core_state x) l old) is
+    ∙ served_read v.scenario (core_state v) l old h ∙ ap (λ (x : CoreView). served_in x.scenario (core_state x) l old) is
 served_core (Err e) w v c l old new same is h q = tt

@@ -1,6 +1,6 @@
 -- A turn that is read from the parts is the next entry of the state that they are, with all that its change rests on.
 use Rattle.std.proofs.Common.{◌≡◌, ℕ, ◌+◌, ◌<◌, ◌≤◌, ◌^◌, ap, sym, ◌∙◌, subst, arith}
-use Rattle.std.specs.Prelude.{Bool, true, false, List, [], Option, Some, None, is_some, length, refl}
+use Rattle.std.specs.Prelude.{Bool, true, false, List, [], Option, Some, None, is_some, length, refl, Result, Ok, Err, OnOk}
 use Rattle.com_body.specs.declared.frame.Outcome.{Outcome}
 use Rattle.com_refs_books.specs.Changes.{Books}
 use Rattle.com_calls.specs.declared.rows.Issued.{Issued}
@@ -10,6 +10,7 @@ use Rattle.com_model.specs.declared.deeds.Deed.TheVariants as deed
 use Rattle.com_model.specs.declared.scenario.Scenario.{Scenario}
 use Rattle.com_model.specs.Books.{out_values}
 use Rattle.com_model.specs.Calls.{issues, lane_of}
+use Rattle.com_model.specs.Clock.{ticked}
 use Rattle.com_model.specs.Ends.{limit}
 use Rattle.com_model.specs.Frames.{Actor, Nobody}
 use Rattle.com_calls.specs.Waits.{next_wait}
@@ -32,7 +33,9 @@ use Rattle.com_view.proofs.Sights.{reads_state as sight_read}
 use Rattle.com_turns.specs.declared.turns.Turn.{Turn}
 use Rattle.com_turns.specs.Turns.{IsIssued, IsTurn, actor_later}
 use Rattle.com_turns.proofs.Stands.{acting_stands, after_stands, filtered_stands, next_stands, step_stands}
-use Rattle.com_refs_rows.specs.Books.{Held}
+use Rattle.com_refs_rows.specs.Books.{Held, books_held}
+use Rattle.com_core.specs.declared.running.Running.{Running}
+use Rattle.com_core.specs.Seen.{IsWhole, TurnsTo, core_state, kept_of}
 use Rattle.com_core.specs.Changes.{Takes, sent_by}
 use Rattle.com_core.specs.Making.{Changed, IsCore, MakesNext}
 use Rattle.com_core.specs.Stands.{IsGiven, IsReached, IsSent, Stands, seen_by}
@@ -185,3 +188,27 @@ tick_made s st p q b v u entered more fallen later clock t n w e m c g =
       tied = booked_later s st p b fallen clock 0 (deed.Tick t) Nobody None m.follows m.filtered None m.home m.running [] v u
           c.reached c.stands reads next given m.home_is m.running_is refl m.booked;
     }
+
+-- ---- the same of an answer
+
+pub turn_made : {A E : Type 0} (x : Result A E) (s : Scenario) (v u : Running) (l : ℕ) (o : Option Outcome) (t : Turn) → IsTurn (seen_by s v.parts v.fallen.objects v.clock) (books_held v.ledger) l o t
+    → IsNamed v.parts.objects v.parts.calls → v.parts.entries ≤ 1_000_000 → IsWhole (kept_of s v) → 1 ≤ l → l ≤ lanes s
+    → OnOk x (Changed s v.parts u.parts v.ledger u.ledger v.entered.counts u.entered.counts v.fallen.objects u.fallen.objects v.clock (record { lane = l; deed = t.doing.deed }) (acting_of t.acting) o t.doing.carried (sent_by t.doing.issued))
+    → OnOk x (u.clock ≡ ticked t.doing.deed v.clock) → OnOk x (TurnsTo s l v u (record { lane = l; deed = t.doing.deed }))
+turn_made (Ok y) s v u l o t k n w c low high m tells = record {
+  own = refl;
+  tells = tells;
+  steps = next_made s (core_state (kept_of s v)) v.parts u.parts (books_held v.ledger) v.ledger u.ledger v.entered.counts u.entered.counts v.fallen.objects u.fallen.objects v.clock l o t k n w m c low high;
+}
+turn_made (Err y) s v u l o t k n w c low high m tells = tt
+
+pub clock_made : {A E : Type 0} (x : Result A E) (s : Scenario) (v u : Running) (t : ℕ) → IsNamed v.parts.objects v.parts.calls → v.parts.entries ≤ 1_000_000 → next_wait v.parts.calls v.clock ≡ Some t
+    → IsWhole (kept_of s v) → standing_of s (core_state (kept_of s v)) ≡ standing.Ticks
+    → OnOk x (Changed s v.parts u.parts v.ledger u.ledger v.entered.counts u.entered.counts v.fallen.objects u.fallen.objects v.clock (record { lane = 0; deed = deed.Tick t }) Nobody None [] None)
+    → OnOk x (u.clock ≡ ticked (deed.Tick t) v.clock) → OnOk x (TurnsTo s 0 v u (record { lane = 0; deed = deed.Tick t }))
+clock_made (Ok y) s v u t n w time c due m tells = record {
+  own = refl;
+  tells = tells;
+  steps = tick_made s (core_state (kept_of s v)) v.parts u.parts (books_held v.ledger) v.ledger u.ledger v.entered.counts u.entered.counts v.fallen.objects u.fallen.objects v.clock t n w time m c due;
+}
+clock_made (Err y) s v u t n w time c due m tells = tt

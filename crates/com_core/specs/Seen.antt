@@ -1,5 +1,5 @@
 -- What a contract sees of a core.
-use Rattle.std.specs.Prelude.{◌≡◌, ℕ, ◌+◌, List}
+use Rattle.std.specs.Prelude.{◌≡◌, ℕ, ◌+◌, Bool, true, false, List}
 use Rattle.com_refs_rows.specs.Books.{Held, books_held}
 use Rattle.com_model.specs.declared.deeds.Entry.{Entry}
 use Rattle.com_model.specs.declared.scenario.Scenario.{Scenario}
@@ -21,6 +21,11 @@ pub record CoreView : Type 0 where
   pub entered : List ℕ
   pub fallen : List ℕ
   pub clock : ℕ
+
+-- What a contract sees of a whole core: that, and the entry that it made last.
+pub record CoreValue : Type 0 where
+  pub core : CoreView
+  pub made : Entry
 
 -- All that is kept of a history in a core of a scenario, with the room that calls and references have.
 abbrev pub kept_of : Scenario → Running → CoreView
@@ -71,10 +76,17 @@ Steps lane old new e =
     MakesNext old.scenario (core_state old) old.parts new.parts old.held new.held old.entered new.entered
     old.fallen new.fallen old.clock lane e.deed
 
--- What a core keeps has come to this by an entry of a lane: that is the lane's next one, and all has changed
--- by it.
-abbrev pub TurnsTo : Scenario → (lane : ℕ) → (old new : Running) → Entry → Type 0
-TurnsTo s lane old new e = Steps lane (kept_of s old) (kept_of s new) e
+-- What a core keeps has come to this by an entry of a lane: that is the lane's next one, all has changed by it,
+-- and the clock is what the entry tells.
+pub record TurnsTo (s : Scenario) (lane : ℕ) (old new : Running) (e : Entry) : Type 0 where
+  pub own : e.lane ≡ lane
+  pub tells : new.clock ≡ ticked e.deed old.clock
+  pub steps : Steps lane (kept_of s old) (kept_of s new) e
+
+-- A lane was tried: it made its next entry, or all is as it was but for room.
+abbrev pub TriesTo : Scenario → (lane : ℕ) → (can : Bool) → (old new : Running) → Entry → Type 0
+TriesTo s lane true old new e = TurnsTo s lane old new e
+TriesTo s lane false old new e = IsAsBefore old new
 
 -- A core is whole, and its ledger is tied to its state.
 pub record IsKept (c : CoreView) : Type 0 where

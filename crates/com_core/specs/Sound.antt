@@ -1,5 +1,6 @@
 -- What holds of a core between entries.
 use Rattle.std.specs.Prelude.{ℕ, ◌≤◌, List, All, length}
+use Rattle.com_base.specs.declared.limits.TheConstants.{ENTRY_2_LIMIT}
 use Rattle.com_scene.specs.Kept.{HasSlots}
 use Rattle.com_parts.specs.Tables.{PartTables}
 use Rattle.com_ledger.specs.Most.{Most}
@@ -11,5 +12,5 @@ pub record Sound (parts : PartTables) (entered : List ℕ) : Type 0 where
 
 -- There were a million entries at most, and no more apartments were made than there were entries.
 pub record Few (parts : PartTables) : Type 0 where
-  pub entries : parts.entries ≤ 1_000_000
+  pub entries : parts.entries ≤ ENTRY_2_LIMIT
   pub stas : length parts.lanes.stas ≤ parts.entries

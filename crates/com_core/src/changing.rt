@@ -7,7 +7,7 @@ ghost use Rattle.com_calls.specs.Kept.{IsNamed};
 ghost use Rattle.com_core.specs.Changes.{Becomes, Settles, Takes, sent_by};
 ghost use Rattle.com_core.specs.Making.{Booked, BookedBy, Brings, Changed};
 ghost use Rattle.com_core.specs.Quiet.{is_still};
-ghost use Rattle.com_core.specs.Seen.{IsAsBefore, IsWhole as IsWholeCore, TurnsTo};
+ghost use Rattle.com_core.specs.Seen.{IsAsBefore, IsWhole as IsWholeCore, TriesTo, TurnsTo};
 ghost use Rattle.com_core.specs.Seen.{core_state, kept_of};
 ghost use Rattle.com_core.specs.Shown.{held_shown, parts_shown};
 ghost use Rattle.com_core.specs.Sound.{Few, Sound};
@@ -38,7 +38,7 @@ ghost use Rattle.com_scene.specs.Ranges.{FitsDeed};
 ghost use Rattle.com_servant.specs.Rows.{one_served, row};
 ghost use Rattle.com_state.specs.After.{filtered_by};
 ghost use Rattle.com_state.specs.Parts.{issue_at, named_at, openers_at};
-ghost use Rattle.com_turns.specs.Turns.{IsTurn, actor_later, kind_seen};
+ghost use Rattle.com_turns.specs.Turns.{IsNext, IsTurn, actor_later, kind_seen};
 ghost use Rattle.com_view.specs.Seen.{filter_seen, home_seen, running_seen};
 
 use crate::running::{Running, forget};
@@ -48,7 +48,8 @@ use com_calls::Issued;
 use com_ledger::{Context, DyingScan, count_bodies, other_by, released_by};
 use com_model::{Deed, Entry, Scenario};
 use com_parts::{Begun, Change, Sent};
-use com_scene::Actor;
+use com_reference_moves::EntrySetting;
+use com_scene::{ActedEntry, Actor};
 use com_servant::Servant;
 use com_turns::{Doing, Turn, actor_after, is_filtered, next_turn};
 use std::alloc::Global;
@@ -180,16 +181,16 @@ impl Running {
         ensures ledger { self.new.ledger ≡ self.old.ledger }
         ensures clock { self.new.clock ≡ self.old.clock }
     {
-        self.moves.fill(
+        let setting = EntrySetting {
             home,
-            self.parts.objects(),
-            self.parts.calls(),
-            self.parts.scene(),
+            objects: self.parts.objects(),
+            calls: self.parts.calls(),
+            scene: self.parts.scene(),
             acting,
             outcome,
             after,
-            entry,
-        )?;
+        };
+        self.moves.fill(&setting, entry)?;
         self.make_room(entry)
     }
 
@@ -300,7 +301,13 @@ impl Running {
         ensures fresh { self.new.fresh ≡ self.old.fresh }
         ensures clock { self.new.clock ≡ self.old.clock }
     {
-        self.parts.finish(entry.lane, &entry.deed, acting, basis.after, outcome, begun);
+        let acted = ActedEntry {
+            lane: entry.lane,
+            deed: &entry.deed,
+            acting,
+            after: basis.after,
+        };
+        self.parts.finish(&acted, outcome, begun);
     }
 
     // The running bodies and the dying objects after the entry, whose parts and books are those after it.
@@ -471,7 +478,7 @@ impl Running {
         )
     }
 
-    // The entry of a turn of a lane.
+    // Makes the entry of a turn of a lane, in the place of the entry before it.
     #[tactic(auto, using(crate::proofs::Turned::next_made, crate::proofs::Runs::below_million))]
     pub(crate) fn make_turn(
         &mut self,
@@ -479,7 +486,8 @@ impl Running {
         lane: u32,
         made: Turn,
         outcome: &mut Option<Outcome>,
-    ) -> Result<Entry, Memory>
+        entry: &mut Entry,
+    ) -> Result<(), Memory>
         requires sound { Sound self.old.parts self.old.entered.counts }
         requires few { Few self.old.parts }
         requires core { IsWholeCore (kept_of scenario.now self.old) }
@@ -493,10 +501,7 @@ impl Running {
             (books_held self.old.ledger) lane outcome.old made }
         ensures few { Few self.new.parts }
         ensures sound { Sound self.new.parts self.new.entered.counts }
-        ensures lane { IfOk result (λ entry. entry.lane ≡ lane) }
-        ensures entries { OnOk result (self.new.parts.entries ≡ self.old.parts.entries + 1) }
-        ensures clock { IfOk result (λ entry. self.new.clock ≡ ticked entry.deed self.old.clock) }
-        ensures next { IfOk result (λ entry. TurnsTo scenario.now lane self.old self.new entry) }
+        ensures next { OnOk result (TurnsTo scenario.now lane self.old self.new entry.new) }
         ensures err { OnErr result (IsAsBefore self.old self.new) }
         ensures step { OnErr result (outcome.new ≡ outcome.old) }
     {
@@ -506,19 +511,11 @@ impl Running {
             issued,
             carried,
         } = doing;
-        let entry = Entry { lane, deed };
-        self.make(
-            scenario,
-            acting,
-            outcome,
-            issued,
-            carried.as_slice(),
-            &entry,
-        )?;
-        Ok(entry)
+        *entry = Entry { lane, deed };
+        self.make(scenario, acting, outcome, issued, carried.as_slice(), entry)
     }
 
-    // The turn of a lane that can step.
+    // The turn of a lane, where it can step.
     #[tactic(auto, using(crate::proofs::Whole::bodies_whole))]
     fn turn_of(
         &self,
@@ -527,31 +524,31 @@ impl Running {
         lane: u32,
         servants: &mut Vec<Box<dyn Servant + Send>>,
         step: &mut Option<Outcome>,
-    ) -> Result<Turn, Memory>
+    ) -> Result<Option<Turn>, Memory>
         requires none { step.old ≡ None }
         requires sound { Sound self.now.parts self.now.entered.counts }
         requires core { IsWholeCore (kept_of scenario.now self.now) }
-        requires can { can_step_in scenario.now (core_state (kept_of scenario.now self.now)) lane ≡ true }
         requires room { self.now.parts.entries < limit scenario.now }
         requires row { map kind_of servants.old.items ≡ row }
         ensures whole { IsWhole step.new }
         ensures named { IsNamed self.now.parts.objects self.now.parts.calls }
-        ensures turn { IfOk result (λ made. IsTurn
+        ensures turn { IfOk result (λ made. IsNext
             (seen_by scenario.now self.now.parts self.now.fallen.objects self.now.clock)
             (books_held self.now.ledger) lane step.new made) }
+        ensures can { IfOk result (λ made. is_some made
+            ≡ can_step_in scenario.now (core_state (kept_of scenario.now self.now)) lane) }
         ensures row { map kind_of servants.new.items ≡ row }
         ensures served { OnOk result (map stepped servants.new.items
             ≡ one_served (kind_seen (seen_by scenario.now
             self.now.parts self.now.fallen.objects self.now.clock) lane) (map stepped servants.old.items)) }
     {
         let view = self.view(scenario);
-        let turn = next_turn(&view, &self.ledger, alloc, lane, servants, step)?;
-        let Some(made) = turn else { unreachable!() };
-        Ok(made)
+        next_turn(&view, &self.ledger, alloc, lane, servants, step)
     }
 
-    /// Makes the next entry of a lane that can step. The step of the entry before, which lies in `step`,
-    /// makes room for that of this one. The only error is want of memory.
+    /// Tries a lane: makes its next entry, in the place of the entry before it, where the lane can step; else
+    /// nothing has changed. Whether it did. The step of the entry before, which lies in `step`, makes room for
+    /// that of this one. The only error is want of memory.
     #[tactic(auto, using(crate::proofs::Shown::as_before))]
     pub fn step(
         &mut self,
@@ -560,22 +557,21 @@ impl Running {
         lane: u32,
         servants: &mut Vec<Box<dyn Servant + Send>>,
         step: &mut Option<Outcome>,
-    ) -> Result<Entry, Memory>
+        entry: &mut Entry,
+    ) -> Result<bool, Memory>
         requires sound { Sound self.old.parts self.old.entered.counts }
         requires few { Few self.old.parts }
         requires core { IsWholeCore (kept_of scenario.now self.old) }
         requires ties { Ties scenario.now (core_state (kept_of scenario.now self.old)) self.old.ledger }
         requires above { 1 ≤ lane }
         requires below { lane ≤ lanes scenario.now }
-        requires can { can_step_in scenario.now (core_state (kept_of scenario.now self.old)) lane ≡ true }
         requires room { self.old.parts.entries < limit scenario.now }
         requires row { map kind_of servants.old.items ≡ row }
         ensures few { Few self.new.parts }
         ensures sound { Sound self.new.parts self.new.entered.counts }
-        ensures lane { IfOk result (λ entry. entry.lane ≡ lane) }
-        ensures entries { OnOk result (self.new.parts.entries ≡ self.old.parts.entries + 1) }
-        ensures clock { IfOk result (λ entry. self.new.clock ≡ ticked entry.deed self.old.clock) }
-        ensures next { IfOk result (λ entry. TurnsTo scenario.now lane self.old self.new entry) }
+        ensures can { IfOk result (λ can. can
+            ≡ can_step_in scenario.now (core_state (kept_of scenario.now self.old)) lane) }
+        ensures next { IfOk result (λ can. TriesTo scenario.now lane can self.old self.new entry.new) }
         ensures err { OnErr result (IsAsBefore self.old self.new) }
         ensures row { map kind_of servants.new.items ≡ row }
         ensures served { OnOk result (map stepped servants.new.items
@@ -583,13 +579,17 @@ impl Running {
             self.old.parts self.old.fallen.objects self.old.clock) lane) (map stepped servants.old.items)) }
     {
         forget(step);
-        let made = self.turn_of(scenario, alloc, lane, servants, step)?;
-        self.make_turn(scenario, lane, made, step)
+        let Some(made) = self.turn_of(scenario, alloc, lane, servants, step)? else {
+            return Ok(false);
+        };
+        self.make_turn(scenario, lane, made, step, entry)?;
+        Ok(true)
     }
 
-    /// Makes the clock's entry, where the clock goes on. The only error is want of memory.
+    /// Makes the clock's entry, where the clock goes on, in the place of the entry before it. The only error is
+    /// want of memory.
     #[tactic(auto, using(crate::proofs::Turned::tick_made, crate::proofs::Runs::below_million, crate::proofs::Shown::as_before))]
-    pub fn tick(&mut self, scenario: &Scenario) -> Result<Entry, Memory>
+    pub fn tick(&mut self, scenario: &Scenario, entry: &mut Entry) -> Result<(), Memory>
         requires sound { Sound self.old.parts self.old.entered.counts }
         requires few { Few self.old.parts }
         requires core { IsWholeCore (kept_of scenario.now self.old) }
@@ -598,21 +598,17 @@ impl Running {
         requires room { self.old.parts.entries < limit scenario.now }
         ensures few { Few self.new.parts }
         ensures sound { Sound self.new.parts self.new.entered.counts }
-        ensures lane { IfOk result (λ entry. entry.lane ≡ 0) }
-        ensures entries { OnOk result (self.new.parts.entries ≡ self.old.parts.entries + 1) }
-        ensures clock { IfOk result (λ entry. self.new.clock ≡ ticked entry.deed self.old.clock) }
-        ensures next { IfOk result (λ entry. TurnsTo scenario.now 0 self.old self.new entry) }
+        ensures next { OnOk result (TurnsTo scenario.now 0 self.old self.new entry.new) }
         ensures err { OnErr result (IsAsBefore self.old self.new) }
     {
         let Some(clock) = self.parts.calls().next_time(self.clock) else {
             unreachable!()
         };
-        let entry = Entry {
+        *entry = Entry {
             lane: 0,
             deed: Deed::Tick { clock },
         };
         let mut step = None;
-        self.make(scenario, Actor::Nobody, &mut step, None, &[], &entry)?;
-        Ok(entry)
+        self.make(scenario, Actor::Nobody, &mut step, None, &[], entry)
     }
 }

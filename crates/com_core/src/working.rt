@@ -7,7 +7,7 @@ ghost use Rattle.com_core.specs.Nexts.{FitsTop, kept_top};
 ghost use Rattle.com_core.specs.Seen.{IsAsBefore, IsWhole as IsWholeCore, TurnsTo, core_state, kept_of};
 ghost use Rattle.com_core.specs.Sound.{Few, Sound};
 ghost use Rattle.com_core.specs.Stands.{seen_by};
-ghost use Rattle.com_runtime.specs.Jobs.{Fits, HasShape, IsGivenBack, IsRefused, job_of, kept_in};
+ghost use Rattle.com_runtime.specs.Jobs.{Fits, IsGivenBack, IsRefused, job_of, kept_in};
 ghost use Rattle.com_runtime.specs.Standings.{can_step_in};
 ghost use Rattle.com_ledger.specs.Ties.{Ties};
 ghost use Rattle.com_refs_rows.specs.Books.{books_held};
@@ -21,7 +21,6 @@ ghost use Rattle.com_reference_moves.specs.Steps.{IsWhole};
 ghost use Rattle.com_scene.specs.Kept.{HasSlots};
 ghost use Rattle.com_servant.specs.Steps.{IsOfItsClass, job_step};
 ghost use Rattle.com_state.specs.Parts.{openers_at};
-ghost use Rattle.com_state.specs.SceneParts.{body_at};
 ghost use Rattle.com_turns.specs.Turns.{IsTurn, body_seen};
 
 use crate::running::{Running, forget};
@@ -47,6 +46,7 @@ impl Running {
     #[tactic(auto, using(crate::proofs::Whole::bodies_whole, crate::proofs::Worked::job_read))]
     pub fn job(&self, scenario: &Scenario, alloc: Global, lane: u32) -> Result<Job, Memory>
         requires sound { Sound self.now.parts self.now.entered.counts }
+        requires core { IsWholeCore (kept_of scenario.now self.now) }
         requires body { is_body (first (openers_at self.now.parts.lanes lane)) ≡ true }
         ensures job { IfOk result (λ job.
             job_of scenario.now (core_state (kept_of scenario.now self.now)) lane ≡ Some job) }
@@ -59,13 +59,11 @@ impl Running {
         work_of(&view, alloc, call, object)
     }
 
-    /// Whether a job is that of the body that acts in a lane, but for its cells. Frames have 16 registers and
-    /// 8 slots.
+    /// Whether a job is that of the body that acts in a lane, but for its cells.
     pub fn fits(&self, scenario: &Scenario, lane: u32, job: &Job) -> bool
-        ensures { ((c : ℕ) → HasShape (body_at self.now.parts.scene c)) → HasShape job.now.frame
-            → (IsTrue result ↔ FitsTop
+        ensures { IsTrue result ↔ FitsTop
             (seen_by scenario.now self.now.parts self.now.fallen.objects self.now.clock)
-            (first (openers_at self.now.parts.lanes lane)) job.now) }
+            (first (openers_at self.now.parts.lanes lane)) job.now }
     {
         let view = self.view(scenario);
         match view.lanes.top(lane) {
@@ -108,8 +106,8 @@ impl Running {
         given_turn(&view, &self.ledger, alloc, lane, outcome)
     }
 
-    // The entry of a lane in which a body acts, by a step that was computed before. Where memory is wanting
-    // the step comes back.
+    // Makes the entry of a lane in which a body acts, by a step that was computed before. Where memory is
+    // wanting the step comes back.
     #[tactic(auto, using(crate::proofs::Shown::as_before))]
     fn take(
         &mut self,
@@ -117,7 +115,8 @@ impl Running {
         alloc: Global,
         lane: u32,
         outcome: Outcome,
-    ) -> Result<Entry, Outcome>
+        entry: &mut Entry,
+    ) -> Result<(), Outcome>
         requires sound { Sound self.old.parts self.old.entered.counts }
         requires few { Few self.old.parts }
         requires core { IsWholeCore (kept_of scenario.now self.old) }
@@ -132,10 +131,7 @@ impl Running {
             (seen_by scenario.now self.old.parts self.old.fallen.objects self.old.clock) c o }
         ensures few { Few self.new.parts }
         ensures sound { Sound self.new.parts self.new.entered.counts }
-        ensures lane { IfOk result (λ entry. entry.lane ≡ lane) }
-        ensures entries { OnOk result (self.new.parts.entries ≡ self.old.parts.entries + 1) }
-        ensures clock { IfOk result (λ entry. self.new.clock ≡ ticked entry.deed self.old.clock) }
-        ensures next { IfOk result (λ entry. TurnsTo scenario.now lane self.old self.new entry) }
+        ensures next { OnOk result (TurnsTo scenario.now lane self.old self.new entry.new) }
         ensures err { OnErr result (IsAsBefore self.old self.new) }
         ensures back { IfErr result (λ step. step ≡ outcome) }
     {
@@ -143,14 +139,14 @@ impl Running {
             return Err(outcome);
         };
         let mut step = Some(outcome);
-        match self.make_turn(scenario, lane, made, &mut step) {
-            Ok(entry) => Ok(entry),
+        match self.make_turn(scenario, lane, made, &mut step, entry) {
+            Ok(()) => Ok(()),
             Err(_) => Err(given_back(step)),
         }
     }
 
-    /// Makes the next entry of a lane in which a body acts, by the outcome of a job that fits it. `Stale`
-    /// comes where the object's cells are others than the job's.
+    /// Makes the next entry of a lane in which a body acts, by the outcome of a job that fits it, in the place of
+    /// another entry. `Stale` comes where the object's cells are others than the job's.
     #[tactic(auto, using(crate::proofs::Shown::as_before))]
     pub fn commit(
         &mut self,
@@ -159,7 +155,8 @@ impl Running {
         lane: u32,
         job: Job,
         outcome: Outcome,
-    ) -> Result<Entry, CommitError>
+        entry: &mut Entry,
+    ) -> Result<(), CommitError>
         requires sound { Sound self.old.parts self.old.entered.counts }
         requires few { Few self.old.parts }
         requires core { IsWholeCore (kept_of scenario.now self.old) }
@@ -171,10 +168,7 @@ impl Running {
         requires outcome { outcome ≡ job_step scenario.now.classes job }
         ensures few { Few self.new.parts }
         ensures sound { Sound self.new.parts self.new.entered.counts }
-        ensures lane { IfOk result (λ entry. entry.lane ≡ lane) }
-        ensures entries { OnOk result (self.new.parts.entries ≡ self.old.parts.entries + 1) }
-        ensures clock { IfOk result (λ entry. self.new.clock ≡ ticked entry.deed self.old.clock) }
-        ensures next { IfOk result (λ entry. TurnsTo scenario.now lane self.old self.new entry) }
+        ensures next { OnOk result (TurnsTo scenario.now lane self.old self.new entry.new) }
         ensures fresh { OnOk result
             (job.cells ≡ kept_in (core_state (kept_of scenario.now self.old)) lane) }
         ensures refused { IfErr result (λ error.
@@ -186,8 +180,8 @@ impl Running {
         if !same_cells(&job.cells, &kept) {
             return Err(CommitError::Stale { job, kept });
         }
-        match self.take(scenario, alloc, lane, outcome) {
-            Ok(entry) => Ok(entry),
+        match self.take(scenario, alloc, lane, outcome, entry) {
+            Ok(()) => Ok(()),
             Err(outcome) => Err(CommitError::Memory { job, outcome }),
         }
     }
@@ -217,8 +211,9 @@ impl Running {
         Ok(made)
     }
 
-    /// Makes the next entry of a lane that can step, in which no body is innermost. The step of the entry before, which lies
-    /// in `step`, makes room for that of this one. The only error is want of memory.
+    /// Makes the next entry of a lane that can step, in which no body is innermost, in the place of another
+    /// entry. The step of the entry before, which lies in `step`, makes room for that of this one. The only
+    /// error is want of memory.
     #[tactic(auto, using(crate::proofs::Shown::as_before))]
     pub fn advance(
         &mut self,
@@ -226,7 +221,8 @@ impl Running {
         alloc: Global,
         lane: u32,
         step: &mut Option<Outcome>,
-    ) -> Result<Entry, Memory>
+        entry: &mut Entry,
+    ) -> Result<(), Memory>
         requires sound { Sound self.old.parts self.old.entered.counts }
         requires few { Few self.old.parts }
         requires core { IsWholeCore (kept_of scenario.now self.old) }
@@ -238,14 +234,11 @@ impl Running {
         requires room { self.old.parts.entries < limit scenario.now }
         ensures few { Few self.new.parts }
         ensures sound { Sound self.new.parts self.new.entered.counts }
-        ensures lane { IfOk result (λ entry. entry.lane ≡ lane) }
-        ensures entries { OnOk result (self.new.parts.entries ≡ self.old.parts.entries + 1) }
-        ensures clock { IfOk result (λ entry. self.new.clock ≡ ticked entry.deed self.old.clock) }
-        ensures next { IfOk result (λ entry. TurnsTo scenario.now lane self.old self.new entry) }
+        ensures next { OnOk result (TurnsTo scenario.now lane self.old self.new entry.new) }
         ensures err { OnErr result (IsAsBefore self.old self.new) }
     {
         forget(step);
         let made = self.own_turn_of(scenario, alloc, lane, step)?;
-        self.make_turn(scenario, lane, made, step)
+        self.make_turn(scenario, lane, made, step, entry)
     }
 }

@@ -15,12 +15,9 @@ ghost use Rattle.com_deeds.specs.declared.holders.Named.TheVariants as named;
 
 use crate::activation::object_in;
 use crate::target::Target;
-use com_base::{HResult, MarshalMode, RefValue};
+use com_base::{HResult, MarshalMode, PUBLIC_REFERENCES, RefValue};
 use com_model::Deed;
 use com_refs_books::{Cookie, Packet};
-
-/// The public references that a proxy is given at a time.
-pub const FIVE: u32 = 5;
 
 /// Why a reference is not marshalled or registered, if it is not: CO_E_NOTINITIALIZED without home, E_POINTER
 /// for null, CO_E_OBJNOTCONNECTED where the object is not connected; the first that applies.
@@ -74,7 +71,7 @@ fn gained_refs(mode: MarshalMode, is_owned: bool, refs: u32) -> u32
     }
     match mode {
         MarshalMode::Normal => refs,
-        MarshalMode::Strong | MarshalMode::Weak => FIVE,
+        MarshalMode::Strong | MarshalMode::Weak => PUBLIC_REFERENCES,
     }
 }
 

@@ -19,7 +19,7 @@ pub use apartments::{filter_deed, in_sta, init_deed, uninit_deed};
 pub use calls::{call_refusal, out, refusal_or_ok, route_to};
 pub use com_base::Memory;
 pub use holders::{
-    FIVE, Named, disconnect_deed, drop_deed, get_deed, hold_refusal, register_deed, revoke_deed,
+    Named, disconnect_deed, drop_deed, get_deed, hold_refusal, register_deed, revoke_deed,
     unmarshal_deed,
 };
 pub use packets::{marshal_deed, packet_fields, refused_marshal_deed, standard_fields};

@@ -10,7 +10,7 @@ use Rattle.com_body.specs.declared.operands.Destination.TheVariants as destinati
 use Rattle.com_body.specs.declared.statements.Stmt.{Stmt}
 use Rattle.com_body.specs.declared.statements.Stmt.TheVariants as stmts
 use Rattle.com_classes.specs.declared.interfaces.Interface.{Interface}
-use Rattle.com_dispatch.specs.declared.invoke.standing.TheConstants.{ANSWER}
+use Rattle.com_base.specs.declared.limits.TheConstants.{ANSWER_REGISTER}
 use Rattle.com_dispatch.specs.declared.members.Bound.{Bound}
 use Rattle.com_dispatch.specs.declared.members.DispArg.{DispArg}
 use Rattle.com_dispatch.specs.declared.members.DispArg.TheVariants as given
@@ -41,11 +41,11 @@ argument_of (given.Literal v) = args.Op (ops.Literal v)
 argument_of (given.Slot n) = args.Slot n
 argument_of given.Null = args.Null
 
--- A bound one stands for the call of its method; a refused one for the register `ANSWER` set to the
+-- A bound one stands for the call of its method; a refused one for the register `ANSWER_REGISTER` set to the
 -- refusal's 32 bits, without a sign.
 unfoldable pub statement_of : Invocation → BindOutcome → Stmt
 statement_of i (outcomes.Bound b) = stmts.Call i.slot i.iface b.method (map argument_of b.args) i.destination
-statement_of i (outcomes.Refused hr) = stmts.Set ANSWER (ops.Literal (values.Int (pos hr.0)))
+statement_of i (outcomes.Refused hr) = stmts.Set ANSWER_REGISTER (ops.Literal (values.Int (pos hr.0)))
 
 -- its numbers of slots are in their ranges
 abbrev pub IsOutcome : BindOutcome → Type 0

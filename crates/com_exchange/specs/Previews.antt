@@ -1,6 +1,7 @@
 -- The public references that the packets of one call will hold, before they are made.
 use Rattle.std.specs.Prelude.{◌≡◌, ℕ, ◌-◌, ◌/◌, Bool, ◌==◌, ◌&&◌, not, nat_le, if◌then◌else◌, List, [], ◌∷◌}
 use Rattle.std.specs.Prelude.{◌++◌}
+use Rattle.com_base.specs.declared.limits.TheConstants.{PUBLIC_REFERENCES}
 use Rattle.com_base.specs.declared.value.RefValue.{RefValue}
 use Rattle.com_refs_books.specs.Changes.{Books}
 use Rattle.com_refs_books.specs.declared.keeps.Packet.{Packet}
@@ -18,9 +19,11 @@ reference_of x = record { object = x.object; iface = x.iface }
 abbrev pub refs_in : Packet → ℕ
 refs_in p = p.refs
 
--- A packet gets 5 new references, or half of a proxy's, rounded down, where that has at least 2.
+-- A packet gets as many new references as a proxy is given at a time, or half of a proxy's, rounded down, where
+-- that has at least 2.
 abbrev pub refs_of : (owned : Bool) → (held : ℕ) → ℕ
-refs_of owned n = if owned then 5 else if nat_le 2 n then n / 2 else 5
+refs_of owned n =
+    if owned then PUBLIC_REFERENCES else if nat_le 2 n then n / 2 else PUBLIC_REFERENCES
 
 abbrev pub halved : ℕ → ℕ
 halved n = if nat_le 2 n then n - n / 2 else n

@@ -5,7 +5,7 @@ ghost use Rattle.com_refs_books.specs.Changes.{Books, marshal_all, entered_rows}
 ghost use Rattle.com_exchange.specs.Previews.{IsOutgoing, reference_of, refs_in, refs_of, after_one};
 ghost use Rattle.com_exchange.specs.Previews.{left_after, previewed, refs_if_connected};
 
-use com_base::{Memory, Rows};
+use com_base::{Memory, PUBLIC_REFERENCES, Rows};
 use std::alloc::Global;
 
 /// A reference that a call is to marshal, as its apartment holds it.
@@ -23,12 +23,16 @@ pub struct Outgoing {
     pub is_connected: bool,
 }
 
-// The public references of a normal packet: 5 new ones, or half of those that a proxy has, where it has at
-// least 2.
+// The public references of a normal packet: as many new ones as a proxy is given at a time, or half of those
+// that a proxy has, where it has at least 2.
 fn refs_of(is_owned: bool, held: u32) -> u32
     ensures { result ≡ refs_of is_owned held }
 {
-    if is_owned || held < 2 { 5 } else { held / 2 }
+    if is_owned || held < 2 {
+        PUBLIC_REFERENCES
+    } else {
+        held / 2
+    }
 }
 
 // What is held for a reference after another one was marshalled: half less where both are the same and a

@@ -3,6 +3,7 @@ use Rattle.std.proofs.Common.{◌≡◌, ℕ, List, [], ◌∷◌, take, Option,
 use Rattle.std.specs.Bool.{Decides}
 use Rattle.std.proofs.lemmas.Bool.Decides.{Decides-and, Decides-eqb, Decides-like}
 use Rattle.std.proofs.lemmas.Slice.Eq.{bytes_eq-Decides}
+use Rattle.com_base.specs.declared.built_ins.TheConstants.{BUILT_IN_COUNT}
 use Rattle.com_base.specs.declared.guid.Guid.{Guid}
 use Rattle.com_base.specs.declared.value.Kind.{Kind}
 use Rattle.com_classes.specs.declared.interfaces.Interface.{Interface}
@@ -39,7 +40,7 @@ interface_is i n g ms e1 e2 e3 =
 -- ---- the first four of a list
 
 pub four_at : {X : Type 0} (xs : List X) (a b c d : X) → Some a ≡ slice_get xs 0 → Some b ≡ slice_get xs 1 → Some c ≡ slice_get xs 2
-    → Some d ≡ slice_get xs 3 → take 4 xs ≡ a ∷ b ∷ c ∷ d ∷ []
+    → Some d ≡ slice_get xs 3 → take BUILT_IN_COUNT xs ≡ a ∷ b ∷ c ∷ d ∷ []
 four_at [] a b c d e0 e1 e2 e3 = absurd cc
 four_at (w ∷ []) a b c d e0 e1 e2 e3 = absurd cc
 four_at (w ∷ x ∷ []) a b c d e0 e1 e2 e3 = absurd cc
@@ -53,7 +54,7 @@ pub record Four {X : Type 0} (xs : List X) (a b c d : X) : Type 0 where
   pub third : slice_get xs 2 ≡ Some c
   pub fourth : slice_get xs 3 ≡ Some d
 
-pub four_there : {X : Type 0} (xs : List X) (a b c d : X) → take 4 xs ≡ a ∷ b ∷ c ∷ d ∷ [] → Four xs a b c d
+pub four_there : {X : Type 0} (xs : List X) (a b c d : X) → take BUILT_IN_COUNT xs ≡ a ∷ b ∷ c ∷ d ∷ [] → Four xs a b c d
 four_there [] a b c d e = absurd cc
 four_there (w ∷ []) a b c d e = absurd cc
 four_there (w ∷ x ∷ []) a b c d e = absurd cc

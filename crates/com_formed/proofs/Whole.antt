@@ -1,6 +1,8 @@
 -- A list whose skips end inside it is a body within each limit that its length keeps.
 use Rattle.std.proofs.Common.{◌≡◌, ℕ, ◌≤◌, ◌<◌, List, length, Option, Some, None, Bool, true, false, refl, ap, ◌∙◌, arith, nat_lt, ◌^◌, All, take, if◌then◌else◌}
 use Rattle.std.proofs.lemmas.Bool.Decides.{nat_tests}
+use Rattle.com_base.specs.declared.built_ins.TheConstants.{BUILT_IN_COUNT}
+use Rattle.com_base.specs.declared.limits.TheConstants.{CLASS_LIMIT, FILTER_LIMIT, INTERFACE_LIMIT, POOL_LIMIT, SCRIPT_LIMIT, THREAD_LIMIT}
 use Rattle.com_body.specs.declared.statements.Stmt.{Stmt}
 use Rattle.com_body.specs.declared.body.BodyFault.{BodyFault}
 use Rattle.com_body.specs.declared.body.BodyFault.TheVariants as fault
@@ -34,16 +36,16 @@ pub formed_body : (s : Scenario) (x : Context) (limit : ℕ) (b : List Stmt) →
 formed_body s x limit b is few each =
     record { ranges = is.in_range; statements = each; whole = whole_body b limit is.inside few }
 
-pub formed_interfaces : (xs : List Interface) → length xs ≤ 64 → take 4 xs ≡ built_in_interfaces → EachFrom IsInterface 0 xs → All IsAllowed xs
+pub formed_interfaces : (xs : List Interface) → length xs ≤ INTERFACE_LIMIT → take BUILT_IN_COUNT xs ≡ built_in_interfaces → EachFrom IsInterface 0 xs → All IsAllowed xs
     → Distinct same_interface xs → FormedInterfaces xs
 formed_interfaces xs few built each allowed distinct =
     record { built = built; few = few; each = each; allowed = allowed; distinct = distinct }
 
-pub formed_classes : (s : Scenario) → length s.classes.classes ≤ 64 → EachFrom (IsClass s) 1 s.classes.classes → Distinct same_class s.classes.classes → FormedClasses s
+pub formed_classes : (s : Scenario) → length s.classes.classes ≤ CLASS_LIMIT → EachFrom (IsClass s) 1 s.classes.classes → Distinct same_class s.classes.classes → FormedClasses s
 formed_classes s few each distinct = record { few = few; each = each; distinct = distinct }
 
-pub formed : (s : Scenario) → (1 ≤ s.version) × (s.version ≤ 2) → (1 ≤ s.pool) × (s.pool ≤ 8) → FormedInterfaces s.classes.interfaces → FormedClasses s
-    → All IsFilter s.filters × (length s.filters ≤ 16) → All (FormedBody s (in_script s) 2000) s.threads × (length s.threads ≤ 16)
+pub formed : (s : Scenario) → (1 ≤ s.version) × (s.version ≤ 2) → (1 ≤ s.pool) × (s.pool ≤ POOL_LIMIT) → FormedInterfaces s.classes.interfaces → FormedClasses s
+    → All IsFilter s.filters × (length s.filters ≤ FILTER_LIMIT) → All (FormedBody s (in_script s) SCRIPT_LIMIT) s.threads × (length s.threads ≤ THREAD_LIMIT)
     → All (λ l. l < 2 ^ 32) s.picks → Formed s
 formed s version pool interfaces classes filters threads picks =
     record { version = version; pool = pool; interfaces = interfaces; classes = classes; filters = filters; threads = threads; picks = picks }

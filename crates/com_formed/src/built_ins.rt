@@ -5,7 +5,7 @@ ghost use Rattle.com_classes.specs.BuiltIns.{iunknown, icounter, irelay, ilatch,
 ghost use Rattle.com_formed.specs.Methods.{method_of};
 
 use crate::tables::same_guid;
-use com_base::{Guid, ICOUNTER, IID_IUNKNOWN, ILATCH, IRELAY, IUNKNOWN, Kind};
+use com_base::{BUILT_IN_COUNT, Guid, ICOUNTER, IID_IUNKNOWN, ILATCH, IRELAY, IUNKNOWN, Kind};
 use com_classes::{Classes, Interface, Method, built_in_iid};
 
 // Whether an IID is this one.
@@ -104,7 +104,7 @@ fn is_ilatch(interface: &Interface) -> bool
 // Whether the interfaces begin with IUnknown, ICounter, IRelay and ILatch.
 #[tactic(auto, using(crate::proofs::Same::four_at, crate::proofs::Same::four_there))]
 pub(crate) fn begins_built_in(classes: &Classes) -> bool
-    ensures { IsTrue result ↔ (take 4 classes.now.interfaces ≡ built_in_interfaces) }
+    ensures { IsTrue result ↔ (take BUILT_IN_COUNT classes.now.interfaces ≡ built_in_interfaces) }
 {
     let Some(unknown) = classes.interface(IUNKNOWN) else {
         return false;

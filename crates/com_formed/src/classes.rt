@@ -9,7 +9,7 @@ ghost use Rattle.com_model.specs.Formed.{same_class, EachFrom, Distinct, FormedC
 use crate::statements::{Standing, is_body};
 use crate::tables::{class_at, is_declared, same_guid};
 use crate::words::is_name;
-use com_base::{BODY_LIMIT, CLASS_LIMIT, ICOUNTER, ILATCH, IRELAY, LISTED_LIMIT};
+use com_base::{BODY_LIMIT, CLASS_LIMIT, ICOUNTER, ILATCH, INTERFACE_LIMIT, IRELAY, LISTED_LIMIT};
 use com_body::Native;
 use com_classes::{Class, Classes, MethodBody, ThreadingModel};
 use com_model::Scenario;
@@ -44,7 +44,7 @@ fn has_method(classes: &Classes, iface: u16, method: u16) -> bool
 
 // Whether a method's body may stand here.
 fn is_method_body(scenario: &Scenario, at: &Standing, body: &MethodBody) -> bool
-    requires { length scenario.now.classes.interfaces ≤ 64 }
+    requires { length scenario.now.classes.interfaces ≤ INTERFACE_LIMIT }
     ensures { IsTrue result ↔ IsBody scenario.now at.now body.now }
 {
     is_body(scenario, at, BODY_LIMIT, &body.body)
@@ -97,7 +97,7 @@ fn is_native(class: &Class) -> bool
 
 // Whether the class with this number keeps the form and the limits, and names only what is declared.
 fn is_class(scenario: &Scenario, number: u32, class: &Class) -> bool
-    requires { length scenario.now.classes.interfaces ≤ 64 }
+    requires { length scenario.now.classes.interfaces ≤ INTERFACE_LIMIT }
     ensures { IsTrue result ↔ IsClass scenario.now number class.now }
 {
     let at = in_class(number, class);
@@ -119,9 +119,9 @@ fn is_class(scenario: &Scenario, number: u32, class: &Class) -> bool
 // Whether the classes from an index on are such.
 #[tactic(auto, using(crate::proofs::Walks::there, crate::proofs::Walks::each_past))]
 fn are_classes(scenario: &Scenario, index: u32) -> bool
-    requires few { length scenario.now.classes.classes ≤ 64 }
-    requires inside { index ≤ 64 }
-    requires named { length scenario.now.classes.interfaces ≤ 64 }
+    requires few { length scenario.now.classes.classes ≤ CLASS_LIMIT }
+    requires inside { index ≤ CLASS_LIMIT }
+    requires named { length scenario.now.classes.interfaces ≤ INTERFACE_LIMIT }
     ensures { IsTrue result
         ↔ EachFrom (IsClass scenario.now) (index + 1) (drop index scenario.now.classes.classes) }
 {
@@ -147,8 +147,8 @@ fn are_apart(left: &Class, right: &Class) -> bool
 // Whether no class from an index on has the name or the CLSID of this one.
 #[tactic(auto, using(crate::proofs::Walks::there, crate::proofs::Walks::all_past))]
 fn is_class_new(class: &Class, classes: &Classes, index: u32) -> bool
-    requires few { length classes.now.classes ≤ 64 }
-    requires inside { index ≤ 64 }
+    requires few { length classes.now.classes ≤ CLASS_LIMIT }
+    requires inside { index ≤ CLASS_LIMIT }
     ensures { IsTrue result
         ↔ All (λ other. same_class class.now other ≡ false) (drop index classes.now.classes) }
 {
@@ -161,8 +161,8 @@ fn is_class_new(class: &Class, classes: &Classes, index: u32) -> bool
 // Whether no two classes from an index on have one name or one CLSID.
 #[tactic(auto, using(crate::proofs::Walks::there, crate::proofs::Walks::distinct_past))]
 fn are_classes_distinct(classes: &Classes, index: u32) -> bool
-    requires few { length classes.now.classes ≤ 64 }
-    requires inside { index ≤ 64 }
+    requires few { length classes.now.classes ≤ CLASS_LIMIT }
+    requires inside { index ≤ CLASS_LIMIT }
     ensures { IsTrue result ↔ Distinct same_class (drop index classes.now.classes) }
 {
     let Some(class) = class_at(classes, index) else {
@@ -171,19 +171,19 @@ fn are_classes_distinct(classes: &Classes, index: u32) -> bool
     is_class_new(class, classes, index + 1) && are_classes_distinct(classes, index + 1)
 }
 
-// Whether there are at most 64 classes.
+// Whether there are at most `CLASS_LIMIT` classes.
 #[tactic(auto, using(crate::proofs::Walks::there, crate::proofs::Walks::past))]
 fn are_classes_few(classes: &Classes) -> bool
-    ensures { IsTrue result ↔ (length classes.now.classes ≤ 64) }
+    ensures { IsTrue result ↔ (length classes.now.classes ≤ CLASS_LIMIT) }
 {
     class_at(classes, CLASS_LIMIT as u32).is_none()
 }
 
-// Whether the classes are at most 64, keep their forms, name only what is declared, and repeat no name or
-// CLSID.
+// Whether the classes are at most `CLASS_LIMIT`, keep their forms, name only what is declared, and repeat no
+// name or CLSID.
 #[tactic(auto, using(crate::proofs::Whole::formed_classes))]
 pub(crate) fn are_classes_formed(scenario: &Scenario) -> bool
-    requires { length scenario.now.classes.interfaces ≤ 64 }
+    requires { length scenario.now.classes.interfaces ≤ INTERFACE_LIMIT }
     ensures { IsTrue result ↔ FormedClasses scenario.now }
 {
     are_classes_few(&scenario.classes)

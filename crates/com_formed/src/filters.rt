@@ -1,13 +1,11 @@
 //! Message filters and their rules.
 
 ghost use Rattle.std.specs.Prelude.{◌≤◌, ◌↔◌, IsTrue, All, length};
-ghost use Rattle.com_model.specs.Formed.{IsType, IsAsked, IsRetryAnswer, IsRule, IsFilter, last_ms};
+ghost use Rattle.com_model.specs.Formed.{IsType, IsAsked, IsRetryAnswer, IsRule, IsFilter};
 
-use com_base::{FILTER_LIMIT, RULE_LIMIT, Rows};
+use com_base::{FILTER_LIMIT, LAST_MS, RULE_LIMIT, Rows};
+use com_cause::{NESTED, TOP_LEVEL, TOP_LEVEL_CALL_PENDING};
 use com_filter::{Filter, Rule, Verdict};
-
-// The greatest time of a rule, in milliseconds.
-const LAST_MS: u32 = 2_147_483_647;
 
 // Whether a call type is one of the three that are asked about, or any.
 fn is_type(call_type: Option<u8>) -> bool
@@ -15,7 +13,7 @@ fn is_type(call_type: Option<u8>) -> bool
 {
     match call_type {
         None => true,
-        Some(number) => number == 1 || number == 2 || number == 4,
+        Some(number) => number == TOP_LEVEL || number == NESTED || number == TOP_LEVEL_CALL_PENDING,
     }
 }
 
@@ -31,11 +29,11 @@ fn is_asked(verdict: Option<Verdict>) -> bool
 fn is_retry_answer(answer: i64) -> bool
     ensures { IsTrue result ↔ IsRetryAnswer answer }
 {
-    -1 <= answer && answer <= 2_147_483_647
+    -1 <= answer && answer <= LAST_MS as i64
 }
 
 fn is_time(ms: u32) -> bool
-    ensures { IsTrue result ↔ (ms ≤ last_ms) }
+    ensures { IsTrue result ↔ (ms ≤ LAST_MS) }
 {
     ms <= LAST_MS
 }
@@ -61,9 +59,9 @@ fn is_filter(filter: &Filter) -> bool
     filter.rules().iter().all(|rule| is_rule(rule)) && filter.rules().len() <= RULE_LIMIT
 }
 
-// Whether there are at most 16 filters, each of at most 32 rules that keep their ranges.
+// Whether there are at most `FILTER_LIMIT` filters, each of at most `RULE_LIMIT` rules that keep their ranges.
 pub(crate) fn are_filters(filters: &Rows<Filter>) -> bool
-    ensures { IsTrue result ↔ (All IsFilter filters.now × (length filters.now ≤ 16)) }
+    ensures { IsTrue result ↔ (All IsFilter filters.now × (length filters.now ≤ FILTER_LIMIT)) }
 {
     filters.as_slice().iter().all(|filter| is_filter(filter)) && filters.len() <= FILTER_LIMIT
 }

@@ -84,8 +84,8 @@ fn is_interface(number: u16, interface: &Interface) -> bool
 // Whether the interfaces from a number on keep the form and the limits.
 #[tactic(auto, using(crate::proofs::Walks::there, crate::proofs::Walks::each_past))]
 fn are_interfaces(classes: &Classes, number: u16) -> bool
-    requires few { length classes.now.interfaces ≤ 64 }
-    requires inside { number ≤ 64 }
+    requires few { length classes.now.interfaces ≤ INTERFACE_LIMIT }
+    requires inside { number ≤ INTERFACE_LIMIT }
     ensures { IsTrue result ↔ EachFrom IsInterface number (drop number classes.now.interfaces) }
 {
     let Some(interface) = classes.interface(number) else {
@@ -124,8 +124,8 @@ fn is_allowed(interface: &Interface) -> bool
 // Whether a scenario may declare the interfaces from a number on.
 #[tactic(auto, using(crate::proofs::Walks::there, crate::proofs::Walks::all_past))]
 fn are_allowed(classes: &Classes, number: u16) -> bool
-    requires few { length classes.now.interfaces ≤ 64 }
-    requires inside { number ≤ 64 }
+    requires few { length classes.now.interfaces ≤ INTERFACE_LIMIT }
+    requires inside { number ≤ INTERFACE_LIMIT }
     ensures { IsTrue result ↔ All IsAllowed (drop number classes.now.interfaces) }
 {
     let Some(interface) = classes.interface(number) else {
@@ -150,8 +150,8 @@ fn are_apart(left: &Interface, right: &Interface) -> bool
 // Whether no interface from a number on has the name or the IID of this one.
 #[tactic(auto, using(crate::proofs::Walks::there, crate::proofs::Walks::all_past))]
 fn is_interface_new(interface: &Interface, classes: &Classes, number: u16) -> bool
-    requires few { length classes.now.interfaces ≤ 64 }
-    requires inside { number ≤ 64 }
+    requires few { length classes.now.interfaces ≤ INTERFACE_LIMIT }
+    requires inside { number ≤ INTERFACE_LIMIT }
     ensures { IsTrue result
         ↔ All (λ other. same_interface interface.now other ≡ false) (drop number classes.now.interfaces) }
 {
@@ -164,8 +164,8 @@ fn is_interface_new(interface: &Interface, classes: &Classes, number: u16) -> bo
 // Whether no two interfaces from a number on have one name or one IID.
 #[tactic(auto, using(crate::proofs::Walks::there, crate::proofs::Walks::distinct_past))]
 fn are_interfaces_distinct(classes: &Classes, number: u16) -> bool
-    requires few { length classes.now.interfaces ≤ 64 }
-    requires inside { number ≤ 64 }
+    requires few { length classes.now.interfaces ≤ INTERFACE_LIMIT }
+    requires inside { number ≤ INTERFACE_LIMIT }
     ensures { IsTrue result ↔ Distinct same_interface (drop number classes.now.interfaces) }
 {
     let Some(interface) = classes.interface(number) else {
@@ -174,16 +174,16 @@ fn are_interfaces_distinct(classes: &Classes, number: u16) -> bool
     is_interface_new(interface, classes, number + 1) && are_interfaces_distinct(classes, number + 1)
 }
 
-// Whether there are at most 64 interfaces.
+// Whether there are at most `INTERFACE_LIMIT` interfaces.
 #[tactic(auto, using(crate::proofs::Walks::there, crate::proofs::Walks::past))]
 fn are_interfaces_few(classes: &Classes) -> bool
-    ensures { IsTrue result ↔ (length classes.now.interfaces ≤ 64) }
+    ensures { IsTrue result ↔ (length classes.now.interfaces ≤ INTERFACE_LIMIT) }
 {
     classes.interface(INTERFACE_LIMIT as u16).is_none()
 }
 
-// Whether the interfaces begin with the four built-in ones, are at most 64, keep their forms, and repeat no
-// name or IID.
+// Whether the interfaces begin with the built-in ones, are at most `INTERFACE_LIMIT`, keep their forms, and
+// repeat no name or IID.
 #[tactic(auto, using(crate::proofs::Whole::formed_interfaces))]
 pub(crate) fn are_interfaces_formed(classes: &Classes) -> bool
     ensures { IsTrue result ↔ FormedInterfaces classes.now.interfaces }

@@ -8,13 +8,13 @@ use crate::filters::are_filters;
 use crate::interfaces::are_interfaces_formed;
 use crate::statements::{Standing, is_body};
 use crate::tables::count_classes;
-use com_base::{POOL_LIMIT, Rows, SCRIPT_LIMIT, THREAD_LIMIT};
+use com_base::{CLASS_LIMIT, INTERFACE_LIMIT, POOL_LIMIT, Rows, SCRIPT_LIMIT, THREAD_LIMIT};
 use com_body::Body;
 use com_model::Scenario;
 
 // Where the statements of a script stand.
 fn in_script(scenario: &Scenario) -> Standing
-    requires few { length scenario.now.classes.classes ≤ 64 }
+    requires few { length scenario.now.classes.classes ≤ CLASS_LIMIT }
     ensures { result ≡ in_script scenario.now }
 {
     Standing {
@@ -24,13 +24,14 @@ fn in_script(scenario: &Scenario) -> Standing
     }
 }
 
-// Whether there are at most 16 scripts, each of at most 2,000 statements that may stand in a script.
+// Whether there are at most `THREAD_LIMIT` scripts, each of at most `SCRIPT_LIMIT` statements that may stand
+// in a script.
 fn are_threads(scenario: &Scenario) -> bool
-    requires few { length scenario.now.classes.classes ≤ 64 }
-    requires named { length scenario.now.classes.interfaces ≤ 64 }
+    requires few { length scenario.now.classes.classes ≤ CLASS_LIMIT }
+    requires named { length scenario.now.classes.interfaces ≤ INTERFACE_LIMIT }
     ensures { IsTrue result
-        ↔ (All (FormedBody scenario.now (in_script scenario.now) 2000) scenario.now.threads
-        × (length scenario.now.threads ≤ 16)) }
+        ↔ (All (FormedBody scenario.now (in_script scenario.now) SCRIPT_LIMIT) scenario.now.threads
+        × (length scenario.now.threads ≤ THREAD_LIMIT)) }
 {
     let at = in_script(scenario);
     scenario

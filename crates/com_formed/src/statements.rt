@@ -9,7 +9,7 @@ ghost use Rattle.com_model.specs.Formed.{IsStatement, FormedBody};
 
 use crate::tables::is_declared;
 use crate::words::is_operand;
-use com_base::{Kind, RAW_LIMIT, SCRIPT_LIMIT};
+use com_base::{INTERFACE_LIMIT, Kind, PUMP_LIMIT, RAW_LIMIT, SKIP_LIMIT};
 use com_body::{Arg, Asked, Body, Destination, Given, Place, Stmt};
 use com_classes::Method;
 use com_model::Scenario;
@@ -43,7 +43,7 @@ fn is_class_named(at: &Standing, class: Asked) -> bool
 }
 
 fn is_interface_named(scenario: &Scenario, iface: Asked) -> bool
-    requires { length scenario.now.classes.interfaces ≤ 64 }
+    requires { length scenario.now.classes.interfaces ≤ INTERFACE_LIMIT }
     ensures { IsTrue result ↔ IsInterfaceNamed scenario.now iface }
 {
     match iface {
@@ -142,14 +142,14 @@ fn is_filter_named(scenario: &Scenario, filter: Option<u32>) -> bool
 
 // Whether so many statements may be passed over.
 fn is_skip(count: u32) -> bool
-    ensures { IsTrue result ↔ ((1 ≤ count) × (count ≤ 2000)) }
+    ensures { IsTrue result ↔ ((1 ≤ count) × (count ≤ SKIP_LIMIT)) }
 {
-    1 <= count && count as usize <= SCRIPT_LIMIT
+    1 <= count && count <= SKIP_LIMIT
 }
 
 // Whether a statement may stand here.
 fn is_statement(scenario: &Scenario, at: &Standing, statement: &Stmt) -> bool
-    requires { length scenario.now.classes.interfaces ≤ 64 }
+    requires { length scenario.now.classes.interfaces ≤ INTERFACE_LIMIT }
     ensures { IsTrue result ↔ IsStatement scenario.now at.now statement.now }
 {
     match statement {
@@ -183,7 +183,7 @@ fn is_statement(scenario: &Scenario, at: &Standing, statement: &Stmt) -> bool
         Stmt::Init { .. } => !at.body,
         Stmt::Uninit => !at.body,
         Stmt::SetFilter { filter } => !at.body && is_filter_named(scenario, *filter),
-        Stmt::Pump { bound } => !at.body && *bound <= 1000,
+        Stmt::Pump { bound } => !at.body && *bound <= PUMP_LIMIT,
         _ => true,
     }
 }
@@ -191,7 +191,7 @@ fn is_statement(scenario: &Scenario, at: &Standing, statement: &Stmt) -> bool
 // Whether a body or a script has at most so many statements, and each of them may stand there.
 #[tactic(auto, using(crate::proofs::Whole::formed_body, crate::proofs::Whole::short_body))]
 pub(crate) fn is_body(scenario: &Scenario, at: &Standing, limit: usize, body: &Body) -> bool
-    requires { length scenario.now.classes.interfaces ≤ 64 }
+    requires { length scenario.now.classes.interfaces ≤ INTERFACE_LIMIT }
     ensures { IsTrue result ↔ FormedBody scenario.now at.now limit body.now }
 {
     let statements = body.statements();

@@ -36,7 +36,7 @@ pub(crate) fn class_at(classes: &Classes, index: u32) -> Option<&Class>
 // How many classes there are.
 #[tactic(auto, using(crate::proofs::Walks::there, crate::proofs::Walks::past))]
 pub(crate) fn count_classes(classes: &Classes) -> u32
-    requires { length classes.now.classes ≤ 64 }
+    requires { length classes.now.classes ≤ CLASS_LIMIT }
     ensures { result ≡ length classes.now.classes }
 {
     for index in 0..CLASS_LIMIT as u32 {

@@ -3,7 +3,7 @@
 ghost use Rattle.std.specs.Prelude.{◌≡◌, ◌≤◌, ◌↔◌, IsTrue, All, length, true};
 ghost use Rattle.com_model.specs.Formed.{is_letter, is_name_byte, is_text_byte, IsName, IsLiteral, IsOperand};
 
-use com_base::{LITERAL_LIMIT, Value};
+use com_base::{LITERAL_LIMIT, NAME_LIMIT, Value};
 use com_body::Op;
 
 // Whether a byte is a letter of ASCII.
@@ -20,13 +20,15 @@ fn is_name_byte(byte: u8) -> bool
     is_letter(byte) || matches!(byte, b'0'..=b'9' | b'_')
 }
 
-// Whether bytes are a name: a letter, and up to 31 letters, digits and low lines behind it.
+// Whether bytes are a name: a letter, and letters, digits and low lines behind it, `NAME_LIMIT` bytes at most.
 pub(crate) fn is_name(name: &[u8]) -> bool
     ensures { IsTrue result ↔ IsName name.now }
 {
     match name {
         [first, rest @ ..] => {
-            is_letter(*first) && rest.iter().all(|byte| is_name_byte(*byte)) && rest.len() <= 31
+            is_letter(*first)
+                && rest.iter().all(|byte| is_name_byte(*byte))
+                && rest.len() < NAME_LIMIT
         }
         [] => false,
     }
@@ -41,7 +43,7 @@ fn is_text_byte(byte: u8) -> bool
 
 // Whether bytes may stand between the marks of a text literal, as the language limits them.
 fn is_text(bytes: &[u8]) -> bool
-    ensures { IsTrue result ↔ (All (λ c. is_text_byte c ≡ true) bytes.now × (length bytes.now ≤ 256)) }
+    ensures { IsTrue result ↔ (All (λ c. is_text_byte c ≡ true) bytes.now × (length bytes.now ≤ LITERAL_LIMIT)) }
 {
     bytes.iter().all(|byte| is_text_byte(*byte)) && bytes.len() <= LITERAL_LIMIT
 }

@@ -6,3 +6,4 @@ pub mod Fitting
 pub mod Times
 pub mod Takes
 pub mod Shapes
+pub mod OpenWork

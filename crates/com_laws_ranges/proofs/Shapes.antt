@@ -39,7 +39,8 @@ use Rattle.com_laws_ranges.proofs.Fitting.{entry-fits}
 use Rattle.com_runtime.proofs.Runs.{stands-later}
 use Rattle.com_scene.specs.Ranges.{FitsDeed}
 use Rattle.com_runtime.specs.Standings.{Reached}
-use Rattle.com_runtime.specs.Jobs.{HasShape, job_above, job_by, job_of}
+use Rattle.com_runtime.specs.Jobs.{job_above, job_by, job_of}
+use Rattle.com_laws_ranges.specs.Shapes.{HasShape}
 use Rattle.com_servant.specs.Steps.{native_at}
 
 -- ---- one frame

@@ -13,8 +13,7 @@ use Rattle.com_model.specs.declared.scenario.Scenario.{Scenario}
 use Rattle.com_model.specs.Formed.{Formed}
 use Rattle.com_model.specs.Ends.{limit}
 use Rattle.com_model.specs.Lists.{where_true}
-use Rattle.com_model.specs.Openers.{openers}
-use Rattle.com_model.specs.Apartments.{makes_sta, ends_sta, is_sta, init_count, next_sta, stas}
+use Rattle.com_model.specs.Apartments.{makes_sta, ends_sta, is_sta, init_count, next_sta}
 use Rattle.com_model.specs.Objects.{finals, objects}
 use Rattle.com_model.specs.Calls.{calls}
 use Rattle.com_model.specs.Books.{books}

@@ -3,6 +3,7 @@ use Rattle.std.proofs.Common.{subst, sym, ◌∙◌, arith}
 use Rattle.std.proofs.lemmas.List.Elements.{All-nil}
 use Rattle.std.specs.Prelude.{◌≡◌, refl, ℕ, ℤ, zero, suc, pos, negsuc, ◌+◌, ◌*◌, ◌<◌, ◌≤◌, ◌^◌, min, Bool, true, false, cond, not, ◌==◌, ◌&&◌, nat_le, nat_lt, List, [], ◌∷◌, length, filter_map, Option, Some, None, is_some, All, unwrap_or, option_map}
 use Rattle.std.specs.List.{cons_option}
+use Rattle.com_base.specs.declared.limits.TheConstants.{LAST_MS}
 use Rattle.com_base.specs.declared.hresult.HResult.{HResult}
 use Rattle.com_base.specs.declared.value.RefValue.{RefValue}
 use Rattle.com_base.specs.declared.value.Value.{Value}
@@ -37,7 +38,7 @@ use Rattle.com_model.specs.Ends.{limit}
 use Rattle.com_model.specs.Endings.{Answer}
 use Rattle.com_model.specs.Issue.{call_refusal}
 use Rattle.com_model.specs.Waiting.{PostEffect, Posts, Judges, Delays, GivesUp, PostsNone, retries, post_effect, phase_after, phase, mark_of, not_asked, bound_reached}
-use Rattle.com_model.specs.Formed.{last_ms, IsRule, IsRetryAnswer, IsFilter, Formed}
+use Rattle.com_model.specs.Formed.{IsRule, IsRetryAnswer, IsFilter, Formed}
 use Rattle.com_model.specs.Sight.{Sight, sight}
 use Rattle.com_model.specs.Deeds.{hold_refusal, named_by, deed_of, initialised, called, uninitialised, in_sta}
 use Rattle.com_model.specs.Rules.{waiting_call, admission, posted_to_sta, is_handled_in, call_sort, verdict_on, arguments_gone, top, due_of, packet_left, answered, enters_itself, admits_next, since_out, retried, posted_again, asked_on, takes_word, pumped, scripted, is_script_turn, rule_final, rule_own, rule_answer, rule_bound, rule_inbox, rule_retry, rule_again, rule_pending, rule_word, rule_script, ruled, stepped, time_waited, time_of, no_lane_can, tick_time, next_by, next, legal}
@@ -75,7 +76,7 @@ rules-small s (Some f) z = table-small s f z
 -- ---- what a Retry and a Tick say
 
 abbrev RetrySays : ℤ → Type 0
-RetrySays (pos n) = n ≤ last_ms
+RetrySays (pos n) = n ≤ LAST_MS
 RetrySays (negsuc n) = Unit {0}
 
 abbrev TimesSay : Sight → Deed → Type 0
@@ -204,7 +205,7 @@ times-say s h l d f e = subst (λ (x : Option Deed). Given (TimesSay (sight s h)
 -- One longest wait an entry.
 abbrev longest : List Entry → ℕ
 longest [] = 0
-longest (e ∷ h) = longest h + last_ms
+longest (e ∷ h) = longest h + LAST_MS
 
 longest-many : (h : List Entry) → longest h ≡ 2147483647 * length h
 longest-many [] = omega arith
@@ -267,7 +268,7 @@ later-within n m (Judged x) h q = tt
 later-within n m GivenUp h q = tt
 
 abbrev ShortEffect : PostEffect → Type 0
-ShortEffect (Delays c ms) = ms ≤ last_ms
+ShortEffect (Delays c ms) = ms ≤ LAST_MS
 ShortEffect _ = Unit {0}
 
 retry-short : (c : ℕ) (n : ℤ) → RetrySays n → ShortEffect (retries c n)
@@ -290,14 +291,14 @@ either-within : (m : ℕ) (b : Bool) (x y : Phase) → Within m x → Within m y
 either-within m true x y p q = p
 either-within m false x y p q = q
 
-phase-within : (x : PostEffect) (t c n : ℕ) (p : Phase) → ShortEffect x → t ≤ n → Within n p → Within (n + last_ms) (phase_after x t c p)
-phase-within (Posts d) t c n p f h q = either-within (n + last_ms) (d == c) Queued p tt (later-within n (n + last_ms) p (omega arith) q)
-phase-within (Judges d y) t c n p f h q = either-within (n + last_ms) (d == c) (Judged y) p tt (later-within n (n + last_ms) p (omega arith) q)
+phase-within : (x : PostEffect) (t c n : ℕ) (p : Phase) → ShortEffect x → t ≤ n → Within n p → Within (n + LAST_MS) (phase_after x t c p)
+phase-within (Posts d) t c n p f h q = either-within (n + LAST_MS) (d == c) Queued p tt (later-within n (n + LAST_MS) p (omega arith) q)
+phase-within (Judges d y) t c n p f h q = either-within (n + LAST_MS) (d == c) (Judged y) p tt (later-within n (n + LAST_MS) p (omega arith) q)
 phase-within (Delays d ms) t c n p f h q =
-    let short : ms ≤ last_ms = f in
-    either-within (n + last_ms) (d == c) (Delayed (t + ms)) p (omega (arith, h, short)) (later-within n (n + last_ms) p (omega arith) q)
-phase-within (GivesUp d) t c n p f h q = either-within (n + last_ms) (d == c) GivenUp p tt (later-within n (n + last_ms) p (omega arith) q)
-phase-within PostsNone t c n p f h q = later-within n (n + last_ms) p (omega arith) q
+    let short : ms ≤ LAST_MS = f in
+    either-within (n + LAST_MS) (d == c) (Delayed (t + ms)) p (omega (arith, h, short)) (later-within n (n + LAST_MS) p (omega arith) q)
+phase-within (GivesUp d) t c n p f h q = either-within (n + LAST_MS) (d == c) GivenUp p tt (later-within n (n + LAST_MS) p (omega arith) q)
+phase-within PostsNone t c n p f h q = later-within n (n + LAST_MS) p (omega arith) q
 
 timed : (s : Scenario) (h : List Entry) → Formed s → legal s h → Timed h (longest h)
 timed s [] f q = record { now = omega arith; waits = λ c. tt }
@@ -310,7 +311,7 @@ timed s (e ∷ h) f q =
       waits = λ c. phase-within (post_effect e.deed) (clock h) c (longest h) (phase h c) (effect-short (sight s h) e.deed t) p.now (p.waits c);
     }
 
-delay-short : (v : Sight) (d : Deed) → TimesSay v d → delay_of d ≤ last_ms
+delay-short : (v : Sight) (d : Deed) → TimesSay v d → delay_of d ≤ LAST_MS
 delay-short v (deed.Retry c (pos n)) p = p
 delay-short v (deed.Retry c (negsuc n)) p = omega arith
 delay-short v _ p = omega arith

@@ -1,2 +1,4 @@
 pub mod Bounds
 pub mod Taken
+pub mod Shapes
+pub mod Works

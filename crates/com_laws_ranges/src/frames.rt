@@ -2,9 +2,10 @@
 ghost use Rattle.std.specs.Prelude.{◌≡◌, ℕ, Some};
 ghost use Rattle.com_body.specs.declared.frame.Job.{Job};
 ghost use Rattle.com_runtime.specs.Standings.{Reached};
-ghost use Rattle.com_runtime.specs.Jobs.{HasShape, job_of};
+ghost use Rattle.com_runtime.specs.Jobs.{job_of};
 ghost use Rattle.com_model.specs.declared.scenario.Scenario.{Scenario};
 ghost use Rattle.com_model.specs.State.{State, scene_in};
+ghost use Rattle.com_laws_ranges.specs.Shapes.{HasShape};
 
 /// In every state to which a legal history of a formed scenario comes, the frame of each body has 16
 /// registers and 8 slots (`bodies`), and so has that of each lane's job (`jobs`).

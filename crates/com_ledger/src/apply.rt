@@ -30,10 +30,10 @@ use com_deeds::number_or_zero;
 use com_model::{Deed, Entry};
 use com_objects::Objects;
 use com_reference_moves::{Move, Moves};
-use com_refs::{MOST_GIVEN, Refs};
+use com_refs::{MOST_ISSUED, Refs};
 use com_refs_rows::{
-    enter_back, enter_get, enter_made, enter_marshal, enter_query, enter_register, enter_unmarshal,
-    gain_all, is_left, issue, lose_all, read_all, reply,
+    Activation, enter_back, enter_get, enter_made, enter_marshal, enter_query, enter_register,
+    enter_unmarshal, gain_all, is_left, issue, lose_all, read_all, reply,
 };
 
 // What is carried, where there are bytes.
@@ -69,7 +69,7 @@ fn stands_first(brought: &[Move], gained: &[Move]) -> bool
 // slot.
 fn take(refs: &mut Refs, touched: &mut Vec<u32>, brought: &[Move], gained: &[Move])
     requires known { AllOffered refs.old gained.now }
-    requires few { refs.old.issued + length gained.now ≤ MOST_GIVEN }
+    requires few { refs.old.issued + length gained.now ≤ MOST_ISSUED }
     requires room { length gained.now ≤ refs.old.spare }
     requires written { vec_len touched.old + length brought.now ≤ vec_capacity touched.old }
     ensures exchanged { Exchanged brought.now gained.now refs.old refs.new }
@@ -137,7 +137,7 @@ impl Books {
     ) -> Result<(), Memory>
         requires carried { length context.carried.now ≤ 4 }
         requires gained { length gained.now ≤ most_gained }
-        requires numbers { self.old.refs.issued + most_given ≤ MOST_GIVEN }
+        requires numbers { self.old.refs.issued + most_given ≤ MOST_ISSUED }
         ensures refs { self.new.refs ≡ record self.old.refs { spare = self.new.refs.spare } }
         ensures places { SamePlaces self.old.refs self.new.refs }
         ensures books { books_of self.new.refs ≡ books_of self.old.refs }
@@ -146,7 +146,7 @@ impl Books {
         ensures steps { OnOk result (row_steps self.new.calls context.entry.carried.now deed.now
             + length gained.now ≤ most_given) }
         ensures few { OnOk result (self.new.refs.issued
-            + row_steps self.new.calls context.entry.carried.now deed.now + length gained.now < MOST_GIVEN) }
+            + row_steps self.new.calls context.entry.carried.now deed.now + length gained.now < MOST_ISSUED) }
         ensures room { OnOk result (row_steps self.new.calls context.entry.carried.now deed.now
             + length gained.now ≤ self.new.refs.spare) }
         ensures brought { OnOk result (asked_packets self.new.calls deed.now + 1
@@ -178,7 +178,7 @@ impl Books {
             (tally self.old.refs self.old.calls) deed.now }
         requires carried { length context.carried.now ≤ 4 }
         requires few { self.old.refs.issued
-            + row_steps self.old.calls context.carried.now deed.now < MOST_GIVEN }
+            + row_steps self.old.calls context.carried.now deed.now < MOST_ISSUED }
         requires room { row_steps self.old.calls context.carried.now deed.now ≤ self.old.refs.spare }
         requires places { vec_len self.old.brought + asked_packets self.old.calls deed.now + 1
             ≤ vec_capacity self.old.brought }
@@ -213,10 +213,12 @@ impl Books {
                 &mut self.set,
                 context.classes,
                 apartment,
-                *object,
-                *owner,
-                *class,
-                *iface,
+                &Activation {
+                    object: *object,
+                    owner: *owner,
+                    class: *class,
+                    iface: *iface,
+                },
             ),
             Deed::Query { object, iface, hr } => {
                 let refs = &mut self.refs;
@@ -259,7 +261,7 @@ impl Books {
             (tally self.old.refs self.old.calls) deed.now }
         requires carried { length context.carried.now ≤ 4 }
         requires few { self.old.refs.issued
-            + row_steps self.old.calls context.carried.now deed.now < MOST_GIVEN }
+            + row_steps self.old.calls context.carried.now deed.now < MOST_ISSUED }
         requires room { row_steps self.old.calls context.carried.now deed.now ≤ self.old.refs.spare }
         requires places { vec_len self.old.brought + asked_packets self.old.calls deed.now + 1
             ≤ vec_capacity self.old.brought }

@@ -5,6 +5,7 @@
 -- and the documentation of apartments.
 use Rattle.std.specs.Prelude.{ℕ, zero, suc, ◌+◌, Bool, true, false, not, ◌==◌, ◌||◌, ◌&&◌, nat_le}
 use Rattle.std.specs.Prelude.{if◌then◌else◌, List, [], ◌∷◌, ◌++◌, Option, Some, None, length, filter}
+use Rattle.com_base.specs.declared.apartments.TheConstants.{NEUTRAL, MTA, HOST_STA, FIRST_STA}
 use Rattle.com_base.specs.declared.hresult.HResult.{HResult}
 use Rattle.com_base.specs.declared.value.Mode.TheVariants as mode
 use Rattle.com_model.specs.declared.deeds.Deed.{Deed}
@@ -17,13 +18,13 @@ use Rattle.com_model.specs.Tables.{LaneSort, Thread, Host, Pool, NoLane, lane_so
 use Rattle.com_model.specs.Openers.{openers, entered_apartment}
 
 abbrev pub neutral : ℕ
-neutral = 0
+neutral = NEUTRAL
 
 abbrev pub mta : ℕ
-mta = 1
+mta = MTA
 
 abbrev pub host_sta : ℕ
-host_sta = 2
+host_sta = HOST_STA
 
 abbrev pub is_sta : ℕ → Bool
 is_sta a = nat_le host_sta a
@@ -99,7 +100,7 @@ stas [] = []
 stas (e ∷ h) = with_last (stas h) (makes_sta e.deed)
 
 abbrev pub next_sta : List Entry → ℕ
-next_sta h = length (stas h) + 3
+next_sta h = length (stas h) + FIRST_STA
 
 -- Apartments are numbered below this.
 abbrev pub apartments : List Entry → ℕ

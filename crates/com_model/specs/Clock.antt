@@ -1,6 +1,7 @@
 -- The clock and message filters. Source: the documentation of IMessageFilter.
 use Rattle.std.specs.Prelude.{ℕ, zero, ◌-◌, Bool, true, false, ◌==◌, nat_le, if◌then◌else◌, List, [], ◌∷◌}
 use Rattle.std.specs.Prelude.{Option, Some, None}
+use Rattle.com_base.specs.declared.apartments.TheConstants.{FIRST_STA}
 use Rattle.com_filter.specs.declared.Verdict.{Verdict}
 use Rattle.com_filter.specs.declared.Verdict.TheVariants as verdict
 use Rattle.com_filter.specs.declared.Rule.{Rule}
@@ -57,7 +58,7 @@ last_filter (e ∷ h) l = filter_after (filter_effect_on l e) (last_filter h l)
 -- A lane has a filter only where its home is an STA that a thread made.
 abbrev pub in_made_sta : Option ℕ → Option ℕ → Option ℕ
 in_made_sta None f = None
-in_made_sta (Some a) f = if nat_le 3 a then f else None
+in_made_sta (Some a) f = if nat_le FIRST_STA a then f else None
 
 abbrev pub filter_of : Scenario → List Entry → ℕ → Option ℕ
 filter_of s h l = in_made_sta (home s h l) (last_filter h l)

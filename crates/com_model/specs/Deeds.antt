@@ -5,6 +5,7 @@ use Rattle.std.specs.Prelude.{if◌then◌else◌, List, [], ◌∷◌, map, len
 use Rattle.std.specs.Prelude.{Result, Ok, Err}
 use Rattle.std.specs.Int.{to_le_bytes, w64}
 use Rattle.com_base.specs.declared.guid.Guid.{Guid}
+use Rattle.com_base.specs.declared.limits.TheConstants.{PUBLIC_REFERENCES}
 use Rattle.com_base.specs.declared.hresult.HResult.{HResult}
 use Rattle.com_base.specs.declared.standard.StdFields.{StdFields}
 use Rattle.com_base.specs.declared.value.RefValue.{RefValue}
@@ -213,11 +214,11 @@ named_by s v None bytes = Refuses CO_E_NOTINITIALIZED
 named_by s v (Some a) bytes = named_in s v (objref_of bytes)
 
 -- What the apartment's proxy gains: nothing where the apartment owns the object; else a normal packet's
--- references, or 5.
+-- references, or `PUBLIC_REFERENCES`.
 abbrev pub gained_refs : MarshalMode → (owned : Bool) → ℕ → ℕ
 gained_refs m true n = 0
 gained_refs marshal.Normal false n = n
-gained_refs _ false n = 5
+gained_refs _ false n = PUBLIC_REFERENCES
 
 abbrev pub unmarshalled_as : Sight → ℕ → ℕ → Packet → Deed
 unmarshalled_as v l p k =

@@ -2,6 +2,7 @@
 use Rattle.std.specs.Prelude.{ℕ, zero, suc, ◌+◌, ◌-◌, Bool, true, false, not, ◌==◌, ◌&&◌, nat_le}
 use Rattle.std.specs.Prelude.{if◌then◌else◌, List, [], ◌∷◌, ◌++◌, length, map, Option, Some, None, is_none}
 use Rattle.std.specs.Prelude.{option_map, sum_by}
+use Rattle.com_base.specs.declared.limits.TheConstants.{ENTRY_1_LIMIT, ENTRY_2_LIMIT}
 use Rattle.com_model.specs.declared.deeds.Deed.{Deed}
 use Rattle.com_model.specs.declared.deeds.Entry.{Entry}
 use Rattle.com_model.specs.declared.scenario.Scenario.{Scenario}
@@ -26,7 +27,7 @@ use Rattle.com_model.specs.Rules.{can_step, no_lane_can, tick_time, next}
 
 -- A history may have 200,000 entries in version 1 and 1,000,000 in version 2.
 abbrev pub limit : Scenario → ℕ
-limit s = if s.version == 2 then 1_000_000 else 200_000
+limit s = if s.version == 2 then ENTRY_2_LIMIT else ENTRY_1_LIMIT
 
 -- Finished: every thread's lane has End, no lane has an opener, no inbox holds a call, and no object is
 -- dying.

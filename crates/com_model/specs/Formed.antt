@@ -3,6 +3,12 @@
 use Rattle.std.specs.Prelude.{◌≡◌, ℕ, ◌+◌, ◌^◌, ◌≤◌, ◌<◌, ℤ, pos, negsuc, Bool, true, false, not, ◌==◌, ◌&&◌}
 use Rattle.std.specs.Prelude.{◌||◌, nat_le, List, [], ◌∷◌, Option, Some, None, length, All, take, codes, ◌⊎◌}
 use Rattle.std.specs.Str.{bytes_eq}
+use Rattle.com_base.specs.declared.built_ins.TheConstants.{BUILT_IN_COUNT, ICOUNTER, IRELAY, ILATCH}
+use Rattle.com_base.specs.declared.limits.TheConstants.{INTERFACE_LIMIT, METHOD_LIMIT, PARAMETER_LIMIT}
+use Rattle.com_base.specs.declared.limits.TheConstants.{CLASS_LIMIT, LISTED_LIMIT, FILTER_LIMIT, RULE_LIMIT}
+use Rattle.com_base.specs.declared.limits.TheConstants.{THREAD_LIMIT, POOL_LIMIT, BODY_LIMIT, SCRIPT_LIMIT}
+use Rattle.com_base.specs.declared.limits.TheConstants.{NAME_LIMIT, LITERAL_LIMIT, RAW_LIMIT, SKIP_LIMIT}
+use Rattle.com_base.specs.declared.limits.TheConstants.{PUMP_LIMIT, LAST_MS}
 use Rattle.com_base.specs.declared.guid.Guid.{Guid}
 use Rattle.com_base.specs.declared.value.Kind.{Kind}
 use Rattle.com_base.specs.declared.value.Kind.TheVariants as kind
@@ -25,6 +31,7 @@ use Rattle.com_body.specs.declared.statements.Stmt.TheVariants as stmt
 use Rattle.com_body.specs.declared.frame.Native.{Native}
 use Rattle.com_body.specs.declared.frame.Native.TheVariants as native
 use Rattle.com_body.specs.Bodies.{IsInRange, fault_of}
+use Rattle.com_cause.specs.declared.TheConstants.{TOP_LEVEL, NESTED, TOP_LEVEL_CALL_PENDING}
 use Rattle.com_classes.specs.declared.interfaces.Interface.{Interface}
 use Rattle.com_classes.specs.declared.interfaces.Method.{Method}
 use Rattle.com_classes.specs.declared.classes.Class.{Class}
@@ -49,18 +56,18 @@ is_letter c = within 65 90 c || within 97 122 c
 abbrev pub is_name_byte : ℕ → Bool
 is_name_byte c = is_letter c || (within 48 57 c || c == 95)
 
--- A name is a letter and up to 31 letters, digits or low lines.
+-- A name is a letter and letters, digits or low lines behind it, `NAME_LIMIT` bytes at most.
 abbrev pub IsName : List ℕ → Type 0
 IsName [] = ⊥
-IsName (c ∷ cs) = (is_letter c ≡ true) × All (λ x. is_name_byte x ≡ true) cs × (length cs ≤ 31)
+IsName (c ∷ cs) = (is_letter c ≡ true) × All (λ x. is_name_byte x ≡ true) cs × (length cs < NAME_LIMIT)
 
 -- A text literal has characters alone and no quotation mark.
 abbrev pub is_text_byte : ℕ → Bool
 is_text_byte c = c == 9 || (within 32 126 c && not (c == 34))
 
 abbrev pub IsLiteral : Value → Type 0
-IsLiteral (value.Text t) = All (λ c. is_text_byte c ≡ true) t × (length t ≤ 256)
-IsLiteral (value.Bytes t) = length t ≤ 256
+IsLiteral (value.Text t) = All (λ c. is_text_byte c ≡ true) t × (length t ≤ LITERAL_LIMIT)
+IsLiteral (value.Bytes t) = length t ≤ LITERAL_LIMIT
 IsLiteral (value.Ref held) = ⊥
 IsLiteral _ = Unit {0}
 
@@ -90,14 +97,14 @@ IsResultBy n None = Unit {0}
 IsResultBy n (Some k) = IsKindBy n k
 
 abbrev pub IsMethod : ℕ → Method → Type 0
-IsMethod n m = IsName m.name × All (IsKindBy n) m.params × (length m.params ≤ 4) × IsResultBy n m.result
+IsMethod n m = IsName m.name × All (IsKindBy n) m.params × (length m.params ≤ PARAMETER_LIMIT) × IsResultBy n m.result
 
 abbrev pub same_method : Method → Method → Bool
 same_method m k = bytes_eq m.name k.name
 
 abbrev pub IsInterface : ℕ → Interface → Type 0
 IsInterface n i =
-    IsName i.name × All (IsMethod n) i.methods × (length i.methods ≤ 32) × Distinct same_method i.methods
+    IsName i.name × All (IsMethod n) i.methods × (length i.methods ≤ METHOD_LIMIT) × Distinct same_method i.methods
 
 abbrev pub same_interface : Interface → Interface → Bool
 same_interface i k = bytes_eq i.name k.name || same_guid i.iid k.iid
@@ -122,10 +129,10 @@ is_type_word n =
 abbrev pub IsAllowed : Interface → Type 0
 IsAllowed i = (is_reserved i.iid ≡ false) × (is_type_word i.name ≡ false)
 
--- The four built-in interfaces stand first.
+-- The built-in interfaces stand first.
 pub record FormedInterfaces (xs : List Interface) : Type 0 where
-  pub built : take 4 xs ≡ built_in_interfaces
-  pub few : length xs ≤ 64
+  pub built : take BUILT_IN_COUNT xs ≡ built_in_interfaces
+  pub few : length xs ≤ INTERFACE_LIMIT
   pub each : EachFrom IsInterface 0 xs
   pub allowed : All IsAllowed xs
   pub distinct : Distinct same_interface xs
@@ -197,14 +204,14 @@ IsStatement s x (stmt.Sub to from) = IsOperand from
 IsStatement s x (stmt.Less to left right) = IsOperand left × IsOperand right
 IsStatement s x (stmt.Load to cell) = x.body ≡ true
 IsStatement s x (stmt.Store cell from) = (x.body ≡ true) × IsOperand from
-IsStatement s x (stmt.Skip n) = (1 ≤ n) × (n ≤ 2000)
-IsStatement s x (stmt.SkipZero r n) = (1 ≤ n) × (n ≤ 2000)
+IsStatement s x (stmt.Skip n) = (1 ≤ n) × (n ≤ SKIP_LIMIT)
+IsStatement s x (stmt.SkipZero r n) = (1 ≤ n) × (n ≤ SKIP_LIMIT)
 IsStatement s x (stmt.Create slot k i) = IsClassNamed x k × IsInterfaceNamed s i
 IsStatement s x (stmt.Query to from i) = IsInterfaceNamed s i
 IsStatement s x (stmt.Copy to from) = IsPlaceIn x to × IsPlaceIn x from
 IsStatement s x (stmt.Release from) = IsPlaceIn x from
 IsStatement s x (stmt.Call slot i m args to) = IsCall s i m args to
-IsStatement s x (stmt.Raw b bytes) = (1 ≤ length bytes) × (length bytes ≤ 4096)
+IsStatement s x (stmt.Raw b bytes) = (1 ≤ length bytes) × (length bytes ≤ RAW_LIMIT)
 IsStatement s x (stmt.Get slot g) = IsOperand g
 IsStatement s x (stmt.Revoke g) = IsOperand g
 IsStatement s x (stmt.Post l w) = IsOperand l × IsOperand w
@@ -213,7 +220,7 @@ IsStatement s x (stmt.Leave code v) = (x.body ≡ true) × IsGivenValue v
 IsStatement s x (stmt.Init m) = x.body ≡ false
 IsStatement s x stmt.Uninit = x.body ≡ false
 IsStatement s x (stmt.SetFilter f) = (x.body ≡ false) × IsFilterNamed s f
-IsStatement s x (stmt.Pump n) = (x.body ≡ false) × (n ≤ 1000)
+IsStatement s x (stmt.Pump n) = (x.body ≡ false) × (n ≤ PUMP_LIMIT)
 IsStatement s x _ = Unit {0}
 
 -- A body or script within its limit, whose skips end inside it or at its end.
@@ -235,17 +242,17 @@ methods_of None = []
 methods_of (Some i) = i.methods
 
 abbrev pub IsBody : Scenario → Context → MethodBody → Type 0
-IsBody s x b = FormedBody s x 200 b.body × (b.method < length (methods_of (interface_at s.classes b.iface)))
+IsBody s x b = FormedBody s x BODY_LIMIT b.body × (b.method < length (methods_of (interface_at s.classes b.iface)))
 
 abbrev pub same_body : MethodBody → MethodBody → Bool
 same_body b c = b.iface == c.iface && b.method == c.method
 
 -- A built-in class has the one interface of its kind and no bodies of its own; none that is agile is a relay.
 abbrev pub IsNative : Native → Class → Type 0
-IsNative native.Bodies k = (1 ≤ length k.interfaces) × (length k.interfaces ≤ 16)
-IsNative native.Counter k = (k.interfaces ≡ 1 ∷ []) × (k.bodies ≡ [])
-IsNative native.Relay k = (k.interfaces ≡ 2 ∷ []) × (k.bodies ≡ []) × (is_agile k.model ≡ false)
-IsNative native.Latch k = (k.interfaces ≡ 3 ∷ []) × (k.bodies ≡ [])
+IsNative native.Bodies k = (1 ≤ length k.interfaces) × (length k.interfaces ≤ LISTED_LIMIT)
+IsNative native.Counter k = (k.interfaces ≡ ICOUNTER ∷ []) × (k.bodies ≡ [])
+IsNative native.Relay k = (k.interfaces ≡ IRELAY ∷ []) × (k.bodies ≡ []) × (is_agile k.model ≡ false)
+IsNative native.Latch k = (k.interfaces ≡ ILATCH ∷ []) × (k.bodies ≡ [])
 
 abbrev pub IsClass : Scenario → ℕ → Class → Type 0
 IsClass s n k =
@@ -256,42 +263,39 @@ abbrev pub same_class : Class → Class → Bool
 same_class k j = bytes_eq k.name j.name || same_guid k.clsid j.clsid
 
 pub record FormedClasses (s : Scenario) : Type 0 where
-  pub few : length s.classes.classes ≤ 64
+  pub few : length s.classes.classes ≤ CLASS_LIMIT
   pub each : EachFrom (IsClass s) 1 s.classes.classes
   pub distinct : Distinct same_class s.classes.classes
 
 -- ---- filters
 
-abbrev pub last_ms : ℕ
-last_ms = 2_147_483_647
-
 abbrev pub IsType : Option ℕ → Type 0
 IsType None = Unit {0}
-IsType (Some t) = (t == 1 || (t == 2 || t == 4)) ≡ true
+IsType (Some t) = (t == TOP_LEVEL || (t == NESTED || t == TOP_LEVEL_CALL_PENDING)) ≡ true
 
 abbrev pub IsAsked : Option Verdict → Type 0
 IsAsked (Some verdict.Handled) = ⊥
 IsAsked _ = Unit {0}
 
 abbrev pub IsRetryAnswer : ℤ → Type 0
-IsRetryAnswer (pos n) = n ≤ last_ms
+IsRetryAnswer (pos n) = n ≤ LAST_MS
 IsRetryAnswer (negsuc n) = n ≡ 0
 
 abbrev pub IsRule : Rule → Type 0
-IsRule (rule.Incoming t ms v) = IsType t × (ms ≤ last_ms)
-IsRule (rule.Retry v ms n) = IsAsked v × (ms ≤ last_ms) × IsRetryAnswer n
-IsRule (rule.Pending ms n) = (ms ≤ last_ms) × (n ≤ 2)
+IsRule (rule.Incoming t ms v) = IsType t × (ms ≤ LAST_MS)
+IsRule (rule.Retry v ms n) = IsAsked v × (ms ≤ LAST_MS) × IsRetryAnswer n
+IsRule (rule.Pending ms n) = (ms ≤ LAST_MS) × (n ≤ 2)
 
 abbrev pub IsFilter : List Rule → Type 0
-IsFilter rules = All IsRule rules × (length rules ≤ 32)
+IsFilter rules = All IsRule rules × (length rules ≤ RULE_LIMIT)
 
 -- ---- the whole
 
 pub record Formed (s : Scenario) : Type 0 where
   pub version : (1 ≤ s.version) × (s.version ≤ 2)
-  pub pool : (1 ≤ s.pool) × (s.pool ≤ 8)
+  pub pool : (1 ≤ s.pool) × (s.pool ≤ POOL_LIMIT)
   pub interfaces : FormedInterfaces s.classes.interfaces
   pub classes : FormedClasses s
-  pub filters : All IsFilter s.filters × (length s.filters ≤ 16)
-  pub threads : All (FormedBody s (in_script s) 2000) s.threads × (length s.threads ≤ 16)
+  pub filters : All IsFilter s.filters × (length s.filters ≤ FILTER_LIMIT)
+  pub threads : All (FormedBody s (in_script s) SCRIPT_LIMIT) s.threads × (length s.threads ≤ THREAD_LIMIT)
   pub picks : All (λ l. l < 2 ^ 32) s.picks

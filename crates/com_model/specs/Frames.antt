@@ -1,6 +1,7 @@
 -- What scripts, open bodies, objects and packet buffers hold, and what a lane's body or script does next.
 use Rattle.std.specs.Prelude.{ℕ, zero, pos, Bool, true, false, ◌==◌, if◌then◌else◌, List, [], ◌∷◌, Option}
 use Rattle.std.specs.Prelude.{Some, None, fold, replicate, slice_set}
+use Rattle.com_base.specs.declared.limits.TheConstants.{ANSWER_REGISTER, SLOT_COUNT, LINK_COUNT}
 use Rattle.com_base.specs.declared.hresult.HResult.{HResult}
 use Rattle.com_base.specs.declared.value.RefValue.{RefValue}
 use Rattle.com_base.specs.declared.value.Value.{Value}
@@ -133,9 +134,9 @@ abbrev pub to_place : Place → Option RefValue → Write
 to_place (place.Slot k) held = ToSlot k held
 to_place (place.Link k) held = ToLink k held
 
--- Each action puts its HRESULT in register 15, as a number without sign.
+-- Each action puts its HRESULT in the register of answers, as a number without sign.
 abbrev pub to_answer : HResult → Write
-to_answer hr = ToRegister 15 (value.Int (pos hr.0))
+to_answer hr = ToRegister ANSWER_REGISTER (value.Int (pos hr.0))
 
 abbrev pub marshalled_in : ℕ → Deed → List Write
 marshalled_in b (deed.Marshal p m held refs hr (Some bytes)) = ToBuffer b bytes ∷ []
@@ -220,9 +221,9 @@ arrived b l (deed.Enter c o a t vs) w = record w { bodies = put c (entered vs) w
 arrived b l (deed.Back c hr v) w = fold (written b) w (to_answer hr ∷ to_destination (w.destinations c) v)
 arrived b l deed.EndPump w = written b w (to_answer S_OK)
 arrived b l (deed.Uninit a zero) w =
-    record w { scripts = put l (record (w.scripts l) { slots = replicate 8 None }) w.scripts }
+    record w { scripts = put l (record (w.scripts l) { slots = replicate SLOT_COUNT None }) w.scripts }
 arrived b l (deed.Final o) w =
-    record w { cells = put o (record (w.cells o) { links = replicate 4 None }) w.cells }
+    record w { cells = put o (record (w.cells o) { links = replicate LINK_COUNT None }) w.cells }
 arrived b l _ w = w
 
 -- The end of an STA makes the links of all its objects null.
@@ -230,7 +231,7 @@ abbrev pub cut_links : (named : ℕ → ℕ) → Option ℕ → Scene → Scene
 cut_links named None w = w
 cut_links named (Some a) w =
     record w {
-      cells = λ o. if named o == a then record (w.cells o) { links = replicate 4 None }
+      cells = λ o. if named o == a then record (w.cells o) { links = replicate LINK_COUNT None }
           else w.cells o;
     }
 

@@ -2,6 +2,7 @@
 use Rattle.std.specs.Prelude.{◌≡◌, ℕ, ◌-◌, Bool, true, false, not, ◌==◌, ◌&&◌, nat_le, nat_lt, if◌then◌else◌}
 use Rattle.std.specs.Prelude.{List, [], ◌∷◌, length, map, filter_map, Option, Some, None, is_some, is_none}
 use Rattle.std.specs.Prelude.{option_map, option_and_then}
+use Rattle.com_base.specs.declared.limits.TheConstants.{OPENER_LIMIT}
 use Rattle.com_body.specs.declared.actions.Action.{Action}
 use Rattle.com_filter.specs.declared.Verdict.{Verdict}
 use Rattle.com_model.specs.declared.deeds.Deed.{Deed}
@@ -42,9 +43,9 @@ due_of v c = option_map (answer_of (v.at_issue c)) (v.ending c)
 abbrev pub is_gone : Sight → ℕ → Bool
 is_gone v p = not (packet v.books p).outstanding
 
--- Admission of a call in a lane, by the first that applies: a refusal at 256 openers; the filter's verdict on
--- a call posted to an STA, where it is not Handled; a refusal where an argument's packet is not outstanding;
--- an Enter.
+-- Admission of a call in a lane, by the first that applies: a refusal at `OPENER_LIMIT` openers; the filter's
+-- verdict on a call posted to an STA, where it is not Handled; a refusal where an argument's packet is not
+-- outstanding; an Enter.
 abbrev pub posted_to_sta : Sight → ℕ → Bool
 posted_to_sta v c = is_post (route_of (v.issue c)) && is_sta (v.named (object_of (v.issue c)))
 
@@ -66,7 +67,7 @@ arguments_gone v c = is_marshalled (route_of (v.issue c)) && any_of (is_gone v) 
 
 abbrev pub admission : Scenario → Sight → ℕ → ℕ → Deed
 admission s v l c =
-    if nat_le 256 (length (v.openers l)) then deed.Refuse c RPC_E_OUT_OF_RESOURCES
+    if nat_le OPENER_LIMIT (length (v.openers l)) then deed.Refuse c RPC_E_OUT_OF_RESOURCES
     else if posted_to_sta v c && not (is_handled_in s v l c)
     then deed.Verdict c (call_sort v l c) (verdict_on s v l c)
     else if arguments_gone v c then deed.Refuse c RPC_E_SERVER_CANTUNMARSHAL_DATA

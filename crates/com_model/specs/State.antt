@@ -3,6 +3,8 @@
 use Rattle.std.specs.Prelude.{◌≡◌, ℕ, zero, suc, ◌+◌, ◌≤◌, Bool, true, false, not, ◌==◌, ◌&&◌, ◌||◌}
 use Rattle.std.specs.Prelude.{if◌then◌else◌, List, [], ◌∷◌, ◌++◌, length, filter, Option, Some, None, is_some}
 use Rattle.std.specs.Prelude.{is_none, option_map, slice_index_or, slice_set, pos}
+use Rattle.com_base.specs.declared.apartments.TheConstants.{FIRST_STA}
+use Rattle.com_base.specs.declared.limits.TheConstants.{BUFFER_COUNT}
 use Rattle.com_base.specs.declared.hresult.HResult.{HResult}
 use Rattle.com_base.specs.declared.value.Value.{Value}
 use Rattle.com_body.specs.declared.operands.Destination.{Destination}
@@ -114,7 +116,7 @@ abbrev pub running_in : Scenario → State → ℕ → Option ℕ
 running_in s st l = or_else (entered_apartment (openers_in st l)) (home_in s st l)
 
 abbrev pub next_sta_in : State → ℕ
-next_sta_in st = length st.stas + 3
+next_sta_in st = length st.stas + FIRST_STA
 
 abbrev pub main_sta_in : State → ℕ
 main_sta_in st = or_host (first (filter (λ a. not (is_member a st.ended)) st.stas))
@@ -455,7 +457,7 @@ scene_tables s st w = record {
   scripts = tabulated (threads s + 1) w.scripts;
   bodies = tabulated (length st.issues + 1) w.bodies;
   cells = tabulated (objects_in st + 1) w.cells;
-  buffers = tabulated 64 w.buffers;
+  buffers = tabulated BUFFER_COUNT w.buffers;
   destinations = tabulated (length st.issues + 1) w.destinations;
 }
 
@@ -538,12 +540,12 @@ first_tables s = record {
     scripts = tabulated (threads s + 1) (λ l. entered []);
     bodies = tabulated 1 (λ c. entered []);
     cells = tabulated 1 (λ o. new_cells);
-    buffers = tabulated 64 (λ b. []);
+    buffers = tabulated BUFFER_COUNT (λ b. []);
     destinations = tabulated 1 (λ c. destination.Nowhere);
   };
   books = record {
     stub = tabulated 1 (λ o. tabulated (length s.classes.interfaces) (λ i. 0));
-    proxy = tabulated 3 (λ a. tabulated 1 (λ o. tabulated (length s.classes.interfaces) (λ i. 0)));
+    proxy = tabulated FIRST_STA (λ a. tabulated 1 (λ o. tabulated (length s.classes.interfaces) (λ i. 0)));
     packets = [];
     cookies = [];
     live = tabulated 1 (λ o. false);
@@ -632,12 +634,12 @@ pub record StandsFor (s : Scenario) (st : State) (h : List Entry) : Type 0 where
 
 -- Nothing stands outside of the numbers that were given by then: scripts are threads', bodies and packets are
 -- those of calls that were issued, cells and public references those of objects that were made, by declared
--- interfaces, and a proxy's those of an apartment; there are 64 buffers.
+-- interfaces, and a proxy's those of an apartment; there are `BUFFER_COUNT` buffers.
 pub record Bounded (s : Scenario) (h : List Entry) : Type 0 where
   pub scripts : (l : ℕ) → threads s + 1 ≤ l → (scene s h).scripts l ≡ entered []
   pub bodies : (c : ℕ) → calls h + 1 ≤ c → (scene s h).bodies c ≡ entered []
   pub cells : (o : ℕ) → objects h + 1 ≤ o → (scene s h).cells o ≡ new_cells
-  pub buffers : (b : ℕ) → 64 ≤ b → (scene s h).buffers b ≡ []
+  pub buffers : (b : ℕ) → BUFFER_COUNT ≤ b → (scene s h).buffers b ≡ []
   pub destinations : (c : ℕ) → calls h + 1 ≤ c → (scene s h).destinations c ≡ destination.Nowhere
   pub stub_objects : (o i : ℕ) → objects h + 1 ≤ o → (books s h).stub o i ≡ 0
   pub stub_interfaces : (o i : ℕ) → length s.classes.interfaces ≤ i → (books s h).stub o i ≡ 0

@@ -4,7 +4,7 @@ ghost use Rattle.std.specs.Prelude.{◌≡◌, ◌+◌, ◌<◌, ◌≤◌, ◌^
 ghost use Rattle.com_model.specs.Ends.{limit};
 ghost use Rattle.com_model.specs.Tables.{lanes};
 
-use com_base::Rows;
+use com_base::{ENTRY_1_LIMIT, ENTRY_2_LIMIT, Rows};
 use com_body::Body;
 use com_classes::Classes;
 use com_filter::Filter;
@@ -28,15 +28,15 @@ pub struct Scenario {
 }
 
 impl Scenario {
-    /// How many entries a history of the scenario may have: 200,000 in version 1 of the language, 1,000,000
-    /// in version 2.
-    pub fn limit(&self) -> u64
+    /// How many entries a history of the scenario may have: `ENTRY_1_LIMIT` in version 1 of the language,
+    /// `ENTRY_2_LIMIT` in version 2.
+    pub fn limit(&self) -> u32
         ensures { result ≡ limit self.now }
     {
         if self.version == 2 {
-            1_000_000
+            ENTRY_2_LIMIT
         } else {
-            200_000
+            ENTRY_1_LIMIT
         }
     }
 

@@ -25,7 +25,7 @@ use com_calls::Calls;
 use com_lanes::Lanes;
 use com_model::Deed;
 use com_objects::Objects;
-use com_scene::Actor;
+use com_scene::ActedEntry;
 
 // Makes room for all rows that an entry brings, where a call that it issues goes to an object of this
 // apartment. The only error is want of memory.
@@ -138,35 +138,30 @@ impl Parts {
     }
 
     /// Finishes a change that was begun by the entry: the lanes, the objects, the calls and the scene after
-    /// it. It takes no memory, and cannot fail. `acting` and `after` are those with which it was begun, and
-    /// `outcome` has the step of whoever makes the entry by one; what is left of the step has no use any more.
-    pub fn finish(
-        &mut self,
-        lane: u32,
-        deed: &Deed,
-        acting: Actor,
-        after: Actor,
-        outcome: &mut Option<Outcome>,
-        begun: Begun,
-    )
-        requires frame { FitsFrame (acting_of acting) outcome.old }
+    /// it. It takes no memory, and cannot fail. Who acts before the entry and after it is who it was begun
+    /// with, and `outcome` has the step of whoever makes the entry by one; what is left of the step has no use
+    /// any more.
+    pub fn finish(&mut self, entry: &ActedEntry<'_>, outcome: &mut Option<Outcome>, begun: Begun)
+        requires frame { FitsFrame (acting_of entry.now.acting) outcome.old }
         requires writes { IsWriting outcome.old }
-        requires begun { IsBegun self.old (acting_of acting) (acting_of after) lane deed.now begun }
+        requires begun { IsBegun self.old (acting_of entry.now.acting) (acting_of entry.now.after) entry.now.lane
+            entry.now.deed.now begun }
         ensures lanes { self.new.lanes
-            ≡ lanes_after self.old.lanes (record { lane = lane; deed = deed.now }) }
+            ≡ lanes_after self.old.lanes (record { lane = entry.now.lane; deed = entry.now.deed.now }) }
         ensures objects { self.new.objects
-            ≡ objects_after self.old.objects (record { lane = lane; deed = deed.now }) }
+            ≡ objects_after self.old.objects (record { lane = entry.now.lane; deed = entry.now.deed.now }) }
         ensures calls { self.new.calls.tables ≡ calls_after self.old.objects
-            (moment_at self.old.lanes lane begun.calling.has_filter begun.calling.clock)
+            (moment_at self.old.lanes entry.now.lane begun.calling.has_filter begun.calling.clock)
             (issuing_of begun.calling.issued) self.old.calls.tables
-            (record { lane = lane; deed = deed.now }) }
-        ensures scene { self.new.scene ≡ rows_after (named_at self.old.objects) (acting_of acting) outcome.old
-            (acting_of after) (record { lane = lane; deed = deed.now }) self.old.scene }
+            (record { lane = entry.now.lane; deed = entry.now.deed.now }) }
+        ensures scene { self.new.scene ≡ rows_after (named_at self.old.objects) (acting_of entry.now.acting)
+            outcome.old (acting_of entry.now.after) (record { lane = entry.now.lane; deed = entry.now.deed.now })
+            self.old.scene }
         ensures entries { self.new.entries ≡ self.old.entries + 1 }
     {
         let Begun { calling, owners } = begun;
-        self.scene
-            .apply(acting, outcome, after, lane, deed, owners.as_slice());
+        let ActedEntry { lane, deed, .. } = *entry;
+        self.scene.apply(entry, outcome, owners.as_slice());
         change_rows(&mut self.lanes, &mut self.objects, lane, deed);
         change_calls(&mut self.calls, lane, deed, calling);
         self.entries += 1;

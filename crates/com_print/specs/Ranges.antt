@@ -2,6 +2,7 @@
 use Rattle.std.specs.Prelude.{◌≡◌, ℕ, ◌+◌, ◌^◌, ◌≤◌, ◌<◌, ℤ, pos, negsuc, Bool, true, false, List, [], ◌∷◌}
 use Rattle.std.specs.Prelude.{length, All}
 use Rattle.std.specs.Str.{bytes_eq}
+use Rattle.com_base.specs.declared.limits.TheConstants.{LITERAL_LIMIT}
 use Rattle.com_base.specs.declared.guid.Guid.{Guid}
 use Rattle.com_base.specs.declared.value.Value.{Value}
 use Rattle.com_base.specs.declared.value.Value.TheVariants as values
@@ -87,8 +88,8 @@ Fits _ = Unit {0}
 
 -- No statement has a reference as a literal.
 abbrev pub IsLiteral : Value → Type 0
-IsLiteral (values.Text text) = All (λ b. is_text_byte b ≡ true) text × (length text ≤ 256)
-IsLiteral (values.Bytes bytes) = length bytes ≤ 256
+IsLiteral (values.Text text) = All (λ b. is_text_byte b ≡ true) text × (length text ≤ LITERAL_LIMIT)
+IsLiteral (values.Bytes bytes) = length bytes ≤ LITERAL_LIMIT
 IsLiteral (values.Ref held) = ⊥
 IsLiteral _ = Unit {0}
 

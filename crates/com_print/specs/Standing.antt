@@ -2,6 +2,7 @@
 use Rattle.std.specs.Prelude.{◌≡◌, ℕ, ◌≤◌, ◌<◌, ◌⊎◌, true, false, List, [], ◌∷◌, Option, Some, None, length}
 use Rattle.std.specs.Prelude.{take, All, codes}
 use Rattle.std.specs.Str.{bytes_eq}
+use Rattle.com_base.specs.declared.limits.TheConstants.{PUMP_LIMIT, RAW_LIMIT, SKIP_LIMIT}
 use Rattle.com_base.specs.declared.value.Kind.{Kind}
 use Rattle.com_base.specs.declared.value.Kind.TheVariants as kinds
 use Rattle.com_body.specs.declared.operands.Asked.{Asked}
@@ -86,14 +87,14 @@ Stands p names (stmts.Sub to from) = TakesOp from
 Stands p names (stmts.Less to left right) = TakesOp left × TakesOp right
 Stands p names (stmts.Load to cell) = has_cells p ≡ true
 Stands p names (stmts.Store cell from) = (has_cells p ≡ true) × TakesOp from
-Stands p names (stmts.Skip count) = (1 ≤ count) × (count ≤ 2000)
-Stands p names (stmts.SkipZero register count) = (1 ≤ count) × (count ≤ 2000)
+Stands p names (stmts.Skip count) = (1 ≤ count) × (count ≤ SKIP_LIMIT)
+Stands p names (stmts.SkipZero register count) = (1 ≤ count) × (count ≤ SKIP_LIMIT)
 Stands p names (stmts.Create slot class iface) = IsClass names class × IsInterface names iface
 Stands p names (stmts.Query to from iface) = IsInterface names iface
 Stands p names (stmts.Copy to from) = TakesPlace (has_links p) to × TakesPlace (has_links p) from
 Stands p names (stmts.Release from) = TakesPlace (has_links p) from
 Stands p names (stmts.Call slot iface method given to) = IsCall names iface method given to
-Stands p names (stmts.Raw buffer bytes) = (1 ≤ length bytes) × (length bytes ≤ 4096)
+Stands p names (stmts.Raw buffer bytes) = (1 ≤ length bytes) × (length bytes ≤ RAW_LIMIT)
 Stands p names (stmts.Get slot cookie) = TakesOp cookie
 Stands p names (stmts.Revoke cookie) = TakesOp cookie
 Stands p names (stmts.Post lane word) = TakesOp lane × TakesOp word
@@ -102,7 +103,7 @@ Stands p names (stmts.Leave answer given) = (has_cells p ≡ true) × TakesGiven
 Stands p names (stmts.Init mode) = has_cells p ≡ false
 Stands p names stmts.Uninit = has_cells p ≡ false
 Stands p names (stmts.SetFilter filter) = (has_cells p ≡ false) × IsFilter names filter
-Stands p names (stmts.Pump bound) = (has_cells p ≡ false) × (bound ≤ 1000)
+Stands p names (stmts.Pump bound) = (has_cells p ≡ false) × (bound ≤ PUMP_LIMIT)
 Stands p names _ = Unit {0}
 
 -- Names behind which more may be declared: the interfaces that are named have the same tables.

@@ -11,7 +11,7 @@ use Rattle.com_read_operands.specs.declared.faults.Fault.{Fault}
 use Rattle.com_read_operands.specs.declared.faults.TheConstants.Fault.{NUMBER, UNEXPECTED}
 use Rattle.com_read_operands.specs.Numbers.{signed_of}
 use Rattle.com_read_operands.specs.Reading.{◌>>=◌, fault_at, word_at, end_at, number_at}
-use Rattle.com_read_lines.specs.declared.rules.TheConstants.{LAST_MS}
+use Rattle.com_base.specs.declared.limits.TheConstants.{LAST_MS}
 use Rattle.com_read_lines.specs.declared.rules.RuleWord.{RuleWord}
 use Rattle.com_read_lines.specs.declared.rules.RuleWord.TheVariants as words
 

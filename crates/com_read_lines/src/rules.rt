@@ -5,12 +5,10 @@ ghost use Rattle.com_read_operands.specs.Reading.{Gives};
 ghost use Rattle.com_read_lines.specs.Rules.{call_type_at, verdict_at, refusal_at, answer_at, kept_at};
 ghost use Rattle.com_read_lines.specs.Rules.{rule_word_of, rule_of};
 
+use com_base::LAST_MS;
 use com_filter::{Rule, Verdict};
 use com_read_operands::{Fault, ScenarioError, end, fault, number, signed_of, word};
 use com_text::Word;
-
-// The most milliseconds of a rule, and the greatest answer of a retry.
-const LAST_MS: u64 = 2_147_483_647;
 
 /// The word that begins a rule.
 #[derive(Clone, Copy, Debug, PartialEq, Eq)]
@@ -131,7 +129,7 @@ pub fn rule(keyword: RuleWord, line: &[Word]) -> Result<Rule, ScenarioError>
     match keyword {
         RuleWord::Incoming => {
             let call_type = call_type(line, 1)?;
-            let ms = number(line, 2, 0, LAST_MS)? as u32;
+            let ms = number(line, 2, 0, LAST_MS as u64)? as u32;
             let verdict = verdict(line, 3)?;
             end(line, 4)?;
             Ok(Rule::Incoming {
@@ -142,7 +140,7 @@ pub fn rule(keyword: RuleWord, line: &[Word]) -> Result<Rule, ScenarioError>
         }
         RuleWord::Retry => {
             let verdict = refusal(line, 1)?;
-            let ms = number(line, 2, 0, LAST_MS)? as u32;
+            let ms = number(line, 2, 0, LAST_MS as u64)? as u32;
             let answer = answer(line, 3)?;
             end(line, 4)?;
             Ok(Rule::Retry {
@@ -152,7 +150,7 @@ pub fn rule(keyword: RuleWord, line: &[Word]) -> Result<Rule, ScenarioError>
             })
         }
         RuleWord::Pending => {
-            let ms = number(line, 1, 0, LAST_MS)? as u32;
+            let ms = number(line, 1, 0, LAST_MS as u64)? as u32;
             let answer = pending_answer(line, 2)?;
             end(line, 3)?;
             Ok(Rule::Pending { ms, answer })

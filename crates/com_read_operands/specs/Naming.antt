@@ -9,7 +9,7 @@ use Rattle.com_base.specs.declared.guid.Guid.{Guid}
 use Rattle.com_text.specs.Words.{WordAt}
 use Rattle.com_read_operands.specs.declared.faults.Fault.{Fault}
 use Rattle.com_read_operands.specs.declared.faults.TheConstants.Fault.{GUID, UNDECLARED, UNEXPECTED}
-use Rattle.com_read_operands.specs.declared.names.TheConstants.{NAME_LIMIT}
+use Rattle.com_base.specs.declared.limits.TheConstants.{NAME_LIMIT}
 use Rattle.com_read_operands.specs.Reading.{◌>>=◌, word_at, fault_at}
 use Rattle.com_read_operands.specs.Literals.{guid_of}
 

@@ -27,8 +27,8 @@ use Rattle.com_text.specs.declared.word.Sort.TheVariants as sorts
 use Rattle.com_text.specs.Words.{WordAt}
 use Rattle.com_read_operands.specs.declared.faults.Fault.{Fault}
 use Rattle.com_read_operands.specs.declared.faults.TheConstants.Fault.{GUID, LIMIT, NUMBER, UNEXPECTED, UNFIT}
-use Rattle.com_read_operands.specs.declared.operands.TheConstants.{BUFFER_COUNT, CELL_COUNT, LINK_COUNT}
-use Rattle.com_read_operands.specs.declared.operands.TheConstants.{REGISTER_COUNT, SLOT_COUNT}
+use Rattle.com_base.specs.declared.limits.TheConstants.{BUFFER_COUNT, CELL_COUNT, LINK_COUNT}
+use Rattle.com_base.specs.declared.limits.TheConstants.{REGISTER_COUNT, SLOT_COUNT}
 use Rattle.com_read_operands.specs.declared.operands.Operand.{Operand}
 use Rattle.com_read_operands.specs.declared.operands.Operand.TheVariants as operands
 use Rattle.com_read_operands.specs.Numbers.{is_digit, signed_of}

@@ -16,12 +16,9 @@ pub use com_base::Memory;
 pub use faults::{Fault, ScenarioError};
 pub use fields::{end, fault, first, number, stands, word};
 pub use literals::{are_pairs, guid, guid_of, text_of, unhex};
-pub use names::{
-    NAME_LIMIT, asked_name, declared_name, is_name, name, number_of_name, position_of,
-};
+pub use names::{asked_name, declared_name, is_name, name, number_of_name, position_of};
 pub use numbers::{number_of, signed_of};
 pub use operands::{
-    BUFFER_COUNT, CELL_COUNT, LINK_COUNT, Operand, REGISTER_COUNT, SLOT_COUNT, buffer, cell, code,
-    hresult_of, leave_result, literal, marshal_mode, mode, op, operand_of, place, register, slot,
-    unfit,
+    Operand, buffer, cell, code, hresult_of, leave_result, literal, marshal_mode, mode, op,
+    operand_of, place, register, slot, unfit,
 };

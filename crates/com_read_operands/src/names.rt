@@ -8,12 +8,9 @@ ghost use Rattle.com_read_operands.specs.Naming.{name_at, declared_at, asked_at}
 use crate::faults::{Fault, ScenarioError};
 use crate::fields::{fault, word};
 use crate::literals::guid_of;
-use com_base::ByteList;
+use com_base::{ByteList, NAME_LIMIT};
 use com_body::Asked;
 use com_text::Word;
-
-/// The most bytes of a name.
-pub const NAME_LIMIT: usize = 32;
 
 // A letter, digit or `_`.
 fn is_tail(byte: u8) -> bool

@@ -2,6 +2,7 @@
 
 ghost use Rattle.std.specs.Prelude.{◌≡◌, ◌<◌, IfOk, IfSome};
 ghost use Rattle.hex.specs.Hex.{hex_digit_value};
+ghost use Rattle.com_base.specs.declared.limits.TheConstants.{BUFFER_COUNT, CELL_COUNT, REGISTER_COUNT, SLOT_COUNT};
 ghost use Rattle.com_body.specs.Bodies.{IsOp, IsPlace, IsCode, IsGiven};
 ghost use Rattle.com_read_operands.specs.Reading.{Gives};
 ghost use Rattle.com_read_operands.specs.Operands.{IsOperand, small_of, lettered, numeric_of, plain_of};
@@ -16,25 +17,13 @@ use crate::faults::{Fault, ScenarioError};
 use crate::fields::{fault, stands, word};
 use crate::literals::{are_pairs, guid_of, text_of, unhex};
 use crate::numbers::signed_of;
-use com_base::{ByteList, Guid, HResult, LITERAL_LIMIT, MarshalMode, Mode, Value};
+use com_base::{
+    BUFFER_COUNT, ByteList, CELL_COUNT, Guid, HResult, LINK_COUNT, LITERAL_LIMIT, MarshalMode,
+    Mode, REGISTER_COUNT, SLOT_COUNT, Value,
+};
 use com_body::{Code, Given, Op, Place};
 use com_text::{Sort, Word};
 use std::alloc::Global;
-
-/// How many registers a frame has: `r0` to `r15`.
-pub const REGISTER_COUNT: u8 = 16;
-
-/// How many slots a frame has: `s0` to `s7`.
-pub const SLOT_COUNT: u8 = 8;
-
-/// How many cells an object has: `c0` to `c7`.
-pub const CELL_COUNT: u8 = 8;
-
-/// How many links an object has: `k0` to `k3`.
-pub const LINK_COUNT: u8 = 4;
-
-/// How many packet buffers a scenario has: `p0` to `p63`.
-pub const BUFFER_COUNT: u8 = 64;
 
 /// What an operand's word says by its form alone.
 #[derive(Clone, Copy, Debug, PartialEq, Eq)]

@@ -13,8 +13,7 @@ use Rattle.com_read_operands.specs.Literals.{are_pairs, unhexed}
 use Rattle.com_read_operands.specs.Naming.{name_at, declared_at, asked_at}
 use Rattle.com_read_operands.specs.Operands.{register_at, slot_at, cell_at, buffer_at, place_at, op_at}
 use Rattle.com_read_operands.specs.Operands.{code_at, given_at, mode_at, marshal_mode_at}
-use Rattle.com_read_statements.specs.declared.lanes.TheConstants.{PUMP_LIMIT}
-use Rattle.com_read_statements.specs.declared.local.TheConstants.{SKIP_LIMIT}
+use Rattle.com_base.specs.declared.limits.TheConstants.{PUMP_LIMIT, SKIP_LIMIT}
 use Rattle.com_read_statements.specs.declared.keywords.Program.{Program}
 use Rattle.com_read_statements.specs.declared.keywords.LocalWord.{LocalWord}
 use Rattle.com_read_statements.specs.declared.keywords.LocalWord.TheVariants as locals

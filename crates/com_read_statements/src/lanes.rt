@@ -7,16 +7,13 @@ ghost use Rattle.com_read_statements.specs.Statements.{lane_of, filter_at};
 
 use crate::keywords::LaneWord;
 use crate::names::Names;
-use com_base::ByteList;
+use com_base::{ByteList, PUMP_LIMIT};
 use com_body::Stmt;
 use com_read_operands::{
     ScenarioError, code, declared_name, end, leave_result, mode, name, number, op, register, slot,
 };
 use com_text::Word;
 use std::alloc::Global;
-
-// The most bodies for which a pump may wait.
-const PUMP_LIMIT: u64 = 1_000;
 
 // A filter's number from 1, or `none`.
 #[tactic(auto, unfolding(crate::specs::Statements::filter_at))]
@@ -92,7 +89,7 @@ pub(crate) fn lane(
             Ok(Stmt::SetFilter { filter })
         }
         LaneWord::Pump => {
-            let bound = number(line, 1, 0, PUMP_LIMIT)? as u32;
+            let bound = number(line, 1, 0, PUMP_LIMIT as u64)? as u32;
             end(line, 2)?;
             Ok(Stmt::Pump { bound })
         }

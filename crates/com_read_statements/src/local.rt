@@ -6,13 +6,11 @@ ghost use Rattle.com_read_operands.specs.Reading.{Gives};
 ghost use Rattle.com_read_statements.specs.Statements.{local_of};
 
 use crate::keywords::{LocalWord, Program};
+use com_base::SKIP_LIMIT;
 use com_body::Stmt;
 use com_read_operands::{ScenarioError, cell, end, number, op, register, slot};
 use com_text::Word;
 use std::alloc::Global;
-
-// The most statements that a skip may pass.
-const SKIP_LIMIT: u64 = 2_000;
 
 // The local statement that a line spells behind its keyword.
 #[tactic(auto, unfolding(crate::specs::Statements::local_of))]
@@ -71,13 +69,13 @@ pub(crate) fn local(
             Ok(Stmt::Store { cell, from })
         }
         LocalWord::Skip => {
-            let count = number(line, 1, 1, SKIP_LIMIT)? as u32;
+            let count = number(line, 1, 1, SKIP_LIMIT as u64)? as u32;
             end(line, 2)?;
             Ok(Stmt::Skip { count })
         }
         LocalWord::SkipZero => {
             let register = register(line, 1)?;
-            let count = number(line, 2, 1, SKIP_LIMIT)? as u32;
+            let count = number(line, 2, 1, SKIP_LIMIT as u64)? as u32;
             end(line, 3)?;
             Ok(Stmt::SkipZero { register, count })
         }

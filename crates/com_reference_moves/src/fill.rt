@@ -20,15 +20,14 @@ ghost use Rattle.com_reference_moves.specs.Steps.{IsWhole, BodiesWhole};
 ghost use Rattle.com_reference_moves.specs.Tables.{ground_at};
 
 use crate::moves::Moves;
-use crate::setting::Setting;
+use crate::setting::EntrySetting;
 use crate::steps::{links_after, slots_after, slots_of};
 use crate::written::{Written, written_by};
 use com_base::{HOST_STA, Memory, RefValue, Value};
 use com_body::{Destination, Outcome, Place};
 use com_calls::Calls;
 use com_model::{Deed, Entry, Route};
-use com_objects::Objects;
-use com_scene::{Actor, Scene};
+use com_scene::Actor;
 
 // The apartment that a call was entered in.
 fn entered_where(calls: &Calls, call: u32) -> Option<u32>
@@ -41,7 +40,7 @@ fn entered_where(calls: &Calls, call: u32) -> Option<u32>
 }
 
 // The apartment of an actor's slots.
-fn slots_where(setting: &Setting<'_>, who: Actor) -> Option<u32>
+fn slots_where(setting: &EntrySetting<'_>, who: Actor) -> Option<u32>
     ensures { result ≡ slots_where (ground_at setting.now.home setting.now.objects setting.now.calls)
         (acting_of who) }
 {
@@ -109,7 +108,7 @@ impl Moves {
     // What a step's action writes at a place.
     fn write(
         &mut self,
-        setting: &Setting<'_>,
+        setting: &EntrySetting<'_>,
         outcome: &Outcome,
         written: Option<Written>,
     ) -> Result<(), Memory>
@@ -137,7 +136,7 @@ impl Moves {
     }
 
     // What the action of whoever acts takes and brings.
-    fn act(&mut self, setting: &Setting<'_>, deed: &Deed) -> Result<(), Memory>
+    fn act(&mut self, setting: &EntrySetting<'_>, deed: &Deed) -> Result<(), Memory>
         requires deed { FitsDeed deed.now }
         requires outcome { IsWhole setting.now.outcome }
         ensures { OnOk result (self.new
@@ -199,7 +198,7 @@ impl Moves {
     // A body leaves: all its slots, and its result.
     fn leave(
         &mut self,
-        setting: &Setting<'_>,
+        setting: &EntrySetting<'_>,
         deed: &Deed,
         call: u32,
         value: &Option<Value>,
@@ -228,7 +227,7 @@ impl Moves {
     #[tactic(auto, using(crate::proofs::Lists::lost_then))]
     fn give_back(
         &mut self,
-        setting: &Setting<'_>,
+        setting: &EntrySetting<'_>,
         apartment: Option<u32>,
         deed: &Deed,
         call: u32,
@@ -262,7 +261,7 @@ impl Moves {
     // A call comes back to whoever acts in the lane after the entry.
     fn come_back(
         &mut self,
-        setting: &Setting<'_>,
+        setting: &EntrySetting<'_>,
         deed: &Deed,
         call: u32,
         value: &Option<Value>,
@@ -289,7 +288,7 @@ impl Moves {
     // The links of an object, where it is in the apartment that ends.
     fn end_links(
         &mut self,
-        setting: &Setting<'_>,
+        setting: &EntrySetting<'_>,
         deed: &Deed,
         apartment: u32,
         object: u32,
@@ -325,7 +324,12 @@ impl Moves {
     }
 
     // A script loses all its slots.
-    fn empty_script(&mut self, setting: &Setting<'_>, deed: &Deed, lane: u32) -> Result<(), Memory>
+    fn empty_script(
+        &mut self,
+        setting: &EntrySetting<'_>,
+        deed: &Deed,
+        lane: u32,
+    ) -> Result<(), Memory>
         requires deed { FitsDeed deed.now }
         requires outcome { IsWhole setting.now.outcome }
         ensures { OnOk result (self.new ≡ together self.old (record {
@@ -345,7 +349,7 @@ impl Moves {
     }
 
     // An object that ends loses its links.
-    fn finish(&mut self, setting: &Setting<'_>, deed: &Deed, object: u32) -> Result<(), Memory>
+    fn finish(&mut self, setting: &EntrySetting<'_>, deed: &Deed, object: u32) -> Result<(), Memory>
         requires { FitsDeed deed.now }
         ensures { OnOk result (self.new ≡ together self.old (record {
           lost = all_moved (Some (named_at setting.now.objects object))
@@ -360,7 +364,7 @@ impl Moves {
     }
 
     // What the entry takes and brings beside the action.
-    fn arrive(&mut self, setting: &Setting<'_>, lane: u32, deed: &Deed) -> Result<(), Memory>
+    fn arrive(&mut self, setting: &EntrySetting<'_>, lane: u32, deed: &Deed) -> Result<(), Memory>
         requires deed { FitsDeed deed.now }
         requires outcome { IsWhole setting.now.outcome }
         requires bodies { BodiesWhole setting.now.scene }
@@ -385,7 +389,12 @@ impl Moves {
     }
 
     // The end of an STA takes the links of all its objects.
-    fn end_sta(&mut self, setting: &Setting<'_>, deed: &Deed, apartment: u32) -> Result<(), Memory>
+    fn end_sta(
+        &mut self,
+        setting: &EntrySetting<'_>,
+        deed: &Deed,
+        apartment: u32,
+    ) -> Result<(), Memory>
         requires { FitsDeed deed.now }
         ensures { OnOk result (self.new ≡ record self.old {
           lost = self.old.lost
@@ -402,7 +411,7 @@ impl Moves {
     }
 
     // What the end of an STA takes, where the entry ends one.
-    fn end(&mut self, setting: &Setting<'_>, deed: &Deed) -> Result<(), Memory>
+    fn end(&mut self, setting: &EntrySetting<'_>, deed: &Deed) -> Result<(), Memory>
         requires { FitsDeed deed.now }
         ensures { OnOk result (self.new
             ≡ together self.old (ended_stepped (ground_at setting.now.home setting.now.objects
@@ -417,7 +426,7 @@ impl Moves {
 
     // All that an entry takes and brings.
     #[tactic(auto, using(crate::proofs::Lists::all_together))]
-    fn add_all(&mut self, setting: &Setting<'_>, entry: &Entry) -> Result<(), Memory>
+    fn add_all(&mut self, setting: &EntrySetting<'_>, entry: &Entry) -> Result<(), Memory>
         requires deed { FitsDeed entry.now.deed }
         requires outcome { IsWhole setting.now.outcome }
         requires bodies { BodiesWhole setting.now.scene }
@@ -432,40 +441,20 @@ impl Moves {
         self.end(setting, &entry.deed)
     }
 
-    /// Fills the lists anew with all that an entry takes from places and brings to them, by the tables before
-    /// the entry: the home of its lane, who acts and with which outcome, and who acts in the lane after it.
-    /// `Memory`: no memory was left, and the lists are empty.
-    pub fn fill(
-        &mut self,
-        home: Option<u32>,
-        objects: &Objects,
-        calls: &Calls,
-        scene: &Scene,
-        acting: Actor,
-        outcome: &Option<Outcome>,
-        after: Actor,
-        entry: &Entry,
-    ) -> Result<(), Memory>
+    /// Fills the lists anew with all that an entry takes from places and brings to them, by what it rests on
+    /// beside itself. `Memory`: no memory was left, and the lists are empty.
+    pub fn fill(&mut self, setting: &EntrySetting<'_>, entry: &Entry) -> Result<(), Memory>
         requires deed { FitsDeed entry.now.deed }
-        requires outcome { IsWhole outcome.now }
-        requires bodies { BodiesWhole scene.now.tables }
-        requires after { FrameWhole scene.now.tables (acting_of after) }
+        requires outcome { IsWhole setting.now.outcome }
+        requires bodies { BodiesWhole setting.now.scene }
+        requires after { FrameWhole setting.now.scene setting.now.after }
         ensures moves { OnOk result (self.new
-            ≡ moves_stepped (ground_at home objects.now.tables calls.now.tables)
-            scene.now.tables (acting_of acting) outcome.now (acting_of after) entry.now) }
+            ≡ moves_stepped (ground_at setting.now.home setting.now.objects setting.now.calls)
+            setting.now.scene setting.now.acting setting.now.outcome setting.now.after entry.now) }
         ensures err { OnErr result (self.new ≡ no_moves) }
     {
-        let setting = Setting {
-            home,
-            objects,
-            calls,
-            scene,
-            acting,
-            outcome,
-            after,
-        };
         self.clear();
-        match self.add_all(&setting, entry) {
+        match self.add_all(setting, entry) {
             Ok(()) => Ok(()),
             Err(memory) => {
                 self.clear();

@@ -10,3 +10,4 @@ mod written;
 
 pub use laws::{frames_are_whole, moves_stand, places_by_lists};
 pub use moves::{Move, Moves};
+pub use setting::EntrySetting;

@@ -9,7 +9,7 @@ use std::marker::Model;
 /// What the moves of an entry rest on beside the entry: the tables before it, the home of its lane, who makes
 /// it and with which outcome, and who acts in the lane after it.
 #[derive(Drop)]
-pub struct Setting<'a> {
+pub struct EntrySetting<'a> {
     /// The home apartment of the entry's lane. `None` where it has none.
     pub home: Option<u32>,
     /// The objects.
@@ -26,7 +26,7 @@ pub struct Setting<'a> {
     pub after: Actor,
 }
 
-impl<'a> Model for Setting<'a> {
+impl<'a> Model for EntrySetting<'a> {
     ghost use Rattle.com_scene.specs.Actors.{acting_of};
     ghost use Rattle.com_reference_moves.specs.Tables.{SettingView};
 

@@ -39,7 +39,7 @@ pub use com_refs_books::Packet as PacketRow;
 /// Want of memory.
 pub use com_base::Memory;
 /// How many references may be given, of all objects together.
-pub use com_refs_holders::MOST_GIVEN;
+pub use com_refs_holders::MOST_ISSUED;
 /// How many interfaces an object may have.
 pub use com_stub::MOST_INTERFACES;
 /// Why a call changed nothing.

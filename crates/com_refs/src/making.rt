@@ -7,7 +7,7 @@ ghost use Rattle.com_refs_books.specs.Changes.{cut};
 ghost use Rattle.com_refs.specs.Makes.{IsMade};
 
 use crate::holds::gain_hold;
-use crate::{MOST_GIVEN, MOST_INTERFACES, Memory, NewObject, Refs};
+use crate::{MOST_INTERFACES, MOST_ISSUED, Memory, NewObject, Refs};
 
 impl Refs {
     /// An object of the owner's is made, the next by its number, and the apartment has a place for it by an
@@ -26,7 +26,7 @@ impl Refs {
         requires new { object ≡ length self.old.objects + 1 }
         requires small { length set.now ≤ MOST_INTERFACES }
         requires within { among iface set.now ≡ true }
-        requires few { self.old.issued + 1 < MOST_GIVEN }
+        requires few { self.old.issued + 1 < MOST_ISSUED }
         ensures made { OnOk result (IsMade self.old self.new
             (record { object = object; owner = owner; agile = false; apartment = apartment; iface = iface })
             set.now) }
@@ -58,7 +58,7 @@ impl Refs {
         requires new { object ≡ length self.old.objects + 1 }
         requires small { length set.now ≤ MOST_INTERFACES }
         requires within { among iface set.now ≡ true }
-        requires few { self.old.issued + 1 < MOST_GIVEN }
+        requires few { self.old.issued + 1 < MOST_ISSUED }
         ensures made { OnOk result (IsMade self.old self.new
             (record { object = object; owner = 0; agile = true; apartment = apartment; iface = iface })
             set.now) }
@@ -82,7 +82,7 @@ impl Refs {
         requires new { making.object ≡ length self.old.objects + 1 }
         requires small { length set.now ≤ MOST_INTERFACES }
         requires within { among making.iface set.now ≡ true }
-        requires few { self.old.issued + 1 < MOST_GIVEN }
+        requires few { self.old.issued + 1 < MOST_ISSUED }
         ensures made { OnOk result (IsMade self.old self.new making set.now) }
         ensures err { OnErr result (self.new ≡ self.old) }
         ensures room { 0 < self.old.spare → IsOk result }
@@ -98,7 +98,7 @@ impl Refs {
         requires new { making.object ≡ length self.old.objects + 1 }
         requires small { length set.now ≤ MOST_INTERFACES }
         requires within { among making.iface set.now ≡ true }
-        requires few { self.old.issued + 1 < MOST_GIVEN }
+        requires few { self.old.issued + 1 < MOST_ISSUED }
         requires room { 0 < self.old.spare }
         ensures made { IsMade self.old self.new making set.now }
         ensures spare { self.old.spare ≤ self.new.spare + 1 }
@@ -132,7 +132,7 @@ impl Refs {
 
     /// All objects that the apartment owns are no longer connected.
     pub fn end_apartment(&mut self, apartment: u32)
-        requires few { self.old.issued ≤ MOST_GIVEN }
+        requires few { self.old.issued ≤ MOST_ISSUED }
         ensures books { books_of self.new
             ≡ cut (λ x. (books_of self.old).live x && not (is_owned
             (owners_of self.old.objects) apartment x)) (books_of self.old) }

@@ -11,7 +11,7 @@ ghost use Rattle.com_refs.specs.Counts.{unheld};
 ghost use Rattle.com_refs.specs.Totals.{Totals};
 
 use crate::holds::{gain_hold, hold_at, holds_object, if_lost, lose_hold, recount, settle};
-use crate::{MOST_GIVEN, Refs, RefsError};
+use crate::{MOST_ISSUED, Refs, RefsError};
 use com_base::{MarshalMode, RefValue};
 use com_packets::Packet;
 use com_refs_holders::is_normal;
@@ -27,7 +27,7 @@ impl Refs {
         mode: MarshalMode,
     ) -> Result<u32, RefsError>
         requires known { offers self.old held.object held.iface ≡ true }
-        requires few { self.old.issued < MOST_GIVEN }
+        requires few { self.old.issued < MOST_ISSUED }
         ensures not_connected { (result
             ≡ Err RefsError.NotConnected) ↔ (is_connected self.old.stubs held.object ≡ false) }
         ensures number { IfOk result (λ number. number ≡ length self.old.packets + 1) }
@@ -56,7 +56,7 @@ impl Refs {
     /// proxy, or back to the stub in an apartment that owns the object. `Unknown` exactly where no
     /// outstanding packet has the number. Source: CoUnmarshalInterface.
     pub fn unmarshal(&mut self, apartment: u32, number: u32) -> Result<Packet, RefsError>
-        requires few { self.old.issued < MOST_GIVEN }
+        requires few { self.old.issued < MOST_ISSUED }
         ensures unknown { (result ≡ Err RefsError.Unknown) ↔ (outstanding_in
             (is_connected self.old.stubs) self.old.packets number ≡ None) }
         ensures packet { IfOk result (λ packet. outstanding_in

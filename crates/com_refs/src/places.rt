@@ -12,7 +12,7 @@ ghost use Rattle.com_refs.specs.Counts.{holders_of};
 ghost use Rattle.com_refs.specs.Totals.{Totals};
 
 use crate::holds::{gain_hold, hold_at, lose_hold, settle};
-use crate::{MOST_GIVEN, Memory, Refs, RefsError};
+use crate::{MOST_ISSUED, Memory, Refs, RefsError};
 use com_base::RefValue;
 
 impl Refs {
@@ -45,7 +45,7 @@ impl Refs {
         requires direct { owns_of self.old.objects held.object apartment ≡ true
             → 0 < (object_in self.old.objects held.object).direct }
         requires known { offers self.old held.object held.iface ≡ true }
-        requires few { self.old.issued < MOST_GIVEN }
+        requires few { self.old.issued < MOST_ISSUED }
         ensures books { books_of self.new ≡ books_of self.old }
         ensures places { OneMore self.old self.new apartment held.object
             (owns_of self.old.objects held.object apartment) }
@@ -94,7 +94,7 @@ impl Refs {
     /// want of memory.
     pub fn share(&mut self, apartment: u32, held: RefValue) -> Result<(), Memory>
         requires known { offers self.old held.object held.iface ≡ true }
-        requires few { self.old.issued < MOST_GIVEN }
+        requires few { self.old.issued < MOST_ISSUED }
         ensures books { books_of self.new ≡ books_of self.old }
         ensures places { OnOk result (OneMore self.old self.new apartment held.object
             (owns_of self.old.objects held.object apartment)) }
@@ -119,7 +119,7 @@ impl Refs {
     /// where the apartment does not own the object, which is not connected; else `NoInterface` exactly where
     /// the interface is not in its set.
     pub fn query(&mut self, apartment: u32, object: u32, iface: u16) -> Result<(), RefsError>
-        requires few { self.old.issued < MOST_GIVEN }
+        requires few { self.old.issued < MOST_ISSUED }
         ensures not_connected { (result
             ≡ Err RefsError.NotConnected) ↔
             ((owns_of self.old.objects object apartment || is_connected self.old.stubs object) ≡ false) }

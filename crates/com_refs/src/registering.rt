@@ -12,7 +12,7 @@ ghost use Rattle.com_refs.specs.Counts.{unheld};
 ghost use Rattle.com_refs.specs.Totals.{Totals};
 
 use crate::holds::{gain_hold, hold_at, if_lost, lose_hold, settle};
-use crate::{MOST_GIVEN, Refs, RefsError};
+use crate::{MOST_ISSUED, Refs, RefsError};
 use com_base::RefValue;
 
 impl Refs {
@@ -20,7 +20,7 @@ impl Refs {
     /// connected. Source: IGlobalInterfaceTable::RegisterInterfaceInGlobal.
     pub fn register(&mut self, held: RefValue) -> Result<u32, RefsError>
         requires known { offers self.old held.object held.iface ≡ true }
-        requires few { self.old.issued < MOST_GIVEN }
+        requires few { self.old.issued < MOST_ISSUED }
         ensures not_connected { (result
             ≡ Err RefsError.NotConnected) ↔ (is_connected self.old.stubs held.object ≡ false) }
         ensures cookie { IfOk result (λ cookie. cookie ≡ length self.old.cookies + 1) }
@@ -48,7 +48,7 @@ impl Refs {
     /// given or was revoked; else `NotConnected` exactly where its object is not connected. Source:
     /// IGlobalInterfaceTable::GetInterfaceFromGlobal.
     pub fn get(&mut self, apartment: u32, cookie: u32) -> Result<RefValue, RefsError>
-        requires few { self.old.issued < MOST_GIVEN }
+        requires few { self.old.issued < MOST_ISSUED }
         ensures unknown { (result ≡ Err RefsError.Unknown) ↔ (held_in self.old.cookies cookie ≡ None) }
         ensures not_connected { (result
             ≡ Err RefsError.NotConnected) ↔ IsSomeAnd (held_in self.old.cookies cookie)

@@ -4,6 +4,7 @@
 use Rattle.std.specs.Prelude.{ℕ, zero, suc, ◌+◌, ◌-◌, ◌/◌, Bool, true, false, not, ◌==◌, ◌&&◌, nat_le}
 use Rattle.std.specs.Prelude.{if◌then◌else◌, List, [], ◌∷◌, ◌++◌, map, length, fold, slice_set}
 use Rattle.std.specs.Prelude.{slice_index_or, Option, Some, None, sum_by}
+use Rattle.com_base.specs.declared.limits.TheConstants.{PUBLIC_REFERENCES}
 use Rattle.com_base.specs.declared.value.RefValue.{RefValue}
 use Rattle.com_base.specs.declared.value.MarshalMode.{MarshalMode}
 use Rattle.com_base.specs.declared.value.MarshalMode.TheVariants as marshal
@@ -128,28 +129,28 @@ pub data Row : Type 0 where
   Registers : (o i : ℕ) → Row
   Revokes : (g : ℕ) → Row
 
--- A normal packet has 5 new references; one that a proxy with n of them makes, n at least 2, has half of
--- these, rounded down. A strong packet has 1 new reference, a weak one 0.
+-- A normal packet has `PUBLIC_REFERENCES` new references; one that a proxy with n of them makes, n at least 2,
+-- has half of these, rounded down. A strong packet has 1 new reference, a weak one 0.
 abbrev pub marshal_change : MarshalMode → (owned : Bool) → (held a o i : ℕ) → Change
 marshal_change marshal.Normal owned n a o i =
-    if owned then ToPacket marshal.Normal o i 5 else if nat_le 2 n then Split a o i (n / 2)
-    else ToPacket marshal.Normal o i 5
+    if owned then ToPacket marshal.Normal o i PUBLIC_REFERENCES else if nat_le 2 n then Split a o i (n / 2)
+    else ToPacket marshal.Normal o i PUBLIC_REFERENCES
 marshal_change marshal.Strong owned n a o i = ToPacket marshal.Strong o i 1
 marshal_change marshal.Weak owned n a o i = ToPacket marshal.Weak o i 0
 
 -- A normal packet's references go to the proxy, or back to the stub in the owner's apartment, and the packet
--- ends. A table packet stays, and a proxy gets 5 new references.
+-- ends. A table packet stays, and a proxy gets `PUBLIC_REFERENCES` new references.
 abbrev pub unmarshal_change : MarshalMode → (owned : Bool) → (a p o i : ℕ) → Change
 unmarshal_change marshal.Normal owned a p o i = if owned then Return p else Join a p
-unmarshal_change _ owned a p o i = if owned then Same else ToProxy a o i 5
+unmarshal_change _ owned a p o i = if owned then Same else ToProxy a o i PUBLIC_REFERENCES
 
 -- The table, judged on the books as they stand. A row is for an object that is connected, or that the entry
 -- makes. What is not connected holds nothing, so that a cookie of it brings nothing back.
 abbrev pub change : (owned : ℕ → ℕ → Bool) → Books → Row → Change
-change owned b (Makes a o i) = if owned o a then Same else ToProxy a o i 5
-change owned b (Takes a o i) = if b.live o && not (owned o a) then ToProxy a o i 5 else Same
+change owned b (Makes a o i) = if owned o a then Same else ToProxy a o i PUBLIC_REFERENCES
+change owned b (Takes a o i) = if b.live o && not (owned o a) then ToProxy a o i PUBLIC_REFERENCES else Same
 change owned b (Asks a o i) =
-    if b.live o && (not (owned o a) && b.proxy a o i == 0) then ToProxy a o i 5 else Same
+    if b.live o && (not (owned o a) && b.proxy a o i == 0) then ToProxy a o i PUBLIC_REFERENCES else Same
 change owned b (Marshals a m o i) =
     if b.live o then marshal_change m (owned o a) (b.proxy a o i) a o i else Same
 change owned b (Unmarshals a p) =

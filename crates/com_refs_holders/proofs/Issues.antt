@@ -11,7 +11,7 @@ use Rattle.com_stub.specs.CounterRows.{has_counter, changed_counter, more, sum_o
 use Rattle.com_refs_books.specs.Counting.{count_if}
 use Rattle.com_refs_books.specs.Changes.{Books, ToProxy, changed}
 use Rattle.com_refs_books.proofs.Evens.{changed-even, more-even}
-use Rattle.com_refs_holders.specs.declared.TheConstants.{MOST_GIVEN}
+use Rattle.com_refs_holders.specs.declared.TheConstants.{MOST_ISSUED}
 use Rattle.com_refs_holders.specs.declared.ObjectRow.{ObjectRow}
 use Rattle.com_refs_holders.specs.Tables.{Tables, books_of, owns_of, owners_of, object_in, direct_in, direct_more, outstanding_in, made_in}
 use Rattle.com_refs_holders.specs.Places.{OneMore, places_of, locals_of, distinct}
@@ -71,7 +71,7 @@ issued_places t u a o i k = more_elsewhere (gaining 5) 5 (gains 5) a o i t u k.o
 pub public_fits : (t : Tables) (a o i : ℕ) → IsHolders t → is_connected t.stubs o ≡ true → public_of t.proxies a o i ≤ 5 * t.issued
 public_fits t a o i s h = omega (arith, counted_within t a o i s h, count_le t.counters o i, s.bounded.sums o)
 
-pub local_fits : (t : Tables) (a o i : ℕ) → IsHolders t → t.issued < MOST_GIVEN → local_of t.proxies a o i + 1 < 2 ^ 64
+pub local_fits : (t : Tables) (a o i : ℕ) → IsHolders t → t.issued < MOST_ISSUED → local_of t.proxies a o i + 1 < 2 ^ 64
 local_fits t a o i s few = omega (arith, few, local_le t.proxies a o i, places_le t.proxies a o, s.bounded.locals o)
 
 pub join_public_fits : (t : Tables) (a n : ℕ) (p : P.Packet) → IsHolders t → outstanding_in (is_connected t.stubs) t.packets n ≡ Some p → public_of t.proxies a p.object p.iface + p.refs ≤ 5 * t.issued

@@ -7,7 +7,7 @@ use Rattle.com_keyed.specs.Indices.{IsLatest}
 use Rattle.com_keyed.proofs.Walking.{Walks, walk_ends, walk_goes_on, walk_weaker, walk_inside, walk_at}
 use Rattle.com_stub.specs.declared.StubRow.{StubRow}
 use Rattle.com_stub.specs.StubRows.{is_connected, ended_rows}
-use Rattle.com_refs_holders.specs.declared.TheConstants.{MOST_GIVEN}
+use Rattle.com_refs_holders.specs.declared.TheConstants.{MOST_ISSUED}
 use Rattle.com_refs_holders.specs.declared.ObjectRow.{ObjectRow}
 use Rattle.com_refs_holders.specs.Stands.{IsHolders}
 use Rattle.com_refs_holders.specs.Tables.{Tables, is_owned, owners_of}
@@ -48,5 +48,5 @@ module _ (keys : List ℕ) (a : ℕ) where
     | false ↦ λ e. others (suc p) e ∙ grind (arith, common_steps)
   ] refl
 
-pub owners_length : (t : Tables) → IsHolders t → t.issued ≤ MOST_GIVEN → length (owners_of t.objects) < 2 ^ 32
+pub owners_length : (t : Tables) → IsHolders t → t.issued ≤ MOST_ISSUED → length (owners_of t.objects) < 2 ^ 32
 owners_length t s few = omega (arith, few, s.bounded.objects, length-map t.objects (λ (r : ObjectRow). r.owner))

@@ -95,9 +95,9 @@ impl Model for Holders {
         r.packets.spare r.cookies.spare };
 }
 
-/// How many references may be given, of all objects together. Each brings five public references at most, so
-/// that what a stub or a proxy counts stays far below the greatest number of 32 bits.
-pub const MOST_GIVEN: u32 = 0x1000_0000;
+/// How many references may ever be issued, of all objects together. Each brings five public references at
+/// most, so that what a stub or a proxy counts stays far below the greatest number of 32 bits.
+pub const MOST_ISSUED: u32 = 0x1000_0000;
 
 impl Holders {
     /// No object was made and nothing is held. It takes no memory.

@@ -13,7 +13,7 @@ ghost use Rattle.com_refs_holders.specs.Steps.{among};
 use crate::balance::issue;
 use crate::objects::{gain_direct, owns};
 use crate::reserved::{enroll, gain};
-use crate::{Holders, MOST_GIVEN, ObjectRow};
+use crate::{Holders, MOST_ISSUED, ObjectRow};
 use com_base::RefValue;
 use com_keyed::Chains;
 use com_proxy::Proxies;
@@ -78,7 +78,7 @@ impl Holders {
     pub fn make_object(&mut self, owner: u32, agile: bool, set: &[u16], apartment: u32, iface: u16)
         requires small { length set.now ≤ MOST_INTERFACES }
         requires within { among iface set.now ≡ true }
-        requires few { self.old.issued + 1 < MOST_GIVEN }
+        requires few { self.old.issued + 1 < MOST_ISSUED }
         requires room { 0 < self.old.spare }
         ensures made { MadeWithPlace self.old self.new (length self.old.objects + 1) owner agile
             set.now apartment iface }
@@ -119,7 +119,7 @@ impl Holders {
     /// All objects that the apartment alone owns are no longer connected. Places, packets and cookies stay.
     /// Source: the documentation of CoUninitialize.
     pub fn end_apartment(&mut self, apartment: u32)
-        requires few { self.old.issued ≤ MOST_GIVEN }
+        requires few { self.old.issued ≤ MOST_ISSUED }
         ensures books { books_of self.new
             ≡ cut (λ x. (books_of self.old).live x && not (is_owned
             (owners_of self.old.objects) apartment x)) (books_of self.old) }

@@ -9,7 +9,7 @@ ghost use Rattle.com_refs_holders.specs.Places.{OneMore, SamePlaces};
 use crate::balance::mint;
 use crate::objects::{object_at, owns};
 use crate::reserved::{gain, make};
-use crate::{Holders, HoldersError, MOST_GIVEN, Memory};
+use crate::{Holders, HoldersError, MOST_ISSUED, Memory};
 use com_base::{MarshalMode, RefValue};
 use com_packets::{Packet, Packets};
 use com_stub::Stubs;
@@ -53,7 +53,7 @@ impl Holders {
     fn issue_packet(&mut self, apartment: u32, held: RefValue, mode: MarshalMode) -> u32
         requires connected { is_connected self.old.stubs held.object ≡ true }
         requires known { offers self.old held.object held.iface ≡ true }
-        requires few { self.old.issued < MOST_GIVEN }
+        requires few { self.old.issued < MOST_ISSUED }
         requires room { 0 < self.old.spare }
         ensures number { result ≡ length self.old.packets + 1 }
         ensures row { books_of self.new
@@ -100,7 +100,7 @@ impl Holders {
     ) -> Result<u32, Memory>
         requires connected { is_connected self.old.stubs held.object ≡ true }
         requires known { offers self.old held.object held.iface ≡ true }
-        requires few { self.old.issued < MOST_GIVEN }
+        requires few { self.old.issued < MOST_ISSUED }
         ensures number { IfOk result (λ number. number ≡ length self.old.packets + 1) }
         ensures row { OnOk result (books_of self.new
             ≡ changed (books_of self.old) (change (owns_of self.old.objects) (books_of self.old)
@@ -126,7 +126,7 @@ impl Holders {
         mode: MarshalMode,
     ) -> Result<u32, HoldersError>
         requires known { offers self.old held.object held.iface ≡ true }
-        requires few { self.old.issued < MOST_GIVEN }
+        requires few { self.old.issued < MOST_ISSUED }
         ensures not_connected { (result
             ≡ Err HoldersError.NotConnected) ↔ (is_connected self.old.stubs held.object ≡ false) }
         ensures live { OnOk result (is_connected self.old.stubs held.object ≡ true) }
@@ -197,7 +197,7 @@ impl Holders {
         requires outstanding { outstanding_in (is_connected self.old.stubs) self.old.packets number
             ≡ Some packet }
         requires elsewhere { owns_of self.old.objects packet.object apartment ≡ false }
-        requires few { self.old.issued < MOST_GIVEN }
+        requires few { self.old.issued < MOST_ISSUED }
         requires room { 0 < self.old.spare }
         ensures books { books_of self.new ≡ changed (books_of self.old) (Join apartment number) }
         ensures places { OneMore self.old self.new apartment packet.object false }
@@ -223,7 +223,7 @@ impl Holders {
         requires outstanding { outstanding_in (is_connected self.old.stubs) self.old.packets number
             ≡ Some packet }
         requires elsewhere { owns_of self.old.objects packet.object apartment ≡ false }
-        requires few { self.old.issued < MOST_GIVEN }
+        requires few { self.old.issued < MOST_ISSUED }
         ensures books { OnOk result (books_of self.new
             ≡ changed (books_of self.old) (Join apartment number)) }
         ensures places { OnOk result (OneMore self.old self.new apartment packet.object false) }
@@ -243,7 +243,7 @@ impl Holders {
     /// stub in an apartment that owns the object. `Unknown` exactly where no outstanding packet has the
     /// number.
     pub fn unmarshal(&mut self, apartment: u32, number: u32) -> Result<Packet, HoldersError>
-        requires few { self.old.issued < MOST_GIVEN }
+        requires few { self.old.issued < MOST_ISSUED }
         ensures unknown { (result ≡ Err HoldersError.Unknown) ↔ (outstanding_in
             (is_connected self.old.stubs) self.old.packets number ≡ None) }
         ensures packet { IfOk result (λ packet. outstanding_in
@@ -279,7 +279,7 @@ impl Holders {
         requires outstanding { outstanding_in (is_connected self.old.stubs) self.old.packets number
             ≡ Some packet }
         requires here { owns_of self.old.objects packet.object apartment ≡ true }
-        requires few { self.old.issued < MOST_GIVEN }
+        requires few { self.old.issued < MOST_ISSUED }
         ensures row { books_of self.new
             ≡ changed (books_of self.old) (change (owns_of self.old.objects) (books_of self.old)
             (Unmarshals apartment number)) }
@@ -307,7 +307,7 @@ impl Holders {
         requires outstanding { outstanding_in (is_connected self.old.stubs) self.old.packets number
             ≡ Some packet }
         requires elsewhere { owns_of self.old.objects packet.object apartment ≡ false }
-        requires few { self.old.issued < MOST_GIVEN }
+        requires few { self.old.issued < MOST_ISSUED }
         ensures row { OnOk result (books_of self.new
             ≡ changed (books_of self.old) (change (owns_of self.old.objects) (books_of self.old)
             (Unmarshals apartment number))) }

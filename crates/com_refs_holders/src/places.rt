@@ -11,7 +11,7 @@ ghost use Rattle.com_refs_holders.specs.Stands.{Tells};
 use crate::balance::{issue, let_go};
 use crate::objects::{gain_direct, lose_direct};
 use crate::reserved::gain;
-use crate::{Holders, HoldersError, MOST_GIVEN, Memory};
+use crate::{Holders, HoldersError, MOST_ISSUED, Memory};
 use com_base::RefValue;
 
 impl Holders {
@@ -19,7 +19,7 @@ impl Holders {
     // No public reference moves.
     pub(crate) fn keep_direct(&mut self, object: u32)
         requires made { (0 < object) × (object ≤ length self.old.objects) }
-        requires few { self.old.issued < MOST_GIVEN }
+        requires few { self.old.issued < MOST_ISSUED }
         ensures books { books_of self.new ≡ books_of self.old }
         ensures places { (a : ℕ) → OneMore self.old self.new a object true }
         ensures counters { self.new.counters ≡ self.old.counters }
@@ -35,7 +35,7 @@ impl Holders {
     pub fn keep_elsewhere(&mut self, apartment: u32, held: RefValue)
         requires elsewhere { owns_of self.old.objects held.object apartment ≡ false }
         requires held { 0 < local_of self.old.proxies apartment held.object held.iface }
-        requires few { self.old.issued < MOST_GIVEN }
+        requires few { self.old.issued < MOST_ISSUED }
         ensures books { books_of self.new ≡ books_of self.old }
         ensures places { OneMore self.old self.new apartment held.object false }
         ensures counters { self.new.counters ≡ self.old.counters }
@@ -52,7 +52,7 @@ impl Holders {
         requires elsewhere { owns_of self.old.objects held.object apartment ≡ false }
         requires connected { is_connected self.old.stubs held.object ≡ true }
         requires known { offers self.old held.object held.iface ≡ true }
-        requires few { self.old.issued < MOST_GIVEN }
+        requires few { self.old.issued < MOST_ISSUED }
         requires room { 0 < self.old.spare }
         ensures books { books_of self.new
             ≡ changed (books_of self.old) (ToProxy apartment held.object held.iface 5) }
@@ -71,7 +71,7 @@ impl Holders {
     fn share_elsewhere(&mut self, apartment: u32, held: RefValue)
         requires elsewhere { owns_of self.old.objects held.object apartment ≡ false }
         requires known { offers self.old held.object held.iface ≡ true }
-        requires few { self.old.issued < MOST_GIVEN }
+        requires few { self.old.issued < MOST_ISSUED }
         requires room { 0 < self.old.spare }
         ensures books { books_of self.new ≡ books_of self.old }
         ensures places { OneMore self.old self.new apartment held.object false }
@@ -92,7 +92,7 @@ impl Holders {
         requires elsewhere { owns_of self.old.objects held.object apartment ≡ false }
         requires connected { is_connected self.old.stubs held.object ≡ true }
         requires known { offers self.old held.object held.iface ≡ true }
-        requires few { self.old.issued < MOST_GIVEN }
+        requires few { self.old.issued < MOST_ISSUED }
         ensures books { OnOk result (books_of self.new
             ≡ changed (books_of self.old) (ToProxy apartment held.object held.iface 5)) }
         ensures places { OnOk result (OneMore self.old self.new apartment held.object false) }
@@ -114,7 +114,7 @@ impl Holders {
     pub fn take_shared(&mut self, apartment: u32, held: RefValue) -> Result<(), Memory>
         requires elsewhere { owns_of self.old.objects held.object apartment ≡ false }
         requires known { offers self.old held.object held.iface ≡ true }
-        requires few { self.old.issued < MOST_GIVEN }
+        requires few { self.old.issued < MOST_ISSUED }
         ensures books { OnOk result (books_of self.new ≡ books_of self.old) }
         ensures places { OnOk result (OneMore self.old self.new apartment held.object false) }
         ensures offers { SameSets self.old self.new }
@@ -196,7 +196,7 @@ impl Holders {
             → 0 < local_of self.old.proxies apartment held.object held.iface }
         requires direct { owns_of self.old.objects held.object apartment ≡ true
             → 0 < (object_in self.old.objects held.object).direct }
-        requires few { self.old.issued < MOST_GIVEN }
+        requires few { self.old.issued < MOST_ISSUED }
         ensures books { books_of self.new ≡ books_of self.old }
         ensures places { OneMore self.old self.new apartment held.object
             (owns_of self.old.objects held.object apartment) }
@@ -216,7 +216,7 @@ impl Holders {
     /// want of memory.
     pub fn share(&mut self, apartment: u32, held: RefValue) -> Result<(), Memory>
         requires known { offers self.old held.object held.iface ≡ true }
-        requires few { self.old.issued < MOST_GIVEN }
+        requires few { self.old.issued < MOST_ISSUED }
         ensures books { OnOk result (books_of self.new ≡ books_of self.old) }
         ensures places { OnOk result (OneMore self.old self.new apartment held.object
             (owns_of self.old.objects held.object apartment)) }
@@ -239,7 +239,7 @@ impl Holders {
     /// where the apartment does not own the object, which is not connected; else `NoInterface` exactly where
     /// the interface is not in its set.
     pub fn query(&mut self, apartment: u32, object: u32, iface: u16) -> Result<(), HoldersError>
-        requires few { self.old.issued < MOST_GIVEN }
+        requires few { self.old.issued < MOST_ISSUED }
         ensures not_connected { (result
             ≡ Err HoldersError.NotConnected) ↔
             ((owns_of self.old.objects object apartment || is_connected self.old.stubs object) ≡ false) }
@@ -287,7 +287,7 @@ impl Holders {
         requires elsewhere { owns_of self.old.objects held.object apartment ≡ false }
         requires connected { is_connected self.old.stubs held.object ≡ true }
         requires known { offers self.old held.object held.iface ≡ true }
-        requires few { self.old.issued < MOST_GIVEN }
+        requires few { self.old.issued < MOST_ISSUED }
         ensures row { OnOk result (books_of self.new
             ≡ changed (books_of self.old) (change (owns_of self.old.objects) (books_of self.old)
             (Asks apartment held.object held.iface))) }

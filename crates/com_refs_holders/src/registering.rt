@@ -9,7 +9,7 @@ ghost use Rattle.com_refs_holders.specs.Places.{OneMore, SamePlaces};
 
 use crate::balance::{issue, take_back};
 use crate::reserved::register;
-use crate::{Holders, HoldersError, MOST_GIVEN, Memory};
+use crate::{Holders, HoldersError, MOST_ISSUED, Memory};
 use com_base::RefValue;
 
 impl Holders {
@@ -17,7 +17,7 @@ impl Holders {
     fn issue_cookie(&mut self, held: RefValue) -> u32
         requires connected { is_connected self.old.stubs held.object ≡ true }
         requires known { offers self.old held.object held.iface ≡ true }
-        requires few { self.old.issued < MOST_GIVEN }
+        requires few { self.old.issued < MOST_ISSUED }
         requires room { 0 < self.old.spare }
         ensures cookie { result ≡ length self.old.cookies + 1 }
         ensures books { books_of self.new ≡ changed (books_of self.old) (ToCookie held.object held.iface 1) }
@@ -39,7 +39,7 @@ impl Holders {
     pub fn give_cookie(&mut self, held: RefValue) -> Result<u32, Memory>
         requires connected { is_connected self.old.stubs held.object ≡ true }
         requires known { offers self.old held.object held.iface ≡ true }
-        requires few { self.old.issued < MOST_GIVEN }
+        requires few { self.old.issued < MOST_ISSUED }
         ensures cookie { IfOk result (λ cookie. cookie ≡ length self.old.cookies + 1) }
         ensures books { OnOk result (books_of self.new
             ≡ changed (books_of self.old) (ToCookie held.object held.iface 1)) }
@@ -59,7 +59,7 @@ impl Holders {
     /// connected. Source: RegisterInterfaceInGlobal.
     pub fn register(&mut self, held: RefValue) -> Result<u32, HoldersError>
         requires known { offers self.old held.object held.iface ≡ true }
-        requires few { self.old.issued < MOST_GIVEN }
+        requires few { self.old.issued < MOST_ISSUED }
         ensures not_connected { (result
             ≡ Err HoldersError.NotConnected) ↔ (is_connected self.old.stubs held.object ≡ false) }
         ensures cookie { IfOk result (λ cookie. cookie ≡ length self.old.cookies + 1) }
@@ -87,7 +87,7 @@ impl Holders {
     /// revoked; else
     /// `NotConnected` exactly where its object is not connected. Source: GetInterfaceFromGlobal.
     pub fn get(&mut self, apartment: u32, cookie: u32) -> Result<RefValue, HoldersError>
-        requires few { self.old.issued < MOST_GIVEN }
+        requires few { self.old.issued < MOST_ISSUED }
         ensures unknown { (result ≡ Err HoldersError.Unknown) ↔ (held_in self.old.cookies cookie ≡ None) }
         ensures not_connected { (result
             ≡ Err HoldersError.NotConnected) ↔ IsSomeAnd (held_in self.old.cookies cookie)

@@ -1,5 +1,6 @@
 -- What is known of a deed of which an entry is made, before its row is entered: the rules give no other.
 use Rattle.std.specs.Prelude.{◌≡◌, ℕ, ℤ, ◌+◌, ◌≤◌, ◌^◌, Bool, true, ◌||◌, List, Option, Some, None, length}
+use Rattle.com_base.specs.declared.limits.TheConstants.{LISTED_LIMIT, PARAMETER_LIMIT}
 use Rattle.com_base.specs.declared.value.RefValue.{RefValue}
 use Rattle.com_body.specs.declared.operands.Asked.{Asked}
 use Rattle.com_body.specs.declared.operands.Asked.TheVariants as asked
@@ -10,7 +11,7 @@ use Rattle.com_model.specs.declared.deeds.Deed.{Deed}
 use Rattle.com_model.specs.declared.deeds.Deed.TheVariants as deed
 use Rattle.com_model.specs.Answers.{is_S_OK}
 use Rattle.com_model.specs.Deeds.{cookie_number}
-use Rattle.com_refs_holders.specs.declared.TheConstants.{MOST_GIVEN}
+use Rattle.com_refs_holders.specs.declared.TheConstants.{MOST_ISSUED}
 use Rattle.com_refs_holders.specs.Tables.{Tables, offers, owns_of}
 use Rattle.com_refs_rows.specs.Entries.{Tally}
 use Rattle.com_refs_rows.specs.Moving.{AllKnown}
@@ -30,7 +31,7 @@ most_gained = 8
 pub record IsNextMade (t : ClassTables) (made object class iface : ℕ) : Type 0 where
   pub next : object ≡ made + 1
   pub offered : has_interface t class iface ≡ true
-  pub small : (c : Class) → class_at t class ≡ Some c → length c.interfaces ≤ 16
+  pub small : (c : Class) → class_at t class ≡ Some c → length c.interfaces ≤ LISTED_LIMIT
 
 -- A new object has an owner and a class, which are given by number, as the interface is.
 abbrev pub IsMaking : ClassTables → (made : ℕ) → (object owner : Option ℕ) → (class iface : Asked) → Type 0
@@ -95,5 +96,5 @@ FitsRow t rs a w _ = Unit {0}
 pub record FitsBooks (t : ClassTables) (carried : List RefValue) (apartment : ℕ) (w : Tally) (d : Deed)
     : Type 0 where
   pub row : FitsRow t carried apartment w d
-  pub few : length carried ≤ 4
-  pub room : w.tables.issued + most_given ≤ MOST_GIVEN
+  pub few : length carried ≤ PARAMETER_LIMIT
+  pub room : w.tables.issued + most_given ≤ MOST_ISSUED

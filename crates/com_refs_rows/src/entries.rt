@@ -17,13 +17,13 @@ ghost use Rattle.com_refs_rows.specs.Moving.{HoldsMore};
 ghost use Rattle.com_refs_rows.specs.Owners.{OffersMore};
 ghost use Rattle.com_scene.specs.Ranges.{HasInterface};
 
-use crate::making::make;
+use crate::making::{Instance, make};
 use crate::rows::{get, marshal, query, register, unmarshal};
 use com_base::{HResult, MarshalMode, Memory, RefValue};
 use com_body::Asked;
 use com_classes::Classes;
 use com_reference_moves::Move;
-use com_refs::{MOST_GIVEN, Refs};
+use com_refs::{MOST_ISSUED, Refs};
 
 // A reference by an interface that has a number of 16 bits.
 fn reference(object: u32, iface: u32) -> RefValue
@@ -34,6 +34,20 @@ fn reference(object: u32, iface: u32) -> RefValue
     RefValue { object, iface }
 }
 
+/// An activation, as its Made entry says it: what was asked for, and the object that was made, if one was.
+#[derive(Debug, Clone, Copy)]
+pub struct Activation {
+    /// The number of the object that was made. `None` where the activation is refused.
+    pub object: Option<u32>,
+    /// The apartment that owns the object; 0, the neutral one, for an agile object. `None` where none was
+    /// made.
+    pub owner: Option<u32>,
+    /// The class that was asked for.
+    pub class: Asked,
+    /// The interface that was asked for.
+    pub iface: Asked,
+}
+
 /// The row of a new object. The only error is want of memory.
 pub fn enter_made(
     refs: &mut Refs,
@@ -41,27 +55,32 @@ pub fn enter_made(
     set: &mut Vec<u16>,
     classes: &Classes,
     apartment: u32,
-    object: Option<u32>,
-    owner: Option<u32>,
-    class: Asked,
-    iface: Asked,
+    activation: &Activation,
 ) -> Result<(), Memory>
-    requires making { IsMaking classes.now (length refs.old.objects) object owner class iface }
-    requires iface { HasInterface object iface }
-    requires few { refs.old.issued + 1 < MOST_GIVEN }
+    requires making { IsMaking classes.now (length refs.old.objects) activation.now.object activation.now.owner
+        activation.now.class activation.now.iface }
+    requires iface { HasInterface activation.now.object activation.now.iface }
+    requires few { refs.old.issued + 1 < MOST_ISSUED }
     requires place { vec_len brought.old < vec_capacity brought.old }
     requires room { 0 < refs.old.spare }
     ensures row { OnOk result
-        (MakesOrNone classes.now apartment object owner class iface refs.old refs.new brought.old.items
-        brought.new.items) }
+        (MakesOrNone classes.now apartment activation.now.object activation.now.owner activation.now.class
+        activation.now.iface refs.old refs.new brought.old.items brought.new.items) }
     ensures more { OnOk result (KeepsHeld apartment refs.old refs.new) }
     ensures err { OnErr result (refs.new ≡ refs.old) }
     ensures offers { OnOk result ((hr : HResult)
-        → OffersMore classes.now (makes (deed.Made object owner class iface hr)) refs.old refs.new) }
+        → OffersMore classes.now (makes (deed.Made activation.now.object activation.now.owner
+        activation.now.class activation.now.iface hr)) refs.old refs.new) }
     ensures issued { refs.new.issued ≤ refs.old.issued + 2 }
     ensures spare { refs.old.spare ≤ refs.new.spare + 1 }
     ensures len { vec_len brought.new ≤ vec_len brought.old + 1 }
 {
+    let Activation {
+        object,
+        owner,
+        class,
+        iface,
+    } = *activation;
     let Some(object) = object else {
         return Ok(());
     };
@@ -73,7 +92,8 @@ pub fn enter_made(
         unreachable!()
     };
     let held = reference(object, iface);
-    make(refs, brought, set, classes, apartment, held, owner, class)
+    let instance = Instance { held, owner, class };
+    make(refs, brought, set, classes, apartment, &instance)
 }
 
 /// The row of a reference that was asked for an interface.
@@ -87,7 +107,7 @@ pub fn enter_query(
 )
     requires asked { IsAsked refs.old apartment object iface (is_S_OK hr) }
     requires iface { HasInterface object iface }
-    requires few { refs.old.issued < MOST_GIVEN }
+    requires few { refs.old.issued < MOST_ISSUED }
     requires room { 0 < refs.old.spare }
     requires place { vec_len brought.old < vec_capacity brought.old }
     ensures row { RowsOf apartment
@@ -118,7 +138,7 @@ pub fn enter_unmarshal(
     apartment: u32,
     packet: Option<u32>,
 )
-    requires few { refs.old.issued < MOST_GIVEN }
+    requires few { refs.old.issued < MOST_ISSUED }
     requires place { vec_len brought.old < vec_capacity brought.old }
     requires room { 0 < refs.old.spare }
     ensures row { (held : Option RefValue) (n : ℕ) (hr : HResult)
@@ -145,7 +165,7 @@ pub fn enter_marshal(
     held: Option<RefValue>,
 )
     requires held { IsHeld refs.old held }
-    requires few { refs.old.issued < MOST_GIVEN }
+    requires few { refs.old.issued < MOST_ISSUED }
     requires room { 0 < refs.old.spare }
     ensures row { (n : ℕ) (hr : HResult) (bytes : Option (List ℕ)) (brought : List Move)
         → RowsOf apartment (deed.Marshal packet mode held n hr bytes) refs.old refs.new brought brought }
@@ -166,7 +186,7 @@ pub fn enter_marshal(
 /// The row of a cookie of a reference.
 pub fn enter_register(refs: &mut Refs, cookie: Option<u32>, held: Option<RefValue>)
     requires held { IsHeld refs.old held }
-    requires few { refs.old.issued < MOST_GIVEN }
+    requires few { refs.old.issued < MOST_ISSUED }
     requires room { 0 < refs.old.spare }
     ensures row { (a : ℕ) (hr : HResult) (brought : List Move)
         → RowsOf a (deed.Register cookie held hr) refs.old refs.new brought brought }
@@ -193,7 +213,7 @@ pub fn enter_get(
     held: Option<RefValue>,
 )
     requires kept { IsGotten refs.old.cookies refs.old.stubs cookie.now held }
-    requires few { refs.old.issued < MOST_GIVEN }
+    requires few { refs.old.issued < MOST_ISSUED }
     requires room { 0 < refs.old.spare }
     requires place { vec_len brought.old < vec_capacity brought.old }
     ensures row { (n : ℕ) (hr : HResult)
@@ -213,7 +233,7 @@ pub fn enter_get(
 
 /// The row of a result's packet that is read: its call's answer is its body's Leave.
 pub fn enter_back(refs: &mut Refs, brought: &mut Vec<Move>, apartment: u32, number: u32)
-    requires few { refs.old.issued < MOST_GIVEN }
+    requires few { refs.old.issued < MOST_ISSUED }
     requires place { vec_len brought.old < vec_capacity brought.old }
     requires room { 0 < refs.old.spare }
     ensures row { Gained apartment (back_rows apartment true

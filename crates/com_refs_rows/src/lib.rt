@@ -17,7 +17,8 @@ mod touching;
 pub use calls::{CallPackets, CallTable};
 pub use com_base::Memory;
 pub use entries::{
-    enter_back, enter_get, enter_made, enter_marshal, enter_query, enter_register, enter_unmarshal,
+    Activation, enter_back, enter_get, enter_made, enter_marshal, enter_query, enter_register,
+    enter_unmarshal,
 };
 pub use moving::{gain_all, lose_all};
 pub use packing::{is_left, issue, read_all, reply};

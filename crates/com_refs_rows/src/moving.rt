@@ -11,12 +11,12 @@ ghost use Rattle.com_refs_rows.specs.Owners.{AsOwned};
 use crate::touching::touch_where;
 use com_base::RefValue;
 use com_reference_moves::Move;
-use com_refs::{MOST_GIVEN, Refs};
+use com_refs::{MOST_ISSUED, Refs};
 
 // One place more.
 fn gain(refs: &mut Refs, moved: Move)
     requires known { offers refs.old moved.reference.object moved.reference.iface ≡ true }
-    requires few { refs.old.issued < MOST_GIVEN }
+    requires few { refs.old.issued < MOST_ISSUED }
     requires room { 0 < refs.old.spare }
     ensures books { books_of refs.new ≡ books_of refs.old }
     ensures places { (n : ℕ) (places : ℕ → ℕ → ℕ) → moved.apartment < n
@@ -86,7 +86,7 @@ fn lose(refs: &mut Refs, touched: &mut Vec<u32>, moved: Move)
 /// What comes to places. The books stay, and no object has fewer holders than before.
 pub fn gain_all(refs: &mut Refs, gained: &[Move])
     requires known { AllOffered refs.old gained.now }
-    requires few { refs.old.issued + length gained.now ≤ MOST_GIVEN }
+    requires few { refs.old.issued + length gained.now ≤ MOST_ISSUED }
     requires room { length gained.now ≤ refs.old.spare }
     ensures books { books_of refs.new ≡ books_of refs.old }
     ensures places { (n : ℕ) (places : ℕ → ℕ → ℕ) → AllBelow n gained.now

@@ -16,12 +16,12 @@ use com_base::{MarshalMode, Memory, RefValue};
 use com_calls::Calls;
 use com_deeds::is_leave;
 use com_reference_moves::Move;
-use com_refs::{MOST_GIVEN, Refs};
+use com_refs::{MOST_ISSUED, Refs};
 
 // A packet for each reference, in order.
 fn marshal_all(refs: &mut Refs, apartment: u32, carried: &[RefValue])
     requires known { AllKnown refs.old carried.now }
-    requires few { refs.old.issued + length carried.now ≤ MOST_GIVEN }
+    requires few { refs.old.issued + length carried.now ≤ MOST_ISSUED }
     requires room { length carried.now ≤ refs.old.spare }
     ensures rows { Marshalled (marshal_all apartment carried.now) refs.old refs.new }
     ensures more { HoldsMore refs.old refs.new }
@@ -37,7 +37,7 @@ fn marshal_all(refs: &mut Refs, apartment: u32, carried: &[RefValue])
 // The packets of some references: the number of the first, and how many there are.
 fn pack(refs: &mut Refs, apartment: u32, carried: &[RefValue]) -> (u32, u32)
     requires known { AllKnown refs.old carried.now }
-    requires few { refs.old.issued + length carried.now < MOST_GIVEN }
+    requires few { refs.old.issued + length carried.now < MOST_ISSUED }
     requires room { length carried.now ≤ refs.old.spare }
     ensures fits { result.0 + result.1 < 2 ^ 32 }
     ensures few { result.1 ≤ length carried.now }
@@ -67,7 +67,7 @@ pub fn issue(
 ) -> Result<(), Memory>
     requires known { AllKnown refs.old carried.now }
     requires args { length carried.now ≤ 4 }
-    requires few { refs.old.issued + length carried.now < MOST_GIVEN }
+    requires few { refs.old.issued + length carried.now < MOST_ISSUED }
     requires room { length carried.now ≤ refs.old.spare }
     ensures rows { OnOk result (Marshalled (marshal_all apartment carried.now) refs.old refs.new) }
     ensures more { OnOk result (HoldsMore refs.old refs.new) }
@@ -98,7 +98,7 @@ pub fn reply(
     requires some { 1 ≤ call }
     requires issued { call ≤ length calls.old }
     requires known { AllKnown refs.old carried.now }
-    requires few { refs.old.issued + length carried.now < MOST_GIVEN }
+    requires few { refs.old.issued + length carried.now < MOST_ISSUED }
     requires room { length carried.now ≤ refs.old.spare }
     ensures rows { Marshalled (marshal_all apartment carried.now) refs.old refs.new }
     ensures more { HoldsMore refs.old refs.new }
@@ -117,7 +117,7 @@ pub fn reply(
 /// A body is entered, and its arguments' packets are read.
 pub fn read_all(refs: &mut Refs, brought: &mut Vec<Move>, apartment: u32, packets: CallPackets)
     requires numbers { packets.first + packets.count < 2 ^ 32 }
-    requires few { refs.old.issued + packets.count ≤ MOST_GIVEN }
+    requires few { refs.old.issued + packets.count ≤ MOST_ISSUED }
     requires room { packets.count ≤ refs.old.spare }
     requires places { vec_len brought.old + packets.count ≤ vec_capacity brought.old }
     ensures rows { Gained apartment (map (λ p. Unmarshals apartment p)

@@ -14,7 +14,7 @@ use crate::touching::{touch, touch_if};
 use com_base::{MarshalMode, RefValue};
 use com_objects::Objects;
 use com_reference_moves::Move;
-use com_refs::{MOST_GIVEN, Refs};
+use com_refs::{MOST_ISSUED, Refs};
 
 /// The row brought a place.
 pub fn bring(brought: &mut Vec<Move>, apartment: u32, reference: RefValue)
@@ -32,7 +32,7 @@ pub fn bring(brought: &mut Vec<Move>, apartment: u32, reference: RefValue)
 /// A reference is asked for another interface: its object is reached, and the interface is in its set.
 pub fn query(refs: &mut Refs, brought: &mut Vec<Move>, apartment: u32, held: RefValue)
     requires offered { IsOfferedTo refs.old apartment held.object held.iface }
-    requires few { refs.old.issued < MOST_GIVEN }
+    requires few { refs.old.issued < MOST_ISSUED }
     requires room { 0 < refs.old.spare }
     requires place { vec_len brought.old < vec_capacity brought.old }
     ensures gained { Gained apartment
@@ -53,7 +53,7 @@ pub fn query(refs: &mut Refs, brought: &mut Vec<Move>, apartment: u32, held: Ref
 /// A packet of a reference; what is not connected gets none.
 pub fn marshal(refs: &mut Refs, apartment: u32, held: RefValue, mode: MarshalMode)
     requires known { offers refs.old held.object held.iface ≡ true }
-    requires few { refs.old.issued < MOST_GIVEN }
+    requires few { refs.old.issued < MOST_ISSUED }
     requires room { 0 < refs.old.spare }
     ensures row { Rowed refs.old refs.new (Marshals apartment mode held.object held.iface) }
     ensures more { HoldsMore refs.old refs.new }
@@ -73,7 +73,7 @@ pub fn marshal(refs: &mut Refs, apartment: u32, held: RefValue, mode: MarshalMod
 
 /// A packet is read; one that has ended gives nothing.
 pub fn unmarshal(refs: &mut Refs, brought: &mut Vec<Move>, apartment: u32, number: u32)
-    requires few { refs.old.issued < MOST_GIVEN }
+    requires few { refs.old.issued < MOST_ISSUED }
     requires room { 0 < refs.old.spare }
     requires place { vec_len brought.old < vec_capacity brought.old }
     ensures row { Gained apartment
@@ -123,7 +123,7 @@ pub fn drop_packet(refs: &mut Refs, touched: &mut Vec<u32>, number: u32)
 /// A cookie of a reference; what is not connected gets none.
 pub fn register(refs: &mut Refs, held: RefValue)
     requires known { offers refs.old held.object held.iface ≡ true }
-    requires few { refs.old.issued < MOST_GIVEN }
+    requires few { refs.old.issued < MOST_ISSUED }
     requires room { 0 < refs.old.spare }
     ensures row { Rowed refs.old refs.new (Registers held.object held.iface) }
     ensures more { HoldsMore refs.old refs.new }
@@ -143,7 +143,7 @@ pub fn register(refs: &mut Refs, held: RefValue)
 
 /// The reference of a cookie, which is this one.
 pub fn get(refs: &mut Refs, brought: &mut Vec<Move>, apartment: u32, cookie: i64, held: RefValue)
-    requires few { refs.old.issued < MOST_GIVEN }
+    requires few { refs.old.issued < MOST_ISSUED }
     requires room { 0 < refs.old.spare }
     requires kept { IsKept refs.old.cookies refs.old.stubs cookie held }
     requires place { vec_len brought.old < vec_capacity brought.old }

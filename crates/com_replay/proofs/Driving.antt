@@ -1,5 +1,5 @@
 -- From the first state to the whole history: what stands between two steps.
-use Rattle.std.proofs.Common.{sym, subst, ◌∙◌, ap, arith, inl, inr, append_assoc, append-nil, drop, map}
+use Rattle.std.proofs.Common.{sym, subst, ◌∙◌, ap, arith, inl, inr, append_assoc, append-nil, drop}
 use Rattle.std.specs.Prelude.{◌≡◌, refl, ℕ, zero, suc, ◌+◌, ◌-◌, ◌≤◌, ◌<◌, Bool, true, cond, nat_le, List, [], ◌∷◌, ◌++◌, length, Option, Some, None, Result, Ok, Err, OnOk, slice_index_or}
 use Rattle.com_io.specs.Told.{Gains, GainsPrefix}
 use Rattle.com_io.proofs.Passing.{gains_both, gains_then_prefix, prefix_of_more, gains_nothing}
@@ -23,8 +23,8 @@ use Rattle.com_model.proofs.Sights.{same-sight, same-next, same-class}
 use Rattle.com_runtime.proofs.Runs.{stands-later}
 use Rattle.com_runtime.specs.Standings.{ended_now, turn_now, Reached}
 use Rattle.com_runtime.specs.Turns.{IsTurn, next_line, served_in, served_at, served_by, body_kind}
-use Rattle.com_replay.specs.declared.stream.Step.{Step}
-use Rattle.com_replay.specs.declared.stream.Step.TheVariants.{Made, Over}
+use Rattle.com_replay.specs.declared.course.Turned.{Turned}
+use Rattle.com_replay.specs.declared.course.Turned.TheVariants.{Made, Over}
 use Rattle.com_replay.specs.Steps.{Moment, IsMade, Fails, StepsTo, over_of}
 use Rattle.com_runtime.specs.Reports.{all_counts_in}
 use Rattle.com_replay.specs.Replays.{whole_text, whole_history, whole_served, IsReplay}
@@ -71,7 +71,7 @@ text-on (suc n) s h picks last = by-end n s (text-on n s) h picks last (ended_as
 is-low : (k n : ℕ) → k ≤ n → nat_le k n ≡ true
 is-low k n q = grind (arith, q)
 
-ended-same : (s : Scenario) (st : State) (h : List Entry) → StandsFor s st h → length h ≤ limit s → ended_as s h ≡ ended_now s st
+pub ended-same : (s : Scenario) (st : State) (h : List Entry) → StandsFor s st h → length h ≤ limit s → ended_as s h ≡ ended_now s st
 unfolding ended_now
 ended-same s st h p q =
     ap (λ (b : Bool). cond b (ended_by s (sight s h) (length h)) None) (is-low (length h) (limit s) q)
@@ -82,7 +82,7 @@ turn-same : (s : Scenario) (st : State) (h : List Entry) (picks : List ℕ) (las
 unfolding turn_now
 turn-same s st h picks last p = ap (λ (v : Sight). turn s v picks last) (sym (same-sight s st h p))
 
-served-same : (s : Scenario) (st : State) (h : List Entry) (l : ℕ) (steps : List ℕ) → StandsFor s st h → served_in s st l steps ≡ served_at s h l steps
+pub served-same : (s : Scenario) (st : State) (h : List Entry) (l : ℕ) (steps : List ℕ) → StandsFor s st h → served_in s st l steps ≡ served_at s h l steps
 unfolding served_in served_at
 served-same s st h zero steps p = refl
 served-same s st h (suc l) steps p =
@@ -134,7 +134,7 @@ record Further (s : Scenario) (m : Moment) (h : List Entry) (e : Entry) (new : S
   way : run_on more s (e ∷ h) picks last ≡ whole_history s
   line : next_line s m.state e ≡ line_text s.version (length h + 1) e
 
-line-same : (s : Scenario) (st : State) (h : List Entry) (e : Entry) → st.entries ≡ length h → next_line s st e ≡ line_text s.version (length h + 1) e
+pub line-same : (s : Scenario) (st : State) (h : List Entry) (e : Entry) → st.entries ≡ length h → next_line s st e ≡ line_text s.version (length h + 1) e
 unfolding next_line
 line-same s st h e p = ap (λ (n : ℕ). line_text s.version (n + 1) e) p
 
@@ -291,28 +291,35 @@ pub driving_start_at : (s : Scenario) (start : Option (List ℕ)) (from : List �
 driving_start_at s start from st tried last lines e t l none =
     driving_start s start from (record { state = st; picks = drop tried s.picks; last = last; lines = lines; held = start; steps = from }) e (ap (λ (n : ℕ). drop n s.picks) t) l none refl refl
 
-pub driving_on_step : (s : Scenario) (start : Option (List ℕ)) (from : List ℕ) (m n : Moment) (step : Step) → Formed s → Driving s start from m → StepsTo s m n step → over_of step ≡ None → Driving s start from n
-driving_on_step s start from m n (Made e) f p q is = driving_on s start from m n e f p q
-driving_on_step s start from m n (Over x) f p q is = cc
+pub driving_on_step : (s : Scenario) (start : Option (List ℕ)) (from : List ℕ) (m n : Moment) (e : Entry) (step : Turned) → Formed s → Driving s start from m → StepsTo s m n e step → over_of step ≡ None → Driving s start from n
+driving_on_step s start from m n e Made f p q is = driving_on s start from m n e f p q
+driving_on_step s start from m n e (Over x) f p q is = cc
+
+-- The state that a runtime has after its last entry was taken is the one before.
+pub driving_same : (s : Scenario) (start : Option (List ℕ)) (from : List ℕ) (st new : State) (picks : List ℕ) (last : ℕ) (lines : List ℕ) (held : Option (List ℕ)) (steps : List ℕ) → new ≡ st
+    → Driving s start from (record { state = st; picks = picks; last = last; lines = lines; held = held; steps = steps })
+    → Driving s start from (record { state = new; picks = picks; last = last; lines = lines; held = held; steps = steps })
+driving_same s start from st new picks last lines held steps e d =
+    subst (λ (x : State). Driving s start from (record { state = x; picks = picks; last = last; lines = lines; held = held; steps = steps })) (sym e) d
 
 fewer : (most a b : ℕ) → a < most → b ≡ a + 1 → most - b < most - a
 fewer most a b h k = omega (arith, h, k)
 
-pub driving_smaller : (s : Scenario) (start : Option (List ℕ)) (from : List ℕ) (m n : Moment) (step : Step) → Driving s start from m → StepsTo s m n step → over_of step ≡ None → limit s - n.state.entries < limit s - m.state.entries
-driving_smaller s start from m n (Made e) p q is =
+pub driving_smaller : (s : Scenario) (start : Option (List ℕ)) (from : List ℕ) (m n : Moment) (e : Entry) (step : Turned) → Driving s start from m → StepsTo s m n e step → over_of step ≡ None → limit s - n.state.entries < limit s - m.state.entries
+driving_smaller s start from m n e Made p q is =
     fewer (limit s) m.state.entries n.state.entries
     (below_limit s m.state q.turn.goes_on (driving_within s start from m p))
     (one_entry s m.state n.state e.lane e q.turn.next)
-driving_smaller s start from m n (Over x) p q is = cc
+driving_smaller s start from m n e (Over x) p q is = cc
 
-pub driving_over_step : (s : Scenario) (start : Option (List ℕ)) (from : List ℕ) (m n : Moment) (step : Step) (x : Ended) → Driving s start from m → StepsTo s m n step → over_of step ≡ Some x → Ending s start from n x
-driving_over_step s start from m n (Made e) x p q is = cc
-driving_over_step s start from m n (Over y) x p q is =
+pub driving_over_step : (s : Scenario) (start : Option (List ℕ)) (from : List ℕ) (m n : Moment) (e : Entry) (step : Turned) (x : Ended) → Driving s start from m → StepsTo s m n e step → over_of step ≡ Some x → Ending s start from n x
+driving_over_step s start from m n e Made x p q is = cc
+driving_over_step s start from m n e (Over y) x p q is =
     subst (λ (k : Moment). Ending s start from k x) (sym q.same) (driving_over s start from m x p (q.ended ∙ is))
 
-pub reached_over_step : (s : Scenario) (start : Option (List ℕ)) (from : List ℕ) (m n : Moment) (step : Step) (x : Ended) → Formed s → Driving s start from m → StepsTo s m n step → over_of step ≡ Some x → Reached s n.state
-reached_over_step s start from m n (Made e) x f p q is = cc
-reached_over_step s start from m n (Over y) x f p q is =
+pub reached_over_step : (s : Scenario) (start : Option (List ℕ)) (from : List ℕ) (m n : Moment) (e : Entry) (step : Turned) (x : Ended) → Formed s → Driving s start from m → StepsTo s m n e step → over_of step ≡ Some x → Reached s n.state
+reached_over_step s start from m n e Made x f p q is = cc
+reached_over_step s start from m n e (Over y) x f p q is =
     subst (λ (k : Moment). Reached s k.state) (sym q.same) (reached_by s m.state p.history f p.stands)
 
 pub on-ok : {A E : Type 0} (r : Result A E) (P : Type 0) → P → OnOk r P

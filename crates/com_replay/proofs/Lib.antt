@@ -2,6 +2,8 @@ pub mod Kept
 pub mod Turning
 pub mod Driving
 pub mod Recording
+pub mod Streaming
+pub mod Playing
 pub mod Ticking
 pub mod Nexts
 pub mod Histories

@@ -13,8 +13,8 @@ use Rattle.com_model.specs.State.{State, StandsFor, sight_of, first_tables}
 use Rattle.com_model.proofs.Whole.{first-stands}
 use Rattle.com_model.proofs.Sights.{same-sight, same-next}
 use Rattle.com_runtime.proofs.Runs.{stands-later}
-use Rattle.com_replay.specs.declared.stream.Step.{Step}
-use Rattle.com_replay.specs.declared.stream.Step.TheVariants.{Made, Over}
+use Rattle.com_replay.specs.declared.course.Turned.{Turned}
+use Rattle.com_replay.specs.declared.course.Turned.TheVariants.{Made, Over}
 use Rattle.com_replay.specs.Replays.{whole_history}
 use Rattle.com_runtime.specs.Standings.{Reached, ended_now, turn_now}
 use Rattle.com_replay.specs.Steps.{IsMade, IsOver, Moment, StepsTo}
@@ -125,6 +125,9 @@ recording_goes_on s m n e entries after f made p kept = on p.more p.count p.way
       way = ap (λ (l : ℕ). run_on more s (e ∷ p.history) n.picks l) made.turn.follows ∙ sym (run-more more s p.history m.picks n.picks m.last e goes turns nexts) ∙ w;
     }
 
+pub recording_same : (s : Scenario) (st new : State) (picks : List ℕ) (last : ℕ) (entries : List Entry) → new ≡ st → Recording s st picks last entries → Recording s new picks last entries
+recording_same s st new picks last entries e r = subst (λ (x : State). Recording s x picks last entries) (sym e) r
+
 fewer : (most a b : ℕ) → a < most → b ≡ a + 1 → most - b < most - a
 fewer most a b h k = omega (arith, h, k)
 
@@ -134,6 +137,12 @@ recording_smaller s m n e entries made p =
     fewer (limit s) m.state.entries n.state.entries
     (below_limit s m.state made.turn.goes_on (recording_within s m.state m.picks m.last entries p))
     (one_entry s m.state n.state e.lane e made.turn.next)
+
+-- The same of the state that a runtime has after its last entry was taken.
+pub recording_smaller_at : (s : Scenario) (m n : Moment) (e : Entry) (entries : List Entry) (new : State)
+    → new ≡ n.state → IsMade s m n e → Recording s m.state m.picks m.last entries → limit s - new.entries < limit s - m.state.entries
+recording_smaller_at s m n e entries new same made p =
+    subst (λ (x : State). limit s - x.entries < limit s - m.state.entries) (sym same) (recording_smaller s m n e entries made p)
 
 -- ---- the end
 
@@ -157,8 +166,8 @@ recording_ends s m n x entries over p = record {
 
 -- ---- a step, where it is known what it did
 
-pub made_of : (s : Scenario) (m n : Moment) (x : Step) (e : Entry) → x ≡ Made e → StepsTo s m n x → IsMade s m n e
-made_of s m n x e is steps = subst (λ (y : Step). StepsTo s m n y) is steps
+pub made_of : (s : Scenario) (m n : Moment) (x : Turned) (e : Entry) → x ≡ Made → StepsTo s m n e x → IsMade s m n e
+made_of s m n x e is steps = subst (λ (y : Turned). StepsTo s m n e y) is steps
 
-pub over_of : (s : Scenario) (m n : Moment) (x : Step) (y : Ended) → x ≡ Over y → StepsTo s m n x → IsOver s m n y
-over_of s m n x y is steps = subst (λ (z : Step). StepsTo s m n z) is steps
+pub over_of : (s : Scenario) (m n : Moment) (x : Turned) (e : Entry) (y : Ended) → x ≡ Over y → StepsTo s m n e x → IsOver s m n y
+over_of s m n x e y is steps = subst (λ (z : Turned). StepsTo s m n e z) is steps

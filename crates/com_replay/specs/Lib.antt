@@ -1,5 +1,8 @@
 pub mod Steps
 pub mod Replays
+pub mod Streams
+pub mod Playing
+pub mod Streaming
 pub mod Recorded
 pub mod Nexts
 pub mod Picked

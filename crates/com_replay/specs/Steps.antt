@@ -1,13 +1,14 @@
--- What a step of a stream does.
-use Rattle.std.specs.Prelude.{◌≡◌, ℕ, ◌++◌, List, Option, Some, None, ◌⊎◌}
+-- What a step of a course does.
+use Rattle.std.specs.Prelude.{◌≡◌, ℕ, ◌++◌, ◌<◌, Bool, true, false, List, Option, Some, None, ◌⊎◌}
 use Rattle.com_io.specs.Told.{GainsPrefix}
 use Rattle.com_model.specs.declared.counts.Ended.{Ended}
 use Rattle.com_model.specs.declared.deeds.Entry.{Entry}
 use Rattle.com_model.specs.declared.scenario.Scenario.{Scenario}
+use Rattle.com_model.specs.Ends.{limit}
 use Rattle.com_model.specs.State.{State}
-use Rattle.com_replay.specs.declared.stream.Step.{Step}
-use Rattle.com_replay.specs.declared.stream.Step.TheVariants.{Made, Over}
-use Rattle.com_runtime.specs.Standings.{ended_now}
+use Rattle.com_replay.specs.declared.course.Turned.{Turned}
+use Rattle.com_replay.specs.declared.course.Turned.TheVariants.{Made, Over}
+use Rattle.com_runtime.specs.Standings.{ended_now, none_can_in}
 use Rattle.com_runtime.specs.Turns.{IsTurn, GoesOn, next_line, served_in}
 
 -- A moment between two steps: the runtime's state, the picks that are left, the last lane, the lines that are
@@ -20,6 +21,39 @@ pub record Moment : Type 0 where
   pub held : Option (List ℕ)
   pub steps : List ℕ
 
+-- The same but for lines: the runtime's state, the picks that are left, the last lane, and the servants'
+-- counts.
+pub record Place : Type 0 where
+  pub state : State
+  pub picks : List ℕ
+  pub last : ℕ
+  pub steps : List ℕ
+
+-- A turn was made, but for its line.
+pub record IsTurned (s : Scenario) (p q : Place) (e : Entry) : Type 0 where
+  pub turn : IsTurn s p.state p.picks p.last e q.state q.picks q.last
+  pub steps : q.steps ≡ served_in s p.state e.lane p.steps
+
+-- No lane has the turn, and nothing was done: there is no room for an entry, or no lane can step.
+pub record HasNoTurn (s : Scenario) (p q : Place) : Type 0 where
+  pub same : q ≡ p
+  pub none : p.state.entries < limit s → none_can_in s p.state ≡ true
+
+-- A lane made the turn, where one has it.
+abbrev pub IsLaneTurn : Scenario → (before after : Place) → Entry → Bool → Type 0
+IsLaneTurn s p q e true = IsTurned s p q e
+IsLaneTurn s p q e false = HasNoTurn s p q
+
+-- The history had ended, and nothing was done.
+pub record HasEnded (s : Scenario) (p q : Place) (x : Ended) : Type 0 where
+  pub ended : ended_now s p.state ≡ Some x
+  pub same : q ≡ p
+
+-- A turn was made, by a lane or by the clock, or the history had ended.
+abbrev pub TurnsTo : Scenario → (before after : Place) → Entry → Turned → Type 0
+TurnsTo s p q e Made = IsTurned s p q e
+TurnsTo s p q e (Over x) = HasEnded s p q x
+
 -- A turn was made, and its line was written or is kept behind what was kept.
 pub record IsMade (s : Scenario) (m n : Moment) (e : Entry) : Type 0 where
   pub turn : IsTurn s m.state m.picks m.last e n.state n.picks n.last
@@ -31,12 +65,13 @@ pub record IsOver (s : Scenario) (m n : Moment) (x : Ended) : Type 0 where
   pub ended : ended_now s m.state ≡ Some x
   pub same : n ≡ m
 
-abbrev pub StepsTo : Scenario → (before after : Moment) → Step → Type 0
-StepsTo s m n (Made e) = IsMade s m n e
-StepsTo s m n (Over x) = IsOver s m n x
+-- With the entry that the runtime lends afterwards.
+abbrev pub StepsTo : Scenario → (before after : Moment) → Entry → Turned → Type 0
+StepsTo s m n e Made = IsMade s m n e
+StepsTo s m n e (Over x) = IsOver s m n x
 
-abbrev pub over_of : Step → Option Ended
-over_of (Made e) = None
+abbrev pub over_of : Turned → Option Ended
+over_of Made = None
 over_of (Over x) = Some x
 
 -- A turn was made, and its line was begun.

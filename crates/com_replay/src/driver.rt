@@ -9,12 +9,12 @@ ghost use Rattle.com_replay.specs.declared.lines.ReplayError.TheVariants as repl
 ghost use Rattle.com_replay.specs.Replays.{whole_text, whole_served, IsReplay};
 ghost use Rattle.com_replay.specs.Steps.{over_of};
 
+use crate::course::{Course, Turned};
 use crate::lines::ReplayError;
 use crate::replayed::Replayed;
-use crate::stream::{Step, Stream};
 use com_io::Sink;
 use com_model::{Ended, Scenario};
-use com_runtime::Runtime;
+use com_schedule::Tries;
 use com_servant::Servant;
 use std::alloc::Global;
 
@@ -24,7 +24,8 @@ use std::alloc::Global;
 ///
 /// `WriteFault` comes only where the sink's count of faults rose in this call, and `Memory` is want of
 /// memory. Whatever is answered, what was written is a prefix of the whole text.
-pub fn drive<C: Runtime, K: Sink>(
+#[tactic(auto, using(com_io::proofs::Passing::prefix_of_none))]
+pub fn drive<C: Tries, K: Sink>(
     alloc: Global,
     scenario: &Scenario,
     runtime: &mut C,
@@ -45,21 +46,21 @@ pub fn drive<C: Runtime, K: Sink>(
         → Rose (K.faults_of sink.old) (K.faults_of sink.new) }
     ensures counts { K.faults_of sink.old ≤ K.faults_of sink.new }
 {
-    let mut stream = Stream::new(alloc);
+    let mut course = Course::with_room(alloc)?;
     'turns: loop {
-        let step = stream.step(alloc, scenario, runtime, servants, sink)?;
+        let step = course.step(alloc, scenario, runtime, servants, sink)?;
         if let Some(ended) = over(step) {
-            return stream.finish(alloc, scenario, runtime, ended, sink);
+            return course.finish(alloc, scenario, runtime, ended, sink);
         }
     }
 }
 
 // How the history had ended, where a step did nothing.
-fn over(step: Step) -> Option<Ended>
+fn over(step: Turned) -> Option<Ended>
     ensures { result ≡ over_of step }
 {
     match step {
-        Step::Made(_) => None,
-        Step::Over(ended) => Some(ended),
+        Turned::Made => None,
+        Turned::Over(ended) => Some(ended),
     }
 }

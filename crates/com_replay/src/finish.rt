@@ -1,5 +1,5 @@
 //! The end of a replay: the report behind the lines, and the answer.
-ghost use Rattle.std.specs.Prelude.{◌≡◌, ◌≤◌, ◌++◌, IfOk, OnOk, Err};
+ghost use Rattle.std.specs.Prelude.{◌≡◌, ◌≤◌, ◌++◌, [], IfOk, OnOk, Err};
 ghost use Rattle.com_io.specs.Faults.{Rose};
 ghost use Rattle.com_io.specs.Told.{Gains, GainsPrefix};
 ghost use Rattle.com_model.specs.Text.{report_text};
@@ -30,6 +30,7 @@ pub fn finish<C: Runtime, K: Sink>(
     ensures ok { OnOk result (Gains (K.held sink.old) (K.held sink.new) (kept.old
         ++ report_text (all_counts_in scenario.now (C.state runtime.now))
         (C.state runtime.now).entries (C.state runtime.now).clock ended)) }
+    ensures empty { OnOk result (kept.new ≡ []) }
     ensures answer { IfOk result (λ replayed. replayed
         ≡ record {
           ended = ended;
@@ -40,6 +41,7 @@ pub fn finish<C: Runtime, K: Sink>(
     ensures prefix { GainsPrefix (K.held sink.old) (K.held sink.new) (kept.old
         ++ report_text (all_counts_in scenario.now (C.state runtime.now))
         (C.state runtime.now).entries (C.state runtime.now).clock ended) }
+    ensures memory { result ≡ Err replay_error.Memory → K.held sink.new ≡ K.held sink.old }
     ensures fault { result ≡ Err replay_error.WriteFault
         → Rose (K.faults_of sink.old) (K.faults_of sink.new) }
     ensures counts { K.faults_of sink.old ≤ K.faults_of sink.new }

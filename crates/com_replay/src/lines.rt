@@ -1,5 +1,5 @@
 //! The lines of entries and the report: they are gathered, and written to the sink in large pieces.
-ghost use Rattle.std.specs.Prelude.{◌≡◌, ◌≤◌, ◌++◌, [], OnOk, OnErr, Err};
+ghost use Rattle.std.specs.Prelude.{◌≡◌, ◌≤◌, ◌++◌, [], OnOk, OnErr, IfErr, Err};
 ghost use Rattle.com_io.specs.Faults.{Rose};
 ghost use Rattle.com_io.specs.Told.{Gains, GainsPrefix};
 ghost use Rattle.com_model.specs.Text.{line_text, report_text};
@@ -32,8 +32,8 @@ impl From<AllocError> for ReplayError {
     }
 }
 
-// Lines are written together once they have this many bytes.
-const PIECE: usize = 32_768;
+/// Lines are written together once they have this many bytes.
+pub const PIECE: usize = 32_768;
 
 /// Adds the line of an entry to those that are kept, and writes them once they are many.
 #[tactic(auto, using(com_io::proofs::Passing::prefix_of_none, crate::proofs::Kept::goes_on_kept, crate::proofs::Kept::goes_on_sent, crate::proofs::Kept::sent_prefix))]
@@ -49,6 +49,7 @@ pub fn show<K: Sink>(
         (line_text version place entry.now)) }
     ensures prefix { GainsPrefix (K.held sink.old) (K.held sink.new)
         (kept.old ++ line_text version place entry.now) }
+    ensures memory { result ≡ Err replay_error.Memory → K.held sink.new ≡ K.held sink.old }
     ensures fault { result ≡ Err replay_error.WriteFault
         → Rose (K.faults_of sink.old) (K.faults_of sink.new) }
     ensures counts { K.faults_of sink.old ≤ K.faults_of sink.new }
@@ -60,11 +61,12 @@ pub fn show<K: Sink>(
     send(kept, sink)
 }
 
-// Writes what is kept.
-fn send<K: Sink>(kept: &mut ByteList, sink: &mut K) -> Result<(), ReplayError>
+/// Writes what is kept.
+pub fn send<K: Sink>(kept: &mut ByteList, sink: &mut K) -> Result<(), ReplayError>
     ensures ok { OnOk result (Gains (K.held sink.old) (K.held sink.new) kept.old) }
     ensures empty { OnOk result (kept.new ≡ []) }
     ensures prefix { GainsPrefix (K.held sink.old) (K.held sink.new) kept.old }
+    ensures error { IfErr result (λ error. error ≡ replay_error.WriteFault) }
     ensures fault { OnErr result (Rose (K.faults_of sink.old) (K.faults_of sink.new)) }
     ensures counts { K.faults_of sink.old ≤ K.faults_of sink.new }
 {
@@ -90,8 +92,10 @@ pub fn tell<K: Sink>(
 ) -> Result<(), ReplayError>
     ensures ok { OnOk result (Gains (K.held sink.old) (K.held sink.new)
         (kept.old ++ report_text counts.now entries clock ended)) }
+    ensures empty { OnOk result (kept.new ≡ []) }
     ensures prefix { GainsPrefix (K.held sink.old) (K.held sink.new)
         (kept.old ++ report_text counts.now entries clock ended) }
+    ensures memory { result ≡ Err replay_error.Memory → K.held sink.new ≡ K.held sink.old }
     ensures fault { result ≡ Err replay_error.WriteFault
         → Rose (K.faults_of sink.old) (K.faults_of sink.new) }
     ensures counts { K.faults_of sink.old ≤ K.faults_of sink.new }

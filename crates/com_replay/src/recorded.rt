@@ -10,14 +10,14 @@ ghost use Rattle.com_replay.specs.declared.lines.ReplayError.TheVariants as repl
 ghost use Rattle.com_replay.specs.Replays.{whole_served, whole_text};
 ghost use Rattle.com_replay.specs.Recorded.{IsRecorded};
 
+use crate::course::{Course, Turned};
 use crate::let_go;
 use crate::lines::ReplayError;
-use crate::stream::{Step, Stream};
 use com_base::Memory;
 use com_core::Core;
 use com_io::Sink;
 use com_model::{Ended, Entry, Scenario};
-use com_runtime::Runtime;
+use com_schedule::Tries;
 use com_servant::Servant;
 use std::alloc::Global;
 use std::sync::Arc;
@@ -70,7 +70,8 @@ pub fn keep<K: Sink>(
 }
 
 // Plays and writes the history of a runtime that has made no entry, and keeps it.
-fn keep_by<C: Runtime, K: Sink>(
+#[tactic(auto, using(com_io::proofs::Passing::prefix_of_none))]
+fn keep_by<C: Tries, K: Sink>(
     alloc: Global,
     scenario: &Scenario,
     runtime: &mut C,
@@ -91,13 +92,13 @@ fn keep_by<C: Runtime, K: Sink>(
         → Rose (K.faults_of sink.old) (K.faults_of sink.new) }
     ensures counts { K.faults_of sink.old ≤ K.faults_of sink.new }
 {
-    let mut stream = Stream::new(alloc);
+    let mut course = Course::with_room(alloc)?;
     let mut entries = Vec::new(alloc);
     'turns: loop {
-        match stream.step(alloc, scenario, runtime, servants, sink)? {
-            Step::Made(entry) => add(&mut entries, entry)?,
-            Step::Over(ended) => {
-                stream.finish(alloc, scenario, runtime, ended, sink)?;
+        match course.step(alloc, scenario, runtime, servants, sink)? {
+            Turned::Made => add(&mut entries, runtime.take_last())?,
+            Turned::Over(ended) => {
+                course.finish(alloc, scenario, runtime, ended, sink)?;
                 return Ok(Recorded { entries, ended });
             }
         }

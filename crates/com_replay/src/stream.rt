@@ -1,247 +1,162 @@
-//! A history entry by entry: each step is one turn of the schedule and one line.
-ghost use Rattle.std.specs.Prelude.{◌≡◌, ◌≤◌, ◌++◌, [], true, None, IfOk, IfSome, OnOk};
-ghost use Rattle.std.specs.Prelude.{Err, OnErr, map, drop};
+//! A replay that its caller drives: one step makes one entry and writes its line.
+ghost use Rattle.std.specs.Prelude.{◌≡◌, ◌≤◌, ◌+◌, ◌∷◌, [], List, Err, IfOk, OnErr, is_some, length, map};
+ghost use Rattle.std.specs.Arc.{arc_value};
 ghost use Rattle.com_io.specs.Faults.{Rose};
-ghost use Rattle.com_io.specs.Told.{Gains, GainsPrefix};
-ghost use Rattle.com_model.specs.Text.{report_text};
-ghost use Rattle.com_runtime.specs.Reports.{all_counts_in};
-ghost use Rattle.com_model.specs.Tables.{lanes};
-ghost use Rattle.com_model.specs.Ends.{limit};
+ghost use Rattle.com_io.specs.Told.{Gains};
+ghost use Rattle.com_model.specs.declared.deeds.Entry.{Entry as AnyEntry};
+ghost use Rattle.com_model.specs.Ends.{ended_as, report};
+ghost use Rattle.com_model.specs.Formed.{Formed};
+ghost use Rattle.com_model.specs.Text.{line_text};
+ghost use Rattle.com_runtime.specs.Turns.{served_at};
 ghost use Rattle.com_servant.specs.Rows.{row};
 ghost use Rattle.com_replay.specs.declared.lines.ReplayError.TheVariants as replay_error;
-ghost use Rattle.com_runtime.specs.Standings.{standing_of, ended_now, none_can_in, CanGo, HasTurn, Reached};
-ghost use Rattle.com_runtime.specs.declared.runtime.Standing.TheVariants as standing;
-ghost use Rattle.com_runtime.specs.Turns.{IsTurn, served_in};
-ghost use Rattle.com_replay.specs.Steps.{StepsTo, Fails};
+ghost use Rattle.com_replay.specs.Streaming.{IfDone, IfMore, is_done};
+ghost use Rattle.com_replay.specs.Streams.{BrokenOff, IsEndOf, IsNextOf, StandsAt};
 
-use crate::finish::finish;
-use crate::lines::{ReplayError, show};
+use crate::by_lane::box_of;
+use crate::course::Course;
+use crate::lines::ReplayError;
+use crate::playing::{Playing, end};
 use crate::replayed::Replayed;
-use com_base::{ByteList, Memory};
+use com_base::Memory;
+use com_core::Core;
 use com_io::Sink;
-use com_model::{Ended, Entry, Scenario};
-use com_runtime::{Chosen, Runtime, Standing, choose, end_of, stand};
+use com_model::{Entry, Scenario};
+use com_schedule::Tries;
 use com_servant::Servant;
 use std::alloc::Global;
+use std::marker::Model;
+use std::sync::Arc;
 
-/// What a step of a stream did.
-#[derive(Debug, Drop)]
-pub enum Step {
-    /// A turn was made: its entry.
-    Made(Entry),
-    /// The history has ended: nothing was done.
-    Over(Ended),
+/// A replay that is under way. It stands for a history: the entries that its steps have made so far, which are
+/// the first ones of the one history of the scenario's schedule.
+///
+/// It is one box, so it is cheap to move.
+#[derive(Drop)]
+pub struct Stream {
+    playing: Box<Playing>,
 }
 
-/// Where the schedule stands: how many picks were tried, and the last lane but the clock's, or 0. And the
-/// lines that were made and are not written yet.
-#[derive(Debug, Drop)]
-pub struct Stream {
-    tried: usize,
-    last: u32,
-    lines: ByteList,
+impl Model for Stream {
+    ghost use Rattle.std.specs.Arc.{arc_value};
+    ghost use Rattle.com_core.specs.Seen.{core_state};
+    ghost use Rattle.com_replay.specs.Playing.{IsReady};
+    ghost use Rattle.com_replay.specs.Streams.{Position, position};
+
+    ghost Value = { Position };
+
+    ghost view = { λ s. position (arc_value s.playing.value.scenario) (core_state s.playing.value.core.core)
+        s.playing.value.course.tried s.playing.value.course.last };
+
+    ghost invariant = { λ s. IsReady (arc_value s.playing.value.scenario) s.playing.value.core.core.scenario
+        (core_state s.playing.value.core.core) s.playing.value.course };
+}
+
+/// What a step of a stream did.
+#[derive(Drop)]
+pub enum Step {
+    /// The next entry was made, and its line was written.
+    More {
+        /// The stream behind the entry.
+        stream: Stream,
+        /// The entry.
+        entry: Entry,
+    },
+    /// The history had ended: its report was written.
+    Done(Replayed),
 }
 
 impl Stream {
-    /// Before the first turn: no pick was tried, there is no last lane, and no line.
-    pub fn new(alloc: Global) -> Stream
-        ensures tried { result.tried ≡ 0 }
-        ensures last { result.last ≡ 0 }
-        ensures lines { result.lines ≡ [] }
+    /// The stream of a formed scenario before its first entry. It shares the scenario with its caller. The only
+    /// error is want of memory.
+    pub fn new(alloc: Global, scenario: Arc<Scenario>) -> Result<Stream, Memory>
+        requires formed { Formed (arc_value scenario) }
+        ensures scenario { IfOk result (λ stream. stream.scenario ≡ arc_value scenario) }
+        ensures stands { IfOk result (λ stream. StandsAt stream []) }
     {
-        Stream {
-            tried: 0,
-            last: 0,
-            lines: ByteList::new(alloc),
-        }
-    }
-
-    // Has the lane whose turn it is make its entry.
-    #[tactic(auto, using(com_runtime::proofs::Limits::below_limit))]
-    fn lane_turn<C: Runtime>(
-        &mut self,
-        alloc: Global,
-        scenario: &Scenario,
-        runtime: &mut C,
-        chosen: Chosen,
-        servants: &mut Vec<Box<dyn Servant + Send>>,
-    ) -> Result<Entry, Memory>
-        requires scenario { C.scenario runtime.old ≡ scenario.now }
-        requires runs { standing_of scenario.now (C.state runtime.old) ≡ standing.Runs }
-        requires goes { CanGo (C.scenario runtime.old) (C.state runtime.old) chosen.lane }
-        requires turn { HasTurn (C.scenario runtime.old) (C.state runtime.old)
-            (drop self.old.tried scenario.now.picks) self.old.last
-            chosen.lane (drop chosen.tried scenario.now.picks) }
-        requires goes_on { ended_now scenario.now (C.state runtime.old) ≡ None }
-        requires entries { (C.state runtime.old).entries ≤ limit scenario.now }
-        requires last { self.old.last ≤ lanes scenario.now }
-        requires reached { Reached (C.scenario runtime.old) (C.state runtime.old) }
-        requires row { map kind_of servants.old.items ≡ row }
-        ensures scenario { C.scenario runtime.new ≡ scenario.now }
-        ensures turn { IfOk result (λ entry. IsTurn scenario.now (C.state runtime.old)
-            (drop self.old.tried scenario.now.picks) self.old.last
-            entry (C.state runtime.new) (drop self.new.tried scenario.now.picks) self.new.last) }
-        ensures last { self.new.last ≤ lanes scenario.now }
-        ensures lines { self.new.lines ≡ self.old.lines }
-        ensures row { map kind_of servants.new.items ≡ row }
-        ensures served { IfOk result (λ entry. map stepped servants.new.items
-            ≡ served_in scenario.now (C.state runtime.old) entry.lane (map stepped servants.old.items)) }
-    {
-        self.tried = chosen.tried;
-        self.last = chosen.lane;
-        runtime.step(alloc, chosen.lane, servants)
-    }
-
-    // Has the lane whose turn it is make its entry, or the clock where no lane can step.
-    #[tactic(auto, using(com_runtime::proofs::Limits::below_limit, com_runtime::proofs::Limits::not_finished, com_runtime::proofs::Limits::not_stuck, com_runtime::proofs::Choices::not_runs))]
-    fn turn<C: Runtime>(
-        &mut self,
-        alloc: Global,
-        scenario: &Scenario,
-        runtime: &mut C,
-        standing: Standing,
-        chosen: Option<Chosen>,
-        servants: &mut Vec<Box<dyn Servant + Send>>,
-    ) -> Result<Entry, Memory>
-        requires scenario { C.scenario runtime.old ≡ scenario.now }
-        requires standing { standing ≡ standing_of scenario.now (C.state runtime.old) }
-        requires goes { IfSome chosen (λ chosen. CanGo (C.scenario runtime.old)
-            (C.state runtime.old) chosen.lane) }
-        requires turn { IfSome chosen (λ chosen. HasTurn (C.scenario runtime.old) (C.state runtime.old)
-            (drop self.old.tried scenario.now.picks) self.old.last
-            chosen.lane (drop chosen.tried scenario.now.picks)) }
-        requires none { chosen ≡ None → none_can_in (C.scenario runtime.old) (C.state runtime.old) ≡ true }
-        requires goes_on { ended_now scenario.now (C.state runtime.old) ≡ None }
-        requires entries { (C.state runtime.old).entries ≤ limit scenario.now }
-        requires last { self.old.last ≤ lanes scenario.now }
-        requires reached { Reached (C.scenario runtime.old) (C.state runtime.old) }
-        requires row { map kind_of servants.old.items ≡ row }
-        ensures scenario { C.scenario runtime.new ≡ scenario.now }
-        ensures turn { IfOk result (λ entry. IsTurn scenario.now (C.state runtime.old)
-            (drop self.old.tried scenario.now.picks) self.old.last
-            entry (C.state runtime.new) (drop self.new.tried scenario.now.picks) self.new.last) }
-        ensures last { self.new.last ≤ lanes scenario.now }
-        ensures lines { self.new.lines ≡ self.old.lines }
-        ensures row { map kind_of servants.new.items ≡ row }
-        ensures served { IfOk result (λ entry. map stepped servants.new.items
-            ≡ served_in scenario.now (C.state runtime.old) entry.lane (map stepped servants.old.items)) }
-    {
-        match standing {
-            Standing::Runs => match chosen {
-                Some(chosen) => self.lane_turn(alloc, scenario, runtime, chosen, servants),
-                None => unreachable!(),
+        let core = Core::new(alloc, scenario.clone()?)?;
+        let course = Course::new(alloc);
+        let playing = box_of(
+            alloc,
+            Playing {
+                scenario,
+                core,
+                course,
             },
-            Standing::Ticks => runtime.tick(),
-            Standing::Finished => unreachable!(),
-            Standing::Stuck => unreachable!(),
-        }
+        )?;
+        Ok(Stream { playing })
     }
 
-    /// Makes one turn of the schedule, and its line: the picks are tried first, each once, and then the lanes
-    /// behind the last one and from 1 on; the clock goes on where no lane can step. Where the history has
-    /// ended, nothing is done.
+    /// Makes the next entry of the history for which the stream stands, and writes its line to the sink; or,
+    /// where that history has ended, writes its report.
     ///
-    /// The runtime's state stands for a history of the scenario, which is formed; and it did not run out of
-    /// memory in the middle of an entry. At Ok that is so again.
+    /// It is `Done` exactly where the history has ended (`ended`), with how it ended, how many entries it has
+    /// and its time (`done`); the sink then gained its report and nothing else (`report`), and no servant made a
+    /// step (`unserved`). Otherwise there is `More`: the entry is the next one of the schedule's one history
+    /// (`next`), the sink gained its line and nothing else (`line`), and the new stream stands for the history
+    /// with that entry (`stands`), of the same scenario (`scenario`). Where a body made the entry, it is a step
+    /// of the servant of its class's kind (`served`). The row has one servant of each kind, in the order of the
+    /// kinds, and keeps them so (`row`).
     ///
-    /// `WriteFault` comes only where the sink's count of faults rose in this call, and `Memory` is want of
-    /// memory. After either the lines may be broken off: what was written is a prefix of what was kept and
-    /// the turn's line.
-    #[tactic(auto, using(crate::proofs::Turning::step_over, crate::proofs::Turning::step_made, crate::proofs::Turning::step_failed, crate::proofs::Turning::step_began, com_runtime::proofs::Choices::same_turn, com_runtime::proofs::Resting::same_reached))]
-    pub fn step<C: Runtime, K: Sink>(
-        &mut self,
+    /// `WriteFault` comes only where the sink's count of faults rose in this call (`fault`); what was written is
+    /// then a prefix of the line or the report (`prefix`). `Memory` is want of memory: nothing was written
+    /// (`memory`), but servants may have counted steps. After either the stream is gone.
+    pub fn step<K: Sink>(
+        self,
         alloc: Global,
-        scenario: &Scenario,
-        runtime: &mut C,
         servants: &mut Vec<Box<dyn Servant + Send>>,
         sink: &mut K,
     ) -> Result<Step, ReplayError>
-        requires scenario { C.scenario runtime.old ≡ scenario.now }
-        requires entries { (C.state runtime.old).entries ≤ limit scenario.now }
-        requires reached { Reached scenario.now (C.state runtime.old) }
-        requires last { self.old.last ≤ lanes scenario.now }
-        requires row { map kind_of servants.old.items ≡ row }
-        ensures scenario { C.scenario runtime.new ≡ scenario.now }
-        ensures entries { OnOk result ((C.state runtime.new).entries ≤ limit scenario.now) }
-        ensures reached { OnOk result (Reached scenario.now (C.state runtime.new)) }
-        ensures last { self.new.last ≤ lanes scenario.now }
+        requires { map kind_of servants.old.items ≡ row }
+        ensures ended { IfOk result (λ step. (h : List AnyEntry) → StandsAt self h
+            → is_done step ≡ is_some (ended_as self.scenario h)) }
+        ensures done { IfOk result (λ step. (h : List AnyEntry) → StandsAt self h
+            → IfDone step (λ replayed. IsEndOf self.scenario h replayed)) }
+        ensures report { IfOk result (λ step. (h : List AnyEntry) → StandsAt self h
+            → IfDone step (λ _. Gains (K.held sink.old) (K.held sink.new) (report self.scenario h))) }
+        ensures unserved { IfOk result (λ step.
+            IfDone step (λ _. map stepped servants.new.items ≡ map stepped servants.old.items)) }
+        ensures next { IfOk result (λ step. (h : List AnyEntry) → StandsAt self h
+            → IfMore step (λ _ entry. IsNextOf self.scenario h entry)) }
+        ensures line { IfOk result (λ step. (h : List AnyEntry) → StandsAt self h
+            → IfMore step (λ _ entry. Gains (K.held sink.old) (K.held sink.new)
+            (line_text self.scenario.version (length h + 1) entry))) }
+        ensures stands { IfOk result (λ step. (h : List AnyEntry) → StandsAt self h
+            → IfMore step (λ stream entry. StandsAt stream (entry ∷ h))) }
+        ensures scenario { IfOk result (λ step. IfMore step (λ stream _. stream.scenario ≡ self.scenario)) }
+        ensures served { IfOk result (λ step. (h : List AnyEntry) → StandsAt self h
+            → IfMore step (λ _ entry. map stepped servants.new.items
+            ≡ served_at self.scenario h entry.lane (map stepped servants.old.items))) }
         ensures row { map kind_of servants.new.items ≡ row }
-        ensures step { IfOk result (λ step. StepsTo scenario.now (record {
-          state = C.state runtime.old;
-          picks = drop self.old.tried scenario.now.picks;
-          last = self.old.last;
-          lines = self.old.lines;
-          held = K.held sink.old;
-          steps = map stepped servants.old.items;
-        }) (record {
-          state = C.state runtime.new;
-          picks = drop self.new.tried scenario.now.picks;
-          last = self.new.last;
-          lines = self.new.lines;
-          held = K.held sink.new;
-          steps = map stepped servants.new.items;
-        }) step) }
-        ensures prefix { OnErr result (Fails scenario.now (record {
-          state = C.state runtime.old;
-          picks = drop self.old.tried scenario.now.picks;
-          last = self.old.last;
-          lines = self.old.lines;
-          held = K.held sink.old;
-          steps = map stepped servants.old.items;
-        }) (K.held sink.new)) }
+        ensures prefix { OnErr result ((h : List AnyEntry) → StandsAt self h
+            → BrokenOff self.scenario h (K.held sink.old) (K.held sink.new)) }
+        ensures memory { result ≡ Err replay_error.Memory → K.held sink.new ≡ K.held sink.old }
         ensures fault { result ≡ Err replay_error.WriteFault
             → Rose (K.faults_of sink.old) (K.faults_of sink.new) }
         ensures counts { K.faults_of sink.old ≤ K.faults_of sink.new }
     {
-        let chosen = choose(runtime, scenario.picks.as_slice(), self.tried, self.last);
-        let standing = stand(runtime, chosen);
-        if let Some(ended) = end_of(scenario, runtime, standing) {
-            return Ok(Step::Over(ended));
+        let Stream { mut playing } = self;
+        let Playing {
+            scenario,
+            core,
+            course,
+        } = &mut *playing;
+        match course.advance(alloc, &**scenario, core, servants, sink) {
+            Ok(None) => {
+                let entry = core.take_last();
+                Ok(Step::More {
+                    stream: Stream { playing },
+                    entry,
+                })
+            }
+            Ok(Some(replayed)) => {
+                end(playing);
+                Ok(Step::Done(replayed))
+            }
+            Err(error) => {
+                end(playing);
+                Err(error)
+            }
         }
-        let entry = self.turn(alloc, scenario, runtime, standing, chosen, servants)?;
-        let place = runtime.entries();
-        show(
-            alloc,
-            scenario.version,
-            place,
-            &entry,
-            &mut self.lines,
-            sink,
-        )?;
-        Ok(Step::Made(entry))
-    }
-
-    /// Writes the lines that are kept, and the report of a runtime whose history has ended so.
-    ///
-    /// `WriteFault` comes only where the sink's count of faults rose in this call, and `Memory` is want of
-    /// memory. What was written is a prefix of the lines and the report.
-    pub fn finish<C: Runtime, K: Sink>(
-        &mut self,
-        alloc: Global,
-        scenario: &Scenario,
-        runtime: &C,
-        ended: Ended,
-        sink: &mut K,
-    ) -> Result<Replayed, ReplayError>
-        requires scenario { C.scenario runtime.now ≡ scenario.now }
-        requires reached { Reached scenario.now (C.state runtime.now) }
-        ensures ok { OnOk result (Gains (K.held sink.old) (K.held sink.new) (self.old.lines
-            ++ report_text (all_counts_in scenario.now (C.state runtime.now))
-            (C.state runtime.now).entries (C.state runtime.now).clock ended)) }
-        ensures answer { IfOk result (λ replayed. replayed
-            ≡ record {
-              ended = ended;
-              entries = (C.state runtime.now).entries;
-              clock =
-                  (C.state runtime.now).clock;
-            }) }
-        ensures prefix { GainsPrefix (K.held sink.old) (K.held sink.new) (self.old.lines
-            ++ report_text (all_counts_in scenario.now (C.state runtime.now))
-            (C.state runtime.now).entries (C.state runtime.now).clock ended) }
-        ensures fault { result ≡ Err replay_error.WriteFault
-            → Rose (K.faults_of sink.old) (K.faults_of sink.new) }
-        ensures counts { K.faults_of sink.old ≤ K.faults_of sink.new }
-    {
-        finish(alloc, scenario, runtime, ended, &mut self.lines, sink)
     }
 }

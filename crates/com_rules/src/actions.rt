@@ -11,7 +11,7 @@ use crate::alone::{deed_on_lane, deed_on_object};
 use crate::asking::Found;
 use crate::making::marshalled_packet;
 use crate::naming::{drop_packet, unmarshal_packet};
-use crate::sending::{call, leave};
+use crate::sending::{Callee, call, leave};
 use com_base::{Memory, RefValue, Rows};
 use com_body::Action;
 use com_calls::Issued;
@@ -111,16 +111,12 @@ pub fn act<B: Found>(
             args,
             ..
         } => {
-            let made = call(
-                view,
-                books,
-                alloc,
-                lane,
-                *target,
-                *iface,
-                *method,
-                args.as_slice(),
-            )?;
+            let callee = Callee {
+                target: *target,
+                iface: *iface,
+                method: *method,
+            };
+            let made = call(view, books, alloc, lane, &callee, args.as_slice())?;
             Ok(made)
         }
         Action::Leave { answer, value } => leave(view, books, alloc, lane, *answer, value.as_ref()),

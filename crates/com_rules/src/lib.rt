@@ -9,7 +9,6 @@ mod chain;
 mod deeds;
 mod making;
 mod naming;
-mod room;
 mod sending;
 
 pub use actions::{Doing, act};
@@ -18,4 +17,3 @@ pub use chain::{rule_deed, script_over};
 pub use com_base::Memory;
 pub use com_calls::Issued;
 pub use com_view::References;
-pub use room::{fits, has_room};

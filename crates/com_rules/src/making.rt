@@ -13,10 +13,8 @@ ghost use Rattle.com_view.specs.Seen.{bare, sight_by, running_seen};
 
 use crate::alone::is_connected;
 use crate::asking::Found;
-use com_base::{HResult, MarshalMode, Memory, RefValue, StdFields};
-use com_deeds::{
-    FIVE, hold_refusal, marshal_deed, number_or_zero, packet_fields, refused_marshal_deed,
-};
+use com_base::{HResult, MarshalMode, Memory, PUBLIC_REFERENCES, RefValue, StdFields};
+use com_deeds::{hold_refusal, marshal_deed, number_or_zero, packet_fields, refused_marshal_deed};
 use com_exchange::{Outgoing, packet_refs};
 use com_model::Deed;
 use com_refs_books::Packet;
@@ -37,7 +35,13 @@ fn refs_made(mode: MarshalMode, is_owned: bool, held: u32) -> u32
     ensures { result ≡ refs_made mode is_owned held }
 {
     match mode {
-        MarshalMode::Normal => { if is_owned || held < 2 { FIVE } else { held / 2 } }
+        MarshalMode::Normal => {
+            if is_owned || held < 2 {
+                PUBLIC_REFERENCES
+            } else {
+                held / 2
+            }
+        }
         MarshalMode::Strong => 1,
         MarshalMode::Weak => 0,
     }

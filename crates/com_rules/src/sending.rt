@@ -45,6 +45,25 @@ impl<'a, R: References + Drop> Connections for Connected<'a, R> {
     }
 }
 
+/// What a call is made on: the reference that the caller names, and the method by its interface and its number
+/// there.
+#[derive(Debug, Clone, Copy, PartialEq, Eq)]
+pub struct Callee {
+    /// The reference, and none for null.
+    pub target: Option<RefValue>,
+    /// The interface of the call's statement.
+    pub iface: u16,
+    /// The method's number in the interface, from 0.
+    pub method: u16,
+}
+
+// The call that a body leaves, and what was issued of it.
+#[derive(Drop)]
+struct Left {
+    call: u32,
+    issue: Issue,
+}
+
 /// What travels as bytes, and the references in it, which get a packet each.
 #[derive(Drop)]
 pub struct Sending {
@@ -174,22 +193,25 @@ pub fn call<B: Found>(
     books: &B,
     alloc: Global,
     lane: u32,
-    target: Option<RefValue>,
-    iface: u16,
-    method: u16,
+    callee: &Callee,
     args: &[Value],
 ) -> Result<Doing, Memory>
     requires room { HasRoom view.now (B.books books.now) }
     ensures deed { IfOk result (λ made. (to : Destination)
         → made.deed ≡ deed_of view.now.scenario (sight_by view.now (B.books books.now)) lane
-        (action.Call target iface method args.now to)) }
+        (action.Call callee.now.target callee.now.iface callee.now.method args.now to)) }
     ensures issued { IfOk result (λ made. (to : Destination)
         → Issues view.now.scenario (sight_by view.now (B.books books.now)) lane
-        (action.Call target iface method args.now to) made.deed made.issued) }
+        (action.Call callee.now.target callee.now.iface callee.now.method args.now to) made.deed made.issued) }
     ensures carried { IfOk result (λ made. (to : Destination)
         → made.carried ≡ carried_by view.now.scenario (B.books books.now)
-        (action.Call target iface method args.now to) made.deed) }
+        (action.Call callee.now.target callee.now.iface callee.now.method args.now to) made.deed) }
 {
+    let Callee {
+        target,
+        iface,
+        method,
+    } = *callee;
     let is_live = is_connected(books, target);
     let refusal = call_refusal(view, lane, target, iface, method, is_live);
     let route = route(view, lane, target, refusal);
@@ -291,20 +313,19 @@ fn left_as<B: Found>(
     books: &B,
     alloc: Global,
     lane: u32,
-    call: u32,
-    issue: Issue,
+    left: &Left,
     answer: HResult,
     value: Option<&Value>,
 ) -> Result<Doing, Memory>
     ensures deed { IfOk result (λ made. made.deed
-        ≡ left_as view.now.scenario (sight_by view.now (B.books books.now)) lane call (Some issue) answer
-        (option_copied value.entry)) }
+        ≡ left_as view.now.scenario (sight_by view.now (B.books books.now)) lane left.now.call
+        (Some left.now.issue) answer (option_copied value.entry)) }
     ensures issued { IfOk result (λ made. made.issued ≡ Option.None) }
     ensures carried { IfOk result (λ made. (x : Action)
         → made.carried ≡ carried_by view.now.scenario (B.books books.now) x made.deed) }
 {
-    let is_marshalled = issue.route.is_marshalled();
-    let kind = result_kind(view, issue.iface, issue.method);
+    let is_marshalled = left.issue.route.is_marshalled();
+    let kind = result_kind(view, left.issue.iface, left.issue.method);
     let value = sent_result(
         alloc,
         is_marshalled,
@@ -313,11 +334,11 @@ fn left_as<B: Found>(
         kind,
         value,
     )?;
-    let is_wanted = is_marshalled && !view.calls.is_returned(call);
+    let is_wanted = is_marshalled && !view.calls.is_returned(left.call);
     let sending = reply_on(view, books, alloc, lane, is_wanted, answer, value.as_ref())?;
     Ok(Doing {
         deed: Deed::Leave {
-            call,
+            call: left.call,
             hr: answer,
             value,
             bytes: sending.bytes,
@@ -365,7 +386,10 @@ pub fn leave<B: Found>(
         return Ok(left_bare(alloc, 0, answer));
     };
     match view.calls.issue(call) {
-        Some(issue) => left_as(view, books, alloc, lane, call, issue, answer, value),
+        Some(issue) => {
+            let left = Left { call, issue };
+            left_as(view, books, alloc, lane, &left, answer, value)
+        }
         None => Ok(left_bare(alloc, call, answer)),
     }
 }

@@ -1,6 +1,6 @@
 -- The jobs of lanes: what a lane does next, which step of a body is to be computed for it, and when a job
 -- that was taken may still be committed.
-use Rattle.std.specs.Prelude.{◌≡◌, ℕ, Bool, true, false, length, Option, Some, None, slice_index_or}
+use Rattle.std.specs.Prelude.{◌≡◌, ℕ, Bool, true, false, Option, Some, None, slice_index_or}
 use Rattle.com_body.specs.declared.frame.Cells.{Cells}
 use Rattle.com_body.specs.declared.frame.Job.{Job}
 use Rattle.com_body.specs.declared.frame.Native.{Native}
@@ -67,11 +67,6 @@ kept_above st _ = new_cells
 
 unfoldable pub kept_in : State → (lane : ℕ) → Cells
 kept_in st l = kept_above st (first (openers_in st l))
-
--- A frame has 16 registers and 8 slots.
-pub record HasShape (f : FrameView) : Type 0 where
-  pub registers : length f.registers ≡ 16
-  pub slots : length f.slots ≡ 8
 
 -- ---- when a job may be committed
 

@@ -1,5 +1,5 @@
 -- What a report counts of an object, by the tables of a state.
-use Rattle.std.specs.Prelude.{ℕ, ◌+◌, List, map, sum_by}
+use Rattle.std.specs.Prelude.{ℕ, ◌+◌, ◌≤◌, List, map, sum_by}
 use Rattle.com_refs_books.specs.Changes.{Books, in_normal, in_table, in_cookie}
 use Rattle.com_refs_books.specs.Counting.{sum_below}
 use Rattle.com_model.specs.declared.counts.Counts.{Counts}
@@ -9,6 +9,10 @@ use Rattle.com_model.specs.Places.{direct_places}
 use Rattle.com_model.specs.Ends.{state_of, over_interfaces}
 use Rattle.com_model.specs.State.{State, next_sta_in, objects_in, named_in, class_in, scene_in, books_in}
 use Rattle.com_model.specs.State.{ground_in}
+
+-- An object was made: they are numbered from 1, in order of making.
+abbrev pub WasMade : State → (object : ℕ) → Type 0
+WasMade st o = (1 ≤ o) × (o ≤ objects_in st)
 
 abbrev pub counts_by : Scenario → State → Books → ℕ → Counts
 counts_by s st b o = record {

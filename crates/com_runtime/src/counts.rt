@@ -22,7 +22,9 @@ pub fn all_counts<C: Runtime>(
     let mut all = Vec::new(alloc);
     let objects = runtime.objects();
     for number in 0..objects {
-        let counts = runtime.counts(number + 1);
+        let Some(counts) = runtime.counts(number + 1) else {
+            unreachable!()
+        };
         all.push(counts)?;
     }
     Ok(all)

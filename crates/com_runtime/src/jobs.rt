@@ -5,7 +5,7 @@ ghost use Rattle.com_runtime.specs.declared.runtime.Standing.TheVariants as stan
 ghost use Rattle.com_runtime.specs.Standings.{standing_of, Reached};
 ghost use Rattle.com_runtime.specs.Turns.{IsNext};
 ghost use Rattle.com_runtime.specs.declared.jobs.Next.TheVariants as next;
-ghost use Rattle.com_runtime.specs.Jobs.{Fits, HasShape, IsGivenBack, IsRefused, job_of, kept_in, next_in};
+ghost use Rattle.com_runtime.specs.Jobs.{Fits, IsGivenBack, IsRefused, job_of, kept_in, next_in};
 ghost use Rattle.com_model.specs.Ends.{limit};
 ghost use Rattle.com_model.specs.Tables.{lanes};
 ghost use Rattle.com_servant.specs.Steps.{IsOfItsClass, job_step};
@@ -50,15 +50,12 @@ pub trait Jobs: Runtime {
         requires reached { Reached (Self.scenario self.now) (Self.state self.now) }
         ensures job { IfOk result (λ job.
             job_of (Self.scenario self.now) (Self.state self.now) lane ≡ Some job) }
-        ensures class { IfOk result (λ job. IsOfItsClass (Self.scenario self.now).classes job) }
-        ensures shape { IfOk result (λ job. HasShape job.frame) };
+        ensures class { IfOk result (λ job. IsOfItsClass (Self.scenario self.now).classes job) };
 
-    /// Whether a job is that of a lane, but for its cells: a body acts there, and the job's kind, class,
-    /// interface, method and frame are those of the lane's topmost Enter. The job's frame has 16 registers
-    /// and 8 slots, as each frame has.
+    /// Whether a job is that of a lane, but for its cells. True exactly where a body acts there, and the job's
+    /// kind, class, interface, method and frame are those of the lane's topmost Enter.
     fn fits(&self, lane: u32, job: &Job) -> bool
         requires reached { Reached (Self.scenario self.now) (Self.state self.now) }
-        requires shape { HasShape job.now.frame }
         ensures { IsTrue result ↔ Fits (Self.scenario self.now) (Self.state self.now) lane job.now };
 
     /// Makes the next entry of a lane in which a body acts, by the outcome of a job that fits it.

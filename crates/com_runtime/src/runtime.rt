@@ -1,5 +1,5 @@
 //! A runtime that keeps the rules, as the schedule sees it.
-ghost use Rattle.std.specs.Prelude.{◌≡◌, ◌<◌, ◌≤◌, true, map, IfOk, OnOk, OnErr};
+ghost use Rattle.std.specs.Prelude.{◌≡◌, ◌<◌, ◌≤◌, ◌↔◌, true, map, IfOk, IfSome, IsSome, OnOk, OnErr};
 ghost use Rattle.com_model.specs.declared.scenario.Scenario.{Scenario as AnyScenario};
 ghost use Rattle.com_model.specs.Tables.{lanes};
 ghost use Rattle.com_model.specs.Ends.{limit};
@@ -8,7 +8,7 @@ ghost use Rattle.com_servant.specs.Rows.{row};
 ghost use Rattle.com_runtime.specs.declared.runtime.Standing.TheVariants as standing;
 ghost use Rattle.com_runtime.specs.Standings.{can_step_in, standing_of, Reached};
 ghost use Rattle.com_runtime.specs.Turns.{IsNext, served_in};
-ghost use Rattle.com_runtime.specs.Reports.{counts_in};
+ghost use Rattle.com_runtime.specs.Reports.{WasMade, counts_in};
 
 use com_base::Memory;
 use com_model::{Counts, Entry};
@@ -69,12 +69,12 @@ pub trait Runtime {
     fn objects(&self) -> u32
         ensures { result ≡ objects_in (state self.now) };
 
-    /// What a report counts of an object, from 1 to `objects`.
-    fn counts(&self, object: u32) -> Counts
-        requires above { 1 ≤ object }
-        requires below { object ≤ objects_in (state self.now) }
+    /// What a report counts of an object. None exactly where the object was not made.
+    fn counts(&self, object: u32) -> Option<Counts>
         requires reached { Reached (scenario self.now) (state self.now) }
-        ensures { result ≡ counts_in (scenario self.now) (state self.now) object };
+        ensures made { IsSome result ↔ WasMade (state self.now) object }
+        ensures some { IfSome result (λ counts.
+            counts ≡ counts_in (scenario self.now) (state self.now) object) };
 
     /// Makes the next entry of a lane that can step. Where a body runs in the lane, the servant of its
     /// class's kind computes the step. The row has one servant of each kind, in the order of the kinds.

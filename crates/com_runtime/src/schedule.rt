@@ -140,7 +140,7 @@ fn budget<C: Runtime>(scenario: &Scenario, runtime: &C) -> Option<Ended>
     requires { C.scenario runtime.now ≡ scenario.now }
     ensures { result ≡ budget_of scenario.now (C.state runtime.now) }
 {
-    if runtime.entries() == scenario.limit() {
+    if runtime.entries() == u64::from(scenario.limit()) {
         Some(Ended::Budget)
     } else {
         None

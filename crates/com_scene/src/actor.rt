@@ -1,4 +1,6 @@
-//! Who acts.
+//! Who acts, before an entry and after it.
+
+use com_model::Deed;
 
 /// Who acts in a lane, and goes on by the lane's next entry.
 #[derive(Debug, Clone, Copy, PartialEq, Eq)]
@@ -9,4 +11,17 @@ pub enum Actor {
     Script { lane: u32 },
     /// Neither acts, as where a lane waits for a call or pumps.
     Nobody,
+}
+
+/// An entry of a lane, with who acts before and after it.
+#[derive(Drop)]
+pub struct ActedEntry<'a> {
+    /// The lane that makes the entry, and 0 for the clock's.
+    pub lane: u32,
+    /// What the entry says was done.
+    pub deed: &'a Deed,
+    /// Who makes the entry by its step, and nobody where no step does.
+    pub acting: Actor,
+    /// Who acts in the lane after the entry.
+    pub after: Actor,
 }

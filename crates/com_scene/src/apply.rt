@@ -11,7 +11,7 @@ ghost use Rattle.com_scene.specs.Ranges.{FitsDeed};
 ghost use Rattle.com_scene.specs.Rooms.{room_of};
 ghost use Rattle.com_scene.specs.Seen.{seen, seat_of, seats_of, HasSeatFor, KeepsSeats};
 
-use crate::actor::Actor;
+use crate::actor::{ActedEntry, Actor};
 use crate::prepare::Taken;
 use crate::tables::{Seat, Tables};
 use com_base::{HOST_STA, HResult, Value};
@@ -124,27 +124,32 @@ impl Tables {
         }
     }
 
-    /// The tables after an entry of a lane, for which memory was taken. The list has the apartment of each
-    /// object, from 0; only the end of an STA reads it. What is left of the step has no use any more.
+    /// The tables after an entry of a lane, for which memory was taken, by the step of whoever makes it. The
+    /// list has the apartment of each object, from 0; only the end of an STA reads it. What is left of the
+    /// step has no use any more.
     pub fn apply(
         &mut self,
         taken: &mut Taken,
-        acting: Actor,
+        entry: &ActedEntry<'_>,
         outcome: &mut Option<Outcome>,
-        after: Actor,
-        lane: u32,
-        deed: &Deed,
         owners: &[u32],
     )
-        requires deed { FitsDeed deed.now }
-        requires step { IsStep (acting_of acting) outcome.old }
+        requires deed { FitsDeed entry.now.deed.now }
+        requires step { IsStep (acting_of entry.now.acting) outcome.old }
         requires kept { IsKept (seen self.old) }
-        requires ready { IsPrepared (acting_of acting) (acting_of after) deed.now (room_of self.old)
-            taken.old }
+        requires ready { IsPrepared (acting_of entry.now.acting) (acting_of entry.now.after) entry.now.deed.now
+            (room_of self.old) taken.old }
         ensures { seen self.new
-            ≡ rows_after (λ o. slice_index_or owners.now o 0) (acting_of acting) outcome.old (acting_of after)
-            (record { lane = lane; deed = deed.now }) (seen self.old) }
+            ≡ rows_after (λ o. slice_index_or owners.now o 0) (acting_of entry.now.acting) outcome.old
+            (acting_of entry.now.after) (record { lane = entry.now.lane; deed = entry.now.deed.now })
+            (seen self.old) }
     {
+        let ActedEntry {
+            lane,
+            deed,
+            acting,
+            after,
+        } = *entry;
         self.add_row(lane, deed);
         self.act(acting, outcome, deed, &mut taken.acting, &mut taken.packet);
         self.arrive(

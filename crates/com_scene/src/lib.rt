@@ -17,7 +17,7 @@ mod scene;
 mod tables;
 mod writes;
 
-pub use actor::Actor;
+pub use actor::{ActedEntry, Actor};
 pub use fitting::fits_deed;
 pub use scene::Scene;
 pub use writes::given_reference;

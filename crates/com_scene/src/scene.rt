@@ -9,7 +9,7 @@ ghost use Rattle.com_scene.specs.Prepared.{IsPrepared};
 ghost use Rattle.com_scene.specs.Ranges.{FitsDeed};
 ghost use Rattle.com_scene.specs.Scenes.{new_scene, frame_of};
 
-use crate::actor::Actor;
+use crate::actor::{ActedEntry, Actor};
 use crate::prepare::Taken;
 use crate::tables::Tables;
 use com_base::Memory;
@@ -101,27 +101,20 @@ impl Scene {
         self.tables.prepare(acting, after, deed, &mut self.taken)
     }
 
-    /// The scene after an entry of a lane, for which memory was taken. It takes no memory. `acting` and
-    /// `outcome` are who makes the entry and its step, and `after` who acts in the lane afterwards. `owners`
-    /// has the apartment that names the owner of each object, from 0, where the entry ends an STA; else it
-    /// may be empty. The step is used where it lies, and what is left of it has no use any more.
-    pub fn apply(
-        &mut self,
-        acting: Actor,
-        outcome: &mut Option<Outcome>,
-        after: Actor,
-        lane: u32,
-        deed: &Deed,
-        owners: &[u32],
-    )
-        requires deed { FitsDeed deed.now }
-        requires step { IsStep (acting_of acting) outcome.old }
-        requires ready { IsPrepared (acting_of acting) (acting_of after) deed.now self.old.room
-            self.old.taken }
-        ensures { (named : ℕ → ℕ) → NamesOwners named (ends_sta deed.now) owners.now →
-            self.new.tables ≡ rows_after named (acting_of acting) outcome.old (acting_of after)
-            (record { lane = lane; deed = deed.now }) self.old.tables }
+    /// The scene after an entry of a lane, for which memory was taken. It takes no memory. `outcome` has the
+    /// step of whoever makes the entry by one. `owners` has the apartment that names the owner of each
+    /// object, from 0, where the entry ends an STA; else it may be empty. The step is used where it lies, and
+    /// what is left of it has no use any more.
+    pub fn apply(&mut self, entry: &ActedEntry<'_>, outcome: &mut Option<Outcome>, owners: &[u32])
+        requires deed { FitsDeed entry.now.deed.now }
+        requires step { IsStep (acting_of entry.now.acting) outcome.old }
+        requires ready { IsPrepared (acting_of entry.now.acting) (acting_of entry.now.after) entry.now.deed.now
+            self.old.room self.old.taken }
+        ensures { (named : ℕ → ℕ) → NamesOwners named (ends_sta entry.now.deed.now) owners.now →
+            self.new.tables ≡ rows_after named (acting_of entry.now.acting) outcome.old
+            (acting_of entry.now.after) (record { lane = entry.now.lane; deed = entry.now.deed.now })
+            self.old.tables }
     {
-        self.tables.apply(&mut self.taken, acting, outcome, after, lane, deed, owners)
+        self.tables.apply(&mut self.taken, entry, outcome, owners)
     }
 }

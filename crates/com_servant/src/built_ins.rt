@@ -14,20 +14,17 @@ ghost use Rattle.com_servant.specs.BuiltIns.{latch_test};
 
 use crate::interpreter::interpret;
 use crate::{Memory, Servant};
-use com_base::{HResult, Rows, Value};
+use com_base::{ANSWER_REGISTER, HResult, Rows, Value};
 use com_body::{Action, Cells, Destination, Frame, Job, Native, Outcome, Place};
 use com_classes::Classes;
 use std::alloc::Global;
 
-// The registers of the built-in bodies: the argument, the number that a body works on, the answer of a test,
-// and the HRESULT of the last call.
+// The registers of the built-in bodies: the argument, the number that a body works on, the answer of a test.
 const ARGUMENT: u8 = 0;
 
 const NUMBER: u8 = 1;
 
 const ANSWER: u8 = 2;
-
-const HRESULT: u8 = 15;
 
 // The number of a value, and 0 where it is none.
 fn number_in(value: &Value) -> i64
@@ -183,7 +180,7 @@ fn relay_call(alloc: Global, job: &Job) -> Result<Outcome, Memory>
 fn last_answer(frame: &Frame) -> HResult
     ensures { result ≡ record { 0 = cast_unsigned w64 (number_in (register_of frame.now 15)) % 2 ^ 32 } }
 {
-    let bits = number_in(frame.register(HRESULT)).cast_unsigned();
+    let bits = number_in(frame.register(ANSWER_REGISTER)).cast_unsigned();
     HResult((bits % 0x1_0000_0000) as u32)
 }
 

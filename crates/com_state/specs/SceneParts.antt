@@ -2,6 +2,7 @@
 -- those of the state's definition; a row beside them is kept as it is.
 use Rattle.std.specs.Prelude.{ℕ, zero, ◌==◌, if◌then◌else◌, List, [], ◌∷◌, Option, Some, None, fold}
 use Rattle.std.specs.Prelude.{replicate, slice_index_or, slice_set}
+use Rattle.com_base.specs.declared.limits.TheConstants.{SLOT_COUNT, LINK_COUNT}
 use Rattle.com_body.specs.declared.operands.Destination.{Destination}
 use Rattle.com_body.specs.declared.operands.Destination.TheVariants as destination
 use Rattle.com_body.specs.declared.actions.Action.{Action}
@@ -99,13 +100,13 @@ rows_arrived b l (deed.Back c hr v) t =
     fold (row_written b) t (to_answer hr ∷ to_destination (destination_at t c) v)
 rows_arrived b l deed.EndPump t = row_written b t (to_answer S_OK)
 rows_arrived b l (deed.Uninit a zero) t =
-    with_script t l (record (script_at t l) { slots = replicate 8 None })
-rows_arrived b l (deed.Final o) t = with_cells t o (record (cells_at t o) { links = replicate 4 None })
+    with_script t l (record (script_at t l) { slots = replicate SLOT_COUNT None })
+rows_arrived b l (deed.Final o) t = with_cells t o (record (cells_at t o) { links = replicate LINK_COUNT None })
 rows_arrived b l _ t = t
 
 -- The end of an STA makes the links of all its objects null.
 abbrev pub without_links : Cells → Cells
-without_links c = record c { links = replicate 4 None }
+without_links c = record c { links = replicate LINK_COUNT None }
 
 abbrev pub links_cut : (named : ℕ → ℕ) → Option ℕ → SceneTables → SceneTables
 links_cut named None t = t

@@ -1,7 +1,7 @@
 -- What a lane does next, and what a worker has between two turns.
 use Rattle.std.specs.Prelude.{◌≡◌, ◌<◌, ℕ, IfOk, IfSome, MatchOption, None}
 use Rattle.com_runtime.specs.declared.jobs.Next.TheVariants as next
-use Rattle.com_runtime.specs.Jobs.{HasShape, next_in}
+use Rattle.com_runtime.specs.Jobs.{next_in}
 use Rattle.com_model.specs.declared.scenario.Scenario.{Scenario}
 use Rattle.com_model.specs.Ends.{limit}
 use Rattle.com_model.specs.State.{State}
@@ -20,5 +20,5 @@ IsNextOf s st l Over = Unit {0}
 -- Without a job there is no step. A job is of its class in the scenario, and the step beside it is that of
 -- the job.
 abbrev pub IsWork : Scenario → Work → Type 0
-IsWork s w = MatchOption w.job (w.step ≡ None) (λ job. IsOfItsClass s.classes job × HasShape job.frame
+IsWork s w = MatchOption w.job (w.step ≡ None) (λ job. IsOfItsClass s.classes job
     × IfSome w.step (λ step. IfOk step (λ outcome. outcome ≡ job_step s.classes job)))

@@ -3,7 +3,7 @@ ghost use Rattle.std.specs.Prelude.{◌≡◌, ◌+◌, ◌<◌, ◌≤◌, fals
 ghost use Rattle.com_runtime.specs.Standings.{standing_of};
 ghost use Rattle.com_runtime.specs.declared.runtime.Standing.TheVariants as standing;
 ghost use Rattle.com_runtime.specs.declared.jobs.Next.TheVariants as next;
-ghost use Rattle.com_runtime.specs.Jobs.{HasShape, next_in};
+ghost use Rattle.com_runtime.specs.Jobs.{next_in};
 ghost use Rattle.com_model.specs.Ends.{limit};
 ghost use Rattle.com_model.specs.Tables.{lanes};
 ghost use Rattle.com_servant.specs.Steps.{job_step};
@@ -68,7 +68,7 @@ impl<C: Jobs + Drop> Desk<C> {
         requires { C.scenario self.now.core ≡ scenario.now }
         ensures { result ≡ false → (C.state self.now.core).entries < limit scenario.now }
     {
-        self.core.entries() >= scenario.limit()
+        self.core.entries() >= u64::from(scenario.limit())
     }
 
     // Makes the entry of a step that was computed outside. Nothing is made where the history is as long as it
@@ -86,7 +86,6 @@ impl<C: Jobs + Drop> Desk<C> {
             self.old.pages }
         requires lane { (1 ≤ lane) × (lane ≤ lanes scenario.now) }
         requires outcome { outcome ≡ job_step scenario.now.classes job }
-        requires shape { HasShape job.frame }
         ensures at { OnOk result (UpToDate scenario.now (C.scenario self.new.core) (C.state self.new.core)
             self.new.pages) }
         ensures adds { Adds lane self.old.pages.entries self.new.pages.entries }

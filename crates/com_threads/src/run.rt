@@ -18,7 +18,7 @@ use crate::book::{Book, Plays};
 use crate::desk::Desk;
 use crate::gate::Gate;
 use crate::pages::Pages;
-use crate::worker::{Row, Worker, deal, in_threads, work};
+use crate::worker::{Row, Shared, Worker, deal, in_threads, work};
 use com_base::{Memory, Rows};
 use com_model::{Counts, Ended, Entry, Scenario};
 use com_runtime::{Jobs, all_counts};
@@ -117,8 +117,7 @@ fn run_named<
         unreachable!()
     };
     let lock = &turnstile;
-    let bells = Bells::new(processors(rt));
-    let bell = &bells;
+    let bells = &Bells::new(processors(rt));
     let workers = deal(alloc, scenario, lock, passes, crew, count)?;
     let mut rows = in_threads(
         rt,
@@ -129,7 +128,14 @@ fn run_named<
             requires lane { (1 ≤ worker.lane) × (worker.lane ≤ lanes scenario.now) }
             requires servants { map kind_of worker.servants.items ≡ row }
             ensures { map kind_of result.items ≡ row }
-        { work(rt, alloc, scenario, lock, bell, gate, worker) },
+        {
+            let shared = Shared {
+                alloc,
+                scenario,
+                bells,
+            };
+            work(rt, &shared, lock, gate, worker)
+        },
     )?;
     let Guard { value, pass: _ } = turnstile.enter(rt, driver);
     let mut desk = value.into_desk()?;

@@ -36,6 +36,17 @@ const LONG: u64 = 5_000;
 // for them before this worker ends.
 const SHORT: u64 = 20;
 
+// What all workers of a run share, beside the lock and the gate.
+#[derive(Drop)]
+pub(crate) struct Shared<'a> {
+    // Where memory comes from.
+    pub(crate) alloc: Global,
+    // The scenario that runs.
+    pub(crate) scenario: &'a Scenario,
+    // By which they wake one another.
+    pub(crate) bells: &'a Bells,
+}
+
 // What a worker begins with.
 #[derive(Drop)]
 pub(crate) struct Worker<B: Grows, S: Drop> {
@@ -218,21 +229,24 @@ fn look_round<C: Jobs + Drop, J: Plays>(
 // One stay under the lock. Once it has left, it rings for those who have something to do.
 fn hold<C: Jobs + Drop, J: Plays, R: Wait>(
     rt: &R,
-    alloc: Global,
-    scenario: &Scenario,
+    shared: &Shared<'_>,
     lock: &Turnstile<Book<C, J>>,
-    bells: &Bells,
     pass: Pass<Book<C, J>>,
     lane: u32,
     work: &mut Work,
 ) -> Held<C, J>
     requires pass { IsPassOf lock.now pass × (lane_of pass ≡ lane) }
-    requires scenario { scenario.now ≡ J.scenario }
-    requires lane { (1 ≤ lane) × (lane ≤ lanes scenario.now) }
-    requires work { IsWork scenario.now work.old }
+    requires scenario { shared.now.scenario.now ≡ J.scenario }
+    requires lane { (1 ≤ lane) × (lane ≤ lanes shared.now.scenario.now) }
+    requires work { IsWork shared.now.scenario.now work.old }
     ensures pass { IsPassOf lock.now result.pass × (lane_of result.pass ≡ lane) }
-    ensures work { IsWork scenario.now work.new }
+    ensures work { IsWork shared.now.scenario.now work.new }
 {
+    let Shared {
+        alloc,
+        scenario,
+        bells,
+    } = *shared;
     let mut guard = lock.enter(rt, pass);
     let turn = guard.value.turn(alloc, scenario, lane, work);
     let Round { rings, sleep } = look_round(&guard.value, bells, lane, turn);
@@ -273,19 +287,22 @@ impl Shift {
     fn outside<R: Wait, G: Gate>(
         &mut self,
         rt: &R,
-        alloc: Global,
-        scenario: &Scenario,
-        bells: &Bells,
+        shared: &Shared<'_>,
         gate: &G,
         turn: Turn,
         sleep: u64,
     ) -> bool
-        requires work { IsWork scenario.now self.old.work }
+        requires work { IsWork shared.now.scenario.now self.old.work }
         requires servants { map kind_of self.old.servants.items ≡ row }
         ensures lane { self.new.lane ≡ self.old.lane }
-        ensures work { IsWork scenario.now self.new.work }
+        ensures work { IsWork shared.now.scenario.now self.new.work }
         ensures servants { map kind_of self.new.servants.items ≡ row }
     {
+        let Shared {
+            alloc,
+            scenario,
+            bells,
+        } = *shared;
         match turn {
             Turn::Works => {
                 compute(alloc, scenario, &mut self.servants, &mut self.work);
@@ -313,16 +330,14 @@ impl Shift {
 // for a thousand turns. Gives the servants back.
 pub(crate) fn work<C: Jobs + Drop, J: Plays, R: Wait, G: Gate>(
     rt: &R,
-    alloc: Global,
-    scenario: &Scenario,
+    shared: &Shared<'_>,
     lock: &Turnstile<Book<C, J>>,
-    bells: &Bells,
     gate: &G,
     worker: Worker<Book<C, J>, Row>,
 ) -> Row
     requires pass { IsPassOf lock.now worker.pass × (lane_of worker.pass ≡ worker.lane) }
-    requires scenario { scenario.now ≡ J.scenario }
-    requires lane { (1 ≤ worker.lane) × (worker.lane ≤ lanes scenario.now) }
+    requires scenario { shared.now.scenario.now ≡ J.scenario }
+    requires lane { (1 ≤ worker.lane) × (worker.lane ≤ lanes shared.now.scenario.now) }
     requires servants { map kind_of worker.servants.items ≡ row }
     ensures { map kind_of result.items ≡ row }
 {
@@ -331,7 +346,7 @@ pub(crate) fn work<C: Jobs + Drop, J: Plays, R: Wait, G: Gate>(
         mut pass,
         servants,
     } = worker;
-    bells.awake(lane);
+    shared.bells.awake(lane);
     let mut shift = Shift {
         lane,
         servants,
@@ -340,27 +355,17 @@ pub(crate) fn work<C: Jobs + Drop, J: Plays, R: Wait, G: Gate>(
         idle: 0,
     };
     for _ in rt.forever() {
-        let held = hold(
-            rt,
-            alloc,
-            scenario,
-            lock,
-            bells,
-            pass,
-            lane,
-            &mut shift.work,
-        );
         let Held {
             pass: later,
             turn,
             sleep,
-        } = held;
+        } = hold(rt, shared, lock, pass, lane, &mut shift.work);
         pass = later;
-        if !shift.outside(rt, alloc, scenario, bells, gate, turn, sleep) {
+        if !shift.outside(rt, shared, gate, turn, sleep) {
             break;
         }
     }
-    bells.end(lane);
+    shared.bells.end(lane);
     let Shift { servants, .. } = shift;
     servants
 }

@@ -1,12 +1,12 @@
 -- Frames are the same where their places, registers and slots are, and jobs where their parts are.
 use Rattle.std.proofs.Common.{refl, sym, ap, subst, ◌∙◌}
 use Rattle.std.proofs.lemmas.List.{ext_get_or}
-use Rattle.std.specs.Prelude.{◌≡◌, ℕ, zero, suc, ◌<◌, List, [], Option, None, replicate, slice_index_or}
+use Rattle.std.specs.Prelude.{◌≡◌, ℕ, zero, suc, ◌<◌, List, [], Option, None, length, replicate, slice_index_or}
+use Rattle.com_base.specs.declared.limits.TheConstants.{REGISTER_COUNT, SLOT_COUNT}
 use Rattle.com_base.specs.declared.value.RefValue.{RefValue}
 use Rattle.com_base.specs.declared.value.Value.{Value}
 use Rattle.com_body.specs.Frames.{FrameView, entered, no_number}
 use Rattle.com_body.specs.Operands.{register_of, slot_of}
-use Rattle.com_runtime.specs.Jobs.{HasShape}
 
 same-parts : (f g : FrameView) → f.place ≡ g.place → f.registers ≡ g.registers → f.slots ≡ g.slots → f ≡ g
 same-parts f g p r s =
@@ -14,11 +14,12 @@ same-parts f g p r s =
     ∙ ap (λ (vs : List Value). record f { place = g.place; registers = vs }) r
     ∙ ap (λ (ks : List (Option RefValue)). record g { slots = ks }) s
 
-pub same_frames : (f g : FrameView) → HasShape f → HasShape g → f.place ≡ g.place → ((k : ℕ) → k < 8 → slot_of f k ≡ slot_of g k) → ((r : ℕ) → r < 16 → register_of f r ≡ register_of g r) → f ≡ g
-same_frames f g a b p s r =
+pub same_frames : (f g : FrameView) → length f.registers ≡ REGISTER_COUNT → length f.slots ≡ SLOT_COUNT → length g.registers ≡ REGISTER_COUNT → length g.slots ≡ SLOT_COUNT
+    → f.place ≡ g.place → ((k : ℕ) → k < SLOT_COUNT → slot_of f k ≡ slot_of g k) → ((r : ℕ) → r < REGISTER_COUNT → register_of f r ≡ register_of g r) → f ≡ g
+same_frames f g fr fs gr gs p s r =
     same-parts f g p
-    (ext_get_or no_number f.registers g.registers (a.registers ∙ sym b.registers) (λ i h. r i (subst (λ (n : ℕ). i < n) a.registers h)))
-    (ext_get_or None f.slots g.slots (a.slots ∙ sym b.slots) (λ i h. s i (subst (λ (n : ℕ). i < n) a.slots h)))
+    (ext_get_or no_number f.registers g.registers (fr ∙ sym gr) (λ i h. r i (subst (λ (n : ℕ). i < n) fr h)))
+    (ext_get_or None f.slots g.slots (fs ∙ sym gs) (λ i h. s i (subst (λ (n : ℕ). i < n) fs h)))
 
 -- ---- the frame of a body that was entered without values
 
@@ -27,9 +28,7 @@ rep-read zero i x = refl
 rep-read (suc n) zero x = refl
 rep-read (suc n) (suc i) x = rep-read n i x
 
-none-shape : HasShape (entered [])
-none-shape = record { registers = refl; slots = refl }
-
-pub first_frame : (f : FrameView) → HasShape f → f.place ≡ 0 → ((k : ℕ) → k < 8 → slot_of f k ≡ None) → ((r : ℕ) → r < 16 → register_of f r ≡ no_number) → f ≡ entered []
-first_frame f a p s r =
-    same_frames f (entered []) a none-shape p (λ k h. s k h ∙ sym (rep-read 8 k None)) (λ i h. r i h ∙ sym (rep-read 16 i no_number))
+pub first_frame : (f : FrameView) → length f.registers ≡ REGISTER_COUNT → length f.slots ≡ SLOT_COUNT → f.place ≡ 0 → ((k : ℕ) → k < SLOT_COUNT → slot_of f k ≡ None)
+    → ((r : ℕ) → r < REGISTER_COUNT → register_of f r ≡ no_number) → f ≡ entered []
+first_frame f fr fs p s r =
+    same_frames f (entered []) fr fs refl refl p (λ k h. s k h ∙ sym (rep-read SLOT_COUNT k None)) (λ i h. r i h ∙ sym (rep-read REGISTER_COUNT i no_number))

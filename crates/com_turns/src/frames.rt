@@ -1,19 +1,20 @@
 //! Whether two frames are the same.
 
 ghost use Rattle.std.specs.Prelude.{◌≡◌, ◌<◌, ◌↔◌, ℕ, [], None, IsTrue};
+ghost use Rattle.com_base.specs.declared.limits.TheConstants.{REGISTER_COUNT, SLOT_COUNT};
 ghost use Rattle.com_body.specs.Frames.{entered, no_number};
 ghost use Rattle.com_body.specs.Operands.{register_of, slot_of};
-ghost use Rattle.com_runtime.specs.Jobs.{HasShape};
 
 use crate::values::{is_zero, same_value};
+use com_base::{REGISTER_COUNT, SLOT_COUNT};
 use com_body::Frame;
 
 // Whether two frames have the same registers.
 fn same_registers(left: &Frame, right: &Frame) -> bool
-    ensures yes { IsTrue result → (r : ℕ) → r < 16 → register_of left.now r ≡ register_of right.now r }
+    ensures yes { IsTrue result → (r : ℕ) → r < REGISTER_COUNT → register_of left.now r ≡ register_of right.now r }
     ensures no { left.now ≡ right.now → IsTrue result }
 {
-    for number in 0..16 {
+    for number in 0..REGISTER_COUNT {
         if !same_value(left.register(number), right.register(number)) {
             return false;
         }
@@ -23,10 +24,10 @@ fn same_registers(left: &Frame, right: &Frame) -> bool
 
 // Whether two frames have the same slots.
 fn same_slots(left: &Frame, right: &Frame) -> bool
-    ensures yes { IsTrue result → (k : ℕ) → k < 8 → slot_of left.now k ≡ slot_of right.now k }
+    ensures yes { IsTrue result → (k : ℕ) → k < SLOT_COUNT → slot_of left.now k ≡ slot_of right.now k }
     ensures no { left.now ≡ right.now → IsTrue result }
 {
-    for number in 0..8 {
+    for number in 0..SLOT_COUNT {
         if left.slot(number) != right.slot(number) {
             return false;
         }
@@ -37,8 +38,10 @@ fn same_slots(left: &Frame, right: &Frame) -> bool
 /// Whether two frames are the same.
 #[tactic(auto, using(crate::proofs::Same::same_frames))]
 pub fn same_frame(left: &Frame, right: &Frame) -> bool
-    ensures { HasShape left.now → HasShape right.now → (IsTrue result ↔ (left.now ≡ right.now)) }
+    ensures { IsTrue result ↔ (left.now ≡ right.now) }
 {
+    left.has_shape();
+    right.has_shape();
     if left.place() != right.place() {
         return false;
     }
@@ -50,10 +53,10 @@ pub fn same_frame(left: &Frame, right: &Frame) -> bool
 
 // Whether each register of a frame has the Int 0.
 fn has_no_registers(frame: &Frame) -> bool
-    ensures yes { IsTrue result → (r : ℕ) → r < 16 → register_of frame.now r ≡ no_number }
+    ensures yes { IsTrue result → (r : ℕ) → r < REGISTER_COUNT → register_of frame.now r ≡ no_number }
     ensures no { frame.now ≡ entered [] → IsTrue result }
 {
-    for number in 0..16 {
+    for number in 0..REGISTER_COUNT {
         if !is_zero(frame.register(number)) {
             return false;
         }
@@ -63,10 +66,10 @@ fn has_no_registers(frame: &Frame) -> bool
 
 // Whether each slot of a frame is null.
 fn has_no_slots(frame: &Frame) -> bool
-    ensures yes { IsTrue result → (k : ℕ) → k < 8 → slot_of frame.now k ≡ None }
+    ensures yes { IsTrue result → (k : ℕ) → k < SLOT_COUNT → slot_of frame.now k ≡ None }
     ensures no { frame.now ≡ entered [] → IsTrue result }
 {
-    for number in 0..8 {
+    for number in 0..SLOT_COUNT {
         if frame.slot(number).is_some() {
             return false;
         }
@@ -77,8 +80,9 @@ fn has_no_slots(frame: &Frame) -> bool
 /// Whether a frame is that of a body that was entered without values.
 #[tactic(auto, using(crate::proofs::Same::first_frame))]
 pub fn is_first_frame(frame: &Frame) -> bool
-    ensures { HasShape frame.now → (IsTrue result ↔ (frame.now ≡ entered [])) }
+    ensures { IsTrue result ↔ (frame.now ≡ entered []) }
 {
+    frame.has_shape();
     if frame.place() != 0 {
         return false;
     }

@@ -6,6 +6,7 @@ ghost use Rattle.com_servant.specs.Rows.{one_served, row};
 ghost use Rattle.com_servant.specs.Steps.{native_at};
 ghost use Rattle.com_state.specs.Parts.{class_at};
 ghost use Rattle.com_turns.specs.Turns.{body_seen, script_seen};
+ghost use Rattle.com_turns.specs.Work.{HasWork};
 ghost use Rattle.com_reference_moves.specs.Steps.{BodiesWhole, IsWhole};
 
 use crate::{step_of, work_of};
@@ -30,6 +31,7 @@ pub fn body_step(
     requires none { step.old ≡ None }
     requires row { map kind_of servants.old.items ≡ row }
     requires bodies { BodiesWhole view.now.scene }
+    requires work { HasWork view.now call object }
     ensures row { map kind_of servants.new.items ≡ row }
     ensures whole { IsWhole step.new }
     ensures outcome { OnOk result (step.new ≡ Some (body_seen view.now call object)) }

@@ -14,6 +14,7 @@ ghost use Rattle.com_scene.specs.Actors.{acting_of};
 ghost use Rattle.com_servant.specs.Rows.{one_served, row};
 ghost use Rattle.com_state.specs.Parts.{openers_at};
 ghost use Rattle.com_turns.specs.Turns.{ActsFit, IsNext, IsTurn, Steps, body_seen, deed_made, kind_seen};
+ghost use Rattle.com_turns.specs.Work.{BodiesWork};
 ghost use Rattle.com_view.specs.Seen.{bare, sight_by};
 
 use crate::steps::{body_step, script_step};
@@ -155,7 +156,9 @@ fn rule_turn<B: Found>(
 }
 
 /// The turn of a lane in which no body is innermost, and none where it makes no entry as things stand. Where
-/// the lane's script makes the entry, its step is put in `step`. The only error is want of memory.
+/// the lane's script makes the entry, its step is put in `step`. Most lanes wait most of the time, and that is
+/// found out before any part of an entry is made. The only error is want of memory.
+#[tactic(auto, using(crate::proofs::Stepping::none_ruled))]
 pub fn own_turn<B: Found>(
     view: &View<'_>,
     books: &B,
@@ -170,10 +173,13 @@ pub fn own_turn<B: Found>(
     ensures whole { IsWhole step.new }
     ensures turn { IfOk result (λ made. IsNext view.now (B.books books.now) lane step.new made) }
 {
-    if !view.is_script_turn(lane) {
-        return rule_turn(view, books, alloc, lane);
+    if view.is_script_turn(lane) {
+        return Ok(Some(script_turn(view, books, alloc, lane, step)?));
     }
-    Ok(Some(script_turn(view, books, alloc, lane, step)?))
+    if !view.has_entry(lane) {
+        return Ok(None);
+    }
+    rule_turn(view, books, alloc, lane)
 }
 
 /// The turn of a lane in which a body is innermost, whose step was computed before. The only error is want of
@@ -218,6 +224,7 @@ fn body_turn<B: Found>(
     requires acts { ActsFit view.now }
     requires body { is_body (top (bare view.now) lane) ≡ true }
     requires bodies { BodiesWhole view.now.scene }
+    requires works { BodiesWork view.now }
     requires row { map kind_of servants.old.items ≡ row }
     ensures whole { IsWhole step.new }
     ensures row { map kind_of servants.new.items ≡ row }
@@ -260,6 +267,7 @@ pub fn next_turn<B: Found>(
     requires room { HasRoom view.now (B.books books.now) }
     requires acts { ActsFit view.now }
     requires bodies { BodiesWhole view.now.scene }
+    requires works { BodiesWork view.now }
     requires row { map kind_of servants.old.items ≡ row }
     ensures whole { IsWhole step.new }
     ensures row { map kind_of servants.new.items ≡ row }

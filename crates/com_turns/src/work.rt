@@ -1,12 +1,11 @@
 //! The job of a body.
 
 ghost use Rattle.std.specs.Prelude.{◌≡◌, ◌↔◌, IfOk, IsTrue, Some};
-ghost use Rattle.com_runtime.specs.Jobs.{HasShape};
 ghost use Rattle.com_reference_moves.specs.Steps.{BodiesWhole};
 ghost use Rattle.com_scene.specs.Kept.{HasSlots};
 ghost use Rattle.com_servant.specs.Steps.{IsOfItsClass};
 ghost use Rattle.com_state.specs.SceneParts.{body_at};
-ghost use Rattle.com_turns.specs.Work.{IsWork, work_seen};
+ghost use Rattle.com_turns.specs.Work.{HasWork, IsWork, work_seen};
 
 use crate::frames::{is_first_frame, same_frame};
 use com_base::Memory;
@@ -14,12 +13,6 @@ use com_body::{Cells, Frame, Job};
 use com_scene::Actor;
 use com_view::View;
 use std::alloc::Global;
-
-// The answer where a call has no issue, or an object no class. No core comes to such parts; that is not
-// proved.
-fn unproved_fact() -> Memory {
-    Memory
-}
 
 // A copy of the frame of a body.
 fn frame_of(view: &View<'_>, alloc: Global, call: u32, object: u32) -> Result<Frame, Memory>
@@ -37,16 +30,17 @@ fn frame_of(view: &View<'_>, alloc: Global, call: u32, object: u32) -> Result<Fr
 /// error is want of memory.
 pub fn work_of(view: &View<'_>, alloc: Global, call: u32, object: u32) -> Result<Job, Memory>
     requires bodies { BodiesWhole view.now.scene }
+    requires work { HasWork view.now call object }
     ensures job { IfOk result (λ job. work_seen view.now call object ≡ Some job) }
     ensures class { IfOk result (λ job. IsOfItsClass view.now.scenario.classes job) }
     ensures whole { IfOk result (λ job. HasSlots job.frame) }
 {
     let class = view.objects.class(object);
     let Some(declared) = view.scenario.classes.class(class) else {
-        return Err(unproved_fact());
+        unreachable!()
     };
     let Some(issue) = view.calls.issue(call) else {
-        return Err(unproved_fact());
+        unreachable!()
     };
     let frame = frame_of(view, alloc, call, object)?;
     Ok(Job {
@@ -61,8 +55,7 @@ pub fn work_of(view: &View<'_>, alloc: Global, call: u32, object: u32) -> Result
 
 // Whether a frame is that of a body.
 fn fits_frame(view: &View<'_>, call: u32, object: u32, frame: &Frame) -> bool
-    ensures { HasShape (body_at view.now.scene call) → HasShape frame.now
-        → (IsTrue result ↔ (body_at view.now.scene call ≡ frame.now)) }
+    ensures { IsTrue result ↔ (body_at view.now.scene call ≡ frame.now) }
 {
     match view.scene.frame(Actor::Body { call, object }) {
         Some(own) => same_frame(own, frame),
@@ -70,11 +63,9 @@ fn fits_frame(view: &View<'_>, call: u32, object: u32, frame: &Frame) -> bool
     }
 }
 
-/// Whether a job is that of the body of a call on an object, but for its cells. The frames of both have 16
-/// registers and 8 slots, as each frame has.
+/// Whether a job is that of the body of a call on an object, but for its cells.
 pub fn fits_work(view: &View<'_>, call: u32, object: u32, job: &Job) -> bool
-    ensures { HasShape (body_at view.now.scene call) → HasShape job.now.frame
-        → (IsTrue result ↔ IsWork view.now call object job.now) }
+    ensures { IsTrue result ↔ IsWork view.now call object job.now }
 {
     let class = view.objects.class(object);
     if job.class != class {

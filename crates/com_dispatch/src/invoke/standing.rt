@@ -7,13 +7,10 @@ ghost use Rattle.com_dispatch.specs.Invoking.{IsInvocation};
 ghost use Rattle.com_dispatch.specs.Standing.{sort_of, outcome_of, argument_of, statement_of, IsOutcome};
 
 use crate::{BindError, BindOutcome, DispArg, Invocation, Sort, bind_among};
-use com_base::{Memory, Rows, Value};
+use com_base::{ANSWER_REGISTER, Memory, Rows, Value};
 use com_body::{Arg, Destination, Op, Stmt};
 use com_classes::Interface;
 use std::alloc::{AllocError, Global};
-
-// The register that shows a call's HRESULT.
-const ANSWER: u8 = 15;
 
 fn sort_of(destination: Destination) -> Option<Sort>
     ensures { result ≡ sort_of destination }
@@ -101,7 +98,7 @@ pub fn statement(
             destination: invocation.destination,
         }),
         BindOutcome::Refused(hr) => Ok(Stmt::Set {
-            to: ANSWER,
+            to: ANSWER_REGISTER,
             from: Op::Literal(Value::Int(i64::from(hr.0))),
         }),
     }

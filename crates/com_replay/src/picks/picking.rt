@@ -21,7 +21,7 @@ fn makes<C: Runtime>(scenario: &Scenario, runtime: &C, lane: u32) -> bool
     requires reached { Reached (C.scenario runtime.now) (C.state runtime.now) }
     ensures { result ≡ makes_in (C.scenario runtime.now) (C.state runtime.now) lane }
 {
-    if runtime.entries() >= scenario.limit() {
+    if runtime.entries() >= u64::from(scenario.limit()) {
         return false;
     }
     has_next(runtime, lane)

@@ -2,7 +2,7 @@ use Rattle.std.proofs.Common.{◌≡◌, ℕ, ◌+◌, ◌-◌, ◌<◌, ◌≤�
 use Rattle.std.proofs.lemmas.Grind.{common_steps}
 use Rattle.com_stub.specs.CounterRows.{has_counter}
 use Rattle.com_stub.specs.StubRows.{is_connected}
-use Rattle.com_refs_holders.specs.declared.TheConstants.{MOST_GIVEN}
+use Rattle.com_refs_holders.specs.declared.TheConstants.{MOST_ISSUED}
 use Rattle.com_refs_holders.specs.Makes.{MadeWithPlace}
 use Rattle.com_refs_holders.specs.Stands.{IsHolders}
 use Rattle.com_refs_holders.specs.Tables.{Tables, tables, owns_of}
@@ -39,7 +39,7 @@ give_first_place-requires-clause-local_fits c =
     let number : o ≡ length c.self.inside.objects.items + 1 = grind (arith, common_steps, c.len.ensures) in
     let k : Enrolled t m o c.args.owner c.args.agile c.args.set.now = record { number = number; objects = c.push_reserved.ensures.items; stubs = c.enroll.ensures.stubs; counters = c.enroll.ensures.counters; proxies = refl; packets = refl; cookies = refl; issued = refl } in
     let stands : IsHolders m = enrolled_stands t m o c.args.owner c.args.agile c.args.set.now k c.self.invariant.stands in
-    let few : c.self.inside.issued + 1 < MOST_GIVEN = rw (← c.self.view_is) at c.requires.few in
+    let few : c.self.inside.issued + 1 < MOST_ISSUED = rw (← c.self.view_is) at c.requires.few in
     local_fits m c.args.apartment o c.args.iface stands few
 
 pub give_first_place-requires-clause-public_fits : goal.give_first_place-requires-clause-public_fits
@@ -51,7 +51,7 @@ give_first_place-requires-clause-public_fits c =
     let k : Enrolled t m o c.args.owner c.args.agile c.args.set.now = record { number = number; objects = c.push_reserved.ensures.items; stubs = c.enroll.ensures.stubs; counters = c.enroll.ensures.counters; proxies = refl; packets = refl; cookies = refl; issued = refl } in
     let live : is_connected m.stubs o ≡ true = enrolled_live t m o c.args.owner c.args.agile c.args.set.now k c.self.invariant.stands in
     let stands : IsHolders m = enrolled_stands t m o c.args.owner c.args.agile c.args.set.now k c.self.invariant.stands in
-    let few : c.self.inside.issued + 1 < MOST_GIVEN = rw (← c.self.view_is) at c.requires.few in
+    let few : c.self.inside.issued + 1 < MOST_ISSUED = rw (← c.self.view_is) at c.requires.few in
     omega (arith, few, public_fits m c.args.apartment o c.args.iface stands live)
 
 pub give_first_place-requires-clause-sum_fits : goal.give_first_place-requires-clause-sum_fits
@@ -62,7 +62,7 @@ give_first_place-requires-clause-sum_fits c =
     let number : o ≡ length c.self.inside.objects.items + 1 = grind (arith, common_steps, c.len.ensures) in
     let k : Enrolled t m o c.args.owner c.args.agile c.args.set.now = record { number = number; objects = c.push_reserved.ensures.items; stubs = c.enroll.ensures.stubs; counters = c.enroll.ensures.counters; proxies = refl; packets = refl; cookies = refl; issued = refl } in
     let stands : IsHolders m = enrolled_stands t m o c.args.owner c.args.agile c.args.set.now k c.self.invariant.stands in
-    let few : c.self.inside.issued + 1 < MOST_GIVEN = rw (← c.self.view_is) at c.requires.few in
+    let few : c.self.inside.issued + 1 < MOST_ISSUED = rw (← c.self.view_is) at c.requires.few in
     omega (arith, few, stands.bounded.sums o)
 
 pub invariant_of-self : goal.invariant_of-self

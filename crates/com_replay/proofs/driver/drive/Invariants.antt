@@ -10,14 +10,14 @@ abbrev pub invariant-turns : goal.invariant-turns
 invariant-turns g l = record {
   driving : Driving l.scenario (g.K.Sink.held l.initial.sink) (mapped l.initial.servants.items (λ b. (goal.Servant-dyn g (b.vtable, b.value)).stepped b.value)) (record {
     state = g.C.Runtime.state l.runtime;
-    picks = drop l.stream.tried l.scenario.picks;
-    last = l.stream.last;
-    lines = l.stream.lines;
+    picks = drop l.course.tried l.scenario.picks;
+    last = l.course.last;
+    lines = l.course.lines;
     held = g.K.Sink.held l.sink;
     steps = mapped l.servants.items (λ b. (goal.Servant-dyn g (b.vtable, b.value)).stepped b.value);
   });
   same : g.C.Runtime.scenario l.runtime ≡ l.scenario;
-  last : l.stream.last ≤ lanes l.scenario;
+  last : l.course.last ≤ lanes l.scenario;
   kinds : mapped l.servants.items (λ b. (goal.Servant-dyn g (b.vtable, b.value)).kind_of b.value) ≡ row;
   faults : g.K.Sink.faults_of l.initial.sink ≤ g.K.Sink.faults_of l.sink;
 }

@@ -21,15 +21,15 @@ returns-clause-deed g c = λ to.
     let s = w.scenario in
     let v = sight_by w b in
     let l = c.args.lane in
-    let o = object_in c.args.target in
-    let i = c.args.iface in
-    let m = c.args.method in
+    let o = object_in c.args.callee.now.target in
+    let i = c.args.callee.now.iface in
+    let m = c.args.callee.now.method in
     let r = c.route-route.result in
     let k = c.next_cause-cause.result in
-    let refused : Option HResult = call_refusal s (home_seen w l) (running_seen w l) v.owns b.live c.args.target i m in
+    let refused : Option HResult = call_refusal s (home_seen w l) (running_seen w l) v.owns b.live c.args.callee.now.target i m in
     let vs : List Value = sent_values true b.live (parameters (method_at s.classes i m)) c.args.args.now in
-    let route : r ≡ route_or w b l c.args.target refused =
-    c.route-route.ensures b ∙ ap (λ (x : Option HResult). route_or w b l c.args.target x) (c.call_refusal-refusal.ensures b c.is_connected-is_live.ensures) in
+    let route : r ≡ route_or w b l c.args.callee.now.target refused =
+    c.route-route.ensures b ∙ ap (λ (x : Option HResult). route_or w b l c.args.callee.now.target x) (c.call_refusal-refusal.ensures b c.is_connected-is_live.ensures) in
     let values : c.as_slice.result.now ≡ sent_values (is_marshalled r) b.live (parameters (method_at s.classes i m)) c.args.args.now =
     c.as_slice.ensures ∙ c.in_ok-values.ensures
     ∙ ap (λ (t : Bool). sent_values t b.live (parameters (method_at s.classes i m)) c.args.args.now) c.is_marshalled.ensures in
@@ -42,4 +42,4 @@ returns-clause-deed g c = λ to.
     ∙ ap (λ (x : Option (List ℕ)). deed.Out (v.calls + 1) o i m r k x) bytes
     ∙ ap (λ (x : ℕ). deed.Out (v.calls + 1) o i m r x (out_bytes s v l r x vs)) c.next_cause-cause.ensures
     ∙ ap (λ (x : Route). deed.Out (v.calls + 1) o i m x (next_cause v l) (out_bytes s v l x (next_cause v l) vs)) route
-    ∙ called_on w b l c.args.target i m c.args.args.now refused
+    ∙ called_on w b l c.args.callee.now.target i m c.args.args.now refused

@@ -9,7 +9,7 @@ use Rattle.com_threads.proofs.worker.work.Given as goal
 abbrev pub invariant-loop : goal.invariant-loop
 invariant-loop g l = record {
   pass : IsPassOf l.lock l.pass × (lane_of l.pass ≡ l.lane);
-  lane : (1 ≤ l.lane) × (l.lane ≤ lanes l.scenario);
-  work : IsWork l.scenario l.shift.work;
+  lane : (1 ≤ l.lane) × (l.lane ≤ lanes l.shared.scenario.now);
+  work : IsWork l.shared.scenario.now l.shift.work;
   servants : mapped l.shift.servants.items (λ b. (goal.Servant-dyn g (b.vtable, b.value)).kind_of b.value) ≡ row;
 }

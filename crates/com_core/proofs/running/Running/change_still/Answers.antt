@@ -1,5 +1,5 @@
 -- What holds of a core after an entry that moves no reference, has no row in the books, and begins and ends no body.
-use Rattle.std.proofs.Common.{◌≡◌, ℕ, List, [], Option, All, ap, ◌∙◌, subst, sym}
+use Rattle.std.proofs.Common.{◌≡◌, List, [], All, ap, ◌∙◌, subst, sym}
 use Rattle.com_ledger.specs.Quiet.{LeavesBooks, calls_passed}
 use Rattle.com_model.specs.Lists.{number_or_zero}
 use Rattle.com_laws_places.specs.Moves.{Moves}

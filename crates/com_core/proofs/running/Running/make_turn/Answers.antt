@@ -1,5 +1,6 @@
 -- The entry of a turn is the next one of its lane, and all has changed by it.
-use Rattle.std.proofs.Common.{List, sym, subst}
+use Rattle.std.proofs.Common.{List, OnOk, subst, sym}
+use Rattle.com_model.specs.declared.deeds.Entry.{Entry}
 use Rattle.com_base.specs.declared.value.RefValue.{RefValue}
 use Rattle.com_scene.specs.Actors.{acting_of}
 use Rattle.com_refs_rows.specs.Books.{books_held}
@@ -11,7 +12,7 @@ use Rattle.com_view.specs.Seen.{running_seen}
 use Rattle.com_core.specs.Changes.{sent_by}
 use Rattle.com_core.specs.Making.{Changed}
 use Rattle.com_core.specs.Stands.{seen_by, state_read}
-use Rattle.com_core.proofs.Turned.{next_made, turn_taken}
+use Rattle.com_core.proofs.Turned.{turn_made, turn_taken}
 use Rattle.com_core.proofs.running.Running.make_turn.Goals as goal
 
 pub make-requires-clause-fits : goal.make-requires-clause-fits
@@ -47,8 +48,8 @@ returns-clause-next c =
     let u = c.make.new.self in
     let t = c.args.made in
     let b = books_held v.ledger in
-    let changed : Changed s v.parts u.parts v.ledger u.ledger v.entered.counts u.entered.counts v.fallen.objects u.fallen.objects v.clock (record { lane = c.args.lane; deed = t.doing.deed }) (acting_of t.acting) c.args.outcome.now t.doing.carried (sent_by t.doing.issued) =
-    subst (λ (rs : List RefValue). Changed s v.parts u.parts v.ledger u.ledger v.entered.counts u.entered.counts v.fallen.objects u.fallen.objects v.clock (record { lane = c.args.lane; deed = t.doing.deed }) (acting_of t.acting) c.args.outcome.now rs (sent_by t.doing.issued))
-    c.as_slice.ensures c.in_ok-make.ensures.changed in
-    next_made s (state_read s v.parts b v.fallen.objects v.clock) v.parts u.parts b v.ledger u.ledger v.entered.counts u.entered.counts v.fallen.objects u.fallen.objects v.clock c.args.lane c.args.outcome.now t
-    c.requires.turn c.requires.named c.requires.few.entries changed c.requires.core c.requires.above c.requires.below
+    let d : Entry = record { lane = c.args.lane; deed = t.doing.deed } in
+    let changed : OnOk c.make.result (Changed s v.parts u.parts v.ledger u.ledger v.entered.counts u.entered.counts v.fallen.objects u.fallen.objects v.clock d (acting_of t.acting) c.args.outcome.now t.doing.carried (sent_by t.doing.issued)) =
+    subst (λ (rs : List RefValue). OnOk c.make.result (Changed s v.parts u.parts v.ledger u.ledger v.entered.counts u.entered.counts v.fallen.objects u.fallen.objects v.clock d (acting_of t.acting) c.args.outcome.now rs (sent_by t.doing.issued)))
+    c.as_slice.ensures c.make.ensures.changed in
+    turn_made c.make.result s v u c.args.lane c.args.outcome.now t c.requires.turn c.requires.named c.requires.few.entries c.requires.core c.requires.above c.requires.below changed c.make.ensures.clock

@@ -7,7 +7,7 @@ use Rattle.com_refs_rows.specs.Books.{books_held}
 use Rattle.com_core.specs.Stands.{state_read}
 use Rattle.com_core.proofs.Ticking.{time_waits}
 use Rattle.com_core.proofs.Fits.{brings_tick, fits_tick}
-use Rattle.com_core.proofs.Turned.{tick_made, tick_taken}
+use Rattle.com_core.proofs.Turned.{clock_made, tick_taken}
 use Rattle.com_model.specs.Frames.{Nobody}
 use Rattle.com_core.proofs.running.Running.tick.Goals as goal
 
@@ -41,7 +41,5 @@ pub returns-clause-next : goal.returns-clause-next
 returns-clause-next c =
     let v = c.args.self.now in
     let u = c.make.new.self in
-    let b = books_held v.ledger in
     let time : next_wait v.parts.calls v.clock ≡ Some c.in-Some.clock = ap (λ (k : Kept). next_wait k v.clock) (sym c.calls.ensures.value) ∙ sym c.next_time.ensures ∙ c.in-Some.is in
-    tick_made c.args.scenario.now (state_read c.args.scenario.now v.parts b v.fallen.objects v.clock) v.parts u.parts b v.ledger u.ledger v.entered.counts u.entered.counts v.fallen.objects u.fallen.objects v.clock c.in-Some.clock
-    c.calls.ensures.named c.requires.few.entries time c.in_ok-make.ensures.changed c.requires.core c.requires.due
+    clock_made c.make.result c.args.scenario.now v u c.in-Some.clock c.calls.ensures.named c.requires.few.entries time c.requires.core c.requires.due c.make.ensures.changed c.make.ensures.clock

@@ -1,33 +1,34 @@
 -- A turn is that of what is read of the core.
-use Rattle.std.proofs.Common.{◌≡◌, None, Option, subst, sym}
+use Rattle.std.proofs.Common.{◌≡◌, IfOk, Option, is_some, subst, sym}
+use Rattle.std.proofs.lemmas.Result.{IfOk-weaker}
 use Rattle.com_rules.specs.Room.{HasRoom}
 use Rattle.com_refs_rows.specs.Books.{books_held}
-use Rattle.com_runtime.proofs.Limits.{not-some}
+use Rattle.com_runtime.specs.Standings.{can_step_in}
 use Rattle.com_turns.specs.declared.turns.Turn.{Turn}
-use Rattle.com_turns.specs.Turns.{ActsFit, IsNext, IsTurn}
-use Rattle.com_view.specs.Seen.{Seen, sight_by}
-use Rattle.com_model.specs.Rules.{lane_next}
+use Rattle.com_turns.specs.Turns.{ActsFit, IsNext}
+use Rattle.com_turns.specs.Work.{BodiesWork}
+use Rattle.com_view.specs.Seen.{Seen}
 use Rattle.com_core.specs.Stands.{seen_by, state_read}
-use Rattle.com_core.proofs.Turned.{none_next}
+use Rattle.com_core.proofs.OpenWork.{works_seen}
 use Rattle.com_core.proofs.Roomy.{acts_seen, room_seen}
+use Rattle.com_core.proofs.Tried.{turn_tells}
 use Rattle.com_core.proofs.running.Running.turn_of.Goals as goal
 
 pub returns-clause-turn : goal.returns-clause-turn
 returns-clause-turn g c =
     let b = books_held c.args.self.now.ledger in
-    subst (λ (w : Seen). IsTurn w b c.args.lane c.next_turn.new.step c.in-Some.made) c.view-view.ensures.value
-    (subst (λ (t : Option Turn). IsNext c.view-view.result b c.args.lane c.next_turn.new.step t) c.in-Some.is c.in_ok-turn.ensures.turn)
+    subst (λ (w : Seen). IfOk c.next_turn.result (λ (t : Option Turn). IsNext w b c.args.lane c.next_turn.new.step t)) c.view-view.ensures.value c.next_turn.ensures.turn
 
-pub unreachable-requires : goal.unreachable-requires
-unreachable-requires g c =
+pub returns-clause-can : goal.returns-clause-can
+returns-clause-can g c =
     let s = c.args.scenario.now in
     let r = c.args.self.now in
     let b = books_held r.ledger in
-    let none : lane_next s (sight_by (seen_by s r.parts r.fallen.objects r.clock) b) c.args.lane ≡ None =
-    subst (λ (w : Seen). lane_next w.scenario (sight_by w b) c.args.lane ≡ None) c.view-view.ensures.value
-    (subst (λ (t : Option Turn). IsNext c.view-view.result b c.args.lane c.next_turn.new.step t) (not-some c.in_ok-turn.turn c.in_default.not-Some) c.in_ok-turn.ensures.turn) in
-    none_next s (state_read s r.parts b r.fallen.objects r.clock) r.parts b r.fallen.objects r.clock c.args.lane
-    c.requires.core.reached c.requires.core.stands c.view-view.ensures.named c.requires.can none
+    let l = c.args.lane in
+    let turn : IfOk c.next_turn.result (λ (t : Option Turn). IsNext (seen_by s r.parts r.fallen.objects r.clock) b l c.next_turn.new.step t) =
+    subst (λ (w : Seen). IfOk c.next_turn.result (λ (t : Option Turn). IsNext w b l c.next_turn.new.step t)) c.view-view.ensures.value c.next_turn.ensures.turn in
+    IfOk-weaker c.next_turn.result _ (λ (t : Option Turn). is_some t ≡ can_step_in s (state_read s r.parts b r.fallen.objects r.clock) l)
+    (λ t n. turn_tells s (state_read s r.parts b r.fallen.objects r.clock) r.parts b r.fallen.objects r.clock l c.next_turn.new.step t c.requires.core.reached c.requires.core.stands c.view-view.ensures.named n) turn
 
 pub next_turn-requires-clause-room : goal.next_turn-requires-clause-room
 next_turn-requires-clause-room g c =
@@ -42,3 +43,11 @@ next_turn-requires-clause-acts g c =
     let s = c.args.scenario.now in
     let r = c.args.self.now in
     subst (λ (w : Seen). ActsFit w) (sym c.view-view.ensures.value) (acts_seen (seen_by s r.parts r.fallen.objects r.clock) c.requires.core.reached.formed)
+
+pub next_turn-requires-clause-works : goal.next_turn-requires-clause-works
+next_turn-requires-clause-works g c =
+    let s = c.args.scenario.now in
+    let r = c.args.self.now in
+    let b = books_held r.ledger in
+    subst (λ (w : Seen). BodiesWork w) (sym c.view-view.ensures.value)
+    (works_seen s (state_read s r.parts b r.fallen.objects r.clock) r.parts b r.fallen.objects r.clock c.requires.core.reached c.requires.core.stands)

@@ -6,7 +6,7 @@ use Rattle.com_runtime.specs.Standings.{standing_of}
 use Rattle.com_model.specs.declared.scenario.Scenario.{Scenario}
 use Rattle.com_view.specs.Seen.{Seen, sight_by}
 use Rattle.com_view.specs.Standings.{standing_by}
-use Rattle.com_core.specs.Seen.{kept_of}
+use Rattle.com_core.specs.Seen.{CoreValue, kept_of}
 use Rattle.com_core.specs.Stands.{seen_by}
 use Rattle.com_core.proofs.Shown.{as_shown, whole_kept}
 use Rattle.com_core.proofs.Readings.{standing_read}
@@ -17,6 +17,6 @@ returns c =
     let s = arc_value c.self.inside.scenario in
     let r = c.self.inside.running in
     let w : c.view.result ≡ seen_by s r.parts r.fallen.objects r.clock = c.view.ensures.value ∙ ap (λ (x : Scenario). seen_by x r.parts r.fallen.objects r.clock) c.deref-2.ensures in
-    as_shown (λ s st. c.standing_of.result ≡ standing_of s st) s r _ c.self.view_is
+    as_shown (λ s st. c.standing_of.result ≡ standing_of s st) s r _ (ap (λ (v : CoreValue). v.core) c.self.view_is)
     (standing_read s r.parts (books_held r.ledger) r.fallen.objects r.clock c.standing_of.result c.view.ensures.named
     (λ b. c.standing_of.ensures b ∙ ap (λ (x : Seen). standing_by x.scenario (sight_by x b)) w) (whole_kept (kept_of s r) c.self.invariant.4.whole).reached)

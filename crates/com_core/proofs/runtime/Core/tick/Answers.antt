@@ -1,57 +1,6 @@
--- The clock's entry of a core is that of what it keeps.
-use Rattle.std.proofs.Common.{◌≡◌, ◌<◌, IfOk, OnErr, refl, subst}
-use Rattle.std.specs.Arc.{arc_value}
-use Rattle.com_model.specs.declared.deeds.Entry.{Entry}
-use Rattle.com_model.specs.Ends.{limit}
-use Rattle.com_runtime.specs.declared.runtime.Standing.TheVariants as standing
-use Rattle.com_runtime.specs.Standings.{standing_of}
-use Rattle.com_runtime.specs.Turns.{IsNext}
-use Rattle.com_core.specs.Seen.{CoreView, Steps, core_of, core_state}
-use Rattle.com_core.proofs.Kept.{as_held, kept_stepped, next_stepped, same_core, step_taken, ties_held, whole_held}
+-- The entry that is answered is the one that was made.
+use Rattle.com_core.proofs.Kept.{next_taken}
 use Rattle.com_core.proofs.runtime.Core.tick.Goals as goal
 
-pub tick-requires-clause-core : goal.tick-requires-clause-core
-tick-requires-clause-core c = whole_held c.deref.result.now (arc_value c.self.inside.scenario) c.self.inside.running c.deref.ensures c.self.invariant.4
-
-pub tick-requires-clause-ties : goal.tick-requires-clause-ties
-tick-requires-clause-ties c = ties_held c.deref.result.now (arc_value c.self.inside.scenario) c.self.inside.running c.deref.ensures c.self.invariant.4
-
-pub tick-requires-clause-room : goal.tick-requires-clause-room
-tick-requires-clause-room c = as_held (λ s st. st.entries < limit s) c.deref.result.now (arc_value c.self.inside.scenario) c.self.inside.running _ c.deref.ensures c.self.view_is c.requires.room
-
-pub tick-requires-clause-due : goal.tick-requires-clause-due
-tick-requires-clause-due c = as_held (λ s st. standing_of s st ≡ standing.Ticks) c.deref.result.now (arc_value c.self.inside.scenario) c.self.inside.running _ c.deref.ensures c.self.view_is c.requires.due
-
 pub returns-clause-follows : goal.returns-clause-follows
-returns-clause-follows c =
-    let s = arc_value c.self.inside.scenario in
-    let r = c.self.inside.running in
-    let u = c.tick.new.self in
-    let e = c.tick.ensures in
-    let steps : IfOk c.tick.result (λ (n : Entry). Steps 0 (core_of s r) (core_of s u) n) = step_taken c.tick.result 0 c.deref.result.now s r u c.deref.ensures e.next in
-    subst (λ (w : CoreView). IfOk c.tick.result (λ (n : Entry). IsNext w.scenario (core_state w) 0 n (core_state (core_of s u)))) c.self.view_is
-    (next_stepped c.tick.result 0 (core_of s r) (core_of s u) c.self.invariant.4 refl steps e.lane e.clock)
-
-pub returns-clause-next : goal.returns-clause-next
-returns-clause-next c =
-    let s = arc_value c.self.inside.scenario in
-    let r = c.self.inside.running in
-    let u = c.tick.new.self in
-    subst (λ (w : CoreView). IfOk c.tick.result (λ (n : Entry). Steps 0 w (core_of s u) n)) c.self.view_is
-    (step_taken c.tick.result 0 c.deref.result.now s r u c.deref.ensures c.tick.ensures.next)
-
-pub returns-clause-err : goal.returns-clause-err
-returns-clause-err c =
-    let s = arc_value c.self.inside.scenario in
-    let r = c.self.inside.running in
-    let u = c.tick.new.self in
-    subst (λ (w : CoreView). OnErr c.tick.result (core_of s u ≡ w)) c.self.view_is (same_core c.tick.result s r u c.tick.ensures.err)
-
-pub invariant_of-self : goal.invariant_of-self
-invariant_of-self c =
-    let s = arc_value c.self.inside.scenario in
-    let r = c.self.inside.running in
-    let u = c.tick.new.self in
-    let e = c.tick.ensures in
-    let steps : IfOk c.tick.result (λ (n : Entry). Steps 0 (core_of s r) (core_of s u) n) = step_taken c.tick.result 0 c.deref.result.now s r u c.deref.ensures e.next in
-    (e.sound, e.few, c.self.invariant.2, c.self.invariant.3, kept_stepped c.tick.result 0 (core_of s r) (core_of s u) c.self.invariant.4 refl steps e.clock (same_core c.tick.result s r u e.err))
+returns-clause-follows c = next_taken _ _ _ _ _ _ _ c.take_last.ensures.entry c.take_last.ensures.core c.in_ok-let_tick.ensures.follows

@@ -4,4 +4,4 @@ use Rattle.com_core.proofs.Kept.{same_state}
 use Rattle.com_core.proofs.runtime.CoreJobs.commit.Goals as goal
 
 pub returns-clause-err : goal.returns-clause-err
-returns-clause-err c = on_err_weaker c.commit.result (same_state c.args.self.now c.commit.new.self) c.commit.ensures.err
+returns-clause-err c = on_err_weaker c.commit.result (same_state c.args.self.now.core c.commit.new.self.core) c.commit.ensures.err

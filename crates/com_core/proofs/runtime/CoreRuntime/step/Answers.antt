@@ -4,4 +4,4 @@ use Rattle.com_core.proofs.Kept.{same_state}
 use Rattle.com_core.proofs.runtime.CoreRuntime.step.Goals as goal
 
 pub returns-clause-err : goal.returns-clause-err
-returns-clause-err g c = on_err_weaker c.step.result (same_state c.args.self.now c.step.new.self) c.step.ensures.err
+returns-clause-err g c = on_err_weaker c.step.result (same_state c.args.self.now.core c.step.new.self.core) c.step.ensures.err

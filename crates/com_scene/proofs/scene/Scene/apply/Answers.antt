@@ -12,12 +12,12 @@ use Rattle.com_scene.proofs.scene.Scene.apply.Goals as goal
 pub invariant_of-self : goal.invariant_of-self
 invariant_of-self c =
     subst IsKept (sym c.apply.ensures)
-    (after_kept (λ o. slice_index_or c.args.owners.now o 0) (acting_of c.args.acting) c.args.outcome.now (acting_of c.args.after)
-    (record { lane = c.args.lane; deed = c.args.deed.now }) (seen c.self.inside.tables) c.requires.step c.self.invariant)
+    (after_kept (λ o. slice_index_or c.args.owners.now o 0) (acting_of c.args.entry.now.acting) c.args.outcome.now (acting_of c.args.entry.now.after)
+    (record { lane = c.args.entry.now.lane; deed = c.args.entry.now.deed.now }) (seen c.self.inside.tables) c.requires.step c.self.invariant)
 
 pub returns : goal.returns
 returns c =
-    λ named h. subst (λ (s : SceneRows). seen c.apply.new.self ≡ rows_after named (acting_of c.args.acting) c.args.outcome.now (acting_of c.args.after) (record { lane = c.args.lane; deed = c.args.deed.now }) s.tables) c.self.view_is
+    λ named h. subst (λ (s : SceneRows). seen c.apply.new.self ≡ rows_after named (acting_of c.args.entry.now.acting) c.args.outcome.now (acting_of c.args.entry.now.after) (record { lane = c.args.entry.now.lane; deed = c.args.entry.now.deed.now }) s.tables) c.self.view_is
     (c.apply.ensures
-    ∙ after_same named c.args.owners.now (acting_of c.args.acting) c.args.outcome.now (acting_of c.args.after)
-    (record { lane = c.args.lane; deed = c.args.deed.now }) (seen c.self.inside.tables) h)
+    ∙ after_same named c.args.owners.now (acting_of c.args.entry.now.acting) c.args.outcome.now (acting_of c.args.entry.now.after)
+    (record { lane = c.args.entry.now.lane; deed = c.args.entry.now.deed.now }) (seen c.self.inside.tables) h)

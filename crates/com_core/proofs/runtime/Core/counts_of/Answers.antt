@@ -7,12 +7,12 @@ use Rattle.com_ledger.specs.Ties.{Ties}
 use Rattle.com_ledger.proofs.Counted.{direct_counted, packets_counted, proxies_counted, stub_counted, tables_counted}
 use Rattle.com_model.specs.State.{State}
 use Rattle.com_state.specs.Parts.{ObjectTables, class_at, named_at}
-use Rattle.com_core.specs.Seen.{core_of, core_state, kept_of}
+use Rattle.com_core.specs.Seen.{CoreValue, core_of, core_state, kept_of}
 use Rattle.com_core.specs.Shown.{held_shown}
 use Rattle.com_core.specs.Stands.{IsReached}
 use Rattle.com_core.proofs.Counted.{counts_read}
 use Rattle.com_core.proofs.Shown.{as_shown, state_shown, ties_kept, whole_kept}
-use Rattle.com_core.proofs.runtime.Core.counts.Goals as goal
+use Rattle.com_core.proofs.runtime.Core.counts_of.Goals as goal
 
 pub returns : goal.returns
 returns c =
@@ -24,7 +24,7 @@ returns c =
     let n = c.counts-numbers in
     let h : IsReached s st = (whole_kept (kept_of s r) c.self.invariant.4.whole).reached in
     as_shown (λ s st. record { class = c.class.result; owner = c.owner.result; state = c.state.result; direct = n.result.direct; proxies = n.result.proxies; packets = n.result.packets; tables = n.result.tables; stub = n.result.stub } ≡ counts_in s st o)
-    s r _ c.self.view_is
+    s r _ (ap (λ (v : CoreValue). v.core) c.self.view_is)
     (let kept : Ties s (core_state (core_of s r)) (held_shown w) = c.self.invariant.4.ties in
     let t : Ties s st w = ties_kept s st w (subst (λ (x : State). Ties s x (held_shown w)) (state_shown (kept_of s r)) kept) in
     counts_read s st w o c.class.result c.owner.result c.state.result n.result.direct n.result.proxies n.result.packets n.result.tables n.result.stub t

@@ -1,0 +1,9 @@
+//! The schedule by lanes that are tried: the lane whose turn it is makes its entry as soon as it is found, so that
+//! no lane is asked twice. The runtime lends the entry that it made last, and nothing hands it on.
+#![tactic(auto)]
+
+mod tries;
+mod turns;
+
+pub use tries::Tries;
+pub use turns::take_turn;
