@@ -3,7 +3,7 @@ ghost use Rattle.std.specs.Prelude.{◌≡◌, ◌+◌, ◌<◌, ◌≤◌, IfOk
 ghost use Rattle.com_model.specs.Ends.{lanes_after, limit};
 ghost use Rattle.com_model.specs.Tables.{lanes};
 ghost use Rattle.com_refs_books.specs.Counting.{numbers_from};
-ghost use Rattle.com_runtime.specs.Standings.{can_pick_in, Reached};
+ghost use Rattle.com_runtime.specs.Standings.{can_pick_in, can_step_in, Reached};
 ghost use Rattle.com_schedule.specs.Tried.{LaneTried, PickTried, Tried, TurnTried};
 ghost use Rattle.com_servant.specs.Rows.{row};
 
@@ -12,6 +12,34 @@ use com_base::Memory;
 use com_runtime::Chosen;
 use com_servant::Servant;
 use std::alloc::Global;
+
+// Makes the next entry of a lane, where it can step. Most lanes wait most of the time, and a lane that waits costs
+// no more than the look at it: no part of an entry is made.
+#[tactic(auto, using(crate::proofs::Trying::nothing_yet))]
+fn step_if_ready<C: Tries>(
+    alloc: Global,
+    runtime: &mut C,
+    lane: u32,
+    servants: &mut Vec<Box<dyn Servant + Send>>,
+) -> Result<bool, Memory>
+    requires above { 1 ≤ lane }
+    requires below { lane ≤ lanes (C.scenario runtime.old) }
+    requires reached { Reached (C.scenario runtime.old) (C.state runtime.old) }
+    requires room { (C.state runtime.old).entries < limit (C.scenario runtime.old) }
+    requires row { map kind_of servants.old.items ≡ row }
+    ensures scenario { C.scenario runtime.new ≡ C.scenario runtime.old }
+    ensures can { IfOk result (λ made. made ≡ can_step_in (C.scenario runtime.old) (C.state runtime.old)
+        lane) }
+    ensures tried { IfOk result (λ can. Tried (C.scenario runtime.old) (C.state runtime.old) lane can
+        (C.made runtime.new) (C.state runtime.new) (map stepped servants.old.items)
+        (map stepped servants.new.items)) }
+    ensures row { map kind_of servants.new.items ≡ row }
+{
+    if !runtime.can_step(lane) {
+        return Ok(false);
+    }
+    runtime.try_lane(alloc, lane, servants)
+}
 
 // Tries a number of the picks, where it is that of a lane.
 #[tactic(auto, using(com_runtime::proofs::Choices::too_low, com_runtime::proofs::Choices::too_high, com_runtime::proofs::Choices::is_pick, crate::proofs::Trying::nothing_yet))]
@@ -38,7 +66,7 @@ fn try_pick<C: Tries>(
     if runtime.lanes() < lane {
         return Ok(false);
     }
-    runtime.try_lane(alloc, lane, servants)
+    step_if_ready(alloc, runtime, lane, servants)
 }
 
 // Tries the picks from the one at `from` on, each once, until one makes its entry.
@@ -96,7 +124,7 @@ fn scan<C: Tries>(
     let mut step = 0;
     'lanes: while step < count {
         let lane = last + 1 + step;
-        let made = runtime.try_lane(alloc, lane, servants)?;
+        let made = step_if_ready(alloc, runtime, lane, servants)?;
         if made {
             return Ok(Some(lane));
         }
@@ -135,7 +163,7 @@ fn in_round<C: Tries>(
 /// lane, and how many of the picks were tried. None is for where no lane can step, and then nothing has
 /// changed.
 ///
-/// The history is shorter than it may be. Each lane is asked once. The row has one servant of each kind, in the
+/// The history is shorter than it may be. The row has one servant of each kind, in the
 /// order of the kinds. The only error is want of memory.
 pub fn take_turn<C: Tries>(
     alloc: Global,

@@ -1,5 +1,5 @@
 -- Turns that are steps, and turns that rules give.
-use Rattle.std.proofs.Common.{◌≡◌, ℕ, zero, suc, Bool, true, false, cond, ◌==◌, ◌≤◌, nat_le, List, [], ◌∷◌, Option, Some, None, is_some, option_map, refl, ap, sym, ◌∙◌, subst, arith}
+use Rattle.std.proofs.Common.{◌≡◌, ℕ, zero, suc, Bool, true, false, cond, ◌==◌, ◌≤◌, nat_le, List, [], ◌∷◌, Option, Some, None, option_map, refl, ap, sym, ◌∙◌, subst, arith}
 use Rattle.std.proofs.lemmas.Grind.{common_steps}
 use Rattle.com_body.specs.declared.actions.Action.{Action}
 use Rattle.com_body.specs.declared.frame.Outcome.{Outcome}
@@ -22,7 +22,7 @@ use Rattle.com_rules.proofs.Chains.{none_first}
 use Rattle.com_scene.specs.Actors.{acting_of}
 use Rattle.com_laws_safety.proofs.Acted.{OfAction, action_sort, deed-acted}
 use Rattle.com_state.specs.Parts.{openers_at}
-use Rattle.com_view.specs.Seen.{Seen, bare, sight_by}
+use Rattle.com_view.specs.Seen.{Seen, sight_by}
 use Rattle.com_turns.specs.declared.turns.Turn.{Turn}
 use Rattle.com_turns.specs.Turns.{ByRule, IsIssued, IsRule, IsTurn, Steps, acting_seen, actor_seen, body_seen, carried_with, issuing_with, outcome_seen, script_seen}
 use Rattle.com_turns.proofs.Rules.{Acts, IsFinal, acts_in, after_rule, carries_none, final_nobody, final_rule, idle, issues_none, next_ruled, nobody_final, none_open, rule_final_is, ruled_rule, script_turn, thread, thread_rules}
@@ -230,18 +230,6 @@ ruled_lane w b l x p e h =
     let s : Scenario = w.scenario in
     let v : Sight = sight_by w b in
     next_ruled s v l (top v l) p ∙ (sym h ∙ or_none x (rule_script s v l) (no_script s v l e))
-
-none_of : (x : Option Deed) → false ≡ is_some x → x ≡ None
-none_of None e = refl
-none_of (Some d) e = absurd cc
-
--- a lane that no rule gives an entry makes none
-pub none_ruled : (w : Seen) (b : Books) (l : ℕ) → is_body (top (bare w) l) ≡ false
-    → false ≡ is_some (ruled w.scenario (sight_by w b) l) → lane_next w.scenario (sight_by w b) l ≡ None
-none_ruled w b l p e =
-    let s : Scenario = w.scenario in
-    let v : Sight = sight_by w b in
-    next_ruled s v l (top v l) p ∙ none_of (ruled s v l) e
 
 nobody_acts : (w : Seen) (b : Books) (l : ℕ) (d : Deed) → Acts (lane_sort w.scenario l) l (openers_at w.lanes l)
     → rule_script w.scenario (sight_by w b) l ≡ None → ruled w.scenario (sight_by w b) l ≡ Some d → acting_seen w l d ≡ Nobody

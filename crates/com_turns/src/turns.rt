@@ -156,9 +156,7 @@ fn rule_turn<B: Found>(
 }
 
 /// The turn of a lane in which no body is innermost, and none where it makes no entry as things stand. Where
-/// the lane's script makes the entry, its step is put in `step`. Most lanes wait most of the time, and that is
-/// found out before any part of an entry is made. The only error is want of memory.
-#[tactic(auto, using(crate::proofs::Stepping::none_ruled))]
+/// the lane's script makes the entry, its step is put in `step`. The only error is want of memory.
 pub fn own_turn<B: Found>(
     view: &View<'_>,
     books: &B,
@@ -173,13 +171,10 @@ pub fn own_turn<B: Found>(
     ensures whole { IsWhole step.new }
     ensures turn { IfOk result (λ made. IsNext view.now (B.books books.now) lane step.new made) }
 {
-    if view.is_script_turn(lane) {
-        return Ok(Some(script_turn(view, books, alloc, lane, step)?));
+    if !view.is_script_turn(lane) {
+        return rule_turn(view, books, alloc, lane);
     }
-    if !view.has_entry(lane) {
-        return Ok(None);
-    }
-    rule_turn(view, books, alloc, lane)
+    Ok(Some(script_turn(view, books, alloc, lane, step)?))
 }
 
 /// The turn of a lane in which a body is innermost, whose step was computed before. The only error is want of
