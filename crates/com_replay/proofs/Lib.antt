@@ -3,7 +3,7 @@ pub mod Turning
 pub mod Driving
 pub mod Recording
 pub mod Streaming
-pub mod Playing
+pub mod Positions
 pub mod Ticking
 pub mod Nexts
 pub mod Histories

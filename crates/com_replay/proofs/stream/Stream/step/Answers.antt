@@ -2,7 +2,7 @@
 use Rattle.std.proofs.Common.{List, ap, sym, subst, is_some}
 use Rattle.com_model.specs.declared.deeds.Entry.{Entry}
 use Rattle.com_replay.specs.Streams.{Position, StandsAt}
-use Rattle.com_replay.proofs.Playing.{position_seen}
+use Rattle.com_replay.proofs.Positions.{position_seen}
 use Rattle.com_replay.proofs.Streaming.{line_taken, next_taken, served_taken, stands_taken, step_broken, step_concludes, step_goes}
 use Rattle.com_replay.proofs.stream.Stream.step.Goals as goal
 
