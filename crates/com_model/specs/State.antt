@@ -176,7 +176,7 @@ ending_in st c = from_one st.endings c None
 abbrev pub phase_in : State → ℕ → Phase
 phase_in st c = from_one st.phases c Unposted
 
--- The message filter of a lane: the one that it named last, where its home is an STA that a thread made; else none.
+-- The message filter of a lane: the one named last in its home, if that is an STA that a thread made; else none.
 abbrev pub filter_in : Scenario → State → ℕ → Option ℕ
 filter_in s st l = in_made_sta (home_in s st l) (slice_index_or st.filters l None)
 
@@ -246,7 +246,7 @@ dies_in s st o =
     (holders_in s (ground_in s st) (scene_in st) (books_in st))
     (is_entered s (openers_in st)) o
 
--- Whether a lane serves apartment a: a thread the STAs that it made, the host a2, a pool lane a0 and a1.
+-- Whether a lane serves apartment a: a thread the STAs that it made, ended ones too; the host a2; a pool lane a0, a1.
 abbrev pub serves_in : Scenario → State → ℕ → ℕ → Bool
 serves_in s st l a = serves_by_sort (lane_sort s l) (is_member a (slice_index_or st.made l [])) a
 
@@ -350,12 +350,12 @@ counts_change (Initialises a hr) = Some (count_after (Initialises a hr))
 counts_change (Uninitialises a n) = Some (count_after (Uninitialises a n))
 counts_change Remains = None
 
--- An STA that the lane makes goes behind those that it made before.
+-- An STA that a deed makes goes behind those that its lane made before; any other deed leaves these.
 abbrev pub made_change : Option ℕ → Option (List ℕ → List ℕ)
 made_change None = None
 made_change (Some a) = Some (λ as'. as' ++ a ∷ [])
 
--- An End makes its lane be over, for good. Every other deed leaves that.
+-- An End makes its lane be over; every other deed leaves the lane as it was, over or not.
 abbrev pub over_change : Bool → Option (Bool → Bool)
 over_change true = Some (λ b. true)
 over_change false = None

@@ -208,7 +208,7 @@ object_state_text object_state.Live = codes "live"
 object_state_text object_state.Disconnected = codes "disconnected"
 object_state_text object_state.Released = codes "released"
 
--- how a history ended: all was done, no lane could step, or it had as many entries as it may have
+-- how a history ended: all was done, nothing could go on, or it had as many entries as it may have
 abbrev pub ended_text : Ended → List ℕ
 ended_text ended.Ok = codes "ok"
 ended_text ended.Stuck = codes "stuck"
