@@ -36,7 +36,7 @@ E_INVALIDARG = hresult 0x80070057
 abbrev pub REGDB_E_CLASSNOTREG : HResult
 REGDB_E_CLASSNOTREG = hresult 0x80040154
 
--- Refuses, in a lane without home, each action that needs an apartment.
+-- Refuses, in a lane without home, each action on objects, packets or cookies but Copy and Release.
 abbrev pub CO_E_NOTINITIALIZED : HResult
 CO_E_NOTINITIALIZED = hresult 0x800401f0
 
