@@ -43,12 +43,12 @@ abbrev pub later_sinks : List ℕ → List ℕ
 later_sinks [] = []
 later_sinks (k ∷ ks) = word_and_number (codes ", ") k ++ later_sinks ks
 
--- The sinks that got an event, by their cookies, or that none did.
+-- The sinks to which an event went, by their cookies, or that there is none.
 abbrev pub sinks_text : List ℕ → List ℕ
 sinks_text [] = codes "no sink"
 sinks_text (k ∷ ks) = word_and_number (codes "sinks ") k ++ later_sinks ks
 
--- Which sinks got the event that a call sent, by their cookies.
+-- To which sinks the event that a call sent went, by their cookies.
 abbrev pub event_text : (call : ℕ) → (sinks : List ℕ) → List ℕ
 event_text c ks = codes "The event of " ++ link_text c ++ codes " went to " ++ sinks_text ks
 

@@ -89,7 +89,7 @@ fn push_later_sinks(out: &mut ByteList, sinks: &[u64]) -> Result<(), Memory>
     Ok(())
 }
 
-// Appends the sinks that got an event, by their cookies, or that none did.
+// Appends the sinks to which an event went, by their cookies, or that there is none.
 fn push_sinks(out: &mut ByteList, sinks: &[u64]) -> Result<(), Memory>
     ensures { OnOk result (out.new ≡ out.old ++ sinks_text sinks.now) }
 {
