@@ -39,6 +39,7 @@ fn writes_by(outcome: &Option<Outcome>) -> bool
     }
 }
 
+// Whether a call's result goes to a slot, and not to a register or nowhere.
 fn is_slot(destination: Destination) -> bool
     ensures { result ≡ is_slot destination }
 {

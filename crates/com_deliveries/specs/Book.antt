@@ -228,5 +228,6 @@ events objects [] = []
 events objects (r ∷ rs) =
     if is_event objects r && r.has_left then delivery r ∷ events objects rs else events objects rs
 
+-- The events whose bodies left, by call number, each with the cookies of the sinks to which its Outs went.
 abbrev pub deliveries_in : Book → List Delivery
 deliveries_in b = events b.objects b.calls

@@ -21,8 +21,8 @@ pub record Moment : Type 0 where
   pub held : Option (List ℕ)
   pub steps : List ℕ
 
--- The same but for lines: the runtime's state, the picks that are left, the last lane, and the servants'
--- counts.
+-- A moment without what is written: the runtime's state, the picks that are left, the last lane, and the
+-- servants' counts.
 pub record Place : Type 0 where
   pub state : State
   pub picks : List ℕ

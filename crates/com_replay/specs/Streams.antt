@@ -21,7 +21,8 @@ pub record Position : Type 0 where
   pub picks : List ℕ
   pub last : ℕ
 
--- The same where so many of the scenario's picks were tried.
+-- Where a stream of a scenario stands with this state and this last lane, once so many of the scenario's picks
+-- were tried.
 abbrev pub position : Scenario → State → (tried last : ℕ) → Position
 position s st tried last = record { scenario = s; state = st; picks = drop tried s.picks; last = last }
 

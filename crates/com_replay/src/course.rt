@@ -60,7 +60,8 @@ impl Course {
         }
     }
 
-    /// The same with room for many lines, which is taken at once. The only error is want of memory.
+    /// Before the first turn, with room for many lines, which is taken at once. The only error is
+    /// want of memory.
     pub fn with_room(alloc: Global) -> Result<Course, Memory>
         ensures tried { IfOk result (λ course. course.tried ≡ 0) }
         ensures last { IfOk result (λ course. course.last ≡ 0) }

@@ -18,6 +18,8 @@ use std::process::ExitCode;
 // Want of memory for the words or for the row of servants.
 const NO_MEMORY: u8 = 9;
 
+// Does what the words behind the program's name ask for, and ends with the status of that. Want of
+// memory for the words or for the row of servants has a status of its own.
 fn main(rt: HostRuntime) -> ExitCode {
     let words = match words_of(&rt) {
         Ok(words) => words,

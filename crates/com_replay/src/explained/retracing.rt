@@ -11,6 +11,8 @@ use com_runtime::{Runtime, Standing};
 use com_servant::Servant;
 use std::alloc::Global;
 
+// Whether a runtime that stands so is stuck: no lane can step, no call waits for a time, and not
+// all is done.
 fn is_stuck(standing: Standing) -> bool
     ensures { result ≡ is_stuck standing }
 {
