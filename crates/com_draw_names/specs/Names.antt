@@ -69,12 +69,12 @@ shown_method_or m (Some k) = escaped k.name
 abbrev pub shown_method : Tables → (iface method : ℕ) → List ℕ
 shown_method t i m = shown_method_or m (method_at t i m)
 
--- The method that a caller called, and nothing where no caller is known.
+-- The method that a caller called, by its name as it is; nothing where nobody waits for the call.
 abbrev pub called_words : Tables → Option Caller → List ℕ
 called_words t None = []
 called_words t (Some k) = method_words t k.iface k.method
 
--- The method that a caller called, escaped, and nothing where no caller is known.
+-- The method that a caller called, escaped; nothing where nobody waits for the call.
 abbrev pub shown_called : Tables → Option Caller → List ℕ
 shown_called t None = []
 shown_called t (Some k) = shown_method t k.iface k.method

@@ -71,7 +71,7 @@ TakesResult (Some (kinds.Ref i)) (destinations.Register n) = ⊥
 TakesResult (Some k) (destinations.Register n) = Unit {0}
 TakesResult (Some k) (destinations.Slot n) = ⊥
 
--- The method takes these arguments, and its result can go there. A method that the table lacks takes nothing.
+-- The method takes these arguments, and its result can go there. No call stands of a method that the table lacks.
 abbrev pub TakesMethod : Option Method → List Arg → Destination → Type 0
 TakesMethod None given to = ⊥
 TakesMethod (Some m) given to = TakesArgs m.params given × TakesResult m.result to

@@ -39,7 +39,7 @@ impl<'a> View<'a> {
         self.retry_of(lane, call)
     }
 
-    // The question to the caller's filter after the verdict that turned the call away; else None.
+    // The question to the caller's filter after a verdict that turned the call away; else None.
     fn retry_of(&self, lane: u32, call: u32) -> Option<Deed>
         ensures { result ≡ retried self.now.scenario (bare self.now) lane call ((bare self.now).phase call) }
     {
