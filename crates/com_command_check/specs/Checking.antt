@@ -32,6 +32,7 @@ abbrev pub with_trace : (text : List ℕ) (from : ℕ) → Result Scenario Fault
 with_trace text from (Err fault) = Err fault
 with_trace text from (Ok scenario) = Ok (record { scenario = scenario; text = text; from = from })
 
+-- What a text asks by how it is cut: the scenario before the line `trace`, with the trace behind it; or its fault.
 abbrev pub asked_by : List ℕ → Cut → Result Question Fault
 asked_by bytes (cuts.Missing line column) = without_trace line column (reading bytes)
 asked_by bytes (cuts.At until from) = with_trace bytes from (reading (take until bytes))
@@ -40,6 +41,7 @@ asked_by bytes (cuts.At until from) = with_trace bytes from (reading (take until
 unfoldable pub question_of : List ℕ → Result Question Fault
 question_of bytes = asked_by bytes (cut_of 0 (lines_of bytes))
 
+-- What an input is for `check`: too long, at fault, or a question.
 abbrev pub question_input : List ℕ → Input Question
 question_input = input_of is_long_trace question_of
 

@@ -125,6 +125,7 @@ fn judge(alloc: Global, question: Question) -> Result<Reply, Memory>
     })
 }
 
+// The status of a judgement: whether the trace agrees, or a line of it differs.
 fn status_of(judged: &Judged) -> Status
     ensures { result ≡ status_of judged.now }
 {

@@ -102,6 +102,7 @@ pub fn run_main<R: Threads + Wait + Sync, S: Source, K: Sink, G: Gate + Sync>(
     run_for(rt, alloc, crew, gate, source, sink).code()
 }
 
+// What `run_main` does, with the status for its answer in place of the code.
 #[tactic(auto, using(com_commands::proofs::Answering::refused_causes, com_commands::proofs::Answering::same_causes, crate::proofs::Running::run_unwritten))]
 fn run_for<R: Threads + Wait + Sync, S: Source, K: Sink, G: Gate + Sync>(
     rt: &R,

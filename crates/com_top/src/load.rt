@@ -93,6 +93,7 @@ fn load_lines(alloc: Global, number: u32, replayed: Replayed) -> Result<ByteList
     Ok(text)
 }
 
+// What `load_main` does, with the status for its answer in place of the code.
 #[tactic(auto, using(crate::proofs::Loaded::loaded_causes, crate::proofs::Loaded::loaded_serves, crate::proofs::Loaded::loaded_unwritten, com_commands::proofs::Answering::same_causes))]
 fn load<K: Sink>(
     alloc: Global,

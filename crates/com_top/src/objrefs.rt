@@ -59,6 +59,7 @@ fn show_digits(alloc: Global, digits: &[u8]) -> Result<Reply, Memory>
     })
 }
 
+// The status of a text of digits, by whether it spells an OBJREF.
 fn status_for(is_found: bool) -> Status
     ensures { result ≡ status_for is_found }
 {

@@ -75,6 +75,7 @@ fn explanation(
     explain(alloc, &scenario, recorded)
 }
 
+// What `waits_main` does, with the status for its answer in place of the code.
 #[tactic(auto, using(com_commands::proofs::Answering::refused_causes, com_commands::proofs::Answering::refused_serves, com_commands::proofs::Answering::same_causes, crate::proofs::Explained::explained_causes, crate::proofs::Explained::explained_serves, crate::proofs::Explained::explained_unwritten))]
 fn answer<S: Source, K: Sink>(
     alloc: Global,

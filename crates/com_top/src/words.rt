@@ -40,6 +40,7 @@ pub fn command_of(words: &[String]) -> Command
     }
 }
 
+// The command of one word. A lone `load` is no command, since its number is missing.
 fn of_word(word: &str) -> Command
     ensures { result ≡ of_word word.now }
 {
@@ -56,6 +57,7 @@ fn of_word(word: &str) -> Command
     }
 }
 
+// The command of two words, which is `load` with a number from 1 to 1,000,000, or none.
 fn of_two(word: &str, number: &str) -> Command
     ensures { result ≡ of_two word.now number.now }
 {

@@ -30,12 +30,15 @@ pub record Seen : Type 0 where
   pub fallen : List ℕ
   pub clock : ℕ
 
+-- A lane's home apartment, where it has one: the host lane's is the host STA, and a pool lane's is the MTA.
 abbrev pub home_seen : Seen → ℕ → Option ℕ
 home_seen w l = home_by_sort (lane_sort w.scenario l) (slice_index_or w.lanes.homes l None)
 
+-- The apartment that the innermost open body of a lane entered, and the lane's home where no body is open.
 abbrev pub running_seen : Seen → ℕ → Option ℕ
 running_seen w l = or_else (entered_apartment (openers_at w.lanes l)) (home_seen w l)
 
+-- The message filter that a lane has set, where its home is an STA that a thread made; else None.
 abbrev pub filter_seen : Seen → ℕ → Option ℕ
 filter_seen w l = in_made_sta (home_seen w l) (slice_index_or w.lanes.filters l None)
 
@@ -49,6 +52,7 @@ abbrev pub dying_seen : Seen → ℕ → List ℕ
 dying_seen w l =
     filter (λ o. serves_seen w l (named_at w.objects o)) w.fallen
 
+-- All that the model's rules may look at: what is read, and the books of references beside it.
 abbrev pub sight_by : Seen → Books → Sight
 sight_by w b = record {
   openers = openers_at w.lanes;

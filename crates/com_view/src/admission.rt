@@ -54,6 +54,8 @@ impl<'a> View<'a> {
         calls.iter().any(|call| self.cause_of(*call) == cause)
     }
 
+    // The call type of a call of this causality, where these calls are open: top-level without any,
+    // nested where one of them has the causality, else top-level with a call pending.
     fn type_among(&self, calls: &[u32], cause: u32) -> u8
         ensures { result ≡ type_among (λ d. cause_of (issue_at self.now.calls.tables d)) calls.now cause }
     {

@@ -40,6 +40,8 @@ impl<'a> View<'a> {
         }
     }
 
+    // The Enter of a call: its object and that one's owner, the call type where it was posted to an
+    // STA, and the values still to be read. The only error is want of memory.
     fn enter_deed(&self, alloc: Global, lane: u32, call: u32) -> Result<Deed, Memory>
         ensures { IfOk result (λ made. made
             ≡ deed.Enter call (object_of ((bare self.now).issue call)) ((bare self.now).owner (object_of

@@ -35,6 +35,7 @@ fn is_quiet(view: &View<'_>, lane: u32) -> bool
     view.dying(lane).is_none()
 }
 
+// Whether each of so many lanes, from lane 1 on, has nothing open and no dying object to end.
 fn are_quiet(view: &View<'_>, count: u32) -> bool
     ensures { result ≡ each_of (is_quiet view.now) (one_to count) }
 {

@@ -141,6 +141,8 @@ impl<'a> View<'a> {
         }
     }
 
+    // Whether the filter of a lane in an STA is to be asked about a word, while the lane waits for
+    // this call: one that was posted, and that was not asked about this word yet.
     fn asks_about(&self, lane: u32, call: u32) -> bool
         ensures { result ≡ is_some (asked_on self.now.scenario (bare self.now) lane call
             (not_asked (mark_of ((bare self.now).mail lane).marks call) ((bare self.now).mail lane).words)) }

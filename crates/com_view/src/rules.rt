@@ -39,6 +39,7 @@ impl<'a> View<'a> {
         self.retry_of(lane, call)
     }
 
+    // The question to the caller's filter after a verdict that turned the call away; else None.
     fn retry_of(&self, lane: u32, call: u32) -> Option<Deed>
         ensures { result ≡ retried self.now.scenario (bare self.now) lane call ((bare self.now).phase call) }
     {
@@ -64,6 +65,7 @@ impl<'a> View<'a> {
         self.again_of(call)
     }
 
+    // The new posting of a call that waits for a time, once the clock has reached it; else None.
     fn again_of(&self, call: u32) -> Option<Deed>
         ensures { result ≡ posted_again (bare self.now) call ((bare self.now).phase call) }
     {
@@ -88,6 +90,8 @@ impl<'a> View<'a> {
         self.pending_of(lane, call)
     }
 
+    // The question about the first word that the call was not asked about yet. None without such a
+    // word, where the lane's home is no STA, and where the call was not posted.
     fn pending_of(&self, lane: u32, call: u32) -> Option<Deed>
         ensures { result ≡ asked_on self.now.scenario (bare self.now) lane call
             (not_asked (mark_of ((bare self.now).mail lane).marks call) ((bare self.now).mail lane).words) }
@@ -116,6 +120,7 @@ impl<'a> View<'a> {
         }
     }
 
+    // The lane's first word; without a word the end of the pump where a quit stands, and else None.
     fn taken_word(&self, lane: u32) -> Option<Deed>
         ensures { result ≡ takes_word (first ((bare self.now).mail lane).words) ((bare self.now).quit lane) }
     {
@@ -176,6 +181,7 @@ impl<'a> View<'a> {
         }
     }
 
+    // The first call in the inbox of the home, where it is an STA and the lane lets calls in.
     fn first_in_sta(&self, lane: u32, sort: Sort, home: Option<u32>) -> Option<u32>
         ensures { result ≡ admits_sta (bare self.now) lane (sort_as sort) home }
     {
@@ -190,6 +196,7 @@ impl<'a> View<'a> {
         }
     }
 
+    // The first call in the MTA's inbox, where nothing is open in this lane of the pool.
     fn first_in_pool(&self, lane: u32) -> Option<u32>
         ensures { result ≡ admits_next (bare self.now) lane (sort_as Sort.Pool) }
     {
@@ -199,6 +206,8 @@ impl<'a> View<'a> {
         }
     }
 
+    // The call that a lane of this sort lets in next: a pool lane's from the MTA's inbox, that of
+    // every other lane from the inbox of its home.
     fn admits_by(&self, lane: u32, sort: Sort) -> Option<u32>
         ensures { result ≡ admits_next (bare self.now) lane (sort_as sort) }
     {

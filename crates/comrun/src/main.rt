@@ -22,6 +22,8 @@ use std::thread::Threads;
 // Want of memory for the words or for the crew.
 const NO_MEMORY: u8 = 9;
 
+// Does what the words ask for, on the standard input and output. The exit status is that of the
+// command, and 9 where memory lacks for the words or the crew.
 fn main(rt: HostRuntime) -> ExitCode {
     let words = match words_of(&rt) {
         Ok(words) => words,
