@@ -32,7 +32,7 @@ unfoldable pub lane_names : (threads pool : ℕ) → List ℕ
 lane_names t p =
     names_of lane.Thread 1 t ++ lane_name_text (t + 1) lane.Host ++ names_of lane.Pool (t + 2) p
 
--- The names of all columns: of the lanes, with so many threads and pool lanes, and of the objects.
+-- The names of all columns: those of so many threads, of the host, of so many pool lanes, and of the objects.
 unfoldable pub front_names : (threads pool : ℕ) → List ℕ
 front_names t p = lane_names t p ++ objects_name_text (t + 1 + p + 1)
 

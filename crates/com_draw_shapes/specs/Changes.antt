@@ -44,7 +44,7 @@ closed_on here l close.Innermost b = with_lanes (with_lane without_innermost l b
 closed_on here l (close.Cut o) b = cut_on here o b
 closed_on here l (close.Life o) b = with_tracks (map (freed o) b.tracks) b
 
--- Whether a lane has a home.
+-- Whether a lane has a home; false where no lane has the number.
 abbrev pub own_home : Option Lane → Bool
 own_home None = false
 own_home (Some row) = is_some row.home

@@ -51,7 +51,7 @@ moved None held = []
 moved (Some a) None = []
 moved (Some a) (Some r) = record { apartment = a; reference = r } ∷ []
 
--- The references of a list of slots, links or values, all in one apartment.
+-- The references in a list of slots, links or values, as moves of one apartment. Null is no move.
 abbrev pub all_moved : Option ℕ → List (Option RefValue) → List Move
 all_moved a [] = []
 all_moved a (x ∷ xs) = moved a x ++ all_moved a xs
@@ -143,7 +143,8 @@ ended_moves g w (Some a) = record { lost = links_moved g w a (one_to g.objects);
 abbrev pub acting_in : Scenario → List Entry → Entry → Actor
 acting_in s h e = acting s (class_of h) (issue h) (scene s h) (actor_in s h e.lane) e.deed
 
--- The body step of whoever makes an entry behind a history; None where nobody acts, as by a Final.
+-- The body step of whoever makes an entry behind a history; None where nobody acts, as by a Final or an Uninit after
+-- the script's end.
 abbrev pub outcome_in : Scenario → List Entry → Entry → Option Outcome
 outcome_in s h e = outcome s (class_of h) (issue h) (scene s h) (acting_in s h e)
 

@@ -31,7 +31,7 @@ next_by false true over = next.Own
 next_by false false true = next.Over
 next_by false false false = next.Wait
 
--- What a lane does next in a state.
+-- What a lane does next in a state: the step of a body, another entry, or none as things stand; or it has ended.
 unfoldable pub next_in : Scenario → State → (lane : ℕ) → Next
 next_in s st l =
     next_by (is_body (first (openers_in st l))) (can_step_in s st l) (slice_index_or st.over l false)

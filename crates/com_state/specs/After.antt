@@ -62,7 +62,7 @@ joined_after s st e =
 abbrev pub acting_in : Scenario → State → Entry → Actor
 acting_in s st e = acting s (class_in st) (issue_in st) (scene_in st) (actor_of s st e.lane) e.deed
 
--- The body step of whoever makes the entry; None where nobody acts, as by a Final or after a script's end.
+-- The body step of whoever makes the entry; None where nobody acts, as by a Final or an Uninit after the script's end.
 abbrev pub step_in : Scenario → State → Entry → Option Outcome
 step_in s st e = outcome s (class_in st) (issue_in st) (scene_in st) (acting_in s st e)
 
