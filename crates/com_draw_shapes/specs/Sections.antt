@@ -49,5 +49,6 @@ back_of_section here cycle b = section_back_text ++ boxes_below here cycle b ++ 
 abbrev pub row_before : (row : ℕ) → State → List ℕ
 row_before m b = if m == 1 then [] else back_of_section (row_at (m - 1)) [] b
 
+-- All that stands before a row: where a section begins with it, the end of the one above and its own front.
 unfoldable pub row_begins : (row : ℕ) → State → List ℕ
 row_begins m b = if opens_section m then row_before m b ++ front_of_section b else []

@@ -129,6 +129,7 @@ fn push_round(words: &mut Lcg64Xsh32, text: &mut ByteList) -> Result<(), Memory>
     text.push_all(b" -> r1\nrelease s0\n")
 }
 
+// Appends a number in decimal digits.
 fn push_number(number: u32, text: &mut ByteList) -> Result<(), Memory>
     ensures { OnOk result (text.new ≡ text.old ++ decimal number) }
 {

@@ -29,6 +29,7 @@ abbrev pub placed : ℕ → List ℕ → List ℕ
 placed x [] = x ∷ []
 placed x (y ∷ ys) = if nat_lt x y then x ∷ y ∷ ys else if x == y then y ∷ ys else y ∷ placed x ys
 
+-- A number put in its place in such a list, where one is given.
 abbrev pub placed_in : Option ℕ → List ℕ → List ℕ
 placed_in None xs = xs
 placed_in (Some x) xs = placed x xs

@@ -60,6 +60,8 @@ abbrev pub OffersTie : Scenario → State → Held → Type 0
 OffersTie s st w =
     (o i : ℕ) → has_interface s.classes (class_in st o) i ≡ true → offers w.tables o i ≡ true
 
+-- A ledger is tied to a state: it has the state's books, it counts the state's places, its objects, their sets and its
+-- calls are the state's, and it gave 32 references at most for each entry that was made.
 pub record Ties (s : Scenario) (st : State) (w : Held) : Type 0 where
   pub books : books_held w ≡ books_in st
   pub counts : Counts (next_sta_in st) (places_at s st) w.tables

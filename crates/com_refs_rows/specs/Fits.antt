@@ -24,6 +24,7 @@ use Rattle.com_stub.specs.StubRows.{is_connected}
 abbrev pub most_given : ℕ
 most_given = 32
 
+-- An entry brings so many references at most to places, beside what its row brings there.
 abbrev pub most_gained : ℕ
 most_gained = 8
 
