@@ -42,7 +42,7 @@ fn wait_of(rows: &[CallRow], call: u32, now: u64) -> Option<u64>
     }
 }
 
-// The time that a Delayed call waits for, where it is later than `now` and the call has no answer.
+// The time that a delayed call waits for, where it is later than `now` and the call has no answer.
 fn row_wait(row: &CallRow, now: u64) -> Option<u64>
     ensures { result ≡ wait_until now row.now.phase (is_some row.now.ending) }
 {

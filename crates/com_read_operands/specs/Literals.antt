@@ -31,7 +31,7 @@ guid_at line k = do
   w ← word_at line k
   as_guid w (guid_of w.bytes)
 
--- whether bytes are pairs of hexadecimal digits, of either case; no bytes at all are too
+-- whether bytes are pairs of hexadecimal digits, of either case; an empty list is
 abbrev pub are_pairs : List ℕ → Bool
 are_pairs digits = (length digits % 2 == 0) && list_all is_ascii_hexdigit digits
 

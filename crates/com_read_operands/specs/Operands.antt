@@ -127,7 +127,7 @@ abbrev pub as_register : WordAt → Operand → Result ℕ Fault
 as_register w (operands.Register n) = Ok n
 as_register w o = Err (fault_at (unfit o) w)
 
--- where a register stands
+-- the number of the register, r0 to r15, that stands at an index of the line
 unfoldable pub register_at : List WordAt → ℕ → Result ℕ Fault
 register_at line k = do
   w ← word_at line k
@@ -138,7 +138,7 @@ abbrev pub as_slot : WordAt → Operand → Result ℕ Fault
 as_slot w (operands.Slot n) = Ok n
 as_slot w o = Err (fault_at (unfit o) w)
 
--- where a slot stands
+-- the number of the slot, s0 to s7, that stands at an index of the line
 unfoldable pub slot_at : List WordAt → ℕ → Result ℕ Fault
 slot_at line k = do
   w ← word_at line k
@@ -160,7 +160,7 @@ abbrev pub as_buffer : WordAt → Operand → Result ℕ Fault
 as_buffer w (operands.Buffer n) = Ok n
 as_buffer w o = Err (fault_at (unfit o) w)
 
--- where a packet buffer stands
+-- the number of the packet buffer, p0 to p63, that stands at an index of the line
 unfoldable pub buffer_at : List WordAt → ℕ → Result ℕ Fault
 buffer_at line k = do
   w ← word_at line k

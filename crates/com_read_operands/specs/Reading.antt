@@ -82,7 +82,7 @@ left_over w (sorts.Remark c) = Err (character_at w c)
 left_over w sorts.Unclosed = Err (fault_at UNEXPECTED w)
 left_over w _ = Err (fault_at EXTRA w)
 
--- there is no word, or one that is left over and a fault
+-- no word where the line has to end; a word there is a fault
 abbrev pub nothing : Option WordAt → Result (Unit {0}) Fault
 nothing None = Ok tt
 nothing (Some w) = left_over w w.sort

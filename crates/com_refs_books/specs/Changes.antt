@@ -36,11 +36,11 @@ no_books = record {
   result = λ c. None;
 }
 
--- A packet that is not outstanding and holds nothing: one that ended, or a number that no packet has.
+-- What a packet is once it ended, and what is read for a number that no packet has: none that is outstanding.
 abbrev pub no_packet : Packet
 no_packet = record { outstanding = false; mode = marshal.Weak; object = 0; iface = 0; refs = 0 }
 
--- A cookie that is revoked and holds nothing, or a number that no cookie has.
+-- What a cookie is once it is revoked, and what is read for a number that no cookie has.
 abbrev pub no_cookie : Cookie
 no_cookie = record { is_revoked = true; object = 0; iface = 0; refs = 0 }
 
@@ -209,7 +209,7 @@ packet_holds o p = count_if (p.outstanding && (not (is_weak p.mode) && p.object 
 abbrev pub cookie_holds : ℕ → Cookie → ℕ
 cookie_holds o g = count_if (not g.is_revoked && g.object == o)
 
--- How many packets and cookies hold an object; what apartments hold of it is not in this number.
+-- How many packets and cookies hold an object, beside the places in apartments.
 abbrev pub held_outside : Books → ℕ → ℕ
 held_outside b o = sum_by (packet_holds o) b.packets + sum_by (cookie_holds o) b.cookies
 

@@ -22,10 +22,10 @@ use std::alloc::Global;
 // The registers of the built-in bodies: the argument, the number that a body works on, the answer of a test.
 const ARGUMENT: u8 = 0;
 
-// It takes the number of cell 0, the sum of `add`, or the result of the call in `forward`.
+// The register of a body's number: that of cell 0, the sum, or the result of the call in `forward`.
 const NUMBER: u8 = 1;
 
-// It takes the result of `test`.
+// The register of the result of `test`.
 const ANSWER: u8 = 2;
 
 // The number of a value, and 0 where it is none.

@@ -22,7 +22,7 @@ class_of b next =
     else (if b == 59 then classes.Semicolon
     else classes.Other))))
 
--- whether the byte ends its line
+-- whether a byte ends a line, as byte 10 alone does
 abbrev pub ends_line : Class → Bool
 ends_line classes.LineEnd = true
 ends_line _ = false

@@ -62,7 +62,7 @@ abbrev pub from_least_of : List ℕ → Option ℕ → List ℕ
 from_least_of xs None = []
 from_least_of xs (Some m) = from_lane m xs ++ before_lane m xs
 
--- A cycle in its own order, turned to begin at its least lane; an empty one stays empty.
+-- A cycle in its own order, but from its least lane on; an empty one stays empty.
 abbrev pub from_least : List ℕ → List ℕ
 from_least xs = from_least_of xs (least xs)
 
