@@ -25,6 +25,7 @@ fn push_literal(alloc: Global, out: &mut ByteList, value: &Value) -> Result<(), 
     }
 }
 
+// Appends an argument: a literal, a slot as `s` and its number, or `null`.
 fn push_arg(alloc: Global, out: &mut ByteList, arg: &DispArg) -> Result<(), Memory>
     ensures { OnOk result (out.new ≡ out.old ++ arg_text arg.now) }
 {
@@ -58,6 +59,7 @@ fn push_later(alloc: Global, out: &mut ByteList, args: &[DispArg]) -> Result<(),
     Ok(())
 }
 
+// Appends arguments with a comma between each two.
 fn push_args(alloc: Global, out: &mut ByteList, args: &[DispArg]) -> Result<(), Memory>
     ensures { OnOk result (out.new ≡ out.old ++ args_text args.now) }
 {
@@ -70,6 +72,7 @@ fn push_args(alloc: Global, out: &mut ByteList, args: &[DispArg]) -> Result<(), 
     }
 }
 
+// Appends the name of an HRESULT, and nothing where it has none.
 fn push_name(out: &mut ByteList, hr: HResult) -> Result<(), Memory>
     ensures { OnOk result (out.new ≡ out.old ++ unwrap_or (name_of hr.0) []) }
 {
@@ -79,6 +82,8 @@ fn push_name(out: &mut ByteList, hr: HResult) -> Result<(), Memory>
     }
 }
 
+// Appends what a call is bound to: the numbers of the interface and the method, and the arguments;
+// or else the name of its refusal.
 fn push_outcome(
     alloc: Global,
     out: &mut ByteList,
@@ -101,6 +106,7 @@ fn push_outcome(
     }
 }
 
+// Appends the line of a binding: `bind`, its number among the bindings, and its outcome.
 fn push_binding(
     alloc: Global,
     out: &mut ByteList,

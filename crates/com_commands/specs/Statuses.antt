@@ -8,6 +8,7 @@ use Rattle.com_model.specs.declared.counts.Ended.TheVariants as ended
 use Rattle.com_commands.specs.declared.statuses.Status.{Status}
 use Rattle.com_commands.specs.declared.statuses.Status.TheVariants as status
 
+-- The number with which the program exits. 8 is that of no status.
 abbrev pub code_of : Status → ℕ
 code_of status.Done = 0
 code_of status.Usage = 1

@@ -172,9 +172,11 @@ filters_lines n (f ∷ fs) = filter_words n ∷ (rules_lines f ++ filters_lines 
 
 -- ---- threads and picks
 
+-- the line that opens a thread's script
 abbrev pub thread_words : List Spelled
 thread_words = plain (codes "thread") ∷ []
 
+-- the threads' scripts in their order: for each the line that opens it, its statements and the line that ends it
 abbrev pub threads_lines : Names → List (List Stmt) → List (List Spelled)
 threads_lines names [] = []
 threads_lines names (b ∷ bs) = thread_words ∷ (program_lines names b ++ threads_lines names bs)
@@ -192,6 +194,7 @@ sections_lines names s =
     ++ (classes_lines names s.classes.classes
     ++ (filters_lines 1 s.filters ++ (threads_lines names s.threads ++ picks_lines s.picks)))
 
+-- the lines of a scenario: the header, the pool's, and those of its sections
 unfoldable pub scenario_lines : Scenario → List (List Spelled)
 scenario_lines s = header_words s.version ∷ pool_words s.pool ∷ sections_lines (names_in s) s
 

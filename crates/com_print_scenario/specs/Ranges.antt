@@ -9,9 +9,11 @@ use Rattle.com_classes.specs.declared.classes.MethodBody.{MethodBody}
 use Rattle.com_model.specs.declared.scenario.Scenario.{Scenario}
 use Rattle.com_print.specs.Ranges.{IsGuid, Fits}
 
+-- each number in the statements of a body or a script is one that its type has
 abbrev pub FitsProgram : List Stmt → Type 0
 FitsProgram statements = All Fits statements
 
+-- each number in the bodies of a class is one that its type has
 abbrev pub FitsBodies : List MethodBody → Type 0
 FitsBodies bodies = All (λ (b : MethodBody). FitsProgram b.body) bodies
 
@@ -20,9 +22,11 @@ abbrev pub FitsAs : Native → List MethodBody → Type 0
 FitsAs natives.Bodies bodies = FitsBodies bodies
 FitsAs _ bodies = Unit {0}
 
+-- the numbers of the CLSID, and of the bodies that are the class's own, are such as their types have
 abbrev pub FitsClass : Class → Type 0
 FitsClass c = IsGuid c.clsid × FitsAs c.native c.bodies
 
+-- the numbers of the IID are such as their types have
 abbrev pub FitsInterface : Interface → Type 0
 FitsInterface i = IsGuid i.iid
 

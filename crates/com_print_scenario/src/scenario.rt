@@ -25,6 +25,7 @@ fn own(interfaces: &[Interface]) -> &[Interface]
     &interfaces[BUILT_IN_COUNT..]
 }
 
+// Appends the first line: `scenario`, and the version of the language.
 fn push_header(out: &mut ByteList, version: u8) -> Result<(), Memory>
     ensures { OnOk result (out.new ≡ out.old ++ line_text (header_words version)) }
 {
@@ -33,6 +34,7 @@ fn push_header(out: &mut ByteList, version: u8) -> Result<(), Memory>
     push_end(out)
 }
 
+// Appends the line that says how many lanes the pool has.
 fn push_pool(out: &mut ByteList, lanes: u32) -> Result<(), Memory>
     ensures { OnOk result (out.new ≡ out.old ++ line_text (pool_words lanes)) }
 {

@@ -204,6 +204,7 @@ fn number_after(made: u32, more: usize) -> Result<u32, Memory>
         .ok_or(AllocError)
 }
 
+// How many public references the packet at an index is to hold, and 0 past the list's end.
 fn refs_at(refs: &[u32], at: usize) -> u32
     ensures { result ≡ slice_index_or refs.now at 0 }
 {

@@ -17,6 +17,7 @@ use com_model::Deed;
 use com_refs_books::Packet;
 use com_view::View;
 
+// Whether the fields of two packets agree, each with each.
 fn same_fields(left: &StdFields, right: &StdFields) -> bool
     ensures { result ≡ same_fields left.now right.now }
 {

@@ -16,6 +16,7 @@ abbrev pub tables_of : List Interface → List Class → Tables
 tables_of interfaces classes =
     record { interfaces = built_in_interfaces ++ drop 4 interfaces; classes = classes }
 
+-- The scenario that the lines of a text declare, with the built-in interfaces before its own.
 abbrev pub scenario_of : Outline → Scenario
 scenario_of o = record {
   version = o.version;

@@ -53,6 +53,7 @@ body_seen w c o =
 abbrev pub script_seen : Seen → (lane : ℕ) → Outcome
 script_seen w l = body_step (script w.scenario l) (script_at w.scene l) new_cells
 
+-- What the step of whoever acts comes to, in the tables that are seen. None where nobody acts.
 abbrev pub outcome_seen : Seen → Acting → Option Outcome
 outcome_seen w a = outcome w.scenario (class_at w.objects) (issue_at w.calls.tables) (scene_read w.scene) a
 
@@ -108,6 +109,7 @@ carried_with s b x (deed.Out c o i m r k (Some bytes)) = carried (out_values s b
 carried_with s b x (deed.Leave c hr value (Some bytes)) = carried (result_list value)
 carried_with s b x _ = []
 
+-- The references that an entry's request or reply carries, by the action that its lane makes in what is seen.
 abbrev pub carried_seen : Seen → Books → ℕ → Deed → List RefValue
 carried_seen w b l d = carried_with w.scenario b ((sight_by w b).act l) d
 

@@ -18,6 +18,7 @@ lane_named Message = None
 lane_named (Body c m) = Some m
 lane_named (Pool c m) = Some m
 
+-- Whether a lane that waits so waits for a message, and for no other lane.
 abbrev pub is_message : Why → Bool
 is_message Message = true
 is_message (Body c m) = false
@@ -38,6 +39,7 @@ abbrev pub from_lane : ℕ → List ℕ → List ℕ
 from_lane l [] = []
 from_lane l (x ∷ xs) = if x == l then x ∷ xs else from_lane l xs
 
+-- The lanes of a list before the first that is this one; all of them where it is not in the list.
 abbrev pub before_lane : ℕ → List ℕ → List ℕ
 before_lane l [] = []
 before_lane l (x ∷ xs) = if x == l then [] else x ∷ before_lane l xs
@@ -49,6 +51,7 @@ abbrev pub goes_on : (List ℕ → ℕ → List ℕ) → List ℕ → Option ℕ
 goes_on go chain None = []
 goes_on go chain (Some m) = go chain m
 
+-- The cycle that the chain enters from a lane, in at most so many steps; empty where it enters none in these.
 abbrev pub entered : (next : ℕ → Option ℕ) → (steps : ℕ) → (chain : List ℕ) → ℕ → List ℕ
 entered next zero chain l = []
 entered next (suc n) chain l =
@@ -59,6 +62,7 @@ abbrev pub from_least_of : List ℕ → Option ℕ → List ℕ
 from_least_of xs None = []
 from_least_of xs (Some m) = from_lane m xs ++ before_lane m xs
 
+-- A cycle in its own order, but from its least lane on; an empty one stays empty.
 abbrev pub from_least : List ℕ → List ℕ
 from_least xs = from_least_of xs (least xs)
 
@@ -68,6 +72,7 @@ abbrev pub cycle_from : List Wait → Option ℕ → List ℕ
 cycle_from ws None = []
 cycle_from ws (Some l) = from_least (entered (next_in ws) (length ws + 1) [] l)
 
+-- The cycle that an explanation names, by the rows of all lanes that wait. It is empty where it names none.
 abbrev pub cycle_of : List Wait → List ℕ
 cycle_of ws = cycle_from ws (first_in ws)
 
@@ -75,8 +80,10 @@ cycle_of ws = cycle_from ws (first_in ws)
 abbrev pub explained : List Wait → Waits
 explained ws = record { waits = ws; cycle = cycle_of ws }
 
+-- Each lane that waits in a history, with its reason, and the cycle. It is meant of a history that is stuck.
 abbrev pub explanation : Scenario → List Entry → Waits
 explanation s h = explained (waits_of s h)
 
+-- Why a history is stuck, and None exactly where it is not.
 abbrev pub explanation_of : Scenario → List Entry → Option Waits
 explanation_of s h = if stuck s h then Some (explanation s h) else None

@@ -55,6 +55,7 @@ pub fn quit_deed(view: &View<'_>, to: i64) -> Deed
     }
 }
 
+// The answer of `post` and `quit`: S_OK where the lane takes a word, else E_INVALIDARG.
 fn word_answer(view: &View<'_>, to: i64) -> HResult
     requires { length view.now.scenario.threads < 2 ^ 32 }
     ensures { result ≡ word_answer view.now.scenario (bare view.now) to }
@@ -66,6 +67,7 @@ fn word_answer(view: &View<'_>, to: i64) -> HResult
     }
 }
 
+// Whether a number is that of a thread's lane that is not over. A number below 0 is that of none.
 #[tactic(auto, using(crate::proofs::Words::words_none, crate::proofs::Words::words_some))]
 fn takes_words(view: &View<'_>, to: i64) -> bool
     requires { length view.now.scenario.threads < 2 ^ 32 }
@@ -77,6 +79,8 @@ fn takes_words(view: &View<'_>, to: i64) -> bool
     }
 }
 
+// Whether a number from 0 on is that of a thread's lane, the first of which is 1, that is not
+// over.
 fn lane_takes_words(view: &View<'_>, number: u64) -> bool
     requires { length view.now.scenario.threads < 2 ^ 32 }
     ensures { result ≡ (is_thread view.now.scenario number && not ((bare view.now).over number)) }
