@@ -17,7 +17,7 @@ abbrev pub is_live_of : (object : ℕ) → Option Track → Bool
 is_live_of o None = false
 is_live_of o (Some t) = t.is_live && t.object == o
 
--- Whether a track is that of an object of an apartment that was not cut off.
+-- Whether a track is that of an object that lives in the apartment and was not cut off.
 abbrev pub is_live_in : (apartment : ℕ) → Option Track → Bool
 is_live_in a None = false
 is_live_in a (Some t) = t.is_live && t.apartment == a
