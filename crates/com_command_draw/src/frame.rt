@@ -62,6 +62,8 @@ pub fn answer_by_row<C: TellingCommand, S: Source, K: Sink>(
     tell_for::<C, S, K>(alloc, servants, source, sink).code()
 }
 
+// Reads the input, makes the answer by the row of servants, and writes it. The status is that of
+// the answer, or tells what was wrong with the input, the sink or the memory.
 #[tactic(auto, using(com_commands::proofs::Answering::refused_causes, com_commands::proofs::Answering::refused_serves, com_commands::proofs::Answering::same_causes, com_commands::proofs::Answering::said_no_memory))]
 fn tell_for<C: TellingCommand, S: Source, K: Sink>(
     alloc: Global,

@@ -25,6 +25,7 @@ pub fn request_of(words: &[String]) -> Request
     }
 }
 
+// What one word asks for. Any word that is no command asks for the usage.
 fn of_word(word: &str) -> Request
     ensures { result ≡ of_word word.now }
 {

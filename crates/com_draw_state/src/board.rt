@@ -153,9 +153,10 @@ impl Board {
     }
 }
 
-// The multithreaded apartment, whose lanes are the pool's, and the host's apartment.
+// The multithreaded apartment, in which the pool's lanes are at home.
 const MTA: u32 = 1;
 
+// The apartment of the host's lane, an STA.
 const HOST_STA: u32 = 2;
 
 // A home that was entered above the first section.
@@ -186,6 +187,7 @@ fn add_lanes(
     Ok(())
 }
 
+// Appends a lane with this home that made no entry. The only error is want of memory.
 fn add_lane(alloc: Global, lanes: &mut Vec<Lane>, home: Option<Home>) -> Result<(), Memory>
     ensures { OnOk result (lanes.new.items ≡ lanes.old.items ++ new_lane home ∷ []) }
 {

@@ -245,6 +245,7 @@ fn freed(track: Option<Track>, object: u32) -> Option<Track>
     }
 }
 
+// Cuts off the track of an object, where it has one that was not cut off yet.
 #[tactic(auto, using(crate::proofs::Mapped::mapped_none))]
 fn cut_object(tracks: &mut [Option<Track>], object: u32, start: Start)
     ensures { tracks.new ≡ map (cut_of_object object start) tracks.old }
@@ -256,6 +257,7 @@ fn cut_object(tracks: &mut [Option<Track>], object: u32, start: Start)
     }
 }
 
+// Cuts off the tracks of all objects of an apartment that were not cut off yet.
 #[tactic(auto, using(crate::proofs::Mapped::mapped_none))]
 fn cut_apartment(tracks: &mut [Option<Track>], apartment: u32, start: Start)
     ensures { tracks.new ≡ map (cut_of_apartment apartment start) tracks.old }
@@ -267,6 +269,7 @@ fn cut_apartment(tracks: &mut [Option<Track>], apartment: u32, start: Start)
     }
 }
 
+// Frees the track of an object, where it has one.
 #[tactic(auto, using(crate::proofs::Mapped::mapped_none))]
 fn free(tracks: &mut [Option<Track>], object: u32)
     ensures { tracks.new ≡ map (freed object) tracks.old }
