@@ -24,6 +24,7 @@ abbrev pub IsOther : Judged → Type 0
 IsOther judged.Agrees = ⊥
 IsOther (judged.Differs line found legal) = Unit {0}
 
+-- What is read of a trace: the history that it agrees with, or the first of its lines that differs.
 abbrev pub IsRead : Scenario → List ℕ → Trace → Type 0
 IsRead s trace (traces.Agrees a) = IsAgreed s trace a
 IsRead s trace (traces.Differs j) = IsJudged s trace j × IsOther j

@@ -114,6 +114,8 @@ pub record Differs (s : Scenario) (trace : List ℕ) (line : ℕ) (found legal :
   pub found_is : found ≡ shown (first rest)
   pub legal_is : legal ≡ shown (legal_line s begins.history begins.left (first rest))
 
+-- The verdict on a trace: it agrees where it is the text and the report of a history, and else it is the first
+-- line that differs.
 abbrev pub IsJudged : Scenario → (trace : List ℕ) → Judged → Type 0
 IsJudged s trace judged.Agrees = IsText s trace
 IsJudged s trace (judged.Differs line found legal) = Differs s trace line found legal

@@ -1,5 +1,6 @@
 //! Judging a trace line by line, on any runtime that keeps the rules.
 ghost use Rattle.std.specs.Prelude.{◌≡◌, ◌<◌, ◌≤◌, ◌+◌, None, Some, IfOk, OnOk, codes, map};
+ghost use Rattle.com_base.specs.declared.limits.TheConstants.{ENTRY_2_LIMIT};
 ghost use Rattle.com_model.specs.Ends.{last_after, limit};
 ghost use Rattle.com_model.specs.Formed.{Formed};
 ghost use Rattle.com_model.specs.State.{first_tables};
@@ -123,7 +124,7 @@ fn step_schedule<C: Runtime>(
 // That a found line names no lane that has a next entry, behind so many entries. The only error is want of
 // memory.
 fn no_entry(alloc: Global, entries: u64, found: &[u8]) -> Result<Option<Judged>, Memory>
-    requires { entries ≤ 1_000_000 }
+    requires { entries ≤ ENTRY_2_LIMIT }
     ensures { IfOk result (λ turn. turn ≡ Some (judged.Differs (entries + 1) found.now (codes "none"))) }
 {
     let judged = differs(alloc, entries + 1, found, NO_LINE)?;
@@ -141,7 +142,7 @@ fn judge_report<C: Runtime>(
 ) -> Result<Judged, Memory>
     requires scenario { C.scenario runtime.now ≡ scenario.now }
     requires reached { Reached scenario.now (C.state runtime.now) }
-    requires few { (C.state runtime.now).entries ≤ 1_000_000 }
+    requires few { (C.state runtime.now).entries ≤ ENTRY_2_LIMIT }
     ensures { IfOk result (λ j. IsTold scenario.now (C.state runtime.now) ended rest.now j) }
 {
     let counts = all_counts(alloc, scenario, runtime)?;

@@ -49,6 +49,8 @@ impl Judged {
     }
 }
 
+// Puts into an empty text that a line differs: its number, what was found and what is legal, a line
+// each. The only error is want of memory.
 fn push_differs(text: &mut ByteList, line: u64, found: &[u8], legal: &[u8]) -> Result<(), Memory>
     requires { text.old ≡ [] }
     ensures { OnOk result (text.new ≡ judged_text (judged.Differs line found.now legal.now)) }

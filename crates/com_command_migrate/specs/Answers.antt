@@ -33,6 +33,7 @@ pub record IsRefused (s : Scenario) (trace : List ℕ) (answer : Moved) : Type 0
 abbrev pub IsMovedBy : Scenario → (trace before : List ℕ) → Moved → Type 0
 IsMovedBy s trace before answer = IsCarried s trace before answer ⊎ IsRefused s trace answer
 
+-- What is answered behind a text: the text alone where there is no trace, and else what the trace makes of it.
 abbrev pub IsMovedWith : Scenario → Option (List ℕ) → (before : List ℕ) → Moved → Type 0
 IsMovedWith s None before answer = (answer.agrees ≡ true) × (answer.text ≡ before)
 IsMovedWith s (Some trace) before answer = IsMovedBy s trace before answer

@@ -1,5 +1,6 @@
 -- The trace of an agreed history in version 2 of the language.
 use Rattle.std.specs.Prelude.{◌≡◌, ◌<◌, ◌++◌, ℕ, List, Some, length, reverse}
+use Rattle.com_base.specs.declared.limits.TheConstants.{ENTRY_1_LIMIT}
 use Rattle.com_model.specs.declared.scenario.Scenario.{Scenario}
 use Rattle.com_model.specs.Ends.{ended_as, report, text}
 use Rattle.com_model.specs.Rules.{legal}
@@ -16,5 +17,5 @@ trace_text a = history_text 2 (reverse a.history) ++ report_text a.counts (lengt
 pub record Moves (s : Scenario) (a : Agreed) : Type 0 where
   pub lawful : legal (moved s) (reverse a.history)
   pub ends : ended_as (moved s) (reverse a.history) ≡ Some a.ended
-  pub few : length a.history < 200_000
+  pub few : length a.history < ENTRY_1_LIMIT
   pub written : trace_text a ≡ text (moved s) (reverse a.history) ++ report (moved s) (reverse a.history)

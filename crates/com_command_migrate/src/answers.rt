@@ -1,5 +1,6 @@
 //! What is written where a scenario is moved.
 ghost use Rattle.std.specs.Prelude.{◌≡◌, ◌≤◌, IfOk, length};
+ghost use Rattle.com_base.specs.declared.limits.TheConstants.{TEXT_1_LIMIT};
 ghost use Rattle.com_model.specs.Formed.{Formed};
 ghost use Rattle.com_print_scenario.specs.Printed.{printed};
 ghost use Rattle.com_laws_versions.specs.Moved.{moved};
@@ -66,7 +67,7 @@ fn move_trace(
     text: ByteList,
 ) -> Result<Moved, Memory>
     requires formed { Formed scenario }
-    requires short { length trace.now ≤ 1_048_576 }
+    requires short { length trace.now ≤ TEXT_1_LIMIT }
     ensures { IfOk result (λ answer. IsMovedBy scenario trace.now text answer) }
 {
     let scenario = Arc::new(alloc, scenario)?;

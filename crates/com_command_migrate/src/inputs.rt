@@ -77,6 +77,8 @@ fn within_version_1(
     }
 }
 
+// What is moved, where the scenario was read: it and what stands behind the line `trace`. Else its
+// fault.
 fn with_trace(read: Result<Scenario, Fault>, trace: Option<ByteList>) -> Result<Moving, Fault>
     requires { IfOk read (λ scenario. Formed scenario) }
     ensures value { result ≡ with_trace read trace }

@@ -1,6 +1,7 @@
 //! What the trace of a history keeps in version 2, stated on a function that does nothing.
 
 ghost use Rattle.std.specs.Prelude.{◌≤◌, ℕ, List, length};
+ghost use Rattle.com_base.specs.declared.limits.TheConstants.{TEXT_1_LIMIT};
 ghost use Rattle.com_model.specs.declared.scenario.Scenario.{Scenario};
 ghost use Rattle.com_model.specs.Formed.{Formed};
 ghost use Rattle.com_check.specs.declared.agreement.traces.Agreed.{Agreed};
@@ -12,6 +13,6 @@ ghost use Rattle.com_command_migrate.specs.Moving.{Moves};
 /// version 2 too and ends there in the same way, and what `push_trace` writes of it is its text and its
 /// report there.
 pub fn traces_move()
-    ensures { (s : Scenario) (trace : List ℕ) (a : Agreed) → Formed s → length trace ≤ 1_048_576
+    ensures { (s : Scenario) (trace : List ℕ) (a : Agreed) → Formed s → length trace ≤ TEXT_1_LIMIT
         → IsAgreed s trace a → Moves s a }
 {}

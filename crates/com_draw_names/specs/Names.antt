@@ -1,5 +1,5 @@
 -- What stands for apartments, objects, classes, interfaces and methods.
-use Rattle.std.specs.Prelude.{ℕ, ◌==◌, nat_lt, if◌then◌else◌, List, [], Option, Some, None, codes}
+use Rattle.std.specs.Prelude.{ℕ, ◌^◌, ◌==◌, nat_lt, if◌then◌else◌, List, [], Option, Some, None, codes}
 use Rattle.com_base.specs.Guids.{text_of}
 use Rattle.com_body.specs.declared.operands.Asked.{Asked}
 use Rattle.com_body.specs.declared.operands.Asked.TheVariants as asked
@@ -48,7 +48,7 @@ interface_name (Some i) = i.name
 
 -- An interface's number has 16 bits.
 abbrev pub interface_words : Tables → Asked → List ℕ
-interface_words t (asked.Number i) = if nat_lt i 65536 then interface_name (interface_at t i) else []
+interface_words t (asked.Number i) = if nat_lt i (2 ^ 16) then interface_name (interface_at t i) else []
 interface_words t (asked.Guid g) = text_of g
 
 -- A method by its name, or by its number where the interface has no such method.
