@@ -138,7 +138,7 @@ recording_smaller s m n e entries made p =
     (below_limit s m.state made.turn.goes_on (recording_within s m.state m.picks m.last entries p))
     (one_entry s m.state n.state e.lane e made.turn.next)
 
--- The same of the state that a runtime has after its last entry was taken.
+-- Once a step was made, fewer entries are left by the state that the runtime has after it, too.
 pub recording_smaller_at : (s : Scenario) (m n : Moment) (e : Entry) (entries : List Entry) (new : State)
     → new ≡ n.state → IsMade s m n e → Recording s m.state m.picks m.last entries → limit s - new.entries < limit s - m.state.entries
 recording_smaller_at s m n e entries new same made p =

@@ -8,3 +8,4 @@ pub mod Any
 pub mod Stepping
 mod Each
 pub mod Timed
+pub mod ByTop

@@ -2,15 +2,15 @@
 
 ghost use Rattle.std.specs.Prelude.{◌≡◌, is_some};
 ghost use Rattle.com_refs_books.specs.Changes.{Books};
-ghost use Rattle.com_model.specs.Rules.{asked_on, enters_itself, ruled, rule_final, rule_own, rule_answer};
-ghost use Rattle.com_model.specs.Rules.{rule_bound, rule_inbox, rule_retry, rule_again, posted_again};
-ghost use Rattle.com_model.specs.Rules.{rule_pending, rule_word, rule_script, top};
-ghost use Rattle.com_model.specs.Waiting.{not_asked, mark_of};
 ghost use Rattle.com_model.specs.Openers.{is_body};
-ghost use Rattle.com_view.specs.Nexts.{kind_of};
+ghost use Rattle.com_model.specs.Rules.{enters_itself, ruled, top};
+ghost use Rattle.com_model.specs.Tables.{lane_sort};
+ghost use Rattle.com_view.specs.Nexts.{has_come, has_moved, has_posted, idle_has, kind_of, pump_has, stirs, wait_has};
 ghost use Rattle.com_view.specs.Seen.{bare, sight_by};
 
+use crate::sorts::Sort;
 use crate::view::View;
+use com_base::{HOST_STA, MTA};
 use com_deeds::in_sta;
 use com_model::{Opener, Phase};
 
@@ -61,157 +61,115 @@ impl<'a> View<'a> {
         }
     }
 
-    /// Whether the rule of the lane's own direct or switched call applies.
-    pub fn has_own(&self, lane: u32) -> bool
-        ensures { (b : Books) → result ≡ is_some (rule_own self.now.scenario (sight_by self.now b) lane) }
+    // Whether a call is posted in an STA's inbox, where the home is one.
+    fn has_posted(&self, home: Option<u32>) -> bool
+        ensures { result ≡ has_posted (bare self.now) home }
     {
-        match self.own_call(lane) {
-            Some(call) => self.enters_itself(call),
+        match home {
+            Some(home) => {
+                if home < HOST_STA {
+                    return false;
+                }
+                self.calls.first_posted(home).is_some()
+            }
             None => false,
         }
     }
 
-    /// Whether the lane's own call has an answer.
-    pub fn has_answer(&self, lane: u32) -> bool
-        ensures { (b : Books) → result ≡ is_some (rule_answer (sight_by self.now b) lane) }
+    // Whether a rule gives an entry to a lane in which nothing is open, where no Final comes first: a thread's
+    // script acts until its lane is over, and the lanes of the host and of the pool let in what is posted.
+    fn idle_has(&self, lane: u32) -> bool
+        ensures { result ≡ idle_has (bare self.now) (lane_sort self.now.scenario lane) lane }
     {
-        match self.own_call(lane) {
-            Some(call) => self.is_answered(call),
-            None => false,
+        match self.sort(lane) {
+            Sort::Thread => !self.lanes.is_over(lane),
+            Sort::Host => self.calls.first_posted(HOST_STA).is_some(),
+            Sort::Pool => self.calls.first_posted(MTA).is_some(),
+            Sort::NoLane => false,
         }
     }
 
-    /// Whether the bound of the lane's pump is reached.
-    pub fn has_bound(&self, lane: u32) -> bool
-        ensures { (b : Books) → result ≡ is_some (rule_bound (sight_by self.now b) lane) }
+    // Whether a rule gives an entry to a lane that pumps, where no Final comes first: a word or a quit stands,
+    // its bound is reached, or its inbox has a call.
+    fn pump_has(&self, lane: u32) -> bool
+        ensures { result ≡ pump_has (bare self.now) lane }
     {
-        self.lanes.bound_is_reached(lane)
-    }
-
-    /// Whether an inbox has a call that the lane lets in.
-    pub fn has_inbox(&self, lane: u32) -> bool
-        ensures { (b : Books) → result ≡ is_some (rule_inbox self.now.scenario (sight_by self.now b) lane) }
-    {
-        match self.admits_next(lane) {
-            Some(_) => true,
-            None => false,
+        if self.lanes.first_word(lane).is_some() {
+            return true;
         }
-    }
-
-    /// Whether the caller's filter is to be asked what to do after a verdict.
-    pub fn has_retry(&self, lane: u32) -> bool
-        ensures { (b : Books) → result ≡ is_some (rule_retry self.now.scenario (sight_by self.now b) lane) }
-    {
-        match self.own_call(lane) {
-            Some(call) => match self.calls.phase(call) {
-                Phase::Judged(_) => true,
-                _ => false,
-            },
-            None => false,
+        if self.lanes.quit_stands(lane) {
+            return true;
         }
-    }
-
-    /// Whether the time of the lane's own call has come.
-    pub fn has_again(&self, lane: u32) -> bool
-        ensures { (b : Books) → result ≡ is_some (rule_again (sight_by self.now b) lane) }
-    {
-        match self.own_call(lane) {
-            Some(call) => self.is_due(call),
-            None => false,
+        if self.lanes.bound_is_reached(lane) {
+            return true;
         }
+        self.has_posted(self.home(lane))
     }
 
-    // Whether the call waits for a time that has come.
-    fn is_due(&self, call: u32) -> bool
-        ensures { result ≡ is_some (posted_again (bare self.now) call ((bare self.now).phase call)) }
+    // Whether a call was judged, so that its caller's filter is asked, or waits for a time that has come.
+    fn has_moved(&self, call: u32) -> bool
+        ensures { result ≡ has_moved (bare self.now) ((bare self.now).phase call) }
     {
         match self.calls.phase(call) {
+            Phase::Judged(_) => true,
             Phase::Delayed { until } => until <= self.clock,
             _ => false,
         }
     }
 
-    /// Whether the filter of the waiting lane is to be asked about a word.
-    pub fn has_pending(&self, lane: u32) -> bool
-        ensures { (b : Books) → result ≡ is_some (rule_pending self.now.scenario (sight_by self.now b) lane) }
+    // Whether something comes to a lane that waits in an STA for a posted call: another call, or a word that its
+    // filter was not asked about.
+    fn has_come(&self, lane: u32, call: u32) -> bool
+        ensures { result ≡ has_come (bare self.now) lane call }
     {
-        match self.own_call(lane) {
-            Some(call) => self.asks_about(lane, call),
-            None => false,
-        }
-    }
-
-    // Whether the filter of a lane in an STA is to be asked about a word, while the lane waits for
-    // this call: one that was posted, and that was not asked about this word yet.
-    fn asks_about(&self, lane: u32, call: u32) -> bool
-        ensures { result ≡ is_some (asked_on self.now.scenario (bare self.now) lane call
-            (not_asked (mark_of ((bare self.now).mail lane).marks call) ((bare self.now).mail lane).words)) }
-    {
-        if self.lanes.word_not_asked(lane, call).is_none() {
+        let home = self.home(lane);
+        if !in_sta(home) {
             return false;
         }
-        if !in_sta(self.home(lane)) {
-            return false;
+        if self.has_posted(home) {
+            return true;
         }
-        self.is_posted(call)
+        self.lanes.word_not_asked(lane, call).is_some()
     }
 
-    /// Whether the lane's pump takes a word, or ends by a quit.
-    pub fn has_word(&self, lane: u32) -> bool
-        ensures { (b : Books) → result ≡ is_some (rule_word (sight_by self.now b) lane) }
+    // Whether a rule gives an entry to a lane that waits for a call, where no Final comes first.
+    fn wait_has(&self, lane: u32, call: u32) -> bool
+        ensures { result ≡ wait_has (bare self.now) lane call }
     {
-        self.word(lane).is_some()
+        if self.is_answered(call) {
+            return true;
+        }
+        if self.has_moved(call) {
+            return true;
+        }
+        if self.is_posted(call) {
+            return self.has_come(lane, call);
+        }
+        self.calls.admission(call).is_none()
     }
 
-    /// Whether the lane's script acts.
-    pub fn has_script(&self, lane: u32) -> bool
-        ensures { (b : Books) → result ≡ is_some (rule_script self.now.scenario (sight_by self.now b) lane) }
+    // Whether a rule gives an entry to a lane, where no Final comes first, by what is innermost in it.
+    fn stirs(&self, lane: u32) -> bool
+        ensures { result ≡ stirs (bare self.now) (lane_sort self.now.scenario lane) lane
+            (top (bare self.now) lane) }
     {
-        self.is_script_turn(lane)
-    }
-
-    /// Whether a dying object that the lane serves waits for its Final.
-    pub fn has_final(&self, lane: u32) -> bool
-        ensures { (b : Books) → result ≡ is_some (rule_final (sight_by self.now b) lane) }
-    {
-        match self.dying(lane) {
-            Some(_) => true,
-            None => false,
+        match self.lanes.top(lane) {
+            Some(Opener::Waits { call }) => self.wait_has(lane, call),
+            Some(Opener::Pumps { .. }) => self.pump_has(lane),
+            Some(Opener::Enters { .. }) => false,
+            None => self.idle_has(lane),
         }
     }
 
-    /// Whether one of the rules gives the lane an entry.
+    /// Whether one of the rules gives the lane an entry. What is innermost in a lane says which of them can.
+    #[tactic(auto, using(crate::proofs::ByTop::ruled_final, crate::proofs::ByTop::ruled_stirs))]
     pub fn has_entry(&self, lane: u32) -> bool
         ensures { (b : Books) → result ≡ is_some (ruled self.now.scenario (sight_by self.now b) lane) }
     {
-        if self.has_final(lane) {
+        if self.dying(lane).is_some() {
             return true;
         }
-        if self.has_own(lane) {
-            return true;
-        }
-        if self.has_answer(lane) {
-            return true;
-        }
-        if self.has_bound(lane) {
-            return true;
-        }
-        if self.has_inbox(lane) {
-            return true;
-        }
-        if self.has_retry(lane) {
-            return true;
-        }
-        if self.has_again(lane) {
-            return true;
-        }
-        if self.has_pending(lane) {
-            return true;
-        }
-        if self.has_word(lane) {
-            return true;
-        }
-        self.has_script(lane)
+        self.stirs(lane)
     }
 
     /// What a lane does next: its body acts where one is innermost; else it makes an entry by the rules,
