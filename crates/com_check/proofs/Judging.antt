@@ -1,8 +1,10 @@
 -- Judging a trace: what its steps make of what was known.
-use Rattle.std.proofs.Common.{◌≡◌, ℕ, zero, suc, ◌+◌, ◌-◌, ◌^◌, ◌<◌, ◌≤◌, refl, sym, ◌∙◌, ap, subst, append_assoc, append-nil, length-append, arith, List, [], ◌∷◌, ◌++◌, length, take, Bool, true, Option, Some, None}
-use Rattle.std.specs.Prelude.{MatchOption, codes, cond, if◌then◌else◌, is_some, nat_le, option_map, option_and_then}
+use Rattle.std.proofs.Common.{◌≡◌, ℕ, zero, suc, ◌+◌, ◌-◌, ◌^◌, ◌<◌, ◌≤◌, refl, sym, ◌∙◌, ap, subst, append_assoc, append-nil, length-append, arith, List, [], ◌∷◌, ◌++◌, length, take, Bool, true, false, Option, Some, None}
+use Rattle.std.proofs.lemmas.Grind.{common_steps}
+use Rattle.std.specs.Prelude.{◌==◌, MatchOption, codes, cond, if◌then◌else◌, is_some, nat_le, option_map, option_and_then}
 use Rattle.com_model.specs.declared.counts.Counts.{Counts}
 use Rattle.com_model.specs.declared.counts.Ended.{Ended}
+use Rattle.com_model.specs.declared.counts.Ended.TheVariants as ended
 use Rattle.com_model.specs.declared.deeds.Deed.{Deed}
 use Rattle.com_model.specs.declared.deeds.Entry.{Entry}
 use Rattle.com_model.specs.declared.scenario.Scenario.{Scenario}
@@ -19,17 +21,20 @@ use Rattle.com_model.proofs.Sights.{same-next, same-sight}
 use Rattle.com_model.proofs.Whole.{first-stands}
 use Rattle.com_runtime.proofs.Runs.{stands-later}
 use Rattle.com_runtime.specs.Reports.{all_counts_in}
-use Rattle.com_runtime.specs.Standings.{ended_now, turn_now, Reached}
+use Rattle.com_runtime.specs.Standings.{can_step_in, ended_now, turn_now, CanGo, Reached}
 use Rattle.com_runtime.specs.Turns.{IsNext}
+use Rattle.com_runtime.proofs.Choices.{ended_runs}
 use Rattle.com_runtime.proofs.Counting.{all-counted}
-use Rattle.com_runtime.proofs.Resting.{reached_by}
+use Rattle.com_runtime.proofs.Resting.{reached_by, runs_reached}
 use Rattle.com_runtime.proofs.Limits.{below_limit, one_entry}
+use Rattle.com_schedule.specs.Tried.{Goes, Still, Tried}
+use Rattle.com_schedule.proofs.Trying.{lane_goes, lane_rests}
 use Rattle.com_check.specs.declared.judged.Judged.{Judged}
 use Rattle.com_check.specs.declared.judged.Judged.TheVariants as judged
 use Rattle.com_check.specs.Fronts.{named, IsNoLane}
 use Rattle.com_check.specs.Lines.{lines_of}
 use Rattle.com_check.specs.Judging.{IsJudged, Unended, entry_line, entry_of, history_lines, lane_due, lane_of_turn, last_lane, legal_line, line_due, report_lines, shown}
-use Rattle.com_check.specs.Turning.{IsCompared, IsEntry, IsNextOf, IsOther, IsReported, IsScheduled, IsTold, IsTurn, entry_in, lane_in, line_in}
+use Rattle.com_check.specs.Turning.{IsCompared, IsEntry, IsLast, IsLine, IsNextOf, IsOther, IsReported, IsScheduled, IsTold, IsTried, IsTurn, IsWritten, entry_in, lane_in, line_in}
 use Rattle.com_check.proofs.Entries.{entry_made, none_above}
 use Rattle.com_check.proofs.Histories.{history_length, nothing_told}
 
@@ -267,14 +272,6 @@ more_sofar s trace st new last last_new rest found behind f p goes cut made =
           ∙ longer s.version (st.entries + 1) p.history e found (lines_of behind) made.line (ap (λ (k : ℕ). k + 1) count);
     }
 
-fewer_left : (limit n m : ℕ) → n < limit → m ≡ n + 1 → limit - m < limit - n
-fewer_left limit n m below one = omega (arith, below, one)
-
-pub fewer : (s : Scenario) (trace : List ℕ) (st new : State) (last last_new : ℕ) (rest found : List ℕ) → Sofar s trace st last rest → ended_now s st ≡ None
-    → IsEntry s st last found new last_new → limit s - new.entries < limit s - st.entries
-fewer s trace st new last last_new rest found p goes made =
-    fewer_left (limit s) st.entries new.entries (sofar_below s trace st last rest p goes) (one_entry s st new made.entry.lane made.entry made.next)
-
 -- ---- answers
 
 other_judged : (s : Scenario) (trace : List ℕ) (st : State) (last : ℕ) (rest : List ℕ) (ls : List (List ℕ)) (j : Judged) → Sofar s trace st last rest
@@ -305,19 +302,9 @@ other_judged s trace st last rest ls j p cut goes other =
       legal_is = ap shown due;
     })
 
--- A line that differs in the place of an entry.
-pub judged_other : (s : Scenario) (trace : List ℕ) (st : State) (last : ℕ) (rest found behind : List ℕ) (j : Judged) → Sofar s trace st last rest
-    → lines_of rest ≡ found ∷ lines_of behind → ended_now s st ≡ None → IsOther s st last (Some found) j → IsJudged s trace j
-judged_other s trace st last rest found behind j p cut goes other = other_judged s trace st last rest (found ∷ lines_of behind) j p cut goes other
-
 no_lines : (rest : List ℕ) → rest ≡ [] → lines_of rest ≡ []
 unfolding lines_of
 no_lines rest none = rw none refl
-
--- A trace that has ended in the place of an entry.
-pub judged_early : (s : Scenario) (trace : List ℕ) (st : State) (last : ℕ) (rest : List ℕ) (j : Judged) → Sofar s trace st last rest
-    → rest ≡ [] → ended_now s st ≡ None → IsOther s st last None j → IsJudged s trace j
-judged_early s trace st last rest j p none goes other = other_judged s trace st last rest [] j p (no_lines rest none) goes other
 
 -- What a trace has left beside the report.
 reported_judged : (s : Scenario) (trace : List ℕ) (st : State) (last : ℕ) (rest : List ℕ) (x : Ended) (j : Judged) (p : Sofar s trace st last rest)
@@ -361,20 +348,111 @@ judged_told s trace st last rest x j p ends told =
     reported_judged s trace st last rest x j p over
     (subst (λ (ls : List (List ℕ)). IsReported st.entries ls (lines_of rest) j) (told_same s st p.history x p.stands over) told)
 
+-- What a trace has left was judged, by how the history stands.
+pub judged_last : (s : Scenario) (trace : List ℕ) (st : State) (last : ℕ) (rest : List ℕ) (ls : List (List ℕ)) (j : Judged) → Sofar s trace st last rest
+    → lines_of rest ≡ ls → IsLast s st last rest (first ls) (ended_now s st) j → IsJudged s trace j
+judged_last s trace st last rest ls j p cut = by (ended_now s st) refl
+  where
+    by : (x : Option Ended) → ended_now s st ≡ x → IsLast s st last rest (first ls) x j → IsJudged s trace j
+    by None goes other = other_judged s trace st last rest ls j p cut goes other
+    by (Some x) ends told = judged_told s trace st last rest x j p ends told
+
+-- A line that is not that of an entry.
+pub judged_line : (s : Scenario) (trace : List ℕ) (st new : State) (last last_new : ℕ) (rest found behind : List ℕ) (t : Option Judged) (j : Judged)
+    → Sofar s trace st last rest → lines_of rest ≡ found ∷ lines_of behind → t ≡ Some j → IsLine s st last rest found t new last_new → IsJudged s trace j
+judged_line s trace st new last last_new rest found behind t j p cut is line =
+    judged_last s trace st last rest (found ∷ lines_of behind) j p cut
+    (subst (λ (x : Option Judged). IsLine s st last rest found x new last_new) is line)
+
+-- A trace that has ended.
+pub judged_end : (s : Scenario) (trace : List ℕ) (st : State) (last : ℕ) (rest : List ℕ) (j : Judged) → Sofar s trace st last rest → rest ≡ []
+    → IsLast s st last rest None (ended_now s st) j → IsJudged s trace j
+judged_end s trace st last rest j p none over = judged_last s trace st last rest [] j p (no_lines rest none) over
+
+-- ---- what a trace has left
+
+pub last_told : (s : Scenario) (st : State) (last : ℕ) (rest : List ℕ) (found : Option (List ℕ)) (x : Ended) (j : Judged) → ended_now s st ≡ Some x
+    → IsTold s st x rest j → IsLast s st last rest found (ended_now s st) j
+last_told s st last rest found x j ends told = subst (λ (y : Option Ended). IsLast s st last rest found y j) (sym ends) told
+
+pub last_other : (r s : Scenario) (st : State) (last : ℕ) (rest : List ℕ) (found : Option (List ℕ)) (j : Judged) → r ≡ s → ended_now s st ≡ None
+    → IsOther r st last found j → IsLast s st last rest found (ended_now s st) j
+last_other r s st last rest found j same goes other =
+    subst (λ (y : Option Ended). IsLast s st last rest found y j) (sym goes) (subst (λ (x : Scenario). IsOther x st last found j) same other)
+
+pub line_turned : (r s : Scenario) (st new : State) (last last_new : ℕ) (rest found : List ℕ) (t : Option Judged) → r ≡ s → ended_now s st ≡ None
+    → IsTurn r st last found t new last_new → IsLine s st last rest found t new last_new
+line_turned r s st new last last_new rest found None same goes p = (goes, subst (λ (x : Scenario). IsEntry x st last found new last_new) same p)
+line_turned r s st new last last_new rest found (Some j) same goes p = last_other r s st last rest (Some found) j same goes p
+
+-- The line of the entry of a lane that was tried, beside the found one.
+pub line_compared : (s : Scenario) (st new : State) (last old last_new lane n : ℕ) (rest found line : List ℕ) (o : Option ℕ) (t : Option Judged)
+    → n ≡ new.entries → old ≡ last → o ≡ Some lane → IsTried s st found o new line → IsCompared n lane found line old t last_new
+    → IsLine s st last rest found t new last_new
+line_compared s st new last old last_new lane n rest found line o t count kept is tried same =
+    let w : IsWritten s st found lane new line = subst (λ (x : Option ℕ). IsTried s st found x new line) is tried in
+    let place : n ≡ st.entries + 1 = count ∙ one_entry s st new lane w.entry w.next in
+    line_turned s s st new last last_new rest found t refl w.goes_on
+    (turn_settled s st new last old last_new lane n w.entry found line t w.names w.next place
+    (w.line_is ∙ ap (λ (k : ℕ). entry_line s.version k w.entry) (sym place)) kept same)
+
+pub untried : (s : Scenario) (st now : State) (found line : List ℕ) (o : Option ℕ) → ((x : ℕ) → o ≡ Some x → ⊥) → IsTried s st found o now line → now ≡ st
+untried s st now found line None n tried = tried
+untried s st now found line (Some l) n tried = absurd (n l refl)
+
+-- Nothing has changed before.
+pub line_stood : (s : Scenario) (st now new : State) (last old last_new : ℕ) (rest found line : List ℕ) (o : Option ℕ) (t : Option Judged)
+    → ((x : ℕ) → o ≡ Some x → ⊥) → IsTried s st found o now line → old ≡ last → IsLine s now old rest found t new last_new
+    → IsLine s st last rest found t new last_new
+line_stood s st now new last old last_new rest found line o t n tried kept p =
+    subst (λ (x : State). IsLine s x last rest found t new last_new) (untried s st now found line o n tried)
+    (subst (λ (l : ℕ). IsLine s now l rest found t new last_new) kept p)
+
+-- ---- lanes that are tried
+
+apart : (n m : ℕ) → n < m → (n == m) ≡ false
+apart n m p = grind (arith, common_steps, p)
+
+goes_on : (s : Scenario) (st : State) (l : ℕ) → Reached s st → CanGo s st l → st.entries < limit s → ended_now s st ≡ None
+goes_on s st l r g room =
+    sym (ended_runs s st (runs_reached s st l r g))
+    ∙ ap (λ (b : Bool). cond b (Some ended.Budget) None) (apart st.entries (limit s) room)
+
+-- A lane that was tried made its entry, and its line was written.
+lane_written : (s : Scenario) (st new : State) (found line : List ℕ) (l n : ℕ) (e : Entry) (a b : List ℕ) → Reached s st → st.entries < limit s
+    → named found ≡ Some l → CanGo s st l → Goes s st l e new a b → n ≡ new.entries → line ≡ entry_line s.version n e → IsWritten s st found l new line
+lane_written s st new found line l n e a b r room names can goes count written =
+    let place : n ≡ st.entries + 1 = count ∙ one_entry s st new l e goes.next in
+    record {
+      goes_on = goes_on s st l r can room;
+      names = names;
+      entry = e;
+      next = goes.next;
+      line_is = written ∙ ap (λ (k : ℕ). entry_line s.version k e) place;
+    }
+
+pub lane_tried : (r s : Scenario) (st new : State) (found line : List ℕ) (l n : ℕ) (made : Bool) (e : Entry) (a b : List ℕ) → r ≡ s → Reached s st
+    → st.entries < limit s → named found ≡ Some l → 1 ≤ l → l ≤ lanes r → made ≡ can_step_in r st l → made ≡ true → Tried r st l made e new a b
+    → n ≡ new.entries → line ≡ entry_line s.version n e → IsWritten s st found l new line
+lane_tried r s st new found line l n made e a b same reached room names low high can is tried count written =
+    lane_written s st new found line l n e a b reached room names
+    (low, subst (λ (x : Scenario). l ≤ lanes x) same high, subst (λ (x : Scenario). can_step_in x st l ≡ true) same (sym can ∙ is))
+    (subst (λ (x : Scenario). Goes x st l e new a b) same (lane_goes r st l made e new a b tried is)) count written
+
+-- A lane that can not step has changed nothing.
+pub lane_still : (s : Scenario) (st new : State) (l : ℕ) (made : Bool) (e : Entry) (a b : List ℕ) → made ≡ false → Tried s st l made e new a b → new ≡ st
+lane_still s st new l made e a b is tried = let still : Still st new a b = lane_rests s st l made e new a b tried is in still.state
+
 -- ---- the same, where a runtime's scenario is known by an equation
 
-pub reached_at : (r s : Scenario) (trace : List ℕ) (st : State) (last : ℕ) (rest : List ℕ) → r ≡ s → Formed s → Sofar s trace st last rest → Reached r st
-reached_at r s trace st last rest e f p = subst (λ (x : Scenario). Reached x st) (sym e) (sofar_reached s trace st last rest f p)
+pub below_at : (r s : Scenario) (st : State) → r ≡ s → ended_now s st ≡ None → st.entries ≤ limit s → st.entries < limit r
+below_at r s st e goes few = subst (λ (x : Scenario). st.entries < limit x) (sym e) (below_limit s st goes few)
 
-pub last_at : (r s : Scenario) (trace : List ℕ) (st : State) (last : ℕ) (rest : List ℕ) → r ≡ s → Sofar s trace st last rest → last ≤ lanes r
-last_at r s trace st last rest e p = subst (λ (x : Scenario). last ≤ lanes x) (sym e) (sofar_last s trace st last rest p)
+pub state_reached : (s : Scenario) (st now : State) → now ≡ st → Reached s st → Reached s now
+state_reached s st now e p = subst (λ (x : State). Reached s x) (sym e) p
 
-pub below_at : (r s : Scenario) (trace : List ℕ) (st : State) (last : ℕ) (rest : List ℕ) → r ≡ s → Sofar s trace st last rest → ended_now s st ≡ None
-    → st.entries < limit r
-below_at r s trace st last rest e p goes = subst (λ (x : Scenario). st.entries < limit x) (sym e) (sofar_below s trace st last rest p goes)
-
-pub goes_at : (r s : Scenario) (st : State) → r ≡ s → ended_now s st ≡ None → ended_now r st ≡ None
-goes_at r s st e goes = subst (λ (x : Scenario). ended_now x st ≡ None) (sym e) goes
+pub state_few : (s : Scenario) (st now : State) → now ≡ st → st.entries ≤ limit s → now.entries ≤ limit s
+state_few s st now e p = subst (λ (x : State). x.entries ≤ limit s) (sym e) p
 
 -- ---- what is known where a pattern was not met
 
@@ -387,7 +465,7 @@ pub when_not_next : (s : Scenario) (st new : State) (l : ℕ) (o : Option Entry)
 when_not_next s st new l None n p = p
 when_not_next s st new l (Some e) n p = absurd (n e refl)
 
-pub when_on : (r s : Scenario) (st new : State) (last last_new : ℕ) (found : List ℕ) (t : Option Judged) → r ≡ s → ((x : Judged) → t ≡ Some x → ⊥)
-    → IsTurn r st last found t new last_new → IsEntry s st last found new last_new
-when_on r s st new last last_new found None e n p = subst (λ (x : Scenario). IsEntry x st last found new last_new) e p
-when_on r s st new last last_new found (Some j) e n p = absurd (n j refl)
+pub when_on : (s : Scenario) (st new : State) (last last_new : ℕ) (rest found : List ℕ) (t : Option Judged) → ((x : Judged) → t ≡ Some x → ⊥)
+    → IsLine s st last rest found t new last_new → (ended_now s st ≡ None) × IsEntry s st last found new last_new
+when_on s st new last last_new rest found None n p = p
+when_on s st new last last_new rest found (Some j) n p = absurd (n j refl)

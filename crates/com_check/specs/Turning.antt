@@ -9,7 +9,7 @@ use Rattle.com_model.specs.Lists.{first}
 use Rattle.com_model.specs.State.{State, next_of}
 use Rattle.com_model.specs.Text.{report_text}
 use Rattle.com_runtime.specs.Reports.{all_counts_in}
-use Rattle.com_runtime.specs.Standings.{turn_now}
+use Rattle.com_runtime.specs.Standings.{ended_now, turn_now}
 use Rattle.com_runtime.specs.Turns.{IsNext}
 use Rattle.com_check.specs.declared.judged.Judged.{Judged}
 use Rattle.com_check.specs.declared.judged.Judged.TheVariants as judged
@@ -97,3 +97,33 @@ abbrev pub IsTold : Scenario → State → Ended → (rest : List ℕ) → Judge
 IsTold s st x rest j =
     IsReported st.entries (lines_of (report_text (all_counts_in s st) st.entries st.clock x)) (lines_of rest)
     j
+
+-- ---- what a trace has left
+
+-- The next entry of the lane that the found line names was made, and this is its line.
+pub record IsWritten (s : Scenario) (st : State) (found : List ℕ) (lane : ℕ) (new : State) (line : List ℕ)
+    : Type 0 where
+  pub goes_on : ended_now s st ≡ None
+  pub names : named found ≡ Some lane
+  pub entry : Entry
+  pub next : IsNext s st lane entry new
+  pub line_is : line ≡ entry_line s.version (st.entries + 1) entry
+
+-- A lane was tried: it made its entry, whose line was written, or nothing has changed.
+abbrev pub IsTried : Scenario → State → (found : List ℕ) → (lane : Option ℕ) → State → (line : List ℕ) → Type 0
+IsTried s st found None new line = new ≡ st
+IsTried s st found (Some lane) new line = IsWritten s st found lane new line
+
+-- What a trace has left was judged beside the report, where the history has ended so, or its first line in the
+-- place of an entry.
+abbrev pub IsLast : Scenario → State → (last : ℕ) → (rest : List ℕ) → (found : Option (List ℕ))
+    → Option Ended → Judged → Type 0
+IsLast s st last rest found None j = IsOther s st last found j
+IsLast s st last rest found (Some x) j = IsTold s st x rest j
+
+-- The first line that a trace has left is that of an entry, which was made, or what is left was judged.
+abbrev pub IsLine : Scenario → State → (last : ℕ) → (rest found : List ℕ) → Option Judged → State
+    → (last_new : ℕ) → Type 0
+IsLine s st last rest found None new last_new =
+    (ended_now s st ≡ None) × IsEntry s st last found new last_new
+IsLine s st last rest found (Some j) new last_new = IsLast s st last rest (Some found) (ended_now s st) j

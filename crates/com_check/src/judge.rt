@@ -8,7 +8,8 @@ ghost use Rattle.com_model.specs.Tables.{lanes};
 ghost use Rattle.com_servant.specs.Rows.{row};
 ghost use Rattle.com_runtime.specs.Standings.{ended_now, standing_of, Reached};
 ghost use Rattle.com_check.specs.Judging.{entry_line, IsJudged};
-ghost use Rattle.com_check.specs.Turning.{IsCompared, IsNextOf, IsOther, IsScheduled, IsTold, IsTurn};
+ghost use Rattle.com_check.specs.Turning.{IsCompared, IsLast, IsLine, IsNextOf, IsOther, IsScheduled};
+ghost use Rattle.com_check.specs.Turning.{IsTold, IsTried, IsTurn};
 ghost use Rattle.com_check.specs.declared.judged.Judged.TheVariants as judged;
 
 use crate::fronts::lane_of;
@@ -19,6 +20,7 @@ use com_base::{ByteList, Memory};
 use com_model::{Ended, Entry, Scenario};
 use com_report::{line, report};
 use com_runtime::{Runtime, Standing, all_counts, choose, end_of};
+use com_schedule::Tries;
 use com_servant::Servant;
 use std::alloc::Global;
 
@@ -263,11 +265,136 @@ impl Judge {
         self.write(alloc, version, place, &entry)?;
         differs(alloc, place, NO_LINE, self.line.as_slice())
     }
+
+    // Makes the next entry of the lane that a found line names, where there is room for one and the lane can
+    // step, and writes its line. The answer is the lane. Else nothing has changed. The only error is want of
+    // memory.
+    #[tactic(auto, using(com_runtime::proofs::Resting::same_reached, crate::proofs::Judging::lane_still))]
+    fn try_named<C: Tries>(
+        &mut self,
+        alloc: Global,
+        scenario: &Scenario,
+        runtime: &mut C,
+        found: &[u8],
+        servants: &mut Vec<Box<dyn Servant + Send>>,
+    ) -> Result<Option<u32>, Memory>
+        requires scenario { C.scenario runtime.old ≡ scenario.now }
+        requires reached { Reached scenario.now (C.state runtime.old) }
+        requires row { map kind_of servants.old.items ≡ row }
+        ensures scenario { C.scenario runtime.new ≡ scenario.now }
+        ensures row { map kind_of servants.new.items ≡ row }
+        ensures last { self.new.last ≡ self.old.last }
+        ensures tried { IfOk result (λ lane. IsTried scenario.now (C.state runtime.old) found.now lane
+            (C.state runtime.new) self.new.line) }
+    {
+        if runtime.entries() >= u64::from(scenario.limit()) {
+            return Ok(None);
+        }
+        let Some(lane) = lane_of(found) else {
+            return Ok(None);
+        };
+        if lane < 1 {
+            return Ok(None);
+        }
+        if runtime.lanes() < lane {
+            return Ok(None);
+        }
+        let made = runtime.try_lane(alloc, lane, servants)?;
+        if !made {
+            return Ok(None);
+        }
+        let place = runtime.entries();
+        self.write(alloc, scenario.version, place, runtime.last())?;
+        Ok(Some(lane))
+    }
+
+    // Judges a found line by how the history stands, where no lane made its entry. The only error is want of
+    // memory.
+    #[tactic(auto, using(com_runtime::proofs::Resting::same_reached, crate::proofs::Judging::below_at))]
+    fn by_standing<C: Runtime>(
+        &mut self,
+        alloc: Global,
+        scenario: &Scenario,
+        runtime: &mut C,
+        rest: &[u8],
+        found: &[u8],
+        servants: &mut Vec<Box<dyn Servant + Send>>,
+    ) -> Result<Option<Judged>, Memory>
+        requires scenario { C.scenario runtime.old ≡ scenario.now }
+        requires reached { Reached scenario.now (C.state runtime.old) }
+        requires few { (C.state runtime.old).entries ≤ limit scenario.now }
+        requires row { map kind_of servants.old.items ≡ row }
+        ensures scenario { C.scenario runtime.new ≡ scenario.now }
+        ensures row { map kind_of servants.new.items ≡ row }
+        ensures line { IfOk result (λ turn. IsLine scenario.now (C.state runtime.old) self.old.last rest.now
+            found.now turn (C.state runtime.new) self.new.last) }
+    {
+        let standing = runtime.standing();
+        if let Some(ended) = end_of(scenario, runtime, standing) {
+            let judged = judge_report(alloc, scenario, runtime, ended, rest)?;
+            return Ok(Some(judged));
+        }
+        self.turn(alloc, scenario.version, runtime, standing, found, servants)
+    }
+
+    // Judges a found line, which is the first of what the trace has left. Nothing, where it is the line of an
+    // entry, which was made. The only error is want of memory.
+    #[tactic(auto, using(crate::proofs::Judging::untried, crate::proofs::Judging::state_reached, crate::proofs::Judging::state_few))]
+    fn judge_line<C: Tries>(
+        &mut self,
+        alloc: Global,
+        scenario: &Scenario,
+        runtime: &mut C,
+        rest: &[u8],
+        found: &[u8],
+        servants: &mut Vec<Box<dyn Servant + Send>>,
+    ) -> Result<Option<Judged>, Memory>
+        requires scenario { C.scenario runtime.old ≡ scenario.now }
+        requires reached { Reached scenario.now (C.state runtime.old) }
+        requires few { (C.state runtime.old).entries ≤ limit scenario.now }
+        requires row { map kind_of servants.old.items ≡ row }
+        ensures scenario { C.scenario runtime.new ≡ scenario.now }
+        ensures row { map kind_of servants.new.items ≡ row }
+        ensures line { IfOk result (λ turn. IsLine scenario.now (C.state runtime.old) self.old.last rest.now
+            found.now turn (C.state runtime.new) self.new.last) }
+    {
+        let Some(lane) = self.try_named(alloc, scenario, runtime, found, servants)? else {
+            return self.by_standing(alloc, scenario, runtime, rest, found, servants);
+        };
+        let place = runtime.entries();
+        self.compare_line(alloc, place, lane, found)
+    }
+
+    // Judges the end of a trace: it is in the place of the report, or of an entry. The only error is want of
+    // memory.
+    #[tactic(auto, using(com_runtime::proofs::Resting::same_reached, crate::proofs::Judging::below_at))]
+    fn judge_end<C: Runtime>(
+        &mut self,
+        alloc: Global,
+        scenario: &Scenario,
+        runtime: &mut C,
+        rest: &[u8],
+        servants: &mut Vec<Box<dyn Servant + Send>>,
+    ) -> Result<Judged, Memory>
+        requires scenario { C.scenario runtime.old ≡ scenario.now }
+        requires reached { Reached scenario.now (C.state runtime.old) }
+        requires few { (C.state runtime.old).entries ≤ limit scenario.now }
+        requires last { self.old.last ≤ lanes scenario.now }
+        requires row { map kind_of servants.old.items ≡ row }
+        ensures { IfOk result (λ j. IsLast scenario.now (C.state runtime.old) self.old.last rest.now None
+            (ended_now scenario.now (C.state runtime.old)) j) }
+    {
+        let standing = runtime.standing();
+        if let Some(ended) = end_of(scenario, runtime, standing) {
+            return judge_report(alloc, scenario, runtime, ended, rest);
+        }
+        self.early(alloc, scenario.version, runtime, standing, servants)
+    }
 }
 
 /// Judges a trace on a runtime of a formed scenario that has made no entry. The row has one servant of each
 /// kind, in the order of the kinds. The only error is want of memory.
-pub fn judge_trace<C: Runtime>(
+pub fn judge_trace<C: Tries>(
     alloc: Global,
     scenario: &Scenario,
     runtime: &mut C,
@@ -282,25 +409,12 @@ pub fn judge_trace<C: Runtime>(
 {
     let mut judge = Judge::new(alloc);
     let mut rest = trace;
-    'lines: loop {
-        let standing = runtime.standing();
-        if let Some(ended) = end_of(scenario, runtime, standing) {
-            return judge_report(alloc, scenario, runtime, ended, rest);
-        }
-        if rest.is_empty() {
-            return judge.early(alloc, scenario.version, runtime, standing, servants);
-        }
+    'lines: while !rest.is_empty() {
         let (found, behind) = split_line(rest);
-        if let Some(judged) = judge.turn(
-            alloc,
-            scenario.version,
-            runtime,
-            standing,
-            found,
-            servants,
-        )? {
+        if let Some(judged) = judge.judge_line(alloc, scenario, runtime, rest, found, servants)? {
             return Ok(judged);
         }
         rest = behind;
     }
+    judge.judge_end(alloc, scenario, runtime, rest, servants)
 }

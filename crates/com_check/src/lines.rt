@@ -2,18 +2,18 @@
 ghost use Rattle.std.specs.Prelude.{◌≡◌, ℕ, ◌<◌, ◌≤◌, ◌≢◌, ◌∷◌, length, slice_index};
 ghost use Rattle.com_check.specs.Lines.{lines_of};
 
+use memchr::memchr;
+
 // How many bytes stand before the first line end, or all where there is none.
 fn line_length(text: &[u8]) -> usize
     ensures within { result ≤ length text.now }
     ensures before { (k : ℕ) → k < result → slice_index text.now k ≢ 10 }
     ensures end { result < length text.now → slice_index text.now result ≡ 10 }
 {
-    for i in 0..text.len() {
-        if text[i] == 10 {
-            return i;
-        }
+    match memchr(10, text) {
+        Some(count) => count,
+        None => text.len(),
     }
-    text.len()
 }
 
 /// The first line of a text, without its end, and what stands behind that end.

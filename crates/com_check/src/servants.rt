@@ -9,12 +9,12 @@ use crate::judged::Judged;
 use com_base::Memory;
 use com_model::Scenario;
 use com_replay::fresh_row;
-use com_runtime::Runtime;
+use com_schedule::Tries;
 use std::alloc::Global;
 
 /// Judges a trace of a formed scenario, on a runtime that has made no entry, by servants that have made no
 /// step. The only error is want of memory.
-pub fn judge_on<C: Runtime>(
+pub fn judge_on<C: Tries>(
     alloc: Global,
     scenario: &Scenario,
     runtime: &mut C,

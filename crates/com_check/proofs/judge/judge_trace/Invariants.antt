@@ -1,5 +1,4 @@
-use Rattle.std.proofs.Common.{◌≡◌, ◌-◌, map}
-use Rattle.com_model.specs.Ends.{limit}
+use Rattle.std.proofs.Common.{◌≡◌, length, map}
 use Rattle.com_servant.specs.Rows.{row}
 use Rattle.com_check.proofs.Judging.{Sofar}
 use Rattle.com_check.proofs.judge.judge_trace.Given as goal
@@ -12,4 +11,4 @@ invariant-lines g l = record {
 }
 
 abbrev pub decreases-lines : goal.decreases-lines
-decreases-lines g l = limit l.scenario - (g.C.Runtime.state l.runtime).entries
+decreases-lines g l = length l.rest
