@@ -19,8 +19,8 @@ use std::alloc::Global;
 
 // The interfaces beside the built-in ones.
 fn own(interfaces: &[Interface]) -> &[Interface]
-    requires { 4 ≤ length interfaces.now }
-    ensures { result.now ≡ drop 4 interfaces.now }
+    requires { BUILT_IN_COUNT ≤ length interfaces.now }
+    ensures { result.now ≡ drop BUILT_IN_COUNT interfaces.now }
 {
     &interfaces[BUILT_IN_COUNT..]
 }
