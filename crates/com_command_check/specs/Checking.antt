@@ -2,6 +2,7 @@
 use Rattle.std.specs.Prelude.{◌≡◌, ℕ, ◌≤◌, List, Bool, Result, Ok, Err, length, nat_lt, drop, take}
 use Rattle.std.proofs.Common.{subst, sym}
 use Rattle.com_read_operands.specs.declared.faults.Fault.{Fault}
+use Rattle.com_read_operands.specs.declared.faults.TheConstants.Fault.{UNENDED}
 use Rattle.com_model.specs.declared.scenario.Scenario.{Scenario}
 use Rattle.com_model.specs.Formed.{Formed}
 use Rattle.com_text.specs.Scanning.{lines_of}
@@ -17,16 +18,17 @@ use Rattle.com_commands.specs.declared.statuses.Status.{Status}
 use Rattle.com_commands.specs.declared.statuses.Status.TheVariants as status
 use Rattle.com_commands.specs.Inputs.{input_of}
 use Rattle.com_commands.specs.Statuses.{Concludes}
+use Rattle.com_command_check.specs.declared.check.TheConstants.{TRACE_INPUT_LIMIT}
 use Rattle.com_command_check.specs.declared.questions.Question.{Question}
 
--- The longest input is one of 67,108,864 bytes: a scenario's text and a trace.
+-- Whether an input, a scenario's text and a trace, has more than 67,108,864 bytes.
 abbrev pub is_long_trace : List ℕ → Bool
-is_long_trace bytes = nat_lt 67108864 (length bytes)
+is_long_trace bytes = nat_lt TRACE_INPUT_LIMIT (length bytes)
 
 -- A text without the line `trace` has a fault at its end, if it has none before.
 abbrev pub without_trace : (line column : ℕ) → Result Scenario Fault → Result Question Fault
 without_trace line column (Err fault) = Err fault
-without_trace line column (Ok scenario) = Err (record { number = 11; line = line; column = column })
+without_trace line column (Ok scenario) = Err (record { number = UNENDED; line = line; column = column })
 
 abbrev pub with_trace : (text : List ℕ) (from : ℕ) → Result Scenario Fault → Result Question Fault
 with_trace text from (Err fault) = Err fault

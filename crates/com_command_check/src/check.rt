@@ -5,6 +5,7 @@ ghost use Rattle.com_model.specs.Formed.{Formed};
 ghost use Rattle.com_commands.specs.Lengths.{long_text};
 ghost use Rattle.com_commands.specs.Responses.{Responds};
 ghost use Rattle.com_commands.specs.Statuses.{sides_of};
+ghost use Rattle.com_command_check.specs.declared.check.TheConstants.{TRACE_INPUT_LIMIT};
 ghost use Rattle.com_command_check.specs.Checking.{IsAskable, IsVerdict, is_long_trace, question_input, question_of};
 ghost use Rattle.com_command_check.specs.Checking.{status_of, verdict_concludes, with_trace, without_trace};
 
@@ -19,15 +20,18 @@ use com_model::Scenario;
 use com_read_operands::Fault;
 use std::alloc::Global;
 
+/// The bytes of the longest input that is a scenario's text and a trace.
+pub const TRACE_INPUT_LIMIT: usize = 67_108_864;
+
 /// The command `check`: a scenario and a trace, and whether the trace agrees with the rules.
 pub struct CheckCommand;
 
 impl InputReader for CheckCommand {
     type Read = Question;
 
-    const LIMIT: usize = 67_108_864;
+    const LIMIT: usize = TRACE_INPUT_LIMIT;
 
-    ghost LIMIT = { 67108864 };
+    ghost LIMIT = { TRACE_INPUT_LIMIT };
 
     ghost too_long = { is_long_trace };
 
@@ -44,7 +48,7 @@ impl InputReader for CheckCommand {
 
     ghost limited = { lit< tt };
 
-    ghost longer = { long_text 67108864 };
+    ghost longer = { long_text TRACE_INPUT_LIMIT };
 }
 
 impl ReplyingCommand for CheckCommand {

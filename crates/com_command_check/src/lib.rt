@@ -4,6 +4,6 @@
 mod check;
 mod questions;
 
-pub use check::{CheckCommand, check_main};
+pub use check::{CheckCommand, TRACE_INPUT_LIMIT, check_main};
 pub use com_base::Memory;
 pub use questions::Question;

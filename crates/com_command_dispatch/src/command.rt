@@ -1,6 +1,7 @@
 //! The command `dispatch`, in the frame of commands that replay by a row of servants.
 ghost use Rattle.std.specs.Prelude.{◌≡◌, map};
 ghost use Rattle.std.proofs.Common.{lit<};
+ghost use Rattle.com_base.specs.declared.limits.TheConstants.{TEXT_2_LIMIT};
 ghost use Rattle.com_commands.specs.Inputs.{input_of};
 ghost use Rattle.com_commands.specs.Responses.{Responds, Serves};
 ghost use Rattle.com_commands.specs.Statuses.{sides_of};
@@ -28,7 +29,7 @@ impl InputReader for Dispatch {
 
     const LIMIT: usize = TEXT_2_LIMIT;
 
-    ghost LIMIT = { 16777216 };
+    ghost LIMIT = { TEXT_2_LIMIT };
 
     ghost too_long = { is_too_long };
 

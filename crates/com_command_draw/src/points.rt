@@ -1,6 +1,7 @@
 //! The page of the one history of a scenario with event sources.
 ghost use Rattle.std.specs.Prelude.{◌≡◌, IfOk, OnOk, map};
 ghost use Rattle.std.proofs.Common.{lit<};
+ghost use Rattle.com_base.specs.declared.limits.TheConstants.{TEXT_2_LIMIT};
 ghost use Rattle.com_commands.specs.Inputs.{input_of};
 ghost use Rattle.com_commands.specs.Responses.{Responds, Serves};
 ghost use Rattle.com_commands.specs.Statuses.{sides_of};
@@ -34,7 +35,7 @@ impl InputReader for PointsPage {
 
     const LIMIT: usize = TEXT_2_LIMIT;
 
-    ghost LIMIT = { 16777216 };
+    ghost LIMIT = { TEXT_2_LIMIT };
 
     ghost too_long = { is_too_long };
 

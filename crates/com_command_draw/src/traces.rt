@@ -8,13 +8,14 @@ ghost use Rattle.com_commands.specs.Lengths.{long_text};
 ghost use Rattle.com_commands.specs.Responses.{Responds};
 ghost use Rattle.com_commands.specs.Statuses.{sides_of};
 ghost use Rattle.com_model.specs.Formed.{Formed};
+ghost use Rattle.com_command_check.specs.declared.check.TheConstants.{TRACE_INPUT_LIMIT};
 ghost use Rattle.com_command_check.specs.Checking.{IsAskable, is_long_trace, question_input, question_of};
 ghost use Rattle.com_command_draw.specs.Pages.{page_of};
 ghost use Rattle.com_command_draw.specs.Traces.{IsTraceAnswer, trace_concludes};
 
 use com_base::{ByteList, Memory, Rows};
 use com_check::{Agreed, Judged, Trace, read_trace};
-use com_command_check::{CheckCommand, Question};
+use com_command_check::{CheckCommand, Question, TRACE_INPUT_LIMIT};
 use com_commands::{Input, InputReader, Reply, ReplyingCommand, Status, respond, share};
 use com_draw::{Beside, push_page};
 use com_io::{Sink, Source};
@@ -28,9 +29,9 @@ pub struct TracePage;
 impl InputReader for TracePage {
     type Read = Question;
 
-    const LIMIT: usize = 67_108_864;
+    const LIMIT: usize = TRACE_INPUT_LIMIT;
 
-    ghost LIMIT = { 67108864 };
+    ghost LIMIT = { TRACE_INPUT_LIMIT };
 
     ghost too_long = { is_long_trace };
 
@@ -44,7 +45,7 @@ impl InputReader for TracePage {
 
     ghost limited = { lit< tt };
 
-    ghost longer = { long_text 67108864 };
+    ghost longer = { long_text TRACE_INPUT_LIMIT };
 }
 
 impl ReplyingCommand for TracePage {

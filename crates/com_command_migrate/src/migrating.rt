@@ -1,6 +1,7 @@
 //! The command in its frame.
 ghost use Rattle.std.specs.Prelude.{◌≡◌};
 ghost use Rattle.std.proofs.Common.{lit<};
+ghost use Rattle.com_base.specs.declared.limits.TheConstants.{TEXT_2_LIMIT};
 ghost use Rattle.com_commands.specs.Responses.{Responds};
 ghost use Rattle.com_commands.specs.Statuses.{sides_of};
 ghost use Rattle.com_scenario.specs.Sizes.{is_too_long};
@@ -24,7 +25,7 @@ impl InputReader for Migrate {
 
     const LIMIT: usize = TEXT_2_LIMIT;
 
-    ghost LIMIT = { 16777216 };
+    ghost LIMIT = { TEXT_2_LIMIT };
 
     ghost too_long = { is_too_long };
 

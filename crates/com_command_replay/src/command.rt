@@ -1,6 +1,7 @@
 //! The command `replay`.
 ghost use Rattle.std.specs.Prelude.{◌≡◌, map};
 ghost use Rattle.std.proofs.Common.{lit<};
+ghost use Rattle.com_base.specs.declared.limits.TheConstants.{TEXT_2_LIMIT};
 ghost use Rattle.std.specs.Arc.{arc_value};
 ghost use Rattle.com_model.specs.Formed.{Formed};
 ghost use Rattle.com_scenario.proofs.Lengths.{longer_than_all};
@@ -31,7 +32,7 @@ impl InputReader for ReplayCommand {
 
     const LIMIT: usize = TEXT_2_LIMIT;
 
-    ghost LIMIT = { 16777216 };
+    ghost LIMIT = { TEXT_2_LIMIT };
 
     ghost too_long = { is_too_long };
 

@@ -1,6 +1,7 @@
 //! The command `run`.
 ghost use Rattle.std.specs.Prelude.{◌≡◌, ◌≤◌, All, IfOk, map, vec_len};
 ghost use Rattle.std.proofs.Common.{lit<};
+ghost use Rattle.com_base.specs.declared.limits.TheConstants.{TEXT_2_LIMIT};
 ghost use Rattle.com_commands.specs.declared.statuses.Status.TheVariants as status;
 ghost use Rattle.com_commands.specs.Inputs.{input_of};
 ghost use Rattle.com_commands.specs.Responses.{Causes, Responds};
@@ -34,7 +35,7 @@ impl InputReader for RunInput {
 
     const LIMIT: usize = TEXT_2_LIMIT;
 
-    ghost LIMIT = { 16777216 };
+    ghost LIMIT = { TEXT_2_LIMIT };
 
     ghost too_long = { is_too_long };
 

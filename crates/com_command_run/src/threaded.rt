@@ -19,7 +19,6 @@ use std::alloc::Global;
 use std::sync::{Arc, Wait};
 use std::thread::Threads;
 
-#[tactic(auto, using(crate::proofs::Running::safe_run))]
 /// Runs a scenario on threads: a worker for each lane makes the entries of its lane, in a thread of its own
 /// where one can be made, and the calling thread makes what is left at the end.
 ///
@@ -31,6 +30,7 @@ use std::thread::Threads;
 /// The history is legal in the scenario and safe, and it has ended (`lawful`, `safe`, `ended`). What is told
 /// with it is its own (`counts`, `clock`, `commits`). Which history it is rests on how the threads fall. The
 /// only error is want of memory, which is answered only once all workers were joined; the crew is gone then.
+#[tactic(auto, using(crate::proofs::Running::safe_run))]
 pub fn run<R: Threads + Wait + Sync, G: Gate + Sync>(
     rt: &R,
     alloc: Global,

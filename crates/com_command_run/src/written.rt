@@ -10,8 +10,8 @@ use com_report::{line, report};
 use com_threads::Ran;
 use std::alloc::Global;
 
-#[tactic(auto, using(crate::proofs::Lines::line_more, crate::proofs::Lines::lines_all))]
 // The lines of a history's entries. The only error is want of memory.
+#[tactic(auto, using(crate::proofs::Lines::line_more, crate::proofs::Lines::lines_all))]
 fn lines(alloc: Global, version: u8, entries: &[Entry], out: &mut ByteList) -> Result<(), Memory>
     requires { out.old ≡ [] }
     ensures { OnOk result (out.new ≡ history_text version (newest_first entries.now)) }

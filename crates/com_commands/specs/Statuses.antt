@@ -52,6 +52,7 @@ end_concludes ended.Budget = tt
 abbrev pub read_fault_line : List ℕ
 read_fault_line = codes "read fault\n"
 
+-- The line of a text that is too long: at no line and no column, with the number of `Fault.LIMIT`.
 abbrev pub too_long_line : List ℕ
 too_long_line = codes "refused 0 0 12\n"
 

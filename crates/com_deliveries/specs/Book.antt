@@ -28,11 +28,12 @@ empty = record { objects = []; calls = []; lanes = [] }
 
 -- ---- objects
 
--- The number of the interface of a class, if that is a source. The table has a row for each class.
+-- The number that a row has; none where there is no row, or it has no number.
 abbrev pub flat : Option (Option ℕ) → Option ℕ
 flat None = None
 flat (Some x) = x
 
+-- The number of the interface of a class, if that is a source. The table has a row for each class.
 abbrev pub source_at : List (Option ℕ) → (class : ℕ) → Option ℕ
 source_at sources k = flat (row_at sources k)
 

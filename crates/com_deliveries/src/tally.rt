@@ -36,7 +36,7 @@ pub(crate) struct Call {
     pub number: i64,
     /// Of an event, the last cookie when it began.
     pub last: u64,
-    /// Of an event, the cookies of the sinks that got it.
+    /// Of an event, the cookies of the sinks to which its Outs went.
     pub cookies: Cookies,
     /// Whether its body left.
     pub has_left: bool,

@@ -10,7 +10,7 @@ use Rattle.com_draw_shapes.specs.Boxes.{objects_lane}
 abbrev pub width_of : Lane → ℕ
 width_of row = if row.has_acted then max row.width LEAST else IDLE
 
--- The widths of lanes, of which the first has this number and begins there.
+-- The width of the lane with this number, which begins at this pixel.
 unfoldable pub lane_rule : (lane from : ℕ) → Lane → List ℕ
 lane_rule l x row = lane_widths_text l x (width_of row)
 

@@ -102,7 +102,7 @@ fn push_sinks(out: &mut ByteList, sinks: &[u64]) -> Result<(), Memory>
     }
 }
 
-/// Appends which sinks got an event, by their cookies. The only error is want of memory.
+/// Appends to which sinks the Outs of an event went, by their cookies. The only error is want of memory.
 pub fn push_event(out: &mut ByteList, call: u32, sinks: &[u64]) -> Result<(), Memory>
     ensures { OnOk result (out.new ≡ out.old ++ event_text call sinks.now) }
 {

@@ -13,7 +13,7 @@ kind_text kind.Refusal = codes "no"
 kind_text kind.Word = codes "to"
 kind_text kind.Ring = codes "in"
 
--- On which side the other lane is.
+-- The class that says on which side the other lane is: ` r` where that is to the left, else ` l`.
 abbrev pub way_text : (other lane : ℕ) → List ℕ
 way_text other lane = if nat_lt other lane then codes " r" else codes " l"
 

@@ -20,8 +20,8 @@ use std::alloc::Global;
 // How many scripts a text has.
 const SCRIPTS: u32 = 8;
 
-// How many objects a script makes, calls and releases, one after another.
-const ROUNDS: u32 = 400;
+/// How many objects a script makes, calls and releases, one after another.
+pub const ROUNDS: u32 = 400;
 
 // Room for a text in bytes, more than one takes; nothing rests on it but speed.
 const ROOM: usize = 400_000;

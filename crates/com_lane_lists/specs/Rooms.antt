@@ -64,7 +64,7 @@ HasSlot r = (length r.openers < r.room) × (length (bodies_of r.openers) < r.bod
 abbrev pub HasRow : {X : Type 0} → Roomed X → Type 0
 HasRow r = length r.rows < r.room
 
--- One word more has room, and one mark more.
+-- One word more has room.
 abbrev pub HasWord : MailRows → Type 0
 HasWord r = length r.mail.words < r.words
 

@@ -48,7 +48,8 @@ IsBarred read = (text one other : List ℕ) (f : Fault) (s : Scenario) → IsApa
 abbrev pub StaysCut : Reader → Type 0
 StaysCut read = (text rest : List ℕ) (f : Fault) → read text ≡ Err f → (EndsEarly text f → ⊥) → read (text ++ rest) ≡ Err f
 
--- The first of these of all faults, also of those of skips.
+-- Where a beginning of a text ends between words, and the fault of the text stands before that end, it is that of the
+-- beginning: asked of all faults, also of those of skips, which `IsKnown` leaves out.
 abbrev pub IsKnownAll : Reader → Type 0
 IsKnownAll read = (text rest : List ℕ) (f : Fault) → EndsBetween text → IsBefore (end_of text).line (end_of text).column f → read (text ++ rest) ≡ Err f → read text ≡ Err f
 

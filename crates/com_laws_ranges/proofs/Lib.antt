@@ -7,3 +7,4 @@ pub mod Times
 pub mod Takes
 pub mod Shapes
 pub mod OpenWork
+pub mod Bites

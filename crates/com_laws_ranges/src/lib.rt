@@ -20,7 +20,7 @@ mod works;
 
 pub use frames::frames_have_shape;
 pub use taken::entries_are_taken;
-pub use works::open_bodies_have_work;
+pub use works::{open_bodies_have_work, works_bite};
 
 /// Where a state stands for a history of a formed scenario, there are no more calls, objects, STAs, cookies,
 /// causalities, openers of a lane, initialisations and words than entries, and no more than four times as

@@ -45,9 +45,12 @@ CO_E_NOTINITIALIZED = hresult 0x800401f0
 abbrev pub CO_E_OBJNOTCONNECTED : HResult
 CO_E_OBJNOTCONNECTED = hresult 0x800401fd
 
+-- Answers a call that a filter rejected, where the caller's lane has no filter, and one that the caller's filter gave
+-- up by a Retry below 0.
 abbrev pub RPC_E_CALL_REJECTED : HResult
 RPC_E_CALL_REJECTED = hresult 0x80010001
 
+-- Answers a call that the caller's filter cancelled when it was asked about a word.
 abbrev pub RPC_E_CALL_CANCELED : HResult
 RPC_E_CALL_CANCELED = hresult 0x80010002
 
@@ -76,6 +79,7 @@ RPC_E_INVALIDMETHOD = hresult 0x80010107
 abbrev pub RPC_E_DISCONNECTED : HResult
 RPC_E_DISCONNECTED = hresult 0x80010108
 
+-- Answers a call that a filter would have tried again later, where the caller's lane has no filter.
 abbrev pub RPC_E_SERVERCALL_RETRYLATER : HResult
 RPC_E_SERVERCALL_RETRYLATER = hresult 0x8001010a
 

@@ -88,7 +88,8 @@ live_after d named holders live o =
     (made_by (makes d) o || live o)
     && (not (is_number o (disconnects d)) && (not (is_number (named o) (ends_sta d)) && not (holders o == 0)))
 
--- All rows but the last; then what is not connected is cut. The places are those after the entry.
+-- The books with all rows of the entry, and with what apartments without place give back. Of the steps of an entry only
+-- the last is left out, the cut of what is not connected. The places are those after the entry.
 abbrev pub most : Scenario → Ground → Scene → (act : Option Action) → (by_leave : ℕ → Bool) → (apartment : ℕ)
     → Deed → Books → Books
 most s g w x left a d b =

@@ -110,7 +110,7 @@ abbrev pub created : Scenario → Sight → ℕ → Asked → Asked → Option �
 created s v l k i None = not_made s k i CO_E_NOTINITIALIZED
 created s v l k i (Some a) = created_of s v l a k i (class_number s k) (interface_number s i)
 
--- What a lane holds a reference in: its apartment owns the object, or it is a proxy's.
+-- Whether the apartment in which lane l runs owns the object, so that a reference there is direct and no proxy's.
 abbrev pub owned_by : Sight → ℕ → ℕ → Bool
 owned_by v l o = v.owns o (number_or_zero (v.running l))
 

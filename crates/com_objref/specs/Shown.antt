@@ -54,7 +54,6 @@ unfoldable pub fault_text : RefFault → List ℕ
 fault_text f = codes "fault " ++ decimal f.number ++ codes " " ++ decimal f.at ++ codes "\n"
 
 -- A text without a line end at its very end.
-
 abbrev pub without_newline : List ℕ → List ℕ
 without_newline text = if slice_index text (length text - 1) == 10 then take (length text - 1) text else text
 

@@ -186,7 +186,7 @@ impl Packets {
         ensures entries { self.new.entries ≡ self.old.entries }
         ensures spare { self.old.spare ≤ self.new.spare }
     {
-        self.chains.reserve(n)?;
+        self.chains.reserve(n as usize)?;
         self.slots.reserve(n)
     }
 

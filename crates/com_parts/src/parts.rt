@@ -14,10 +14,6 @@ use com_scene::Scene;
 use std::alloc::Global;
 use std::marker::Model;
 
-/// The most entries that may change the parts. An entry counts at most one more of each sort, so their
-/// counters and numbers stay far below the greatest of 32 bits.
-pub const MOST_ENTRIES: u32 = 0x1000_0000;
-
 /// The parts of a core that an entry changes together.
 #[derive(Drop)]
 pub struct Parts {
@@ -48,9 +44,9 @@ impl Model for Parts {
 }
 
 impl Parts {
-    #[tactic(auto, using(crate::proofs::Wholes::whole_new))]
     /// The parts before the first entry of a scenario, which has so many lanes. The only error is want of
     /// memory.
+    #[tactic(auto, using(crate::proofs::Wholes::whole_new))]
     pub fn new(alloc: Global, scenario: &Scenario, lanes: u32) -> Result<Parts, Memory>
         requires { lanes ≡ all_lanes scenario.now }
         ensures lanes { IfOk result (λ parts. parts.lanes ≡ first_lanes (all_lanes scenario.now)) }

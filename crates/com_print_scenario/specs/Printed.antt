@@ -3,6 +3,7 @@
 use Rattle.std.specs.Prelude.{ℕ, zero, suc, ◌+◌, List, [], ◌∷◌, ◌++◌, map, drop, Option, Some, None, codes}
 use Rattle.std.specs.Prelude.{decimal}
 use Rattle.std.specs.Fmt.{signed_decimal}
+use Rattle.com_base.specs.declared.built_ins.TheConstants.{BUILT_IN_COUNT}
 use Rattle.com_base.specs.declared.value.Kind.{Kind}
 use Rattle.com_base.specs.declared.value.Kind.TheVariants as kinds
 use Rattle.com_base.specs.Guids.{text_of as text_of_guid}
@@ -190,7 +191,7 @@ picks_lines (p ∷ ps) = (plain (codes "picks") ∷ map number_word (p ∷ ps)) 
 
 abbrev pub sections_lines : Names → Scenario → List (List Spelled)
 sections_lines names s =
-    interface_lines names.interfaces (drop 4 s.classes.interfaces)
+    interface_lines names.interfaces (drop BUILT_IN_COUNT s.classes.interfaces)
     ++ (classes_lines names s.classes.classes
     ++ (filters_lines 1 s.filters ++ (threads_lines names s.threads ++ picks_lines s.picks)))
 

@@ -1,5 +1,6 @@
 -- Scenarios whose numbers are in the ranges of their types.
 use Rattle.std.specs.Prelude.{List, All, drop}
+use Rattle.com_base.specs.declared.built_ins.TheConstants.{BUILT_IN_COUNT}
 use Rattle.com_body.specs.declared.statements.Stmt.{Stmt}
 use Rattle.com_body.specs.declared.frame.Native.{Native}
 use Rattle.com_body.specs.declared.frame.Native.TheVariants as natives
@@ -30,8 +31,9 @@ FitsClass c = IsGuid c.clsid × FitsAs c.native c.bodies
 abbrev pub FitsInterface : Interface → Type 0
 FitsInterface i = IsGuid i.iid
 
--- Each number of a scenario is one that its type has. The first four interfaces are built in.
+-- Of a scenario each number in the IID of an interface that is not built in, in a CLSID, in a body that is a class's
+-- own and in a script is one that its type has. The first four interfaces are built in.
 pub record FitsTypes (s : Scenario) : Type 0 where
-  pub interfaces : All FitsInterface (drop 4 s.classes.interfaces)
+  pub interfaces : All FitsInterface (drop BUILT_IN_COUNT s.classes.interfaces)
   pub classes : All FitsClass s.classes.classes
   pub threads : All FitsProgram s.threads

@@ -21,7 +21,7 @@ abbrev pub ◌>>=◌ : {A B : Type 0} → Result A Fault → (A → Result B Fau
 abbrev pub error_of : Fault → ScenarioError
 error_of f = errors.Fault f.number f.line f.column
 
--- What a function returned, seen by view, is what reading gives, unless memory ran out.
+-- What a function failed with agrees with reading: it is the fault that reading gives, or want of memory.
 abbrev pub Fails : {Y : Type 0} → ScenarioError → Result Y Fault → Type 0
 Fails errors.Memory read = Unit {0}
 Fails (errors.Fault n l c) read = read ≡ Err (record { number = n; line = l; column = c })

@@ -196,7 +196,7 @@ given_back n places b = record b {
   proxy = λ a o i. if places a o == 0 then 0 else b.proxy a o i;
 }
 
--- Normal and strong packets hold their object, and cookies that were not revoked; a weak packet never does.
+-- Whether a packet of this mode is weak: it never holds its object, as normal and strong packets do.
 abbrev pub is_weak : MarshalMode → Bool
 is_weak marshal.Weak = true
 is_weak _ = false
@@ -231,7 +231,7 @@ cut live b = record b {
   live = live;
 }
 
--- What proxies, packets and cookies hold of an object's interface: the stub's count is always their sum.
+-- The public references that an outstanding packet carries of an object's interface; any other packet has 0 here.
 abbrev pub packet_holds_of : (o i : ℕ) → Packet → ℕ
 packet_holds_of o i p = if p.outstanding && (p.object == o && p.iface == i) then p.refs else 0
 
@@ -251,7 +251,7 @@ abbrev pub is_normal : MarshalMode → Bool
 is_normal marshal.Normal = true
 is_normal _ = false
 
--- What a normal packet of an object holds, what another packet does, and what a cookie does.
+-- The public references of an outstanding normal packet of the object; any other packet has 0 here.
 abbrev pub in_normal : ℕ → Packet → ℕ
 in_normal o p = if p.outstanding && (is_normal p.mode && p.object == o) then p.refs else 0
 

@@ -91,7 +91,7 @@ entered s x g owned d b =
     connected d (named_at g.objects)
     (kept b d (entered_rows owned b (rows s x (left_by g.calls) b g.apartment d)))
 
--- The row of the deed ends a holder that is no place, and brings nothing.
+-- The row of the deed can end a holder that is no place, and it brings no reference.
 abbrev pub ends_holder : (left : ℕ → Bool) → Deed → Bool
 ends_holder left (deed.DropPacket p hr) = true
 ends_holder left (deed.Revoke g hr) = true

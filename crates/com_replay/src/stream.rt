@@ -1,6 +1,7 @@
 //! A replay that its caller drives: one step makes one entry and writes its line.
 ghost use Rattle.std.specs.Prelude.{◌≡◌, ◌≤◌, ◌+◌, ◌∷◌, [], List, Err, IfOk, OnErr, is_some, length, map};
 ghost use Rattle.std.specs.Arc.{arc_value};
+ghost use Rattle.com_core.specs.Seen.{IsFirst};
 ghost use Rattle.com_io.specs.Faults.{Rose};
 ghost use Rattle.com_io.specs.Told.{Gains};
 ghost use Rattle.com_model.specs.declared.deeds.Entry.{Entry as AnyEntry};
@@ -66,6 +67,15 @@ pub enum Step {
     Done(Replayed),
 }
 
+// The core of a formed scenario that its caller keeps too, before the first entry. The only error is want of memory.
+fn core_of(alloc: Global, scenario: &Arc<Scenario>) -> Result<Core, Memory>
+    requires formed { Formed (arc_value scenario.now) }
+    ensures scenario { IfOk result (λ core. core.core.scenario ≡ arc_value scenario.now) }
+    ensures first { IfOk result (λ core. IsFirst (arc_value scenario.now) core.core) }
+{
+    Core::new(alloc, scenario.clone()?)
+}
+
 impl Stream {
     /// The stream of a formed scenario before its first entry. It shares the scenario with its caller. The only
     /// error is want of memory.
@@ -74,7 +84,7 @@ impl Stream {
         ensures scenario { IfOk result (λ stream. stream.scenario ≡ arc_value scenario) }
         ensures stands { IfOk result (λ stream. StandsAt stream []) }
     {
-        let core = Core::new(alloc, scenario.clone()?)?;
+        let core = core_of(alloc, &scenario)?;
         let course = Course::new(alloc);
         let playing = box_of(
             alloc,

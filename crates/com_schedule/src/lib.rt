@@ -1,5 +1,6 @@
-//! The schedule by lanes that are tried: the lane whose turn it is makes its entry as soon as it is found, so that
-//! no lane is asked twice. The runtime lends the entry that it made last, and nothing hands it on.
+//! The schedule by lanes that are looked at and tried: the lane whose turn it is makes its entry as soon as it is
+//! found, and a lane that waits costs the look alone. The runtime lends the entry that it made last, and nothing
+//! hands it on.
 #![tactic(auto)]
 
 mod tries;

@@ -115,7 +115,7 @@ rows_arrived b l (deed.Uninit a zero) t =
 rows_arrived b l (deed.Final o) t = with_cells t o (record (cells_at t o) { links = replicate LINK_COUNT None })
 rows_arrived b l _ t = t
 
--- The end of an STA makes the links of all its objects null.
+-- The cells of an object with all its links null.
 abbrev pub without_links : Cells → Cells
 without_links c = record c { links = replicate LINK_COUNT None }
 

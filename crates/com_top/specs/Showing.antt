@@ -8,10 +8,11 @@ use Rattle.com_commands.specs.declared.statuses.Status.{Status}
 use Rattle.com_commands.specs.declared.statuses.Status.TheVariants as status
 use Rattle.com_commands.specs.Inputs.{input_of}
 use Rattle.com_commands.specs.Statuses.{Concludes}
+use Rattle.com_top.specs.declared.objrefs.TheConstants.{DIGITS_LIMIT}
 
--- The longest text of digits is one of 1,048,576 bytes.
+-- Whether a text of digits has more than 1,048,576 bytes.
 abbrev pub are_long_digits : List ℕ → Bool
-are_long_digits bytes = nat_lt 1048576 (length bytes)
+are_long_digits bytes = nat_lt DIGITS_LIMIT (length bytes)
 
 -- Every text is read as it stands.
 abbrev pub digits_of : List ℕ → Result (List ℕ) Fault

@@ -4,6 +4,7 @@ ghost use Rattle.std.proofs.Common.{lit<};
 ghost use Rattle.com_commands.specs.Lengths.{long_text};
 ghost use Rattle.com_commands.specs.Responses.{Responds};
 ghost use Rattle.com_commands.specs.Statuses.{sides_of};
+ghost use Rattle.com_top.specs.declared.objrefs.TheConstants.{DIGITS_LIMIT};
 ghost use Rattle.com_top.specs.Showing.{IsShown, are_long_digits, digits_input, digits_of, shown_concludes};
 ghost use Rattle.com_top.specs.Showing.{status_for};
 
@@ -13,15 +14,18 @@ use com_io::{Sink, Source};
 use com_objref::show;
 use std::alloc::Global;
 
+// The bytes of the longest text of hexadecimal digits.
+const DIGITS_LIMIT: usize = 1_048_576;
+
 /// The command `objref`: hexadecimal digits, and the fields of the OBJREF that they spell.
 pub struct ObjRefCommand;
 
 impl InputReader for ObjRefCommand {
     type Read = ByteList;
 
-    const LIMIT: usize = 1_048_576;
+    const LIMIT: usize = DIGITS_LIMIT;
 
-    ghost LIMIT = { 1048576 };
+    ghost LIMIT = { DIGITS_LIMIT };
 
     ghost too_long = { are_long_digits };
 
@@ -35,7 +39,7 @@ impl InputReader for ObjRefCommand {
 
     ghost limited = { lit< tt };
 
-    ghost longer = { long_text 1048576 };
+    ghost longer = { long_text DIGITS_LIMIT };
 }
 
 impl ReplyingCommand for ObjRefCommand {

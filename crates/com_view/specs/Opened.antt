@@ -2,7 +2,8 @@
 use Rattle.std.specs.Prelude.{ℕ, ◌==◌, if◌then◌else◌, List, [], ◌∷◌}
 use Rattle.std.specs.List.{list_any}
 
--- 1 where no call is open, 2 where one of them has this causality, and else 4.
+-- CALLTYPE_TOPLEVEL where no call is open, CALLTYPE_NESTED where one of them has this causality, and else
+-- CALLTYPE_TOPLEVEL_CALLPENDING.
 abbrev pub type_among : (cause_of : ℕ → ℕ) → List ℕ → (cause : ℕ) → ℕ
 type_among f [] k = 1
 type_among f (c ∷ cs) k = if list_any (λ d. f d == k) (c ∷ cs) then 2 else 4

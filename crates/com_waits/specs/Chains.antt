@@ -34,7 +34,7 @@ abbrev pub first_in : List Wait → Option ℕ
 first_in [] = None
 first_in (w ∷ ws) = if is_message w.why then first_in ws else Some w.lane
 
--- The lanes of a list from one on, and those before it.
+-- The lanes of a list from the first that is this one on; none where it is not in the list.
 abbrev pub from_lane : ℕ → List ℕ → List ℕ
 from_lane l [] = []
 from_lane l (x ∷ xs) = if x == l then x ∷ xs else from_lane l xs
@@ -44,9 +44,8 @@ abbrev pub before_lane : ℕ → List ℕ → List ℕ
 before_lane l [] = []
 before_lane l (x ∷ xs) = if x == l then [] else x ∷ before_lane l xs
 
--- The cycle that a chain enters: the chain goes on from a lane, and these lanes came before, in the chain's
--- order. It ends without cycle where a lane waits for a message. As many steps as there are lanes that wait,
--- and one more, are enough.
+-- The cycle that `go` finds from the next lane on, where these lanes came before, in the chain's order; empty where
+-- there is no next lane.
 abbrev pub goes_on : (List ℕ → ℕ → List ℕ) → List ℕ → Option ℕ → List ℕ
 goes_on go chain None = []
 goes_on go chain (Some m) = go chain m
@@ -57,7 +56,7 @@ entered next zero chain l = []
 entered next (suc n) chain l =
     if is_member l chain then from_lane l chain else goes_on (entered next n) (chain ++ l ∷ []) (next l)
 
--- The cycle turned so that it begins at its least lane.
+-- The cycle turned so that it begins at this lane; empty without one.
 abbrev pub from_least_of : List ℕ → Option ℕ → List ℕ
 from_least_of xs None = []
 from_least_of xs (Some m) = from_lane m xs ++ before_lane m xs
@@ -66,8 +65,8 @@ from_least_of xs (Some m) = from_lane m xs ++ before_lane m xs
 abbrev pub from_least : List ℕ → List ℕ
 from_least xs = from_least_of xs (least xs)
 
--- The cycle that the chain of the least lane enters that does not wait for a message; empty where each lane
--- does.
+-- The cycle that the chain of this lane enters, from its least lane on; empty without a lane. As many steps as there
+-- are lanes that wait, and one more, are enough.
 abbrev pub cycle_from : List Wait → Option ℕ → List ℕ
 cycle_from ws None = []
 cycle_from ws (Some l) = from_least (entered (next_in ws) (length ws + 1) [] l)

@@ -17,9 +17,6 @@ use crate::sources::shapes::{
 use com_base::HResult;
 use com_body::{Place, Stmt};
 
-// The answer of `advise` to null.
-const E_POINTER: HResult = HResult(0x8000_4003);
-
 // The answer of `unadvise` where no sink has the cookie.
 const CONNECT_E_NOCONNECTION: HResult = HResult(0x8004_0200);
 
@@ -36,7 +33,7 @@ fn behind_advise_head(body: &[Stmt]) -> Option<&[Stmt]>
         [same, test, null, load, add, rest @ ..] => {
             if is_same(same, 1, 0, 7)
                 && is_skip_zero(test, 1, 1)
-                && is_leave(null, E_POINTER)
+                && is_leave(null, HResult::E_POINTER)
                 && is_load(load, 2, 4)
                 && is_add_one(add, 2)
             {

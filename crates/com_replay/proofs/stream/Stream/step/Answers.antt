@@ -1,5 +1,6 @@
 -- A step of a stream is that of what it keeps.
 use Rattle.std.proofs.Common.{List, ap, sym, subst, is_some}
+use Rattle.com_core.specs.Seen.{core_state}
 use Rattle.com_model.specs.declared.deeds.Entry.{Entry}
 use Rattle.com_replay.specs.Streams.{Position, StandsAt}
 use Rattle.com_replay.proofs.Positions.{position_seen}
@@ -28,7 +29,7 @@ pub returns-in-Ok-None-clause-stands : goal.returns-in-Ok-None-clause-stands
 returns-in-Ok-None-clause-stands g c h stands =
     let seen = position_seen _ _ _ _ c.deref.ensures c.deref_mut.ensures.value c.self.view_is in
     let goes = step_goes _ c.args.self _ h c.advance.new.runtime.made _ _ _ _ _ seen c.in-Ok-None.field-0-is c.in-Ok-None.ensures.advances stands in
-    stands_taken _ _ _ _ _ _ _ _ h c.deref.ensures c.take_last-entry.ensures.state c.take_last-entry.ensures.entry goes.stands
+    stands_taken _ _ _ _ _ _ _ _ h c.deref.ensures (ap core_state c.take_last-entry.ensures.core) c.take_last-entry.ensures.entry goes.stands
 
 pub returns-in-Ok-None-clause-served : goal.returns-in-Ok-None-clause-served
 returns-in-Ok-None-clause-served g c h stands =
