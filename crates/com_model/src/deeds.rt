@@ -154,8 +154,7 @@ pub enum Deed {
         cause: u32,
         bytes: Option<ByteList>,
     },
-    /// A filter turned a call away, with the call type that it was asked with. No entry of a legal
-    /// history carries `Verdict::Handled`: a call that a filter lets in gets no Verdict.
+    /// A filter turned a call away, with the call type that it was asked with.
     Verdict {
         call: u32,
         call_type: u8,
@@ -204,7 +203,7 @@ pub enum Deed {
         word: i64,
         answer: u8,
     },
-    /// An object was disconnected from all other apartments.
+    /// An object was disconnected from all callers.
     Disconnect {
         object: Option<u32>,
         hr: HResult,
