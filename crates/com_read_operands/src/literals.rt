@@ -14,7 +14,6 @@ use com_text::Word;
 use hex::FromHexError;
 use std::alloc::{AllocError, Global};
 
-// Whether each byte is an ASCII character.
 fn all_ascii(bytes: &[u8]) -> bool
     ensures { result ≡ list_all is_ascii bytes.now }
 {
@@ -55,7 +54,6 @@ pub fn guid(line: &[Word], index: usize) -> Result<Guid, ScenarioError>
     }
 }
 
-// Whether each byte is a hexadecimal digit, of either case.
 fn all_digits(digits: &[u8]) -> bool
     ensures { result ≡ list_all is_ascii_hexdigit digits.now }
 {
