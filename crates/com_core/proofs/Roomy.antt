@@ -1,21 +1,27 @@
 -- There is room for the numbers of one more entry within the limit of entries, and the numbers of each action fit.
-use Rattle.std.proofs.Common.{◌≡◌, ℕ, ◌+◌, ◌<◌, ◌≤◌, ◌^◌, List, length, subst, sym, arith}
-use Rattle.std.specs.Prelude.{Option, Some}
+use Rattle.std.proofs.Common.{◌≡◌, ℕ, ◌+◌, ◌*◌, ◌<◌, ◌≤◌, ◌^◌, true, [], List, length, subst, sym, arith}
+use Rattle.std.specs.Prelude.{Option, Some, None}
 use Rattle.com_body.specs.declared.actions.Action.{Action}
 use Rattle.com_body.specs.declared.actions.Action.TheVariants as action
 use Rattle.com_body.specs.declared.frame.Outcome.{Outcome}
 use Rattle.com_body.specs.declared.operands.Asked.{Asked}
 use Rattle.com_body.specs.declared.operands.Asked.TheVariants as asked
+use Rattle.com_body.specs.declared.operands.Destination.TheVariants as destination
+use Rattle.com_classes.specs.Lookups.{method_at}
 use Rattle.com_refs_books.specs.Changes.{Books}
 use Rattle.com_deeds.specs.Seen.{FitsNumber}
 use Rattle.com_model.specs.declared.scenario.Scenario.{Scenario}
 use Rattle.com_model.specs.Ends.{limit}
 use Rattle.com_model.specs.Formed.{Formed, IsInterfaceNamed}
 use Rattle.com_model.specs.State.{State, books_in, scene_read}
+use Rattle.com_model.specs.Tables.{parameters}
+use Rattle.com_model.specs.Values.{sent_values}
 use Rattle.com_laws_ranges.specs.Bounds.{Counted}
+use Rattle.com_laws_ranges.proofs.Numbers.{out-few}
 use Rattle.com_laws_ranges.proofs.Standing.{few, limited}
 use Rattle.com_laws_ranges.proofs.Writing.{Proper, ProperOut, outcome-proper}
 use Rattle.com_parts.specs.Tables.{PartTables}
+use Rattle.com_rules.proofs.Sized.{sent_length}
 use Rattle.com_rules.specs.Fits.{FitsAction}
 use Rattle.com_rules.specs.Room.{HasRoom}
 use Rattle.com_state.specs.Parts.{CallTables, LaneTables, ObjectTables, class_at, issue_at}
@@ -33,6 +39,15 @@ next-small n m k p q r = omega (arith, p, q, r)
 threads-small : (n : ℕ) → n ≤ 16 → n < 2 ^ 32
 threads-small n p = omega (arith, p)
 
+packets-small : (n m k : ℕ) → n ≤ 4 * m → m < k → k ≤ 1000000 → n + 4 < 2 ^ 32
+packets-small n m k p q r = omega (arith, p, q, r)
+
+parameters-few : (s : Scenario) → Formed s → Books → (i m : ℕ) → length (parameters (method_at s.classes i m)) ≤ 4
+parameters-few s f b i m =
+    let four : length (sent_values true b.live (parameters (method_at s.classes i m)) []) ≤ 4 = out-few s f b true (Some (action.Call None i m [] destination.Nowhere)) in
+    let all : length (sent_values true b.live (parameters (method_at s.classes i m)) []) ≡ length (parameters (method_at s.classes i m)) = sent_length true b.live (parameters (method_at s.classes i m)) [] in
+    omega (arith, four, all)
+
 pub room_seen : (s : Scenario) (st : State) (p : PartTables) (b : Books) (fallen : List ℕ) (clock : ℕ) → IsReached s st → Stands st p b fallen clock → st.entries < limit s → HasRoom (seen_by s p fallen clock) b
 room_seen s st p b fallen clock r h low =
     let n : Counted st st.entries = few s st r.history r.formed r.stands in
@@ -44,6 +59,8 @@ room_seen s st p b fallen clock r h low =
       calls = subst (λ (t : CallTables). length t.issues + 1 < 2 ^ 32) (sym h.calls) (next-small (length st.issues) st.entries (limit s) n.calls low k);
       causes = subst (λ (t : CallTables). t.causes + 1 < 2 ^ 32) (sym h.calls) (next-small st.causes st.entries (limit s) n.causes low k);
       cookies = subst (λ (x : Books). length x.cookies + 1 < 2 ^ 32) (sym h.books) (next-small (length (books_in st).cookies) st.entries (limit s) n.cookies low k);
+      packets = subst (λ (x : Books). length x.packets + 4 < 2 ^ 32) (sym h.books) (packets-small (length (books_in st).packets) st.entries (limit s) n.packets low k);
+      parameters = parameters-few s r.formed b;
     }
 
 -- ---- actions

@@ -1,10 +1,12 @@
 -- Room for the numbers of one more entry.
-use Rattle.std.specs.Prelude.{◌+◌, ◌<◌, ◌≤◌, ◌^◌, length}
+use Rattle.std.specs.Prelude.{ℕ, ◌+◌, ◌<◌, ◌≤◌, ◌^◌, length}
+use Rattle.com_classes.specs.Lookups.{method_at}
+use Rattle.com_model.specs.Tables.{parameters}
 use Rattle.com_refs_books.specs.Changes.{Books}
 use Rattle.com_view.specs.Seen.{Seen}
 
--- The next apartment, object, call, causality and cookie have numbers of 32 bits, and so has each thread's
--- lane.
+-- The next apartment, object, call, causality and cookie have numbers of 32 bits, and so have the next 4 packets
+-- and each thread's lane. A method has 4 parameters at most, so that its call makes no more packets.
 pub record HasRoom (w : Seen) (b : Books) : Type 0 where
   pub stas : length w.lanes.stas + 4 ≤ 2 ^ 32
   pub threads : length w.scenario.threads < 2 ^ 32
@@ -12,3 +14,5 @@ pub record HasRoom (w : Seen) (b : Books) : Type 0 where
   pub calls : length w.calls.tables.issues + 1 < 2 ^ 32
   pub causes : w.calls.tables.causes + 1 < 2 ^ 32
   pub cookies : length b.cookies + 1 < 2 ^ 32
+  pub packets : length b.packets + 4 < 2 ^ 32
+  pub parameters : (i m : ℕ) → length (parameters (method_at w.scenario.classes i m)) ≤ 4

@@ -1,6 +1,6 @@
 //! The packets that an entry makes: the public references that they hold, and the fields of their bytes.
 
-ghost use Rattle.std.specs.Prelude.{◌≡◌, ◌++◌, ◌+◌, ℕ, IfOk, OnOk, Some, None, true, length, map};
+ghost use Rattle.std.specs.Prelude.{◌≡◌, ◌++◌, ◌+◌, ◌<◌, ◌≤◌, ◌^◌, ℕ, IfOk, OnOk, Some, None, true, length, map};
 ghost use Rattle.std.specs.Prelude.{slice_index_or};
 ghost use Rattle.std.specs.List.{AllByRecursion};
 ghost use Rattle.com_body.specs.declared.actions.Action.TheVariants as action;
@@ -9,6 +9,7 @@ ghost use Rattle.com_exchange.specs.Previews.{IsOutgoing, reference_of};
 ghost use Rattle.com_model.specs.Deeds.{deed_of, fields_since, marshalled, packet_fields, with_packets};
 ghost use Rattle.com_model.specs.Lists.{number_or_zero};
 ghost use Rattle.com_rules.specs.Packets.{refs_made, field_of, fields_from};
+ghost use Rattle.com_rules.specs.Room.{HasRoom};
 ghost use Rattle.com_view.specs.Seen.{bare, sight_by, running_seen};
 
 use crate::alone::is_connected;
@@ -48,10 +49,11 @@ fn refs_made(mode: MarshalMode, is_owned: bool, held: u32) -> u32
 }
 
 // The number of the packet that comes next.
-fn next_packet<B: Found>(books: &B) -> Result<u32, Memory>
-    ensures { IfOk result (λ number. number ≡ length (B.books books.now).packets + 1) }
+fn next_packet<B: Found>(books: &B) -> u32
+    requires { length (B.books books.now).packets + 4 < 2 ^ 32 }
+    ensures { result ≡ length (B.books books.now).packets + 1 }
 {
-    books.packets().checked_add(1).ok_or(AllocError)
+    books.packets() + 1
 }
 
 // The row of a new packet.
@@ -92,11 +94,12 @@ fn marshalled_now<B: Found>(
     mode: MarshalMode,
     held: RefValue,
 ) -> Result<Deed, Memory>
-    requires { (B.books books.now).live held.object ≡ true }
+    requires room { HasRoom view.now (B.books books.now) }
+    requires live { (B.books books.now).live held.object ≡ true }
     ensures { IfOk result (λ made. made
         ≡ marshalled view.now.scenario (sight_by view.now (B.books books.now)) lane mode (Some held) None) }
 {
-    let number = next_packet(books)?;
+    let number = next_packet(books);
     let is_owned = view.owns(lane, held.object);
     let refs = refs_made(mode, is_owned, public(view, books, lane, held)?);
     let fields = fields_as(view, number, mode, held, refs);
@@ -113,6 +116,7 @@ pub fn marshalled_packet<B: Found>(
     held: Option<RefValue>,
     mode: MarshalMode,
 ) -> Result<Deed, Memory>
+    requires room { HasRoom view.now (B.books books.now) }
     ensures { IfOk result (λ made. (buffer : ℕ)
         → made ≡ deed_of view.now.scenario (sight_by view.now (B.books books.now)) lane
         (action.Marshal buffer held mode)) }
@@ -176,6 +180,7 @@ fn append_field(
     refs: &[u32],
     row: &Outgoing,
 ) -> Result<(), Memory>
+    requires room { made + 1 + length fields.old.items < 2 ^ 32 }
     ensures { OnOk result (fields.new.items
         ≡ fields.old.items ++ field_of view.now.scenario (bare view.now) made refs.now row.now
         (length fields.old.items)) }
@@ -183,7 +188,7 @@ fn append_field(
     if !row.is_connected {
         return Ok(());
     }
-    let number = number_after(made, fields.len())?;
+    let number = number_after(made, fields.len());
     let held = RefValue {
         object: row.object,
         iface: row.iface,
@@ -194,14 +199,11 @@ fn append_field(
 }
 
 // The number of the packet after so many that were made and so many more.
-fn number_after(made: u32, more: usize) -> Result<u32, Memory>
-    ensures { IfOk result (λ number. number ≡ made + 1 + more) }
+fn number_after(made: u32, more: usize) -> u32
+    requires { made + 1 + more < 2 ^ 32 }
+    ensures { result ≡ made + 1 + more }
 {
-    let more = u32::try_from(more).map_err(|_| AllocError)?;
-    made.checked_add(1)
-        .ok_or(AllocError)?
-        .checked_add(more)
-        .ok_or(AllocError)
+    made + 1 + more as u32
 }
 
 // How many public references the packet at an index is to hold, and 0 past the list's end.
@@ -215,7 +217,7 @@ fn refs_at(refs: &[u32], at: usize) -> u32
 }
 
 // The fields of the packets of references, where so many were made and each is to hold as many as are given.
-#[tactic(auto, using(crate::proofs::Packing::fields_more, crate::proofs::Packing::fields_all))]
+#[tactic(auto, using(crate::proofs::Packing::fields_first, crate::proofs::Packing::fields_fit, crate::proofs::Packing::fields_more, crate::proofs::Packing::fields_all))]
 fn number_fields(
     view: &View<'_>,
     alloc: Global,
@@ -223,6 +225,7 @@ fn number_fields(
     rows: &[Outgoing],
     refs: &[u32],
 ) -> Result<Vec<StdFields>, Memory>
+    requires room { made + length rows.now < 2 ^ 32 }
     ensures { IfOk result (λ fields. fields.items
         ≡ fields_from view.now.scenario (bare view.now) made refs.now rows.now 0) }
 {
@@ -242,6 +245,8 @@ pub fn fields_made<B: Found>(
     lane: u32,
     carried: &[RefValue],
 ) -> Result<Vec<StdFields>, Memory>
+    requires room { HasRoom view.now (B.books books.now) }
+    requires few { length carried.now ≤ 4 }
     ensures { IfOk result (λ fields. fields.items
         ≡ fields_since view.now.scenario (sight_by view.now (B.books books.now))
         (with_packets (sight_by view.now (B.books books.now)) lane

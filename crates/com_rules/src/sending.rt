@@ -1,6 +1,6 @@
 //! The entries that send values: the Out of a call, and the Leave of a body.
 
-ghost use Rattle.std.specs.Prelude.{◌≡◌, true, [], Option, Some, IfOk, option_copied};
+ghost use Rattle.std.specs.Prelude.{◌≡◌, ◌≤◌, true, [], Option, Some, IfOk, length, option_copied};
 ghost use Rattle.std.specs.Prelude.{if◌then◌else◌};
 ghost use Rattle.com_body.specs.declared.actions.Action.{Action};
 ghost use Rattle.com_body.specs.declared.actions.Action.TheVariants as action;
@@ -111,6 +111,7 @@ fn arguments<B: Found>(
 }
 
 // The request of a call on a route that marshals.
+#[tactic(auto, using(crate::proofs::Sized::carried_few))]
 fn request_with<B: Found>(
     view: &View<'_>,
     books: &B,
@@ -119,6 +120,8 @@ fn request_with<B: Found>(
     cause: u32,
     values: &[Value],
 ) -> Result<Sending, Memory>
+    requires room { HasRoom view.now (B.books books.now) }
+    requires few { length values.now ≤ 4 }
     ensures bytes { IfOk result (λ made. made.bytes
         ≡ out_bytes view.now.scenario (sight_by view.now
         (B.books books.now)) lane Route.Post cause values.now) }
@@ -143,6 +146,8 @@ fn request_on<B: Found>(
     cause: u32,
     values: &[Value],
 ) -> Result<Sending, Memory>
+    requires room { HasRoom view.now (B.books books.now) }
+    requires few { length values.now ≤ 4 }
     ensures bytes { IfOk result (λ made. made.bytes
         ≡ out_bytes view.now.scenario (sight_by view.now (B.books books.now)) lane route cause values.now) }
     ensures carried { IfOk result (λ made. made.carried ≡ (if is_marshalled route
@@ -252,6 +257,7 @@ fn reference_in(alloc: Global, value: Option<&Value>) -> Result<Rows<RefValue>, 
 }
 
 // The reply of a body whose call is marshalled and waited for.
+#[tactic(auto, using(crate::proofs::Sized::result_few))]
 fn reply_with<B: Found>(
     view: &View<'_>,
     books: &B,
@@ -260,6 +266,7 @@ fn reply_with<B: Found>(
     answer: HResult,
     value: Option<&Value>,
 ) -> Result<Sending, Memory>
+    requires room { HasRoom view.now (B.books books.now) }
     ensures bytes { IfOk result (λ made. made.bytes
         ≡ reply_for view.now.scenario (sight_by view.now (B.books books.now)) lane true answer
         (option_copied value.entry)) }
@@ -284,6 +291,7 @@ fn reply_on<B: Found>(
     answer: HResult,
     value: Option<&Value>,
 ) -> Result<Sending, Memory>
+    requires room { HasRoom view.now (B.books books.now) }
     ensures bytes { IfOk result (λ made. made.bytes
         ≡ reply_for view.now.scenario (sight_by view.now (B.books books.now)) lane is_wanted answer
         (option_copied value.entry)) }
@@ -317,6 +325,7 @@ fn left_as<B: Found>(
     answer: HResult,
     value: Option<&Value>,
 ) -> Result<Doing, Memory>
+    requires room { HasRoom view.now (B.books books.now) }
     ensures deed { IfOk result (λ made. made.deed
         ≡ left_as view.now.scenario (sight_by view.now (B.books books.now)) lane left.now.call
         (Some left.now.issue) answer (option_copied value.entry)) }
@@ -375,6 +384,7 @@ pub fn leave<B: Found>(
     answer: HResult,
     value: Option<&Value>,
 ) -> Result<Doing, Memory>
+    requires room { HasRoom view.now (B.books books.now) }
     ensures deed { IfOk result (λ made. made.deed
         ≡ deed_of view.now.scenario (sight_by view.now (B.books books.now)) lane (action.Leave answer
         (option_copied value.entry))) }
