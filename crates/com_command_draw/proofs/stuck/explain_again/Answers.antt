@@ -10,5 +10,5 @@ pub returns : goal.returns
 returns c =
     IfOk-weaker c.waits_at.result _ (λ waits. waits ≡ explanation_of (arc_value c.args.scenario.now) (scheduled (arc_value c.args.scenario.now)))
     (λ waits explains. explained_at (arc_value c.args.scenario.now) c.deref.result.now c.in_ok-recorded.recorded.entries.items c.as_slice.result.now
-    c.in_ok-recorded.recorded.ended waits c.deref.ensures c.as_slice.ensures.value c.requires c.in_ok-recorded.ensures explains)
+    c.in_ok-recorded.recorded.ended waits c.deref.ensures c.as_slice.ensures.value c.in_ok-recorded.ensures explains)
     c.waits_at.ensures

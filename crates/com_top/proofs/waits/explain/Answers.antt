@@ -9,6 +9,6 @@ pub returns : goal.returns
 returns c =
     IfOk-weaker c.text_of.result _ (λ text. text ≡ explanation (arc_value c.args.scenario.now))
     (λ text written. explained_at (arc_value c.args.scenario.now) c.deref.result.now c.args.recorded.entries.items c.as_slice.result.now
-    c.args.recorded.ended c.in_ok-waits.waits text c.deref.ensures c.as_slice.ensures.value c.requires.formed c.requires.kept
+    c.args.recorded.ended c.in_ok-waits.waits text c.deref.ensures c.as_slice.ensures.value c.requires.kept
     c.in_ok-waits.ensures written)
     c.text_of.ensures
