@@ -42,6 +42,8 @@ use Rattle.com_laws_scenario.proofs.Words.{lines_formed}
 use Rattle.com_scenario.proofs.Standing.{so_far, AtBody, AtThread, Stands, StandsAt, body_declares, script_declares}
 use Rattle.com_scenario.proofs.Steps.{step_stands}
 use Rattle.com_scenario.proofs.Forms.{IsOutline, begun_stands, finish_formed}
+use Rattle.com_read_sections.specs.declared.outline.Outline.{Outline}
+use Rattle.com_dispatch.specs.declared.outcomes.Binding.{Binding}
 use Rattle.com_dispatch.specs.declared.outcomes.Late.{Late}
 use Rattle.com_dispatch.specs.Late.{Reading, Coding, invoke_line, other_line, in_section, is_invoke, late_step, LateOutline, late_finish, late_read, late_begun, late_of, late}
 use Rattle.com_dispatch.proofs.Given.{IsGiven, IsInvoked, invoked}
@@ -180,6 +182,14 @@ read_formed [] r ws h = fails _
 read_formed (l ∷ ls) r ws h = bind (late_step r l.words) _ (late_stands r l.words (All-head IsLine l ls ws) h) (λ next k. either l.last _ _
     (λ _. late_finish_formed next l.line l.column k)
     (λ _. read_formed ls next (All-tail IsLine l ls ws) k))
+
+-- the outline that was read
+pub outline_formed : (text : List ℕ) (tables : List Interface) (outline : Outline) (bindings : List Binding) → tables ≡ built_in_interfaces
+    → late_read (late_begun tables) (lines_of text) ≡ Ok (record { outline = outline; bindings = bindings }) → Formed (scenario_of outline)
+outline_formed text tables outline bindings t e =
+    let f : late_read (late_begun built_in_interfaces) (lines_of text) ≡ Ok (record { outline = outline; bindings = bindings }) =
+    ap (λ (x : List Interface). late_read (late_begun x) (lines_of text)) (sym t) ∙ e in
+    (read_formed (lines_of text) (late_begun built_in_interfaces) (lines_formed text) begun_stands).of (record { outline = outline; bindings = bindings }) f
 
 pub formed : (text : List ℕ) → Holds (λ (l : Late). Formed l.scenario) (late text)
 unfolding late

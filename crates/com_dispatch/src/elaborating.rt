@@ -141,7 +141,7 @@ fn late_outline(
 }
 
 // What a text of late calls says, with the scenario of what is declared.
-#[tactic(auto, unfolding(crate::specs::Late::late))]
+#[tactic(auto, using(crate::proofs::LateForms::outline_formed), unfolding(crate::specs::Late::late))]
 fn late_scenario(alloc: Global, text: &[u8]) -> Result<Late, ScenarioError>
     ensures { Gives (λ l. l) result (late text.now) }
 {
